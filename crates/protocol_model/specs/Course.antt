@@ -1,0 +1,53 @@
+-- What is seen of a world from outside: the events that it accepted, with what each brought, and what it shows now.
+use Rattle.std.specs.Prelude.{ℕ, Bool, false, Option, is_none, flat_map, List, [], ◌∷◌, ◌++◌, if◌then◌else◌}
+use Rattle.registry_model.specs.Registry.{Replica}
+use Rattle.registry_model.specs.History.{Entry}
+use Rattle.protocol_model.specs.Letter.{Letter, is_down}
+use Rattle.protocol_model.specs.Event.{Answer, Refusal}
+use Rattle.protocol_model.specs.World.{Opening, World, WorldEvent, Deliver, refusal, happens, answers, turn_of, holder}
+
+-- an accepted event: its answers, what it added to the history, and whether it delivered a `Down`
+pub record Played : Type 0 where
+  pub event : WorldEvent
+  pub answers : List Answer
+  pub entries : List Entry
+  pub down : Bool
+
+-- what a world shows of itself; refusal e: why it would refuse e now, if it would
+pub record Seen : Type 0 where
+  pub history : List Entry
+  pub node : ℕ → Replica
+  pub holder : Option ℕ
+  pub refusal : WorldEvent → Option Refusal
+
+-- the history that these events made
+abbrev pub entries_of : List Played → List Entry
+entries_of ps = flat_map (λ p. p.entries) ps
+
+-- all answers, in order
+abbrev pub answers_of : List Played → List Answer
+answers_of ps = flat_map (λ p. p.answers) ps
+
+-- the oldest letter is a `Down`
+abbrev pub is_down_first : List Letter → Bool
+is_down_first [] = false
+is_down_first (l ∷ ls) = is_down l
+
+-- the event delivers a `Down`
+abbrev pub delivers_down : World → WorldEvent → Bool
+delivers_down w (Deliver f t) = is_down_first (w.links.queue f t)
+delivers_down w _ = false
+
+-- what an accepted event brings
+abbrev pub played : Opening → World → WorldEvent → Played
+played o w e =
+    record { event = e; answers = answers o w e; entries = (turn_of o w e).entries; down = delivers_down w e }
+
+-- the accepted ones of these events
+abbrev pub course : Opening → World → List WorldEvent → List Played
+course o w [] = []
+course o w (e ∷ es) = (if is_none (refusal o w e) then played o w e ∷ [] else []) ++ course o (happens o w e) es
+
+-- what a world shows
+abbrev pub seen : Opening → World → Seen
+seen o w = record { history = w.history; node = λ a. (w.node a).replica; holder = holder o w; refusal = refusal o w }

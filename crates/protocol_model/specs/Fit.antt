@@ -1,0 +1,93 @@
+-- When a history fits the events that were played.
+use Rattle.std.specs.Prelude.{ℕ, Bool, true, false, ◌&&◌, ◌==◌, ◌+◌, ◌≡◌, filter, flat_map, map, List, [], ◌∷◌, ◌++◌, if◌then◌else◌}
+use Rattle.registry_model.specs.Call.{NameCall}
+use Rattle.registry_model.specs.History.{Entry}
+use Rattle.protocol_model.specs.Event.{Call, Event}
+use Rattle.protocol_model.specs.World.{At, Deliver}
+use Rattle.protocol_model.specs.Course.{Played, entries_of}
+
+-- a name or join call of one node, with its number there
+pub data Numbered : Type 0 where
+  NameAs : (number : ℕ) → (call : NameCall) → Numbered
+  JoinAs : (number : ℕ) → (contact : ℕ) → Numbered
+
+-- name, lock and join calls are numbered
+abbrev pub is_numbered : Call → Bool
+is_numbered Call.Spawn = false
+is_numbered (Call.LookUp look) = false
+is_numbered _ = true
+
+-- a name or join call under its number
+abbrev pub numbered : ℕ → Call → List Numbered
+numbered k (Call.OnName call) = NameAs k call ∷ []
+numbered k (Call.JoinBy m) = JoinAs k m ∷ []
+numbered k _ = []
+
+-- the numbered call that node a accepts in this event, if there is one
+abbrev pub calls_in : ℕ → Played → List Call
+calls_in a p = elim p.event [ At b (Event.Calling c) ↦ if b == a && is_numbered c then c ∷ [] else [] | _ ↦ [] ]
+
+-- the name and join calls among these, which are numbered from k on
+abbrev pub number_from : ℕ → List Call → List Numbered
+number_from k [] = []
+number_from k (c ∷ cs) = numbered k c ++ number_from (k + 1) cs
+
+-- the name and join calls that node a accepted, in order
+abbrev pub accepted_at : ℕ → List Played → List Numbered
+accepted_at a ps = number_from 1 (flat_map (calls_in a) ps)
+
+-- the call of node a that an entry decides, if it does
+abbrev pub decided_at : ℕ → Entry → List Numbered
+decided_at a (Entry.Name b k call reply) = if b == a then NameAs k call ∷ [] else []
+decided_at a (Entry.Join j k m reply) = if j == a then JoinAs k m ∷ [] else []
+decided_at a _ = []
+
+-- an exit
+abbrev pub is_exit : Entry → Bool
+is_exit (Entry.Exit p) = true
+is_exit _ = false
+
+-- a departure
+abbrev pub is_left : Entry → Bool
+is_left (Entry.Left d) = true
+is_left _ = false
+
+-- the notice of a departure
+abbrev pub is_told : Entry → Bool
+is_told (Entry.Told a d) = true
+is_told _ = false
+
+-- a look-up
+abbrev pub is_read : Entry → Bool
+is_read (Entry.Read a look reply) = true
+is_read _ = false
+
+-- the entry of an accepted exit
+abbrev pub exit_of : Played → List Entry
+exit_of p = elim p.event [ At a (Event.Exiting q) ↦ Entry.Exit q ∷ [] | _ ↦ [] ]
+
+-- the entry of an accepted leave
+abbrev pub left_of : Played → List Entry
+left_of p = elim p.event [ At a Event.Leave ↦ Entry.Left a ∷ [] | _ ↦ [] ]
+
+-- the entry of a `Down` that was delivered
+abbrev pub told_of : Played → List Entry
+told_of p = elim p.event [ Deliver d a ↦ if p.down then Entry.Told a d ∷ [] else [] | _ ↦ [] ]
+
+-- the entry of an accepted look-up, with the reply that it was given
+abbrev pub read_of : Played → List Entry
+read_of p = elim p.event [ At a (Event.Calling (Call.LookUp look)) ↦ map (λ s. Entry.Read a look s.reply) p.answers | _ ↦ [] ]
+
+-- ys begins with xs
+abbrev pub IsPrefix : {A : Type 0} → List A → List A → Type 0
+IsPrefix {A} xs ys = (zs : List A) × (ys ≡ xs ++ zs)
+
+-- The history that these events made fits them. Each event adds its entries at the end: `entries_of` is made so
+pub record Fits (ps : List Played) : Type 0 where
+  -- at each node its name and join calls were decided in the order in which it accepted them
+  pub calls : (a : ℕ) → IsPrefix (flat_map (decided_at a) (entries_of ps)) (accepted_at a ps)
+  -- all accepted exits, leaves and look-ups and all delivered notices are entered, in order, and no others
+  pub exits : filter is_exit (entries_of ps) ≡ flat_map exit_of ps
+  pub departures : filter is_left (entries_of ps) ≡ flat_map left_of ps
+  pub notices : filter is_told (entries_of ps) ≡ flat_map told_of ps
+  pub reads : filter is_read (entries_of ps) ≡ flat_map read_of ps

@@ -1,0 +1,62 @@
+-- The headline: all answers to name calls and joins are those of one sequential registry that takes the granted operations
+-- in lock order, and whenever the lock is free, the replicas are that registry's.
+use mathlib.Core.Logic.{◌⊎◌}
+use Rattle.std.specs.Prelude.{ℕ, true, false, ◌≡◌, IsTrue, Contains, fold, Some, None, option_map, flat_map, List, [], ◌∷◌, ◌++◌, if◌then◌else◌}
+use Rattle.registry_model.specs.Call.{Yes}
+use Rattle.registry_model.specs.Registry.{Registry, in_group, replica_of}
+use Rattle.registry_model.specs.History.{Past, past_of, is_free, is_holding, old, after}
+use Rattle.registry_model.specs.Legal.{IsLegal}
+use Rattle.protocol_model.specs.Event.{Event, Answer, HoldsLock}
+use Rattle.protocol_model.specs.World.{Opening, in_world, in_cluster, WorldEvent, At, opening_world, run}
+use Rattle.protocol_model.specs.Course.{Played, Seen, entries_of, course, seen}
+use Rattle.protocol_model.specs.Fit.{IsPrefix, Fits}
+use Rattle.protocol_model.specs.Answers.{answers_at, entered_at, AnswersInTime}
+
+-- what the history of these events comes to
+abbrev pub past : Opening → List Played → Past
+past o ps = past_of (in_cluster o) (entries_of ps)
+
+-- node a shows all that the registry has for it: its table, its members, whom it was told has left, whether it is joined
+abbrev pub Shows : Registry → ℕ → Seen → Type 0
+Shows r a now = now.node a ≡ replica_of r a
+
+-- node a is of the world and hasn't left
+abbrev pub IsRunning : Opening → Past → ℕ → Type 0
+IsRunning o t a = (in_world o a ≡ true) × (t.registry.left a ≡ false)
+
+-- all running nodes of the group of a show the registry
+abbrev pub GroupShows : Opening → Past → ℕ → Seen → Type 0
+GroupShows o t a now = (c : ℕ) → in_group t.registry a c ≡ true → IsRunning o t c → Shows t.registry c now
+
+-- each event of a course, behind those before it
+abbrev pub EachStep : List Played → (List Played → Played → Type 0) → Type 0
+EachStep ps P = (before : List Played) (p : Played) (later : List Played) → ps ≡ before ++ p ∷ later → P before p
+
+-- What stands after the accepted events ps of a world that opened so, where `now` is seen of it
+pub record Headline (o : Opening) (ps : List Played) (now : Seen) : Type 0 where
+  -- the history is what the events added, each at its end; it is legal, and fits them
+  pub history : now.history ≡ entries_of ps
+  pub legal : IsLegal (in_cluster o) now.history
+  pub fits : Fits ps
+  -- at each node the answers to its name and join calls are those of its entries, in their order, each once
+  pub replies : (a : ℕ) → IsPrefix (answers_at a ps) (flat_map (entered_at a) (entries_of ps))
+  -- they come in time
+  pub in_time : EachStep ps (λ before p. AnswersInTime (past o before) p (fold after (past o before) p.entries))
+  -- while no operation of its group holds, a running node shows the registry
+  pub free : (a : ℕ) → IsRunning o (past o ps) a → IsTrue (is_free (past o ps) a) → Shows (past o ps).registry a now
+  -- while one holds, it shows the registry with or without that operation
+  pub held : (a : ℕ) → IsRunning o (past o ps) a →
+      Shows (past o ps).registry a now ⊎ Shows (old (past o ps) a) a now
+  -- in a step that answers `yes`, every running node of that group has carried out the write
+  pub written : (before : List Played) (p : Played) (s : Answer) → ps ≡ before ++ p ∷ [] → Contains p.answers s → s.reply ≡ Yes →
+      GroupShows o (past o ps) s.node now
+  -- a leave is refused exactly while an operation of that node holds
+  pub leave : (a : ℕ) → IsRunning o (past o ps) a →
+      now.refusal (At a Event.Leave) ≡ (if is_holding (past o ps) a then Some HoldsLock else None)
+  -- the holder is the node of the operation that holds in the cluster
+  pub holder : now.holder ≡ option_map (λ h. h.node) (past o ps).held
+
+-- The headline for every list of events; those that the world refuses change nothing
+abbrev pub Agreement : Type 0
+Agreement = (o : Opening) (es : List WorldEvent) →
+    Headline o (course o (opening_world o) es) (seen o (run o (opening_world o) es))

@@ -1,0 +1,111 @@
+-- A step of a node that a letter makes.
+-- n: above all nodes of the world. a: this node. number j: the number of j's current join, for the history alone.
+use Rattle.std.specs.Prelude.{ℕ, Bool, true, false, not, ◌&&◌, ◌||◌, ◌==◌, fold, List, if◌then◌else◌}
+use Rattle.registry_model.specs.Process.{Process, is_process, Nodes, at}
+use Rattle.registry_model.specs.Table.{Table, Put, without}
+use Rattle.registry_model.specs.Call.{Joined, NotMember}
+use Rattle.registry_model.specs.Registry.{Replica}
+use Rattle.registry_model.specs.History.{Entry}
+use Rattle.protocol_model.specs.Letter.{Id, Letter, is_down}
+use Rattle.protocol_model.specs.LockTable.{is_free_for, grant, give_back, drop_holder, drop_node}
+use Rattle.protocol_model.specs.Node.{Op, Current, call_of, wrote}
+use Rattle.protocol_model.specs.Turn.{Turn, with_replica, with_locks, at_work, send, enter, reply_with}
+use Rattle.protocol_model.specs.Registrar.{registrar, start, await_less, lose_contact}
+use Rattle.protocol_model.specs.Deciding.{hear_answer, lose}
+use Rattle.protocol_model.specs.Client.{hear_lock, owe_less, lose_node}
+use Rattle.protocol_model.specs.Calling.{kill, queued}
+
+-- j is a member, unless it is told to have left
+abbrev pub with_member : ℕ → Replica → Replica
+with_member j v = if v.told j then v else record v { members = at v.members j true }
+
+-- j is admitted: it is a member, and its names are written
+abbrev pub admitted : ℕ → Table → Replica → Replica
+admitted j puts v = fold (λ x e. wrote (Put e.name e.owner) x) (with_member j v) puts
+
+-- what a joined node has of these members and this table, where it was told that these have left
+abbrev pub joined_with : Nodes → Table → Nodes → Replica
+joined_with members pairs gone =
+    record { table = without gone pairs; members = λ c. members c && not (gone c); told = gone; joined = true }
+
+-- a lone node is welcomed with what its sponsor has, less what either was told has left
+abbrev pub welcomed : Nodes → Table → Nodes → Replica → Replica
+welcomed members pairs told v = joined_with members pairs (λ d. v.told d || told d)
+
+-- d is told to have left: it is no member, and what is owned on it goes
+abbrev pub bereft : ℕ → Replica → Replica
+bereft d v = record v { told = at v.told d true; members = at v.members d false; table = without (λ c. c == d) v.table }
+
+module _ (n a : ℕ) (number : ℕ → ℕ) where
+  -- the lock table answers f
+  abbrev pub judge : ℕ → Id → Process → Bool → Turn → Turn
+  judge f id p free u =
+      send f (Letter.LockAnswer id p free) (if free then with_locks (grant id p) u else u)
+
+  -- an answer goes to its holder's round
+  abbrev pub hear : ℕ → Process → Bool → Turn → Turn
+  hear f p granted u =
+      if is_process p (registrar a)
+      then hear_answer n a number f granted u.node.current u
+      else hear_lock n a f granted (call_of p u.node.calls) u
+
+  -- a count is taken back, which is answered where the letter says so
+  abbrev pub take_back : ℕ → Id → Process → Bool → Turn → Turn
+  take_back f id p ack u =
+      if ack then send f (Letter.GivenBack p) (with_locks (give_back id p) u) else with_locks (give_back id p) u
+
+  -- f asks to join: a joined node queues its admission, a lone one refuses
+  abbrev pub asked_to_admit : ℕ → Table → Turn → Turn
+  asked_to_admit f pairs u =
+      if u.node.replica.joined
+      then queued n a (Op.Admission f pairs) u
+      else send f Letter.JoinRefused (enter (Entry.Join f (number f) a NotMember) u)
+
+  -- a join by f is refused
+  abbrev pub refused_join : ℕ → Current → Turn → Turn
+  refused_join f (Current.Joining k m) u = if m == f then reply_with a k NotMember (at_work Current.Free u) else u
+  refused_join f _ u = u
+
+  -- a join by f is granted, and these die
+  abbrev pub welcome : ℕ → Nodes → Table → Nodes → List Process → Current → Turn → Turn
+  welcome f members pairs told kills (Current.Joining k m) u =
+      if m == f
+      then send f Letter.Applied (reply_with a k Joined
+          (at_work Current.Free (kill n a kills (with_replica (welcomed members pairs told) u))))
+      else u
+  welcome f members pairs told kills _ u = u
+
+  -- the departure of d is entered, and this node takes it in
+  abbrev pub told_of : ℕ → Turn → Turn
+  told_of d u = with_locks (drop_node d) (with_replica (bereft d) (enter (Entry.Told a d) u))
+
+  -- a join by d ends
+  abbrev pub lose_join : ℕ → Turn → Turn
+  lose_join d u = lose_contact n a d u.node.current u
+
+  -- the registrar's round or wait is told
+  abbrev pub lose_current : ℕ → Turn → Turn
+  lose_current d u = lose n a number d u.node.current u
+
+  -- d has gone down: this node is told, a join by d ends, the registrar is told, then the lock calls
+  abbrev pub bereave : ℕ → Turn → Turn
+  bereave d u = lose_node n a d (lose_current d (lose_join d (told_of d u)))
+
+  -- what a node does with a letter from f
+  abbrev pub read : ℕ → Letter → Turn → Turn
+  read f (Letter.SetLock id p) u = judge f id p (is_free_for id p u.node.locks) u
+  read f (Letter.LockAnswer id p granted) u = hear f p granted u
+  read f (Letter.GiveBack id p ack) u = take_back f id p ack u
+  read f (Letter.GivenBack p) u = owe_less n a f (call_of p u.node.calls) u
+  read f (Letter.ReleaseOf p) u = with_locks (drop_holder p) u
+  read f (Letter.Apply change) u = send f Letter.Applied (with_replica (wrote change) u)
+  read f Letter.Applied u = await_less n a f u.node.current u
+  read f (Letter.JoinAsk pairs) u = asked_to_admit f pairs u
+  read f Letter.JoinRefused u = refused_join f u.node.current u
+  read f (Letter.Admit j puts kills) u = send f Letter.Applied (kill n a kills (with_replica (admitted j puts) u))
+  read f (Letter.Welcome members pairs told kills) u = welcome f members pairs told kills u.node.current u
+  read f Letter.Down u = bereave f u
+
+  -- a letter from a node that is told to have left is dropped unread, but for `Down`
+  abbrev pub receive : ℕ → Letter → Turn → Turn
+  receive f l u = start n a (if u.node.replica.told f && not (is_down l) then u else read f l u)

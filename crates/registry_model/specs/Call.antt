@@ -1,0 +1,82 @@
+-- Calls that change or read a table, and what is answered.
+use Rattle.std.specs.Prelude.{Bool, true, false, not, ◌&&◌, ◌||◌, Option, Some, None, is_some, List, [], ◌∷◌, if◌then◌else◌}
+use Rattle.registry_model.specs.Process.{Text, is_text, Process, is_process, Nodes}
+use Rattle.registry_model.specs.Table.{Table, get, owns, names, Change, Put, Remove}
+
+-- a call that goes through the registry
+pub data NameCall : Type 0 where
+  Register : (name : Text) → (owner : Process) → NameCall
+  ReRegister : (name : Text) → (owner : Process) → NameCall
+  Unregister : (name : Text) → NameCall
+
+-- a look-up at one node: of one name, or of all names
+pub data Look : Type 0 where
+  Whereis : (name : Text) → Look
+  RegisteredNames : Look
+
+-- all replies, those to lock calls and to `spawn` among them
+pub data Reply : Type 0 where
+  Yes : Reply
+  No : Reply
+  Ok : Reply
+  UnknownNode : Reply
+  True : Reply
+  False : Reply
+  Joined : Reply
+  NotMember : Reply
+  ContactLeft : Reply
+  Pid : (process : Process) → Reply
+  Undefined : Reply
+  Names : (names : List Text) → Reply
+
+-- whether two lists of texts are one
+abbrev pub are_texts : List Text → List Text → Bool
+are_texts [] [] = true
+are_texts [] (y ∷ ys) = false
+are_texts (x ∷ xs) [] = false
+are_texts (x ∷ xs) (y ∷ ys) = is_text x y && are_texts xs ys
+
+-- whether two replies are one
+abbrev pub is_reply : Reply → Reply → Bool
+is_reply Yes Yes = true
+is_reply No No = true
+is_reply Ok Ok = true
+is_reply UnknownNode UnknownNode = true
+is_reply True True = true
+is_reply False False = true
+is_reply Joined Joined = true
+is_reply NotMember NotMember = true
+is_reply ContactLeft ContactLeft = true
+is_reply (Pid p) (Pid q) = is_process p q
+is_reply Undefined Undefined = true
+is_reply (Names xs) (Names ys) = are_texts xs ys
+is_reply _ _ = false
+
+-- the replies that grant a name call: only then it has its effect
+abbrev pub is_grant : Reply → Bool
+is_grant Yes = true
+is_grant Ok = true
+is_grant _ = false
+
+-- what a granted name call does
+abbrev pub change_of : NameCall → Change
+change_of (Register x p) = Put x p
+change_of (ReRegister x p) = Put x p
+change_of (Unregister x) = Remove x
+
+-- the reply to a name call, by the members and the table of the node that runs it
+abbrev pub reply_to : Nodes → Table → NameCall → Reply
+reply_to members table (Register x p) =
+    if not (members p.node) then UnknownNode else (if is_some (get x table) || owns p table then No else Yes)
+reply_to members table (ReRegister x p) = if not (members p.node) then UnknownNode else Yes
+reply_to members table (Unregister x) = Ok
+
+-- the owner, if there is one
+abbrev pub pid_or_undefined : Option Process → Reply
+pid_or_undefined None = Undefined
+pid_or_undefined (Some p) = Pid p
+
+-- the reply to a look-up in this table
+abbrev pub seen_in : Table → Look → Reply
+seen_in table (Whereis x) = pid_or_undefined (get x table)
+seen_in table RegisteredNames = Names (names table)

@@ -1,0 +1,72 @@
+-- Tables: finite maps from names to processes. A table lists its names once each, rising, so each map is one list.
+use Rattle.std.specs.Prelude.{Bool, true, not, ◌&&◌, Option, Some, None, List, [], ◌∷◌, map, filter, fold, if◌then◌else◌}
+use Rattle.std.specs.List.{list_any}
+use Rattle.registry_model.specs.Process.{Text, is_text, is_before, Process, is_process, Nodes}
+
+-- a name and its owner
+pub record Pair : Type 0 where
+  pub name : Text
+  pub owner : Process
+
+-- rising strictly by name
+abbrev pub Table : Type 0
+Table = List Pair
+
+-- the name stands before all names of the table
+abbrev pub is_below : Text → Table → Bool
+is_below x [] = true
+is_below x (e ∷ t) = is_before x e.name
+
+-- the names rise strictly
+abbrev pub is_rising : Table → Bool
+is_rising [] = true
+is_rising (e ∷ t) = is_below e.name t && is_rising t
+
+-- who has the name
+abbrev pub get : Text → Table → Option Process
+get x [] = None
+get x (e ∷ t) = if is_text e.name x then Some e.owner else get x t
+
+-- p has the name x, and nobody else does
+abbrev pub put : Text → Process → Table → Table
+put x p [] = record { name = x; owner = p } ∷ []
+put x p (e ∷ t) =
+    if is_text e.name x
+    then record { name = x; owner = p } ∷ t
+    else (if is_before x e.name then record { name = x; owner = p } ∷ e ∷ t else e ∷ put x p t)
+
+-- each of these pairs is put, in order
+abbrev pub put_all : Table → Table → Table
+put_all pairs t = fold (λ s e. put e.name e.owner s) t pairs
+
+-- nobody has the name x
+abbrev pub remove : Text → Table → Table
+remove x t = filter (λ e. not (is_text e.name x)) t
+
+-- p has no name
+abbrev pub strike : Process → Table → Table
+strike p t = filter (λ e. not (is_process e.owner p)) t
+
+-- the names whose owners aren't on these nodes
+abbrev pub without : Nodes → Table → Table
+without gone t = filter (λ e. not (gone e.owner.node)) t
+
+-- whether p has a name
+abbrev pub owns : Process → Table → Bool
+owns p t = list_any (λ e. is_process e.owner p) t
+
+-- all names, rising
+abbrev pub names : Table → List Text
+names t = map (λ e. e.name) t
+
+-- a change of a table
+pub data Change : Type 0 where
+  Put : (name : Text) → (owner : Process) → Change
+  Remove : (name : Text) → Change
+  StrikeOwner : (owner : Process) → Change
+
+-- the table after a change
+abbrev pub changed : Change → Table → Table
+changed (Put x p) t = put x p t
+changed (Remove x) t = remove x t
+changed (StrikeOwner p) t = strike p t
