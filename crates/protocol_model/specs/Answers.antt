@@ -1,5 +1,5 @@
 -- The answers to name calls and joins, and when they come.
-use Rattle.std.specs.Prelude.{ℕ, Bool, true, false, ◌&&◌, ◌==◌, ◌≡◌, Contains, Option, Some, None, filter, flat_map, List, [], ◌∷◌, ◌++◌, if◌then◌else◌}
+use Rattle.std.specs.Prelude.{ℕ, Bool, true, false, ◌&&◌, ◌==◌, ◌≡◌, Contains, Option, Some, None, filter, List, [], ◌∷◌, ◌++◌, if◌then◌else◌}
 use Rattle.std.specs.List.{list_any}
 use Rattle.registry_model.specs.Call.{Reply, Yes, No, Ok, UnknownNode, Joined, ContactLeft, is_grant}
 use Rattle.registry_model.specs.History.{Entry, Past, Hold, hold_at, after}

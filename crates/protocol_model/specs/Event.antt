@@ -1,7 +1,7 @@
 -- Events at a node, and which of them a node refuses.
 use Rattle.std.specs.Prelude.{ℕ, Bool, true, false, not, ◌||◌, ◌==◌, nat_lt, Option, Some, None, is_some, List, [], ◌∷◌, ◌++◌, if◌then◌else◌}
 use Rattle.std.specs.List.{list_any, list_all}
-use Rattle.registry_model.specs.Process.{Text, is_text, Process}
+use Rattle.registry_model.specs.Process.{Text, text_of, Process}
 use Rattle.registry_model.specs.Call.{NameCall, Look, Reply}
 use Rattle.protocol_model.specs.Watch.{is_live, is_issued, is_dead, next_serial}
 use Rattle.protocol_model.specs.Node.{Node, Op, Current, LockPhase, Target, Named, Retries, call_of, holds_global}
@@ -65,7 +65,7 @@ last_u32 = 4294967295
 
 -- the resource `global`
 abbrev pub global_resource : Text
-global_resource = 103 ∷ 108 ∷ 111 ∷ 98 ∷ 97 ∷ 108 ∷ []
+global_resource = text_of (103 ∷ 108 ∷ 111 ∷ 98 ∷ 97 ∷ 108 ∷ [])
 
 -- the operation is a join of this node's own
 abbrev pub is_join : Op → Bool
@@ -108,7 +108,7 @@ names_members v _ = true
 abbrev pub lock_causes : ℕ → Node → Process → Text → List Cause
 lock_causes a v p resource =
     cause (not (is_live a v.watch p)) (NotLive p) ∷ cause (is_some (call_of p v.calls)) (Busy p)
-    ∷ cause (is_text resource global_resource) Reserved ∷ []
+    ∷ cause (resource == global_resource) Reserved ∷ []
 
 -- why node a refuses a call, in order
 abbrev pub call_causes : ℕ → Node → Call → List Cause

@@ -1,9 +1,9 @@
 -- Letters: what one node sends to another, or to itself.
 use Rattle.std.specs.Prelude.{ℕ, Bool, true, false, ◌&&◌, ◌==◌, List}
-use Rattle.registry_model.specs.Process.{Text, is_text, Process, Nodes}
+use Rattle.registry_model.specs.Process.{Text, Process, Nodes}
 use Rattle.registry_model.specs.Table.{Table, Change}
 
--- a lock's id, a resource and a requester: the resource `global` under a node, or one of the clients'
+-- a lock's id, a resource and a requester: the resource `global` under a node, or another's
 pub data Id : Type 0 where
   Global : (requester : ℕ) → Id
   Client : (resource : Text) → (requester : Text) → Id
@@ -11,13 +11,13 @@ pub data Id : Type 0 where
 -- whether two ids are one
 abbrev pub is_id : Id → Id → Bool
 is_id (Global a) (Global b) = a == b
-is_id (Client r q) (Client s z) = is_text r s && is_text q z
+is_id (Client r q) (Client s z) = (r == s) && (q == z)
 is_id _ _ = false
 
 -- whether two ids are of one resource
 abbrev pub is_resource : Id → Id → Bool
 is_resource (Global a) (Global b) = true
-is_resource (Client r q) (Client s z) = is_text r s
+is_resource (Client r q) (Client s z) = r == s
 is_resource _ _ = false
 
 pub data Letter : Type 0 where

@@ -1,7 +1,7 @@
 -- The state of one node.
-use Rattle.std.specs.Prelude.{ℕ, Bool, true, false, not, ◌&&◌, ◌==◌, nat_lt, Option, Some, None, find, filter, List, [], ◌∷◌, if◌then◌else◌}
+use Rattle.std.specs.Prelude.{ℕ, Bool, true, false, not, ◌&&◌, ◌==◌, nat_lt, Option, find, filter, List, [], ◌∷◌, if◌then◌else◌}
 use Rattle.std.specs.List.{list_any}
-use Rattle.registry_model.specs.Process.{Process, is_process, Nodes, nobody}
+use Rattle.registry_model.specs.Process.{Process, is_process, Nodes}
 use Rattle.registry_model.specs.Table.{Table, Change, Put, Remove, changed}
 use Rattle.registry_model.specs.Call.{NameCall, Reply}
 use Rattle.registry_model.specs.Registry.{Replica, opening, replica_of}

@@ -71,7 +71,7 @@ module _ (n a : ℕ) (number : ℕ → ℕ) where
   welcome f members pairs told kills (Current.Joining k m) u =
       if m == f
       then send f Letter.Applied (reply_with a k Joined
-          (at_work Current.Free (kill n a kills (with_replica (welcomed members pairs told) u))))
+      (at_work Current.Free (kill n a kills (with_replica (welcomed members pairs told) u))))
       else u
   welcome f members pairs told kills _ u = u
 

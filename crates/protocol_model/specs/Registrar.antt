@@ -8,7 +8,7 @@ use Rattle.registry_model.specs.History.{Entry}
 use Rattle.protocol_model.specs.Round.{Round, begin, greatest, is_empty, rest, opens}
 use Rattle.protocol_model.specs.Letter.{Global, Letter}
 use Rattle.protocol_model.specs.Watch.{owed}
-use Rattle.protocol_model.specs.Node.{Node, Op, Current}
+use Rattle.protocol_model.specs.Node.{Op, Current}
 use Rattle.protocol_model.specs.Turn.{Turn, at_work, with_queue, send, send_all, enter, reply_with}
 
 -- the registrar of node a, as the holder of its lock

@@ -1,5 +1,5 @@
 -- The watch of one node over its processes: who was spawned, who is dead, and whose names are owed a strike.
-use Rattle.std.specs.Prelude.{ℕ, Bool, true, false, zero, suc, not, ◌&&◌, ◌||◌, ◌==◌, ◌+◌, nat_lt, Option, Some, None, length, List, [], ◌∷◌, ◌++◌, if◌then◌else◌}
+use Rattle.std.specs.Prelude.{ℕ, Bool, zero, suc, not, ◌&&◌, ◌==◌, ◌+◌, nat_lt, Option, Some, None, length, List, [], ◌∷◌, ◌++◌, if◌then◌else◌}
 use Rattle.std.specs.List.{list_any}
 use Rattle.registry_model.specs.Process.{Process}
 use Rattle.registry_model.specs.Table.{Table, owns}

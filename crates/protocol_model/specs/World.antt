@@ -1,5 +1,5 @@
 -- The world: its nodes, their links, and the history.
-use Rattle.std.specs.Prelude.{ℕ, Bool, true, false, zero, suc, not, ◌&&◌, ◌||◌, ◌==◌, nat_lt, Option, Some, None, is_none, fold, find, map, flat_map, List, [], ◌∷◌, ◌++◌, if◌then◌else◌}
+use Rattle.std.specs.Prelude.{ℕ, zero, suc, not, ◌&&◌, ◌||◌, nat_lt, Option, Some, None, is_none, fold, find, map, flat_map, List, [], ◌∷◌, ◌++◌, if◌then◌else◌}
 use Rattle.registry_model.specs.Process.{Nodes, at, nodes_of}
 use Rattle.registry_model.specs.History.{Entry}
 use Rattle.protocol_model.specs.Letter.{Letter}

@@ -1,6 +1,6 @@
 -- Calls that change or read a table, and what is answered.
-use Rattle.std.specs.Prelude.{Bool, true, false, not, ◌&&◌, ◌||◌, Option, Some, None, is_some, List, [], ◌∷◌, if◌then◌else◌}
-use Rattle.registry_model.specs.Process.{Text, is_text, Process, is_process, Nodes}
+use Rattle.std.specs.Prelude.{Bool, true, false, not, ◌||◌, bytes_eq, Option, Some, None, is_some, List, if◌then◌else◌}
+use Rattle.registry_model.specs.Process.{Text, Process, is_process, Nodes}
 use Rattle.registry_model.specs.Table.{Table, get, owns, names, Change, Put, Remove}
 
 -- a call that goes through the registry
@@ -31,10 +31,7 @@ pub data Reply : Type 0 where
 
 -- whether two lists of texts are one
 abbrev pub are_texts : List Text → List Text → Bool
-are_texts [] [] = true
-are_texts [] (y ∷ ys) = false
-are_texts (x ∷ xs) [] = false
-are_texts (x ∷ xs) (y ∷ ys) = is_text x y && are_texts xs ys
+are_texts = bytes_eq
 
 -- whether two replies are one
 abbrev pub is_reply : Reply → Reply → Bool

@@ -1,20 +1,23 @@
 -- Texts, processes, and sets of nodes.
--- A node is a number: the place of its name in the byte order of all names. So lesser nodes have lesser names.
-use Rattle.std.specs.Prelude.{ℕ, Bool, true, false, zero, suc, ◌==◌, nat_lt, ◌&&◌, bytes_eq, List, [], ◌∷◌, ◌++◌, if◌then◌else◌}
+use Rattle.std.specs.Prelude.{ℕ, Bool, false, zero, suc, ◌==◌, ◌&&◌, ◌+◌, ◌-◌, ◌*◌, ◌^◌, List, [], ◌∷◌, ◌++◌, if◌then◌else◌}
 
--- a name, a resource or a requester: its bytes
+-- A text, as a name, a resource or a requester, is a number: the place of its bytes in the byte order of all texts. All that
+-- the registry asks of texts is whether two are one, and which is the lesser. A node is the text of its name
 abbrev pub Text : Type 0
-Text = List ℕ
+Text = ℕ
 
--- whether two texts are one
-abbrev pub is_text : Text → Text → Bool
-is_text = bytes_eq
+-- the bytes as digits behind a point, k digits long in all: so texts of at most k bytes, none of them 0, rise as their bytes do
+abbrev pub place_in : ℕ → List ℕ → Text
+place_in k [] = 0
+place_in k (b ∷ bs) = b * 256 ^ (k - 1) + place_in (k - 1) bs
 
--- whether x stands before y in the order of bytes
-abbrev pub is_before : Text → Text → Bool
-is_before x [] = false
-is_before [] (b ∷ y) = true
-is_before (a ∷ x) (b ∷ y) = if a == b then is_before x y else nat_lt a b
+-- no text is longer than this
+abbrev pub longest : ℕ
+longest = 64
+
+-- the text of these bytes
+abbrev pub text_of : List ℕ → Text
+text_of bytes = place_in longest bytes
 
 -- a process; serial 0 is the registrar of its node, which is never live
 pub record Process : Type 0 where

@@ -1,7 +1,7 @@
 -- Tables: finite maps from names to processes. A table lists its names once each, rising, so each map is one list.
-use Rattle.std.specs.Prelude.{Bool, true, not, ◌&&◌, Option, Some, None, List, [], ◌∷◌, map, filter, fold, if◌then◌else◌}
+use Rattle.std.specs.Prelude.{Bool, true, not, ◌&&◌, ◌==◌, nat_lt, Option, Some, None, List, [], ◌∷◌, map, filter, fold, if◌then◌else◌}
 use Rattle.std.specs.List.{list_any}
-use Rattle.registry_model.specs.Process.{Text, is_text, is_before, Process, is_process, Nodes}
+use Rattle.registry_model.specs.Process.{Text, Process, is_process, Nodes}
 
 -- a name and its owner
 pub record Pair : Type 0 where
@@ -15,7 +15,7 @@ Table = List Pair
 -- the name stands before all names of the table
 abbrev pub is_below : Text → Table → Bool
 is_below x [] = true
-is_below x (e ∷ t) = is_before x e.name
+is_below x (e ∷ t) = nat_lt x e.name
 
 -- the names rise strictly
 abbrev pub is_rising : Table → Bool
@@ -25,15 +25,15 @@ is_rising (e ∷ t) = is_below e.name t && is_rising t
 -- who has the name
 abbrev pub get : Text → Table → Option Process
 get x [] = None
-get x (e ∷ t) = if is_text e.name x then Some e.owner else get x t
+get x (e ∷ t) = if e.name == x then Some e.owner else get x t
 
 -- p has the name x, and nobody else does
 abbrev pub put : Text → Process → Table → Table
 put x p [] = record { name = x; owner = p } ∷ []
 put x p (e ∷ t) =
-    if is_text e.name x
+    if e.name == x
     then record { name = x; owner = p } ∷ t
-    else (if is_before x e.name then record { name = x; owner = p } ∷ e ∷ t else e ∷ put x p t)
+    else (if nat_lt x e.name then record { name = x; owner = p } ∷ e ∷ t else e ∷ put x p t)
 
 -- each of these pairs is put, in order
 abbrev pub put_all : Table → Table → Table
@@ -41,7 +41,7 @@ put_all pairs t = fold (λ s e. put e.name e.owner s) t pairs
 
 -- nobody has the name x
 abbrev pub remove : Text → Table → Table
-remove x t = filter (λ e. not (is_text e.name x)) t
+remove x t = filter (λ e. not (e.name == x)) t
 
 -- p has no name
 abbrev pub strike : Process → Table → Table
