@@ -1,0 +1,108 @@
+-- Cases on an index and on tests, and what is known of all nodes of a set.
+use Rattle.std.proofs.Common.{ℕ, zero, suc, Bool, true, false, ◌==◌, ◌≡◌, ◌<◌, refl, sym, subst, ap, ◌∙◌, inl, inr, arith}
+use Rattle.std.specs.Prelude.{not, ◌&&◌, ◌||◌, if◌then◌else◌}
+use Rattle.std.proofs.lemmas.Bool.{cases_eq, eq-eqb, ne_eqb}
+use Rattle.registry_model.specs.Process.{Nodes, at}
+use Rattle.protocol_model.specs.Round.{is_empty, greatest}
+
+-- what holds at a, and at each other index
+pub by_test : (a : ℕ) (P : ℕ → Bool → Type 0) → P a true → ((x : ℕ) → (x ≡ a → ⊥) → P x false) → (x : ℕ) → P x (x == a)
+by_test a P here there x = elim (cases_eq x a) [
+  | inl e ↦ rw (eq-eqb x a e) (subst (λ (y : ℕ). P y true) (sym e) here)
+  | inr ne ↦ rw (ne_eqb x a ne) (there x ne)
+]
+
+-- f, but v at (a, c)
+abbrev pub at_pair : {A : Type 0} → (ℕ → ℕ → A) → ℕ → ℕ → A → ℕ → ℕ → A
+at_pair f a c v x y = if x == a then (if y == c then v else f x y) else f x y
+
+-- what holds at (a, c), and at each pair
+pub by_pair : {A : Type 0} (f : ℕ → ℕ → A) (a c : ℕ) (v : A) (P : ℕ → ℕ → A → Type 0) → P a c v → ((x y : ℕ) → P x y (f x y))
+    → (x y : ℕ) → P x y (at_pair f a c v x y)
+by_pair f a c v P here there = by_test a (λ x t. (y : ℕ) → P x y (if t then (if y == c then v else f x y) else f x y))
+    (by_test c (λ y t. P a y (if t then v else f a y)) here (λ y ne. there a y))
+    (λ x ne y. there x y)
+
+pub pair_here : {A : Type 0} (f : ℕ → ℕ → A) (a c : ℕ) (v : A) → at_pair f a c v a c ≡ v
+pair_here f a c v = rw (eq-eqb a a refl, eq-eqb c c refl)
+
+pub at_same : {A : Type 0} (f : ℕ → A) (a : ℕ) (v : A) → at f a v a ≡ v
+at_same f a v = rw (eq-eqb a a refl)
+
+pub at_other : {A : Type 0} (f : ℕ → A) (a : ℕ) (v : A) (x : ℕ) → (x ≡ a → ⊥) → at f a v x ≡ f x
+at_other f a v x ne = rw (ne_eqb x a ne)
+
+-- both of an `and`
+pub both : (b c : Bool) → (b && c) ≡ true → (b ≡ true) × (c ≡ true)
+both true c e = (refl, e)
+both false c e = cc
+
+-- neither of an `or`
+pub neither : (b c : Bool) → (b || c) ≡ false → (b ≡ false) × (c ≡ false)
+neither true c e = cc
+neither false c e = (refl, e)
+
+pub not_true : (b : Bool) → not b ≡ true → b ≡ false
+not_true true e = cc
+not_true false e = refl
+
+pub not_false : (b : Bool) → not b ≡ false → b ≡ true
+not_false true e = refl
+not_false false e = cc
+
+-- nobody below n is in an empty set
+pub empty_at : (n : ℕ) (s : Nodes) → is_empty n s ≡ true → (c : ℕ) → c < n → s c ≡ false
+empty_at zero s e c l = absurd (omega arith)
+empty_at (suc n) s e c l =
+    let parts : (not (s n) ≡ true) × (is_empty n s ≡ true) = both (not (s n)) (is_empty n s) e in
+    elim (cases_eq c n) [
+      | inl q ↦ subst (λ (y : ℕ). s y ≡ false) (sym q) (not_true (s n) parts.0)
+      | inr ne ↦ empty_at n s parts.1 c (omega arith)
+    ]
+
+-- a set without nodes below n is empty
+pub is_empty_from : (n : ℕ) (s : Nodes) → ((c : ℕ) → c < n → s c ≡ false) → is_empty n s ≡ true
+is_empty_from zero s none = refl
+is_empty_from (suc n) s none =
+    ap (λ (b : Bool). not b && is_empty n s) (none n (omega arith)) ∙ is_empty_from n s (λ c l. none c (omega arith))
+
+-- some node below n of a set that isn't empty
+pub some_of : (n : ℕ) (s : Nodes) → is_empty n s ≡ false → (c : ℕ) × (c < n) × (s c ≡ true)
+some_of zero s e = cc
+some_of (suc n) s e = go (s n) refl (λ q. some_of n s (sym (ap (λ (b : Bool). not b && is_empty n s) q) ∙ e))
+  where
+    go : (b : Bool) → s n ≡ b → (s n ≡ false → (c : ℕ) × (c < n) × (s c ≡ true)) → (c : ℕ) × (c < suc n) × (s c ≡ true)
+    go true q below = (n, omega arith, q)
+    go false q below = let more : (c : ℕ) × (c < n) × (s c ≡ true) = below q in (more.0, omega (arith, more.1), more.2)
+
+-- the greatest node of a set is one of it
+pub greatest_in : (n : ℕ) (s : Nodes) (a : ℕ) → a < n → s a ≡ true → s (greatest n s) ≡ true
+greatest_in zero s a l h = absurd (omega arith)
+greatest_in (suc n) s a l h = elim (cases_eq a n) [
+  | inl e ↦ first (subst (λ (y : ℕ). s y ≡ true) e h)
+  | inr ne ↦ go (s n) refl (greatest_in n s a (omega arith) h)
+]
+  where
+    first : s n ≡ true → s (if s n then n else greatest n s) ≡ true
+    first k = ap (λ (t : Bool). s (if t then n else greatest n s)) k ∙ k
+
+    go : (t : Bool) → s n ≡ t → s (greatest n s) ≡ true → s (if s n then n else greatest n s) ≡ true
+    go true k r = first k
+    go false k r = ap (λ (t : Bool). s (if t then n else greatest n s)) k ∙ r
+
+-- and below n
+greatest_at_most : (n : ℕ) (s : Nodes) → greatest n s < suc n
+greatest_at_most zero s = omega arith
+greatest_at_most (suc n) s = go (s n) (greatest_at_most n s)
+  where
+    go : (b : Bool) → greatest n s < suc n → (if b then n else greatest n s) < suc (suc n)
+    go true l = omega arith
+    go false l = omega arith
+
+pub greatest_below : (n : ℕ) (s : Nodes) → 0 < n → greatest n s < n
+greatest_below zero s l = absurd (omega arith)
+greatest_below (suc n) s l = go (s n) (greatest_at_most n s)
+  where
+    go : (b : Bool) → greatest n s < suc n → (if b then n else greatest n s) < suc n
+    go true l = omega arith
+    go false l = l

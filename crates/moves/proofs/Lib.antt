@@ -1,0 +1,4 @@
+pub mod Rules
+pub mod Indices
+pub mod Sends
+pub mod Invariants
