@@ -17,3 +17,12 @@ pub mod Fit
 pub mod Answers
 pub mod Headline
 pub mod ClientLocks
+pub mod Script
+pub mod RowWords
+pub mod Check
+pub mod NameRows
+pub mod RoundRows
+pub mod ExitRows
+pub mod LockRows
+pub mod DepartureRows
+pub mod JoinRows

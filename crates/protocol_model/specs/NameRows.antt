@@ -1,0 +1,63 @@
+-- Rows about names.
+use Rattle.std.specs.Prelude.{[], ◌∷◌}
+use Rattle.registry_model.specs.Call.{Yes, No, Ok, UnknownNode, Pid, Undefined, Names}
+use Rattle.protocol_model.specs.Script.{Row, Settle, Settled}
+use Rattle.protocol_model.specs.RowWords.{row, world_of, a, b, c, d, stranger, w, x, y, zz, pid, spawn, register, re_register, unregister, whereis, names, said, shown, given}
+
+-- a name that was registered is found
+abbrev pub registered_name_is_found : Row
+registered_name_is_found = row (world_of 1 (a ∷ []) [])
+    (spawn a ∷ register a x (pid a 1) ∷ Settle ∷ whereis a x ∷ [])
+    (given (pid a 1) ∷ said a 1 Yes ∷ Settled ∷ shown a (Pid (pid a 1)) ∷ [])
+
+-- before any call there is no name
+abbrev pub nothing_is_registered_yet : Row
+nothing_is_registered_yet = row (world_of 1 (a ∷ []) [])
+    (whereis a x ∷ names a ∷ [])
+    (shown a Undefined ∷ shown a (Names []) ∷ [])
+
+-- a name that one node registers is found at another
+abbrev pub every_node_finds_the_name : Row
+every_node_finds_the_name = row (world_of 3 (a ∷ b ∷ c ∷ []) [])
+    (spawn a ∷ register a x (pid a 1) ∷ Settle ∷ whereis c x ∷ [])
+    (given (pid a 1) ∷ said a 1 Yes ∷ Settled ∷ shown c (Pid (pid a 1)) ∷ [])
+
+-- a process that has a name gets no second one
+abbrev pub process_has_one_name : Row
+process_has_one_name = row (world_of 1 (a ∷ []) [])
+    (spawn a ∷ register a x (pid a 1) ∷ register a y (pid a 1) ∷ Settle ∷ names a ∷ [])
+    (given (pid a 1) ∷ said a 1 Yes ∷ said a 2 No ∷ Settled ∷ shown a (Names (x ∷ [])) ∷ [])
+
+-- a name that nobody has is unregistered all the same
+abbrev pub nothing_to_unregister : Row
+nothing_to_unregister = row (world_of 1 (a ∷ []) [])
+    (unregister a zz ∷ Settle ∷ names a ∷ [])
+    (said a 1 Ok ∷ Settled ∷ shown a (Names []) ∷ [])
+
+-- an owner on a lone node is on no member
+abbrev pub owner_on_a_lone_node : Row
+owner_on_a_lone_node = row (world_of 4 (a ∷ []) (d ∷ []))
+    (spawn d ∷ register a x (pid d 1) ∷ Settle ∷ names a ∷ [])
+    (given (pid d 1) ∷ said a 1 UnknownNode ∷ Settled ∷ shown a (Names []) ∷ [])
+
+-- no second name for a process, no name that is in use, none for an owner on no node of the world
+abbrev pub who_gets_no_name : Row
+who_gets_no_name = row (world_of 1 (a ∷ []) [])
+    (spawn a ∷ register a x (pid a 1) ∷ register a y (pid a 1) ∷ register a x (pid a 2)
+    ∷ register a w (pid stranger 1) ∷ Settle ∷ whereis a y ∷ [])
+    (given (pid a 1) ∷ said a 1 Yes ∷ said a 2 No ∷ said a 3 No ∷ said a 4 UnknownNode ∷ Settled ∷ shown a Undefined
+    ∷ [])
+
+-- a name moves to another process and is unregistered; a lone node sees nothing of it
+abbrev pub name_moves_and_goes : Row
+name_moves_and_goes = row (world_of 4 (a ∷ b ∷ []) (d ∷ []))
+    (spawn a ∷ spawn b ∷ register a x (pid a 1) ∷ Settle ∷ re_register b x (pid b 1) ∷ Settle ∷ whereis a x
+    ∷ unregister a x ∷ Settle ∷ names b ∷ names d ∷ [])
+    (given (pid a 1) ∷ given (pid b 1) ∷ said a 1 Yes ∷ Settled ∷ said b 1 Yes ∷ Settled ∷ shown a (Pid (pid b 1))
+    ∷ said a 2 Ok ∷ Settled ∷ shown b (Names []) ∷ shown d (Names []) ∷ [])
+
+-- a name doesn't move to an owner on a lone node either
+abbrev pub name_moves_to_members_alone : Row
+name_moves_to_members_alone = row (world_of 4 (a ∷ []) (d ∷ []))
+    (spawn d ∷ re_register a x (pid d 1) ∷ Settle ∷ names a ∷ [])
+    (given (pid d 1) ∷ said a 1 UnknownNode ∷ Settled ∷ shown a (Names []) ∷ [])
