@@ -5,3 +5,6 @@ pub mod Settlement
 pub mod Registry
 pub mod History
 pub mod Legal
+pub mod HistoryLaws
+pub mod SharedLaws
+pub mod Sample

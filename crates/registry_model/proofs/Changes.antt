@@ -1,0 +1,139 @@
+-- What the changes of a table do, each in words.
+use Rattle.std.proofs.Common.{Bool, true, false, ◌≡◌, Option, Some, None, refl, sym, subst, ap, ◌∙◌, inl, inr}
+use Rattle.std.specs.Prelude.{◌⊎◌, not}
+use Rattle.std.proofs.lemmas.Bool.{cases_eq, eq-eqb, ne_eqb}
+use Rattle.registry_model.specs.Process.{Text, Process, is_process, Nodes}
+use Rattle.registry_model.specs.Table.{Table, is_rising, get, put, put_all, remove, strike, without, Change, Put, Remove, StrikeOwner, changed}
+use Rattle.registry_model.specs.SharedLaws.{IsGiven, IsStruck, IsChanged, IsWithout, IsWrittenOver, IsTheTable}
+use Rattle.registry_model.proofs.Lists.{is_process-same, is_process-other, cases_process}
+use Rattle.registry_model.proofs.Tables.{if_kept, or_else, same_table, get-put, get-remove, get-strike, get-without, get-put_all, is_rising-changed, is_rising-without, is_rising-put_all}
+
+-- two tables in which x has the same owner, and each other name whom it has in a third, have each name alike
+pub given_alike : (x : Text) (o : Option Process) (t u v : Table) → IsGiven x o t u → IsGiven x o t v → (y : Text) →
+    get y u ≡ get y v
+given_alike x o t u v g h y = elim (cases_eq y x) [
+  | inl i ↦ subst (λ (z : Text). get z u ≡ get z v) (sym i) (g.here ∙ sym h.here)
+  | inr ne ↦ g.elsewhere y ne ∙ sym (h.elsewhere y ne)
+]
+
+-- the owner, if there is one
+pub cases_owner : (o : Option Process) → ((p : Process) × (o ≡ Some p)) ⊎ (o ≡ None)
+cases_owner None = inr refl
+cases_owner (Some p) = inl (p, refl)
+
+-- two tables of which p was struck have each name alike
+pub struck_alike : (p : Process) (t u v : Table) → IsStruck p t u → IsStruck p t v → (y : Text) → get y u ≡ get y v
+struck_alike p t u v g h y = go (cases_owner (get y t))
+  where
+    other : (get y t ≡ Some p → ⊥) → get y u ≡ get y v
+    other ne = g.kept y ne ∙ sym (h.kept y ne)
+
+    go : ((q : Process) × (get y t ≡ Some q)) ⊎ (get y t ≡ None) → get y u ≡ get y v
+    go (inl (q, e)) = elim (cases_process q p) [
+      | inl i ↦ let k : get y t ≡ Some p = e ∙ ap (λ (r : Process). let o : Option Process = Some r in o) i in
+          g.lost y k ∙ sym (h.lost y k)
+      | inr ne ↦ other (λ k. ne cc)
+    ]
+    go (inr e) = other (λ k. cc)
+
+-- a put gives the name to p
+pub is_given-put : (x : Text) (p : Process) (t : Table) → IsGiven x (Some p) t (put x p t)
+is_given-put x p t = record {
+  here = get-put x p t x ∙ rw (eq-eqb x x refl);
+  elsewhere = λ y ne. get-put x p t y ∙ rw (ne_eqb x y (λ e. ne (sym e)));
+}
+
+-- a removal gives it to nobody
+pub is_given-remove : (x : Text) (t : Table) → IsGiven x None t (remove x t)
+is_given-remove x t = record {
+  here = get-remove x t x ∙ rw (eq-eqb x x refl);
+  elsewhere = λ y ne. get-remove x t y ∙ rw (ne_eqb x y (λ e. ne (sym e)));
+}
+
+-- a strike strikes
+pub is_struck-strike : (p : Process) (t : Table) → is_rising t ≡ true → IsStruck p t (strike p t)
+is_struck-strike p t r = record {
+  lost = λ y e. get-strike p t r y ∙ ap (if_kept (λ q. not (is_process q p))) e ∙ rw (is_process-same p);
+  kept = λ y ne. get-strike p t r y ∙ go (get y t) ne;
+}
+  where
+    go : (o : Option Process) → (o ≡ Some p → ⊥) → if_kept (λ q. not (is_process q p)) o ≡ o
+    go None ne = refl
+    go (Some q) ne = rw (is_process-other q p (λ i. ne (ap (λ (r : Process). let o : Option Process = Some r in o) i)))
+
+-- each change of a rising table
+pub change_law : (c : Change) (t : Table) → is_rising t ≡ true → IsTheTable (IsChanged c t) (changed c t)
+change_law (Put x p) t r = record {
+  rises = is_rising-changed (Put x p) t r;
+  so = is_given-put x p t;
+  alone = λ u s g. same_table u (put x p t) s (is_rising-changed (Put x p) t r)
+      (given_alike x (Some p) t u (put x p t) g (is_given-put x p t));
+}
+change_law (Remove x) t r = record {
+  rises = is_rising-changed (Remove x) t r;
+  so = is_given-remove x t;
+  alone = λ u s g. same_table u (remove x t) s (is_rising-changed (Remove x) t r)
+      (given_alike x None t u (remove x t) g (is_given-remove x t));
+}
+change_law (StrikeOwner p) t r = record {
+  rises = is_rising-changed (StrikeOwner p) t r;
+  so = is_struck-strike p t r;
+  alone = λ u s g. same_table u (strike p t) s (is_rising-changed (StrikeOwner p) t r)
+      (struck_alike p t u (strike p t) g (is_struck-strike p t r));
+}
+
+-- a table without the names on some nodes is so
+pub is_without-without : (gone : Nodes) (t : Table) → is_rising t ≡ true → IsWithout gone t (without gone t)
+is_without-without gone t r = record {
+  lost = λ y p e g. get-without gone t r y ∙ ap (if_kept (λ q. not (gone q.node))) e ∙ rw g;
+  kept = λ y p e g. get-without gone t r y ∙ ap (if_kept (λ q. not (gone q.node))) e ∙ rw g;
+  free = λ y e. get-without gone t r y ∙ ap (if_kept (λ q. not (gone q.node))) e;
+}
+
+-- two tables that are a third without the names on some nodes have each name alike
+pub without_alike : (gone : Nodes) (t u v : Table) → IsWithout gone t u → IsWithout gone t v → (y : Text) →
+    get y u ≡ get y v
+without_alike gone t u v g h y = go (cases_owner (get y t))
+  where
+    go : ((q : Process) × (get y t ≡ Some q)) ⊎ (get y t ≡ None) → get y u ≡ get y v
+    go (inl (q, e)) = by (gone q.node) refl
+      where
+        by : (b : Bool) → gone q.node ≡ b → get y u ≡ get y v
+        by true k = g.lost y q e k ∙ sym (h.lost y q e k)
+        by false k = g.kept y q e k ∙ sym (h.kept y q e k)
+    go (inr e) = g.free y e ∙ sym (h.free y e)
+
+-- a rising table without the names on some nodes
+pub without_law : (gone : Nodes) (t : Table) → is_rising t ≡ true → IsTheTable (IsWithout gone t) (without gone t)
+without_law gone t r = record {
+  rises = is_rising-without gone t r;
+  so = is_without-without gone t r;
+  alone = λ u s g. same_table u (without gone t) s (is_rising-without gone t r)
+      (without_alike gone t u (without gone t) g (is_without-without gone t r));
+}
+
+-- pairs that are put are written over the table
+pub is_written_over-put_all : (pairs t : Table) → is_rising pairs ≡ true → IsWrittenOver pairs t (put_all pairs t)
+is_written_over-put_all pairs t r = record {
+  written = λ y p e. get-put_all pairs t r y ∙ ap (λ (o : Option Process). or_else o (get y t)) e;
+  kept = λ y e. get-put_all pairs t r y ∙ ap (λ (o : Option Process). or_else o (get y t)) e;
+}
+
+-- two tables that are a third with the same pairs written over it have each name alike
+pub written_alike : (pairs t u v : Table) → IsWrittenOver pairs t u → IsWrittenOver pairs t v → (y : Text) →
+    get y u ≡ get y v
+written_alike pairs t u v g h y = go (cases_owner (get y pairs))
+  where
+    go : ((q : Process) × (get y pairs ≡ Some q)) ⊎ (get y pairs ≡ None) → get y u ≡ get y v
+    go (inl (q, e)) = g.written y q e ∙ sym (h.written y q e)
+    go (inr e) = g.kept y e ∙ sym (h.kept y e)
+
+-- rising pairs over a rising table
+pub put_all_law : (pairs t : Table) → is_rising pairs ≡ true → is_rising t ≡ true →
+    IsTheTable (IsWrittenOver pairs t) (put_all pairs t)
+put_all_law pairs t rp rt = record {
+  rises = is_rising-put_all pairs t rt;
+  so = is_written_over-put_all pairs t rp;
+  alone = λ u s g. same_table u (put_all pairs t) s (is_rising-put_all pairs t rt)
+      (written_alike pairs t u (put_all pairs t) g (is_written_over-put_all pairs t rp));
+}

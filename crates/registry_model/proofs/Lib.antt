@@ -1,0 +1,16 @@
+pub mod Lists
+pub mod Updates
+pub mod Tables
+pub mod Owners
+pub mod Changes
+pub mod Replies
+pub mod LookUps
+pub mod Settling
+pub mod HistoryParts
+pub mod Rising
+pub mod Groups
+pub mod Legality
+pub mod Deaths
+pub mod Holding
+pub mod LoneOwners
+pub mod Standing

@@ -1,0 +1,69 @@
+-- The pairs of a table, and who has a name.
+use Rattle.std.proofs.Common.{Bool, true, false, ◌≡◌, Option, Some, None, [], ◌∷◌, refl, sym, subst, ap, ◌∙◌, inl, inr}
+use Rattle.std.specs.Prelude.{◌⊎◌, ◌||◌, Contains}
+use Rattle.std.proofs.Math.Path.{ap₂}
+use Rattle.std.proofs.lemmas.Bool.{cases_eq, false_from_ne_true}
+use Rattle.registry_model.specs.Process.{Text, Process, is_process}
+use Rattle.registry_model.specs.Table.{Pair, Table, is_below, is_rising, get, owns}
+use Rattle.registry_model.specs.SharedLaws.{HasAName}
+use Rattle.registry_model.proofs.Lists.{Contains-cases, Contains-front, Contains-behind, Contains-nil, is_process-true, is_process-eq}
+use Rattle.registry_model.proofs.Tables.{pair, is_rising-parts, get-below, get-front, get-behind}
+
+-- who has a name stands in the table with it
+pub Contains-get : (t : Table) (y : Text) (p : Process) → get y t ≡ Some p → Contains t (pair y p)
+Contains-get [] y p h = absurd cc
+Contains-get (e ∷ t) y p h = go (cases_eq e.name y) (Contains-get t y p)
+  where
+    go : (e.name ≡ y) ⊎ (e.name ≡ y → ⊥) → (get y t ≡ Some p → Contains t (pair y p)) → Contains (e ∷ t) (pair y p)
+    go (inl i) later =
+        let k : ◌≡◌ {A = Option Process} (Some e.owner) (Some p) = sym (get-front e t)
+        ∙ ap (λ (x : Text). get x (e ∷ t)) i ∙ h in
+        let o : e.owner ≡ p = cc in
+        subst (λ (f : Pair). Contains (e ∷ t) f) (ap₂ pair i o) (Contains-front e t)
+    go (inr ne) later = Contains-behind e t (pair y p) (later (sym (get-behind e t y ne) ∙ h))
+
+-- a pair of a rising table has its name
+pub get-Contains : (t : Table) → is_rising t ≡ true → (e : Pair) → Contains t e → get e.name t ≡ Some e.owner
+get-Contains [] r e c = absurd (Contains-nil e c)
+get-Contains (d ∷ t) r e c = go (Contains-cases d t e c) (get-Contains t tail.1 e)
+  where
+    tail : (is_below d.name t ≡ true) × (is_rising t ≡ true)
+    tail = is_rising-parts d t r
+
+    go : (d ≡ e) ⊎ Contains t e → (Contains t e → get e.name t ≡ Some e.owner) → get e.name (d ∷ t) ≡ Some e.owner
+    go (inl i) later = subst (λ (f : Pair). get f.name (d ∷ t) ≡ Some f.owner) i (get-front d t)
+    go (inr k) later = go2 (cases_eq d.name e.name) (later k)
+      where
+        go2 : (d.name ≡ e.name) ⊎ (d.name ≡ e.name → ⊥) → get e.name t ≡ Some e.owner →
+            get e.name (d ∷ t) ≡ Some e.owner
+        go2 (inl i) h =
+            let n : get e.name t ≡ None =
+            get-below e.name t tail.1 (subst (λ (z : Text). is_below z t ≡ true) i tail.0) in
+            absurd cc
+        go2 (inr ne) h = get-behind d t e.name ne ∙ h
+
+-- who owns a name is found by the test
+pub owns-from_pair : (p : Process) (t : Table) (e : Pair) → Contains t e → e.owner ≡ p → owns p t ≡ true
+owns-from_pair p [] e c i = absurd (Contains-nil e c)
+owns-from_pair p (d ∷ t) e c i = go (Contains-cases d t e c) (owns-from_pair p t e) (is_process d.owner p) refl
+  where
+    go : (d ≡ e) ⊎ Contains t e → (Contains t e → e.owner ≡ p → owns p t ≡ true) → (b : Bool) →
+        is_process d.owner p ≡ b → (b || owns p t) ≡ true
+    go c later true k = refl
+    go (inl j) later false k = let h : is_process d.owner p ≡ true =
+        is_process-eq d.owner p (ap (λ (f : Pair). f.owner) j ∙ i) in cc
+    go (inr c) later false k = later c i
+
+-- and the test finds nobody else
+pub owns-true : (p : Process) (t : Table) → owns p t ≡ true → HasAName p t
+owns-true p [] h = absurd cc
+owns-true p (d ∷ t) h = go (is_process d.owner p) refl h (owns-true p t)
+  where
+    go : (b : Bool) → is_process d.owner p ≡ b → (b || owns p t) ≡ true → (owns p t ≡ true → HasAName p t) →
+        HasAName p (d ∷ t)
+    go true k h later = (d, Contains-front d t, is_process-true d.owner p k)
+    go false k h later = let (e, c, i) : HasAName p t = later h in (e, Contains-behind d t e c, i)
+
+-- who has no name isn't found
+pub owns-false : (p : Process) (t : Table) → (HasAName p t → ⊥) → owns p t ≡ false
+owns-false p t no_name = false_from_ne_true (owns p t) (λ h. no_name (owns-true p t h))

@@ -1,0 +1,300 @@
+-- A name that a node sees stands until an entry takes it.
+use Rattle.std.proofs.Common.{ℕ, Bool, true, false, ◌≡◌, Some, None, List, [], ◌∷◌, ◌++◌, refl, sym, subst, ap, ◌∙◌, inl, inr}
+use Rattle.std.specs.Prelude.{◌⊎◌, if◌then◌else◌, not, ◌||◌}
+use Rattle.std.proofs.Math.Path.{ap₂}
+use Rattle.std.proofs.lemmas.Bool.{cases_eq, cases_lt, ne_eqb, lt-ltb, le-ltb, or_from}
+use Rattle.registry_model.specs.Process.{Text, Process, is_process, Nodes, at}
+use Rattle.registry_model.specs.Table.{Table, Change, get, put_all, without, changed, Put, Remove, StrikeOwner}
+use Rattle.registry_model.specs.Call.{NameCall, Register, ReRegister, Unregister, Reply, Yes, Joined, is_grant, change_of}
+use Rattle.registry_model.specs.Settlement.{settle}
+use Rattle.registry_model.specs.Registry.{Registry, in_group, table_of, with_table, view, members}
+use Rattle.registry_model.specs.History.{Entry, Name, Strike, Join, Done, Exit, Left, Told, Read, effect, registry_of, Past, past_of}
+use Rattle.registry_model.specs.Legal.{is_legal, IsLegal}
+use Rattle.registry_model.specs.HistoryLaws.{Takes, NamesStand, IsFreeFor, YesToTheFree}
+use Rattle.registry_model.specs.HistoryLaws.Takes.{GivenUp, Replaced, Struck, Departed, Retaken, LostToJoiner, RetakenByJoiner, LostToCluster}
+use Rattle.registry_model.proofs.Lists.{cases_process, is_process-other}
+use Rattle.registry_model.proofs.Updates.{at_same, at_other}
+use Rattle.registry_model.proofs.Tables.{pair, if_kept, or_else, get-put, get-remove, get-strike, is_rising-changed, is_rising-put_all}
+use Rattle.registry_model.proofs.Changes.{cases_owner}
+use Rattle.registry_model.proofs.Settling.{wins, get-settled}
+use Rattle.registry_model.proofs.HistoryParts.{registry_of-push, registry-past_of, is_legal-at, IsLegal-front}
+use Rattle.registry_model.proofs.Rising.{Rises, is_rising-table_of}
+use Rattle.registry_model.proofs.Groups.{told-with_table, table_of-group, table_of-with_table, table_of-with_table_other, get-seen, seen-get, get-unseen}
+use Rattle.registry_model.proofs.Legality.{NameIsLegal, name_is_legal, JoinIsLegal, join_is_legal, YesToRegister, yes_to_register, granted_register, granted_re_register}
+use Rattle.registry_model.proofs.LoneOwners.{IsGood, IsGood-past_of}
+
+-- n sees p under the name still, or the entry takes it
+abbrev pub Stands : Registry → ℕ → Text → Process → Entry → Type 0
+Stands r n x p e = (get x (view (effect e r) n) ≡ Some p) ⊎ Takes r n x p e
+
+-- a change of m's table, as a node of another group sees it
+pub view-with_table_other : (m : ℕ) (f : Table → Table) (r : Registry) (n : ℕ) → in_group r n m ≡ false →
+    view (with_table m f r) n ≡ view r n
+view-with_table_other m f r n i =
+    ap₂ (λ (told : ℕ → Nodes) (t : Table). without (told n) t) (told-with_table m f r)
+    (table_of-with_table_other m f r n i)
+
+-- as a node of the group sees it
+pub view-with_table : (m : ℕ) (f : Table → Table) (r : Registry) (n : ℕ) → in_group r n m ≡ true →
+    view (with_table m f r) n ≡ without (r.told n) (f (table_of r n))
+view-with_table m f r n i =
+    ap₂ (λ (told : ℕ → Nodes) (t : Table). without (told n) t) (told-with_table m f r) (table_of-with_table m f r n i)
+
+-- a change of m's table by which x stays with p
+pub stays-with_table : (m : ℕ) (c : Change) (r : Registry) (n : ℕ) (x : Text) (p : Process) → Rises r →
+    get x (view r n) ≡ Some p → in_group r n m ≡ true →
+    (get x (table_of r n) ≡ Some p → get x (changed c (table_of r n)) ≡ Some p) →
+    get x (view (with_table m (changed c) r) n) ≡ Some p
+stays-with_table m c r n x p g h i keeps =
+    let seen : (get x (table_of r n) ≡ Some p) × (r.told n p.node ≡ false) =
+    get-seen (r.told n) (table_of r n) (is_rising-table_of r g n) x p h in
+    ap (get x) (view-with_table m (changed c) r n i)
+    ∙ seen-get (r.told n) (changed c (table_of r n)) (is_rising-changed c (table_of r n) (is_rising-table_of r g n)) x p
+    (keeps seen.0) seen.1
+
+-- a granted name call by a node of n's group
+pub stands-granted : (s : Past) (m k : ℕ) (call : NameCall) (reply : Reply) (n : ℕ) (x : Text) (p : Process) →
+    NameIsLegal s m call reply → is_grant reply ≡ true →
+    Rises s.registry → get x (view s.registry n) ≡ Some p → in_group s.registry n m ≡ true →
+    (get x (view (with_table m (changed (change_of call)) s.registry) n) ≡ Some p)
+    ⊎ Takes s.registry n x p (Name m k call reply)
+stands-granted s m k (Register y q) reply n x p l gr g h i = elim (cases_eq y x) [
+  | inl e ↦ inr (subst (λ (f : Entry). Takes s.registry n x p f)
+      (sym (ap₂ (λ (y : Text) (reply : Reply). Name m k (Register y q) reply) e is_yes)) (Retaken m k q i (told e)))
+  | inr ne ↦ inl (stays-with_table m (Put y q) s.registry n x p g h i (λ w. get-put y q (table_of s.registry n) x
+      ∙ rw (ne_eqb y x ne) w))
+]
+  where
+    is_yes : reply ≡ Yes
+    is_yes = granted_register (members s.registry m) (view s.registry m) y q reply l.answer gr
+
+    unseen : YesToRegister (members s.registry m) (view s.registry m) y q
+    unseen = yes_to_register (members s.registry m) (view s.registry m) y q (sym is_yes ∙ l.answer)
+
+    told : y ≡ x → s.registry.told m p.node ≡ true
+    told e = get-unseen (s.registry.told m) (table_of s.registry m) (is_rising-table_of s.registry g m) x p
+        (subst (λ (z : Text). get z (view s.registry m) ≡ None) e unseen.name)
+        (ap (get x) (table_of-group s.registry n m i)
+        ∙ (get-seen (s.registry.told n) (table_of s.registry n) (is_rising-table_of s.registry g n) x p h).0)
+stands-granted s m k (ReRegister y q) reply n x p l gr g h i = elim (cases_eq y x) [
+  | inl e ↦ inr (subst (λ (f : Entry). Takes s.registry n x p f)
+      (sym (ap₂ (λ (y : Text) (reply : Reply). Name m k (ReRegister y q) reply) e is_yes)) (Replaced m k q i))
+  | inr ne ↦ inl (stays-with_table m (Put y q) s.registry n x p g h i (λ w. get-put y q (table_of s.registry n) x
+      ∙ rw (ne_eqb y x ne) w))
+]
+  where
+    is_yes : reply ≡ Yes
+    is_yes = (granted_re_register (members s.registry m) (view s.registry m) y q reply l.answer gr).0
+stands-granted s m k (Unregister y) reply n x p l gr g h i = elim (cases_eq y x) [
+  | inl e ↦ inr (subst (λ (f : Entry). Takes s.registry n x p f)
+      (sym (ap₂ (λ (y : Text) (reply : Reply). Name m k (Unregister y) reply) e l.answer)) (GivenUp m k i))
+  | inr ne ↦ inl (stays-with_table m (Remove y) s.registry n x p g h i (λ w. get-remove y (table_of s.registry n) x
+      ∙ rw (ne_eqb y x ne) w))
+]
+
+-- a strike
+pub stands-strike : (r : Registry) (q : Process) (n : ℕ) (x : Text) (p : Process) → Rises r →
+    get x (view r n) ≡ Some p → Stands r n x p (Strike q)
+stands-strike r q n x p g h = go (in_group r n q.node) refl
+  where
+    go : (b : Bool) → in_group r n q.node ≡ b → Stands r n x p (Strike q)
+    go false i = inl (ap (get x) (view-with_table_other q.node (changed (StrikeOwner q)) r n i) ∙ h)
+    go true i = elim (cases_process p q) [
+      | inl e ↦ inr (subst (λ (f : Process). Takes r n x p (Strike f)) e
+          (Struck (subst (λ (f : Process). in_group r n f.node ≡ true) (sym e) i)))
+      | inr ne ↦ inl (stays-with_table q.node (StrikeOwner q) r n x p g h i
+          (λ w. get-strike q (table_of r n) (is_rising-table_of r g n) x ∙ ap (if_kept (λ a. not (is_process a q))) w
+          ∙ rw (is_process-other p q ne)))
+    ]
+
+-- a notice
+pub stands-told : (r : Registry) (m d n : ℕ) (x : Text) (p : Process) → Rises r → get x (view r n) ≡ Some p →
+    Stands r n x p (Told m d)
+stands-told r m d n x p g h = elim (cases_eq n m) [
+  | inl i ↦ elim (cases_eq p.node d) [
+    | inl e ↦ inr (subst (λ (f : Entry). Takes r n x p f) (ap₂ (λ (a b : ℕ). Told a b) i e) Departed)
+    | inr ne ↦ inl (seen-get (at r.told m now n) (table_of r n) (is_rising-table_of r g n) x p seen.0 (untold i ne))
+  ]
+  | inr ne ↦ inl (ap (λ (gone : Nodes). get x (without gone (table_of r n))) (at_other r.told m now n ne) ∙ h)
+]
+  where
+    now : Nodes
+    now = at (r.told m) d true
+
+    seen : (get x (table_of r n) ≡ Some p) × (r.told n p.node ≡ false)
+    seen = get-seen (r.told n) (table_of r n) (is_rising-table_of r g n) x p h
+
+    untold : n ≡ m → (p.node ≡ d → ⊥) → at r.told m now n p.node ≡ false
+    untold i ne =
+        ap (λ (c : ℕ). at r.told m now c p.node) i
+        ∙ ap (λ (gone : Nodes). gone p.node) (at_same r.told m now)
+        ∙ at_other (r.told m) d true p.node ne
+        ∙ ap (λ (c : ℕ). r.told c p.node) (sym i)
+        ∙ seen.1
+
+-- who has a name in the cluster's table once j has joined
+pub get-joined : (r : Registry) (j m : ℕ) → Rises r → (x : Text) →
+    get x (put_all (settle (view r m) (r.lone j)).puts r.table)
+    ≡ or_else (if_kept (λ q. wins (pair x q) (get x (view r m))) (get x (r.lone j))) (get x r.table)
+get-joined r j m g x = get-settled r.table (view r m) (r.lone j) (g.lone j) x
+
+-- a join, as the joiner sees it
+pub stands-own_join : (s : Past) (j k m : ℕ) (x : Text) (p : Process) → JoinIsLegal s j m → IsGood s.registry →
+    get x (view s.registry j) ≡ Some p →
+    Stands s.registry j x p (Join j k m Joined)
+stands-own_join s j k m x p l g h = go (cases_owner (get x (view r m)))
+  where
+    r : Registry
+    r = s.registry
+
+    seen : (get x (table_of r j) ≡ Some p) × (r.told j p.node ≡ false)
+    seen = get-seen (r.told j) (table_of r j) (is_rising-table_of r g.rises j) x p h
+
+    had : get x (r.lone j) ≡ Some p
+    had = ap (λ (b : Bool). get x (if b then r.table else r.lone j)) (sym l.lone) ∙ seen.0
+
+    own : p.node ≡ j
+    own = (g.owners.own j l.lone).owner x p had
+
+    written : Table
+    written = put_all (settle (view r m) (r.lone j)).puts r.table
+
+    told : Nodes
+    told d = r.told j d || r.told m d
+
+    untold : told p.node ≡ false
+    untold = or_from (r.told j p.node) (r.told m p.node) seen.1 (ap (r.told m) own ∙ l.untold)
+
+    keeps : get x written ≡ Some p → get x (view (effect (Join j k m Joined) r) j) ≡ Some p
+    keeps w =
+        ap₂ (λ (b : Bool) (gone : Nodes). get x (without gone (if b then written else at r.lone j [] j)))
+        (at_same r.joined j true) (at_same r.told j told)
+        ∙ seen-get told written
+        (is_rising-put_all (settle (view r m) (r.lone j)).puts r.table g.rises.table) x p w untold
+
+    go : ((q : Process) × (get x (view r m) ≡ Some q)) ⊎ (get x (view r m) ≡ None) → Stands r j x p (Join j k m Joined)
+    go (inl (q, e)) = elim (cases_lt p.node q.node) [
+      | inl less ↦ inl (keeps (get-joined r j m g.rises x ∙ rw (had, e) (rw (lt-ltb p.node q.node less) refl)))
+      | inr more ↦ inr (LostToCluster k m q e more)
+    ]
+    go (inr e) = inl (keeps (get-joined r j m g.rises x ∙ rw (had, e) refl))
+
+-- a join, as another node sees it
+pub stands-other_join : (s : Past) (j k m n : ℕ) (x : Text) (p : Process) → (n ≡ j → ⊥) → JoinIsLegal s j m →
+    IsGood s.registry → get x (view s.registry n) ≡ Some p →
+    Stands s.registry n x p (Join j k m Joined)
+stands-other_join s j k m n x p ne l g h = go (r.joined n) refl
+  where
+    r : Registry
+    r = s.registry
+
+    written : Table
+    written = put_all (settle (view r m) (r.lone j)).puts r.table
+
+    told : Nodes
+    told d = r.told j d || r.told m d
+
+    same : get x (view (effect (Join j k m Joined) r) n)
+        ≡ get x (without (r.told n) (if r.joined n then written else r.lone n))
+    same =
+        ap₂ (λ (b : Bool) (gone : Nodes). get x (without gone (if b then written else at r.lone j [] n)))
+        (at_other r.joined j true n ne) (at_other r.told j told n ne)
+        ∙ ap (λ (t : Table). get x (without (r.told n) (if r.joined n then written else t))) (at_other r.lone j [] n ne)
+
+    go : (b : Bool) → r.joined n ≡ b → Stands r n x p (Join j k m Joined)
+    go false i = inl (same ∙ rw i (rw i at h))
+    go true i = by (cases_owner (get x (r.lone j))) (cases_owner (get x (view r m)))
+      where
+        seen : (get x r.table ≡ Some p) × (r.told n p.node ≡ false)
+        seen = get-seen (r.told n) r.table g.rises.table x p (rw i at h)
+
+        keeps : get x written ≡ Some p → get x (view (effect (Join j k m Joined) r) n) ≡ Some p
+        keeps w = same ∙ rw i
+            (seen-get (r.told n) written
+            (is_rising-put_all (settle (view r m) (r.lone j)).puts r.table g.rises.table) x p w seen.1)
+
+        by : ((q : Process) × (get x (r.lone j) ≡ Some q)) ⊎ (get x (r.lone j) ≡ None) →
+            ((q : Process) × (get x (view r m) ≡ Some q)) ⊎ (get x (view r m) ≡ None) →
+            Stands r n x p (Join j k m Joined)
+        by (inr e) o = inl (keeps (get-joined r j m g.rises x ∙ rw e seen.0))
+        by (inl (q, e)) (inr f) = inr (RetakenByJoiner j k m q i e
+            (get-unseen (r.told m) r.table g.rises.table x p
+            (ap (λ (b : Bool). get x (without (r.told m) (if b then r.table else r.lone m))) (sym l.contact)
+            ∙ f) seen.0))
+        by (inl (q, e)) (inl (a, f)) = elim (cases_lt q.node p.node) [
+          | inl less ↦ inr (LostToJoiner j k m q i e less)
+          | inr more ↦ inl (keeps (get-joined r j m g.rises x
+              ∙ rw (e, seen_by_contact) (rw (le-ltb q.node p.node more) seen.0)))
+        ]
+          where
+            at_contact : (get x r.table ≡ Some a) × (r.told m a.node ≡ false)
+            at_contact = get-seen (r.told m) r.table g.rises.table x a
+                (ap (λ (b : Bool). get x (without (r.told m) (if b then r.table else r.lone m))) (sym l.contact) ∙ f)
+
+            seen_by_contact : get x (view r m) ≡ Some p
+            seen_by_contact = f ∙ sym at_contact.0 ∙ seen.0
+
+-- a join
+pub stands-join : (s : Past) (j k m n : ℕ) (x : Text) (p : Process) → JoinIsLegal s j m → IsGood s.registry →
+    get x (view s.registry n) ≡ Some p → Stands s.registry n x p (Join j k m Joined)
+stands-join s j k m n x p l g h = elim (cases_eq n j) [
+  | inl i ↦ subst (λ (c : ℕ). Stands s.registry c x p (Join j k m Joined)) (sym i)
+      (stands-own_join s j k m x p l g (ap (λ (c : ℕ). get x (view s.registry c)) (sym i) ∙ h))
+  | inr ne ↦ stands-other_join s j k m n x p ne l g h
+]
+
+-- each legal entry
+pub stands : (s : Past) (e : Entry) (n : ℕ) (x : Text) (p : Process) → is_legal s e ≡ true → IsGood s.registry →
+    get x (view s.registry n) ≡ Some p → Stands s.registry n x p e
+stands s (Name m k call reply) n x p l g h = go (is_grant reply) refl
+  where
+    r : Registry
+    r = s.registry
+
+    group : (b : Bool) → in_group r n m ≡ b → is_grant reply ≡ true →
+        (get x (view (with_table m (changed (change_of call)) r) n) ≡ Some p) ⊎ Takes r n x p (Name m k call reply)
+    group true i gr = stands-granted s m k call reply n x p (name_is_legal s m call reply l) gr g.rises h i
+    group false i gr = inl (ap (get x) (view-with_table_other m (changed (change_of call)) r n i) ∙ h)
+
+    go : (b : Bool) → is_grant reply ≡ b →
+        (get x (view (if b then with_table m (changed (change_of call)) r else r) n) ≡ Some p)
+        ⊎ Takes r n x p (Name m k call reply)
+    go true gr = group (in_group r n m) refl gr
+    go false gr = inl h
+stands s (Strike q) n x p l g h = stands-strike s.registry q n x p g.rises h
+stands s (Join j k m Joined) n x p l g h = stands-join s j k m n x p (join_is_legal s j m l) g h
+stands s (Join j k m _) n x p l g h = inl h
+stands s (Done m) n x p l g h = inl h
+stands s (Exit q) n x p l g h = inl h
+stands s (Left d) n x p l g h = inl h
+stands s (Told m d) n x p l g h = stands-told s.registry m d n x p g.rises h
+stands s (Read m look reply) n x p l g h = inl h
+
+-- a name that a node sees stands until an entry takes it
+pub stand_law : (cluster : Nodes) (h : List Entry) → IsLegal cluster h → NamesStand cluster h
+stand_law cluster h l before later e n x p s seen =
+    let legal : IsLegal cluster (before ++ e ∷ later) = subst (λ (h : List Entry). IsLegal cluster h) s l in
+    let t : Past = past_of cluster before in
+    let held : Stands t.registry n x p e =
+    stands t e n x p (is_legal-at cluster before later e legal)
+    (IsGood-past_of cluster before (IsLegal-front cluster before (e ∷ later) legal))
+    (ap (λ (r : Registry). get x (view r n)) (registry-past_of cluster before) ∙ seen) in
+    let here : Stands (registry_of cluster before) n x p e =
+    subst (λ (r : Registry). Stands r n x p e) (registry-past_of cluster before) held in
+    elim here [
+      | inl k ↦ inl (ap (λ (r : Registry). get x (view r n)) (registry_of-push cluster before e) ∙ k)
+      | inr k ↦ inr k
+    ]
+
+-- who is answered `yes` registered a free name
+pub yes_law : (cluster : Nodes) (h : List Entry) → IsLegal cluster h → YesToTheFree cluster h
+yes_law cluster h l before later n k x p s =
+    let legal : IsLegal cluster (before ++ Name n k (Register x p) Yes ∷ later) =
+    subst (λ (h : List Entry). IsLegal cluster h) s l in
+    let t : Past = past_of cluster before in
+    let a : NameIsLegal t n (Register x p) Yes =
+    name_is_legal t n (Register x p) Yes (is_legal-at cluster before later (Name n k (Register x p) Yes) legal) in
+    let y : YesToRegister (members t.registry n) (view t.registry n) x p =
+    yes_to_register (members t.registry n) (view t.registry n) x p a.answer in
+    subst (λ (r : Registry). IsFreeFor r n x p) (registry-past_of cluster before)
+    (record { name = y.name; owner = y.owner; member = y.member })

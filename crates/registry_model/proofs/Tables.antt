@@ -1,0 +1,386 @@
+-- Tables: who has a name after a change, that names still rise, and that a table is told by who has each name.
+use Rattle.std.proofs.Common.{ℕ, Bool, true, false, ◌==◌, ◌≡◌, ◌<◌, Option, Some, None, List, [], ◌∷◌, filter, refl, sym, subst, ap, ◌∙◌, inl, inr, arith}
+use Rattle.std.specs.Prelude.{if◌then◌else◌, not, ◌&&◌, ◌||◌}
+use Rattle.std.proofs.Math.Path.{ap₂}
+use Rattle.std.proofs.lemmas.List.Elements.{filter_agree}
+use Rattle.std.proofs.lemmas.Bool.{cases_eq, cases_order, eq-eqb, ne_eqb, lt-ltb, le-ltb, ltb-true, and_parts, and_from}
+use Rattle.std.proofs.lemmas.Bool.Decides.{nat_tests}
+use Rattle.registry_model.specs.Process.{Text, Process, is_process, Nodes, nobody, at}
+use Rattle.registry_model.specs.Table.{Pair, Table, is_below, is_rising, get, put, put_all, remove, strike, without, Change, Put, Remove, StrikeOwner, changed}
+
+-- a name below one that stands below all names of a table
+pub is_below-less : (x y : Text) (t : Table) → y < x → is_below x t ≡ true → is_below y t ≡ true
+is_below-less x y [] l b = refl
+is_below-less x y (e ∷ t) l b = grind (arith, nat_tests)
+
+-- the head of a rising table stands below its tail, which rises
+pub is_rising-parts : (e : Pair) (t : Table) → is_rising (e ∷ t) ≡ true →
+    (is_below e.name t ≡ true) × (is_rising t ≡ true)
+is_rising-parts e t r = and_parts (is_below e.name t) (is_rising t) r
+
+-- nobody has a name that stands below all names of a rising table
+pub get-below : (x : Text) (t : Table) → is_rising t ≡ true → is_below x t ≡ true → get x t ≡ None
+get-below x [] r b = refl
+get-below x (e ∷ t) r b =
+    let tail : (is_below e.name t ≡ true) × (is_rising t ≡ true) = is_rising-parts e t r in
+    let l : x < e.name = ltb-true x e.name b in
+    let h : get x t ≡ None = get-below x t tail.1 (is_below-less e.name x t l tail.0) in
+    rw (ne_eqb e.name x (λ i. absurd (omega arith))) h
+
+-- put: x has p, and each other name has whom it had
+pub get-put : (x : Text) (p : Process) (t : Table) (y : Text) → get y (put x p t) ≡ (if x == y then Some p else get y t)
+get-put x p [] y = refl
+get-put x p (e ∷ t) y = let h : get y (put x p t) ≡ (if x == y then Some p else get y t) = get-put x p t y in
+    elim (cases_order x e.name) [
+      | inl i ↦ grind (arith, nat_tests)
+      | inr (inl l) ↦ grind (arith, nat_tests)
+      | inr (inr g) ↦ grind (arith, nat_tests)
+    ]
+
+-- a put keeps what stands below all names
+pub is_below-put : (z x : Text) (p : Process) (t : Table) → z < x → is_below z t ≡ true → is_below z (put x p t) ≡ true
+is_below-put z x p [] l b = lt-ltb z x l
+is_below-put z x p (e ∷ t) l b = elim (cases_order x e.name) [
+  | inl i ↦ rw (eq-eqb e.name x (sym i)) (lt-ltb z x l)
+  | inr (inl k) ↦ rw (ne_eqb e.name x (λ i. absurd (omega arith)), lt-ltb x e.name k) (lt-ltb z x l)
+  | inr (inr g) ↦ rw (ne_eqb e.name x (λ i. absurd (omega arith)), le-ltb x e.name (omega arith)) b
+]
+
+-- after a put the names still rise
+pub is_rising-put : (x : Text) (p : Process) (t : Table) → is_rising t ≡ true → is_rising (put x p t) ≡ true
+is_rising-put x p [] r = refl
+is_rising-put x p (e ∷ t) r =
+    let tail : (is_below e.name t ≡ true) × (is_rising t ≡ true) = is_rising-parts e t r in
+    let h : is_rising (put x p t) ≡ true = is_rising-put x p t tail.1 in
+    elim (cases_order x e.name) [
+      | inl i ↦ rw (eq-eqb e.name x (sym i)) (rw (i, tail.0) tail.1)
+      | inr (inl l) ↦ rw (ne_eqb e.name x (λ i. absurd (omega arith)), lt-ltb x e.name l)
+          (rw (lt-ltb x e.name l, tail.0) tail.1)
+      | inr (inr g) ↦ rw (ne_eqb e.name x (λ i. absurd (omega arith)), le-ltb x e.name (omega arith))
+          (rw (is_below-put e.name x p t g tail.0) h)
+    ]
+
+-- remove: nobody has x, and each other name has whom it had
+pub get-remove : (x : Text) (t : Table) (y : Text) → get y (remove x t) ≡ (if x == y then None else get y t)
+get-remove x [] y = go (x == y)
+  where
+    go : (b : Bool) → ◌≡◌ {A = Option Process} None (if b then None else None)
+    go true = refl
+    go false = refl
+get-remove x (e ∷ t) y = let h : get y (remove x t) ≡ (if x == y then None else get y t) = get-remove x t y in
+    elim (cases_eq e.name x) [
+      | inl i ↦ grind (arith, nat_tests)
+      | inr ne ↦ grind (arith, nat_tests)
+    ]
+
+-- a filter keeps what stands below all names
+pub is_below-filter : (ok : Pair → Bool) (z : Text) (t : Table) → is_rising t ≡ true → is_below z t ≡ true →
+    is_below z (filter ok t) ≡ true
+is_below-filter ok z [] r b = refl
+is_below-filter ok z (e ∷ t) r b =
+    let tail : (is_below e.name t ≡ true) × (is_rising t ≡ true) = is_rising-parts e t r in
+    let h : is_below z (filter ok t) ≡ true =
+    is_below-filter ok z t tail.1 (is_below-less e.name z t (ltb-true z e.name b) tail.0) in
+    elim (ok e) as (λ v. is_below z (if v then e ∷ filter ok t else filter ok t) ≡ true) [ true ↦ b | false ↦ h ]
+
+-- after a filter the names still rise
+pub is_rising-filter : (ok : Pair → Bool) (t : Table) → is_rising t ≡ true → is_rising (filter ok t) ≡ true
+is_rising-filter ok [] r = refl
+is_rising-filter ok (e ∷ t) r =
+    let tail : (is_below e.name t ≡ true) × (is_rising t ≡ true) = is_rising-parts e t r in
+    let h : is_rising (filter ok t) ≡ true = is_rising-filter ok t tail.1 in
+    elim (ok e) as (λ v. is_rising (if v then e ∷ filter ok t else filter ok t) ≡ true) [
+      | true ↦ and_from _ _ (is_below-filter ok e.name t tail.1 tail.0) h
+      | false ↦ h
+    ]
+
+-- the owner, where he passes
+abbrev pub if_kept : (Process → Bool) → Option Process → Option Process
+if_kept ok None = None
+if_kept ok (Some p) = if ok p then Some p else None
+
+-- a pair
+abbrev pub pair : Text → Process → Pair
+pair x p = record { name = x; owner = p }
+
+-- a filter: a name has whom it had, where he passes with it
+pub get-filter_pairs : (ok : Pair → Bool) (t : Table) → is_rising t ≡ true → (y : Text) →
+    get y (filter ok t) ≡ if_kept (λ q. ok (pair y q)) (get y t)
+get-filter_pairs ok [] r y = refl
+get-filter_pairs ok (e ∷ t) r y = go (ok e) refl (get-filter_pairs ok t tail.1 y)
+  where
+    tail : (is_below e.name t ≡ true) × (is_rising t ≡ true)
+    tail = is_rising-parts e t r
+
+    passes : Process → Bool
+    passes q = ok (pair y q)
+
+    same : e.name ≡ y → passes e.owner ≡ ok e
+    same i = ap (λ (x : Text). ok (pair x e.owner)) (sym i)
+
+    go : (v : Bool) → ok e ≡ v → get y (filter ok t) ≡ if_kept passes (get y t) →
+        get y (if v then e ∷ filter ok t else filter ok t)
+        ≡ if_kept passes (if e.name == y then Some e.owner else get y t)
+    go true k h = elim (cases_eq e.name y) [
+      | inl i ↦ rw (eq-eqb e.name y i) (ap (λ (b : Bool). if b then Some e.owner else None) (sym (same i ∙ k)))
+      | inr ne ↦ rw (ne_eqb e.name y ne) h
+    ]
+    go false k h = elim (cases_eq e.name y) [
+      | inl i ↦ rw (eq-eqb e.name y i) (h
+          ∙ ap (if_kept passes) (get-below y t tail.1 (subst (λ (z : Text). is_below z t ≡ true) i tail.0))
+          ∙ ap (λ (b : Bool). if b then Some e.owner else None) (sym (same i ∙ k)))
+      | inr ne ↦ rw (ne_eqb e.name y ne) h
+    ]
+
+-- a filter by owners: a name has whom it had, where he passes
+pub get-filter : (ok : Process → Bool) (t : Table) → is_rising t ≡ true → (y : Text) →
+    get y (filter (λ e. ok e.owner) t) ≡ if_kept ok (get y t)
+get-filter ok t r y = get-filter_pairs (λ e. ok e.owner) t r y
+
+-- who has a name in a table that is written over another
+abbrev pub or_else : Option Process → Option Process → Option Process
+or_else None q = q
+or_else (Some p) q = Some p
+
+-- the front has its own name
+pub get-front : (e : Pair) (t : Table) → get e.name (e ∷ t) ≡ Some e.owner
+get-front e t = rw (eq-eqb e.name e.name refl)
+
+-- another name than that of the front
+pub get-behind : (e : Pair) (t : Table) (y : Text) → (e.name ≡ y → ⊥) → get y (e ∷ t) ≡ get y t
+get-behind e t y ne = rw (ne_eqb e.name y ne)
+
+-- put_all of rising pairs: each of their names has whom they give it, and each other name has whom it had
+pub get-put_all : (pairs t : Table) → is_rising pairs ≡ true → (y : Text) →
+    get y (put_all pairs t) ≡ or_else (get y pairs) (get y t)
+get-put_all [] t r y = refl
+get-put_all (e ∷ pairs) t r y = get-put_all pairs (put e.name e.owner t) tail.1 y ∙ (elim (cases_eq e.name y) [
+  | inl i ↦ rw (none i, eq-eqb e.name y i) (get-put e.name e.owner t y ∙ rw (eq-eqb e.name y i))
+  | inr ne ↦ rw (ne_eqb e.name y ne) (ap (or_else (get y pairs)) (get-put e.name e.owner t y ∙ rw (ne_eqb e.name y ne)))
+])
+  where
+    tail : (is_below e.name pairs ≡ true) × (is_rising pairs ≡ true)
+    tail = is_rising-parts e pairs r
+
+    none : e.name ≡ y → get y pairs ≡ None
+    none i = get-below y pairs tail.1 (subst (λ (z : Text). is_below z pairs ≡ true) i tail.0)
+
+-- after put_all the names still rise
+pub is_rising-put_all : (pairs t : Table) → is_rising t ≡ true → is_rising (put_all pairs t) ≡ true
+is_rising-put_all [] t r = r
+is_rising-put_all (e ∷ pairs) t r = is_rising-put_all pairs (put e.name e.owner t) (is_rising-put e.name e.owner t r)
+
+-- rising tables in which each name has the same owner are one
+pub same_table : (s t : Table) → is_rising s ≡ true → is_rising t ≡ true → ((y : Text) → get y s ≡ get y t) → s ≡ t
+same_table [] [] rs rt h = refl
+same_table [] (e ∷ t) rs rt h = let k : None ≡ Some e.owner = h e.name ∙ get-front e t in cc
+same_table (d ∷ s) [] rs rt h = let k : None ≡ Some d.owner = sym (h d.name) ∙ get-front d s in cc
+same_table (d ∷ s) (e ∷ t) rs rt h = elim (cases_order d.name e.name) [
+  | inl i ↦ ap₂ (λ (f : Pair) (u : Table). f ∷ u) (front i) (same_table s t ds.1 et.1 (behind i))
+  | inr (inl l) ↦
+      let k : ◌≡◌ {A = Option Process} (Some d.owner) None =
+      sym (get-front d s) ∙ h d.name ∙ get-below d.name (e ∷ t) rt (lt-ltb d.name e.name l) in
+      cc
+  | inr (inr g) ↦
+      let k : ◌≡◌ {A = Option Process} (Some e.owner) None =
+      sym (get-front e t) ∙ sym (h e.name) ∙ get-below e.name (d ∷ s) rs (lt-ltb e.name d.name g) in
+      cc
+]
+  where
+    ds : (is_below d.name s ≡ true) × (is_rising s ≡ true)
+    ds = is_rising-parts d s rs
+
+    et : (is_below e.name t ≡ true) × (is_rising t ≡ true)
+    et = is_rising-parts e t rt
+
+    front : d.name ≡ e.name → d ≡ e
+    front i =
+        let k : ◌≡◌ {A = Option Process} (Some d.owner) (Some e.owner) =
+        sym (get-front d s) ∙ h d.name ∙ ap (λ (x : Text). get x (e ∷ t)) i ∙ get-front e t in
+        let o : d.owner ≡ e.owner = cc in
+        ap₂ (λ (x : Text) (p : Process). let f : Pair = record { name = x; owner = p } in f) i o
+
+    behind : d.name ≡ e.name → (y : Text) → get y s ≡ get y t
+    behind i y = elim (cases_eq d.name y) [
+      | inl j ↦
+          get-below y s ds.1 (subst (λ (z : Text). is_below z s ≡ true) j ds.0)
+          ∙ sym (get-below y t et.1 (subst (λ (z : Text). is_below z t ≡ true) (sym i ∙ j) et.0))
+      | inr ne ↦ sym (get-behind d s y ne) ∙ h y ∙ get-behind e t y (λ j. ne (i ∙ j))
+    ]
+
+-- a filter after a filter
+pub filter-filter : {A : Type 0} (f g : A → Bool) (t : List A) → filter f (filter g t) ≡ filter (λ e. g e && f e) t
+filter-filter f g [] = refl
+filter-filter {A} f g (e ∷ t) = go (g e) (filter-filter f g t)
+  where
+    go : (b : Bool) → filter f (filter g t) ≡ filter (λ e. g e && f e) t →
+        filter f (if b then e ∷ filter g t else filter g t)
+        ≡ (if b && f e then e ∷ filter (λ e. g e && f e) t else filter (λ e. g e && f e) t)
+    go true h = ap (λ (u : List A). if f e then e ∷ u else u) h
+    go false h = h
+
+-- filters may change places
+pub filters_swapped : {A : Type 0} (f g : A → Bool) (t : List A) → filter f (filter g t) ≡ filter g (filter f t)
+filters_swapped f g t =
+    filter-filter f g t ∙ filter_agree (λ e. g e && f e) (λ e. f e && g e) (λ e. and_comm (g e) (f e)) t
+    ∙ sym (filter-filter g f t)
+  where
+    and_comm : (b c : Bool) → (b && c) ≡ (c && b)
+    and_comm true true = refl
+    and_comm true false = refl
+    and_comm false true = refl
+    and_comm false false = refl
+
+-- the pairs whose owners pass
+abbrev pub by_owner : (Process → Bool) → Table → Table
+by_owner ok t = filter (λ e. ok e.owner) t
+
+-- a filter by owners after a put
+pub by_owner-put : (ok : Process → Bool) (x : Text) (p : Process) (t : Table) → is_rising t ≡ true →
+    by_owner ok (put x p t) ≡ (if ok p then put x p (by_owner ok t) else remove x (by_owner ok t))
+by_owner-put ok x p t r = go (ok p) refl
+  where
+    risen : is_rising (by_owner ok t) ≡ true
+    risen = is_rising-filter (λ e. ok e.owner) t r
+
+    risen_put : is_rising (by_owner ok (put x p t)) ≡ true
+    risen_put = is_rising-filter (λ e. ok e.owner) (put x p t) (is_rising-put x p t r)
+
+    left : (y : Text) → get y (by_owner ok (put x p t)) ≡ if_kept ok (if x == y then Some p else get y t)
+    left y = get-filter ok (put x p t) (is_rising-put x p t r) y ∙ ap (if_kept ok) (get-put x p t y)
+
+    go : (b : Bool) → ok p ≡ b →
+        by_owner ok (put x p t) ≡ (if b then put x p (by_owner ok t) else remove x (by_owner ok t))
+    go true k = same_table (by_owner ok (put x p t)) (put x p (by_owner ok t)) risen_put
+        (is_rising-put x p (by_owner ok t) risen)
+        (λ y. left y ∙ each y (x == y)
+        ∙ sym (get-put x p (by_owner ok t) y
+        ∙ ap (λ (o : Option Process). if x == y then Some p else o) (get-filter ok t r y)))
+      where
+        each : (y : Text) (b : Bool) →
+            if_kept ok (if b then Some p else get y t) ≡ (if b then Some p else if_kept ok (get y t))
+        each y true = rw k refl
+        each y false = refl
+    go false k = same_table (by_owner ok (put x p t)) (remove x (by_owner ok t)) risen_put
+        (is_rising-filter (λ e. not (e.name == x)) (by_owner ok t) risen)
+        (λ y. left y ∙ each y (x == y)
+        ∙ sym (get-remove x (by_owner ok t) y
+        ∙ ap (λ (o : Option Process). if x == y then None else o) (get-filter ok t r y)))
+      where
+        each : (y : Text) (b : Bool) →
+            if_kept ok (if b then Some p else get y t) ≡ (if b then None else if_kept ok (get y t))
+        each y true = rw k refl
+        each y false = refl
+
+-- who has a name, less those on some nodes
+pub get-without : (gone : Nodes) (t : Table) → is_rising t ≡ true → (y : Text) →
+    get y (without gone t) ≡ if_kept (λ q. not (gone q.node)) (get y t)
+get-without gone t r y = get-filter (λ q. not (gone q.node)) t r y
+
+-- who has a name after a strike
+pub get-strike : (p : Process) (t : Table) → is_rising t ≡ true → (y : Text) →
+    get y (strike p t) ≡ if_kept (λ q. not (is_process q p)) (get y t)
+get-strike p t r y = get-filter (λ q. not (is_process q p)) t r y
+
+-- after a removal the names still rise
+pub is_rising-remove : (x : Text) (t : Table) → is_rising t ≡ true → is_rising (remove x t) ≡ true
+is_rising-remove x t r = is_rising-filter (λ e. not (e.name == x)) t r
+
+-- after a strike the names still rise
+pub is_rising-strike : (p : Process) (t : Table) → is_rising t ≡ true → is_rising (strike p t) ≡ true
+is_rising-strike p t r = is_rising-filter (λ e. not (is_process e.owner p)) t r
+
+-- without the names on some nodes the others still rise
+pub is_rising-without : (gone : Nodes) (t : Table) → is_rising t ≡ true → is_rising (without gone t) ≡ true
+is_rising-without gone t r = is_rising-filter (λ e. not (gone e.owner.node)) t r
+
+-- after each change the names still rise
+pub is_rising-changed : (c : Change) (t : Table) → is_rising t ≡ true → is_rising (changed c t) ≡ true
+is_rising-changed (Put x p) t r = is_rising-put x p t r
+is_rising-changed (Remove x) t r = is_rising-remove x t r
+is_rising-changed (StrikeOwner p) t r = is_rising-strike p t r
+
+-- a put is seen as one where its owner's node is, and as a removal else
+pub without-put : (gone : Nodes) (x : Text) (p : Process) (t : Table) → is_rising t ≡ true →
+    without gone (put x p t) ≡ (if gone p.node then remove x (without gone t) else put x p (without gone t))
+without-put gone x p t r = by_owner-put (λ q. not (gone q.node)) x p t r ∙ turned (gone p.node)
+  where
+    turned : (b : Bool) →
+        (if not b then put x p (without gone t) else remove x (without gone t))
+        ≡ (if b then remove x (without gone t) else put x p (without gone t))
+    turned true = refl
+    turned false = refl
+
+-- a removal is seen as one
+pub without-remove : (gone : Nodes) (x : Text) (t : Table) → without gone (remove x t) ≡ remove x (without gone t)
+without-remove gone x t = filters_swapped (λ e. not (gone e.owner.node)) (λ e. not (e.name == x)) t
+
+-- a strike is seen as one
+pub without-strike : (gone : Nodes) (p : Process) (t : Table) → without gone (strike p t) ≡ strike p (without gone t)
+without-strike gone p t = filters_swapped (λ e. not (gone e.owner.node)) (λ e. not (is_process e.owner p)) t
+
+-- without some nodes and then without others
+pub without-without : (g f : Nodes) (t : Table) → without g (without f t) ≡ without (λ d. f d || g d) t
+without-without g f t =
+    filter-filter (λ e. not (g e.owner.node)) (λ e. not (f e.owner.node)) t
+    ∙ filter_agree (λ e. not (f e.owner.node) && not (g e.owner.node)) (λ e. not (f e.owner.node || g e.owner.node))
+    (λ e. both (f e.owner.node) (g e.owner.node)) t
+  where
+    both : (b c : Bool) → (not b && not c) ≡ not (b || c)
+    both true c = refl
+    both false c = refl
+
+-- without the same nodes
+pub without_agree : (g f : Nodes) → ((c : ℕ) → g c ≡ f c) → (t : Table) → without g t ≡ without f t
+without_agree g f h t =
+    filter_agree (λ e. not (g e.owner.node)) (λ e. not (f e.owner.node)) (λ e. ap not (h e.owner.node)) t
+
+-- without no node
+pub without-nobody : (t : Table) → without nobody t ≡ t
+without-nobody [] = refl
+without-nobody (e ∷ t) = ap (λ (u : Table). e ∷ u) (without-nobody t)
+
+-- without some nodes, twice
+pub without_twice : (gone : Nodes) (t : Table) → without gone (without gone t) ≡ without gone t
+without_twice gone t = without-without gone gone t ∙ without_agree (λ d. gone d || gone d) gone (λ c. same (gone c)) t
+  where
+    same : (b : Bool) → (b || b) ≡ b
+    same true = refl
+    same false = refl
+
+-- without one node more
+pub without-at : (gone : Nodes) (d : ℕ) (t : Table) →
+    without (at gone d true) t ≡ without (λ c. c == d) (without gone t)
+without-at gone d t =
+    without_agree (at gone d true) (λ c. gone c || (c == d)) (λ c. either (c == d) (gone c)) t
+    ∙ sym (without-without (λ c. c == d) gone t)
+  where
+    either : (b g : Bool) → (if b then true else g) ≡ (g || b)
+    either true true = refl
+    either true false = refl
+    either false true = refl
+    either false false = refl
+
+-- a put of what is seen is seen as one of all
+pub without-put_without : (gone : Nodes) (x : Text) (p : Process) (t : Table) → is_rising t ≡ true →
+    without gone (put x p (without gone t)) ≡ without gone (put x p t)
+without-put_without gone x p t r =
+    without-put gone x p (without gone t) (is_rising-without gone t r)
+    ∙ ap (λ (u : Table). if gone p.node then remove x u else put x p u) (without_twice gone t)
+    ∙ sym (without-put gone x p t r)
+
+-- and so are many puts
+pub without-put_all_without : (gone : Nodes) (pairs t : Table) → is_rising t ≡ true →
+    without gone (put_all pairs (without gone t)) ≡ without gone (put_all pairs t)
+without-put_all_without gone [] t r = without_twice gone t
+without-put_all_without gone (e ∷ pairs) t r =
+    sym (without-put_all_without gone pairs (put e.name e.owner (without gone t))
+    (is_rising-put e.name e.owner (without gone t) (is_rising-without gone t r)))
+    ∙ ap (λ (u : Table). without gone (put_all pairs u)) (without-put_without gone e.name e.owner t r)
+    ∙ without-put_all_without gone pairs (put e.name e.owner t) (is_rising-put e.name e.owner t r)
+
+-- a strike of what is seen is seen as one of all
+pub without-strike_without : (gone : Nodes) (p : Process) (t : Table) →
+    without gone (strike p (without gone t)) ≡ without gone (strike p t)
+without-strike_without gone p t =
+    without-strike gone p (without gone t) ∙ ap (strike p) (without_twice gone t) ∙ sym (without-strike gone p t)

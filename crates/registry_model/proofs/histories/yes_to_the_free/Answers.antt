@@ -1,0 +1,5 @@
+use Rattle.registry_model.proofs.Standing.{yes_law}
+use Rattle.registry_model.proofs.histories.yes_to_the_free.Goals as goal
+
+pub returns : goal.returns
+returns c = yes_law

@@ -1,0 +1,115 @@
+-- What holds of histories. before, middle, later: parts of a history, the oldest first.
+use Rattle.std.specs.Prelude.{ℕ, true, false, ◌≡◌, ◌<◌, ◌≤◌, ◌↔◌, ◌⊎◌, IsTrue, Contains, Option, Some, None, List, [], ◌∷◌, ◌++◌}
+use Rattle.registry_model.specs.Process.{Text, Process, Nodes}
+use Rattle.registry_model.specs.Table.{Pair, Table, is_rising, get, owns}
+use Rattle.registry_model.specs.Call.{Register, ReRegister, Unregister, Yes, Ok, Joined}
+use Rattle.registry_model.specs.Settlement.{settle}
+use Rattle.registry_model.specs.Registry.{Registry, in_group, table_of, view, members}
+use Rattle.registry_model.specs.History.{Entry, Name, Strike, Join, Done, Exit, Told, registry_of, holder_of, Hold, hold_at, past_of}
+
+-- no name has two owners, and the names rise
+pub record HasOneOwner (table : Table) : Type 0 where
+  pub owner : (e d : Pair) → Contains table e → Contains table d → e.name ≡ d.name → e ≡ d
+  pub rises : IsTrue (is_rising table)
+
+-- In the table of each group no name has two owners
+abbrev pub OneOwner : Nodes → List Entry → Type 0
+OneOwner cluster h = (n : ℕ) → HasOneOwner (table_of (registry_of cluster h) n)
+
+-- as n sees it, nobody has x, p has no name, and p's node is a member
+pub record IsFreeFor (r : Registry) (n : ℕ) (x : Text) (p : Process) : Type 0 where
+  pub name : get x (view r n) ≡ None
+  pub owner : owns p (view r n) ≡ false
+  pub member : members r n p.node ≡ true
+
+-- Who is answered yes registered a free name, for a process that had none, on a node of the group
+abbrev pub YesToTheFree : Nodes → List Entry → Type 0
+YesToTheFree cluster h = (before later : List Entry) (n k : ℕ) (x : Text) (p : Process) →
+    h ≡ before ++ Name n k (Register x p) Yes ∷ later → IsFreeFor (registry_of cluster before) n x p
+
+-- The entries that take the name x from p, as n sees it
+pub data Takes (r : Registry) (n : ℕ) (x : Text) (p : Process) : Entry → Type 0 where
+  -- n's group gives it up, or gives it to another
+  GivenUp : (m k : ℕ) → IsTrue (in_group r n m) → Takes r n x p (Name m k (Unregister x) Ok)
+  Replaced : (m k : ℕ) (q : Process) → IsTrue (in_group r n m) → Takes r n x p (Name m k (ReRegister x q) Yes)
+  -- p is struck in n's group
+  Struck : IsTrue (in_group r n p.node) → Takes r n x p (Strike p)
+  -- n is told that p's node left
+  Departed : Takes r n x p (Told n p.node)
+  -- a node of n's group that was told so gives the name, which it sees no more
+  Retaken : (m k : ℕ) (q : Process) → IsTrue (in_group r n m) → IsTrue (r.told m p.node) →
+      Takes r n x p (Name m k (Register x q) Yes)
+  -- a joiner has the name too, for a process on a lesser node
+  LostToJoiner : (j k m : ℕ) (q : Process) → IsTrue (r.joined n) → get x (r.lone j) ≡ Some q → q.node < p.node →
+      Takes r n x p (Join j k m Joined)
+  -- a joiner has the name too, and its contact was told that p's node left
+  RetakenByJoiner : (j k m : ℕ) (q : Process) → IsTrue (r.joined n) → get x (r.lone j) ≡ Some q →
+      IsTrue (r.told m p.node) → Takes r n x p (Join j k m Joined)
+  -- n joins, and its contact sees the name of a process on no greater node
+  LostToCluster : (k m : ℕ) (q : Process) → get x (view r m) ≡ Some q → q.node ≤ p.node →
+      Takes r n x p (Join n k m Joined)
+
+-- A name that a node sees stands until an entry takes it
+abbrev pub NamesStand : Nodes → List Entry → Type 0
+NamesStand cluster h = (before later : List Entry) (e : Entry) (n : ℕ) (x : Text) (p : Process) →
+    h ≡ before ++ e ∷ later → get x (view (registry_of cluster before) n) ≡ Some p →
+    (get x (view (registry_of cluster (before ++ e ∷ [])) n) ≡ Some p) ⊎ Takes (registry_of cluster before) n x p e
+
+-- the node that the entry decides an operation of, be it granted or refused
+abbrev pub decider_of : Entry → Option ℕ
+decider_of (Name b k call reply) = Some b
+decider_of (Strike p) = Some p.node
+decider_of (Join j k b Joined) = Some b
+decider_of _ = None
+
+-- nobody of a's group decides an operation or joins
+pub record IsAlone (r : Registry) (a : ℕ) (f : Entry) : Type 0 where
+  pub decided : (b : ℕ) → decider_of f ≡ Some b → in_group r a b ≡ false
+  pub joined : (j k m : ℕ) → f ≡ Join j k m Joined → in_group r a j ≡ false
+
+-- While an operation of a holds, nothing else is decided in a's group
+abbrev pub NeverOverlap : Nodes → List Entry → Type 0
+NeverOverlap cluster h = (before middle later : List Entry) (e f : Entry) (a : ℕ) →
+    h ≡ before ++ e ∷ middle ++ f ∷ later → holder_of e ≡ Some a → (Contains middle (Done a) → ⊥) →
+    IsAlone (registry_of cluster (before ++ e ∷ middle)) a f
+
+-- An operation holds from its entry until its node is done
+abbrev pub HoldsUntilDone : Nodes → List Entry → Type 0
+HoldsUntilDone cluster h = (before later : List Entry) (e : Entry) (a : ℕ) →
+    h ≡ before ++ e ∷ later → holder_of e ≡ Some a → (Contains later (Done a) → ⊥) →
+    (k : Hold) × (hold_at (past_of cluster h) a ≡ Some k) × (k.node ≡ a) × (k.entry ≡ e)
+
+-- the operation k has its entry between these, isn't done, and the registry beside it is that of the others
+pub record IsLeftOut (cluster : Nodes) (h : List Entry) (k : Hold) : Type 0 where
+  pub before : List Entry
+  pub later : List Entry
+  pub split : h ≡ before ++ k.entry ∷ later
+  pub holder : holder_of k.entry ≡ Some k.node
+  pub not_done : Contains later (Done k.node) → ⊥
+  pub old : k.old ≡ registry_of cluster (before ++ later)
+
+-- The registry kept beside an operation that holds is that of the history without its entry
+pub record OldLeavesOut (cluster : Nodes) (h : List Entry) : Type 0 where
+  pub registry : (past_of cluster h).registry ≡ registry_of cluster h
+  pub left_out : (n : ℕ) (k : Hold) → hold_at (past_of cluster h) n ≡ Some k → IsLeftOut cluster h k
+
+-- p died: it exited, or lost a name when a node joined
+pub data Died (cluster : Nodes) (h : List Entry) (p : Process) : Type 0 where
+  Exited : Contains h (Exit p) → Died cluster h p
+  Killed : (before later : List Entry) (j k m : ℕ) → h ≡ before ++ Join j k m Joined ∷ later →
+      (let r = registry_of cluster before in Contains (settle (view r m) (r.lone j)).kills p) → Died cluster h p
+
+-- Who dies is dead for good, and nobody else is dead
+pub record DeadForGood (cluster : Nodes) (h : List Entry) : Type 0 where
+  pub stays : (later : List Entry) (p : Process) → IsTrue ((registry_of cluster h).dead p) →
+      IsTrue ((registry_of cluster (h ++ later)).dead p)
+  pub died : (p : Process) → IsTrue ((registry_of cluster h).dead p) ↔ Died cluster h p
+
+-- A node joins once, and is joined ever after
+pub record JoinsOnce (cluster : Nodes) (h : List Entry) : Type 0 where
+  pub lone_before : (before later : List Entry) (j k m : ℕ) → h ≡ before ++ Join j k m Joined ∷ later →
+      (registry_of cluster before).joined j ≡ false
+  pub joined_after : (before later : List Entry) (j k m : ℕ) → h ≡ before ++ Join j k m Joined ∷ later →
+      (registry_of cluster h).joined j ≡ true
+  pub once : (before middle later : List Entry) (i j k l m o : ℕ) →
+      h ≡ before ++ Join i k m Joined ∷ middle ++ Join j l o Joined ∷ later → i ≡ j → ⊥

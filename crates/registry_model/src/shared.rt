@@ -1,0 +1,43 @@
+//! What the functions that registry and protocol share mean.
+ghost use Rattle.std.specs.Prelude.{◌≡◌, ◌↔◌, IsTrue};
+ghost use Rattle.registry_model.specs.Process.{Nodes};
+ghost use Rattle.registry_model.specs.Table.{Table, Change, is_rising, changed, without, put_all};
+ghost use Rattle.registry_model.specs.Call.{NameCall, Look, Reply, reply_to, seen_in};
+ghost use Rattle.registry_model.specs.Settlement.{settle};
+ghost use Rattle.registry_model.specs.SharedLaws.{IsReplyTo, IsSeenIn, IsChanged, IsWithout, IsWrittenOver, IsTheTable, Settles};
+
+/// Each name call has one reply.
+pub fn reply()
+    ensures { (members : Nodes) (table : Table) (call : NameCall) (r : Reply) →
+        IsReplyTo members table call r ↔ (r ≡ reply_to members table call) }
+{}
+
+/// Each look-up in a table has one reply.
+pub fn look_up()
+    ensures { (table : Table) (look : Look) (r : Reply) → IsTrue (is_rising table) →
+        IsSeenIn table look r ↔ (r ≡ seen_in table look) }
+{}
+
+/// Each change of a table.
+pub fn change()
+    ensures { (c : Change) (table : Table) → IsTrue (is_rising table) →
+        IsTheTable (IsChanged c table) (changed c table) }
+{}
+
+/// The table without the names on some nodes.
+pub fn departed()
+    ensures { (gone : Nodes) (table : Table) → IsTrue (is_rising table) →
+        IsTheTable (IsWithout gone table) (without gone table) }
+{}
+
+/// Pairs written over a table.
+pub fn written()
+    ensures { (pairs table : Table) → IsTrue (is_rising pairs) → IsTrue (is_rising table) →
+        IsTheTable (IsWrittenOver pairs table) (put_all pairs table) }
+{}
+
+/// The settlement of a join.
+pub fn settlement()
+    ensures { (table pairs : Table) → IsTrue (is_rising table) → IsTrue (is_rising pairs) →
+        Settles table pairs (settle table pairs) }
+{}
