@@ -1,0 +1,10 @@
+pub mod Base
+pub mod Departures
+pub mod LockTables
+pub mod Sessions
+pub mod Locking
+pub mod Rounds
+pub mod LockTurns
+pub mod JudgeTurns
+pub mod LockRules
+pub mod Exclusion

@@ -1,0 +1,74 @@
+-- How the values of the product are spelled as texts, and why other texts are refused. A text is the list of its bytes.
+use Rattle.std.specs.Prelude.{◌≡◌, ℕ, zero, suc, Bool, false, if◌then◌else◌, ◌==◌, ◌/◌, ◌%◌, ◌^◌, ◌<◌, ◌≤◌, ◌||◌, List, [], ◌∷◌, ◌++◌, length, take, slice_index}
+use Rattle.std.specs.Char.{is_ascii_alphanumeric}
+use Rattle.std.specs.Fmt.{decimal}
+use Rattle.std.specs.List.{AllPass, before_first}
+use Rattle.registry_model.specs.Process.{Process, longest, text_of}
+use Rattle.term.specs.declared.faults.TextFault.{TextFault}
+use Rattle.term.specs.declared.faults.TextFault.TheVariants.{Empty, TooLong, BadByte, BadSerial}
+
+-- whether a byte may stand in a text: an ASCII letter, a digit, '_', '-' or '@'
+abbrev pub is_allowed : ℕ → Bool
+is_allowed b = is_ascii_alphanumeric b || (b == 95) || (b == 45) || (b == 64)
+
+-- the bytes are a text: 1 to 64 of them, each allowed
+pub record IsText (bytes : List ℕ) : Type 0 where
+  pub some : 0 < length bytes
+  pub fits : length bytes ≤ longest
+  pub allowed : AllPass is_allowed bytes
+
+-- the bytes spell a name, or the name of a node: they are a text, and the value is its number
+pub record SpellsText (bytes : List ℕ) (value : ℕ) : Type 0 where
+  pub text : IsText bytes
+  pub number : value ≡ text_of bytes
+
+-- the digits of a number behind a point, k at most, up to the last that is not 0
+abbrev pub digits_in : ℕ → ℕ → List ℕ
+digits_in zero n = []
+digits_in (suc k) n = if n == 0 then [] else n / 256 ^ k ∷ digits_in k (n % 256 ^ k)
+
+-- the bytes that spell a name
+unfoldable pub bytes_of : ℕ → List ℕ
+bytes_of n = digits_in longest n
+
+-- the first byte that is not allowed stands at this place
+pub record IsFirstBad (bytes : List ℕ) (place : ℕ) : Type 0 where
+  pub inside : place < length bytes
+  pub before : AllPass is_allowed (take place bytes)
+  pub bad : is_allowed (slice_index bytes place) ≡ false
+
+-- the fault for which the bytes are refused as a name
+abbrev pub RefusesText : List ℕ → TextFault → Type 0
+RefusesText bytes Empty = length bytes ≡ 0
+RefusesText bytes TooLong = longest < length bytes
+RefusesText bytes (BadByte place) = (length bytes ≤ longest) × IsFirstBad bytes place
+RefusesText bytes BadSerial = ⊥
+
+-- a dot, which parts the name of a node from a serial
+abbrev pub dot : ℕ
+dot = 46
+
+-- the digits spell a serial: they are its decimal digits, with no leading zero, and it is 1 to 4,294,967,295
+pub record SpellsSerial (digits : List ℕ) (serial : ℕ) : Type 0 where
+  pub written : digits ≡ decimal serial
+  pub low : 1 ≤ serial
+  pub high : serial < 2 ^ 32
+
+-- the bytes spell a process: the name of its node, a dot, and its serial
+pub record SpellsPid (bytes : List ℕ) (p : Process) : Type 0 where
+  pub node : List ℕ
+  pub digits : List ℕ
+  pub parts : bytes ≡ node ++ dot ∷ digits
+  pub node_spelled : SpellsText node p.node
+  pub serial_spelled : SpellsSerial digits p.serial
+
+-- the bytes before the first dot, or all where there is none
+abbrev pub node_part : List ℕ → List ℕ
+node_part bytes = before_first (λ b. b == dot) bytes
+
+-- the fault for which the bytes are refused as a process: that of the node's name, and else a bad serial
+abbrev pub RefusesPid : List ℕ → TextFault → Type 0
+RefusesPid bytes BadSerial = IsText (node_part bytes) × ((p : Process) → SpellsPid bytes p → ⊥)
+RefusesPid bytes Empty = RefusesText (node_part bytes) Empty
+RefusesPid bytes TooLong = RefusesText (node_part bytes) TooLong
+RefusesPid bytes (BadByte place) = RefusesText (node_part bytes) (BadByte place)

@@ -1,0 +1,19 @@
+//! Why a text is refused.
+use thiserror::Error;
+
+/// Why a text spells no value.
+#[derive(Clone, Copy, Debug, PartialEq, Eq, Error)]
+pub enum TextFault {
+    /// There is no byte.
+    #[error("empty")]
+    Empty,
+    /// There are more than 64 bytes.
+    #[error("too_long")]
+    TooLong,
+    /// The first byte that is not allowed stands at this place, counted from 0.
+    #[error("bad_byte")]
+    BadByte(usize),
+    /// No serial of a process follows the name of its node.
+    #[error("bad_serial")]
+    BadSerial,
+}

@@ -1,0 +1,151 @@
+//! A short text, the block that the names are made of.
+ghost use Rattle.std.specs.Prelude.{◌≡◌, nat_eq, Some, ⊤, MatchOption, MatchResult};
+ghost use Rattle.std.specs.Cmp.Rules.{comparing, hashing};
+ghost use Rattle.std.specs.Hash as fed;
+ghost use Rattle.std.specs.Ordering.{nat_cmp, as_partial_cmp};
+ghost use Rattle.std.specs.List.{AllPass};
+ghost use Rattle.std.proofs.Common.{rules};
+ghost use Rattle.term.specs.Spelling.{is_allowed as is_allowed_byte, IsFirstBad, SpellsText, RefusesText, bytes_of};
+
+use crate::faults::TextFault;
+use arrayvec::ArrayString;
+use std::alloc::AllocError;
+use std::cmp::Ordering;
+use std::fmt;
+use std::hash::{Hash, Hasher};
+use std::marker::Model;
+
+/// A text of 1 to 64 bytes, each an ASCII letter, a digit, `_`, `-` or `@`, held in place.
+#[derive(Drop)]
+pub(crate) struct ShortText {
+    bytes: ArrayString<64>,
+}
+
+impl Model for ShortText {
+    ghost use Rattle.std.specs.Prelude.{ℕ};
+    ghost use Rattle.registry_model.specs.Process.{text_of};
+    ghost use Rattle.term.specs.Spelling.{IsText};
+
+    ghost Value = { ℕ };
+
+    ghost view = { λ t. text_of t.bytes.bytes };
+
+    ghost invariant = { λ t. IsText t.bytes.bytes };
+}
+
+/// Whether a byte may stand in a text.
+fn is_allowed(byte: u8) -> bool
+    ensures { result ≡ is_allowed_byte byte }
+{
+    byte.is_ascii_alphanumeric() || byte == b'_' || byte == b'-' || byte == b'@'
+}
+
+/// The place of the first byte that may not stand in a text.
+fn first_bad(bytes: &[u8]) -> Option<usize>
+    ensures { MatchOption result (AllPass is_allowed_byte bytes.now) (IsFirstBad bytes.now) }
+{
+    bytes.iter().position(|byte| !is_allowed(*byte))
+}
+
+impl ShortText {
+    /// Reads a text.
+    pub(crate) fn parse(text: &str) -> Result<Self, TextFault>
+        ensures { MatchResult result (SpellsText text.now) (RefusesText text.now) }
+    {
+        if text.is_empty() {
+            return Err(TextFault::Empty);
+        }
+        let bytes = ArrayString::from(text).map_err(|_| TextFault::TooLong)?;
+        if let Some(place) = first_bad(text.as_bytes()) {
+            return Err(TextFault::BadByte(place));
+        }
+        Ok(ShortText { bytes })
+    }
+
+    /// Its bytes.
+    pub(crate) fn as_str(&self) -> &str
+        ensures spelled { SpellsText result.now self.now }
+        ensures bytes { result.now ≡ bytes_of self.now }
+    {
+        self.bytes.as_str()
+    }
+
+    /// The same text.
+    pub(crate) fn copy(&self) -> Self
+        ensures { result ≡ self.now }
+    {
+        ShortText { bytes: self.bytes }
+    }
+}
+
+impl Clone for ShortText {
+    ghost is_clone = { λ t u. u ≡ t };
+
+    ghost is_infallible = { λ t. t ≡ t };
+
+    fn clone(&self) -> Result<Self, AllocError> {
+        Ok(self.copy())
+    }
+}
+
+impl PartialEq for ShortText {
+    ghost eq = { nat_eq };
+
+    ghost laws = { Prim.search (comparing, rules) };
+
+    fn eq(&self, other: &Self) -> bool {
+        self.bytes == other.bytes
+    }
+}
+
+impl Eq for ShortText {
+    ghost laws = { Prim.search (comparing, rules) };
+}
+
+impl PartialOrd for ShortText {
+    ghost partial_cmp = { as_partial_cmp nat_cmp };
+
+    ghost laws = { Prim.search (comparing, rules) };
+
+    fn partial_cmp(&self, other: &Self) -> Option<Ordering> {
+        Some(self.cmp(other))
+    }
+}
+
+impl Ord for ShortText {
+    ghost cmp = { nat_cmp };
+
+    ghost total = { Prim.search (comparing, rules) };
+
+    ghost matches_partial_cmp = { Prim.search (comparing, rules) };
+
+    ghost matches_eq = { Prim.search (comparing, rules) };
+
+    fn cmp(&self, other: &Self) -> Ordering {
+        self.bytes.cmp(&other.bytes)
+    }
+}
+
+impl fmt::Debug for ShortText {
+    fn fmt<W: fmt::Write>(&self, f: &mut fmt::Formatter<W>) -> fmt::Result {
+        fmt::Debug::fmt(&self.bytes, f)
+    }
+}
+
+impl Hash for ShortText {
+    ghost hash_input = { λ t. fed.str (bytes_of t) };
+
+    ghost respects_eq = { Prim.search (hashing, rules) };
+
+    fn hash<H: Hasher>(&self, state: &mut H) {
+        self.bytes.hash(state);
+    }
+}
+
+impl fmt::Display for ShortText {
+    ghost output = { λ t. Some (bytes_of t) };
+
+    fn fmt<W: fmt::Write>(&self, f: &mut fmt::Formatter<W>) -> fmt::Result {
+        fmt::Display::fmt(&self.bytes, f)
+    }
+}

@@ -1,0 +1,201 @@
+-- Chains of rules: one behind another, and one rule more.
+use Rattle.std.proofs.Common.{ℕ, Bool, true, false, ◌≡◌, Option, None, List, [], ◌∷◌, ◌++◌, refl, sym, subst, ap, ◌∙◌}
+use Rattle.std.specs.Prelude.{◌&&◌}
+use Rattle.std.specs.List.{list_all}
+use Rattle.std.proofs.lemmas.List.{append-nil, append_assoc}
+use Rattle.std.proofs.lemmas.List.Folds.{list_all-append}
+use Rattle.registry_model.specs.History.{Entry}
+use Rattle.protocol_model.specs.Letter.{Letter}
+use Rattle.protocol_model.specs.Event.{Answer}
+use Rattle.protocol_model.specs.Node.{Node}
+use Rattle.protocol_model.specs.Turn.{Turn, begun}
+use Rattle.protocol_model.specs.World.{Opening, in_world, World, left, Deliver, join_number, apply, opened}
+use Rattle.moves.proofs.Indices.{at_same}
+use Rattle.moves.proofs.Rules
+use Rattle.moves.proofs.Rules.{Rule, Taken, taking, is_quiet}
+use Rattle.walk.proofs.Worlds.{onto, apply-onto, apply-begun, opened-apply, stays_front}
+use Rattle.walk.proofs.Extends.{extended}
+
+-- a rule that isn't a leave closes nobody out
+pub closed_by-quiet : (o : Opening) (a : ℕ) (r : Rule) (w : World) → is_quiet r ≡ true → Rules.closed_by o a r w ≡ w
+closed_by-quiet o a Rules.Leaves w q = cc
+closed_by-quiet o a _ w q = refl
+
+module _ (o : Opening) (a : ℕ) where
+  -- the effect of a chain and of another behind it
+  pub effects-append : (rs ss : List Rule) (w : World)
+      → Rules.effects o a (rs ++ ss) w ≡ Rules.effects o a ss (Rules.effects o a rs w)
+  effects-append [] ss w = refl
+  effects-append (r ∷ rs) ss w = effects-append rs ss (Rules.effect o a r w)
+
+  -- their entries
+  pub entries_by-append : (rs ss : List Rule) (w : World)
+      → Rules.entries_by o a (rs ++ ss) w ≡ Rules.entries_by o a rs w ++ Rules.entries_by o a ss
+      (Rules.effects o a rs w)
+  entries_by-append [] ss w = refl
+  entries_by-append (r ∷ rs) ss w =
+      ap (λ (es : List Entry). (Rules.turn_by o a w r).entries ++ es) (entries_by-append rs ss (Rules.effect o a r w))
+      ∙ sym (append_assoc (Rules.turn_by o a w r).entries (Rules.entries_by o a rs (Rules.effect o a r w))
+      (Rules.entries_by o a ss (Rules.effects o a (r ∷ rs) w)))
+
+  -- their answers
+  pub answers_by-append : (rs ss : List Rule) (w : World)
+      → Rules.answers_by o a (rs ++ ss) w ≡ Rules.answers_by o a rs w ++ Rules.answers_by o a ss
+      (Rules.effects o a rs w)
+  answers_by-append [] ss w = refl
+  answers_by-append (r ∷ rs) ss w =
+      ap (λ (es : List Answer). (Rules.turn_by o a w r).answers ++ es) (answers_by-append rs ss (Rules.effect o a r w))
+      ∙ sym (append_assoc (Rules.turn_by o a w r).answers (Rules.answers_by o a rs (Rules.effect o a r w))
+      (Rules.answers_by o a ss (Rules.effects o a (r ∷ rs) w)))
+
+  -- each rule of both may be applied in its turn
+  pub may_all-append : (rs ss : List Rule) (w : World)
+      → Rules.MayAll o a rs w → Rules.MayAll o a ss (Rules.effects o a rs w) → Rules.MayAll o a (rs ++ ss) w
+  may_all-append [] ss w m k = k
+  may_all-append (r ∷ rs) ss w m k = (m.0, may_all-append rs ss (Rules.effect o a r w) m.1 k)
+
+  -- and back
+  pub may_all-parts : (rs ss : List Rule) (w : World) → Rules.MayAll o a (rs ++ ss) w
+      → Rules.MayAll o a rs w × Rules.MayAll o a ss (Rules.effects o a rs w)
+  may_all-parts [] ss w m = (tt, m)
+  may_all-parts (r ∷ rs) ss w m =
+      let more : Rules.MayAll o a rs (Rules.effect o a r w) × Rules.MayAll o a ss (Rules.effects o a (r ∷ rs) w) =
+      may_all-parts rs ss (Rules.effect o a r w) m.1 in
+      ((m.0, more.0), more.1)
+
+  -- From world w a chain that begins with these rules has come as far as turn u, which stands behind world b: w, or w
+  -- without
+  -- the letter that was taken
+  pub record Chain (w : World) (first : List Rule) (b : World) (u : Turn) : Type 0 where
+    pub rest : List Rule
+    pub quiet : list_all is_quiet rest ≡ true
+    pub may : Rules.MayAll o a (first ++ rest) w
+    pub world : Rules.effects o a (first ++ rest) w ≡ apply a u b
+    pub entries : Rules.entries_by o a (first ++ rest) w ≡ u.entries
+    pub answers : Rules.answers_by o a (first ++ rest) w ≡ u.answers
+
+  -- nothing is done yet
+  pub chain_none : (w : World) → Chain w [] w (begun (w.node a))
+  chain_none w =
+      record { rest = []; quiet = refl; may = tt; world = sym (apply-begun a w); entries = refl; answers = refl }
+
+  -- a first rule
+  pub chain_one : (w b : World) (r : Rule) → Rules.May o a w r
+      → Rules.effect o a r w ≡ apply a (Rules.turn_by o a w r) b
+      → Chain w (r ∷ []) b (Rules.turn_by o a w r)
+  chain_one w b r m e = record {
+    rest = [];
+    quiet = refl;
+    may = (m, tt);
+    world = e;
+    entries = append-nil (Rules.turn_by o a w r).entries;
+    answers = append-nil (Rules.turn_by o a w r).answers;
+  }
+
+  -- a first rule that counts among the rest
+  pub chain_quiet : (w b : World) (r : Rule) → Rules.May o a w r → is_quiet r ≡ true
+      → Rules.effect o a r w ≡ apply a (Rules.turn_by o a w r) b
+      → Chain w [] b (Rules.turn_by o a w r)
+  chain_quiet w b r m q e = record {
+    rest = r ∷ [];
+    quiet = ap (λ (t : Bool). t && true) q;
+    may = (m, tt);
+    world = e;
+    entries = append-nil (Rules.turn_by o a w r).entries;
+    answers = append-nil (Rules.turn_by o a w r).answers;
+  }
+
+  -- one rule more, by its effect on the world so far
+  chain_on : (w : World) (first : List Rule) (b c : World) (u v : Turn) (r : Rule)
+      → Chain w first b u → is_quiet r ≡ true → Rules.May o a (apply a u b) r
+      → Rules.turn_by o a (apply a u b) r ≡ v
+      → Rules.effect o a r (apply a u b) ≡ apply a (onto u v) c
+      → Chain w first c (onto u v)
+  chain_on w first b c u v r h q m same e = record {
+    rest = h.rest ++ r ∷ [];
+    quiet = list_all-append is_quiet h.rest (r ∷ []) ∙ ap (λ (t : Bool). t && (is_quiet r && true)) h.quiet
+        ∙ ap (λ (t : Bool). t && true) q;
+    may = subst (λ (rs : List Rule). Rules.MayAll o a rs w) (append_assoc first h.rest (r ∷ []))
+        (may_all-append (first ++ h.rest) (r ∷ []) w h.may
+        (subst (λ (x : World). Rules.MayAll o a (r ∷ []) x) (sym h.world) (m, tt)));
+    world = ap (λ (rs : List Rule). Rules.effects o a rs w) (sym (append_assoc first h.rest (r ∷ [])))
+        ∙ effects-append (first ++ h.rest) (r ∷ []) w ∙ ap (λ (x : World). Rules.effect o a r x) h.world ∙ e;
+    entries = ap (λ (rs : List Rule). Rules.entries_by o a rs w) (sym (append_assoc first h.rest (r ∷ [])))
+        ∙ entries_by-append (first ++ h.rest) (r ∷ []) w
+        ∙ ap (λ (es : List Entry). es ++ Rules.entries_by o a (r ∷ []) (Rules.effects o a (first ++ h.rest) w))
+        h.entries
+        ∙ ap (λ (x : World). u.entries ++ Rules.entries_by o a (r ∷ []) x) h.world
+        ∙ ap (λ (es : List Entry). u.entries ++ es) (append-nil (Rules.turn_by o a (apply a u b) r).entries)
+        ∙ ap (λ (x : Turn). u.entries ++ x.entries) same;
+    answers = ap (λ (rs : List Rule). Rules.answers_by o a rs w) (sym (append_assoc first h.rest (r ∷ [])))
+        ∙ answers_by-append (first ++ h.rest) (r ∷ []) w
+        ∙ ap (λ (es : List Answer). es ++ Rules.answers_by o a (r ∷ []) (Rules.effects o a (first ++ h.rest) w))
+        h.answers
+        ∙ ap (λ (x : World). u.answers ++ Rules.answers_by o a (r ∷ []) x) h.world
+        ∙ ap (λ (es : List Answer). u.answers ++ es) (append-nil (Rules.turn_by o a (apply a u b) r).answers)
+        ∙ ap (λ (x : Turn). u.answers ++ x.answers) same;
+  }
+
+  -- what a rule makes behind a turn, of the node alone
+  turn_behind : (b : World) (u : Turn) (r : Rule)
+      → Rules.turn_by o a (apply a u b) r ≡ Rules.made o a (join_number (apply a u b)) r (begun u.node)
+  turn_behind b u r =
+      ap (λ (v : Node). Rules.made o a (join_number (apply a u b)) r (begun v)) (at_same b.node a u.node)
+
+  module _ (inside : in_world o a ≡ true) where
+    -- one rule more, which takes no letter
+    pub chain_more : (w : World) (first : List Rule) (b : World) (u : Turn) (r : Rule)
+        → left b a ≡ false → Chain w first b u → is_quiet r ≡ true → Rules.takes o a r ≡ None
+        → Rules.Tested o a (apply a u b) u.node r
+        → Chain w first b (Rules.made o a (join_number (apply a u b)) r u)
+    chain_more w first b u r running h q none tested =
+        subst (Chain w first b) (sym (extended o a (join_number (apply a u b)) r u))
+        (chain_on w first b b u (Rules.made o a (join_number (apply a u b)) r (begun u.node)) r h q may
+        (turn_behind b u r) effect)
+      where
+        may : Rules.May o a (apply a u b) r
+        may = record {
+          inside = inside;
+          running = running;
+          front = subst (Rules.FrontTaken o a (apply a u b)) (sym none) tt;
+          tested = subst (λ (v : Node). Rules.Tested o a (apply a u b) v r) (sym (at_same b.node a u.node)) tested;
+        }
+
+        effect : Rules.effect o a r (apply a u b) ≡ apply a
+            (onto u (Rules.made o a (join_number (apply a u b)) r (begun u.node))) b
+        effect = closed_by-quiet o a r
+            (apply a (Rules.turn_by o a (apply a u b) r) (Rules.without_letter o a (Rules.takes o a r) (apply a u b))) q
+            ∙ ap (λ (t : Option Taken). apply a (Rules.turn_by o a (apply a u b) r)
+            (Rules.without_letter o a t (apply a u b))) none
+            ∙ ap (λ (t : Turn). apply a t (apply a u b)) (turn_behind b u r)
+            ∙ apply-onto a u (Rules.made o a (join_number (apply a u b)) r (begun u.node)) b
+
+    -- one rule more, which takes the letter
+    pub chain_letter : (w : World) (first : List Rule) (u : Turn) (r : Rule) (f : ℕ) (l : Letter) (rest : List Letter)
+        → left w a ≡ false → Chain w first w u → is_quiet r ≡ true → Rules.takes o a r ≡ taking f l
+        → in_world o f ≡ true → w.links.queue f a ≡ l ∷ rest
+        → Rules.Tested o a (apply a u w) u.node r
+        → Chain w first (opened (Deliver f a) w) (Rules.made o a (join_number (apply a u w)) r u)
+    chain_letter w first u r f l rest running h q some known front tested =
+        subst (Chain w first (opened (Deliver f a) w)) (sym (extended o a (join_number (apply a u w)) r u))
+        (chain_on w first w (opened (Deliver f a) w) u
+        (Rules.made o a (join_number (apply a u w)) r (begun u.node)) r h q may (turn_behind w u r) effect)
+      where
+        may : Rules.May o a (apply a u w) r
+        may = record {
+          inside = inside;
+          running = running;
+          front = subst (Rules.FrontTaken o a (apply a u w)) (sym some) (known, stays_front a f u w l rest front);
+          tested = subst (λ (v : Node). Rules.Tested o a (apply a u w) v r) (sym (at_same w.node a u.node)) tested;
+        }
+
+        effect : Rules.effect o a r (apply a u w) ≡ apply a
+            (onto u (Rules.made o a (join_number (apply a u w)) r (begun u.node))) (opened (Deliver f a) w)
+        effect = closed_by-quiet o a r
+            (apply a (Rules.turn_by o a (apply a u w) r) (Rules.without_letter o a (Rules.takes o a r) (apply a u w))) q
+            ∙ ap (λ (t : Option Taken). apply a (Rules.turn_by o a (apply a u w) r)
+            (Rules.without_letter o a t (apply a u w))) some
+            ∙ ap (λ (t : Turn). apply a t (opened (Deliver f a) (apply a u w))) (turn_behind w u r)
+            ∙ ap (λ (x : World). apply a (Rules.made o a (join_number (apply a u w)) r (begun u.node)) x)
+            (opened-apply a f u w l rest front)
+            ∙ apply-onto a u (Rules.made o a (join_number (apply a u w)) r (begun u.node)) (opened (Deliver f a) w)

@@ -1,0 +1,16 @@
+pub mod Worlds
+pub mod Extends
+pub mod Chains
+pub mod Calls
+pub mod Starting
+pub mod Rounds
+pub mod LockRounds
+pub mod Killing
+pub mod Letters
+pub mod Receiving
+pub mod Events
+pub mod Walk
+pub mod Orders
+pub mod Joins
+pub mod Welcomes
+pub mod Runs
