@@ -1,0 +1,9 @@
+mod OneNode
+mod Locks
+mod Turns
+mod Worlds
+mod Refusals
+mod Plays
+mod Playing
+mod Opening
+mod Running

@@ -1,0 +1,46 @@
+-- Events that were played one after the other.
+use Rattle.std.proofs.Common.{ℕ, zero, suc, ◌≡◌, ◌+◌, Some, List, [], ◌∷◌, ◌++◌, take, refl, sym, ap, ◌∙◌, arith}
+use Rattle.std.specs.List.{slice_get}
+use Rattle.std.proofs.lemmas.List.{append_assoc, append-nil}
+use Rattle.protocol_model.specs.Event.{Answer as AnyAnswer}
+use Rattle.protocol_model.specs.World.{Opening, World, WorldEvent as AnyWorldEvent, happens, answers, run, all_answers}
+use Rattle.cluster_world.specs.declared.events.Answer.{Answer}
+use Rattle.cluster_world.specs.declared.events.WorldEvent.{WorldEvent}
+use Rattle.cluster_world.specs.Held.{Held}
+use Rattle.cluster_world.specs.Seen.{opening_of, seen, event_of}
+use Rattle.cluster_world.specs.Playing.{Played, IsSoFar, events_of}
+
+-- one event more is one more that happens
+run-push : (o : Opening) (w : World) (es : List AnyWorldEvent) (e : AnyWorldEvent) → run o w (es ++ e ∷ []) ≡ happens o (run o w es) e
+run-push o w [] e = refl
+run-push o w (d ∷ es) e = run-push o (happens o w d) es e
+
+answers-push : (o : Opening) (w : World) (es : List AnyWorldEvent) (e : AnyWorldEvent)
+    → all_answers o w (es ++ e ∷ []) ≡ all_answers o w es ++ answers o (run o w es) e
+answers-push o w [] e = append-nil (answers o w e)
+answers-push o w (d ∷ es) e = ap (λ (l : List AnyAnswer). answers o w d ++ l) (answers-push o (happens o w d) es e)
+    ∙ sym (append_assoc (answers o w d) (all_answers o (happens o w d) es) (answers o (run o (happens o w d) es) e))
+
+-- the first k events and the next
+events-push : (es : List WorldEvent) (k : ℕ) (e : WorldEvent) → slice_get es k ≡ Some e → events_of (take (suc k) es) ≡ events_of (take k es) ++ event_of e ∷ []
+events-push [] k e h = cc
+events-push (d ∷ es) zero e h = ap (λ (o : WorldEvent). event_of o ∷ []) (cc h)
+events-push (d ∷ es) (suc k) e h = ap (λ (l : List AnyWorldEvent). event_of d ∷ l) (events-push es k e h)
+
+pub so_far_more : (es : List WorldEvent) (old mid new : Held) (k : ℕ) (given now : List Answer) (e : WorldEvent)
+    → IsSoFar es old mid k given → slice_get es k ≡ Some e → Played e mid new given now → IsSoFar es old new (k + 1) now
+so_far_more es old mid new k given now e S at P = record {
+  name = P.name ∙ S.name;
+  world = P.happens ∙ ap (λ (n : ℕ). happens (opening_of n) (seen mid) (event_of e)) S.name
+      ∙ ap (λ (w : World). happens (opening_of old.name) w (event_of e)) S.world
+      ∙ sym (run-push (opening_of old.name) (seen old) (events_of (take k es)) (event_of e))
+      ∙ ap (run (opening_of old.name) (seen old)) (sym (events-push es k e at) ∙ ap (λ (n : ℕ). events_of (take n es)) one_more);
+  answers = P.answers ∙ ap (λ (l : List AnyAnswer). l ++ answers (opening_of mid.name) (seen mid) (event_of e)) S.answers
+      ∙ ap (λ (n : ℕ). all_answers (opening_of old.name) (seen old) (events_of (take k es)) ++ answers (opening_of n) (seen mid) (event_of e)) S.name
+      ∙ ap (λ (w : World). all_answers (opening_of old.name) (seen old) (events_of (take k es)) ++ answers (opening_of old.name) w (event_of e)) S.world
+      ∙ sym (answers-push (opening_of old.name) (seen old) (events_of (take k es)) (event_of e))
+      ∙ ap (all_answers (opening_of old.name) (seen old)) (sym (events-push es k e at) ∙ ap (λ (n : ℕ). events_of (take n es)) one_more);
+}
+  where
+    one_more : suc k ≡ k + 1
+    one_more = omega arith

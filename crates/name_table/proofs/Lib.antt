@@ -1,0 +1,2 @@
+mod Owners
+mod Places

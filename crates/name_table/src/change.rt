@@ -1,0 +1,43 @@
+//! What a table has, and how it changes.
+ghost use Rattle.std.specs.Prelude.{◌≡◌};
+
+use std::marker::Model;
+use term::{Name, Pid};
+
+/// A name and the process that owns it.
+#[derive(Debug, Drop)]
+pub struct Pair {
+    /// The name.
+    pub name: Name,
+    /// Its owner.
+    pub owner: Pid,
+}
+
+impl Model for Pair {
+    ghost use Rattle.registry_model.specs.Table.{Pair as Entry};
+
+    ghost Value = { Entry };
+
+    ghost view = { λ p. record { name = p.name; owner = p.owner } };
+
+    ghost inverse = { λ p. record { name = p.name; owner = p.owner } };
+}
+
+impl Pair {
+    /// The same pair. It takes no memory.
+    pub fn copy(&self) -> Self
+        ensures { result ≡ self.now }
+    {
+        Pair {
+            name: self.name.copy(),
+            owner: self.owner.copy(),
+        }
+    }
+}
+
+/// A change of a table.
+#[derive(Debug, Drop)]
+pub enum Change {
+    /// The process has the name, and nobody else does.
+    Put(Name, Pid),
+}

@@ -1,0 +1,130 @@
+//! A table as a sorted list.
+ghost use Rattle.std.specs.Prelude.{◌≡◌, true, [], is_some, length, OnOk, OnErr, IfOk};
+ghost use Rattle.registry_model.specs.Table.{get, owns, put, is_rising};
+ghost use Rattle.name_table.specs.Owners.{name_of};
+ghost use Rattle.name_table.specs.Places.{place, stands};
+
+use crate::change::{Change, Pair};
+use crate::names::Names;
+use std::alloc::{AllocError, Allocator};
+use std::marker::Model;
+use term::{Name, Pid};
+
+/// A table of names that keeps its pairs in one list, rising by name.
+#[derive(Drop)]
+pub struct ListTable<A: Allocator> {
+    pairs: Vec<Pair, A>,
+}
+
+impl<A: Allocator> Model for ListTable<A> {
+    ghost use Rattle.std.specs.Prelude.{◌≡◌, true};
+    ghost use Rattle.registry_model.specs.Table.{Table, is_rising};
+
+    ghost Value = { Table };
+
+    ghost view = { λ t. t.pairs.items };
+
+    ghost invariant = { λ t. is_rising t.pairs.items ≡ true };
+}
+
+/// Where the name stands, or would stand.
+fn place_of(pairs: &[Pair], name: &Name) -> usize
+    requires { is_rising pairs.now ≡ true }
+    ensures { result ≡ place name.now pairs.now }
+{
+    pairs.partition_point(|pair| pair.name < *name)
+}
+
+/// Whether the name stands at this place.
+fn stands_at(pairs: &[Pair], at: usize, name: &Name) -> bool
+    ensures { result ≡ stands name.now pairs.now at }
+{
+    match pairs.get(at) {
+        Some(pair) => pair.name == *name,
+        None => false,
+    }
+}
+
+/// The owner of a name.
+fn owner_in(pairs: &[Pair], name: &Name) -> Option<Pid>
+    requires { is_rising pairs.now ≡ true }
+    ensures { result ≡ get name.now pairs.now }
+{
+    let at = place_of(pairs, name);
+    if stands_at(pairs, at, name) {
+        let pair = &pairs[at];
+        Some(pair.owner.copy())
+    } else {
+        None
+    }
+}
+
+/// The name has this owner from now on.
+fn put_in<A: Allocator>(pairs: &mut Vec<Pair, A>, name: Name, owner: Pid) -> Result<(), AllocError>
+    requires { is_rising pairs.old.items ≡ true }
+    ensures ok { OnOk result (pairs.new.items ≡ put name owner pairs.old.items) }
+    ensures err { OnErr result (pairs.new.items ≡ pairs.old.items) }
+    ensures rising { is_rising pairs.new.items ≡ true }
+{
+    let at = place_of(pairs.as_slice(), &name);
+    if stands_at(pairs.as_slice(), at, &name) {
+        pairs[at] = Pair { name, owner };
+    } else {
+        pairs.insert(at, Pair { name, owner })?;
+    }
+    Ok(())
+}
+
+/// The least name of a process.
+fn name_in(pairs: &[Pair], owner: &Pid) -> Option<Name>
+    ensures least { result ≡ name_of owner.now pairs.now }
+    ensures some { is_some result ≡ owns owner.now pairs.now }
+{
+    for pair in pairs {
+        if pair.owner == *owner {
+            return Some(pair.name.copy());
+        }
+    }
+    None
+}
+
+/// A list of the same pairs.
+fn copied<A: Allocator>(alloc: A, pairs: &[Pair]) -> Result<Vec<Pair, A>, AllocError>
+    ensures { IfOk result (λ copy. copy.items ≡ pairs.now) }
+{
+    let mut copy = Vec::new(alloc);
+    for pair in pairs {
+        copy.push(pair.copy())?;
+    }
+    Ok(copy)
+}
+
+impl<A: Allocator + Drop> Names for ListTable<A> {
+    type Memory = A;
+
+    ghost contents = { λ t. t };
+
+    fn empty(memory: A) -> Self {
+        ListTable {
+            pairs: Vec::new(memory),
+        }
+    }
+
+    fn get(&self, name: &Name) -> Option<Pid> {
+        owner_in(self.pairs.as_slice(), name)
+    }
+
+    fn write(&mut self, change: Change) -> Result<(), AllocError> {
+        match change {
+            Change::Put(name, owner) => put_in(&mut self.pairs, name, owner),
+        }
+    }
+
+    fn owned_by(&self, owner: &Pid) -> Option<Name> {
+        name_in(self.pairs.as_slice(), owner)
+    }
+
+    fn pairs<B: Allocator>(&self, alloc: B) -> Result<Vec<Pair, B>, AllocError> {
+        copied(alloc, self.pairs.as_slice())
+    }
+}

@@ -1,0 +1,41 @@
+//! The tables that a node may keep.
+ghost use Rattle.std.specs.Prelude.{◌≡◌, true, [], is_some, IfOk, OnOk, OnErr};
+ghost use Rattle.registry_model.specs.Table.{Table, get, owns, changed, is_rising};
+ghost use Rattle.name_table.specs.Changes.{change_of};
+ghost use Rattle.name_table.specs.Owners.{name_of};
+
+use crate::change::{Change, Pair};
+use std::alloc::{AllocError, Allocator};
+use term::{Name, Pid};
+
+/// A table of names: a finite map from names to processes.
+pub trait Names: Sized + Drop {
+    /// What the table takes its memory from.
+    type Memory: Allocator;
+
+    /// The names with their owners, rising by name.
+    ghost contents: { Self → Table };
+
+    /// A table without names. It takes no memory.
+    fn empty(memory: Self::Memory) -> Self
+        ensures { contents result ≡ [] };
+
+    /// The owner of a name, if it has one.
+    fn get(&self, name: &Name) -> Option<Pid>
+        ensures { result ≡ get name.now (contents self.now) };
+
+    /// Makes a change. Where memory is refused the table is as before.
+    fn write(&mut self, change: Change) -> Result<(), AllocError>
+        ensures ok { OnOk result (contents self.new ≡ changed (change_of change) (contents self.old)) }
+        ensures err { OnErr result (contents self.new ≡ contents self.old) };
+
+    /// The least name of a process, if it owns one.
+    fn owned_by(&self, owner: &Pid) -> Option<Name>
+        ensures least { result ≡ name_of owner.now (contents self.now) }
+        ensures some { is_some result ≡ owns owner.now (contents self.now) };
+
+    /// All names with their owners, rising by name.
+    fn pairs<B: Allocator>(&self, alloc: B) -> Result<Vec<Pair, B>, AllocError>
+        ensures all { IfOk result (λ pairs. pairs.items ≡ contents self.now) }
+        ensures rising { is_rising (contents self.now) ≡ true };
+}
