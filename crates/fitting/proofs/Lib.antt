@@ -1,0 +1,16 @@
+pub mod Rests
+pub mod Events
+pub mod Courses
+pub mod Accounts
+pub mod Settling
+pub mod Working
+pub mod Keeping
+pub mod Numbers
+pub mod Calls
+pub mod Chains
+pub mod Prompt
+pub mod Admissions
+pub mod InTime
+pub mod Within
+pub mod Replies
+pub mod Theorem

@@ -1,0 +1,13 @@
+pub mod Made
+pub mod Tokens
+pub mod Links
+pub mod Pasts
+pub mod Gates
+pub mod Turns
+pub mod Calm
+pub mod Still
+pub mod Shown
+pub mod Pairs
+pub mod Moves
+pub mod Departs
+pub mod Joins
