@@ -15,6 +15,7 @@ use Rattle.moves.proofs.Rules
 use Rattle.moves.proofs.Rules.{Rule, Taken, taking, is_quiet}
 use Rattle.walk.proofs.Worlds.{onto, apply-onto, apply-begun, opened-apply, stays_front}
 use Rattle.walk.proofs.Extends.{extended}
+use Rattle.walk.proofs.ChainKinds.{Kind, suits, is_fit, fit_quiet, fit_suits}
 
 -- a rule that isn't a leave closes nobody out
 pub closed_by-quiet : (o : Opening) (a : ℕ) (r : Rule) (w : World) → is_quiet r ≡ true → Rules.closed_by o a r w ≡ w
@@ -63,12 +64,14 @@ module _ (o : Opening) (a : ℕ) where
       may_all-parts rs ss (Rules.effect o a r w) m.1 in
       ((m.0, more.0), more.1)
 
+module _ (o : Opening) (a : ℕ) (K : Kind) where
   -- From world w a chain that begins with these rules has come as far as turn u, which stands behind world b: w, or w
   -- without
   -- the letter that was taken
   pub record Chain (w : World) (first : List Rule) (b : World) (u : Turn) : Type 0 where
     pub rest : List Rule
     pub quiet : list_all is_quiet rest ≡ true
+    pub fit : list_all (suits K) rest ≡ true
     pub may : Rules.MayAll o a (first ++ rest) w
     pub world : Rules.effects o a (first ++ rest) w ≡ apply a u b
     pub entries : Rules.entries_by o a (first ++ rest) w ≡ u.entries
@@ -77,7 +80,16 @@ module _ (o : Opening) (a : ℕ) where
   -- nothing is done yet
   pub chain_none : (w : World) → Chain w [] w (begun (w.node a))
   chain_none w =
-      record { rest = []; quiet = refl; may = tt; world = sym (apply-begun a w); entries = refl; answers = refl }
+      record {
+        rest = [];
+        quiet = refl;
+        fit = refl;
+        may = tt;
+        world = sym
+            (apply-begun a w);
+        entries = refl;
+        answers = refl;
+      }
 
   -- a first rule
   pub chain_one : (w b : World) (r : Rule) → Rules.May o a w r
@@ -86,6 +98,7 @@ module _ (o : Opening) (a : ℕ) where
   chain_one w b r m e = record {
     rest = [];
     quiet = refl;
+    fit = refl;
     may = (m, tt);
     world = e;
     entries = append-nil (Rules.turn_by o a w r).entries;
@@ -93,12 +106,13 @@ module _ (o : Opening) (a : ℕ) where
   }
 
   -- a first rule that counts among the rest
-  pub chain_quiet : (w b : World) (r : Rule) → Rules.May o a w r → is_quiet r ≡ true
+  pub chain_quiet : (w b : World) (r : Rule) → Rules.May o a w r → is_fit K r ≡ true
       → Rules.effect o a r w ≡ apply a (Rules.turn_by o a w r) b
       → Chain w [] b (Rules.turn_by o a w r)
   chain_quiet w b r m q e = record {
     rest = r ∷ [];
-    quiet = ap (λ (t : Bool). t && true) q;
+    quiet = ap (λ (t : Bool). t && true) (fit_quiet K r q);
+    fit = ap (λ (t : Bool). t && true) (fit_suits K r q);
     may = (m, tt);
     world = e;
     entries = append-nil (Rules.turn_by o a w r).entries;
@@ -107,28 +121,30 @@ module _ (o : Opening) (a : ℕ) where
 
   -- one rule more, by its effect on the world so far
   chain_on : (w : World) (first : List Rule) (b c : World) (u v : Turn) (r : Rule)
-      → Chain w first b u → is_quiet r ≡ true → Rules.May o a (apply a u b) r
+      → Chain w first b u → is_fit K r ≡ true → Rules.May o a (apply a u b) r
       → Rules.turn_by o a (apply a u b) r ≡ v
       → Rules.effect o a r (apply a u b) ≡ apply a (onto u v) c
       → Chain w first c (onto u v)
   chain_on w first b c u v r h q m same e = record {
     rest = h.rest ++ r ∷ [];
     quiet = list_all-append is_quiet h.rest (r ∷ []) ∙ ap (λ (t : Bool). t && (is_quiet r && true)) h.quiet
-        ∙ ap (λ (t : Bool). t && true) q;
+        ∙ ap (λ (t : Bool). t && true) (fit_quiet K r q);
+    fit = list_all-append (suits K) h.rest (r ∷ []) ∙ ap (λ (t : Bool). t && (suits K r && true)) h.fit
+        ∙ ap (λ (t : Bool). t && true) (fit_suits K r q);
     may = subst (λ (rs : List Rule). Rules.MayAll o a rs w) (append_assoc first h.rest (r ∷ []))
-        (may_all-append (first ++ h.rest) (r ∷ []) w h.may
+        (may_all-append o a (first ++ h.rest) (r ∷ []) w h.may
         (subst (λ (x : World). Rules.MayAll o a (r ∷ []) x) (sym h.world) (m, tt)));
     world = ap (λ (rs : List Rule). Rules.effects o a rs w) (sym (append_assoc first h.rest (r ∷ [])))
-        ∙ effects-append (first ++ h.rest) (r ∷ []) w ∙ ap (λ (x : World). Rules.effect o a r x) h.world ∙ e;
+        ∙ effects-append o a (first ++ h.rest) (r ∷ []) w ∙ ap (λ (x : World). Rules.effect o a r x) h.world ∙ e;
     entries = ap (λ (rs : List Rule). Rules.entries_by o a rs w) (sym (append_assoc first h.rest (r ∷ [])))
-        ∙ entries_by-append (first ++ h.rest) (r ∷ []) w
+        ∙ entries_by-append o a (first ++ h.rest) (r ∷ []) w
         ∙ ap (λ (es : List Entry). es ++ Rules.entries_by o a (r ∷ []) (Rules.effects o a (first ++ h.rest) w))
         h.entries
         ∙ ap (λ (x : World). u.entries ++ Rules.entries_by o a (r ∷ []) x) h.world
         ∙ ap (λ (es : List Entry). u.entries ++ es) (append-nil (Rules.turn_by o a (apply a u b) r).entries)
         ∙ ap (λ (x : Turn). u.entries ++ x.entries) same;
     answers = ap (λ (rs : List Rule). Rules.answers_by o a rs w) (sym (append_assoc first h.rest (r ∷ [])))
-        ∙ answers_by-append (first ++ h.rest) (r ∷ []) w
+        ∙ answers_by-append o a (first ++ h.rest) (r ∷ []) w
         ∙ ap (λ (es : List Answer). es ++ Rules.answers_by o a (r ∷ []) (Rules.effects o a (first ++ h.rest) w))
         h.answers
         ∙ ap (λ (x : World). u.answers ++ Rules.answers_by o a (r ∷ []) x) h.world
@@ -143,36 +159,66 @@ module _ (o : Opening) (a : ℕ) where
       ap (λ (v : Node). Rules.made o a (join_number (apply a u b)) r (begun v)) (at_same b.node a u.node)
 
   module _ (inside : in_world o a ≡ true) where
+    -- a rule that takes no letter may come next
+    may_more : (b : World) (u : Turn) (r : Rule) → left b a ≡ false → Rules.takes o a r ≡ None
+        → Rules.Tested o a (apply a u b) u.node r → Rules.May o a (apply a u b) r
+    may_more b u r running none tested = record {
+      inside = inside;
+      running = running;
+      front = subst (Rules.FrontTaken o a (apply a u b)) (sym none) tt;
+      tested = subst (λ (v : Node). Rules.Tested o a (apply a u b) v r) (sym (at_same b.node a u.node)) tested;
+    }
+
+    -- and this is its effect
+    effect_more : (b : World) (u : Turn) (r : Rule) → is_quiet r ≡ true → Rules.takes o a r ≡ None
+        → Rules.effect o a r (apply a u b) ≡ apply a
+        (onto u (Rules.made o a (join_number (apply a u b)) r (begun u.node))) b
+    effect_more b u r q none =
+        closed_by-quiet o a r
+        (apply a (Rules.turn_by o a (apply a u b) r) (Rules.without_letter o a (Rules.takes o a r) (apply a u b))) q
+        ∙ ap (λ (t : Option Taken). apply a (Rules.turn_by o a (apply a u b) r)
+        (Rules.without_letter o a t (apply a u b))) none
+        ∙ ap (λ (t : Turn). apply a t (apply a u b)) (turn_behind b u r)
+        ∙ apply-onto a u (Rules.made o a (join_number (apply a u b)) r (begun u.node)) b
+
     -- one rule more, which takes no letter
     pub chain_more : (w : World) (first : List Rule) (b : World) (u : Turn) (r : Rule)
-        → left b a ≡ false → Chain w first b u → is_quiet r ≡ true → Rules.takes o a r ≡ None
+        → left b a ≡ false → Chain w first b u → is_fit K r ≡ true → Rules.takes o a r ≡ None
         → Rules.Tested o a (apply a u b) u.node r
         → Chain w first b (Rules.made o a (join_number (apply a u b)) r u)
     chain_more w first b u r running h q none tested =
         subst (Chain w first b) (sym (extended o a (join_number (apply a u b)) r u))
-        (chain_on w first b b u (Rules.made o a (join_number (apply a u b)) r (begun u.node)) r h q may
-        (turn_behind b u r) effect)
-      where
-        may : Rules.May o a (apply a u b) r
-        may = record {
-          inside = inside;
-          running = running;
-          front = subst (Rules.FrontTaken o a (apply a u b)) (sym none) tt;
-          tested = subst (λ (v : Node). Rules.Tested o a (apply a u b) v r) (sym (at_same b.node a u.node)) tested;
-        }
+        (chain_on w first b b u (Rules.made o a (join_number (apply a u b)) r (begun u.node)) r h q
+        (may_more b u r running none tested) (turn_behind b u r) (effect_more b u r (fit_quiet K r q) none))
 
-        effect : Rules.effect o a r (apply a u b) ≡ apply a
-            (onto u (Rules.made o a (join_number (apply a u b)) r (begun u.node))) b
-        effect = closed_by-quiet o a r
-            (apply a (Rules.turn_by o a (apply a u b) r) (Rules.without_letter o a (Rules.takes o a r) (apply a u b))) q
-            ∙ ap (λ (t : Option Taken). apply a (Rules.turn_by o a (apply a u b) r)
-            (Rules.without_letter o a t (apply a u b))) none
-            ∙ ap (λ (t : Turn). apply a t (apply a u b)) (turn_behind b u r)
-            ∙ apply-onto a u (Rules.made o a (join_number (apply a u b)) r (begun u.node)) b
+    -- two first rules, of which the second takes no letter
+    pub chain_two : (w : World) (r s : Rule) → left w a ≡ false → Rules.May o a w r
+        → Rules.effect o a r w ≡ apply a (Rules.turn_by o a w r) w
+        → is_quiet s ≡ true → Rules.takes o a s ≡ None
+        → Rules.Tested o a (apply a (Rules.turn_by o a w r) w) (Rules.turn_by o a w r).node s
+        → Chain w (r ∷ s ∷ []) w
+        (Rules.made o a (join_number (apply a (Rules.turn_by o a w r) w)) s (Rules.turn_by o a w r))
+    chain_two w r s running m e q none tested =
+        subst (Chain w (r ∷ s ∷ []) w) (sym (extended o a (join_number (apply a u w)) s u)) (record {
+          rest = [];
+          quiet = refl;
+          fit = refl;
+          may = (m, (subst (λ (x : World). Rules.May o a x s) (sym e) (may_more w u s running none tested), tt));
+          world = ap (λ (x : World). Rules.effect o a s x) e ∙ effect_more w u s q none;
+          entries = ap (λ (x : World). u.entries ++ ((Rules.turn_by o a x s).entries ++ [])) e
+              ∙ ap (λ (es : List Entry). u.entries ++ es) (append-nil (Rules.turn_by o a (apply a u w) s).entries)
+              ∙ ap (λ (x : Turn). u.entries ++ x.entries) (turn_behind w u s);
+          answers = ap (λ (x : World). u.answers ++ ((Rules.turn_by o a x s).answers ++ [])) e
+              ∙ ap (λ (es : List Answer). u.answers ++ es) (append-nil (Rules.turn_by o a (apply a u w) s).answers)
+              ∙ ap (λ (x : Turn). u.answers ++ x.answers) (turn_behind w u s);
+        })
+      where
+        u : Turn
+        u = Rules.turn_by o a w r
 
     -- one rule more, which takes the letter
     pub chain_letter : (w : World) (first : List Rule) (u : Turn) (r : Rule) (f : ℕ) (l : Letter) (rest : List Letter)
-        → left w a ≡ false → Chain w first w u → is_quiet r ≡ true → Rules.takes o a r ≡ taking f l
+        → left w a ≡ false → Chain w first w u → is_fit K r ≡ true → Rules.takes o a r ≡ taking f l
         → in_world o f ≡ true → w.links.queue f a ≡ l ∷ rest
         → Rules.Tested o a (apply a u w) u.node r
         → Chain w first (opened (Deliver f a) w) (Rules.made o a (join_number (apply a u w)) r u)
@@ -192,7 +238,8 @@ module _ (o : Opening) (a : ℕ) where
         effect : Rules.effect o a r (apply a u w) ≡ apply a
             (onto u (Rules.made o a (join_number (apply a u w)) r (begun u.node))) (opened (Deliver f a) w)
         effect = closed_by-quiet o a r
-            (apply a (Rules.turn_by o a (apply a u w) r) (Rules.without_letter o a (Rules.takes o a r) (apply a u w))) q
+            (apply a (Rules.turn_by o a (apply a u w) r) (Rules.without_letter o a (Rules.takes o a r) (apply a u w)))
+            (fit_quiet K r q)
             ∙ ap (λ (t : Option Taken). apply a (Rules.turn_by o a (apply a u w) r)
             (Rules.without_letter o a t (apply a u w))) some
             ∙ ap (λ (t : Turn). apply a t (opened (Deliver f a) (apply a u w))) (turn_behind w u r)

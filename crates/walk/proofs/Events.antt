@@ -1,23 +1,26 @@
 -- What an accepted event tested, and its chain of rules where it is no delivery.
-use Rattle.std.proofs.Common.{ℕ, Bool, true, false, ◌==◌, ◌≡◌, ◌+◌, Option, Some, None, List, [], ◌∷◌, ◌++◌, refl, sym, subst, ap, ◌∙◌, inl, arith}
-use Rattle.std.specs.Prelude.{◌&&◌, ◌||◌, not, nat_lt, is_some}
+use Rattle.std.proofs.Common.{ℕ, Bool, true, false, ◌==◌, ◌≡◌, ◌+◌, Option, Some, None, List, [], ◌∷◌, ◌++◌, refl, sym, subst, ap, ◌∙◌, inl, inr, arith}
+use mathlib.Core.Logic.{◌⊎◌}
+use Rattle.std.specs.Prelude.{◌&&◌, ◌||◌, not, nat_lt, is_some, if◌then◌else◌}
 use Rattle.std.proofs.lemmas.Bool.Decides.{nat_tests}
 use Rattle.registry_model.specs.Process.{Text, Process}
 use Rattle.registry_model.specs.History.{Entry}
 use Rattle.protocol_model.specs.Watch.{Watch, is_live, is_issued, is_dead}
-use Rattle.protocol_model.specs.Node.{Node, LockCall, Target, Retries, Times, call_of}
+use Rattle.protocol_model.specs.Node.{Node, LockCall, Target, Retries, Times, call_of, targets}
 use Rattle.protocol_model.specs.Event.{Call, Event, Refusal, Cause, cause, first_cause, lock_causes, names_members, calls_spent, call_causes, causes, has_joined, global_resource}
-use Rattle.protocol_model.specs.Turn.{begun, counted, enter}
+use Rattle.protocol_model.specs.Round.{is_empty}
+use Rattle.protocol_model.specs.Turn.{Turn, begun, counted, enter}
 use Rattle.protocol_model.specs.Registrar.{start, retry_global}
-use Rattle.protocol_model.specs.Client.{new_call, try_lock, retry_locks}
+use Rattle.protocol_model.specs.Client.{new_call, close_call, ask_lock, ask_back, retry_locks}
 use Rattle.protocol_model.specs.Calling.{die, call}
-use Rattle.protocol_model.specs.World.{Opening, in_world, World, left, WorldEvent, At, place, other, local_causes, refusal, apply}
+use Rattle.protocol_model.specs.World.{Opening, in_world, World, left, WorldEvent, At, place, other, local_causes, refusal, join_number, apply}
 use Rattle.moves.proofs.Indices.{neither, not_false}
 use Rattle.moves.proofs.Rules
-use Rattle.moves.proofs.Rules.{Rule, IsNew, is_ordered}
-use Rattle.walk.proofs.Chains.{Chain, chain_none, chain_one}
+use Rattle.moves.proofs.Rules.{Rule, IsNew, is_quiet, is_ordered}
+use Rattle.walk.proofs.ChainKinds.{Aside, Again}
+use Rattle.walk.proofs.Chains.{Chain, chain_none, chain_one, chain_two}
 use Rattle.walk.proofs.Starting.{start-chain, retry_global-chain, retry_global-calls}
-use Rattle.walk.proofs.LockRounds.{IsOwn, Forward, try_lock-chain, delete_lock-chain, retry_locks-chain}
+use Rattle.walk.proofs.LockRounds.{IsOwn, retry_locks-chain}
 
 -- no refusal has cause: not the first, and none behind it
 pub no_cause : (b : Bool) (r : Refusal) (cs : List Cause) → first_cause (cause b r ∷ cs) ≡ None → (b ≡ false)
@@ -85,19 +88,36 @@ live_own a v p h = go (p.node == a) (p.serial == 0) (is_dead v p.serial) refl h
     go true true d e q = cc
     go false s d e q = cc
 
+-- the rules that begin a call: its own, and for a lock call that of its first try or of its deletion
+abbrev pub first_of_call : Opening → ℕ → Call → Rule → List Rule
+first_of_call o a (Call.SetLock p r q target retries) s = Rules.CallsLock ∷ s ∷ []
+first_of_call o a (Call.DelLock p r q target) s = Rules.CallsLock ∷ s ∷ []
+first_of_call o a c s = Rules.first_by_call o a c
+
+-- what the second one is
+abbrev pub IsSecond : Opening → ℕ → World → Call → Rule → Type 0
+IsSecond o a w (Call.SetLock p r q target retries) s =
+    (s ≡ Rules.AsksLock (new_call o.bound a ((w.node a).last_call + 1) p r q target retries))
+    ⊎ (s ≡ Rules.FailsLock (new_call o.bound a ((w.node a).last_call + 1) p r q target retries))
+IsSecond o a w (Call.DelLock p r q target) s =
+    (s ≡ Rules.DeletesLock (new_call o.bound a ((w.node a).last_call + 1) p r q target (Times 0)))
+    ⊎ (s ≡ Rules.DeletesNothing (new_call o.bound a ((w.node a).last_call + 1) p r q target (Times 0)))
+IsSecond o a w c s = Unit {0}
+
 module _ (o : Opening) (a : ℕ) (inside : in_world o a ≡ true) (w : World) (running : left w a ≡ false) where
   -- the own rule of an event
+  own_rule : (r : Rule) → Rules.takes o a r ≡ None → Rules.Tested o a w (w.node a) r → Rules.May o a w r
+  own_rule r none tested = record {
+    inside = inside;
+    running = running;
+    front = subst (Rules.FrontTaken o a w) (sym none) tt;
+    tested = tested;
+  }
+
   begins : (r : Rule) → Rules.takes o a r ≡ None → Rules.Tested o a w (w.node a) r
       → Rules.effect o a r w ≡ apply a (Rules.turn_by o a w r) w
-      → Chain o a w (r ∷ []) w (Rules.turn_by o a w r)
-  begins r none tested e = chain_one o a w w r
-      (record {
-        inside = inside;
-        running = running;
-        front = subst (Rules.FrontTaken o a w) (sym none) tt;
-        tested =
-            tested;
-      }) e
+      → Chain o a Aside w (r ∷ []) w (Rules.turn_by o a w r)
+  begins r none tested e = chain_one o a Aside w w r (own_rule r none tested) e
 
   -- a new lock call
   is_new : (p : Process) (r q : Text) (target : Target) (retries : Retries)
@@ -112,16 +132,43 @@ module _ (o : Opening) (a : ℕ) (inside : in_world o a ≡ true) (w : World) (r
     id = refl;
   }
 
+  -- A call is walked: behind its first rules there are none of lock calls
+  pub record CallWalk (c : Call) : Type 0 where
+    pub second : Rule
+    pub is_second : IsSecond o a w c second
+    pub chain : Chain o a Aside w (first_of_call o a c second) w
+        (start o.bound a (call o.bound a ((w.node a).last_call + 1) c (begun (w.node a))))
+
+  -- a lock call's second rule
+  two : (s : Rule) → is_quiet s ≡ true → Rules.takes o a s ≡ None
+      → Rules.Tested o a (apply a (counted (begun (w.node a))) w) (counted (begun (w.node a))).node s
+      → Chain o a Aside w (Rules.CallsLock ∷ s ∷ []) w
+      (start o.bound a (Rules.made o a (join_number (apply a (counted (begun (w.node a))) w)) s
+      (counted (begun (w.node a)))))
+  two s q none tested = start-chain o a Aside inside w (Rules.CallsLock ∷ s ∷ []) w running _
+      (chain_two o a Aside inside w Rules.CallsLock s running (own_rule Rules.CallsLock refl tt) refl q none tested)
+
   -- a call
   pub call-chain : (c : Call) → first_cause (call_causes a (w.node a) c) ≡ None
       → in_world o (other (At a (Event.Calling c))) ≡ true
-      → Chain o a w (Rules.first_by_call o a c) w
-      (start o.bound a (call o.bound a ((w.node a).last_call + 1) c (begun (w.node a))))
-  call-chain Call.Spawn h known = start-chain o a inside w _ w running _ (begins Rules.Spawns refl tt refl)
-  call-chain (Call.LookUp look) h known =
-      start-chain o a inside w _ w running _ (begins (Rules.LooksUp look) refl tt refl)
-  call-chain (Call.OnName c) h known = start-chain o a inside w _ w running _ (begins (Rules.CallsName c) refl tt refl)
-  call-chain (Call.SetLock p r q target retries) h known = start-chain o a inside w _ w running _ tried.chain
+      → CallWalk c
+  call-chain Call.Spawn h known = record {
+    second = Rules.Spawns;
+    is_second = tt;
+    chain = start-chain o a Aside inside w _ w running _ (begins Rules.Spawns refl tt refl);
+  }
+  call-chain (Call.LookUp look) h known = record {
+    second = Rules.Spawns;
+    is_second = tt;
+    chain = start-chain o a Aside inside w _ w running _ (begins (Rules.LooksUp look) refl tt refl);
+  }
+  call-chain (Call.OnName c) h known = record {
+    second = Rules.Spawns;
+    is_second = tt;
+    chain = start-chain o a Aside inside w _ w running _ (begins (Rules.CallsName c) refl tt refl);
+  }
+  call-chain (Call.SetLock p r q target retries) h known =
+      go (is_empty o.bound (targets (w.node a).replica.members target)) refl
     where
       fresh : LockCall
       fresh = new_call o.bound a ((w.node a).last_call + 1) p r q target retries
@@ -130,29 +177,83 @@ module _ (o : Opening) (a : ℕ) (inside : in_world o a ≡ true) (w : World) (r
       tested = lock_tested a (w.node a) p r
           (cause (not (names_members (w.node a) target)) Refusal.UnknownNode ∷ calls_spent (w.node a) ∷ []) h
 
-      tried : Forward o a inside w (Rules.CallsLock ∷ []) w running p (counted (begun (w.node a)))
-          (try_lock o.bound a fresh (counted (begun (w.node a))))
-      tried = try_lock-chain o a inside w (Rules.CallsLock ∷ []) w running fresh (counted (begun (w.node a)))
-          (begins Rules.CallsLock refl tt refl) (live_own a (w.node a).watch p tested.0)
-          (inl (is_new p r q target retries tested.0 tested.1))
-  call-chain (Call.DelLock p r q target) h known = start-chain o a inside w _ w running _
-      (delete_lock-chain o a inside w _ w running (new_call o.bound a ((w.node a).last_call + 1) p r q target (Times 0))
-      (counted (begun (w.node a)))
-      (begins Rules.CallsLock refl tt refl)
-      (is_new p r q target (Times 0) tested.0 tested.1))
+      go : (t : Bool) → is_empty o.bound (targets (w.node a).replica.members target) ≡ t
+          → CallWalk (Call.SetLock p r q target retries)
+      go t e = record {
+        second = part t;
+        is_second = which t;
+        chain = subst
+            (λ (u : Turn). Chain o a Aside w (Rules.CallsLock ∷ part t ∷ []) w (start o.bound a u))
+            (ap (λ (b : Bool). if b then close_call o.bound a fresh false
+            (counted (begun (w.node a))) else ask_lock o.bound a fresh (targets
+            (w.node a).replica.members target) (counted (begun (w.node a)))) (sym e)) (walk t e);
+      }
+        where
+          part : Bool → Rule
+          part true = Rules.FailsLock fresh
+          part false = Rules.AsksLock fresh
+
+          which : (b : Bool) → IsSecond o a w (Call.SetLock p r q target retries) (part b)
+          which true = inr refl
+          which false = inl refl
+
+          walk : (b : Bool) → is_empty o.bound (targets (w.node a).replica.members target) ≡ b
+              → Chain o a Aside w (Rules.CallsLock ∷ part b ∷ []) w
+              (start o.bound a (if b then close_call o.bound a fresh false
+              (counted (begun (w.node a))) else ask_lock o.bound a fresh (targets
+              (w.node a).replica.members target) (counted (begun (w.node a)))))
+          walk true k = two (Rules.FailsLock fresh) refl refl (inl (is_new p r q target retries tested.0 tested.1), k)
+          walk false k = two (Rules.AsksLock fresh) refl refl (inl (is_new p r q target retries tested.0 tested.1), k)
+  call-chain (Call.DelLock p r q target) h known =
+      go (is_empty o.bound (targets (w.node a).replica.members target)) refl
     where
+      fresh : LockCall
+      fresh = new_call o.bound a ((w.node a).last_call + 1) p r q target (Times 0)
+
       tested : (is_live a (w.node a).watch p ≡ true) × (is_some (call_of p (w.node a).calls) ≡ false)
       tested = lock_tested a (w.node a) p r (calls_spent (w.node a) ∷ []) h
-  call-chain (Call.JoinBy m) h known = start-chain o a inside w _ w running _ (begins (Rules.CallsJoin m) refl (free, known) refl)
+
+      go : (t : Bool) → is_empty o.bound (targets (w.node a).replica.members target) ≡ t
+          → CallWalk (Call.DelLock p r q target)
+      go t e = record {
+        second = part t;
+        is_second = which t;
+        chain = subst
+            (λ (u : Turn). Chain o a Aside w (Rules.CallsLock ∷ part t ∷ []) w (start o.bound a u))
+            (ap (λ (b : Bool). if b then close_call o.bound a fresh true
+            (counted (begun (w.node a))) else ask_back o.bound a fresh (targets
+            (w.node a).replica.members target) (counted (begun (w.node a)))) (sym e)) (walk t e);
+      }
+        where
+          part : Bool → Rule
+          part true = Rules.DeletesNothing fresh
+          part false = Rules.DeletesLock fresh
+
+          which : (b : Bool) → IsSecond o a w (Call.DelLock p r q target) (part b)
+          which true = inr refl
+          which false = inl refl
+
+          walk : (b : Bool) → is_empty o.bound (targets (w.node a).replica.members target) ≡ b
+              → Chain o a Aside w (Rules.CallsLock ∷ part b ∷ []) w
+              (start o.bound a (if b then close_call o.bound a fresh true (counted (begun (w.node a))) else ask_back
+              o.bound a fresh (targets (w.node a).replica.members target) (counted (begun (w.node a)))))
+          walk true k = two (Rules.DeletesNothing fresh) refl refl (is_new p r q target (Times 0) tested.0 tested.1, k)
+          walk false k = two (Rules.DeletesLock fresh) refl refl (is_new p r q target (Times 0) tested.0 tested.1, k)
+  call-chain (Call.JoinBy m) h known = record {
+    second = Rules.Spawns;
+    is_second = tt;
+    chain = start-chain o a Aside inside w _ w running _ (begins (Rules.CallsJoin m) refl (free, known) refl);
+  }
     where
       free : has_joined (w.node a) ≡ false
       free = (no_cause (has_joined (w.node a)) Refusal.AlreadyJoined (calls_spent (w.node a) ∷ []) h).0
 
   -- an exit
   pub exit-chain : (p : Process) → first_cause (causes a (w.node a) (Event.Exiting p)) ≡ None
-      → Chain o a w (Rules.Exits p ∷ []) w (start o.bound a (die o.bound a p (enter (Entry.Exit p) (begun (w.node a)))))
+      → Chain o a Aside w (Rules.Exits p ∷ []) w
+      (start o.bound a (die o.bound a p (enter (Entry.Exit p) (begun (w.node a)))))
   exit-chain p h =
-      start-chain o a inside w _ w running _
+      start-chain o a Aside inside w _ w running _
       (begins (Rules.Exits p) refl (not_false (is_issued a (w.node a).watch p) first.0, rest.0) refl)
     where
       first : (not (is_issued a (w.node a).watch p) ≡ false)
@@ -165,9 +266,12 @@ module _ (o : Opening) (a : ℕ) (inside : in_world o a ≡ true) (w : World) (r
 
   -- a retry
   pub retry-chain : is_ordered a (w.node a).calls ≡ true
-      → Chain o a w [] w
+      → Chain o a (Again (w.node a)) w [] w
       (start o.bound a (retry_locks o.bound a (retry_global o.bound a (w.node a).current (begun (w.node a)))))
-  retry-chain sorted = start-chain o a inside w [] w running _
-      (retry_locks-chain o a inside w [] w running (retry_global o.bound a (w.node a).current (begun (w.node a)))
-      (retry_global-chain o a inside w [] w running (begun (w.node a)) (chain_none o a w))
+  retry-chain sorted = start-chain o a (Again (w.node a)) inside w [] w running _
+      (retry_locks-chain o a inside w [] w running (w.node a) (retry_global o.bound a (w.node a).current
+      (begun (w.node a)))
+      (retry_global-calls o.bound a (w.node a).current (begun (w.node a)))
+      (retry_global-chain o a (Again (w.node a)) inside w [] w running (begun (w.node a))
+      (chain_none o a (Again (w.node a)) w))
       (ap (is_ordered a) (retry_global-calls o.bound a (w.node a).current (begun (w.node a))) ∙ sorted))

@@ -18,6 +18,7 @@ use Rattle.moves.proofs.Indices.{by_test}
 use Rattle.moves.proofs.Rules
 use Rattle.moves.proofs.Rules.{Rule, die_to, kills_in, awaits}
 use Rattle.walk.proofs.Worlds.{stays_front}
+use Rattle.walk.proofs.ChainKinds.{Hearing}
 use Rattle.walk.proofs.Chains.{Chain, chain_more}
 
 -- those of the killed that live here die, in order, and these are to drop their grants
@@ -81,23 +82,23 @@ module _ (o : Opening) (a : ℕ) (inside : in_world o a ≡ true) (w : World) (r
     (f : ℕ) (l : Letter) (rest : List Letter) (known : in_world o f ≡ true) (front : w.links.queue f a ≡ l ∷ rest)
     (receivers : Nodes) where
   -- Each of the killed that lives here dies, before the letter is taken
-  pub kill_to-chain : (ps : List Process) (u : Turn) → Chain o a w [] w u → u.node.replica.told f ≡ false
+  pub kill_to-chain : (ps : List Process) (u : Turn) → Chain o a Hearing w [] w u → u.node.replica.told f ≡ false
       → ((v : Node) → v.current ≡ u.node.current → awaits a v f l ≡ true)
       → ((c : ℕ) → u.node.replica.members c ≡ true → receivers c ≡ true)
       → All (Contains (kills_in l)) ps
-      → Chain o a w [] w (kill_to o.bound a receivers ps u)
+      → Chain o a Hearing w [] w (kill_to o.bound a receivers ps u)
   kill_to-chain [] u h told waits wide all = h
   kill_to-chain (p ∷ ps) u h told waits wide all = go (is_live a u.node.watch p) refl (kill_to-chain ps)
     where
       go : (t : Bool) → is_live a u.node.watch p ≡ t
-          → ((v : Turn) → Chain o a w [] w v → v.node.replica.told f ≡ false
+          → ((v : Turn) → Chain o a Hearing w [] w v → v.node.replica.told f ≡ false
           → ((x : Node) → x.current ≡ v.node.current → awaits a x f l ≡ true)
           → ((c : ℕ) → v.node.replica.members c ≡ true → receivers c ≡ true)
           → All (Contains (kills_in l)) ps
-          → Chain o a w [] w (kill_to o.bound a receivers ps v))
-          → Chain o a w [] w (kill_to o.bound a receivers ps (if t then die_to o.bound receivers p u else u))
+          → Chain o a Hearing w [] w (kill_to o.bound a receivers ps v))
+          → Chain o a Hearing w [] w (kill_to o.bound a receivers ps (if t then die_to o.bound receivers p u else u))
       go true live more = more (die_to o.bound receivers p u)
-          (chain_more o a inside w [] w u (Rules.Kills f l p receivers) running h refl refl (
+          (chain_more o a Hearing inside w [] w u (Rules.Kills f l p receivers) running h refl refl (
             told,
             known,
             stays_front a f u w l rest front,

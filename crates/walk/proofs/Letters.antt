@@ -19,7 +19,8 @@ use Rattle.protocol_model.specs.Calling.{kill, queued}
 use Rattle.protocol_model.specs.Reading.{admitted, welcomed, asked_to_admit, refused_join, welcome}
 use Rattle.protocol_model.specs.World.{Opening, in_world, World, left, Deliver, number_in, join_number, apply, opened}
 use Rattle.moves.proofs.Rules
-use Rattle.moves.proofs.Rules.{Rule, taking, is_quiet, is_ordered, awaits, is_heard, is_heard_in, is_owed_in, is_awaited, is_joining_by, some_call, Ordered}
+use Rattle.moves.proofs.Rules.{Rule, taking, is_ordered, awaits, is_heard, is_heard_in, is_owed_in, is_awaited, is_joining_by, some_call, Ordered}
+use Rattle.walk.proofs.ChainKinds.{Hearing, is_fit, fit_quiet}
 use Rattle.walk.proofs.Chains.{Chain, closed_by-quiet, chain_none, chain_quiet, chain_letter}
 use Rattle.walk.proofs.Calls.{is_process-true, call_of-holder, ordered_found}
 use Rattle.walk.proofs.Rounds.{join_number-behind, awaited_less, end_round-chain}
@@ -30,14 +31,14 @@ module _ (o : Opening) (a : ℕ) (inside : in_world o a ≡ true) (w : World) (r
     (known : in_world o f ≡ true) (rest : List Letter) where
   -- the chain has come so far from the front of the link from f
   abbrev pub Reads : Turn → Type 0
-  Reads u = Chain o a w [] (opened (Deliver f a) w) u
+  Reads u = Chain o a Hearing w [] (opened (Deliver f a) w) u
 
   -- a rule that reads the letter
-  pub by_rule : (l : Letter) → w.links.queue f a ≡ l ∷ rest → (r : Rule) → is_quiet r ≡ true
+  pub by_rule : (l : Letter) → w.links.queue f a ≡ l ∷ rest → (r : Rule) → is_fit Hearing r ≡ true
       → Rules.takes o a r ≡ taking f l
       → Rules.Tested o a w (w.node a) r
       → Reads (Rules.turn_by o a w r)
-  by_rule l front r q some tested = chain_quiet o a w (opened (Deliver f a) w) r
+  by_rule l front r q some tested = chain_quiet o a Hearing w (opened (Deliver f a) w) r
       (record {
         inside = inside;
         running = running;
@@ -45,7 +46,8 @@ module _ (o : Opening) (a : ℕ) (inside : in_world o a ≡ true) (w : World) (r
         tested = tested;
       })
       q
-      (closed_by-quiet o a r (apply a (Rules.turn_by o a w r) (Rules.without_letter o a (Rules.takes o a r) w)) q
+      (closed_by-quiet o a r (apply a (Rules.turn_by o a w r) (Rules.without_letter o a (Rules.takes o a r) w))
+      (fit_quiet Hearing r q)
       ∙ ap (λ (t : Option Rules.Taken). apply a (Rules.turn_by o a w r) (Rules.without_letter o a t w)) some)
 
   -- the registrar's numbers are as they were while it waits for no contact
@@ -112,7 +114,7 @@ module _ (o : Opening) (a : ℕ) (inside : in_world o a ≡ true) (w : World) (r
             (keep_call (in_phase (LockPhase.Asking (answer f granted r)) c)
             (ask_rest o.bound a f granted (Letter.SetLock c.id c.holder) r (begun (w.node a)))) else begun (w.node a))
         heard_in c e r p2 true q =
-            (go_on_lock-chain o a inside w [] (opened (Deliver f a) w) running c (answer f granted r)
+            (go_on_lock-chain o a Hearing inside w [] (opened (Deliver f a) w) running refl c (answer f granted r)
             (ask_rest o.bound a f granted (Letter.SetLock c.id c.holder) r (begun (w.node a)))
             (by_rule (Letter.LockAnswer id c.holder granted)
             (front ∙ ap (λ (x : Process). Letter.LockAnswer id x granted ∷ rest) (sym found))
@@ -264,11 +266,11 @@ module _ (o : Opening) (a : ℕ) (inside : in_world o a ≡ true) (w : World) (r
         (ap (λ (v : Replica). replaced (admitted j puts v) killed)
         (kill_to-replica o.bound a after.members kills (begun (w.node a)))
         ∙ sym (kill-replaced o.bound a after kills (begun (w.node a))))
-        (chain_letter o a inside w [] killed (Rules.IsAdmitted f j puts kills) f
+        (chain_letter o a Hearing inside w [] killed (Rules.IsAdmitted f j puts kills) f
         (Letter.Admit j puts kills) rest running
         (kill_to-chain o a inside w running f (Letter.Admit j puts kills) rest known front after.members kills
         (begun (w.node a))
-        (chain_none o a w) untold (λ v e. refl) (admitted-members j puts (w.node a).replica)
+        (chain_none o a Hearing w) untold (λ v e. refl) (admitted-members j puts (w.node a).replica)
         (All-contains_itself kills))
         refl refl known front
         (ap (λ (v : Replica). v.told f) (kill_to-replica o.bound a after.members kills (begun (w.node a))) ∙ untold))
@@ -306,11 +308,11 @@ module _ (o : Opening) (a : ℕ) (inside : in_world o a ≡ true) (w : World) (r
             (ap (λ (v : Replica). replaced (welcomed members pairs told v) killed)
             (kill_to-replica o.bound a after.members kills (begun (w.node a)))
             ∙ sym (kill-replaced o.bound a after kills (begun (w.node a))))
-            (chain_letter o a inside w [] killed (Rules.IsWelcomed f k members pairs told kills) f
+            (chain_letter o a Hearing inside w [] killed (Rules.IsWelcomed f k members pairs told kills) f
             (Letter.Welcome members pairs told kills) rest running
             (kill_to-chain o a inside w running f
             (Letter.Welcome members pairs told kills) rest known front after.members kills (begun (w.node a))
-            (chain_none o a w) untold (λ v q. ap (is_joining_by f) (q ∙ e) ∙ eq-eqb f f refl) (wide k e)
+            (chain_none o a Hearing w) untold (λ v q. ap (is_joining_by f) (q ∙ e) ∙ eq-eqb f f refl) (wide k e)
             (All-contains_itself kills))
             refl refl known front (
               ap (λ (v : Replica). v.told f) (kill_to-replica o.bound a after.members kills (begun (w.node a)))

@@ -1,3 +1,4 @@
+pub mod ChainKinds
 pub mod Worlds
 pub mod Extends
 pub mod Chains
@@ -9,8 +10,8 @@ pub mod Killing
 pub mod Letters
 pub mod Receiving
 pub mod Events
-pub mod Walk
 pub mod Orders
 pub mod Joins
 pub mod Welcomes
+pub mod Walk
 pub mod Runs

@@ -16,6 +16,7 @@ use Rattle.protocol_model.specs.World.{Opening, in_world, World, left, number_in
 use Rattle.moves.proofs.Indices.{by_test}
 use Rattle.moves.proofs.Rules
 use Rattle.moves.proofs.Rules.{Rule, IsHeld}
+use Rattle.walk.proofs.ChainKinds.{Hearing}
 use Rattle.walk.proofs.Chains.{Chain, chain_more}
 
 -- the numbers of current joins are as they were, where this node's is
@@ -57,12 +58,12 @@ module _ (o : Opening) (a : ℕ) (inside : in_world o a ≡ true) (w : World) (f
     (running : left b a ≡ false) where
   -- The chain goes on from turn u to turn v, which leaves the replica and the lock calls as they are
   pub record Onward (u v : Turn) : Type 0 where
-    pub chain : Chain o a w first b v
+    pub chain : Chain o a Hearing w first b v
     pub replica : v.node.replica ≡ u.node.replica
     pub calls : v.node.calls ≡ u.node.calls
 
   -- nothing more is done
-  pub onward_none : (u : Turn) → Chain o a w first b u → Onward u u
+  pub onward_none : (u : Turn) → Chain o a Hearing w first b u → Onward u u
   onward_none u h = record { chain = h; replica = refl; calls = refl }
 
   -- one step onward, and then more
@@ -71,18 +72,19 @@ module _ (o : Opening) (a : ℕ) (inside : in_world o a ≡ true) (w : World) (f
   onward_then u v x e f g = record { chain = g.chain; replica = g.replica ∙ e; calls = g.calls ∙ f }
 
   -- the write is done
-  finishes : (op : Op) (asked awaited : Nodes) (reply : Option Reply) (u : Turn) → Chain o a w first b u
+  finishes : (op : Op) (asked awaited : Nodes) (reply : Option Reply) (u : Turn) → Chain o a Hearing w first b u
       → u.node.current ≡ Current.Writing op asked awaited reply → is_empty o.bound awaited ≡ true
       → Onward u (done o.bound a op asked reply u)
   finishes op asked awaited reply u h e q = record {
-    chain = chain_more o a inside w first b u (Rules.Finishes op asked awaited reply) running h refl refl (e, q);
+    chain = chain_more o a Hearing inside w first b u (Rules.Finishes op asked awaited reply) running h refl refl
+        (e, q);
     replica = done-replica o.bound a op asked reply u;
     calls = done-calls o.bound a op asked reply u;
   }
 
   -- one node less is awaited, and the write may be done
   pub awaited_less : (c : ℕ) (op : Op) (asked awaited : Nodes) (reply : Option Reply) (u : Turn)
-      → Chain o a w first b (at_work (Current.Writing op asked (at awaited c false) reply) u)
+      → Chain o a Hearing w first b (at_work (Current.Writing op asked (at awaited c false) reply) u)
       → Onward u (if is_empty o.bound (at awaited c false) then done o.bound a op asked reply u
       else at_work (Current.Writing op asked (at awaited c false) reply) u)
   awaited_less c op asked awaited reply u h = go (is_empty o.bound (at awaited c false)) refl
@@ -101,14 +103,14 @@ module _ (o : Opening) (a : ℕ) (inside : in_world o a ≡ true) (w : World) (f
       go false e = record { chain = h; replica = refl; calls = refl }
 
   -- a join by d ends
-  pub lose_contact-chain : (d : ℕ) (u : Turn) → Chain o a w first b u → u.node.replica.told d ≡ true
+  pub lose_contact-chain : (d : ℕ) (u : Turn) → Chain o a Hearing w first b u → u.node.replica.told d ≡ true
       → Onward u (lose_contact o.bound a d u.node.current u)
   lose_contact-chain d u h told = go u.node.current refl
     where
       join : (k m : ℕ) → u.node.current ≡ Current.Joining k m → (t : Bool) → (m == d) ≡ t
           → Onward u (if t then contact_left o.bound a k m (at_work Current.Free u) else u)
       join k m e true q = record {
-        chain = chain_more o a inside w first b u (Rules.LosesContact k m) running h refl refl
+        chain = chain_more o a Hearing inside w first b u (Rules.LosesContact k m) running h refl refl
             (subst (λ (x : ℕ). u.node.replica.told x ≡ true) (sym (eqb-true m d q)) told, e);
         replica = refl;
         calls = refl;
@@ -125,9 +127,10 @@ module _ (o : Opening) (a : ℕ) (inside : in_world o a ≡ true) (w : World) (f
   module _ (number : ℕ → ℕ) (same : (u : Turn) → number_in u.node.current ≡ 0 → join_number (apply a u b) ≡ number)
     where
       -- what was held is decided
-      held-chain : (op : Op) (r : Round) (u : Turn) → Chain o a w first b u → IsHeld o.bound u.node op r
+      held-chain : (op : Op) (r : Round) (u : Turn) → Chain o a Hearing w first b u → IsHeld o.bound u.node op r
           → Onward u (held o.bound a number op (asked r) u)
-      held-chain (Op.Name k call) r u h e = go (is_grant (reply_to u.node.replica.members u.node.replica.table call)) refl
+      held-chain (Op.Name k call) r u h e = go (is_grant (reply_to u.node.replica.members u.node.replica.table call))
+          refl
         where
           reply : Reply
           reply = reply_to u.node.replica.members u.node.replica.table call
@@ -140,7 +143,7 @@ module _ (o : Opening) (a : ℕ) (inside : in_world o a ≡ true) (w : World) (f
           go true q =
               record {
                 chain =
-                    chain_more o a inside w first b u (Rules.Grants k call r) running h refl refl (e, q);
+                    chain_more o a Hearing inside w first b u (Rules.Grants k call r) running h refl refl (e, q);
                 replica =
                     refl;
                 calls = refl;
@@ -148,14 +151,14 @@ module _ (o : Opening) (a : ℕ) (inside : in_world o a ≡ true) (w : World) (f
           go false q =
               record {
                 chain =
-                    chain_more o a inside w first b u (Rules.Denies k call r) running h refl refl (e, q);
+                    chain_more o a Hearing inside w first b u (Rules.Denies k call r) running h refl refl (e, q);
                 replica =
                     refl;
                 calls = refl;
               }
       held-chain (Op.Strike p) r u h e =
           record {
-            chain = chain_more o a inside w first b u (Rules.Strikes p r) running h refl refl e;
+            chain = chain_more o a Hearing inside w first b u (Rules.Strikes p r) running h refl refl e;
             replica =
                 refl;
             calls = refl;
@@ -168,24 +171,24 @@ module _ (o : Opening) (a : ℕ) (inside : in_world o a ≡ true) (w : World) (f
           go true q =
               record {
                 chain =
-                    chain_more o a inside w first b u (Rules.Passes j pairs r) running h refl refl (e, q);
+                    chain_more o a Hearing inside w first b u (Rules.Passes j pairs r) running h refl refl (e, q);
                 replica =
                     refl;
                 calls = refl;
               }
           go false q = record {
             chain = subst
-                (λ (f : ℕ → ℕ). Chain o a w first b
+                (λ (f : ℕ → ℕ). Chain o a Hearing w first b
                 (admit o.bound a f j pairs (asked r) (settle u.node.replica.table pairs) u))
                 (same u (ap number_in e.current))
-                (chain_more o a inside w first b u (Rules.Admits j pairs r) running h refl refl (e, q));
+                (chain_more o a Hearing inside w first b u (Rules.Admits j pairs r) running h refl refl (e, q));
             replica = refl;
             calls = refl;
           }
       held-chain (Op.Join k m) r u h e = onward_none u h
 
       -- the round may be over
-      pub end_round-chain : (op : Op) (r : Round) (u : Turn) → Chain o a w first b u
+      pub end_round-chain : (op : Op) (r : Round) (u : Turn) → Chain o a Hearing w first b u
           → u.node.current ≡ Current.Asking op r
           → Onward u (end_round o.bound a number op r u)
       end_round-chain op r u h e = go (is_over o.bound r) refl (ending o.bound u.node.replica.members r) refl
@@ -196,7 +199,8 @@ module _ (o : Opening) (a : ℕ) (inside : in_world o a ≡ true) (w : World) (f
           go true q (GiveBack granted) s =
               record {
                 chain =
-                    chain_more o a inside w first b u (Rules.GivesUp op r granted) running h refl refl (e, q, s);
+                    chain_more o a Hearing inside w first b u (Rules.GivesUp op r granted) running h refl refl
+                    (e, q, s);
                 replica =
                     refl;
                 calls = refl;
@@ -204,7 +208,7 @@ module _ (o : Opening) (a : ℕ) (inside : in_world o a ≡ true) (w : World) (f
           go false q x s = onward_none u h
 
       -- d has gone down: the registrar's round or its write is told
-      pub lose-chain : (d : ℕ) (u : Turn) → Chain o a w first b u → u.node.replica.told d ≡ true
+      pub lose-chain : (d : ℕ) (u : Turn) → Chain o a Hearing w first b u → u.node.replica.told d ≡ true
           → Onward u (lose o.bound a number d u.node.current u)
       lose-chain d u h told = go u.node.current refl
         where
@@ -214,7 +218,7 @@ module _ (o : Opening) (a : ℕ) (inside : in_world o a ≡ true) (w : World) (f
               → Onward u (if t then (if is_empty o.bound (at awaited d false) then done o.bound a op asked reply u
               else at_work (Current.Writing op asked (at awaited d false) reply) u) else u)
           less op asked awaited reply e true q = awaited_less d op asked awaited reply u
-              (chain_more o a inside w first b u (Rules.CountsDown d op asked awaited reply) running h refl refl
+              (chain_more o a Hearing inside w first b u (Rules.CountsDown d op asked awaited reply) running h refl refl
               (told, e, q))
           less op asked awaited reply e false q = onward_none u h
 
@@ -224,7 +228,7 @@ module _ (o : Opening) (a : ℕ) (inside : in_world o a ≡ true) (w : World) (f
               (end_round o.bound a number op (down d r) (at_work (Current.Asking op (down d r)) u))
               refl refl
               (end_round-chain op (down d r) (at_work (Current.Asking op (down d r)) u)
-              (chain_more o a inside w first b u (Rules.MarksDown d op r) running h refl refl (told, e)) refl)
+              (chain_more o a Hearing inside w first b u (Rules.MarksDown d op r) running h refl refl (told, e)) refl)
           go (Current.Writing op asked awaited reply) e = less op asked awaited reply e (awaited d) refl
           go (Current.Waiting op) e = onward_none u h
           go (Current.Joining k m) e = onward_none u h

@@ -8,6 +8,7 @@ use Rattle.protocol_model.specs.Registrar.{contact_left, ask_join, start_queue, 
 use Rattle.protocol_model.specs.World.{Opening, in_world, World, left}
 use Rattle.moves.proofs.Rules
 use Rattle.moves.proofs.Rules.{Rule}
+use Rattle.walk.proofs.ChainKinds.{Kind}
 use Rattle.walk.proofs.Chains.{Chain, chain_more}
 
 -- the queue as it was doesn't count where its operations are given
@@ -26,45 +27,45 @@ start_queue-with n a (Op.Join k m ∷ ops) old u =
     go false e = refl
 start_queue-with n a (op ∷ ops) old u = refl
 
-module _ (o : Opening) (a : ℕ) (inside : in_world o a ≡ true) (w : World) (first : List Rule) (b : World)
+module _ (o : Opening) (a : ℕ) (K : Kind) (inside : in_world o a ≡ true) (w : World) (first : List Rule) (b : World)
     (running : left b a ≡ false) where
   -- the front of the queue becomes current
-  start_queue-chain : (ops : List Op) (u : Turn) → Chain o a w first b u → u.node.current ≡ Current.Free
+  start_queue-chain : (ops : List Op) (u : Turn) → Chain o a K w first b u → u.node.current ≡ Current.Free
       → u.node.queue ≡ ops
-      → Chain o a w first b (start_queue o.bound a ops u)
-  start_queue-chain [] u h free e = subst (λ (x : List Op). Chain o a w first b (with_queue x u)) e h
+      → Chain o a K w first b (start_queue o.bound a ops u)
+  start_queue-chain [] u h free e = subst (λ (x : List Op). Chain o a K w first b (with_queue x u)) e h
   start_queue-chain (Op.Join k m ∷ ops) u h free e = go (u.node.replica.told m) refl (start_queue-chain ops)
     where
       go : (t : Bool) → u.node.replica.told m ≡ t
-          → ((v : Turn) → Chain o a w first b v → v.node.current ≡ Current.Free → v.node.queue ≡ ops
-          → Chain o a w first b (start_queue o.bound a ops v))
-          → Chain o a w first b
+          → ((v : Turn) → Chain o a K w first b v → v.node.current ≡ Current.Free → v.node.queue ≡ ops
+          → Chain o a K w first b (start_queue o.bound a ops v))
+          → Chain o a K w first b
           (if t then start_queue o.bound a ops (contact_left o.bound a k m u)
           else ask_join o.bound a k m (with_queue ops u))
       go true told rest =
-          subst (Chain o a w first b) (start_queue-with o.bound a ops ops (contact_left o.bound a k m u))
+          subst (Chain o a K w first b) (start_queue-with o.bound a ops ops (contact_left o.bound a k m u))
           (rest (contact_left o.bound a k m (with_queue ops u))
-          (chain_more o a inside w first b u (Rules.SkipsJoin k m ops) running h refl refl (free, e, told)) free refl)
+          (chain_more o a K inside w first b u (Rules.SkipsJoin k m ops) running h refl refl (free, e, told)) free refl)
       go false told rest =
-          chain_more o a inside w first b u (Rules.AsksJoin k m ops) running h refl refl (free, e, told)
+          chain_more o a K inside w first b u (Rules.AsksJoin k m ops) running h refl refl (free, e, told)
   start_queue-chain (Op.Name k c ∷ ops) u h free e =
-      chain_more o a inside w first b u (Rules.Begins (Op.Name k c) ops) running h refl refl (free, e, refl)
+      chain_more o a K inside w first b u (Rules.Begins (Op.Name k c) ops) running h refl refl (free, e, refl)
   start_queue-chain (Op.Strike p ∷ ops) u h free e =
-      chain_more o a inside w first b u (Rules.Begins (Op.Strike p) ops) running h refl refl (free, e, refl)
+      chain_more o a K inside w first b u (Rules.Begins (Op.Strike p) ops) running h refl refl (free, e, refl)
   start_queue-chain (Op.Admission j pairs ∷ ops) u h free e =
-      chain_more o a inside w first b u (Rules.Begins (Op.Admission j pairs) ops) running h refl refl (free, e, refl)
+      chain_more o a K inside w first b u (Rules.Begins (Op.Admission j pairs) ops) running h refl refl (free, e, refl)
 
   -- the end of a step
-  pub start-chain : (u : Turn) → Chain o a w first b u → Chain o a w first b (start o.bound a u)
+  pub start-chain : (u : Turn) → Chain o a K w first b u → Chain o a K w first b (start o.bound a u)
   start-chain u h = go u.node.current refl
     where
       next : u.node.current ≡ Current.Free → (s : Option ℕ) → owed a u.node.replica.table u.node.watch ≡ s
-          → Chain o a w first b (start_next o.bound a s u)
+          → Chain o a K w first b (start_next o.bound a s u)
       next free (Some serial) e =
-          chain_more o a inside w first b u (Rules.BeginsStrike serial) running h refl refl (free, e)
+          chain_more o a K inside w first b u (Rules.BeginsStrike serial) running h refl refl (free, e)
       next free None e = start_queue-chain u.node.queue u h free refl
 
-      go : (c : Current) → u.node.current ≡ c → Chain o a w first b (start_free o.bound a c u)
+      go : (c : Current) → u.node.current ≡ c → Chain o a K w first b (start_free o.bound a c u)
       go Current.Free e = next e (owed a u.node.replica.table u.node.watch) refl
       go (Current.Asking op r) e = h
       go (Current.Waiting op) e = h
@@ -72,12 +73,12 @@ module _ (o : Opening) (a : ℕ) (inside : in_world o a ≡ true) (w : World) (f
       go (Current.Joining k m) e = h
 
   -- a refused round of the registrar begins anew
-  pub retry_global-chain : (u : Turn) → Chain o a w first b u
-      → Chain o a w first b (retry_global o.bound a u.node.current u)
+  pub retry_global-chain : (u : Turn) → Chain o a K w first b u
+      → Chain o a K w first b (retry_global o.bound a u.node.current u)
   retry_global-chain u h = go u.node.current refl
     where
-      go : (c : Current) → u.node.current ≡ c → Chain o a w first b (retry_global o.bound a c u)
-      go (Current.Waiting op) e = chain_more o a inside w first b u (Rules.Retries op) running h refl refl e
+      go : (c : Current) → u.node.current ≡ c → Chain o a K w first b (retry_global o.bound a c u)
+      go (Current.Waiting op) e = chain_more o a K inside w first b u (Rules.Retries op) running h refl refl e
       go (Current.Asking op r) e = h
       go Current.Free e = h
       go (Current.Writing op asked awaited reply) e = h

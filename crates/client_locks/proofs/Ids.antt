@@ -1,0 +1,45 @@
+-- Processes and lock ids that are one.
+use Rattle.std.proofs.Common.{ℕ, Bool, true, false, ◌==◌, ◌≡◌, refl, sym, ap, ◌∙◌, subst}
+use Rattle.std.proofs.lemmas.Bool.{eqb-true, eq-eqb}
+use Rattle.registry_model.specs.Process.{Process, is_process}
+use Rattle.protocol_model.specs.Letter.{Id, Global, Client, is_id, is_resource}
+use Rattle.moves.proofs.Indices.{both}
+
+pub is_process_same : (p q : Process) → is_process p q ≡ true → p ≡ q
+is_process_same p q e =
+    let parts : ((p.node == q.node) ≡ true) × ((p.serial == q.serial) ≡ true) = both (p.node == q.node)
+    (p.serial == q.serial) e in
+    let here : ℕ → Process = λ n. record { node = n; serial = p.serial } in
+    let there : ℕ → Process = λ s. record { node = q.node; serial = s } in
+    ap here (eqb-true p.node q.node parts.0) ∙ ap there (eqb-true p.serial q.serial parts.1)
+
+pub is_process_self : (p : Process) → is_process p p ≡ true
+is_process_self p = rw (eq-eqb p.node p.node refl, eq-eqb p.serial p.serial refl) refl
+
+pub is_process_swap : (p q : Process) → is_process p q ≡ false → is_process q p ≡ false
+is_process_swap p q e = go (is_process q p) refl
+  where
+    go : (b : Bool) → is_process q p ≡ b → b ≡ false
+    go false h = refl
+    go true h =
+        let back : is_process p q ≡ true = subst (λ (x : Process). is_process p x ≡ true) (sym (is_process_same q p h))
+        (is_process_self p) in
+        cc (back, e)
+
+pub is_id_same : (i j : Id) → is_id i j ≡ true → i ≡ j
+is_id_same (Global a) (Global b) e = ap Global (eqb-true a b e)
+is_id_same (Client r q) (Client s z) e =
+    let parts : ((r == s) ≡ true) × ((q == z) ≡ true) = both (r == s) (q == z) e in
+    ap (λ (x : ℕ). Client x q) (eqb-true r s parts.0) ∙ ap (Client s) (eqb-true q z parts.1)
+is_id_same (Global a) (Client s z) e = cc
+is_id_same (Client r q) (Global b) e = cc
+
+pub is_id_self : (i : Id) → is_id i i ≡ true
+is_id_self (Global a) = eq-eqb a a refl
+is_id_self (Client r q) = rw (eq-eqb r r refl, eq-eqb q q refl) refl
+
+pub is_resource_swap : (i j : Id) → is_resource i j ≡ true → is_resource j i ≡ true
+is_resource_swap (Global a) (Global b) e = refl
+is_resource_swap (Client r q) (Client s z) e = eq-eqb s r (sym (eqb-true r s e))
+is_resource_swap (Global a) (Client s z) e = cc
+is_resource_swap (Client r q) (Global b) e = cc
