@@ -1,0 +1,12 @@
+pub mod Together
+pub mod Courses
+pub mod Turns
+pub mod Answering
+pub mod Steps
+pub mod Story
+pub mod Fields
+pub mod Theorem
+pub mod Agreeing
+pub mod Entries
+pub mod Fixed
+pub mod Clients

@@ -1,0 +1,63 @@
+-- The headline for every list of events, and each of its clauses.
+use Rattle.std.proofs.Common.{List}
+use Rattle.protocol_model.specs.World.{Opening, WorldEvent}
+use Rattle.protocol_model.specs.Headline.{Agreement}
+use Rattle.fitting.proofs.Theorem
+use Rattle.headline.specs.Clauses.{world, events, HistoryGrows, HistoryIsLegal, HistoryFits, AnswersAreEntries, AnswersComeInTime, ShowsWhenFree, ShowsWhenHeld, YesIsWritten, LeaveWaits, HolderHolds}
+use Rattle.headline.proofs.Together.{Whole, run_whole, whole_opens}
+use Rattle.headline.proofs.Story.{ground, Written, written}
+use Rattle.headline.proofs.Fields
+
+module _ (o : Opening) (es : List WorldEvent) where
+  -- all families hold
+  pub whole : Whole o (world o es)
+  whole = run_whole o es
+
+  -- the history is that of the events, and `yes` comes when all is written
+  pub told : Written o (events o es) (world o es)
+  told = written o es
+
+pub history_grows : HistoryGrows
+history_grows o es = (told o es).history
+
+pub history_is_legal : HistoryIsLegal
+history_is_legal o es = Fields.legal o (events o es) (world o es) (whole o es) (told o es)
+
+pub history_fits : HistoryFits
+history_fits o es = Theorem.fits o (Whole o) (ground o) (whole_opens o) es
+
+pub answers_are_entries : AnswersAreEntries
+answers_are_entries o es = Theorem.replies o (Whole o) (ground o) (whole_opens o) es
+
+pub answers_come_in_time : AnswersComeInTime
+answers_come_in_time o es = Theorem.in_time o (Whole o) (ground o) (whole_opens o) es
+
+pub shows_when_free : ShowsWhenFree
+shows_when_free o es = Fields.free o (events o es) (world o es) (whole o es) (told o es)
+
+pub shows_when_held : ShowsWhenHeld
+shows_when_held o es = Fields.held o (events o es) (world o es) (whole o es) (told o es)
+
+pub yes_is_written : YesIsWritten
+yes_is_written o es = Fields.written o (events o es) (world o es) (whole o es) (told o es)
+
+pub leave_waits : LeaveWaits
+leave_waits o es = Fields.leave o (events o es) (world o es) (whole o es) (told o es)
+
+pub holder_holds : HolderHolds
+holder_holds o es = Fields.holder o (events o es) (world o es) (whole o es) (told o es)
+
+-- the headline
+pub agreement : Agreement
+agreement o es = record {
+  history = history_grows o es;
+  legal = history_is_legal o es;
+  fits = history_fits o es;
+  replies = answers_are_entries o es;
+  in_time = answers_come_in_time o es;
+  free = shows_when_free o es;
+  held = shows_when_held o es;
+  written = yes_is_written o es;
+  leave = leave_waits o es;
+  holder = holder_holds o es;
+}

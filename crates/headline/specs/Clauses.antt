@@ -1,0 +1,72 @@
+-- The clauses of the headline, each by itself, of every opening and every list of events.
+use mathlib.Core.Logic.{◌⊎◌}
+use Rattle.std.specs.Prelude.{ℕ, ◌≡◌, IsTrue, Contains, fold, Some, None, option_map, flat_map, List, [], ◌∷◌, ◌++◌, if◌then◌else◌}
+use Rattle.registry_model.specs.Call.{Yes}
+use Rattle.registry_model.specs.History.{Past, is_free, is_holding, old, after}
+use Rattle.registry_model.specs.Legal.{IsLegal}
+use Rattle.protocol_model.specs.Event.{Event, Answer, HoldsLock}
+use Rattle.protocol_model.specs.World.{Opening, in_cluster, World, WorldEvent, At, opening_world, run}
+use Rattle.protocol_model.specs.Course.{Played, Seen, entries_of, course, seen}
+use Rattle.protocol_model.specs.Fit.{IsPrefix, Fits}
+use Rattle.protocol_model.specs.Answers.{answers_at, entered_at, AnswersInTime}
+use Rattle.protocol_model.specs.Headline.{past, Shows, IsRunning, GroupShows, EachStep}
+
+module _ (o : Opening) (es : List WorldEvent) where
+  -- the world after these events, what is seen of it, the events that it accepted, and what their history comes to
+  abbrev pub world : World
+  world = run o (opening_world o) es
+
+  abbrev pub now : Seen
+  now = seen o world
+
+  abbrev pub events : List Played
+  events = course o (opening_world o) es
+
+  abbrev pub so_far : Past
+  so_far = past o events
+
+-- the history grows at its end only, event by event
+abbrev pub HistoryGrows : Type 0
+HistoryGrows = (o : Opening) (es : List WorldEvent) → (now o es).history ≡ entries_of (events o es)
+
+-- it is legal: the protocol is one sequential registry
+abbrev pub HistoryIsLegal : Type 0
+HistoryIsLegal = (o : Opening) (es : List WorldEvent) → IsLegal (in_cluster o) (now o es).history
+
+-- it fits the events
+abbrev pub HistoryFits : Type 0
+HistoryFits = (o : Opening) (es : List WorldEvent) → Fits (events o es)
+
+-- at each node the answers to its name calls and joins are those of its entries, in their order, each once
+abbrev pub AnswersAreEntries : Type 0
+AnswersAreEntries = (o : Opening) (es : List WorldEvent) (a : ℕ) →
+    IsPrefix (answers_at a (events o es)) (flat_map (entered_at a) (entries_of (events o es)))
+
+-- in each step they come in time
+abbrev pub AnswersComeInTime : Type 0
+AnswersComeInTime = (o : Opening) (es : List WorldEvent) →
+    EachStep (events o es) (λ before p. AnswersInTime (past o before) p (fold after (past o before) p.entries))
+
+-- while no operation of its group holds, a running node shows the registry
+abbrev pub ShowsWhenFree : Type 0
+ShowsWhenFree = (o : Opening) (es : List WorldEvent) (a : ℕ) → IsRunning o (so_far o es) a → IsTrue (is_free (so_far o es) a) →
+    Shows (so_far o es).registry a (now o es)
+
+-- while one holds, with that operation or without it
+abbrev pub ShowsWhenHeld : Type 0
+ShowsWhenHeld = (o : Opening) (es : List WorldEvent) (a : ℕ) → IsRunning o (so_far o es) a →
+    Shows (so_far o es).registry a (now o es) ⊎ Shows (old (so_far o es) a) a (now o es)
+
+-- in a step that answers `yes`, every running node of the group shows the registry
+abbrev pub YesIsWritten : Type 0
+YesIsWritten = (o : Opening) (es : List WorldEvent) (before : List Played) (p : Played) (s : Answer) →
+    events o es ≡ before ++ p ∷ [] → Contains p.answers s → s.reply ≡ Yes → GroupShows o (so_far o es) s.node (now o es)
+
+-- a leave is refused exactly while an operation of that node holds
+abbrev pub LeaveWaits : Type 0
+LeaveWaits = (o : Opening) (es : List WorldEvent) (a : ℕ) → IsRunning o (so_far o es) a →
+    (now o es).refusal (At a Event.Leave) ≡ (if is_holding (so_far o es) a then Some HoldsLock else None)
+
+-- the holder of the lock is the node of the operation that holds in the cluster
+abbrev pub HolderHolds : Type 0
+HolderHolds = (o : Opening) (es : List WorldEvent) → (now o es).holder ≡ option_map (λ h. h.node) (so_far o es).held

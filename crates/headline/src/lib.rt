@@ -1,0 +1,109 @@
+//! The headline: all families of invariants hold together after every list of events, and what this comes to.
+//! Each law is the contract of a function with an empty body.
+#![tactic(auto)]
+
+ghost use Rattle.protocol_model.specs.ClientLocks.{Exclusion};
+ghost use Rattle.protocol_model.specs.Headline.{Agreement};
+ghost use Rattle.headline.specs.Clauses.{HistoryGrows, HistoryIsLegal, HistoryFits, AnswersAreEntries, AnswersComeInTime, ShowsWhenFree, ShowsWhenHeld, YesIsWritten, LeaveWaits, HolderHolds};
+ghost use Rattle.headline.specs.Laws.{OneHolder, OneOwnerAtEach, JoinedAgree, NoToTheTaken, YesToTheFreeOnly, YesStands, RefusedChangesNothing, FixedAgreement};
+
+/// All answers to name calls and joins are those of one sequential registry that takes the granted operations in lock order,
+/// and whenever the lock is free, the replicas are that registry's.
+pub fn agreement()
+    ensures { Agreement }
+{}
+
+/// Clients' locks exclude each other: at a running node no resource is held under two requesters.
+pub fn exclusion()
+    ensures { Exclusion }
+{}
+
+/// The history of a world is what its events entered, each at its end.
+pub fn history_grows()
+    ensures { HistoryGrows }
+{}
+
+/// It is a history of one sequential registry.
+pub fn history_is_legal()
+    ensures { HistoryIsLegal }
+{}
+
+/// It fits the events.
+pub fn history_fits()
+    ensures { HistoryFits }
+{}
+
+/// At each node the answers to its name calls and joins are those of its entries, in their order, each once.
+pub fn answers_are_entries()
+    ensures { AnswersAreEntries }
+{}
+
+/// Name calls are answered when they are done, or refused at once, and `joined` comes while the admission holds.
+pub fn answers_come_in_time()
+    ensures { AnswersComeInTime }
+{}
+
+/// While no operation of its group holds, a running node shows the registry.
+pub fn shows_when_free()
+    ensures { ShowsWhenFree }
+{}
+
+/// While one holds, with it or without it.
+pub fn shows_when_held()
+    ensures { ShowsWhenHeld }
+{}
+
+/// Where `yes` is answered every running node of the group shows the registry.
+pub fn yes_is_written()
+    ensures { YesIsWritten }
+{}
+
+/// A leave is refused exactly while an operation of its node holds.
+pub fn leave_waits()
+    ensures { LeaveWaits }
+{}
+
+/// The holder of the lock is the node of the operation that holds in the cluster.
+pub fn holder_holds()
+    ensures { HolderHolds }
+{}
+
+/// A refused event changes nothing.
+pub fn refused_changes_nothing()
+    ensures { RefusedChangesNothing }
+{}
+
+/// Of the joined nodes at most one holds the global lock.
+pub fn one_holder()
+    ensures { OneHolder }
+{}
+
+/// At no running node a name has two owners.
+pub fn one_owner_at_each()
+    ensures { OneOwnerAtEach }
+{}
+
+/// While nobody holds the lock, joined nodes that were told of the same departures show the same names.
+pub fn joined_agree()
+    ensures { JoinedAgree }
+{}
+
+/// A `no` is never given to a free name and a free process.
+pub fn no_to_the_taken()
+    ensures { NoToTheTaken }
+{}
+
+/// A `yes` is given to a free name and a free process only.
+pub fn yes_to_the_free_only()
+    ensures { YesToTheFreeOnly }
+{}
+
+/// After a `yes` every running node of the group finds the process until an entry takes the name.
+pub fn yes_stands()
+    ensures { YesStands }
+{}
+
+/// The headline where nobody joins or leaves: the cluster shows one table.
+pub fn fixed_membership()
+    ensures { FixedAgreement }
+{}
