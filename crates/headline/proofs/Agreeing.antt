@@ -34,10 +34,12 @@ module _ (o : Opening) (w : World) (R : Replicas o w) where
   joined_shown a up joined = go (hold_at now a) refl (ap (λ (v : Replica). v.joined) (sym (R.facts a up)) ∙ joined)
     where
       go : (h : Option Hold) → hold_at now a ≡ h
-          → (if is_behind o w a h then old_or now.registry h else now.registry).joined a ≡ true → now.registry.joined a ≡ true
+          → (if is_behind o w a h then old_or now.registry h else now.registry).joined a ≡ true
+          → now.registry.joined a ≡ true
       go None e j = both_ways (is_behind o w a None) j
         where
-          both_ways : (b : Bool) → (if b then now.registry else now.registry).joined a ≡ true → now.registry.joined a ≡ true
+          both_ways : (b : Bool) → (if b then now.registry else now.registry).joined a ≡ true
+              → now.registry.joined a ≡ true
           both_ways true j = j
           both_ways false j = j
       go (Some h) e j = late (is_behind o w a (Some h)) j
@@ -51,7 +53,8 @@ module _ (o : Opening) (w : World) (R : Replicas o w) where
   writer_holds a joined writes = ap (is_of a) (sym (hold_at-joined now a joined)) ∙ R.holds a ∙ writes
 
   -- so two such nodes are one
-  pub one_writer : (a b : ℕ) → now.registry.joined a ≡ true → now.registry.joined b ≡ true → is_writing (current o w a) ≡ true
+  pub one_writer : (a b : ℕ) → now.registry.joined a ≡ true → now.registry.joined b ≡ true
+      → is_writing (current o w a) ≡ true
       → is_writing (current o w b) ≡ true → a ≡ b
   one_writer a b ja jb wa wb = go now.held (writer_holds a ja wa) (writer_holds b jb wb)
     where
@@ -69,20 +72,23 @@ module _ (o : Opening) (w : World) (R : Replicas o w) where
       go : (h : Option Hold) → hold_at now a ≡ h → Rises (old_or now.registry h)
       go None e = rises_now
       go (Some h) e =
-          let L : IsLeftOut (in_cluster o) w.history h = left_out-hold_at (in_cluster o) w.history now (Holds-past_of (in_cluster o) w.history) a h e in
+          let L : IsLeftOut (in_cluster o) w.history h = left_out-hold_at (in_cluster o) w.history now
+              (Holds-past_of (in_cluster o) w.history) a h e in
           subst Rises (sym L.old) (Rises-registry_of (in_cluster o) (L.before ++ L.later))
 
   -- at no running node a name has two owners
   pub one_owner_shown : (a : ℕ) → IsUp o w a → HasOneOwner (replica o w a).table
   one_owner_shown a up = one_owner_of (replica o w a).table
-      (ap (λ (v : Replica). is_rising v.table) (R.facts a up) ∙ is_rising-view (if is_pending o w a then old now a else now.registry) (go (is_pending o w a)) a)
+      (ap (λ (v : Replica). is_rising v.table) (R.facts a up)
+          ∙ is_rising-view (if is_pending o w a then old now a else now.registry) (go (is_pending o w a)) a)
     where
       go : (b : Bool) → Rises (if b then old now a else now.registry)
       go true = rises_old a
       go false = rises_now
 
   -- while nothing holds in the cluster, joined nodes that were told of the same departures show one table
-  pub one_table : (a b : ℕ) → IsUp o w a → IsUp o w b → now.registry.joined a ≡ true → now.registry.joined b ≡ true → now.held ≡ None
+  pub one_table : (a b : ℕ) → IsUp o w a → IsUp o w b → now.registry.joined a ≡ true → now.registry.joined b ≡ true
+      → now.held ≡ None
       → ((d : ℕ) → (replica o w a).told d ≡ (replica o w b).told d) → (replica o w a).table ≡ (replica o w b).table
   one_table a b ua ub ja jb none same =
       shows a ua ja ∙ ap (λ (gone : Nodes). without gone now.registry.table) (fun_ext same) ∙ sym (shows b ub jb)
@@ -90,9 +96,11 @@ module _ (o : Opening) (w : World) (R : Replicas o w) where
       free : (c : ℕ) → IsUp o w c → now.registry.joined c ≡ true → replica o w c ≡ replica_of now.registry c
       free c up joined = States.shows_free o w R c up (hold_at-joined now c joined ∙ none)
 
-      shows : (c : ℕ) → IsUp o w c → now.registry.joined c ≡ true → (replica o w c).table ≡ without (replica o w c).told now.registry.table
+      shows : (c : ℕ) → IsUp o w c → now.registry.joined c ≡ true
+          → (replica o w c).table ≡ without (replica o w c).told now.registry.table
       shows c up joined = ap (λ (v : Replica). v.table) (free c up joined)
-          ∙ ap (λ (t : Bool). without (now.registry.told c) (if t then now.registry.table else now.registry.lone c)) joined
+          ∙ ap (λ (t : Bool). without (now.registry.told c) (if t then now.registry.table else now.registry.lone c))
+          joined
           ∙ ap (λ (v : Replica). without v.told now.registry.table) (sym (free c up joined))
 
 -- a node that runs
@@ -106,14 +114,16 @@ one_holder o es a b ra rb ha hb =
     (joined_shown o (world o es) R b (runs_up o (world o es) b rb.runs) rb.joined) ha hb
 
 pub one_owner_at_each : OneOwnerAtEach
-one_owner_at_each o es a r = one_owner_shown o (world o es) (replicas o (world o es) (whole o es).kept) a (runs_up o (world o es) a r)
+one_owner_at_each o es a r = one_owner_shown o (world o es) (replicas o (world o es) (whole o es).kept) a
+    (runs_up o (world o es) a r)
 
 pub joined_agree : JoinedAgree
 joined_agree o es a b ra rb none same =
     let R : Replicas o (world o es) = replicas o (world o es) (whole o es).kept in
     let ua : IsUp o (world o es) a = runs_up o (world o es) a ra.runs in
     let ub : IsUp o (world o es) b = runs_up o (world o es) b rb.runs in
-    one_table o (world o es) R a b ua ub (joined_shown o (world o es) R a ua ra.joined) (joined_shown o (world o es) R b ub rb.joined)
+    one_table o (world o es) R a b ua ub (joined_shown o (world o es) R a ua ra.joined)
+        (joined_shown o (world o es) R b ub rb.joined)
     (nothing (past_at o (world o es)).held (sym (States.holder_is o (world o es) R) ∙ none)) same
   where
     nothing : (h : Option Hold) → option_map (λ (h : Hold). h.node) h ≡ None → h ≡ None

@@ -9,13 +9,16 @@ use Rattle.protocol_model.specs.Course.{Played, entries_of}
 -- the history of a course with one event more
 pub entries_of-append : (ps qs : List Played) → entries_of (ps ++ qs) ≡ entries_of ps ++ entries_of qs
 entries_of-append [] qs = refl
-entries_of-append (p ∷ ps) qs = ap (λ (es : List Entry). p.entries ++ es) (entries_of-append ps qs) ∙ sym (append_assoc p.entries (entries_of ps) (entries_of qs))
+entries_of-append (p ∷ ps) qs = ap (λ (es : List Entry). p.entries ++ es) (entries_of-append ps qs)
+    ∙ sym (append_assoc p.entries (entries_of ps) (entries_of qs))
 
 pub entries_of-push : (ps : List Played) (p : Played) → entries_of (ps ++ p ∷ []) ≡ entries_of ps ++ p.entries
-entries_of-push ps p = entries_of-append ps (p ∷ []) ∙ ap (λ (es : List Entry). entries_of ps ++ es) (append-nil p.entries)
+entries_of-push ps p = entries_of-append ps (p ∷ [])
+    ∙ ap (λ (es : List Entry). entries_of ps ++ es) (append-nil p.entries)
 
 -- an accepted event adds its entries to the history of the world
-pub history-accepted : (o : Opening) (w : World) (e : WorldEvent) → (accepted o w e).history ≡ w.history ++ (turn_of o w e).entries
+pub history-accepted : (o : Opening) (w : World) (e : WorldEvent)
+    → (accepted o w e).history ≡ w.history ++ (turn_of o w e).entries
 history-accepted o w (Deliver f t) = refl
 history-accepted o w (At a Event.Leave) = refl
 history-accepted o w (At a (Event.Calling c)) = refl

@@ -1,4 +1,5 @@
--- What the entries of name calls say: `yes` to the free, `no` to the taken, and a name that was given stands until it is taken.
+-- What the entries of name calls say: `yes` to the free, `no` to the taken, and a name that was given stands until it
+-- is taken.
 use mathlib.Core.Logic.{◌⊎◌}
 use Rattle.std.proofs.Common.{ℕ, Bool, true, false, ◌==◌, ◌≡◌, Some, None, List, [], ◌∷◌, ◌++◌, refl, sym, ap, ◌∙◌, subst, inl, inr}
 use Rattle.std.specs.Prelude.{not, if◌then◌else◌}
@@ -28,7 +29,8 @@ use Rattle.headline.proofs.Fields.{past_now}
 -- a `no` is never given to a free name and a free process
 pub no_to_the_taken : NoToTheTaken
 no_to_the_taken o es before later n k x p e free = go (members t.registry n) (view t.registry n) N.answer
-    (ap (λ (r : Registry). members r n p.node) same ∙ free.member) (ap (λ (r : Registry). get x (view r n)) same ∙ free.name)
+    (ap (λ (r : Registry). members r n p.node) same ∙ free.member)
+        (ap (λ (r : Registry). get x (view r n)) same ∙ free.name)
     (ap (λ (r : Registry). owns p (view r n)) same ∙ free.owner)
   where
     t : Past
@@ -41,25 +43,30 @@ no_to_the_taken o es before later n k x p e free = go (members t.registry n) (vi
     N = name_is_legal t n (Register x p) No (is_legal-at (in_cluster o) before later (Name n k (Register x p) No)
         (subst (λ (h : List Entry). IsLegal (in_cluster o) h) e (history_is_legal o es)))
 
-    go : (m : Nodes) (v : Table) → No ≡ reply_to m v (Register x p) → m p.node ≡ true → get x v ≡ None → owns p v ≡ false → ⊥
+    go : (m : Nodes) (v : Table) → No ≡ reply_to m v (Register x p) → m p.node ≡ true → get x v ≡ None
+        → owns p v ≡ false → ⊥
     go m v a i j q =
         let yes_then : reply_to m v (Register x p) ≡ Yes = rw (i, j, q) refl in
         cc (a, yes_then)
 
 -- a `yes` is given to the free only
 pub yes_to_the_free_only : YesToTheFreeOnly
-yes_to_the_free_only o es before later n k x p e = yes_law (in_cluster o) (world o es).history (history_is_legal o es) before later n k x p e
+yes_to_the_free_only o es before later n k x p e = yes_law (in_cluster o) (world o es).history
+    (history_is_legal o es) before later n k x p e
 
 -- a name that is seen stands over these entries, or one of them takes it
-stands_along : (cluster : Nodes) (h : List Entry) → NamesStand cluster h → (c : ℕ) (x : Text) (p : Process) (rest front : List Entry)
+stands_along : (cluster : Nodes) (h : List Entry) → NamesStand cluster h
+    → (c : ℕ) (x : Text) (p : Process) (rest front : List Entry)
     → h ≡ front ++ rest → get x (view (registry_of cluster front) c) ≡ Some p
     → (get x (view (registry_of cluster h) c) ≡ Some p) ⊎ IsTaken cluster front rest c x p
 stands_along cluster h stand c x p [] front e seen =
     inl (ap (λ (es : List Entry). get x (view (registry_of cluster es) c)) (e ∙ append-nil front) ∙ seen)
-stands_along cluster h stand c x p (f ∷ rest) front e seen = go (stand front rest f c x p e seen) (stands_along cluster h stand c x p rest (front ++ f ∷ []) (e ∙ sym (append_assoc front (f ∷ []) rest)))
+stands_along cluster h stand c x p (f ∷ rest) front e seen = go (stand front rest f c x p e seen)
+    (stands_along cluster h stand c x p rest (front ++ f ∷ []) (e ∙ sym (append_assoc front (f ∷ []) rest)))
   where
     go : (get x (view (registry_of cluster (front ++ f ∷ [])) c) ≡ Some p) ⊎ Takes (registry_of cluster front) c x p f
-        → (get x (view (registry_of cluster (front ++ f ∷ [])) c) ≡ Some p → (get x (view (registry_of cluster h) c) ≡ Some p) ⊎ IsTaken cluster (front ++ f ∷ []) rest c x p)
+        → (get x (view (registry_of cluster (front ++ f ∷ [])) c) ≡ Some p
+        → (get x (view (registry_of cluster h) c) ≡ Some p) ⊎ IsTaken cluster (front ++ f ∷ []) rest c x p)
         → (get x (view (registry_of cluster h) c) ≡ Some p) ⊎ IsTaken cluster front (f ∷ rest) c x p
     go (inl s) more = elim (more s) [
       | inl d ↦ inl d
@@ -68,7 +75,8 @@ stands_along cluster h stand c x p (f ∷ rest) front e seen = go (stand front r
         entry = T.entry;
         rest = T.rest;
         split = ap (λ (es : List Entry). f ∷ es) T.split;
-        takes = subst (λ (es : List Entry). Takes (registry_of cluster es) c x p T.entry) (append_assoc front (f ∷ []) T.middle) T.takes;
+        takes = subst (λ (es : List Entry). Takes (registry_of cluster es) c x p T.entry)
+            (append_assoc front (f ∷ []) T.middle) T.takes;
       })
     ]
     go (inr T) more = inr (record {
@@ -83,10 +91,11 @@ stands_along cluster h stand c x p (f ∷ rest) front e seen = go (stand front r
 group_back : (r : Registry) (a c : ℕ) → in_group r a c ≡ true → in_group r c a ≡ true
 group_back r a c g = go (r.joined a) (r.joined c) refl refl g
   where
-    go : (b d : Bool) → r.joined a ≡ b → r.joined c ≡ d → (if b then r.joined c else c == a) ≡ true → (if d then r.joined a else a == c) ≡ true
+    go : (b d : Bool) → r.joined a ≡ b → r.joined c ≡ d → (if b then r.joined c else c == a) ≡ true
+        → (if d then r.joined a else a == c) ≡ true
     go true true i j g = i
     go true false i j g = cc (j, g)
-    go false true i j g = cc (i, j, ap r.joined (eqb-true c a g))
+    go false true i j g = cc (j, ap r.joined (eqb-true c a g))
     go false false i j g = eq-eqb a c (sym (eqb-true c a g))
 
 -- right behind the entry of a `yes` its group sees the name, but for those who were told that the owner's node left
@@ -96,8 +105,10 @@ given_seen : (cluster : Nodes) (before : List Entry) (n k c : ℕ) (x : Text) (p
 given_seen cluster before n k c x p g untold =
     ap (λ (q : Registry). get x (view q c)) (registry_of-push cluster before (Name n k (Register x p) Yes))
     ∙ ap (get x) (view-with_table n (changed (Put x p)) r c (group_back r n c g))
-    ∙ get-without (r.told c) (put x p (table_of r c)) (is_rising-changed (Put x p) (table_of r c) (is_rising-table_of r rises c)) x
-    ∙ ap (if_kept (λ q. not (r.told c q.node))) (get-put x p (table_of r c) x ∙ ap (λ (b : Bool). if b then Some p else get x (table_of r c)) (eq-eqb x x refl))
+    ∙ get-without (r.told c) (put x p (table_of r c))
+    (is_rising-changed (Put x p) (table_of r c) (is_rising-table_of r rises c)) x
+    ∙ ap (if_kept (λ q. not (r.told c q.node)))
+    (get-put x p (table_of r c) x ∙ ap (λ (b : Bool). if b then Some p else get x (table_of r c)) (eq-eqb x x refl))
     ∙ ap (λ (b : Bool). if not b then Some p else None) untold
   where
     r : Registry
@@ -109,21 +120,26 @@ given_seen cluster before n k c x p g untold =
 -- the name stands, and running nodes find it, until it is taken
 pub yes_stands : YesStands
 yes_stands o es before later n k c x p e g untold r free =
-    go (stands_along (in_cluster o) (world o es).history (stand_law (in_cluster o) (world o es).history (history_is_legal o es)) c x p later
-    (before ++ Name n k (Register x p) Yes ∷ []) (e ∙ sym (append_assoc before (Name n k (Register x p) Yes ∷ []) later))
+    go (stands_along (in_cluster o) (world o es).history
+        (stand_law (in_cluster o) (world o es).history (history_is_legal o es)) c x p later
+    (before ++ Name n k (Register x p) Yes ∷ [])
+        (e ∙ sym (append_assoc before (Name n k (Register x p) Yes ∷ []) later))
     (given_seen (in_cluster o) before n k c x p g untold))
   where
     same : past_at o (world o es) ≡ so_far o es
     same = past_now o (events o es) (world o es) (whole o es) (told o es)
 
     running : IsRunning o (so_far o es) c
-    running = (r.inside, subst (λ (t : Past). t.registry.left c ≡ false) same ((replicas o (world o es) (whole o es).kept).departed c ∙ r.stays))
+    running = (r.inside, subst (λ (t : Past). t.registry.left c ≡ false) same
+        ((replicas o (world o es) (whole o es).kept).departed c ∙ r.stays))
 
     shown : ((world o es).node c).replica ≡ replica_of (registry_of (in_cluster o) (world o es).history) c
     shown = shows_when_free o es c running free ∙ ap (λ (t : Past). replica_of t.registry c) (sym same)
         ∙ ap (λ (q : Registry). replica_of q c) (registry-past_of (in_cluster o) (world o es).history)
 
-    go : (get x (view (registry_of (in_cluster o) (world o es).history) c) ≡ Some p) ⊎ IsTaken (in_cluster o) (before ++ Name n k (Register x p) Yes ∷ []) later c x p
-        → (get x ((world o es).node c).replica.table ≡ Some p) ⊎ IsTaken (in_cluster o) (before ++ Name n k (Register x p) Yes ∷ []) later c x p
+    go : (get x (view (registry_of (in_cluster o) (world o es).history) c) ≡ Some p)
+        ⊎ IsTaken (in_cluster o) (before ++ Name n k (Register x p) Yes ∷ []) later c x p
+        → (get x ((world o es).node c).replica.table ≡ Some p)
+        ⊎ IsTaken (in_cluster o) (before ++ Name n k (Register x p) Yes ∷ []) later c x p
     go (inl s) = inl (ap (λ (v : Replica). get x v.table) shown ∙ s)
     go (inr T) = inr T

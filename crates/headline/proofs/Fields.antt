@@ -22,20 +22,26 @@ module _ (o : Opening) (ps : List Played) (w : World) (W : Whole o w) (S : Writt
   pub legal : IsLegal (in_cluster o) w.history
   legal = (replicas o w W.kept).legal
 
-  pub free : (a : ℕ) → IsRunning o (past o ps) a → IsTrue (is_free (past o ps) a) → Shows (past o ps).registry a (seen o w)
+  pub free : (a : ℕ) → IsRunning o (past o ps) a → IsTrue (is_free (past o ps) a)
+      → Shows (past o ps).registry a (seen o w)
   free = subst (λ (t : Past). (a : ℕ) → IsRunning o t a → IsTrue (is_free t a) → Shows t.registry a (seen o w)) past_now
       (States.free o w (replicas o w W.kept))
 
-  pub held : (a : ℕ) → IsRunning o (past o ps) a → Shows (past o ps).registry a (seen o w) ⊎ Shows (old (past o ps) a) a (seen o w)
-  held = subst (λ (t : Past). (a : ℕ) → IsRunning o t a → Shows t.registry a (seen o w) ⊎ Shows (old t a) a (seen o w)) past_now
+  pub held : (a : ℕ) → IsRunning o (past o ps) a → Shows (past o ps).registry a (seen o w)
+      ⊎ Shows (old (past o ps) a) a (seen o w)
+  held = subst (λ (t : Past). (a : ℕ) → IsRunning o t a → Shows t.registry a (seen o w)
+      ⊎ Shows (old t a) a (seen o w)) past_now
       (States.held o w (replicas o w W.kept))
 
-  pub written : (before : List Played) (p : Played) (s : Answer) → ps ≡ before ++ p ∷ [] → Contains p.answers s → s.reply ≡ Yes
+  pub written : (before : List Played) (p : Played) (s : Answer) → ps ≡ before ++ p ∷ [] → Contains p.answers s
+      → s.reply ≡ Yes
       → GroupShows o (past o ps) s.node (seen o w)
   written before p s e c y = S.shown before p e s c y
 
-  pub leave : (a : ℕ) → IsRunning o (past o ps) a → (seen o w).refusal (At a Event.Leave) ≡ (if is_holding (past o ps) a then Some HoldsLock else None)
-  leave = subst (λ (t : Past). (a : ℕ) → IsRunning o t a → (seen o w).refusal (At a Event.Leave) ≡ (if is_holding t a then Some HoldsLock else None)) past_now
+  pub leave : (a : ℕ) → IsRunning o (past o ps) a
+      → (seen o w).refusal (At a Event.Leave) ≡ (if is_holding (past o ps) a then Some HoldsLock else None)
+  leave = subst (λ (t : Past). (a : ℕ) → IsRunning o t a
+      → (seen o w).refusal (At a Event.Leave) ≡ (if is_holding t a then Some HoldsLock else None)) past_now
       (States.leave o w (replicas o w W.kept))
 
   pub holder : (seen o w).holder ≡ option_map (λ h. h.node) (past o ps).held

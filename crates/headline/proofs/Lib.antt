@@ -10,3 +10,4 @@ pub mod Agreeing
 pub mod Entries
 pub mod Fixed
 pub mod Clients
+pub mod Found

@@ -21,20 +21,22 @@ use Rattle.protocol_model.specs.Course.{seen}
 use Rattle.protocol_model.specs.Headline.{GroupShows}
 use Rattle.moves.proofs.Rules
 use Rattle.moves.proofs.Rules.{Rule, Walked}
-use Rattle.moves.proofs.Indices.{at_same}
+use Rattle.moves.proofs.Indices.{neither, at_same}
 use Rattle.moves.proofs.Invariants.{past_at}
 use Rattle.replicas.proofs.Owning.{IsOwn, own_keeps, own_writes}
 use Rattle.replicas.proofs.States.{group_shows}
 use Rattle.headline.proofs.Together.{Whole, replicas, event_makes}
-use Rattle.headline.proofs.Turns.{is_yes}
+use Rattle.headline.proofs.Turns.{is_yes, begins, is_busy}
 use Rattle.headline.proofs.Answering.{seen_in-yes, turn_tame}
 
 -- a list of which no item passes
-pub fails : {A : Type 0} (test : A → Bool) (xs : List A) (x : A) → list_any test xs ≡ false → Contains xs x → test x ≡ false
+pub fails : {A : Type 0} (test : A → Bool) (xs : List A) (x : A) → list_any test xs ≡ false → Contains xs x
+    → test x ≡ false
 fails {A} test [] x e c = absurd (Contains-nil x c)
 fails {A} test (y ∷ ys) x e c = go (test y) refl e (λ k d. fails test ys x k d)
   where
-    go : (b : Bool) → test y ≡ b → (b || list_any test ys) ≡ false → (list_any test ys ≡ false → Contains ys x → test x ≡ false) → test x ≡ false
+    go : (b : Bool) → test y ≡ b → (b || list_any test ys) ≡ false
+        → (list_any test ys ≡ false → Contains ys x → test x ≡ false) → test x ≡ false
     go true i k more = cc
     go false i k more = elim (Contains-cases y ys x c) [
       | inl q ↦ subst (λ (z : A). test z ≡ false) q i
@@ -48,11 +50,13 @@ pub record Says (a : ℕ) (writes : Bool) (u : Turn) : Type 0 where
 
 says_nothing : (a : ℕ) (b : Bool) (u : Turn) → u.answers ≡ [] → Says a b u
 says_nothing a b u e = record {
-  nodes = ap (λ (ss : List Answer). map (λ (s : Answer). s.node) ss) e ∙ sym (ap (λ (ss : List Answer). map (λ (s : Answer). a) ss) e);
+  nodes = ap (λ (ss : List Answer). map (λ (s : Answer). s.node) ss) e
+      ∙ sym (ap (λ (ss : List Answer). map (λ (s : Answer). a) ss) e);
   yes = λ h. cc (h, ap (list_any is_yes) e);
 }
 
-rule_says : (o : Opening) (a : ℕ) (w : World) (r : Rule) → Rules.May o a w r → Says a (is_writing (w.node a).current) (Rules.turn_by o a w r)
+rule_says : (o : Opening) (a : ℕ) (w : World) (r : Rule) → Rules.May o a w r
+    → Says a (is_writing (w.node a).current) (Rules.turn_by o a w r)
 rule_says o a w (Rules.LooksUp look) m = record {
   nodes = refl;
   yes = λ h. cc (h, ap (λ (b : Bool). b || false) (seen_in-yes (w.node a).replica.table look));
@@ -67,7 +71,8 @@ rule_says o a w (Rules.Denies k call r) m = record {
     denied _ g h = cc
 rule_says o a w (Rules.Finishes op asked awaited reply) m = go op reply
   where
-    go : (op : Op) (reply : Option Reply) → Says a (is_writing (w.node a).current) (Rules.turn_by o a w (Rules.Finishes op asked awaited reply))
+    go : (op : Op) (reply : Option Reply)
+        → Says a (is_writing (w.node a).current) (Rules.turn_by o a w (Rules.Finishes op asked awaited reply))
     go (Op.Name k call) (Some r) = record { nodes = refl; yes = λ h. ap is_writing m.tested.0 }
     go (Op.Name k call) None = record { nodes = refl; yes = λ h. ap is_writing m.tested.0 }
     go (Op.Strike p) reply = record { nodes = refl; yes = λ h. ap is_writing m.tested.0 }
@@ -78,13 +83,16 @@ rule_says o a w (Rules.GivesUpLock c r granted) m = go (is_spent c.retries)
     gives : Turn
     gives = give_lock o.bound a c granted (begun (w.node a))
 
-    go : (b : Bool) → Says a (is_writing (w.node a).current) (if b then close_call o.bound a c false gives else keep_call (in_phase LockPhase.Waiting c) gives)
+    go : (b : Bool) → Says a (is_writing (w.node a).current)
+        (if b then close_call o.bound a c false gives else keep_call (in_phase LockPhase.Waiting c) gives)
     go true = record { nodes = refl; yes = λ h. cc }
     go false = record { nodes = refl; yes = λ h. cc }
 rule_says o a w (Rules.HearsAnswer f id granted op r) m = go (opens f granted r)
   where
     asks : Bool → Turn
-    asks b = at_work (Current.Asking op (answer f granted r)) (if b then send_all o.bound (λ x. rest r x && not ((w.node a).replica.told x)) (Letter.SetLock (Global a) (registrar a)) (begun (w.node a)) else begun (w.node a))
+    asks b = at_work (Current.Asking op (answer f granted r))
+        (if b then send_all o.bound (λ x. rest r x && not ((w.node a).replica.told x))
+        (Letter.SetLock (Global a) (registrar a)) (begun (w.node a)) else begun (w.node a))
 
     go : (b : Bool) → Says a (is_writing (w.node a).current) (asks b)
     go true = says_nothing a (is_writing (w.node a).current) (asks true) refl
@@ -92,22 +100,30 @@ rule_says o a w (Rules.HearsAnswer f id granted op r) m = go (opens f granted r)
 rule_says o a w (Rules.HearsLock f id granted c r) m = go (opens f granted r)
   where
     asks : Bool → Turn
-    asks b = keep_call (in_phase (LockPhase.Asking (answer f granted r)) c) (if b then send_all o.bound (λ x. rest r x && not ((w.node a).replica.told x)) (Letter.SetLock c.id c.holder) (begun (w.node a)) else begun (w.node a))
+    asks b = keep_call (in_phase (LockPhase.Asking (answer f granted r)) c)
+        (if b then send_all o.bound (λ x. rest r x && not ((w.node a).replica.told x)) (Letter.SetLock c.id c.holder)
+        (begun (w.node a)) else begun (w.node a))
 
     go : (b : Bool) → Says a (is_writing (w.node a).current) (asks b)
     go true = says_nothing a (is_writing (w.node a).current) (asks true) refl
     go false = says_nothing a (is_writing (w.node a).current) (asks false) refl
 rule_says o a w (Rules.Judges f id p) m = go (is_free_for id p (w.node a).locks)
   where
-    go : (b : Bool) → Says a (is_writing (w.node a).current) (judge o.bound a (join_number w) f id p b (begun (w.node a)))
-    go true = says_nothing a (is_writing (w.node a).current) (judge o.bound a (join_number w) f id p true (begun (w.node a))) refl
-    go false = says_nothing a (is_writing (w.node a).current) (judge o.bound a (join_number w) f id p false (begun (w.node a))) refl
-rule_says o a w (Rules.TakesBack f id p true) m = says_nothing a (is_writing (w.node a).current) (Rules.turn_by o a w (Rules.TakesBack f id p true)) refl
-rule_says o a w (Rules.TakesBack f id p false) m = says_nothing a (is_writing (w.node a).current) (Rules.turn_by o a w (Rules.TakesBack f id p false)) refl
+    go : (b : Bool) → Says a (is_writing (w.node a).current)
+        (judge o.bound a (join_number w) f id p b (begun (w.node a)))
+    go true = says_nothing a (is_writing (w.node a).current)
+        (judge o.bound a (join_number w) f id p true (begun (w.node a))) refl
+    go false = says_nothing a (is_writing (w.node a).current)
+        (judge o.bound a (join_number w) f id p false (begun (w.node a))) refl
+rule_says o a w (Rules.TakesBack f id p true) m = says_nothing a (is_writing (w.node a).current)
+    (Rules.turn_by o a w (Rules.TakesBack f id p true)) refl
+rule_says o a w (Rules.TakesBack f id p false) m = says_nothing a (is_writing (w.node a).current)
+    (Rules.turn_by o a w (Rules.TakesBack f id p false)) refl
 rule_says o a w _ m = record { nodes = refl; yes = λ h. cc }
 
 -- whose answers are all of one node
-of_node : (a : ℕ) (ss : List Answer) (s : Answer) → map (λ (s : Answer). s.node) ss ≡ map (λ (s : Answer). a) ss → Contains ss s → s.node ≡ a
+of_node : (a : ℕ) (ss : List Answer) (s : Answer) → map (λ (s : Answer). s.node) ss ≡ map (λ (s : Answer). a) ss
+    → Contains ss s → s.node ≡ a
 of_node a [] s e c = absurd (Contains-nil s c)
 of_node a (t ∷ ts) s e c = go (of_node a ts s)
   where
@@ -117,7 +133,8 @@ of_node a (t ∷ ts) s e c = go (of_node a ts s)
       | inr d ↦ let tail : map (λ (s : Answer). s.node) ts ≡ map (λ (s : Answer). a) ts = cc in more tail d
     ]
 
-module _ (o : Opening) (w : World) (e : WorldEvent) (W : Whole o w) (V : Whole o (accepted o w e)) (H : Walked o w e) where
+module _ (o : Opening) (w : World) (e : WorldEvent) (W : Whole o w) (V : Whole o (accepted o w e))
+    (H : Walked o w e) where
   abbrev pub turn : Turn
   turn = turn_of o w e
 
@@ -142,9 +159,11 @@ module _ (o : Opening) (w : World) (e : WorldEvent) (W : Whole o w) (V : Whole o
       K : List Entry → List Answer → World → Type 0
       K es ss x = map (λ (s : Answer). s.node) ss ≡ map (λ (s : Answer). place e) ss
 
-      step : (x : World) (r : Rule) (es : List Entry) (ss : List Answer) → K es ss x → Whole o x → Whole o (Rules.effect o (place e) r x)
+      step : (x : World) (r : Rule) (es : List Entry) (ss : List Answer) → K es ss x → Whole o x
+          → Whole o (Rules.effect o (place e) r x)
           → Rules.May o (place e) x r
-          → K (es ++ (Rules.turn_by o (place e) x r).entries) (ss ++ (Rules.turn_by o (place e) x r).answers) (Rules.effect o (place e) r x)
+          → K (es ++ (Rules.turn_by o (place e) x r).entries) (ss ++ (Rules.turn_by o (place e) x r).answers)
+          (Rules.effect o (place e) r x)
       step x r es ss k X Y m =
           map-append (λ (s : Answer). s.node) ss (Rules.turn_by o (place e) x r).answers
           ∙ ap (λ (l : List ℕ). l ++ map (λ (s : Answer). s.node) (Rules.turn_by o (place e) x r).answers) k
@@ -161,13 +180,16 @@ module _ (o : Opening) (w : World) (e : WorldEvent) (W : Whole o w) (V : Whole o
       K : List Entry → List Answer → World → Type 0
       K es ss x = list_any is_yes ss ≡ true → IsOwn (place e) (past_at o x)
 
-      step : (x : World) (r : Rule) (es : List Entry) (ss : List Answer) → K es ss x → Whole o x → Whole o (Rules.effect o (place e) r x)
+      step : (x : World) (r : Rule) (es : List Entry) (ss : List Answer) → K es ss x → Whole o x
+          → Whole o (Rules.effect o (place e) r x)
           → Rules.May o (place e) x r
-          → K (es ++ (Rules.turn_by o (place e) x r).entries) (ss ++ (Rules.turn_by o (place e) x r).answers) (Rules.effect o (place e) r x)
+          → K (es ++ (Rules.turn_by o (place e) x r).entries) (ss ++ (Rules.turn_by o (place e) x r).answers)
+          (Rules.effect o (place e) r x)
       step x r es ss k X Y m h = own_keeps o (place e) x X.kept.known r m
           (go (list_any is_yes ss) refl (sym (list_any-append is_yes ss (Rules.turn_by o (place e) x r).answers) ∙ h))
         where
-          go : (b : Bool) → list_any is_yes ss ≡ b → (b || list_any is_yes (Rules.turn_by o (place e) x r).answers) ≡ true → IsOwn (place e) (past_at o x)
+          go : (b : Bool) → list_any is_yes ss ≡ b → (b || list_any is_yes (Rules.turn_by o (place e) x r).answers)
+              ≡ true → IsOwn (place e) (past_at o x)
           go true i y = k i
           go false i y = own_writes o x (place e) (replicas o x X.kept) ((rule_says o (place e) x r m).yes y)
 
@@ -179,15 +201,24 @@ module _ (o : Opening) (w : World) (e : WorldEvent) (W : Whole o w) (V : Whole o
       go true i = refl
       go false i = absurd (cc (fails is_yes turn.answers s i c, ap (λ (r : Reply). is_reply r Yes) y))
 
-  -- where `yes` is answered, every running node of the group shows the registry
-  pub event_written : (s : Answer) → Contains turn.answers s → s.reply ≡ Yes → GroupShows o (past_at o later) s.node (seen o later)
-  event_written s c y = subst (λ (a : ℕ). GroupShows o (past_at o later) a (seen o later)) (sym (answers_here s c))
-      (group_shows o later (replicas o later V.kept) (place e) (yes_own (some_yes s c y)) idle)
+  not_busy : list_any is_yes turn.answers ≡ true → is_busy turn ≡ false
+  not_busy y = calm (is_busy turn) (ap (λ (b : Bool). b && is_busy turn) (sym y) ∙ turn_tame o w e)
     where
       calm : (b : Bool) → (true && b) ≡ false → b ≡ false
       calm true i = cc
       calm false i = refl
 
+  -- where `yes` is answered, every running node of the group shows the registry
+  pub event_written : (s : Answer) → Contains turn.answers s → s.reply ≡ Yes
+      → GroupShows o (past_at o later) s.node (seen o later)
+  event_written s c y = subst (λ (a : ℕ). GroupShows o (past_at o later) a (seen o later)) (sym (answers_here s c))
+      (group_shows o later (replicas o later V.kept) (place e) (yes_own (some_yes s c y)) idle)
+    where
       idle : is_writing (later.node (place e)).current ≡ false
       idle = ap (λ (v : Node). is_writing v.current) node_after
-          ∙ calm (is_writing turn.node.current) (ap (λ (b : Bool). b && is_writing turn.node.current) (sym (some_yes s c y)) ∙ turn_tame o w e)
+          ∙ (neither (is_writing turn.node.current) (list_any begins turn.entries) (not_busy (some_yes s c y))).0
+
+  -- and nothing begins to hold
+  pub event_begins : (s : Answer) → Contains turn.answers s → s.reply ≡ Yes → list_any begins turn.entries ≡ false
+  event_begins s c y = (neither (is_writing turn.node.current) (list_any begins turn.entries)
+      (not_busy (some_yes s c y))).1

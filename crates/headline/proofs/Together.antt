@@ -68,7 +68,8 @@ module _ (o : Opening) where
         proper = proper_keeps o a w r I.proper m;
         locks = locks_keeps o a w r I.proper I.locks m;
         known = K;
-        joins = joins_keeps o a w r I.proper (replicas w I) (replicas_known o (Rules.effect o a r w) K) (owners w I) I.joins m;
+        joins = joins_keeps o a w r I.proper (replicas w I) (replicas_known o (Rules.effect o a r w) K)
+            (owners w I) I.joins m;
       }
 
   -- what a world has between two events: all this, its lock calls in order, and each node joins once
@@ -85,28 +86,34 @@ module _ (o : Opening) where
   pub accepted_whole : (w : World) (e : WorldEvent) → Whole w → refusal o w e ≡ None → Whole (accepted o w e)
   accepted_whole w e W r = Runs.accepted_keeps o All widens all_keeps w e W r
 
-  -- G: what is said of the accepted events so far and of the world behind them. What each accepted event keeps of it holds
+  -- G: what is said of the accepted events so far and of the world behind them. What each accepted event keeps of it
+  -- holds
   -- after every list of events
   pub course_keeps : (G : List Played → World → Type 0)
-      → ((ps : List Played) (w : World) (e : WorldEvent) → G ps w → Whole w → Whole (accepted o w e) → refusal o w e ≡ None → Walked o w e
+      → ((ps : List Played) (w : World) (e : WorldEvent) → G ps w → Whole w → Whole (accepted o w e)
+      → refusal o w e ≡ None → Walked o w e
       → G (ps ++ played o w e ∷ []) (accepted o w e))
       → G [] (opening_world o) → (es : List WorldEvent) → G (course o (opening_world o) es) (run o (opening_world o) es)
   course_keeps G step begins es = Runs.course_keeps o All widens all_keeps G
       (λ ps w e g W r k. step ps w e g W (accepted_whole w e W r) r k) all_opens begins es
 
-  -- K: what is said of the entries and the answers of a step so far, and of the world behind them. What every rule keeps of it
+  -- K: what is said of the entries and the answers of a step so far, and of the world behind them. What every rule
+  -- keeps of it
   -- holds of each accepted event
   module _ (K : List Entry → List Answer → World → Type 0) (a : ℕ)
-      (step : (w : World) (r : Rule) (es : List Entry) (ss : List Answer) → K es ss w → Whole w → Whole (Rules.effect o a r w) → Rules.May o a w r
+      (step : (w : World) (r : Rule) (es : List Entry) (ss : List Answer) → K es ss w → Whole w
+          → Whole (Rules.effect o a r w) → Rules.May o a w r
       → K (es ++ (Rules.turn_by o a w r).entries) (ss ++ (Rules.turn_by o a w r).answers) (Rules.effect o a r w)) where
-    chain_makes : (rs : List Rule) (w : World) (es : List Entry) (ss : List Answer) → K es ss w → Whole w → Rules.MayAll o a rs w
+    chain_makes : (rs : List Rule) (w : World) (es : List Entry) (ss : List Answer) → K es ss w → Whole w
+        → Rules.MayAll o a rs w
         → K (es ++ Rules.entries_by o a rs w) (ss ++ Rules.answers_by o a rs w) (Rules.effects o a rs w)
     chain_makes [] w es ss k W m = subst (λ (xs : List Entry). K xs (ss ++ []) w) (sym (append-nil es))
         (subst (λ (xs : List Answer). K es xs w) (sym (append-nil ss)) k)
     chain_makes (r ∷ rs) w es ss k W m =
         subst (λ (xs : List Entry). K xs (ss ++ Rules.answers_by o a (r ∷ rs) w) (Rules.effects o a (r ∷ rs) w))
         (append_assoc es turn.entries (Rules.entries_by o a rs later))
-        (subst (λ (xs : List Answer). K ((es ++ turn.entries) ++ Rules.entries_by o a rs later) xs (Rules.effects o a (r ∷ rs) w))
+        (subst (λ (xs : List Answer). K ((es ++ turn.entries) ++ Rules.entries_by o a rs later) xs
+            (Rules.effects o a (r ∷ rs) w))
         (append_assoc ss turn.answers (Rules.answers_by o a rs later))
         (chain_makes rs later (es ++ turn.entries) (ss ++ turn.answers) (step w r es ss k W V m.0) V m.1))
       where
@@ -124,9 +131,13 @@ module _ (o : Opening) where
         → K (turn_of o w e).entries (turn_of o w e).answers (accepted o w e)
     event_makes w e here W h k =
         subst (λ (xs : List Entry). K xs (turn_of o w e).answers (accepted o w e)) h.entries
-        (subst (λ (xs : List Answer). K (Rules.entries_by o (place e) (rules_of o w e h) w) xs (accepted o w e)) h.answers
-        (subst (K (Rules.entries_by o (place e) (rules_of o w e h) w) (Rules.answers_by o (place e) (rules_of o w e h) w)) h.world
-        (subst (λ (b : ℕ). Rules.MayAll o b (rules_of o w e h) w → K (Rules.entries_by o b (rules_of o w e h) w) (Rules.answers_by o b (rules_of o w e h) w) (Rules.effects o b (rules_of o w e h) w))
+        (subst (λ (xs : List Answer). K (Rules.entries_by o (place e) (rules_of o w e h) w) xs (accepted o w e))
+            h.answers
+        (subst (K (Rules.entries_by o (place e) (rules_of o w e h) w)
+            (Rules.answers_by o (place e) (rules_of o w e h) w)) h.world
+        (subst (λ (b : ℕ). Rules.MayAll o b (rules_of o w e h) w
+            → K (Rules.entries_by o b (rules_of o w e h) w) (Rules.answers_by o b (rules_of o w e h) w)
+            (Rules.effects o b (rules_of o w e h) w))
         (sym here) (chain_makes (rules_of o w e h) w [] [] k W) h.may)))
 
   pub rule_whole : (a : ℕ) (w : World) (r : Rule) → Whole w → Rules.May o a w r → Whole (Rules.effect o a r w)

@@ -49,7 +49,8 @@ AnswersComeInTime = (o : Opening) (es : List WorldEvent) →
 
 -- while no operation of its group holds, a running node shows the registry
 abbrev pub ShowsWhenFree : Type 0
-ShowsWhenFree = (o : Opening) (es : List WorldEvent) (a : ℕ) → IsRunning o (so_far o es) a → IsTrue (is_free (so_far o es) a) →
+ShowsWhenFree = (o : Opening) (es : List WorldEvent) (a : ℕ) → IsRunning o (so_far o es) a
+    → IsTrue (is_free (so_far o es) a) →
     Shows (so_far o es).registry a (now o es)
 
 -- while one holds, with that operation or without it

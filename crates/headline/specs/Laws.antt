@@ -1,17 +1,18 @@
 -- What follows from the headline, in a user's words.
 use mathlib.Core.Logic.{◌⊎◌}
-use Rattle.std.specs.Prelude.{ℕ, Bool, true, false, ◌≡◌, IsTrue, Some, None, List, [], ◌∷◌, ◌++◌}
+use Rattle.std.specs.Prelude.{ℕ, Bool, true, false, ◌≡◌, IsTrue, Contains, Some, None, List, [], ◌∷◌, ◌++◌}
 use Rattle.std.specs.List.{list_all}
 use Rattle.registry_model.specs.Process.{Text, Process, Nodes, nobody}
-use Rattle.registry_model.specs.Table.{get}
-use Rattle.registry_model.specs.Call.{Register, Yes, No}
+use Rattle.registry_model.specs.Table.{Put, get}
+use Rattle.registry_model.specs.Call.{NameCall, Register, Yes, No, change_of}
 use Rattle.registry_model.specs.Registry.{in_group}
 use Rattle.registry_model.specs.History.{Entry, Name, is_free, registry_of}
 use Rattle.registry_model.specs.HistoryLaws.{HasOneOwner, IsFreeFor, Takes}
 use Rattle.protocol_model.specs.Node.{holds_global}
-use Rattle.protocol_model.specs.Event.{Call, Event, Refusal}
+use Rattle.protocol_model.specs.Event.{Call, Event, Refusal, Answer}
 use Rattle.protocol_model.specs.World.{Opening, in_world, in_cluster, World, left, WorldEvent, At, refusal, happens, answers}
-use Rattle.protocol_model.specs.Course.{course}
+use Rattle.protocol_model.specs.Course.{Played, course}
+use Rattle.protocol_model.specs.Fit.{NameAs, accepted_at}
 use Rattle.protocol_model.specs.Headline.{Headline}
 use Rattle.headline.specs.Clauses.{world, now, events, so_far}
 
@@ -25,30 +26,36 @@ pub record RunsJoined (o : Opening) (w : World) (a : ℕ) : Type 0 where
   pub runs : Runs o w a
   pub joined : (w.node a).replica.joined ≡ true
 
--- At most one node of a group holds the global lock: a lone node is its own group, and of the joined nodes one holds it at most
+-- At most one node of a group holds the global lock: a lone node is its own group, and of the joined nodes one holds
+-- it at most
 abbrev pub OneHolder : Type 0
 OneHolder = (o : Opening) (es : List WorldEvent) (a b : ℕ) → RunsJoined o (world o es) a → RunsJoined o (world o es) b →
     holds_global ((world o es).node a) ≡ true → holds_global ((world o es).node b) ≡ true → a ≡ b
 
 -- At no running node a name has two owners
 abbrev pub OneOwnerAtEach : Type 0
-OneOwnerAtEach = (o : Opening) (es : List WorldEvent) (a : ℕ) → Runs o (world o es) a → HasOneOwner ((world o es).node a).replica.table
+OneOwnerAtEach = (o : Opening) (es : List WorldEvent) (a : ℕ) → Runs o (world o es) a
+    → HasOneOwner ((world o es).node a).replica.table
 
 -- While nobody holds the lock, running joined nodes that were told of the same departures show the same names
 abbrev pub JoinedAgree : Type 0
-JoinedAgree = (o : Opening) (es : List WorldEvent) (a b : ℕ) → RunsJoined o (world o es) a → RunsJoined o (world o es) b →
+JoinedAgree = (o : Opening) (es : List WorldEvent) (a b : ℕ) → RunsJoined o (world o es) a
+    → RunsJoined o (world o es) b →
     (now o es).holder ≡ None → ((d : ℕ) → ((world o es).node a).replica.told d ≡ ((world o es).node b).replica.told d) →
     ((world o es).node a).replica.table ≡ ((world o es).node b).replica.table
 
--- A `no` to `register` is never given to a free name and a free process: who is refused so saw the name or the process taken
+-- A `no` to `register` is never given to a free name and a free process: who is refused so saw the name or the
+-- process taken
 abbrev pub NoToTheTaken : Type 0
 NoToTheTaken = (o : Opening) (es : List WorldEvent) (before later : List Entry) (n k : ℕ) (x : Text) (p : Process) →
-    (now o es).history ≡ before ++ Name n k (Register x p) No ∷ later → IsFreeFor (registry_of (in_cluster o) before) n x p → ⊥
+    (now o es).history ≡ before ++ Name n k (Register x p) No ∷ later
+        → IsFreeFor (registry_of (in_cluster o) before) n x p → ⊥
 
 -- A `yes` to `register` is only given to a free name and a free process
 abbrev pub YesToTheFreeOnly : Type 0
 YesToTheFreeOnly = (o : Opening) (es : List WorldEvent) (before later : List Entry) (n k : ℕ) (x : Text) (p : Process) →
-    (now o es).history ≡ before ++ Name n k (Register x p) Yes ∷ later → IsFreeFor (registry_of (in_cluster o) before) n x p
+    (now o es).history ≡ before ++ Name n k (Register x p) Yes ∷ later
+        → IsFreeFor (registry_of (in_cluster o) before) n x p
 
 -- some entry of these takes the name x from p, as n sees it
 pub record IsTaken (cluster : Nodes) (before later : List Entry) (n : ℕ) (x : Text) (p : Process) : Type 0 where
@@ -58,14 +65,28 @@ pub record IsTaken (cluster : Nodes) (before later : List Entry) (n : ℕ) (x : 
   pub split : later ≡ middle ++ entry ∷ rest
   pub takes : Takes (registry_of cluster (before ++ middle)) n x p entry
 
--- After a `yes` to `register` every running node of the group, that wasn't told that the owner's node left, finds the owner
+-- After a `yes` to `register` every running node of the group, that wasn't told that the owner's node left, finds the
+-- owner
 -- whenever no operation of its group holds, until an entry takes the name
 abbrev pub YesStands : Type 0
 YesStands = (o : Opening) (es : List WorldEvent) (before later : List Entry) (n k c : ℕ) (x : Text) (p : Process) →
-    (now o es).history ≡ before ++ Name n k (Register x p) Yes ∷ later → in_group (registry_of (in_cluster o) before) n c ≡ true →
-    (registry_of (in_cluster o) before).told c p.node ≡ false → Runs o (world o es) c → IsTrue (is_free (so_far o es) c) →
+    (now o es).history ≡ before ++ Name n k (Register x p) Yes ∷ later
+        → in_group (registry_of (in_cluster o) before) n c ≡ true →
+    (registry_of (in_cluster o) before).told c p.node ≡ false → Runs o (world o es) c
+        → IsTrue (is_free (so_far o es) c) →
     (get x ((world o es).node c).replica.table ≡ Some p)
     ⊎ IsTaken (in_cluster o) (before ++ Name n k (Register x p) Yes ∷ []) later c x p
+
+-- When a call that gives the name x to q is answered `yes`, every running node of the group finds q at once, but for
+-- those that were
+-- told that q's node left
+abbrev pub YesIsFound : Type 0
+YesIsFound = (o : Opening) (es : List WorldEvent) (before : List Played) (p : Played) (s : Answer) (call : NameCall)
+    (x : Text) (q : Process) →
+    events o es ≡ before ++ p ∷ [] → Contains p.answers s → s.reply ≡ Yes →
+    Contains (accepted_at s.node (events o es)) (NameAs s.number call) → change_of call ≡ Put x q →
+    (c : ℕ) → Runs o (world o es) c → in_group (so_far o es).registry s.node c ≡ true →
+    ((world o es).node c).replica.told q.node ≡ false → get x ((world o es).node c).replica.table ≡ Some q
 
 -- a refused event answers nothing and leaves the world and the course as they were
 pub record ChangesNothing (o : Opening) (w : World) (e : WorldEvent) : Type 0 where
@@ -75,7 +96,8 @@ pub record ChangesNothing (o : Opening) (w : World) (e : WorldEvent) : Type 0 wh
 
 -- A refused event changes nothing
 abbrev pub RefusedChangesNothing : Type 0
-RefusedChangesNothing = (o : Opening) (w : World) (e : WorldEvent) (r : Refusal) → refusal o w e ≡ Some r → ChangesNothing o w e
+RefusedChangesNothing = (o : Opening) (w : World) (e : WorldEvent) (r : Refusal) → refusal o w e ≡ Some r
+    → ChangesNothing o w e
 
 -- no join and no leave
 abbrev pub is_fixed : WorldEvent → Bool
@@ -83,15 +105,18 @@ is_fixed (At a Event.Leave) = false
 is_fixed (At a (Event.Calling (Call.JoinBy m))) = false
 is_fixed _ = true
 
--- What stands where nobody joins or leaves: all that the headline says, and nodes of the cluster show one table and one group
+-- What stands where nobody joins or leaves: all that the headline says, and nodes of the cluster show one table and
+-- one group
 pub record FixedMembership (o : Opening) (es : List WorldEvent) : Type 0 where
   pub headline : Headline o (events o es) (now o es)
   -- the cluster is that of the opening, and nobody has left
   pub cluster : (c : ℕ) → (so_far o es).registry.joined c ≡ in_cluster o c
   pub stays : (c : ℕ) → (so_far o es).registry.left c ≡ false
-  -- while no operation of the cluster holds, each of its nodes shows the registry's table, with the whole cluster as members
+  -- while no operation of the cluster holds, each of its nodes shows the registry's table, with the whole cluster as
+  -- members
   pub shows : (a : ℕ) → in_cluster o a ≡ true → (so_far o es).held ≡ None →
-      (now o es).node a ≡ record { table = (so_far o es).registry.table; members = in_cluster o; told = nobody; joined = true }
+      (now o es).node a ≡ record { table = (so_far o es).registry.table; members = in_cluster o; told = nobody;
+          joined = true }
 
 -- The headline for every list of events without joins and departures
 abbrev pub FixedAgreement : Type 0

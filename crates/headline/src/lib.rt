@@ -5,7 +5,7 @@
 ghost use Rattle.protocol_model.specs.ClientLocks.{Exclusion};
 ghost use Rattle.protocol_model.specs.Headline.{Agreement};
 ghost use Rattle.headline.specs.Clauses.{HistoryGrows, HistoryIsLegal, HistoryFits, AnswersAreEntries, AnswersComeInTime, ShowsWhenFree, ShowsWhenHeld, YesIsWritten, LeaveWaits, HolderHolds};
-ghost use Rattle.headline.specs.Laws.{OneHolder, OneOwnerAtEach, JoinedAgree, NoToTheTaken, YesToTheFreeOnly, YesStands, RefusedChangesNothing, FixedAgreement};
+ghost use Rattle.headline.specs.Laws.{OneHolder, OneOwnerAtEach, JoinedAgree, NoToTheTaken, YesToTheFreeOnly, YesStands, YesIsFound, RefusedChangesNothing, FixedAgreement};
 
 /// All answers to name calls and joins are those of one sequential registry that takes the granted operations in lock order,
 /// and whenever the lock is free, the replicas are that registry's.
@@ -106,4 +106,9 @@ pub fn yes_stands()
 /// The headline where nobody joins or leaves: the cluster shows one table.
 pub fn fixed_membership()
     ensures { FixedAgreement }
+{}
+
+/// When a call that gives a name is answered `yes`, every running node of the group finds the process at once.
+pub fn yes_is_found()
+    ensures { YesIsFound }
 {}
