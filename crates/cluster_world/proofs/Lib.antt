@@ -7,3 +7,4 @@ mod Plays
 mod Playing
 mod Opening
 mod Running
+mod Agreeing

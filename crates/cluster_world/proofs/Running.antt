@@ -1,14 +1,15 @@
 -- Events that were played one after the other.
-use Rattle.std.proofs.Common.{ℕ, zero, suc, ◌≡◌, ◌+◌, Some, List, [], ◌∷◌, ◌++◌, take, refl, sym, ap, ◌∙◌, arith}
+use Rattle.std.proofs.Common.{ℕ, zero, suc, Bool, true, false, ◌≡◌, ◌+◌, Option, Some, None, List, [], ◌∷◌, ◌++◌, take, refl, sym, ap, ◌∙◌, arith}
 use Rattle.std.specs.List.{slice_get}
+use Rattle.std.specs.Prelude.{◌&&◌, is_none}
 use Rattle.std.proofs.lemmas.List.{append_assoc, append-nil}
-use Rattle.protocol_model.specs.Event.{Answer as AnyAnswer}
-use Rattle.protocol_model.specs.World.{Opening, World, WorldEvent as AnyWorldEvent, happens, answers, run, all_answers}
+use Rattle.protocol_model.specs.Event.{Answer as AnyAnswer, Refusal as AnyRefusal}
+use Rattle.protocol_model.specs.World.{Opening, World, WorldEvent as AnyWorldEvent, refusal, happens, answers, run, all_answers}
 use Rattle.cluster_world.specs.declared.events.Answer.{Answer}
 use Rattle.cluster_world.specs.declared.events.WorldEvent.{WorldEvent}
 use Rattle.cluster_world.specs.Held.{Held}
 use Rattle.cluster_world.specs.Seen.{opening_of, seen, event_of}
-use Rattle.cluster_world.specs.Playing.{Played, IsSoFar, events_of}
+use Rattle.cluster_world.specs.Playing.{Played, IsSoFar, events_of, accepts_all}
 
 -- one event more is one more that happens
 run-push : (o : Opening) (w : World) (es : List AnyWorldEvent) (e : AnyWorldEvent) → run o w (es ++ e ∷ []) ≡ happens o (run o w es) e
@@ -21,6 +22,18 @@ answers-push o w [] e = append-nil (answers o w e)
 answers-push o w (d ∷ es) e = ap (λ (l : List AnyAnswer). answers o w d ++ l) (answers-push o (happens o w d) es e)
     ∙ sym (append_assoc (answers o w d) (all_answers o (happens o w d) es) (answers o (run o (happens o w d) es) e))
 
+-- and it was accepted, where all before were
+accepts_all-push : (o : Opening) (w : World) (es : List AnyWorldEvent) (e : AnyWorldEvent)
+    → accepts_all o w es ≡ true → refusal o (run o w es) e ≡ None → accepts_all o w (es ++ e ∷ []) ≡ true
+accepts_all-push o w [] e all free = ap (λ (r : Option AnyRefusal). is_none r && true) free
+accepts_all-push o w (d ∷ es) e all free = go (is_none (refusal o w d)) all (λ h. accepts_all-push o (happens o w d) es e h free)
+  where
+    go : (b : Bool) → (b && accepts_all o (happens o w d) es) ≡ true
+        → (accepts_all o (happens o w d) es ≡ true → accepts_all o (happens o w d) (es ++ e ∷ []) ≡ true)
+        → (b && accepts_all o (happens o w d) (es ++ e ∷ [])) ≡ true
+    go true h more = more h
+    go false h more = h
+
 -- the first k events and the next
 events-push : (es : List WorldEvent) (k : ℕ) (e : WorldEvent) → slice_get es k ≡ Some e → events_of (take (suc k) es) ≡ events_of (take k es) ++ event_of e ∷ []
 events-push [] k e h = cc
@@ -31,16 +44,23 @@ pub so_far_more : (es : List WorldEvent) (old mid new : Held) (k : ℕ) (given n
     → IsSoFar es old mid k given → slice_get es k ≡ Some e → Played e mid new given now → IsSoFar es old new (k + 1) now
 so_far_more es old mid new k given now e S at P = record {
   name = P.name ∙ S.name;
+  accepted = ap (accepts_all (opening_of old.name) (seen old)) (sym next)
+      ∙ accepts_all-push (opening_of old.name) (seen old) (events_of (take k es)) (event_of e) S.accepted
+      (ap (λ (w : World). refusal (opening_of old.name) w (event_of e)) (sym S.world)
+      ∙ ap (λ (n : ℕ). refusal (opening_of n) (seen mid) (event_of e)) (sym S.name) ∙ P.accepted);
   world = P.happens ∙ ap (λ (n : ℕ). happens (opening_of n) (seen mid) (event_of e)) S.name
       ∙ ap (λ (w : World). happens (opening_of old.name) w (event_of e)) S.world
       ∙ sym (run-push (opening_of old.name) (seen old) (events_of (take k es)) (event_of e))
-      ∙ ap (run (opening_of old.name) (seen old)) (sym (events-push es k e at) ∙ ap (λ (n : ℕ). events_of (take n es)) one_more);
+      ∙ ap (run (opening_of old.name) (seen old)) next;
   answers = P.answers ∙ ap (λ (l : List AnyAnswer). l ++ answers (opening_of mid.name) (seen mid) (event_of e)) S.answers
       ∙ ap (λ (n : ℕ). all_answers (opening_of old.name) (seen old) (events_of (take k es)) ++ answers (opening_of n) (seen mid) (event_of e)) S.name
       ∙ ap (λ (w : World). all_answers (opening_of old.name) (seen old) (events_of (take k es)) ++ answers (opening_of old.name) w (event_of e)) S.world
       ∙ sym (answers-push (opening_of old.name) (seen old) (events_of (take k es)) (event_of e))
-      ∙ ap (all_answers (opening_of old.name) (seen old)) (sym (events-push es k e at) ∙ ap (λ (n : ℕ). events_of (take n es)) one_more);
+      ∙ ap (all_answers (opening_of old.name) (seen old)) next;
 }
   where
     one_more : suc k ≡ k + 1
     one_more = omega arith
+
+    next : events_of (take k es) ++ event_of e ∷ [] ≡ events_of (take (k + 1) es)
+    next = sym (events-push es k e at) ∙ ap (λ (n : ℕ). events_of (take n es)) one_more

@@ -1,7 +1,7 @@
 -- What playing events comes to, as the protocol has it.
-use Rattle.std.specs.Prelude.{ℕ, Bool, false, ◌≡◌, ◌≤◌, Option, Some, None, List, [], ◌∷◌, ◌++◌, map, take, length}
+use Rattle.std.specs.Prelude.{ℕ, Bool, true, false, ◌&&◌, ◌≡◌, ◌≤◌, Option, Some, None, is_none, List, [], ◌∷◌, ◌++◌, map, take, length}
 use Rattle.std.specs.List.{slice_get}
-use Rattle.protocol_model.specs.World.{refusal, happens, answers, run, all_answers, next_delivery, WorldEvent as AnyWorldEvent, Deliver}
+use Rattle.protocol_model.specs.World.{Opening, World, refusal, happens, answers, run, all_answers, next_delivery, WorldEvent as AnyWorldEvent, Deliver}
 use Rattle.cluster_world.specs.declared.events.Answer.{Answer}
 use Rattle.cluster_world.specs.declared.events.Refusal.{Refusal}
 use Rattle.cluster_world.specs.declared.events.StartFault.{StartFault}
@@ -30,6 +30,11 @@ RefusedWith r e old = refusal (opening_of old.name) (seen old) (event_of e) ≡ 
 abbrev pub events_of : List WorldEvent → List AnyWorldEvent
 events_of es = map event_of es
 
+-- the world accepts each of these events as it comes
+abbrev pub accepts_all : Opening → World → List AnyWorldEvent → Bool
+accepts_all o w [] = true
+accepts_all o w (e ∷ es) = is_none (refusal o w e) && accepts_all o (happens o w e) es
+
 -- memory was refused on the way
 abbrev pub ran_out : Option Refusal → Bool
 ran_out None = false
@@ -44,6 +49,7 @@ IsStop es k now (Some r) = (e : WorldEvent) × (slice_get es k ≡ Some e) × Re
 pub record Ran (es : List WorldEvent) (old new : Held) (k : ℕ) (given : List Answer) (stop : Option Refusal) : Type 0 where
   pub name : new.name ≡ old.name
   pub within : k ≤ length es
+  pub accepted : accepts_all (opening_of old.name) (seen old) (events_of (take k es)) ≡ true
   pub world : seen new ≡ run (opening_of old.name) (seen old) (events_of (take k es))
   pub answers : map answer_of given ≡ all_answers (opening_of old.name) (seen old) (events_of (take k es))
   pub stopped : IsStop es k new stop
@@ -56,5 +62,6 @@ WaitsOn (Some (f, t)) h = next_delivery (opening_of h.name) (seen h) ≡ Some (D
 -- the first k of these events were accepted and played
 pub record IsSoFar (es : List WorldEvent) (old new : Held) (k : ℕ) (given : List Answer) : Type 0 where
   pub name : new.name ≡ old.name
+  pub accepted : accepts_all (opening_of old.name) (seen old) (events_of (take k es)) ≡ true
   pub world : seen new ≡ run (opening_of old.name) (seen old) (events_of (take k es))
   pub answers : map answer_of given ≡ all_answers (opening_of old.name) (seen old) (events_of (take k es))

@@ -1,4 +1,6 @@
--- The rules of the one node, as they change what is held. The letters that it sends go to itself.
+-- The step of the one node, on what a world of one node holds: the contracts of the calls inside the crate cite it. Its
+-- letters go to itself, so each rule is one change of what is held, and follows the code. That such a step is the protocol's
+-- step of this world is proved in proofs/ (`plays` of Plays), and the public calls promise the protocol's step alone.
 use Rattle.std.specs.Prelude.{ℕ, Bool, true, false, not, ◌||◌, ◌==◌, ◌+◌, ◌-◌, nat_lt, Option, Some, None, is_some, List, [], ◌∷◌, ◌++◌, if◌then◌else◌}
 use Rattle.registry_model.specs.Process.{Process}
 use Rattle.registry_model.specs.Table.{Table, get, owns, put}

@@ -3,11 +3,12 @@ ghost use Rattle.std.specs.Prelude.{◌≡◌};
 ghost use Rattle.cluster_world.specs.Steps.{change_by};
 
 use name_table::Change;
+use std::alloc::AllocError;
 use term::{Name, NodeName, Pid};
 use thiserror::Error;
 
 /// A look-up at one node.
-#[derive(Debug, Drop)]
+#[derive(Debug, PartialEq, Eq, Drop)]
 pub enum Look {
     /// Who owns this name?
     Whereis(Name),
@@ -16,11 +17,12 @@ pub enum Look {
 /// What a client may call at a node.
 #[derive(Debug, Drop)]
 pub enum Call {
-    /// A new process of the node.
+    /// A new process of the node, with the next serial: answered at once by `Pid`.
     Spawn,
-    /// The owner of a name, by the node's own table.
+    /// The owner of a name, by the node's own table: answered at once by `Pid` or `Undefined`.
     Whereis(Name),
-    /// The process is to own the name. The call is numbered at its node, and answered when it was decided.
+    /// The process is to own the name. The call is numbered at its node, from 1 on, and answered by `Yes` when it was written,
+    /// or by `No` or `UnknownNode` when it was decided.
     Register(Name, Pid),
 }
 
@@ -41,7 +43,7 @@ pub enum WorldEvent {
 }
 
 /// What a call is answered.
-#[derive(Debug, Drop)]
+#[derive(Debug, PartialEq, Eq, Drop)]
 pub enum Reply {
     /// The name stands on all nodes.
     Yes,
@@ -70,19 +72,19 @@ impl Reply {
     }
 }
 
-/// An answer: the node, the number of the call there (0 for `Spawn` and look-ups), and the reply.
-#[derive(Debug, Drop)]
+/// An answer to a call.
+#[derive(Debug, PartialEq, Eq, Drop)]
 pub struct Answer {
     /// The node that answers.
     pub node: NodeName,
-    /// The number of the call at that node.
+    /// The number of the call at that node: from 1 on for name calls, and 0 for `Spawn` and look-ups.
     pub call: u32,
     /// The reply.
     pub reply: Reply,
 }
 
 /// A call that goes through the registry.
-#[derive(Debug, Drop)]
+#[derive(Debug, PartialEq, Eq, Drop)]
 pub enum NameCall {
     /// The process is to own the name.
     Register(Name, Pid),
@@ -109,7 +111,7 @@ impl NameCall {
 }
 
 /// An entry of the history, in the order in which operations took effect.
-#[derive(Debug, Drop)]
+#[derive(Debug, PartialEq, Eq, Drop)]
 pub enum Entry {
     /// A name call was decided: its node, its number there, the call and the reply.
     Name(NodeName, u32, NameCall, Reply),
@@ -120,7 +122,7 @@ pub enum Entry {
 }
 
 /// Why an event is refused, in the order in which the causes are looked for.
-#[derive(Debug, Drop, Error)]
+#[derive(Clone, Copy, Debug, PartialEq, Eq, Error)]
 pub enum Refusal {
     /// A node of the event isn't of this world.
     #[error("no_such_node")]
@@ -128,10 +130,10 @@ pub enum Refusal {
     /// Nothing is on the link.
     #[error("empty_link")]
     EmptyLink,
-    /// The node has given its last serial.
+    /// The node has given its last serial, 4,294,967,295.
     #[error("serials_spent")]
     SerialsSpent,
-    /// The node has given its last number of a call.
+    /// The node has given its last number of a call, 4,294,967,295.
     #[error("calls_spent")]
     CallsSpent,
     /// Memory was refused. What stands then isn't said yet, and the world isn't to be used any more.
@@ -139,8 +141,18 @@ pub enum Refusal {
     Memory,
 }
 
+impl From<AllocError> for Refusal {
+    ghost use Rattle.cluster_world.specs.declared.events.Refusal.{Refusal};
+
+    ghost from_gives = { λ _ refusal. refusal ≡ Refusal.Memory };
+
+    fn from(_: AllocError) -> Refusal {
+        Refusal::Memory
+    }
+}
+
 /// Why a world isn't started, in the order in which the causes are looked for.
-#[derive(Debug, Drop, Error)]
+#[derive(Clone, Copy, Debug, PartialEq, Eq, Error)]
 pub enum StartFault {
     /// The cluster has no node.
     #[error("no_node")]

@@ -2,6 +2,7 @@
 #![tactic(auto)]
 
 mod events;
+pub mod laws;
 mod node;
 mod world;
 
@@ -9,3 +10,6 @@ pub use events::{
     Answer, Call, Entry, Event, Look, NameCall, Refusal, Reply, RunEnd, StartFault, WorldEvent,
 };
 pub use world::World;
+
+#[cfg(test)]
+mod tests;

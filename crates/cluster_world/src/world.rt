@@ -12,16 +12,22 @@ use std::marker::Model;
 use std::mem::replace;
 use term::{Name, NodeName, Pid};
 
-/// A world: its node, the link of the node to itself, and the history.
+/// A world: its node, the link of the node to itself, and the history. Contracts see what it holds as the protocol's world
+/// with this one node.
 #[derive(Drop)]
 pub struct World<N: Names> {
     name: NodeName,
     table: N,
+    /// How often the registrar was granted its own lock, and didn't give it back.
     locks: u32,
+    /// The calls that wait for the registrar, the oldest first.
     queue: VecDeque<Op>,
     phase: Phase,
+    /// The number that the last name call was given; 0 before the first.
     last_call: u32,
+    /// The serial that the last process was given; 0 before the first.
     last_serial: u32,
+    /// The letters of the node to itself, the oldest first.
     link: VecDeque<Letter>,
     history: Vec<Entry>,
 }
@@ -48,6 +54,7 @@ impl<N: Names> World<N> {
     ghost use Rattle.std.specs.Prelude.{◌≡◌, ◌==◌, ◌<◌, false, [], is_some, Option, Some, None, OnOk, IfOk, IfErr, IfSome};
     ghost use Rattle.cluster_world.specs.Seen.{opening_of, seen, is_memory};
     ghost use Rattle.cluster_world.specs.Playing.{Played, RefusedWith, ran_out, Ran, WaitsOn};
+    ghost use Rattle.cluster_world.specs.Agreeing.{Agrees};
     ghost use Rattle.protocol_model.specs.World.{holder};
     ghost use Rattle.cluster_world.specs.Steps.{answer_to, started, sent, entered, replied, released, granted, denied, decided, done, heard, counted_applied, judged, read, delivered, spawned, looked_up, called, called_with, call_refused, refused, stepped, is_nil, last_u32};
 
@@ -354,17 +361,14 @@ impl<N: Names> World<N> {
         if let Some(refusal) = self.refusal(event) {
             return Err(refusal);
         }
-        match self.step(event) {
-            Ok(None) => Ok(()),
-            Ok(Some(answer)) => match answers.push(answer) {
-                Ok(()) => Ok(()),
-                Err(_) => Err(Refusal::Memory),
-            },
-            Err(_) => Err(Refusal::Memory),
+        if let Some(answer) = self.step(event)? {
+            answers.push(answer).map_err(AllocError::from)?;
         }
+        Ok(())
     }
 
-    /// Plays one event, and gives what its step answers. A refused event changes nothing; after `Memory` the world isn't to be used.
+    /// Plays one event, and gives what its step answers. A refused event changes nothing; only where `Memory` is refused is the
+    /// world not to be used any more.
     pub fn play(&mut self, event: &WorldEvent) -> Result<Vec<Answer>, Refusal>
         ensures ok { IfOk result (λ answers. Played event.now self.old self.new [] answers.items) }
         ensures refused { IfErr result (λ refusal. RefusedWith refusal event.now self.old) }
@@ -375,8 +379,20 @@ impl<N: Names> World<N> {
         Ok(answers)
     }
 
-    /// Plays events in order, up to the first that is refused.
+    /// Plays events in order, up to the first that is refused. That one changes nothing, and those behind it aren't looked at.
+    /// Where `Memory` is refused, the contract says nothing of the world and of the answers.
+    ///
+    /// Behind whatever was played on a world from its opening on, the headline holds: the answers to name calls are those of one
+    /// sequential registry that takes the granted operations in lock order, and the table is that registry's.
     pub fn run(&mut self, events: &[WorldEvent]) -> RunEnd
+        ensures ran { ran_out result.refusal ≡ false → Ran events.now self.old self.new result.played result.answers.items result.refusal }
+        ensures agrees { ran_out result.refusal ≡ false → Agrees events.now self.old self.new result.played }
+    {
+        self.play_all(events)
+    }
+
+    /// Plays events in order, up to the first that is refused.
+    fn play_all(&mut self, events: &[WorldEvent]) -> RunEnd
         ensures { ran_out result.refusal ≡ false → Ran events.now self.old self.new result.played result.answers.items result.refusal }
     {
         let mut answers = Vec::new(*self.history.allocator());
@@ -403,7 +419,7 @@ impl<N: Names> World<N> {
         self.history.as_slice()
     }
 
-    /// The table of a node, if the node is of this world.
+    /// The table of a node, or `None` where the node isn't of this world.
     pub fn table(&self, node: &NodeName) -> Option<&N>
         ensures here { is_some result ≡ (node.now == self.now.name) }
         ensures table { IfSome result (λ table. N.contents table.now ≡ self.now.table) }
@@ -415,7 +431,7 @@ impl<N: Names> World<N> {
         }
     }
 
-    /// The node that holds the global lock, if one does.
+    /// The node that holds the global lock, if one does: from its grant until what it wrote is acknowledged.
     pub fn holder(&self) -> Option<NodeName>
         ensures { result ≡ holder (opening_of self.now.name) (seen self.now) }
     {
@@ -433,7 +449,7 @@ impl<N: Names> World<N> {
         self.link.is_empty()
     }
 
-    /// The first link, by sender and then receiver, on which a letter waits.
+    /// The first link on which a letter waits, as its sender and its receiver; links go by sender and then receiver.
     pub fn waiting(&self) -> Option<(NodeName, NodeName)>
         ensures { WaitsOn result self.now }
     {

@@ -9,3 +9,6 @@ mod names;
 pub use change::{Change, Pair};
 pub use list_table::ListTable;
 pub use names::Names;
+
+#[cfg(test)]
+mod tests;

@@ -10,7 +10,8 @@ use std::alloc::{AllocError, Allocator};
 use std::marker::Model;
 use term::{Name, Pid};
 
-/// A table of names that keeps its pairs in one list, rising by name.
+/// A table of names that keeps its pairs in one list, rising by name. Finding a name halves the list again and again; a
+/// change moves what stands behind it, and the least name of a process is sought from the front on.
 #[derive(Drop)]
 pub struct ListTable<A: Allocator> {
     pairs: Vec<Pair, A>,

@@ -1,12 +1,5 @@
-use Rattle.std.proofs.Common.{◌∙◌, Some, sym, ap}
-use Rattle.std.proofs.lemmas.Option.{slice_get-get_or}
-use Rattle.cluster_world.specs.declared.events.WorldEvent.{WorldEvent}
-use Rattle.cluster_world.proofs.Running.{so_far_more}
+use Rattle.cluster_world.proofs.Agreeing.{agrees}
 use Rattle.cluster_world.proofs.world.World.run.Goals as goal
 
-pub loop-played-preserved : goal.loop-played-preserved
-loop-played-preserved g c =
-    so_far_more c.args.events.now c.args.self.now c.loop-played.self c.play_into.new.self c.loop-played.played c.loop-played.answers.items c.play_into.new.answers.items
-    c.index-events-played.result c.loop-played.invariant
-    (slice_get-get_or c.args.events.now c.loop-played.played c.index-events-played.result c.loop-played-test.true ∙ ap (λ (e : WorldEvent). Some e) (sym c.index-events-played.is))
-    c.in_default.ensures.ok
+pub returns-clause-agrees : goal.returns-clause-agrees
+returns-clause-agrees g c = λ kept. agrees _ _ _ _ _ _ (c.play_all.ensures kept)

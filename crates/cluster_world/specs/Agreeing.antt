@@ -1,0 +1,22 @@
+-- The headline of a world of one node.
+use Rattle.std.specs.Prelude.{ℕ, ◌≡◌, take, List, ◌++◌}
+use Rattle.protocol_model.specs.World.{Opening, World, WorldEvent as AnyWorldEvent, opening_world, run}
+use Rattle.protocol_model.specs.Course.{course, seen as shown}
+use Rattle.protocol_model.specs.Headline.{Headline}
+use Rattle.cluster_world.specs.declared.events.WorldEvent.{WorldEvent}
+use Rattle.cluster_world.specs.Held.{Held}
+use Rattle.cluster_world.specs.Seen.{opening_of, seen}
+use Rattle.cluster_world.specs.Playing.{events_of}
+
+-- the headline holds behind these events, of which the world now is
+abbrev pub AgreesAfter : Opening → List AnyWorldEvent → World → Type 0
+AgreesAfter o es w = Headline o (course o (opening_world o) es) (shown o w)
+
+-- Where a world was opened and played these events before, the headline holds behind those and the first k of es
+abbrev pub Agrees : List WorldEvent → Held → Held → ℕ → Type 0
+Agrees es old new k = (before : List AnyWorldEvent) → seen old ≡ run (opening_of old.name) (opening_world (opening_of old.name)) before →
+    AgreesAfter (opening_of old.name) (before ++ events_of (take k es)) (seen new)
+
+-- The headline of every world of one node, after every list of events
+abbrev pub OneNodeAgrees : Type 0
+OneNodeAgrees = (a : ℕ) (es : List AnyWorldEvent) → AgreesAfter (opening_of a) es (run (opening_of a) (opening_world (opening_of a)) es)
