@@ -1,0 +1,9 @@
+mod Known
+mod Parts
+mod Texts
+mod Writing
+mod Playing
+mod Settling
+mod Scripts
+mod Headers
+mod Runs

@@ -1,0 +1,137 @@
+-- Lines that are played one after the other.
+use Rattle.std.proofs.Common.{ℕ, Bool, true, List, [], ◌∷◌, ◌++◌, ◌≡◌, ◌+◌, Option, refl, sym, ap, subst, ◌∙◌, append-nil, append_assoc, Result, Err, arith}
+use Rattle.std.specs.Prelude.{◌&&◌}
+use Rattle.std.specs.List.{list_all}
+use Rattle.std.proofs.lemmas.List.Folds.{list_all-append}
+use Rattle.std.specs.Io.KnownBytes.{Appends}
+use Rattle.std.proofs.KnownBytes.{Appends-trans, Appends-nil}
+use Rattle.protocol_model.specs.World.{Opening, World}
+use Rattle.protocol_model.specs.Script.{Line as ScriptLine}
+use Rattle.cluster_world.specs.Held.{Held}
+use Rattle.cluster_world.specs.Seen.{opening_of, seen}
+use Rattle.cluster_script.specs.declared.faults.LineFault.{LineFault}
+use Rattle.cluster_script.specs.declared.faults.ScriptFault.{ScriptFault}
+use Rattle.cluster_script.specs.Lines.{spoken, count_of_all, LosesLines}
+use Rattle.cluster_script.specs.Commands.{LineAsks}
+use Rattle.cluster_script.specs.Printing.{shown_text, shown_line, is_fine, Shown}
+use Rattle.cluster_script.specs.Script.{AppendsPart, AllAsk, behind, behind_all, shown, shown_all}
+use Rattle.cluster_script.specs.Played.{PlaysLine, PlaysLines, PlaysSome, PlaysAll, shown_on}
+use Rattle.cluster_script.proofs.Writing.{AppendsPart-behind, AppendsPart-whole}
+use Rattle.cluster_script.proofs.Known.{LosesLines-trans, LosesLines-nil, LosesLines-begins, spoken-append, count_of_all-append}
+
+-- two lists that are printed
+pub shown_text-append : (xs ys : List Shown) → shown_text (xs ++ ys) ≡ shown_text xs ++ shown_text ys
+shown_text-append [] ys = refl
+shown_text-append (x ∷ xs) ys =
+    ap (λ (t : List ℕ). shown_line x ++ t) (shown_text-append xs ys) ∙ sym (append_assoc (shown_line x) (shown_text xs) (shown_text ys))
+
+-- one line more
+pub AllAsk-push : (ls : List (List ℕ)) (asked : List (Result ScriptLine LineFault)) (l : List ℕ) (a : Result ScriptLine LineFault)
+    → AllAsk ls asked → LineAsks l a → AllAsk (ls ++ l ∷ []) (asked ++ a ∷ [])
+AllAsk-push [] [] l a h k = (k, tt)
+AllAsk-push [] (b ∷ bs) l a h k = absurd h
+AllAsk-push (m ∷ ms) [] l a h k = absurd h
+AllAsk-push (m ∷ ms) (b ∷ bs) l a h k = (h.0, AllAsk-push ms bs l a h.1 k)
+
+module _ (o : Opening) where
+  pub behind_all-push : (w : World) (asked : List (Result ScriptLine LineFault)) (a : Result ScriptLine LineFault) → behind_all o w (asked ++ a ∷ []) ≡ behind o (behind_all o w asked) a
+  behind_all-push w [] a = refl
+  behind_all-push w (b ∷ asked) a = behind_all-push (behind o w b) asked a
+
+  pub shown_all-push : (w : World) (asked : List (Result ScriptLine LineFault)) (a : Result ScriptLine LineFault)
+      → shown_all o w (asked ++ a ∷ []) ≡ shown_all o w asked ++ shown o (behind_all o w asked) a
+  shown_all-push w [] a = append-nil (shown o w a)
+  shown_all-push w (b ∷ asked) a =
+      ap (λ (t : List Shown). shown o w b ++ t) (shown_all-push (behind o w b) asked a)
+      ∙ sym (append_assoc (shown o w b) (shown_all o (behind o w b) asked) (shown o (behind_all o (behind o w b) asked) a))
+
+-- no line was played yet
+pub PlaysLines-start : (input : Option (List ℕ)) (most : ℕ) (old : Held) (a : Option (List ℕ)) → PlaysLines input input most most old old a a true
+PlaysLines-start input most old a = record {
+  taken = [];
+  asked = [];
+  read = LosesLines-nil input;
+  counted = omega arith;
+  each = tt;
+  name = refl;
+  world = refl;
+  wrote = Appends-nil a;
+  fine_is = refl;
+}
+
+module _ (input mid : Option (List ℕ)) (most l1 : ℕ) (old h1 : Held) (a b : Option (List ℕ)) (fine : Bool) (P : PlaysLines input mid most l1 old h1 a b fine) where
+  -- what one more line prints
+  pub text-push : (asked : Result ScriptLine LineFault) → shown_text (shown_all (opening_of old.name) (seen old) (P.asked ++ asked ∷ []))
+      ≡ shown_text (shown_all (opening_of old.name) (seen old) P.asked) ++ shown_on h1 asked
+  text-push asked =
+      ap shown_text (shown_all-push (opening_of old.name) (seen old) P.asked asked)
+      ∙ shown_text-append (shown_all (opening_of old.name) (seen old) P.asked) (shown (opening_of old.name) (behind_all (opening_of old.name) (seen old) P.asked) asked)
+      ∙ ap (λ (w : World). shown_text (shown_all (opening_of old.name) (seen old) P.asked) ++ shown_text (shown (opening_of old.name) w asked)) (sym P.world)
+      ∙ ap (λ (n : ℕ). shown_text (shown_all (opening_of old.name) (seen old) P.asked) ++ shown_text (shown (opening_of n) (seen h1) asked)) (sym P.name)
+
+  -- what was played so far, where a fault comes
+  pub PlaysSome-so_far : PlaysSome input old a b
+  PlaysSome-so_far = record {
+    taken = P.taken;
+    asked = P.asked;
+    read = LosesLines-begins input mid P.taken P.read;
+    each = P.each;
+    wrote = subst (λ (t : List ℕ). AppendsPart a b t) (append-nil _) (AppendsPart-whole a b _ [] P.wrote);
+  }
+
+  module _ (rest : Option (List ℕ)) (ls : List (List ℕ)) (line : List ℕ) (asked : Result ScriptLine LineFault) (s : spoken ls ≡ line ∷ []) (t : LosesLines mid rest ls)
+      (q : LineAsks line asked) where
+    pub each-push : AllAsk (spoken (P.taken ++ ls)) (P.asked ++ asked ∷ [])
+    each-push = subst (λ (xs : List (List ℕ)). AllAsk xs (P.asked ++ asked ∷ []))
+        (sym (spoken-append P.taken ls ∙ ap (λ (xs : List (List ℕ)). spoken P.taken ++ xs) s)) (AllAsk-push (spoken P.taken) P.asked line asked P.each q)
+
+    -- a fault comes while a line is played
+    pub PlaysSome-next : (c : Option (List ℕ)) → AppendsPart b c (shown_on h1 asked) → PlaysSome input old a c
+    PlaysSome-next c p = record {
+      taken = P.taken ++ ls;
+      asked = P.asked ++ asked ∷ [];
+      read = LosesLines-begins input rest (P.taken ++ ls) (LosesLines-trans input mid rest P.taken ls P.read t);
+      each = each-push;
+      wrote = subst (λ (x : List ℕ). AppendsPart a c x) (sym (text-push asked)) (AppendsPart-behind a b c _ (shown_on h1 asked) P.wrote p);
+    }
+
+    -- a line is played
+    pub PlaysLines-next : (l2 : ℕ) (h2 : Held) (c : Option (List ℕ)) (fine2 : Bool) → l1 ≡ l2 + count_of_all ls → PlaysLine h1 h2 asked b c fine2
+        → PlaysLines input rest most l2 old h2 a c (fine && fine2)
+    PlaysLines-next l2 h2 c fine2 e p = record {
+      taken = P.taken ++ ls;
+      asked = P.asked ++ asked ∷ [];
+      read = LosesLines-trans input mid rest P.taken ls P.read t;
+      counted = omega (arith, P.counted, e, count_of_all-append P.taken ls);
+      each = each-push;
+      name = p.name ∙ P.name;
+      world = p.world ∙ ap (λ (n : ℕ). behind (opening_of n) (seen h1) asked) P.name ∙ ap (λ (w : World). behind (opening_of old.name) w asked) P.world
+          ∙ sym (behind_all-push (opening_of old.name) (seen old) P.asked asked);
+      wrote = subst (λ (x : List ℕ). Appends a c x) (sym (text-push asked)) (Appends-trans a b c _ (shown_on h1 asked) P.wrote p.wrote);
+      fine_is = ap (λ (x : Bool). x && fine2) P.fine_is
+          ∙ ap (λ (x : Bool). list_all is_fine (shown_all (opening_of old.name) (seen old) P.asked) && x)
+          (p.fine_is ∙ ap (λ (n : ℕ). list_all is_fine (shown (opening_of n) (seen h1) asked)) P.name ∙ ap (λ (w : World). list_all is_fine (shown (opening_of old.name) w asked)) P.world)
+          ∙ sym (list_all-append is_fine (shown_all (opening_of old.name) (seen old) P.asked) (shown (opening_of old.name) (behind_all (opening_of old.name) (seen old) P.asked) asked))
+          ∙ ap (λ (xs : List Shown). list_all is_fine xs) (sym (shown_all-push (opening_of old.name) (seen old) P.asked asked));
+    }
+
+-- what the exit of a `?` says of lines
+pub PlaysAll-err : (input rest : Option (List ℕ)) (most left : ℕ) (old new : Held) (a b : Option (List ℕ)) (r : Result Bool ScriptFault) (y : ScriptFault)
+    → r ≡ Err y → PlaysSome input old a b → PlaysAll input rest most left old new a b r
+PlaysAll-err input rest most left old new a b r y e p = rw e p
+
+-- empty lines are read
+pub PlaysLines-blank : (input mid rest : Option (List ℕ)) (most l1 l2 : ℕ) (old h1 : Held) (a b : Option (List ℕ)) (fine : Bool) (P : PlaysLines input mid most l1 old h1 a b fine)
+    (ls : List (List ℕ)) → spoken ls ≡ [] → LosesLines mid rest ls → l1 ≡ l2 + count_of_all ls → PlaysLines input rest most l2 old h1 a b fine
+PlaysLines-blank input mid rest most l1 l2 old h1 a b fine P ls s t e = record {
+  taken = P.taken ++ ls;
+  asked = P.asked;
+  read = LosesLines-trans input mid rest P.taken ls P.read t;
+  counted = omega (arith, P.counted, e, count_of_all-append P.taken ls);
+  each = subst (λ (xs : List (List ℕ)). AllAsk xs P.asked)
+      (sym (spoken-append P.taken ls ∙ ap (λ (xs : List (List ℕ)). spoken P.taken ++ xs) s ∙ append-nil (spoken P.taken))) P.each;
+  name = P.name;
+  world = P.world;
+  wrote = P.wrote;
+  fine_is = P.fine_is;
+}

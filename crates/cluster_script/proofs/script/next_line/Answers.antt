@@ -1,0 +1,50 @@
+use Rattle.std.proofs.Common.{◌≡◌, ◌++◌, ◌∷◌, ◌+◌, ◌<◌, ℕ, List, [], Option, ◌∙◌, subst, ap, sym, append-nil, arith}
+use Rattle.cluster_script.specs.Lines.{TakesLine, LosesLines, count_of, spoken}
+use Rattle.cluster_script.specs.declared.lines.Line.{Line}
+use Rattle.cluster_script.proofs.Known.{LosesLines-trans, spoken-append, spoken-blank, spoken-said, count_of_all-append}
+use Rattle.cluster_script.proofs.script.next_line.Goals as goal
+
+-- a line counts for at least one
+less : (most left : ℕ) (line : List ℕ) → most ≡ left + count_of line → left < most
+less most left line e = omega arith
+
+pub returns-in_default : goal.returns-in_default
+returns-in_default g c =
+    let i = c.loop-line.invariant in
+    let t = subst (λ (o : Option Line). TakesLine (g.R.Read.remaining c.loop-line.reader) (g.R.Read.remaining c.read_line.new.reader) c.loop-line.left c.read_line.new.left o) c.in_default.is c.in_ok-line.ensures in (
+      i.0,
+      i.1,
+      subst (λ (ls : List (List ℕ)). LosesLines (g.R.Read.remaining c.args.reader.now) (g.R.Read.remaining c.read_line.new.reader) ls) (append-nil i.0)
+          (LosesLines-trans (g.R.Read.remaining c.args.reader.now) (g.R.Read.remaining c.loop-line.reader) (g.R.Read.remaining c.read_line.new.reader) i.0 [] i.2 t.0),
+      t.1,
+      omega (arith, i.3, t.2),
+    )
+
+pub returns-then-not-is_blank : goal.returns-then-not-is_blank
+returns-then-not-is_blank g c =
+    let i = c.loop-line.invariant in
+    let t = subst (λ (o : Option Line). TakesLine (g.R.Read.remaining c.loop-line.reader) (g.R.Read.remaining c.read_line.new.reader) c.loop-line.left c.read_line.new.left o) c.in-Some.is c.in_ok-line.ensures in
+    let b = sym (c.is_blank.ensures t.0 t.1) ∙ c.if-not-is_blank.true in (
+      i.0 ++ t.0 ∷ [],
+      t.0,
+      t.1,
+      spoken-append i.0 (t.0 ∷ []) ∙ ap (λ (ls : List (List ℕ)). ls ++ spoken (t.0 ∷ [])) i.1 ∙ spoken-said t.0 b,
+      LosesLines-trans (g.R.Read.remaining c.args.reader.now) (g.R.Read.remaining c.loop-line.reader) (g.R.Read.remaining c.read_line.new.reader) i.0 (t.0 ∷ []) i.2 t.2,
+      omega (arith, i.3, t.3, count_of_all-append i.0 (t.0 ∷ [])),
+    )
+
+pub loop-line-preserved-else-not-is_blank : goal.loop-line-preserved-else-not-is_blank
+loop-line-preserved-else-not-is_blank g c =
+    let i = c.loop-line.invariant in
+    let t = subst (λ (o : Option Line). TakesLine (g.R.Read.remaining c.loop-line.reader) (g.R.Read.remaining c.read_line.new.reader) c.loop-line.left c.read_line.new.left o) c.in-Some.is c.in_ok-line.ensures in
+    let b = sym (c.is_blank.ensures t.0 t.1) ∙ c.if-not-is_blank.false in (
+      i.0 ++ t.0 ∷ [],
+      spoken-append i.0 (t.0 ∷ []) ∙ ap (λ (ls : List (List ℕ)). ls ++ spoken (t.0 ∷ [])) i.1 ∙ spoken-blank t.0 b,
+      LosesLines-trans (g.R.Read.remaining c.args.reader.now) (g.R.Read.remaining c.loop-line.reader) (g.R.Read.remaining c.read_line.new.reader) i.0 (t.0 ∷ []) i.2 t.2,
+      omega (arith, i.3, t.3, count_of_all-append i.0 (t.0 ∷ [])),
+    )
+
+pub loop-line-smaller-else-not-is_blank : goal.loop-line-smaller-else-not-is_blank
+loop-line-smaller-else-not-is_blank g c =
+    let t = subst (λ (o : Option Line). TakesLine (g.R.Read.remaining c.loop-line.reader) (g.R.Read.remaining c.read_line.new.reader) c.loop-line.left c.read_line.new.left o) c.in-Some.is c.in_ok-line.ensures in
+    less c.loop-line.left c.read_line.new.left t.0 t.3

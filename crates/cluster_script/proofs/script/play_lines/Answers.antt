@@ -1,0 +1,76 @@
+use Rattle.std.proofs.Common.{◌≡◌, ◌+◌, ◌<◌, ℕ, Bool, List, [], ◌∷◌, Option, ◌∙◌, subst, sym, arith}
+use Rattle.std.proofs.lemmas.Result.{err_from_is_err_and}
+use Rattle.cluster_script.specs.declared.lines.Line.{Line}
+use Rattle.cluster_script.specs.Lines.{spoken, count_of_all}
+use Rattle.cluster_script.specs.Commands.{asked_by}
+use Rattle.cluster_script.specs.Played.{ReadsOn, PlaysLines}
+use Rattle.cluster_script.proofs.Known.{count_of_all-some}
+use Rattle.cluster_script.proofs.Scripts.{PlaysLines-start, PlaysLines-next, PlaysSome-next, PlaysLines-blank, PlaysAll-err}
+use Rattle.cluster_script.proofs.script.play_lines.Goals as goal
+
+-- a line that isn't empty counts
+less : (most left : ℕ) (ls : List (List ℕ)) (line : List ℕ) → spoken ls ≡ line ∷ [] → most ≡ left + count_of_all ls → left < most
+less most left ls line s e =
+    let n = count_of_all-some ls (λ z. cons_nil line (sym s ∙ z)) in
+    omega (arith, n, e)
+  where
+    cons_nil : (l : List ℕ) → l ∷ [] ≡ [] → ⊥
+    cons_nil l h = cc
+
+pub loop-line-init : goal.loop-line-init
+loop-line-init g c = PlaysLines-start (g.R.Read.remaining c.args.reader.now) c.args.left.now c.args.world.now (g.W.Write.contents c.args.writer.now)
+
+pub returns-in_err-fine : goal.returns-in_err-fine
+returns-in_err-fine g c =
+    let p = err_from_is_err_and c.from_residual-in_err-fine.result c.from_residual-in_err-fine.ensures.1 in
+    let t = subst (λ (o : Option Line). ReadsOn (g.R.Read.remaining c.loop-line.reader) (g.R.Read.remaining c.next_line.new.reader) c.loop-line.left c.next_line.new.left o)
+    c.in-Some.is c.in_ok-line.ensures in
+    PlaysAll-err _ _ _ _ _ _ _ _ c.from_residual-in_err-fine.result p.0 p.1
+    (PlaysSome-next (g.R.Read.remaining c.args.reader.now) (g.R.Read.remaining c.loop-line.reader) c.args.left.now c.loop-line.left c.args.world.now c.loop-line.world
+    (g.W.Write.contents c.args.writer.now) (g.W.Write.contents c.loop-line.writer) c.loop-line.is_fine c.loop-line.invariant
+    (g.R.Read.remaining c.next_line.new.reader) t.0 t.1 (asked_by c.in_ok-task.task) t.3 t.4 (c.in_ok-task.ensures t.1 t.2)
+    (g.W.Write.contents c.play_task.new.writer) c.in_err-fine.ensures)
+
+pub loop-line-smaller-in_ok-fine : goal.loop-line-smaller-in_ok-fine
+loop-line-smaller-in_ok-fine g c =
+    let t = subst (λ (o : Option Line). ReadsOn (g.R.Read.remaining c.loop-line.reader) (g.R.Read.remaining c.next_line.new.reader) c.loop-line.left c.next_line.new.left o)
+    c.in-Some.is c.in_ok-line.ensures in
+    less c.loop-line.left c.next_line.new.left t.0 t.1 t.3 t.5
+
+pub loop-line-smaller : goal.loop-line-smaller
+loop-line-smaller g c =
+    let t = subst (λ (o : Option Line). ReadsOn (g.R.Read.remaining c.loop-line.reader) (g.R.Read.remaining c.next_line.new.reader) c.loop-line.left c.next_line.new.left o)
+    c.in-Some.is c.in_ok-line.ensures in
+    less c.loop-line.left c.next_line.new.left t.0 t.1 t.3 t.5
+
+pub loop-line-preserved-in_ok-fine : goal.loop-line-preserved-in_ok-fine
+loop-line-preserved-in_ok-fine g c =
+    let t = subst (λ (o : Option Line). ReadsOn (g.R.Read.remaining c.loop-line.reader) (g.R.Read.remaining c.next_line.new.reader) c.loop-line.left c.next_line.new.left o)
+    c.in-Some.is c.in_ok-line.ensures in
+    let n = PlaysLines-next (g.R.Read.remaining c.args.reader.now) (g.R.Read.remaining c.loop-line.reader) c.args.left.now c.loop-line.left c.args.world.now c.loop-line.world
+    (g.W.Write.contents c.args.writer.now) (g.W.Write.contents c.loop-line.writer) c.loop-line.is_fine c.loop-line.invariant
+    (g.R.Read.remaining c.next_line.new.reader) t.0 t.1 (asked_by c.in_ok-task.task) t.3 t.4 (c.in_ok-task.ensures t.1 t.2)
+    c.next_line.new.left c.play_task.new.world (g.W.Write.contents c.play_task.new.writer) c.in_ok-fine.fine t.5 c.in_ok-fine.ensures in
+    subst (λ (b : Bool). PlaysLines (g.R.Read.remaining c.args.reader.now) (g.R.Read.remaining c.next_line.new.reader) c.args.left.now c.next_line.new.left c.args.world.now
+    c.play_task.new.world (g.W.Write.contents c.args.writer.now) (g.W.Write.contents c.play_task.new.writer) b) (sym c.both-is_fine.ensures) n
+
+pub loop-line-preserved : goal.loop-line-preserved
+loop-line-preserved g c =
+    let t = subst (λ (o : Option Line). ReadsOn (g.R.Read.remaining c.loop-line.reader) (g.R.Read.remaining c.next_line.new.reader) c.loop-line.left c.next_line.new.left o)
+    c.in-Some.is c.in_ok-line.ensures in
+    let n = PlaysLines-next (g.R.Read.remaining c.args.reader.now) (g.R.Read.remaining c.loop-line.reader) c.args.left.now c.loop-line.left c.args.world.now c.loop-line.world
+    (g.W.Write.contents c.args.writer.now) (g.W.Write.contents c.loop-line.writer) c.loop-line.is_fine c.loop-line.invariant
+    (g.R.Read.remaining c.next_line.new.reader) t.0 t.1 (asked_by c.in_ok-task.task) t.3 t.4 (c.in_ok-task.ensures t.1 t.2)
+    c.next_line.new.left c.play_task.new.world (g.W.Write.contents c.play_task.new.writer) c.in_ok-fine.fine t.5 c.in_ok-fine.ensures in
+    subst (λ (b : Bool). PlaysLines (g.R.Read.remaining c.args.reader.now) (g.R.Read.remaining c.next_line.new.reader) c.args.left.now c.next_line.new.left c.args.world.now
+    c.play_task.new.world (g.W.Write.contents c.args.writer.now) (g.W.Write.contents c.play_task.new.writer) b) (sym c.both-is_fine.ensures) n
+
+pub returns : goal.returns
+returns g c =
+    let t = subst (λ (o : Option Line). ReadsOn (g.R.Read.remaining c.loop-line.reader) (g.R.Read.remaining c.next_line.new.reader) c.loop-line.left c.next_line.new.left o)
+    c.in_default.is c.in_ok-line.ensures in (
+      PlaysLines-blank (g.R.Read.remaining c.args.reader.now) (g.R.Read.remaining c.loop-line.reader) (g.R.Read.remaining c.next_line.new.reader) c.args.left.now c.loop-line.left
+          c.next_line.new.left c.args.world.now c.loop-line.world (g.W.Write.contents c.args.writer.now) (g.W.Write.contents c.loop-line.writer) c.loop-line.is_fine
+          c.loop-line.invariant t.0 t.1 t.2 t.4,
+      t.3,
+    )

@@ -1,0 +1,7 @@
+pub mod Lines
+pub mod Words
+pub mod Commands
+pub mod Printing
+pub mod Script
+pub mod Header
+pub mod Played

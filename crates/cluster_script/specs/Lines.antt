@@ -1,0 +1,82 @@
+-- Lines of a script, without their ends: how long they may be, and how many there may be.
+use Rattle.std.specs.Prelude.{ℕ, Bool, true, false, ◌+◌, ◌-◌, ◌/◌, ◌≡◌, ◌≤◌, ◌<◌, ◌==◌, ◌&&◌, not, nat_lt, ⊤, List, [], ◌∷◌, ◌++◌, length, take, filter, slice_index, if◌then◌else◌, Option, Some, None}
+use Rattle.std.specs.List.{list_all, All}
+use Rattle.std.specs.Io.KnownBytes.{Consumes, IsAtEnd}
+use Rattle.std.specs.Str.Lines.{lines, strip_carriage_return}
+use Rattle.cluster_script.specs.declared.lines.Line.{Line}
+use Rattle.cluster_script.specs.declared.lines.Line.TheVariants.{Text, TooLong}
+use Rattle.cluster_script.specs.declared.lines.Part.{Part}
+
+-- the longest line that is read
+abbrev pub longest_line : ℕ
+longest_line = 1024
+
+-- the most lines of a script
+abbrev pub most_lines : ℕ
+most_lines = 1000000
+
+-- how many lines so many bytes count for: one, and one more for each full 1,024 bytes past the first 1,024
+abbrev pub count_for : ℕ → ℕ
+count_for n = 1 + (n - longest_line) / longest_line
+
+-- how many lines a line counts for
+abbrev pub count_of : List ℕ → ℕ
+count_of line = count_for (length line)
+
+-- how many lines these count for
+abbrev pub count_of_all : List (List ℕ) → ℕ
+count_of_all [] = 0
+count_of_all (l ∷ ls) = count_of l + count_of_all ls
+
+-- a line of spaces alone, not too many of them, is empty
+abbrev pub is_blank : List ℕ → Bool
+is_blank line = not (nat_lt longest_line (length line)) && list_all (λ b. b == 32) line
+
+-- the lines that aren't empty
+abbrev pub spoken : List (List ℕ) → List (List ℕ)
+spoken ls = filter (λ line. not (is_blank line)) ls
+
+-- what is kept of a line: its bytes, unless it is too long
+abbrev pub IsKept : List ℕ → Line → Type 0
+IsKept line (Text v) = (v.items ≡ line) × (length line ≤ longest_line)
+IsKept line TooLong = longest_line < length line
+
+-- what is kept of a line of which these bytes were read, and no end: as many as show how long it is
+pub record IsPart (bytes : List ℕ) (part : Part) : Type 0 where
+  pub text : part.text.items ≡ take 1025 bytes
+  pub len : part.len ≡ length bytes
+  pub ends_in_return : part.ends_in_return ≡ (slice_index bytes (length bytes - 1) == 13)
+
+-- the line of these bytes: before a line feed it loses one carriage return
+abbrev pub line_of : Bool → List ℕ → List ℕ
+line_of is_ended bytes = if is_ended then strip_carriage_return bytes else bytes
+
+-- known bytes lose their first lines, which are these
+abbrev pub LosesLines : Option (List ℕ) → Option (List ℕ) → List (List ℕ) → Type 0
+LosesLines None new ls = ⊤
+LosesLines (Some xs) None ls = ⊥
+LosesLines (Some xs) (Some ys) ls = lines xs ≡ ls ++ lines ys
+
+-- there is no further line in known bytes
+abbrev pub HasNoLine : Option (List ℕ) → Type 0
+HasNoLine None = ⊤
+HasNoLine (Some xs) = lines xs ≡ []
+
+-- there is no line feed
+abbrev pub HasNoFeed : List ℕ → Type 0
+HasNoFeed bytes = All (λ b. (b == 10) ≡ false) bytes
+
+-- known bytes lose these bytes of a line, and with them its end
+abbrev pub TakesPart : Option (List ℕ) → Option (List ℕ) → Bool → List ℕ → Type 0
+TakesPart old new true bytes = Consumes old new (bytes ++ 10 ∷ [])
+TakesPart old new false bytes = Consumes old new bytes × IsAtEnd new
+
+-- known bytes lose this one, or there is none
+abbrev pub TakesByte : Option (List ℕ) → Option (List ℕ) → Option ℕ → Type 0
+TakesByte old new None = Consumes old new [] × IsAtEnd new
+TakesByte old new (Some b) = Consumes old new (b ∷ [])
+
+-- the next line was read, or there is none
+abbrev pub TakesLine : Option (List ℕ) → Option (List ℕ) → ℕ → ℕ → Option Line → Type 0
+TakesLine old new most left None = LosesLines old new [] × HasNoLine new × (most ≡ left)
+TakesLine old new most left (Some kept) = (line : List ℕ) × IsKept line kept × LosesLines old new (line ∷ []) × (most ≡ left + count_of line)

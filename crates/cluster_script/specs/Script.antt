@@ -1,0 +1,148 @@
+-- What a script prints: its lines are played on one world, one after the other.
+use Rattle.std.specs.Prelude.{ℕ, ◌⊎◌, Bool, ◌≡◌, ◌≤◌, ⊤, bytes_eq, codes, fold, map, List, [], ◌∷◌, ◌++◌, if◌then◌else◌, Option, Some, None, Result, Ok, Err, MatchResult}
+use Rattle.std.specs.List.{list_all}
+use Rattle.std.specs.Io.KnownBytes.{Appends}
+use Rattle.std.specs.Str.Lines.{lines}
+use Rattle.protocol_model.specs.World.{Opening, World, opening_world, run}
+use Rattle.protocol_model.specs.Script.{Line, events_in, printed}
+use Rattle.term.specs.declared.faults.TextFault.{TextFault}
+use Rattle.term.specs.Spelling.{SpellsText, RefusesText}
+use Rattle.cluster_world.specs.Playing.{start_refused}
+use Rattle.cluster_world.specs.Held.{Held}
+use Rattle.cluster_world.specs.Seen.{opening_of, seen}
+use Rattle.cluster_script.specs.declared.faults.LineFault.{LineFault}
+use Rattle.cluster_script.specs.declared.faults.LineFault.TheVariants.{BadLine, Text, Start}
+use Rattle.cluster_world.specs.declared.events.StartFault.{StartFault}
+use Rattle.cluster_script.specs.Lines.{spoken, count_of_all, most_lines}
+use Rattle.cluster_script.specs.Words.{words}
+use Rattle.cluster_script.specs.Commands.{unread, LineAsks}
+use Rattle.cluster_script.specs.Printing.{Shown, Shows, Refuses, shown_text, is_fine}
+
+-- the most deliveries of one `settle`
+unfoldable pub settle_limit : ℕ
+settle_limit = 100000
+
+-- the world behind a line
+abbrev pub behind : Opening → World → Result Line LineFault → World
+behind o w (Ok l) = run o w (events_in o settle_limit w l)
+behind o w (Err f) = w
+
+-- what is printed for a line
+abbrev pub shown : Opening → World → Result Line LineFault → List Shown
+shown o w (Ok l) = map Shows (printed o settle_limit w l (events_in o settle_limit w l))
+shown o w (Err f) = Refuses f ∷ []
+
+-- the world behind these lines
+abbrev pub behind_all : Opening → World → List (Result Line LineFault) → World
+behind_all o w asked = fold (behind o) w asked
+
+-- what is printed for these lines
+abbrev pub shown_all : Opening → World → List (Result Line LineFault) → List Shown
+shown_all o w [] = []
+shown_all o w (a ∷ asked) = shown o w a ++ shown_all o (behind o w a) asked
+
+-- what these lines ask for, each by itself
+abbrev pub AllAsk : List (List ℕ) → List (Result Line LineFault) → Type 0
+AllAsk [] [] = Unit {0}
+AllAsk (l ∷ ls) (a ∷ asked) = LineAsks l a × AllAsk ls asked
+AllAsk _ _ = ⊥
+
+-- the texts of a `cluster` line
+abbrev pub cluster_texts : List (List ℕ) → Option (List (List ℕ))
+cluster_texts [] = None
+cluster_texts (w ∷ texts) = if bytes_eq w (codes "cluster") then Some texts else None
+
+-- these texts spell these nodes
+abbrev pub AllSpell : List (List ℕ) → List ℕ → Type 0
+AllSpell [] [] = Unit {0}
+AllSpell (t ∷ ts) (n ∷ nodes) = SpellsText t n × AllSpell ts nodes
+AllSpell _ _ = ⊥
+
+-- the nodes that these texts spell, or the fault of the first that spells none
+abbrev pub ReadsTexts : List (List ℕ) → Result (List ℕ) TextFault → Type 0
+ReadsTexts texts (Ok nodes) = AllSpell texts nodes
+ReadsTexts texts (Err f) = (before : List (List ℕ)) × (nodes : List ℕ) × (bad : List ℕ) × (after : List (List ℕ))
+    × (texts ≡ before ++ bad ∷ after) × AllSpell before nodes × RefusesText bad f
+
+-- a world of these nodes is started, or why it isn't
+abbrev pub started_unless : List ℕ → Option StartFault → Result (List ℕ) LineFault
+started_unless nodes None = Ok nodes
+started_unless nodes (Some f) = Err (Start f)
+
+abbrev pub started : Result (List ℕ) TextFault → Result (List ℕ) LineFault
+started (Ok nodes) = started_unless nodes (start_refused nodes [])
+started (Err f) = Err (Text f)
+
+-- what the words of the first line open
+abbrev pub OpensIn : Option (List (List ℕ)) → Result (List ℕ) LineFault → Type 0
+OpensIn None r = r ≡ Err BadLine
+OpensIn (Some texts) r = (nodes : Result (List ℕ) TextFault) × ReadsTexts texts nodes × (r ≡ started nodes)
+
+abbrev pub OpensUnless : Option LineFault → List ℕ → Result (List ℕ) LineFault → Type 0
+OpensUnless (Some f) line r = r ≡ Err f
+OpensUnless None line r = OpensIn (cluster_texts (words line)) r
+
+-- the nodes of the world that the first line opens, or why it is refused
+abbrev pub LineOpens : List ℕ → Result (List ℕ) LineFault → Type 0
+LineOpens line r = OpensUnless (unread line) line r
+
+-- what was made of the first line: a world of one node that stands as at its opening, or why there is none
+abbrev pub Opened : (Result (List ℕ) LineFault → Type 0) → Result Held LineFault → Type 0
+Opened Opens (Ok world) = Opens (Ok (world.name ∷ [])) × (seen world ≡ opening_world (opening_of world.name))
+Opened Opens (Err f) = Opens (Err f)
+
+-- the lines behind the first are played on a world of these nodes; if there is none, nothing is
+abbrev pub Follows : Result (List ℕ) LineFault → List (List ℕ) → List Shown → Type 0
+Follows (Err f) ls out = out ≡ Refuses f ∷ []
+Follows (Ok nodes) ls out = (a : ℕ) × (asked : List (Result Line LineFault)) × (nodes ≡ a ∷ []) × AllAsk ls asked
+    × (out ≡ shown_all (opening_of a) (opening_world (opening_of a)) asked)
+
+-- what is printed for lines of which none is empty: without a first line there is none that opens a world
+abbrev pub PrintsSpoken : List (List ℕ) → List Shown → Type 0
+PrintsSpoken [] out = out ≡ Refuses BadLine ∷ []
+PrintsSpoken (l ∷ ls) out = (opened : Result (List ℕ) LineFault) × LineOpens l opened × Follows opened ls out
+
+-- what is printed for lines
+abbrev pub Prints : List (List ℕ) → List Shown → Type 0
+Prints ls out = PrintsSpoken (spoken ls) out
+
+-- known bytes have these lines
+abbrev pub HasLines : Option (List ℕ) → List (List ℕ) → Type 0
+HasLines None ls = ⊤
+HasLines (Some xs) ls = lines xs ≡ ls
+
+-- known bytes begin with these lines
+abbrev pub BeginsWithLines : Option (List ℕ) → List (List ℕ) → Type 0
+BeginsWithLines None ls = ⊤
+BeginsWithLines (Some xs) ls = (more : List (List ℕ)) × (lines xs ≡ ls ++ more)
+
+-- known bytes grow by a part of these
+abbrev pub AppendsPart : Option (List ℕ) → Option (List ℕ) → List ℕ → Type 0
+AppendsPart old new text = (part : List ℕ) × (rest : List ℕ) × (text ≡ part ++ rest) × Appends old new part
+
+-- the text was written, or after a fault a part of it
+abbrev pub Writes : {A E : Type 0} → Option (List ℕ) → Option (List ℕ) → Result A E → List ℕ → Type 0
+Writes old new r text = MatchResult r (λ _. Appends old new text) (λ _. AppendsPart old new text)
+
+-- A script of this input was played to its end
+pub record Ran (input : Option (List ℕ)) (old new : Option (List ℕ)) (fine : Bool) : Type 0 where
+  pub all : List (List ℕ)
+  pub out : List Shown
+  pub read : HasLines input all
+  pub prints : Prints all out
+  -- the lines that were read, which count for no more than there may be; they are all, unless there is no world to play on
+  pub taken : List (List ℕ)
+  pub untaken : List (List ℕ)
+  pub parts : all ≡ taken ++ untaken
+  pub counted : count_of_all taken ≤ most_lines
+  pub ended : (untaken ≡ []) ⊎ ((f : LineFault) × (out ≡ Refuses f ∷ []))
+  pub wrote : Appends old new (shown_text out)
+  pub fine_is : fine ≡ list_all is_fine out
+
+-- A script of this input ended early: what was written is a part of what is printed for its first lines
+pub record Stopped (input : Option (List ℕ)) (old new : Option (List ℕ)) : Type 0 where
+  pub first : List (List ℕ)
+  pub out : List Shown
+  pub read : BeginsWithLines input first
+  pub prints : Prints first out
+  pub wrote : AppendsPart old new (shown_text out)

@@ -1,0 +1,229 @@
+//! Scripts, line by line.
+ghost use Rattle.std.specs.Prelude.{◌≡◌, ◌&&◌, ◌++◌, ◌∷◌, [], ◌≤◌, Some, Ok, Err, MatchResult, IfOk, option_map, map, List, ℕ};
+ghost use Rattle.protocol_model.specs.Script as script;
+ghost use Rattle.protocol_model.specs.World.{WorldEvent as AnyEvent};
+ghost use Rattle.cluster_world.specs.Seen.{answer_of as any_answer, event_of as any_event};
+ghost use Rattle.cluster_script.specs.Commands.{asked_by};
+ghost use Rattle.cluster_script.specs.Lines.{most_lines};
+ghost use Rattle.cluster_script.specs.Printing as print;
+ghost use Rattle.cluster_script.specs.Script.{Writes, Ran, Stopped};
+ghost use Rattle.cluster_script.specs.Played.{PlaysOrStops, PlaysAll, ReadsOn, Delivers, IsWordOf, settle_end};
+
+use crate::commands::{Task, read_task};
+use crate::faults::{LineFault, ScriptFault};
+use crate::header::open_world;
+use crate::lines::{Line, is_blank, read_line};
+use crate::printing::{answer_line, error_line, write_text};
+use cluster_world::{Answer, Refusal, World, WorldEvent};
+use name_table::ListTable;
+use std::alloc::Global;
+use std::io::{BufRead, Read, Write};
+use term::NodeName;
+
+/// The most deliveries of one `settle`.
+const SETTLE_LIMIT: u32 = 100_000;
+
+/// The most lines of a script.
+const MOST_LINES: u32 = 1_000_000;
+
+/// Writes the lines of answers.
+fn write_answers<W: Write>(
+    alloc: Global,
+    writer: &mut W,
+    answers: &[Answer],
+) -> Result<(), ScriptFault>
+    ensures { Writes (W.contents writer.old) (W.contents writer.new) result (print.answers_text (map any_answer answers.now)) }
+{
+    for answer in answers {
+        let line = answer_line(alloc, answer)?;
+        write_text(writer, line.as_bytes())?;
+    }
+    Ok(())
+}
+
+/// Writes the line of a refusal.
+fn write_error<W: Write>(alloc: Global, writer: &mut W, word: &str) -> Result<(), ScriptFault>
+    ensures { Writes (W.contents writer.old) (W.contents writer.new) result (print.error_line word.now) }
+{
+    let line = error_line(alloc, word)?;
+    write_text(writer, line.as_bytes())
+}
+
+/// The word of a refusal, unless it is want of memory.
+fn refusal_word(refusal: &Refusal) -> Option<&'static str>
+    ensures { IsWordOf refusal.now (option_map (λ word. word.now) result) }
+{
+    match refusal {
+        Refusal::NoSuchNode => Some("no_such_node"),
+        Refusal::EmptyLink => Some("empty_link"),
+        Refusal::SerialsSpent => Some("serials_spent"),
+        Refusal::CallsSpent => Some("calls_spent"),
+        Refusal::Memory => None,
+    }
+}
+
+/// Plays an event, and writes its answers, or why it is refused: whether it isn't.
+fn play_event<W: Write>(
+    alloc: Global,
+    writer: &mut W,
+    world: &mut World<ListTable<Global>>,
+    event: &WorldEvent,
+) -> Result<bool, ScriptFault>
+    ensures { PlaysOrStops world.old world.new (Ok (script.Play (any_event event.now))) (W.contents writer.old) (W.contents writer.new) result }
+{
+    match world.play(event) {
+        Ok(answers) => {
+            write_answers(alloc, writer, &answers)?;
+            Ok(true)
+        }
+        Err(refusal) => {
+            let Some(word) = refusal_word(&refusal) else {
+                return Err(ScriptFault::Memory);
+            };
+            write_error(alloc, writer, word)?;
+            Ok(false)
+        }
+    }
+}
+
+/// Writes how `settle` ended.
+fn end_settle<W: Write>(
+    alloc: Global,
+    writer: &mut W,
+    is_settled: bool,
+) -> Result<bool, ScriptFault>
+    ensures text { Writes (W.contents writer.old) (W.contents writer.new) result (print.output_line (settle_end is_settled)) }
+    ensures fine { IfOk result (λ fine. fine ≡ is_settled) }
+{
+    if is_settled {
+        write_text(writer, b"settled\n")?;
+    } else {
+        write_error(alloc, writer, "settle_limit")?;
+    }
+    Ok(is_settled)
+}
+
+/// Delivers the letter that waits, and writes the answers.
+fn deliver<W: Write>(
+    alloc: Global,
+    writer: &mut W,
+    world: &mut World<ListTable<Global>>,
+    sender: NodeName,
+    receiver: NodeName,
+) -> Result<(), ScriptFault>
+    ensures { Delivers world.old world.new (AnyEvent.Deliver sender receiver) (W.contents writer.old) (W.contents writer.new) result }
+{
+    match world.play(&WorldEvent::Deliver(sender, receiver)) {
+        Ok(answers) => write_answers(alloc, writer, &answers),
+        Err(_) => Err(ScriptFault::Memory),
+    }
+}
+
+/// Delivers until no letter waits, and writes all answers: whether none waits then.
+fn settle<W: Write>(
+    alloc: Global,
+    writer: &mut W,
+    world: &mut World<ListTable<Global>>,
+) -> Result<bool, ScriptFault>
+    ensures { PlaysOrStops world.old world.new (Ok script.Settle) (W.contents writer.old) (W.contents writer.new) result }
+{
+    for _ in 0..SETTLE_LIMIT {
+        let Some((sender, receiver)) = world.waiting() else {
+            return end_settle(alloc, writer, true);
+        };
+        deliver(alloc, writer, world, sender, receiver)?;
+    }
+    end_settle(alloc, writer, world.waiting().is_none())
+}
+
+/// Plays what a line asks for, and writes what it prints: whether no refusal is printed.
+fn play_task<W: Write>(
+    alloc: Global,
+    writer: &mut W,
+    world: &mut World<ListTable<Global>>,
+    task: Result<Task, LineFault>,
+) -> Result<bool, ScriptFault>
+    ensures { PlaysOrStops world.old world.new (asked_by task) (W.contents writer.old) (W.contents writer.new) result }
+{
+    match task {
+        Ok(Task::Play(event)) => play_event(alloc, writer, world, &event),
+        Ok(Task::Settle) => settle(alloc, writer, world),
+        Err(fault) => {
+            write_error(alloc, writer, fault.word())?;
+            Ok(false)
+        }
+    }
+}
+
+/// Reads on to the next line that isn't empty. `left` says how many more lines may come.
+fn next_line<R: Read>(
+    alloc: Global,
+    reader: &mut R,
+    left: &mut u32,
+) -> Result<Option<Line>, ScriptFault>
+    requires { left.old ≤ most_lines }
+    ensures { IfOk result (ReadsOn (R.remaining reader.old) (R.remaining reader.new) left.old left.new) }
+{
+    loop {
+        let Some(line) = read_line(alloc, reader, left)? else {
+            return Ok(None);
+        };
+        if !is_blank(&line) {
+            return Ok(Some(line));
+        }
+    }
+}
+
+/// Whether both hold.
+fn both(left: bool, right: bool) -> bool
+    ensures { result ≡ (left && right) }
+{
+    left && right
+}
+
+/// Reads and plays lines to the end of the input: whether no refusal was printed.
+fn play_lines<R: Read, W: Write>(
+    alloc: Global,
+    reader: &mut R,
+    writer: &mut W,
+    world: &mut World<ListTable<Global>>,
+    left: &mut u32,
+) -> Result<bool, ScriptFault>
+    requires { left.old ≤ most_lines }
+    ensures { PlaysAll (R.remaining reader.old) (R.remaining reader.new) left.old left.new world.old world.new
+        (W.contents writer.old) (W.contents writer.new) result }
+{
+    let mut is_fine = true;
+    while let Some(line) = next_line(alloc, reader, left)? {
+        let task = read_task(alloc, &line)?;
+        let fine = play_task(alloc, writer, world, task)?;
+        is_fine = both(is_fine, fine);
+    }
+    Ok(is_fine)
+}
+
+/// Plays a script, and writes what it prints: whether no refusal is printed.
+///
+/// Its first line that isn't empty names the nodes of the cluster; each other line asks for an event, or for deliveries until no
+/// letter waits. A line that is refused prints the word for it and changes nothing; where there is no world, the script ends.
+pub fn run_script<R: BufRead, W: Write>(
+    alloc: Global,
+    reader: &mut R,
+    writer: &mut W,
+) -> Result<bool, ScriptFault>
+    ensures { MatchResult result (Ran (R.remaining reader.old) (W.contents writer.old) (W.contents writer.new))
+        (λ _. Stopped (R.remaining reader.old) (W.contents writer.old) (W.contents writer.new)) }
+{
+    let mut left = MOST_LINES;
+    let Some(line) = next_line(alloc, reader, &mut left)? else {
+        write_error(alloc, writer, "bad_line")?;
+        return Ok(false);
+    };
+    match open_world(alloc, &line)? {
+        Ok(mut world) => play_lines(alloc, reader, writer, &mut world, &mut left),
+        Err(fault) => {
+            write_error(alloc, writer, fault.word())?;
+            Ok(false)
+        }
+    }
+}

@@ -1,0 +1,198 @@
+//! Worked rows, lines at their limits, and readers and writers that fail.
+use crate::{ScriptFault, run_script};
+use std::alloc::Global;
+use std::io::{self, BufReader, Cursor, Error, ErrorKind, Read, Write};
+use std::test::Fail;
+
+/// Whether a script prints this, and no refusal where `fine`.
+fn prints(alloc: Global, script: &[u8], output: &[u8], fine: bool) -> Result<bool, ScriptFault> {
+    let mut reader = Cursor::new(script);
+    let mut writer = Vec::new(alloc);
+    let result = run_script(alloc, &mut reader, &mut writer)?;
+    Ok(writer.as_slice() == output && result == fine)
+}
+
+#[test]
+fn plays_rows(rt: HostRuntime) -> Result<(), Fail> {
+    assert!(rt;
+        prints(
+            rt.alloc(),
+            b"cluster a\nspawn a\nregister a x a.1\nsettle\nwhereis a x\n",
+            b"a.1\na#1 yes\nsettled\na.1\n",
+            true
+        )?
+    );
+    assert!(rt;
+        prints(
+            rt.alloc(),
+            b"cluster a\nspawn a\nregister a x a.1\nregister a y a.1\nregister a x a.2\nregister a w z.1\nsettle\nwhereis a y\n",
+            b"a.1\na#1 yes\na#2 no\na#3 no\na#4 unknown_node\nsettled\nundefined\n",
+            true,
+        )?
+    );
+    assert!(rt;
+        prints(
+            rt.alloc(),
+            b"cluster a\nbogus\nwhereis a\ndeliver a a\nwhereis a x",
+            b"error bad_line\nerror bad_line\nerror empty_link\nundefined\n",
+            false,
+        )?
+    );
+    assert!(rt; prints(rt.alloc(), b"", b"error bad_line\n", false)?);
+    assert!(rt; prints(rt.alloc(), b"cluster", b"error no_node\n", false)?);
+    assert!(rt;
+        prints(
+            rt.alloc(),
+            b"cluster a b c d e f g h i\nspawn a\n",
+            b"error too_many_nodes\n",
+            false
+        )?
+    );
+    assert!(rt;
+        prints(
+            rt.alloc(),
+            b"cluster b! a\nspawn a\n",
+            b"error bad_byte\n",
+            false
+        )?
+    );
+    assert!(rt;
+        prints(
+            rt.alloc(),
+            b"cluster a\nlone b\nspawn a.1\nspawn b\nregister a x a\n",
+            b"error bad_line\nerror bad_byte\nerror no_such_node\nerror bad_serial\n",
+            false
+        )?
+    );
+    Ok(())
+}
+
+#[test]
+fn reads_longest_names(rt: HostRuntime) -> Result<(), Fail> {
+    let name = b"nnnnnnnnnnnnnnnnnnnnnnnnnnnnnnnnnnnnnnnnnnnnnnnnnnnnnnnnnnnnnnnn";
+    assert_eq!(rt; name.len(), 64);
+    let mut script = Vec::new(rt.alloc());
+    let mut output = Vec::new(rt.alloc());
+    script.extend_from_slice(b"cluster ")?;
+    script.extend_from_slice(name)?;
+    script.extend_from_slice(b"\nspawn ")?;
+    script.extend_from_slice(name)?;
+    output.extend_from_slice(name)?;
+    output.extend_from_slice(b".1\n")?;
+    assert!(rt; prints(rt.alloc(), script.as_slice(), output.as_slice(), true)?);
+    let mut script = Vec::new(rt.alloc());
+    script.extend_from_slice(b"cluster n")?;
+    script.extend_from_slice(name)?;
+    assert!(rt; prints(rt.alloc(), script.as_slice(), b"error too_long\n", false)?);
+    Ok(())
+}
+
+#[test]
+fn reads_lines(rt: HostRuntime) -> Result<(), Fail> {
+    assert!(rt;
+        prints(
+            rt.alloc(),
+            b" \n\ncluster   a \r\n  spawn  a\r\n\r\n",
+            b"a.1\n",
+            true
+        )?
+    );
+    assert!(rt;
+        prints(
+            rt.alloc(),
+            b"cluster a\nspawn a\r\r\nspawn a\r",
+            b"error bad_byte\nerror bad_byte\n",
+            false
+        )?
+    );
+    assert!(rt;
+        prints(
+            rt.alloc(),
+            b"cluster a\nspawn \xc8\nspawn a\n",
+            b"error not_ascii\na.1\n",
+            false
+        )?
+    );
+    assert!(rt;
+        prints(
+            rt.alloc(),
+            b"\xc8\ncluster a\n",
+            b"error not_ascii\n",
+            false
+        )?
+    );
+    // 1,024 spaces are an empty line, and one more are too many.
+    let mut script = Vec::new(rt.alloc());
+    script.extend_from_slice(b"cluster a\n")?;
+    for _ in 0..1024 {
+        script.push(b' ')?;
+    }
+    script.extend_from_slice(b"\r\n")?;
+    for _ in 0..1025 {
+        script.push(b' ')?;
+    }
+    script.extend_from_slice(b"\nspawn a\n")?;
+    assert!(rt;
+        prints(
+            rt.alloc(),
+            script.as_slice(),
+            b"error line_too_long\na.1\n",
+            false
+        )?
+    );
+    Ok(())
+}
+
+/// A reader that fails behind its first bytes.
+#[derive(Drop)]
+struct Torn<'a> {
+    bytes: &'a [u8],
+}
+
+impl<'a> Read for Torn<'a> {
+    fn read(&mut self, buf: &mut [u8]) -> io::Result<usize> {
+        if self.bytes.is_empty() {
+            return Err(Error::from(ErrorKind::BrokenPipe));
+        }
+        self.bytes.read(buf)
+    }
+}
+
+/// A writer that takes so many bytes and then fails.
+#[derive(Drop)]
+struct Full {
+    room: usize,
+}
+
+impl Write for Full {
+    fn write(&mut self, buf: &[u8]) -> io::Result<usize> {
+        if self.room == 0 {
+            return Err(Error::from(ErrorKind::BrokenPipe));
+        }
+        let count = buf.len().min(self.room);
+        self.room -= count;
+        Ok(count)
+    }
+
+    fn flush(&mut self) -> io::Result<()> {
+        Ok(())
+    }
+}
+
+#[test]
+fn passes_faults_on(rt: HostRuntime) -> Result<(), Fail> {
+    let torn = Torn {
+        bytes: b"cluster a\nspawn a\nspawn",
+    };
+    let mut reader = BufReader::new(rt.alloc(), torn)?;
+    let mut writer = Vec::new(rt.alloc());
+    let result = run_script(rt.alloc(), &mut reader, &mut writer);
+    assert!(rt; matches!(result, Err(ScriptFault::Read)));
+    assert_eq!(rt; writer.as_slice(), b"a.1\n".as_slice());
+    let mut reader = Cursor::new(b"cluster a\nspawn a\nspawn a\n".as_slice());
+    let mut writer = Full { room: 6 };
+    let result = run_script(rt.alloc(), &mut reader, &mut writer);
+    assert!(rt; matches!(result, Err(ScriptFault::Write)));
+    assert_eq!(rt; writer.room, 0);
+    Ok(())
+}

@@ -1,0 +1,27 @@
+-- When a link is refused.
+use Rattle.std.specs.Prelude.{ℕ, Bool, true, false, ◌&&◌, ◌≡◌, []}
+use Rattle.link.specs.declared.faults.LinkFault.{LinkFault}
+use Rattle.link.specs.declared.faults.LinkFault.TheVariants.{NoSuchNode, EmptyLink, Memory}
+use Rattle.link.specs.Held.{Held, has, seen}
+
+-- both ends are nodes of the mesh
+abbrev pub joins : {L : Type 0} → ℕ → ℕ → Held L → Bool
+joins f t h = has f h && has t h
+
+-- why a letter isn't sent
+abbrev pub IsUnsent : {L : Type 0} → LinkFault → ℕ → ℕ → Held L → Type 0
+IsUnsent NoSuchNode f t h = joins f t h ≡ false
+IsUnsent EmptyLink f t h = ⊥
+IsUnsent Memory f t h = (joins f t h ≡ true) × ((seen h).closed t ≡ false)
+
+-- why none is taken
+abbrev pub IsUndelivered : {L : Type 0} → LinkFault → ℕ → ℕ → Held L → Type 0
+IsUndelivered NoSuchNode f t h = joins f t h ≡ false
+IsUndelivered EmptyLink f t h = (joins f t h ≡ true) × ((seen h).queue f t ≡ [])
+IsUndelivered Memory f t h = ⊥
+
+-- why a node isn't closed out
+abbrev pub IsNotClosed : {L : Type 0} → LinkFault → ℕ → Held L → Type 0
+IsNotClosed NoSuchNode a h = has a h ≡ false
+IsNotClosed EmptyLink a h = ⊥
+IsNotClosed Memory a h = ⊥

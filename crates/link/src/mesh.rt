@@ -1,0 +1,217 @@
+//! The links between the nodes of a cluster.
+ghost use Rattle.std.specs.Prelude.{ℕ, ◌≡◌, ◌==◌, ◌↔◌, ◌<◌, ◌+◌, ◌*◌, [], length, slice_index_or, if◌then◌else◌, All, IfOk, IsTrue};
+ghost use Rattle.std.specs.List.Sorted.{IsStrictlyIncreasing};
+ghost use Rattle.link.specs.Held.{place};
+
+use crate::faults::{LinkFault, Unsent};
+use crate::link::Link;
+use std::alloc::{AllocError, Global};
+use std::marker::Model;
+use term::NodeName;
+
+/// No mesh has more nodes.
+pub const MOST_NODES: usize = 8;
+
+/// One link for each ordered pair of nodes.
+#[derive(Drop)]
+pub struct Mesh<L> {
+    nodes: Vec<NodeName>,
+    links: Vec<Link<L>>,
+    closed: [bool; MOST_NODES],
+}
+
+impl<L> Model for Mesh<L> {
+    ghost use Rattle.link.specs.Held.{Held, IsWhole};
+
+    ghost Value = { Held L };
+
+    ghost view = { λ m. record { nodes = m.nodes.items; links = m.links.items; closed = m.closed } };
+
+    ghost invariant = { λ m. IsWhole (record { nodes = m.nodes.items; links = m.links.items; closed = m.closed }) };
+}
+
+/// Whether each node is less than the next.
+pub fn are_rising(nodes: &[NodeName]) -> bool
+    ensures { IsTrue result ↔ IsStrictlyIncreasing nodes.now }
+{
+    for place in 1..nodes.len() {
+        if nodes[place - 1] >= nodes[place] {
+            return false;
+        }
+    }
+    true
+}
+
+/// A list of the same nodes.
+fn copied(alloc: Global, nodes: &[NodeName]) -> Result<Vec<NodeName>, AllocError>
+    ensures { IfOk result (λ copy. copy.items ≡ nodes.now) }
+{
+    let mut copy = Vec::new(alloc);
+    for node in nodes {
+        copy.push(node.copy())?;
+    }
+    Ok(copy)
+}
+
+/// Links without letters, for as many nodes as there may be.
+fn new_links<L: Drop>(alloc: Global) -> Result<Vec<Link<L>>, AllocError>
+    ensures count { IfOk result (λ links. length links.items ≡ MOST_NODES * MOST_NODES) }
+    ensures empty { IfOk result (λ links. All (λ link. link ≡ []) links.items) }
+{
+    let mut links = Vec::new(alloc);
+    for _ in 0..MOST_NODES * MOST_NODES {
+        links.push(Link::new(alloc))?;
+    }
+    Ok(links)
+}
+
+/// The place of a node among these.
+fn place_of(nodes: &[NodeName], node: &NodeName) -> Option<usize>
+    ensures { result ≡ place node.now nodes.now }
+{
+    nodes.iter().position(|own| *own == *node)
+}
+
+/// Empties all links towards a receiver.
+fn clear_towards<L: Drop>(links: &mut [Link<L>], receiver: usize)
+    requires links { length links.old ≡ MOST_NODES * MOST_NODES }
+    requires receiver { receiver < MOST_NODES }
+    ensures count { length links.new ≡ MOST_NODES * MOST_NODES }
+    ensures cleared { (i j : ℕ) → i < MOST_NODES → j < MOST_NODES → slice_index_or links.new (i * MOST_NODES + j) []
+        ≡ (if j == receiver then [] else slice_index_or links.old (i * MOST_NODES + j) []) }
+{
+    for sender in 0..MOST_NODES {
+        links[sender * MOST_NODES + receiver].clear();
+    }
+}
+
+impl<L: Drop> Mesh<L> {
+    ghost use Rattle.std.specs.Prelude.{◌≡◌, ◌≤◌, ◌<◌, ◌∷◌, [], true, Some, length, IfOk, OnOk, OnErr, IfErr};
+    ghost use Rattle.std.specs.List.{slice_get};
+    ghost use Rattle.std.specs.Option.{option_copied};
+    ghost use Rattle.std.specs.List.Sorted.{IsStrictlyIncreasing};
+    ghost use Rattle.protocol_model.specs.Links.{no_letters, posted, taken, closed_out, is_nil};
+    ghost use Rattle.link.specs.Held.{place, has, seen, only_to, WaitsFrom, WaitsFirst};
+    ghost use Rattle.link.specs.Faults.{joins, IsUnsent, IsUndelivered, IsNotClosed};
+
+    /// Links without letters between these nodes, which rise.
+    pub fn new(alloc: Global, nodes: &[NodeName]) -> Result<Mesh<L>, AllocError>
+        requires rising { IsStrictlyIncreasing nodes.now }
+        requires few { length nodes.now ≤ MOST_NODES }
+        ensures nodes { IfOk result (λ mesh. mesh.nodes ≡ nodes.now) }
+        ensures empty { IfOk result (λ mesh. seen mesh ≡ no_letters) }
+    {
+        Ok(Mesh {
+            nodes: copied(alloc, nodes)?,
+            links: new_links(alloc)?,
+            closed: [false; MOST_NODES],
+        })
+    }
+
+    /// The place of a node.
+    fn place(&self, node: &NodeName) -> Option<usize>
+        ensures { result ≡ place node.now self.now.nodes }
+    {
+        place_of(self.nodes.as_slice(), node)
+    }
+
+    /// Puts a letter at the back of a link. What goes to a node that was closed out vanishes.
+    pub fn send(&mut self, from: &NodeName, to: &NodeName, letter: L) -> Result<(), Unsent<L>>
+        ensures nodes { self.new.nodes ≡ self.old.nodes }
+        ensures known { OnOk result (joins from.now to.now self.old ≡ true) }
+        ensures ok { OnOk result (seen self.new ≡ posted from.now (only_to to.now letter) (seen self.old)) }
+        ensures unchanged { OnErr result (self.new ≡ self.old) }
+        ensures returned { IfErr result (λ unsent. unsent.letter ≡ letter) }
+        ensures err { IfErr result (λ unsent. IsUnsent unsent.fault from.now to.now self.old) }
+    {
+        let (Some(sender), Some(receiver)) = (self.place(from), self.place(to)) else {
+            return Err(Unsent {
+                fault: LinkFault::NoSuchNode,
+                letter,
+            });
+        };
+        if self.closed[receiver] {
+            return Ok(());
+        }
+        self.links[sender * MOST_NODES + receiver].push(letter)
+    }
+
+    /// The oldest letter on a link.
+    pub fn front(&self, from: &NodeName, to: &NodeName) -> Option<&L>
+        ensures { option_copied result ≡ slice_get ((seen self.now).queue from.now to.now) 0 }
+    {
+        let (Some(sender), Some(receiver)) = (self.place(from), self.place(to)) else {
+            return None;
+        };
+        self.links[sender * MOST_NODES + receiver].front()
+    }
+
+    /// Whether nothing is on a link.
+    pub fn is_empty(&self, from: &NodeName, to: &NodeName) -> bool
+        ensures { result ≡ is_nil ((seen self.now).queue from.now to.now) }
+    {
+        let (Some(sender), Some(receiver)) = (self.place(from), self.place(to)) else {
+            return true;
+        };
+        self.links[sender * MOST_NODES + receiver].is_empty()
+    }
+
+    /// Takes the oldest letter off a link.
+    pub fn deliver(&mut self, from: &NodeName, to: &NodeName) -> Result<L, LinkFault>
+        ensures nodes { self.new.nodes ≡ self.old.nodes }
+        ensures known { OnOk result (joins from.now to.now self.old ≡ true) }
+        ensures oldest { IfOk result (λ letter. slice_get ((seen self.old).queue from.now to.now) 0 ≡ Some letter) }
+        ensures ok { OnOk result (seen self.new ≡ taken from.now to.now (seen self.old)) }
+        ensures unchanged { OnErr result (self.new ≡ self.old) }
+        ensures err { IfErr result (λ fault. IsUndelivered fault from.now to.now self.old) }
+    {
+        let (Some(sender), Some(receiver)) = (self.place(from), self.place(to)) else {
+            return Err(LinkFault::NoSuchNode);
+        };
+        match self.links[sender * MOST_NODES + receiver].pop() {
+            Some(letter) => Ok(letter),
+            None => Err(LinkFault::EmptyLink),
+        }
+    }
+
+    /// Empties all links towards a node, for good: what is sent to it from now on vanishes.
+    pub fn close_out(&mut self, node: &NodeName) -> Result<(), LinkFault>
+        ensures nodes { self.new.nodes ≡ self.old.nodes }
+        ensures known { OnOk result (has node.now self.old ≡ true) }
+        ensures ok { OnOk result (seen self.new ≡ closed_out node.now (seen self.old)) }
+        ensures unchanged { OnErr result (self.new ≡ self.old) }
+        ensures err { IfErr result (λ fault. IsNotClosed fault node.now self.old) }
+    {
+        let Some(receiver) = self.place(node) else {
+            return Err(LinkFault::NoSuchNode);
+        };
+        clear_towards(self.links.as_mut_slice(), receiver);
+        self.closed[receiver] = true;
+        Ok(())
+    }
+
+    /// The receiver of the first link from this sender on which a letter waits.
+    fn first_receiver(&self, sender: usize) -> Option<usize>
+        requires { sender < length self.now.nodes }
+        ensures { WaitsFrom sender result self.now }
+    {
+        for receiver in 0..self.nodes.len() {
+            if !self.links[sender * MOST_NODES + receiver].is_empty() {
+                return Some(receiver);
+            }
+        }
+        None
+    }
+
+    /// The first link, by sender and then receiver, on which a letter waits.
+    pub fn first_waiting(&self) -> Option<(NodeName, NodeName)>
+        ensures { WaitsFirst result self.now }
+    {
+        for sender in 0..self.nodes.len() {
+            if let Some(receiver) = self.first_receiver(sender) {
+                return Some((self.nodes[sender].copy(), self.nodes[receiver].copy()));
+            }
+        }
+        None
+    }
+}
