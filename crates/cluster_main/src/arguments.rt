@@ -11,8 +11,9 @@ pub enum Task {
 
 /// Reads the arguments, the first of which is the program's name.
 pub fn read_arguments(alloc: Global, words: &[String]) -> Result<Task, Error> {
-    let script = Command::new(alloc, "script")
-        .about("Plays a script from standard input and prints its answers");
+    let script = Command::new(alloc, "script").about(
+        "Plays a script from standard input and prints its answers",
+    );
     let command = Command::new(alloc, "cluster_main")
         .about("A verified global name server")
         .subcommand_required(true)

@@ -5,9 +5,9 @@ mod arguments;
 
 use arguments::{Task, read_arguments};
 use cluster_script::run_script;
+use std::env;
 use std::io::{self, BufReader, BufWriter, Write};
 use std::process::ExitCode;
-use std::env;
 
 /// Plays the script on standard input: whether it printed no refusal and ended with no fault.
 fn play_script<R: Input + Print + AllocGlobal>(rt: &R) -> io::Result<bool> {

@@ -5,5 +5,4 @@ ghost use Rattle.cluster_world.specs.Agreeing.{OneNodeAgrees};
 /// registry that takes the granted operations in lock order, and whenever the lock is free, the table is that registry's.
 pub fn headline_of_one_node()
     ensures { OneNodeAgrees }
-{
-}
+{}

@@ -73,14 +73,14 @@ module _ (o : Opening) (w : World) (R : Replicas o w) where
       go None e = rises_now
       go (Some h) e =
           let L : IsLeftOut (in_cluster o) w.history h = left_out-hold_at (in_cluster o) w.history now
-              (Holds-past_of (in_cluster o) w.history) a h e in
+          (Holds-past_of (in_cluster o) w.history) a h e in
           subst Rises (sym L.old) (Rises-registry_of (in_cluster o) (L.before ++ L.later))
 
   -- at no running node a name has two owners
   pub one_owner_shown : (a : ℕ) → IsUp o w a → HasOneOwner (replica o w a).table
   one_owner_shown a up = one_owner_of (replica o w a).table
       (ap (λ (v : Replica). is_rising v.table) (R.facts a up)
-          ∙ is_rising-view (if is_pending o w a then old now a else now.registry) (go (is_pending o w a)) a)
+      ∙ is_rising-view (if is_pending o w a then old now a else now.registry) (go (is_pending o w a)) a)
     where
       go : (b : Bool) → Rises (if b then old now a else now.registry)
       go true = rises_old a
@@ -123,7 +123,7 @@ joined_agree o es a b ra rb none same =
     let ua : IsUp o (world o es) a = runs_up o (world o es) a ra.runs in
     let ub : IsUp o (world o es) b = runs_up o (world o es) b rb.runs in
     one_table o (world o es) R a b ua ub (joined_shown o (world o es) R a ua ra.joined)
-        (joined_shown o (world o es) R b ub rb.joined)
+    (joined_shown o (world o es) R b ub rb.joined)
     (nothing (past_at o (world o es)).held (sym (States.holder_is o (world o es) R) ∙ none)) same
   where
     nothing : (h : Option Hold) → option_map (λ (h : Hold). h.node) h ≡ None → h ≡ None

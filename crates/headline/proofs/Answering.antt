@@ -71,7 +71,7 @@ module _ (n a : ℕ) (number : ℕ → ℕ) where
               (enter (Entry.Name a k c r) u)) e.answers
           by_grant false g = tame_idle (finish n a (Op.Name k c) asked (Some r) (enter (Entry.Name a k c r) u)) refl
               (push_none begins u.entries (Entry.Name a k c r)
-                  (ap (λ (b : Bool). is_some (if b then Some a else None)) g) ∙ e.none)
+              (ap (λ (b : Bool). is_some (if b then Some a else None)) g) ∙ e.none)
   tame_held (Op.Strike p) asked u e = tame_none (held n a number (Op.Strike p) asked u) e.answers
   tame_held (Op.Admission j pairs) asked u e = go (u.node.replica.told j)
     where
@@ -225,7 +225,7 @@ module _ (n a : ℕ) (number : ℕ → ℕ) where
       go (Current.Writing op asked awaited reply) = tame_none u e.answers
   tame_read f (Letter.Admit i puts kills) u e =
       tame_none (read n a number f (Letter.Admit i puts kills) u)
-          (kill-answers kills (with_replica (admitted i puts) u) ∙ e.answers)
+      (kill-answers kills (with_replica (admitted i puts) u) ∙ e.answers)
   tame_read f (Letter.Welcome members pairs told kills) u e = go u.node.current
     where
       v : Turn
@@ -274,17 +274,17 @@ module _ (n a : ℕ) (number : ℕ → ℕ) where
   tame_call k (Call.OnName c) u e = tame_none (call n a k (Call.OnName c) u) e.answers
   tame_call k (Call.SetLock p r q target retries) u e =
       tame_same (counted u) (call n a k (Call.SetLock p r q target retries) u)
-          (same_try n a (new_call n a k p r q target retries) (counted u)) (tame_none (counted u) e.answers)
+      (same_try n a (new_call n a k p r q target retries) (counted u)) (tame_none (counted u) e.answers)
   tame_call k (Call.DelLock p r q target) u e =
       tame_same (counted u) (call n a k (Call.DelLock p r q target) u)
-          (same_delete n a (new_call n a k p r q target (Times 0)) (counted u)) (tame_none (counted u) e.answers)
+      (same_delete n a (new_call n a k p r q target (Times 0)) (counted u)) (tame_none (counted u) e.answers)
   tame_call k (Call.JoinBy m) u e = tame_none (call n a k (Call.JoinBy m) u) e.answers
 
   -- a retry
   pub tame_retry : (c : Current) (u : Turn) → Fresh u → Tame (retry_locks n a (retry_global n a c u))
   tame_retry c u e = tame_same (retry_global n a c u) (retry_locks n a (retry_global n a c u))
       (same_retry_all n a (retry_global n a c u).node.calls (retry_global n a c u))
-          (tame_none (retry_global n a c u) (go c))
+      (tame_none (retry_global n a c u) (go c))
     where
       go : (c : Current) → (retry_global n a c u).answers ≡ []
       go (Current.Waiting op) = e.answers
@@ -297,14 +297,14 @@ module _ (n a : ℕ) (number : ℕ → ℕ) where
 pub turn_tame : (o : Opening) (w : World) (e : WorldEvent) → Tame (turn_of o w e)
 turn_tame o w (At a (Event.Calling c)) =
     tame_start o.bound a (call o.bound a ((w.node a).last_call + 1) c (begun (w.node a)))
-        (tame_call o.bound a (join_number w) ((w.node a).last_call + 1) c (begun (w.node a))
-        (record { answers = refl; none = refl }))
+    (tame_call o.bound a (join_number w) ((w.node a).last_call + 1) c (begun (w.node a))
+    (record { answers = refl; none = refl }))
 turn_tame o w (At a Event.Retry) =
     tame_start o.bound a (retry_locks o.bound a (retry_global o.bound a (w.node a).current (begun (w.node a))))
-        (tame_retry o.bound a (join_number w) (w.node a).current (begun (w.node a))
-        (record { answers = refl; none = refl }))
+    (tame_retry o.bound a (join_number w) (w.node a).current (begun (w.node a))
+    (record { answers = refl; none = refl }))
 turn_tame o w (At a (Event.Exiting p)) =
     tame_start o.bound a (die o.bound a p (enter (Entry.Exit p) (begun (w.node a))))
-        (tame_none (die o.bound a p (enter (Entry.Exit p) (begun (w.node a)))) refl)
+    (tame_none (die o.bound a p (enter (Entry.Exit p) (begun (w.node a)))) refl)
 turn_tame o w (At a Event.Leave) = tame_none (turn_of o w (At a Event.Leave)) refl
 turn_tame o w (Deliver f t) = tame_heard o.bound t (join_number w) f (w.links.queue f t) w refl

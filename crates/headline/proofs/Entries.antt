@@ -30,7 +30,7 @@ use Rattle.headline.proofs.Fields.{past_now}
 pub no_to_the_taken : NoToTheTaken
 no_to_the_taken o es before later n k x p e free = go (members t.registry n) (view t.registry n) N.answer
     (ap (λ (r : Registry). members r n p.node) same ∙ free.member)
-        (ap (λ (r : Registry). get x (view r n)) same ∙ free.name)
+    (ap (λ (r : Registry). get x (view r n)) same ∙ free.name)
     (ap (λ (r : Registry). owns p (view r n)) same ∙ free.owner)
   where
     t : Past
@@ -121,17 +121,20 @@ given_seen cluster before n k c x p g untold =
 pub yes_stands : YesStands
 yes_stands o es before later n k c x p e g untold r free =
     go (stands_along (in_cluster o) (world o es).history
-        (stand_law (in_cluster o) (world o es).history (history_is_legal o es)) c x p later
+    (stand_law (in_cluster o) (world o es).history (history_is_legal o es)) c x p later
     (before ++ Name n k (Register x p) Yes ∷ [])
-        (e ∙ sym (append_assoc before (Name n k (Register x p) Yes ∷ []) later))
+    (e ∙ sym (append_assoc before (Name n k (Register x p) Yes ∷ []) later))
     (given_seen (in_cluster o) before n k c x p g untold))
   where
     same : past_at o (world o es) ≡ so_far o es
     same = past_now o (events o es) (world o es) (whole o es) (told o es)
 
     running : IsRunning o (so_far o es) c
-    running = (r.inside, subst (λ (t : Past). t.registry.left c ≡ false) same
-        ((replicas o (world o es) (whole o es).kept).departed c ∙ r.stays))
+    running = (
+      r.inside,
+      subst (λ (t : Past). t.registry.left c ≡ false) same
+          ((replicas o (world o es) (whole o es).kept).departed c ∙ r.stays),
+    )
 
     shown : ((world o es).node c).replica ≡ replica_of (registry_of (in_cluster o) (world o es).history) c
     shown = shows_when_free o es c running free ∙ ap (λ (t : Past). replica_of t.registry c) (sym same)

@@ -76,8 +76,11 @@ no_joins a (p ∷ ps) h = list_all-append is_no_join (calls_in a p) (flat_map (c
     kept c false i = refl
 
     none : (e : WorldEvent) → is_fixed e ≡ true
-        → list_all is_no_join (elim e [ At b (Event.Calling c) ↦ if b == a && is_numbered c then c ∷ [] else [] | _ ↦
-        [] ]) ≡ true
+        → list_all is_no_join (elim e [
+          | At b (Event.Calling c) ↦ if b == a && is_numbered c then c ∷ [] else []
+          | _ ↦
+              []
+        ]) ≡ true
     none (At b (Event.Calling (Call.JoinBy m))) i = cc
     none (At b (Event.Calling Call.Spawn)) i = kept Call.Spawn (b == a && false) refl
     none (At b (Event.Calling (Call.LookUp look))) i = kept (Call.LookUp look) (b == a && false) refl
@@ -115,12 +118,12 @@ all_settled [] l h = refl
 all_settled (Left d ∷ es) l h = cc
 all_settled (Join j k m reply ∷ es) l h =
     absurd
-        (cc
-        (sym (ap (λ (b : Bool). list_all is_name ((if b then JoinAs k m ∷ [] else []) ++ flat_map (decided_at j) es))
-        (eq-eqb j j refl)) ∙ h j))
+    (cc
+    (sym (ap (λ (b : Bool). list_all is_name ((if b then JoinAs k m ∷ [] else []) ++ flat_map (decided_at j) es))
+    (eq-eqb j j refl)) ∙ h j))
 all_settled (Name b k call reply ∷ es) l h =
     all_settled es l (λ a. (both _ _
-        (sym (list_all-append is_name (decided_at a (Name b k call reply)) (flat_map (decided_at a) es)) ∙ h a)).1)
+    (sym (list_all-append is_name (decided_at a (Name b k call reply)) (flat_map (decided_at a) es)) ∙ h a)).1)
 all_settled (Strike p ∷ es) l h = all_settled es l h
 all_settled (Done n ∷ es) l h = all_settled es l h
 all_settled (Exit p ∷ es) l h = all_settled es l h
@@ -163,12 +166,12 @@ fixed_along : (cluster : Nodes) (es : List Entry) (s : Past) → IsFixed cluster
 fixed_along cluster [] s F l i = F
 fixed_along cluster (e ∷ es) s F l i =
     let legals : (is_legal s e ≡ true) × (all_legal (after s e) es ≡ true) = both (is_legal s e)
-        (all_legal (after s e) es) l in
+    (all_legal (after s e) es) l in
     let parts : (is_settled e ≡ true) × (list_all is_settled es ≡ true) = both (is_settled e)
-        (list_all is_settled es) i in
+    (list_all is_settled es) i in
     fixed_along cluster es (after s e)
-        (subst (IsFixed cluster) (sym (registry-after s e)) (fixed_after cluster s e F legals.0 parts.0)) legals.1
-        parts.1
+    (subst (IsFixed cluster) (sym (registry-after s e)) (fixed_after cluster s e F legals.0 parts.0)) legals.1
+    parts.1
 
 without_none : (gone : Nodes) (t : Table) → ((c : ℕ) → gone c ≡ false) → without gone t ≡ t
 without_none gone [] none = refl
@@ -181,7 +184,7 @@ fixed_replica : (cluster : Nodes) (r : Registry) → IsFixed cluster r → (a : 
     → replica_of r a ≡ record { table = r.table; members = cluster; told = nobody; joined = true }
 fixed_replica cluster r F a inside = go (without (r.told a) (if r.joined a then r.table else r.lone a))
     (ap (λ (b : Bool). without (r.told a) (if b then r.table else r.lone a)) joined
-        ∙ without_none (r.told a) r.table (F.told a))
+    ∙ without_none (r.told a) r.table (F.told a))
     (λ c. (if r.joined a then r.joined c else c == a) && not (r.told a c))
     (fun_ext (λ c. ap (λ (b : Bool). (if b then r.joined c else c == a) && not (r.told a c)) joined
     ∙ ap (λ (b : Bool). r.joined c && not b) (F.told a c) ∙ and_true (r.joined c) ∙ F.joined c))
@@ -226,9 +229,9 @@ fixed_membership o es h = record {
     names : (a : ℕ) → list_all is_name (flat_map (decided_at a) (entries_of ps)) ≡ true
     names a =
         let prefix : (zs : List Numbered)
-            × (accepted_at a ps ≡ flat_map (decided_at a) (entries_of ps) ++ zs) = fits.calls a in
+        × (accepted_at a ps ≡ flat_map (decided_at a) (entries_of ps) ++ zs) = fits.calls a in
         (both _ _ (sym (ap (list_all is_name) prefix.1
-            ∙ list_all-append is_name (flat_map (decided_at a) (entries_of ps)) prefix.0)
+        ∙ list_all-append is_name (flat_map (decided_at a) (entries_of ps)) prefix.0)
         ∙ names_only 1 (flat_map (calls_in a) ps) (no_joins a ps held))).0
 
     fixed : IsFixed (in_cluster o) (so_far o es).registry

@@ -72,8 +72,14 @@ due_by t (e ∷ es) s c = go (due_by (after t e) es s)
       | inl d ↦ record { front = []; entry = e; rest = es; split = refl; answers = d }
       | inr d ↦
           let D : Due (after t e) es s = more d in
-          record { front = e ∷ D.front; entry = D.entry; rest = D.rest; split = ap
-              (λ (l : List Entry). e ∷ l) D.split; answers = D.answers }
+          record {
+            front = e ∷ D.front;
+            entry = D.entry;
+            rest = D.rest;
+            split = ap
+                (λ (l : List Entry). e ∷ l) D.split;
+            answers = D.answers;
+          }
     ]
 
 one_of : {A : Type 0} (x y : A) → Contains (x ∷ []) y → x ≡ y
@@ -192,12 +198,12 @@ name_held : (l : List Entry) (s : Past) (e : Entry) (a : ℕ) (x : Text) (o : Op
 name_held [] s e a x o held legal none g = g
 name_held (f ∷ l) s e a x o held legal none g =
     let parts : (is_legal s f ≡ true) × (all_legal (after s f) l ≡ true) = both (is_legal s f)
-        (all_legal (after s f) l) legal in
+    (all_legal (after s f) l) legal in
     name_held l (after s f) e a x o
     (IsHeld-after s e f a held parts.0 (λ i. none (subst (λ (h : Entry). Contains (f ∷ l) h) i (Contains-front f l))))
     parts.1 (λ c. none (Contains-behind f l (Done a) c))
     (ap (λ (q : Registry). get x (table_of q a)) (registry-after s f)
-        ∙ ap (get x) (table_held s f a held.0 held.1 parts.0) ∙ g)
+    ∙ ap (get x) (table_held s f a held.0 held.1 parts.0) ∙ g)
 
 -- and while nothing begins to hold
 name_calm : (l : List Entry) (s : Past) (a : ℕ) (x : Text) (o : Option Process) → list_any begins l ≡ false
@@ -207,7 +213,7 @@ name_calm (f ∷ l) s a x o none g =
     let parts : (begins f ≡ false) × (list_any begins l ≡ false) = neither (begins f) (list_any begins l) none in
     name_calm l (after s f) a x o parts.1
     (ap (λ (q : Registry). get x (table_of q a)) (registry-after s f) ∙ ap (get x) (table_calm s.registry f a parts.0)
-        ∙ g)
+    ∙ g)
 
 -- numbers are given once
 numbers_from : (k : ℕ) (cs : List Call) (i : ℕ) (call : NameCall) → Contains (number_from k cs) (NameAs i call) → k ≤ i
@@ -260,7 +266,7 @@ in_flat : {A B : Type 0} (f : A → List B) (front rest : List A) (x : A) (y : B
     → Contains (flat_map f (front ++ x ∷ rest)) y
 in_flat {A} {B} f front rest x y c = subst (λ (l : List B). Contains l y) (sym (flat_map-append f front (x ∷ rest)))
     (Contains-append_right (flat_map f front) (f x ++ flat_map f rest) y
-        (Contains-append_left (f x) (flat_map f rest) y c))
+    (Contains-append_left (f x) (flat_map f rest) y c))
 
 -- right behind a `yes` its group finds the process
 pub yes_is_found : YesIsFound
@@ -331,11 +337,11 @@ yes_is_found o es before p s call x q split c y calls gives n runs group untold 
     asked : Contains (accepted_at s.node (events o es)) (NameAs s.number Y.call)
     asked =
         let prefix : (zs : List Numbered)
-            × (accepted_at s.node (events o es) ≡ flat_map (decided_at s.node) (entries_of (events o es)) ++ zs) =
+        × (accepted_at s.node (events o es) ≡ flat_map (decided_at s.node) (entries_of (events o es)) ++ zs) =
         (history_fits o es).calls s.node in
         subst (λ (l : List Numbered). Contains l (NameAs s.number Y.call)) (sym prefix.1)
         (Contains-append_left (flat_map (decided_at s.node) (entries_of (events o es))) prefix.0
-            (NameAs s.number Y.call)
+        (NameAs s.number Y.call)
         (subst (λ (l : List Entry). Contains (flat_map (decided_at s.node) l) (NameAs s.number Y.call))
         (sym (whole_history ∙ append_assoc L.before (e ∷ L.later) (D.entry ∷ D.rest)))
         (in_flat (decided_at s.node) L.before (L.later ++ D.entry ∷ D.rest) e (NameAs s.number Y.call) own)))
@@ -389,7 +395,7 @@ yes_is_found o es before p s call x q split c y calls gives n runs group untold 
         calm : list_any begins (D.entry ∷ D.rest) ≡ false
         calm = (neither (list_any begins D.front) (list_any begins (D.entry ∷ D.rest))
             (sym (list_any-append begins D.front (D.entry ∷ D.rest)) ∙ ap (list_any begins) (sym D.split)
-                ∙ S.calm before p split s c y)).1
+            ∙ S.calm before p split s c y)).1
 
     rises : Rises now.registry
     rises = subst Rises (sym (registry-past_of cluster (entries_of (events o es))))

@@ -41,8 +41,12 @@ pub record Written (o : Opening) (ps : List Played) (w : World) : Type 0 where
 module _ (o : Opening) where
   -- nothing was answered yet
   written_opens : Written o [] (opening_world o)
-  written_opens = record { history = refl; calm = λ before p e. nothing_last before p e; shown = λ before p
-      e. nothing_last before p e }
+  written_opens = record {
+    history = refl;
+    calm = λ before p e. nothing_last before p e;
+    shown = λ before p
+        e. nothing_last before p e;
+  }
     where
       nothing_last : {X : Type 0} (before : List Played) (p : Played) → [] ≡ before ++ p ∷ [] → X
       nothing_last [] p e = cc

@@ -102,7 +102,7 @@ module _ (o : Opening) where
   -- holds of each accepted event
   module _ (K : List Entry → List Answer → World → Type 0) (a : ℕ)
       (step : (w : World) (r : Rule) (es : List Entry) (ss : List Answer) → K es ss w → Whole w
-          → Whole (Rules.effect o a r w) → Rules.May o a w r
+      → Whole (Rules.effect o a r w) → Rules.May o a w r
       → K (es ++ (Rules.turn_by o a w r).entries) (ss ++ (Rules.turn_by o a w r).answers) (Rules.effect o a r w)) where
     chain_makes : (rs : List Rule) (w : World) (es : List Entry) (ss : List Answer) → K es ss w → Whole w
         → Rules.MayAll o a rs w
@@ -113,7 +113,7 @@ module _ (o : Opening) where
         subst (λ (xs : List Entry). K xs (ss ++ Rules.answers_by o a (r ∷ rs) w) (Rules.effects o a (r ∷ rs) w))
         (append_assoc es turn.entries (Rules.entries_by o a rs later))
         (subst (λ (xs : List Answer). K ((es ++ turn.entries) ++ Rules.entries_by o a rs later) xs
-            (Rules.effects o a (r ∷ rs) w))
+        (Rules.effects o a (r ∷ rs) w))
         (append_assoc ss turn.answers (Rules.answers_by o a rs later))
         (chain_makes rs later (es ++ turn.entries) (ss ++ turn.answers) (step w r es ss k W V m.0) V m.1))
       where
@@ -132,12 +132,12 @@ module _ (o : Opening) where
     event_makes w e here W h k =
         subst (λ (xs : List Entry). K xs (turn_of o w e).answers (accepted o w e)) h.entries
         (subst (λ (xs : List Answer). K (Rules.entries_by o (place e) (rules_of o w e h) w) xs (accepted o w e))
-            h.answers
+        h.answers
         (subst (K (Rules.entries_by o (place e) (rules_of o w e h) w)
-            (Rules.answers_by o (place e) (rules_of o w e h) w)) h.world
+        (Rules.answers_by o (place e) (rules_of o w e h) w)) h.world
         (subst (λ (b : ℕ). Rules.MayAll o b (rules_of o w e h) w
-            → K (Rules.entries_by o b (rules_of o w e h) w) (Rules.answers_by o b (rules_of o w e h) w)
-            (Rules.effects o b (rules_of o w e h) w))
+        → K (Rules.entries_by o b (rules_of o w e h) w) (Rules.answers_by o b (rules_of o w e h) w)
+        (Rules.effects o b (rules_of o w e h) w))
         (sym here) (chain_makes (rules_of o w e h) w [] [] k W) h.may)))
 
   pub rule_whole : (a : ℕ) (w : World) (r : Rule) → Whole w → Rules.May o a w r → Whole (Rules.effect o a r w)

@@ -266,7 +266,7 @@ module _ (n a : ℕ) where
   same_lose_all d [] u = same_itself u
   same_lose_all d (c ∷ cs) u =
       same_then u (lose_node_in n a d c.phase c u) _ (same_lose_in d c.phase c u)
-          (same_lose_all d cs (lose_node_in n a d c.phase c u))
+      (same_lose_all d cs (lose_node_in n a d c.phase c u))
 
   same_retry_in : (phase : LockPhase) (c : LockCall) (u : Turn) → Same u (retry_in n a phase c u)
   same_retry_in LockPhase.Waiting c u = same_try (record c { retries = one_less c.retries }) u
@@ -277,4 +277,4 @@ module _ (n a : ℕ) where
   same_retry_all [] u = same_itself u
   same_retry_all (c ∷ cs) u =
       same_then u (retry_in n a c.phase c u) _ (same_retry_in c.phase c u)
-          (same_retry_all cs (retry_in n a c.phase c u))
+      (same_retry_all cs (retry_in n a c.phase c u))

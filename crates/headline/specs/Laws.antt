@@ -49,13 +49,13 @@ JoinedAgree = (o : Opening) (es : List WorldEvent) (a b : ℕ) → RunsJoined o 
 abbrev pub NoToTheTaken : Type 0
 NoToTheTaken = (o : Opening) (es : List WorldEvent) (before later : List Entry) (n k : ℕ) (x : Text) (p : Process) →
     (now o es).history ≡ before ++ Name n k (Register x p) No ∷ later
-        → IsFreeFor (registry_of (in_cluster o) before) n x p → ⊥
+    → IsFreeFor (registry_of (in_cluster o) before) n x p → ⊥
 
 -- A `yes` to `register` is only given to a free name and a free process
 abbrev pub YesToTheFreeOnly : Type 0
 YesToTheFreeOnly = (o : Opening) (es : List WorldEvent) (before later : List Entry) (n k : ℕ) (x : Text) (p : Process) →
     (now o es).history ≡ before ++ Name n k (Register x p) Yes ∷ later
-        → IsFreeFor (registry_of (in_cluster o) before) n x p
+    → IsFreeFor (registry_of (in_cluster o) before) n x p
 
 -- some entry of these takes the name x from p, as n sees it
 pub record IsTaken (cluster : Nodes) (before later : List Entry) (n : ℕ) (x : Text) (p : Process) : Type 0 where
@@ -71,9 +71,9 @@ pub record IsTaken (cluster : Nodes) (before later : List Entry) (n : ℕ) (x : 
 abbrev pub YesStands : Type 0
 YesStands = (o : Opening) (es : List WorldEvent) (before later : List Entry) (n k c : ℕ) (x : Text) (p : Process) →
     (now o es).history ≡ before ++ Name n k (Register x p) Yes ∷ later
-        → in_group (registry_of (in_cluster o) before) n c ≡ true →
+    → in_group (registry_of (in_cluster o) before) n c ≡ true →
     (registry_of (in_cluster o) before).told c p.node ≡ false → Runs o (world o es) c
-        → IsTrue (is_free (so_far o es) c) →
+    → IsTrue (is_free (so_far o es) c) →
     (get x ((world o es).node c).replica.table ≡ Some p)
     ⊎ IsTaken (in_cluster o) (before ++ Name n k (Register x p) Yes ∷ []) later c x p
 
@@ -115,8 +115,12 @@ pub record FixedMembership (o : Opening) (es : List WorldEvent) : Type 0 where
   -- while no operation of the cluster holds, each of its nodes shows the registry's table, with the whole cluster as
   -- members
   pub shows : (a : ℕ) → in_cluster o a ≡ true → (so_far o es).held ≡ None →
-      (now o es).node a ≡ record { table = (so_far o es).registry.table; members = in_cluster o; told = nobody;
-          joined = true }
+      (now o es).node a ≡ record {
+        table = (so_far o es).registry.table;
+        members = in_cluster o;
+        told = nobody;
+        joined = true;
+      }
 
 -- The headline for every list of events without joins and departures
 abbrev pub FixedAgreement : Type 0
