@@ -1,21 +1,33 @@
 //! The program: plays a script of cluster-wide names.
 #![tactic(auto)]
 
+ghost use Rattle.std.specs.Prelude.{◌≡◌, MatchResult, if◌then◌else◌};
+
 mod arguments;
 
 use arguments::{Task, read_arguments};
-use cluster_script::run_script;
+use cluster_script::{ScriptFault, run_script};
 use std::env;
 use std::io::{self, BufReader, BufWriter, Write};
 use std::process::ExitCode;
 
-/// Plays the script on standard input: whether it printed no refusal and ended with no fault.
-fn play_script<R: Input + Print + AllocGlobal>(rt: &R) -> io::Result<bool> {
+/// The status for what a script came to: 0 where it ended with no fault and printed no refusal, and else 1.
+fn status_of(played: Result<bool, ScriptFault>) -> u8
+    ensures { MatchResult played (λ fine. result ≡ (if fine then 0 else 1)) (λ _. result ≡ 1) }
+{
+    match played {
+        Ok(true) => 0,
+        Ok(false) | Err(_) => 1,
+    }
+}
+
+/// Plays the script on standard input, and gives the status.
+fn play_script<R: Input + Print + AllocGlobal>(rt: &R) -> io::Result<u8> {
     let mut reader = BufReader::new(rt.alloc(), rt.reader())?;
     let mut writer = BufWriter::new(rt.alloc(), io::writer(rt))?;
-    let result = run_script(rt.alloc(), &mut reader, &mut writer);
+    let played = run_script(rt.alloc(), &mut reader, &mut writer);
     writer.flush()?;
-    Ok(matches!(result, Ok(true)))
+    Ok(status_of(played))
 }
 
 /// Does what the arguments ask for, and gives the status.
@@ -25,7 +37,7 @@ fn run(rt: &HostRuntime) -> io::Result<u8> {
         words.push(word)?;
     }
     match read_arguments(rt.alloc(), &words) {
-        Ok(Task::Script) => Ok(if play_script(rt)? { 0 } else { 1 }),
+        Ok(Task::Script) => play_script(rt),
         Err(error) => {
             error.print(rt)?;
             Ok(if error.use_stderr() { 2 } else { 0 })

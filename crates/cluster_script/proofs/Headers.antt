@@ -1,22 +1,22 @@
 -- The first line of a script.
-use Rattle.std.proofs.Common.{ℕ, List, [], ◌∷◌, ◌++◌, ◌≡◌, ◌<◌, ◌+◌, Option, None, refl, sym, ap, subst, ◌∙◌, Result, Ok, Err, map, take, drop, length, get_or, Bor}
+use Rattle.std.proofs.Common.{ℕ, Bool, true, false, List, [], ◌∷◌, ◌++◌, ◌≡◌, ◌<◌, ◌+◌, Option, Some, None, refl, sym, ap, subst, ◌∙◌, Result, Ok, Err, map, take, drop, length, get_or, Bor}
 use Rattle.std.proofs.lemmas.Grind.{take_at_read}
 use Rattle.std.proofs.lemmas.List.{take-append-drop}
 use Rattle.term.specs.Spelling.{SpellsText}
-use Rattle.cluster_world.specs.Playing.{start_refused}
+use Rattle.cluster_world.specs.Starting.{start_refused}
 use Rattle.cluster_world.specs.declared.events.StartFault.{StartFault}
 use Rattle.cluster_script.specs.declared.faults.LineFault.{LineFault}
-use Rattle.std.specs.Prelude.{IfOk}
+use Rattle.std.specs.Prelude.{bytes_eq, codes, not, if◌then◌else◌, IfOk}
 use Rattle.cluster_world.specs.Held.{Held}
 use Rattle.cluster_script.specs.declared.lines.Line.{Line}
 use Rattle.cluster_script.specs.Lines.{IsKept}
 use Rattle.cluster_script.specs.Words.{words}
 use Rattle.cluster_script.specs.Commands.{unread}
-use Rattle.cluster_script.specs.Script.{AllSpell, started_unless, Opened, OpensIn, OpensUnless, LineOpens, cluster_texts}
+use Rattle.cluster_script.specs.Script.{AllSpell, started_unless, started, Opened, OpensIn, OpensUnless, LineOpens, cluster_texts}
 
--- a world of one node
-pub started_Ok : (nodes : List ℕ) (a : ℕ) → nodes ≡ a ∷ [] → start_refused nodes [] ≡ None → started_unless nodes (start_refused nodes []) ≡ Ok (a ∷ [])
-started_Ok nodes a e r = ap (λ (o : Option StartFault). started_unless nodes o) r ∙ ap (λ (ns : List ℕ). Ok ns) e
+-- a world that isn't refused
+pub started_Ok : (nodes : List ℕ) → start_refused nodes [] ≡ None → started_unless nodes (start_refused nodes []) ≡ Ok nodes
+started_Ok nodes r = ap (λ (o : Option StartFault). started_unless nodes o) r
 
 -- one more text
 pub AllSpell-push : (ts : List (List ℕ)) (ns : List ℕ) (t : List ℕ) (n : ℕ) → AllSpell ts ns → SpellsText t n → AllSpell (ts ++ t ∷ []) (ns ++ n ∷ [])
@@ -66,5 +66,28 @@ pub opened_line : {E : Type 0} (r : Result (Result Held LineFault) E) (kept : Li
     → IfOk r (Opened (OpensIn (cluster_texts ws))) → IfOk r (λ world. (bytes : List ℕ) → IsKept bytes kept → Opened (LineOpens bytes) world)
 opened_line (Err e) kept text ws t w o = tt
 opened_line (Ok (Ok h)) kept text ws t w o =
-    λ bytes k. (LineOpens-by bytes text ws (Ok (h.name ∷ [])) (t bytes k).0 (t bytes k).1 w o.0, o.1)
+    λ bytes k. (o.0, LineOpens-by bytes text ws (Ok o.0) (t bytes k).0 (t bytes k).1 w o.1, o.2, o.3)
 opened_line (Ok (Err f)) kept text ws t w o = λ bytes k. LineOpens-by bytes text ws (Err f) (t bytes k).0 (t bytes k).1 w o
+
+-- what texts spell, the words that name the cluster by them open
+pub opened_words : {E : Type 0} (r : Result (Result Held LineFault) E) (ws texts : List (List ℕ)) (nodes named : List ℕ)
+    → cluster_texts ws ≡ Some texts → AllSpell texts nodes → named ≡ nodes
+    → IfOk r (Opened (λ opened. opened ≡ started (Ok named))) → IfOk r (Opened (OpensIn (cluster_texts ws)))
+opened_words r ws texts nodes named w s e = go r
+  where
+    opens : (q : Result (List ℕ) LineFault) → q ≡ started (Ok named) → OpensIn (cluster_texts ws) q
+    opens q o = subst (λ (t : Option (List (List ℕ))). OpensIn t q) (sym w) (Ok nodes, s, o ∙ ap (λ (ns : List ℕ). started (Ok ns)) e)
+
+    go : {E : Type 0} (r : Result (Result Held LineFault) E) → IfOk r (Opened (λ opened. opened ≡ started (Ok named))) → IfOk r (Opened (OpensIn (cluster_texts ws)))
+    go (Err x) o = tt
+    go (Ok (Ok h)) o = (o.0, opens (Ok o.0) o.1, o.2, o.3)
+    go (Ok (Err f)) o = opens (Err f) o
+
+-- the texts behind the word that names a cluster
+pub cluster_texts-behind : (ws : List (Bor (List ℕ))) (w : Bor (List ℕ)) (texts : List (Bor (List ℕ))) (other : Bool) → ws ≡ w ∷ texts
+    → other ≡ not (bytes_eq w.now (codes "cluster")) → other ≡ false → cluster_texts (map now ws) ≡ Some (map now texts)
+cluster_texts-behind ws w texts other e n f = ap (λ (xs : List (Bor (List ℕ))). cluster_texts (map now xs)) e ∙ go (bytes_eq w.now (codes "cluster")) (sym n ∙ f)
+  where
+    go : (t : Bool) → not t ≡ false → (if t then Some (map now texts) else None) ≡ Some (map now texts)
+    go true q = refl
+    go false q = cc

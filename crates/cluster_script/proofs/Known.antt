@@ -1,15 +1,20 @@
 -- Known bytes of a reader: which of them a line takes.
-use Rattle.std.proofs.Common.{ℕ, Bool, true, false, List, [], ◌∷◌, ◌++◌, ◌≡◌, ◌<◌, ◌≤◌, ◌+◌, ◌==◌, length, Option, Some, None, refl, sym, ap, subst, ◌∙◌, arith, append_assoc, append-nil, zero-add, add_assoc}
-use Rattle.std.specs.Prelude.{if◌then◌else◌, not}
+use Rattle.std.proofs.Common.{ℕ, Bool, true, false, List, [], ◌∷◌, ◌++◌, ◌≡◌, ◌<◌, ◌≤◌, ◌+◌, ◌==◌, length, length-append, Result, Err, Option, Some, None, refl, sym, ap, subst, ◌∙◌, arith, append_assoc, append-nil, zero-add, add_assoc}
+use Rattle.std.specs.Prelude.{if◌then◌else◌, not, MatchResult}
 use Rattle.std.specs.List.{slice_split}
 use Rattle.std.specs.Str.Lines.{lines, lines_of_parts, strip_carriage_return}
-use Rattle.std.proofs.lemmas.List.Splits.{slice_split_at, slice_split_none, length-slice_split}
+use Rattle.std.specs.List.{onto_first}
+use Rattle.std.proofs.lemmas.List.Splits.{slice_split_at, slice_split_none, slice_split-cons_no, length-slice_split}
 use Rattle.std.specs.Io.KnownBytes.{Consumes}
 use Rattle.std.proofs.KnownBytes.{Consumes-trans}
 use Rattle.std.proofs.lemmas.Bool.{ne_eqb}
-use Rattle.std.proofs.lemmas.List.Elements.{All-append, All-cons, All-nil}
-use Rattle.cluster_script.specs.Lines.{TakesByte, TakesPart, HasNoFeed, LosesLines, HasNoLine, line_of, count_for, count_of, count_of_all, spoken, is_blank}
-use Rattle.cluster_script.specs.Script.{BeginsWithLines, HasLines}
+use Rattle.std.proofs.lemmas.List.Elements.{All-append, All-cons, All-nil, All-head, All-tail}
+use Rattle.cluster_script.specs.Lines.{TakesByte, TakesPart, HasNoFeed, LosesLines, HasNoLine, line_of, count_for, count_of, count_of_all, spoken, is_blank, BeginsWithLines, GoesPast, StopsAtLine}
+use Rattle.cluster_script.specs.declared.faults.ScriptFault.{ScriptFault}
+use Rattle.cluster_script.specs.declared.faults.ScriptFault.TheVariants as fault
+use Rattle.cluster_script.specs.Script.{HasLines}
+use Rattle.cluster_script.specs.Played.{StopsReading}
+use Rattle.cluster_script.proofs.Parts.{length-line_of}
 
 -- bytes, and then none: the end of a line without a line feed
 pub Consumes-end : (a b c : Option (List ℕ)) (bytes : List ℕ) (r : Option ℕ) → Consumes a b bytes → TakesByte b c r → r ≡ None → TakesPart a c false bytes
@@ -117,3 +122,98 @@ spoken-blank line e = ap (λ (t : Bool). if not t then line ∷ [] else []) e
 
 pub spoken-said : (line : List ℕ) → is_blank line ≡ false → spoken (line ∷ []) ≡ line ∷ []
 spoken-said line e = ap (λ (t : Bool). if not t then line ∷ [] else []) e
+
+-- some lines, and the first of those that are left
+pub LosesLines-more : (a b : Option (List ℕ)) (ls ms : List (List ℕ)) → LosesLines a b ls → BeginsWithLines b ms → BeginsWithLines a (ls ++ ms)
+LosesLines-more None b ls ms h k = tt
+LosesLines-more (Some xs) None ls ms h k = absurd h
+LosesLines-more (Some xs) (Some ys) ls ms h k = (k.0, h ∙ ap (λ (t : List (List ℕ)). ls ++ t) k.1 ∙ sym (append_assoc ls ms k.0))
+
+-- the first of some first lines
+pub BeginsWithLines-front : (a : Option (List ℕ)) (ls ms : List (List ℕ)) → BeginsWithLines a (ls ++ ms) → BeginsWithLines a ls
+BeginsWithLines-front None ls ms h = tt
+BeginsWithLines-front (Some xs) ls ms h = (ms ++ h.0, h.1 ∙ append_assoc ls ms h.0)
+
+-- the parts, where bytes without a line feed come first
+abbrev in_front : List ℕ → List (List ℕ) → List (List ℕ)
+in_front bytes [] = bytes ∷ []
+in_front bytes (x ∷ parts) = (bytes ++ x) ∷ parts
+
+slice_split-in_front : (bytes rest : List ℕ) → HasNoFeed bytes → slice_split (λ b. b == 10) (bytes ++ rest) ≡ in_front bytes (slice_split (λ b. b == 10) rest)
+slice_split-in_front [] rest h = go (slice_split (λ b. b == 10) rest) (omega (arith, length-slice_split (λ b. b == 10) rest))
+  where
+    go : (parts : List (List ℕ)) → 0 < length parts → parts ≡ in_front [] parts
+    go [] l = absurd (omega arith)
+    go (x ∷ parts) l = refl
+slice_split-in_front (b ∷ bytes) rest h =
+    slice_split-cons_no (λ b. b == 10) b (bytes ++ rest) (All-head (λ x. (x == 10) ≡ false) b bytes h)
+    ∙ ap (onto_first b) (slice_split-in_front bytes rest (All-tail (λ x. (x == 10) ≡ false) b bytes h)) ∙ go (slice_split (λ b. b == 10) rest)
+  where
+    go : (parts : List (List ℕ)) → onto_first b (in_front bytes parts) ≡ in_front (b ∷ bytes) parts
+    go [] = refl
+    go (x ∷ parts) = refl
+
+-- the line that begins with these bytes is no shorter than if it ended here
+begun : (bytes : List ℕ) (parts : List (List ℕ)) → 0 < length bytes
+    → (line : List ℕ) × (more : List (List ℕ)) × (lines_of_parts (in_front bytes parts) ≡ line ∷ more) × (length (line_of true bytes) ≤ length line)
+begun bytes [] l =
+    (bytes, [], ap (λ (t : Bool). if t then [] else bytes ∷ []) (ne_eqb (length bytes) 0 (λ e. absurd (omega arith))), (length-line_of true bytes).0)
+begun bytes (x ∷ []) l = (
+  bytes ++ x,
+  [],
+  ap (λ (t : Bool). if t then [] else (bytes ++ x) ∷ []) (ne_eqb (length (bytes ++ x)) 0 (λ e. absurd (omega (arith, length-append bytes x)))),
+  omega (arith, length-append bytes x, (length-line_of true bytes).0),
+)
+begun bytes ([] ∷ y ∷ more) l = (
+  strip_carriage_return bytes,
+  lines_of_parts (y ∷ more),
+  ap (λ (t : List ℕ). strip_carriage_return t ∷ lines_of_parts (y ∷ more)) (append-nil bytes),
+  omega arith,
+)
+begun bytes ((c ∷ x) ∷ y ∷ more) l = (
+  strip_carriage_return (bytes ++ c ∷ x),
+  lines_of_parts (y ∷ more),
+  refl,
+  omega (arith, length-append bytes (c ∷ x), (length-line_of true bytes).0, (length-line_of true (bytes ++ c ∷ x)).1),
+)
+
+-- a longer line counts for no less
+count_for-more : (m n : ℕ) → m ≤ n → count_for m ≤ count_for n
+count_for-more m n l = omega arith
+
+-- bytes of a line count for too many: so does the line
+pub GoesPast-begun : (a b : Option (List ℕ)) (bytes : List ℕ) (most : ℕ) → HasNoFeed bytes → 0 < length bytes → Consumes a b bytes
+    → most < count_of (line_of true bytes) → GoesPast a most []
+GoesPast-begun None b bytes most h l t m = (line_of true bytes, tt, omega arith, omega (arith, m))
+GoesPast-begun (Some xs) None bytes most h l t m = absurd t
+GoesPast-begun (Some xs) (Some ys) bytes most h l t m =
+    let r = begun bytes (slice_split (λ b. b == 10) ys) l in
+    let c = count_for-more (length (line_of true bytes)) (length r.0) r.3 in
+    (r.0, (r.1, ap lines t ∙ ap lines_of_parts (slice_split-in_front bytes ys h) ∙ r.2), omega arith, omega (arith, m, c))
+
+-- a line that was read counts for too many
+pub GoesPast-line : (a b : Option (List ℕ)) (line : List ℕ) (most : ℕ) → LosesLines a b (line ∷ []) → most < count_of line → GoesPast a most []
+GoesPast-line a b line most t m = (line, LosesLines-begins a b (line ∷ []) t, omega arith, omega (arith, m))
+
+-- lines were read, and those behind them count for too many
+pub GoesPast-behind : (a b : Option (List ℕ)) (ls ms : List (List ℕ)) (most left : ℕ) → LosesLines a b ls → most ≡ left + count_of_all ls → GoesPast b left ms
+    → GoesPast a most (ls ++ ms)
+GoesPast-behind a b ls ms most left t e g = (
+  g.0,
+  subst (λ (xs : List (List ℕ)). BeginsWithLines a xs) (sym (append_assoc ls ms (g.0 ∷ []))) (LosesLines-more a b ls (ms ++ g.0 ∷ []) t g.1),
+  omega (arith, e, g.2, count_of_all-append ls ms),
+  omega (arith, e, g.3, count_of_all-append ls ms, count_of_all-append ms (g.0 ∷ []), count_of_all-append (ls ++ ms) (g.0 ∷ [])),
+)
+
+-- the line behind empty ones isn't read
+pub StopsReading-behind : (a b : Option (List ℕ)) (ls : List (List ℕ)) (most left : ℕ) → spoken ls ≡ [] → LosesLines a b ls → most ≡ left + count_of_all ls
+    → (f : ScriptFault) → StopsAtLine b left f → StopsReading a most f
+StopsReading-behind a b ls most left s t e fault.TooManyLines g =
+    (ls, s, subst (λ (xs : List (List ℕ)). GoesPast a most xs) (append-nil ls) (GoesPast-behind a b ls [] most left t e g))
+StopsReading-behind a b ls most left s t e fault.Read g = tt
+StopsReading-behind a b ls most left s t e fault.Write g = tt
+StopsReading-behind a b ls most left s t e fault.Memory g = tt
+
+-- what the exit of a `?` says, where its fault is known
+pub MatchResult-err : {A E : Type 0} (P : A → Type 0) (Q : E → Type 0) (r : Result A E) (y : E) → r ≡ Err y → Q y → MatchResult r P Q
+MatchResult-err P Q r y e q = rw e q

@@ -3,7 +3,10 @@ mod Parts
 mod Texts
 mod Writing
 mod Playing
+mod Nodes
+mod Shown
 mod Settling
 mod Scripts
 mod Headers
 mod Runs
+mod Ends

@@ -11,13 +11,16 @@ use Rattle.cluster_world.specs.Held.{Held}
 use Rattle.cluster_world.specs.Seen.{opening_of, seen}
 use Rattle.cluster_script.specs.declared.faults.LineFault.{LineFault}
 use Rattle.cluster_script.specs.declared.faults.ScriptFault.{ScriptFault}
+use Rattle.cluster_script.specs.declared.faults.ScriptFault.TheVariants as fault
+use Rattle.cluster_script.specs.declared.faults.WriteFault.{WriteFault}
+use Rattle.cluster_script.specs.declared.faults.WriteFault.TheVariants as write
 use Rattle.cluster_script.specs.Lines.{spoken, count_of_all, LosesLines}
 use Rattle.cluster_script.specs.Commands.{LineAsks}
 use Rattle.cluster_script.specs.Printing.{shown_text, shown_line, is_fine, Shown}
-use Rattle.cluster_script.specs.Script.{AppendsPart, AllAsk, behind, behind_all, shown, shown_all}
-use Rattle.cluster_script.specs.Played.{PlaysLine, PlaysLines, PlaysSome, PlaysAll, shown_on}
+use Rattle.cluster_script.specs.Script.{AppendsPart, AllAsk, behind, behind_all, shown, shown_all, stop_of}
+use Rattle.cluster_script.specs.Played.{PlaysLine, PlaysLines, PlaysSome, StopsReading, StopsPlaying, PlaysAll, shown_on}
 use Rattle.cluster_script.proofs.Writing.{AppendsPart-behind, AppendsPart-whole}
-use Rattle.cluster_script.proofs.Known.{LosesLines-trans, LosesLines-nil, LosesLines-begins, spoken-append, count_of_all-append}
+use Rattle.cluster_script.proofs.Known.{BeginsWithLines-front, GoesPast-behind, LosesLines-trans, LosesLines-nil, LosesLines-begins, spoken-append, count_of_all-append}
 
 -- two lists that are printed
 pub shown_text-append : (xs ys : List Shown) → shown_text (xs ++ ys) ≡ shown_text xs ++ shown_text ys
@@ -53,7 +56,7 @@ PlaysLines-start input most old a = record {
   read = LosesLines-nil input;
   counted = omega arith;
   each = tt;
-  name = refl;
+  opening = refl;
   world = refl;
   wrote = Appends-nil a;
   fine_is = refl;
@@ -61,23 +64,54 @@ PlaysLines-start input most old a = record {
 
 module _ (input mid : Option (List ℕ)) (most l1 : ℕ) (old h1 : Held) (a b : Option (List ℕ)) (fine : Bool) (P : PlaysLines input mid most l1 old h1 a b fine) where
   -- what one more line prints
-  pub text-push : (asked : Result ScriptLine LineFault) → shown_text (shown_all (opening_of old.name) (seen old) (P.asked ++ asked ∷ []))
-      ≡ shown_text (shown_all (opening_of old.name) (seen old) P.asked) ++ shown_on h1 asked
+  pub text-push : (asked : Result ScriptLine LineFault) → shown_text (shown_all (opening_of old) (seen old) (P.asked ++ asked ∷ []))
+      ≡ shown_text (shown_all (opening_of old) (seen old) P.asked) ++ shown_on h1 asked
   text-push asked =
-      ap shown_text (shown_all-push (opening_of old.name) (seen old) P.asked asked)
-      ∙ shown_text-append (shown_all (opening_of old.name) (seen old) P.asked) (shown (opening_of old.name) (behind_all (opening_of old.name) (seen old) P.asked) asked)
-      ∙ ap (λ (w : World). shown_text (shown_all (opening_of old.name) (seen old) P.asked) ++ shown_text (shown (opening_of old.name) w asked)) (sym P.world)
-      ∙ ap (λ (n : ℕ). shown_text (shown_all (opening_of old.name) (seen old) P.asked) ++ shown_text (shown (opening_of n) (seen h1) asked)) (sym P.name)
+      ap shown_text (shown_all-push (opening_of old) (seen old) P.asked asked)
+      ∙ shown_text-append (shown_all (opening_of old) (seen old) P.asked) (shown (opening_of old) (behind_all (opening_of old) (seen old) P.asked) asked)
+      ∙ ap (λ (w : World). shown_text (shown_all (opening_of old) (seen old) P.asked) ++ shown_text (shown (opening_of old) w asked)) (sym P.world)
+      ∙ ap (λ (o : Opening). shown_text (shown_all (opening_of old) (seen old) P.asked) ++ shown_text (shown o (seen h1) asked)) (sym P.opening)
 
   -- what was played so far, where a fault comes
-  pub PlaysSome-so_far : PlaysSome input old a b
+  pub PlaysSome-so_far : PlaysSome Appends input old a b
   PlaysSome-so_far = record {
+    taken = P.taken;
+    asked = P.asked;
+    read = LosesLines-begins input mid P.taken P.read;
+    each = P.each;
+    wrote = P.wrote;
+  }
+
+  pub PlaysSome-part : PlaysSome AppendsPart input old a b
+  PlaysSome-part = record {
     taken = P.taken;
     asked = P.asked;
     read = LosesLines-begins input mid P.taken P.read;
     each = P.each;
     wrote = subst (λ (t : List ℕ). AppendsPart a b t) (append-nil _) (AppendsPart-whole a b _ [] P.wrote);
   }
+
+  -- empty lines were read behind them
+  each-blank : (ls : List (List ℕ)) → spoken ls ≡ [] → AllAsk (spoken (P.taken ++ ls)) P.asked
+  each-blank ls s = subst (λ (xs : List (List ℕ)). AllAsk xs P.asked)
+      (sym (spoken-append P.taken ls ∙ ap (λ (xs : List (List ℕ)). spoken P.taken ++ xs) s ∙ append-nil (spoken P.taken))) P.each
+
+  -- the next line isn't read
+  pub StopsPlaying-reading : (f : ScriptFault) → StopsReading mid l1 f → StopsPlaying input most old a b f
+  StopsPlaying-reading fault.TooManyLines g =
+      let past = GoesPast-behind input mid P.taken g.0 most l1 P.read P.counted g.2 in (
+        record {
+          taken = P.taken ++ g.0;
+          asked = P.asked;
+          read = BeginsWithLines-front input (P.taken ++ g.0) (past.0 ∷ []) past.1;
+          each = each-blank g.0 g.1;
+          wrote = P.wrote;
+        },
+        past,
+      )
+  StopsPlaying-reading fault.Read g = PlaysSome-so_far
+  StopsPlaying-reading fault.Write g = PlaysSome-part
+  StopsPlaying-reading fault.Memory g = PlaysSome-part
 
   module _ (rest : Option (List ℕ)) (ls : List (List ℕ)) (line : List ℕ) (asked : Result ScriptLine LineFault) (s : spoken ls ≡ line ∷ []) (t : LosesLines mid rest ls)
       (q : LineAsks line asked) where
@@ -86,7 +120,7 @@ module _ (input mid : Option (List ℕ)) (most l1 : ℕ) (old h1 : Held) (a b : 
         (sym (spoken-append P.taken ls ∙ ap (λ (xs : List (List ℕ)). spoken P.taken ++ xs) s)) (AllAsk-push (spoken P.taken) P.asked line asked P.each q)
 
     -- a fault comes while a line is played
-    pub PlaysSome-next : (c : Option (List ℕ)) → AppendsPart b c (shown_on h1 asked) → PlaysSome input old a c
+    pub PlaysSome-next : (c : Option (List ℕ)) → AppendsPart b c (shown_on h1 asked) → PlaysSome AppendsPart input old a c
     PlaysSome-next c p = record {
       taken = P.taken ++ ls;
       asked = P.asked ++ asked ∷ [];
@@ -104,20 +138,20 @@ module _ (input mid : Option (List ℕ)) (most l1 : ℕ) (old h1 : Held) (a b : 
       read = LosesLines-trans input mid rest P.taken ls P.read t;
       counted = omega (arith, P.counted, e, count_of_all-append P.taken ls);
       each = each-push;
-      name = p.name ∙ P.name;
-      world = p.world ∙ ap (λ (n : ℕ). behind (opening_of n) (seen h1) asked) P.name ∙ ap (λ (w : World). behind (opening_of old.name) w asked) P.world
-          ∙ sym (behind_all-push (opening_of old.name) (seen old) P.asked asked);
+      opening = p.opening ∙ P.opening;
+      world = p.world ∙ ap (λ (o : Opening). behind o (seen h1) asked) P.opening ∙ ap (λ (w : World). behind (opening_of old) w asked) P.world
+          ∙ sym (behind_all-push (opening_of old) (seen old) P.asked asked);
       wrote = subst (λ (x : List ℕ). Appends a c x) (sym (text-push asked)) (Appends-trans a b c _ (shown_on h1 asked) P.wrote p.wrote);
       fine_is = ap (λ (x : Bool). x && fine2) P.fine_is
-          ∙ ap (λ (x : Bool). list_all is_fine (shown_all (opening_of old.name) (seen old) P.asked) && x)
-          (p.fine_is ∙ ap (λ (n : ℕ). list_all is_fine (shown (opening_of n) (seen h1) asked)) P.name ∙ ap (λ (w : World). list_all is_fine (shown (opening_of old.name) w asked)) P.world)
-          ∙ sym (list_all-append is_fine (shown_all (opening_of old.name) (seen old) P.asked) (shown (opening_of old.name) (behind_all (opening_of old.name) (seen old) P.asked) asked))
-          ∙ ap (λ (xs : List Shown). list_all is_fine xs) (sym (shown_all-push (opening_of old.name) (seen old) P.asked asked));
+          ∙ ap (λ (x : Bool). list_all is_fine (shown_all (opening_of old) (seen old) P.asked) && x)
+          (p.fine_is ∙ ap (λ (o : Opening). list_all is_fine (shown o (seen h1) asked)) P.opening ∙ ap (λ (w : World). list_all is_fine (shown (opening_of old) w asked)) P.world)
+          ∙ sym (list_all-append is_fine (shown_all (opening_of old) (seen old) P.asked) (shown (opening_of old) (behind_all (opening_of old) (seen old) P.asked) asked))
+          ∙ ap (λ (xs : List Shown). list_all is_fine xs) (sym (shown_all-push (opening_of old) (seen old) P.asked asked));
     }
 
 -- what the exit of a `?` says of lines
 pub PlaysAll-err : (input rest : Option (List ℕ)) (most left : ℕ) (old new : Held) (a b : Option (List ℕ)) (r : Result Bool ScriptFault) (y : ScriptFault)
-    → r ≡ Err y → PlaysSome input old a b → PlaysAll input rest most left old new a b r
+    → r ≡ Err y → StopsPlaying input most old a b y → PlaysAll input rest most left old new a b r
 PlaysAll-err input rest most left old new a b r y e p = rw e p
 
 -- empty lines are read
@@ -128,10 +162,15 @@ PlaysLines-blank input mid rest most l1 l2 old h1 a b fine P ls s t e = record {
   asked = P.asked;
   read = LosesLines-trans input mid rest P.taken ls P.read t;
   counted = omega (arith, P.counted, e, count_of_all-append P.taken ls);
-  each = subst (λ (xs : List (List ℕ)). AllAsk xs P.asked)
-      (sym (spoken-append P.taken ls ∙ ap (λ (xs : List (List ℕ)). spoken P.taken ++ xs) s ∙ append-nil (spoken P.taken))) P.each;
-  name = P.name;
+  each = each-blank input mid most l1 old h1 a b fine P ls s;
+  opening = P.opening;
   world = P.world;
   wrote = P.wrote;
   fine_is = P.fine_is;
 }
+
+-- a text wasn't written, or memory was refused
+pub StopsPlaying-writing : (input : Option (List ℕ)) (most : ℕ) (old : Held) (a b : Option (List ℕ)) (f : WriteFault) (y : ScriptFault) → y ≡ stop_of f
+    → PlaysSome AppendsPart input old a b → StopsPlaying input most old a b y
+StopsPlaying-writing input most old a b write.Writer y e p = subst (λ (g : ScriptFault). StopsPlaying input most old a b g) (sym e) p
+StopsPlaying-writing input most old a b write.Memory y e p = subst (λ (g : ScriptFault). StopsPlaying input most old a b g) (sym e) p

@@ -8,19 +8,22 @@ use Rattle.protocol_model.specs.Event.{Answer as AnyAnswer}
 use Rattle.protocol_model.specs.World.{Opening, World, WorldEvent as AnyEvent, happens, answers, all_answers, run, settle, next_delivery}
 use Rattle.protocol_model.specs.Script.{Settle, Output, Said, settled}
 use Rattle.cluster_world.specs.Held.{Held}
-use Rattle.cluster_world.specs.Seen.{opening_of, seen, event_of, answer_of}
+use Rattle.cluster_world.specs.Seen.{opening_of, seen}
+use Rattle.cluster_world.specs.Events.{event_of}
+use Rattle.node_core.specs.Seen.{answer_of}
 use Rattle.cluster_world.specs.Playing.{Played, WaitsOn}
-use Rattle.cluster_world.specs.declared.events.Answer.{Answer}
+use Rattle.node_core.specs.declared.events.Answer.{Answer}
 use Rattle.cluster_world.specs.declared.events.WorldEvent.{WorldEvent}
-use Rattle.cluster_script.specs.declared.faults.ScriptFault.{ScriptFault}
+use Rattle.cluster_script.specs.declared.faults.WriteFault.{WriteFault}
 use Rattle.cluster_script.specs.Printing.{answers_text, output_line, shown_text, is_fine, is_fine_output, Shows}
 use Rattle.cluster_script.specs.Script.{AppendsPart, Writes, settle_limit}
 use Rattle.cluster_script.specs.Played.{PlaysOrStops, Delivers, shown_on, settle_end}
 use Rattle.cluster_script.proofs.Writing.{AppendsPart-behind, AppendsPart-more}
+use Rattle.cluster_script.proofs.Playing.{opening_of-same}
 
--- how the deliveries end in a world of node n that stands as w
-abbrev pub ends_at : ℕ → World → Output
-ends_at n w = settled (opening_of n) settle_limit (next_delivery (opening_of n) w)
+-- how the deliveries end in a world that opened so and stands as w
+abbrev pub ends_at : Opening → World → Output
+ends_at o w = settled o settle_limit (next_delivery o w)
 
 -- the limit, as the program has it
 pub settle_limit-is : settle_limit ≡ 100000
@@ -43,11 +46,11 @@ pub record Settles (k : ℕ) (old now : Held) (a b : Option (List ℕ)) : Type 0
   pub most : ℕ
   pub given : List AnyAnswer
   pub counted : most + k ≡ 100000
-  pub name : now.name ≡ old.name
-  pub world : run (opening_of old.name) (seen old) (settle (opening_of old.name) settle_limit (seen old))
-      ≡ run (opening_of old.name) (seen now) (settle (opening_of old.name) most (seen now))
-  pub answered : all_answers (opening_of old.name) (seen old) (settle (opening_of old.name) settle_limit (seen old))
-      ≡ given ++ all_answers (opening_of old.name) (seen now) (settle (opening_of old.name) most (seen now))
+  pub opening : opening_of now ≡ opening_of old
+  pub world : run (opening_of old) (seen old) (settle (opening_of old) settle_limit (seen old))
+      ≡ run (opening_of old) (seen now) (settle (opening_of old) most (seen now))
+  pub answered : all_answers (opening_of old) (seen old) (settle (opening_of old) settle_limit (seen old))
+      ≡ given ++ all_answers (opening_of old) (seen now) (settle (opening_of old) most (seen now))
   pub wrote : Appends a b (answers_text given)
 
 module _ (o : Opening) where
@@ -74,9 +77,9 @@ Settles-start old a = record {
   most = 100000;
   given = [];
   counted = omega arith;
-  name = refl;
-  world = ap (λ (n : ℕ). run (opening_of old.name) (seen old) (settle (opening_of old.name) n (seen old))) settle_limit-is;
-  answered = ap (λ (n : ℕ). all_answers (opening_of old.name) (seen old) (settle (opening_of old.name) n (seen old))) settle_limit-is;
+  opening = refl;
+  world = ap (λ (n : ℕ). run (opening_of old) (seen old) (settle (opening_of old) n (seen old))) settle_limit-is;
+  answered = ap (λ (n : ℕ). all_answers (opening_of old) (seen old) (settle (opening_of old) n (seen old))) settle_limit-is;
   wrote = Appends-nil a;
 }
 
@@ -89,38 +92,38 @@ module _ (k : ℕ) (old now : Held) (a b : Option (List ℕ)) (S : Settles k old
       go zero e = absurd (omega (arith, S.counted, e))
       go (suc m) e = (m, e)
 
-  module _ (e : AnyEvent) (h : next_delivery (opening_of now.name) (seen now) ≡ Some e) (l : k < 100000) where
-    pub at_name : next_delivery (opening_of old.name) (seen now) ≡ Some e
-    at_name = subst (λ (n : ℕ). next_delivery (opening_of n) (seen now) ≡ Some e) S.name h
+  module _ (e : AnyEvent) (h : next_delivery (opening_of now) (seen now) ≡ Some e) (l : k < 100000) where
+    pub at_opening : next_delivery (opening_of old) (seen now) ≡ Some e
+    at_opening = subst (λ (o : Opening). next_delivery o (seen now) ≡ Some e) S.opening h
 
     -- all answers, where the next delivery leads to v
-    pub answered-next : (v : World) → v ≡ happens (opening_of old.name) (seen now) e
-        → all_answers (opening_of old.name) (seen old) (settle (opening_of old.name) settle_limit (seen old))
-        ≡ (S.given ++ answers (opening_of old.name) (seen now) e) ++ all_answers (opening_of old.name) v (settle (opening_of old.name) (most-next l).0 v)
+    pub answered-next : (v : World) → v ≡ happens (opening_of old) (seen now) e
+        → all_answers (opening_of old) (seen old) (settle (opening_of old) settle_limit (seen old))
+        ≡ (S.given ++ answers (opening_of old) (seen now) e) ++ all_answers (opening_of old) v (settle (opening_of old) (most-next l).0 v)
     answered-next v q =
         S.answered
-        ∙ ap (λ (n : ℕ). S.given ++ all_answers (opening_of old.name) (seen now) (settle (opening_of old.name) n (seen now))) (most-next l).1
-        ∙ ap (λ (ss : List AnyAnswer). S.given ++ ss) (all_answers-next (opening_of old.name) (most-next l).0 (seen now) v e at_name q)
-        ∙ sym (append_assoc S.given (answers (opening_of old.name) (seen now) e) (all_answers (opening_of old.name) v (settle (opening_of old.name) (most-next l).0 v)))
+        ∙ ap (λ (n : ℕ). S.given ++ all_answers (opening_of old) (seen now) (settle (opening_of old) n (seen now))) (most-next l).1
+        ∙ ap (λ (ss : List AnyAnswer). S.given ++ ss) (all_answers-next (opening_of old) (most-next l).0 (seen now) v e at_opening q)
+        ∙ sym (append_assoc S.given (answers (opening_of old) (seen now) e) (all_answers (opening_of old) v (settle (opening_of old) (most-next l).0 v)))
 
     -- the next delivery was made
-    pub Settles-next : (new : Held) (c : Option (List ℕ)) → new.name ≡ now.name → seen new ≡ happens (opening_of now.name) (seen now) e
-        → Appends b c (answers_text (answers (opening_of now.name) (seen now) e)) → Settles (k + 1) old new a c
+    pub Settles-next : (new : Held) (c : Option (List ℕ)) → opening_of new ≡ opening_of now → seen new ≡ happens (opening_of now) (seen now) e
+        → Appends b c (answers_text (answers (opening_of now) (seen now) e)) → Settles (k + 1) old new a c
     Settles-next new c n q w =
-        let q2 : seen new ≡ happens (opening_of old.name) (seen now) e = subst (λ (x : ℕ). seen new ≡ happens (opening_of x) (seen now) e) S.name q in
-        let w2 : Appends b c (answers_text (answers (opening_of old.name) (seen now) e)) =
-        subst (λ (x : ℕ). Appends b c (answers_text (answers (opening_of x) (seen now) e))) S.name w in
+        let q2 : seen new ≡ happens (opening_of old) (seen now) e = subst (λ (o : Opening). seen new ≡ happens o (seen now) e) S.opening q in
+        let w2 : Appends b c (answers_text (answers (opening_of old) (seen now) e)) =
+        subst (λ (o : Opening). Appends b c (answers_text (answers o (seen now) e))) S.opening w in
         record {
           most = (most-next l).0;
-          given = S.given ++ answers (opening_of old.name) (seen now) e;
+          given = S.given ++ answers (opening_of old) (seen now) e;
           counted = omega (arith, S.counted, (most-next l).1);
-          name = n ∙ S.name;
+          opening = n ∙ S.opening;
           world = S.world
-              ∙ ap (λ (x : ℕ). run (opening_of old.name) (seen now) (settle (opening_of old.name) x (seen now))) (most-next l).1
-              ∙ run-next (opening_of old.name) (most-next l).0 (seen now) (seen new) e at_name q2;
+              ∙ ap (λ (x : ℕ). run (opening_of old) (seen now) (settle (opening_of old) x (seen now))) (most-next l).1
+              ∙ run-next (opening_of old) (most-next l).0 (seen now) (seen new) e at_opening q2;
           answered = answered-next (seen new) q2;
-          wrote = subst (λ (t : List ℕ). Appends a c t) (sym (answers_text-append S.given (answers (opening_of old.name) (seen now) e)))
-              (Appends-trans a b c (answers_text S.given) (answers_text (answers (opening_of old.name) (seen now) e)) S.wrote w2);
+          wrote = subst (λ (t : List ℕ). Appends a c t) (sym (answers_text-append S.given (answers (opening_of old) (seen now) e)))
+              (Appends-trans a b c (answers_text S.given) (answers_text (answers (opening_of old) (seen now) e)) S.wrote w2);
         }
 
 -- answers, and one more line
@@ -140,26 +143,26 @@ Said-fine-last (s ∷ given) x = Said-fine-last given x
 
 -- what `settle` prints
 pub settle-text : (h : Held) → shown_on h (Ok Settle)
-    ≡ answers_text (all_answers (opening_of h.name) (seen h) (settle (opening_of h.name) settle_limit (seen h)))
-    ++ output_line (ends_at h.name (run (opening_of h.name) (seen h) (settle (opening_of h.name) settle_limit (seen h))))
-settle-text h = Said-text-last (all_answers (opening_of h.name) (seen h) (settle (opening_of h.name) settle_limit (seen h)))
-    (ends_at h.name (run (opening_of h.name) (seen h) (settle (opening_of h.name) settle_limit (seen h))))
+    ≡ answers_text (all_answers (opening_of h) (seen h) (settle (opening_of h) settle_limit (seen h)))
+    ++ output_line (ends_at (opening_of h) (run (opening_of h) (seen h) (settle (opening_of h) settle_limit (seen h))))
+settle-text h = Said-text-last (all_answers (opening_of h) (seen h) (settle (opening_of h) settle_limit (seen h)))
+    (ends_at (opening_of h) (run (opening_of h) (seen h) (settle (opening_of h) settle_limit (seen h))))
 
 -- how it ends, by the link on which a letter waits
-pub settled-waits : (r : Option (ℕ × ℕ)) (h : Held) → WaitsOn r h → ends_at h.name (seen h) ≡ settle_end (is_none r)
-settled-waits None h w = ap (settled (opening_of h.name) settle_limit) w
-settled-waits (Some p) h w = ap (settled (opening_of h.name) settle_limit) w
+pub settled-waits : (r : Option (ℕ × ℕ)) (h : Held) → WaitsOn r h → ends_at (opening_of h) (seen h) ≡ settle_end (is_none r)
+settled-waits None h w = ap (settled (opening_of h) settle_limit) w
+settled-waits (Some p) h w = ap (settled (opening_of h) settle_limit) w
 
 module _ (k : ℕ) (old now : Held) (a b : Option (List ℕ)) (S : Settles k old now a b) where
   -- a fault while the answers of the next delivery were written
-  pub settle-stopped : (e : AnyEvent) → next_delivery (opening_of now.name) (seen now) ≡ Some e → k < 100000 → (c : Option (List ℕ))
-      → AppendsPart b c (answers_text (answers (opening_of now.name) (seen now) e)) → AppendsPart a c (shown_on old (Ok Settle))
+  pub settle-stopped : (e : AnyEvent) → next_delivery (opening_of now) (seen now) ≡ Some e → k < 100000 → (c : Option (List ℕ))
+      → AppendsPart b c (answers_text (answers (opening_of now) (seen now) e)) → AppendsPart a c (shown_on old (Ok Settle))
   settle-stopped e h l c p =
-      let p2 : AppendsPart b c (answers_text (answers (opening_of old.name) (seen now) e)) =
-      subst (λ (x : ℕ). AppendsPart b c (answers_text (answers (opening_of x) (seen now) e))) S.name p in
-      let v = happens (opening_of old.name) (seen now) e in
-      let more = all_answers (opening_of old.name) v (settle (opening_of old.name) (most-next k old now a b S l).0 v) in
-      let given = answers (opening_of old.name) (seen now) e in
+      let p2 : AppendsPart b c (answers_text (answers (opening_of old) (seen now) e)) =
+      subst (λ (o : Opening). AppendsPart b c (answers_text (answers o (seen now) e))) S.opening p in
+      let v = happens (opening_of old) (seen now) e in
+      let more = all_answers (opening_of old) v (settle (opening_of old) (most-next k old now a b S l).0 v) in
+      let given = answers (opening_of old) (seen now) e in
       let q : AppendsPart a c (answers_text (S.given ++ given)) =
       subst (λ (t : List ℕ). AppendsPart a c t) (sym (answers_text-append S.given given))
       (AppendsPart-behind a b c (answers_text S.given) (answers_text given) S.wrote p2) in
@@ -169,33 +172,33 @@ module _ (k : ℕ) (old now : Held) (a b : Option (List ℕ)) (S : Settles k old
       subst (λ (t : List ℕ). AppendsPart a c t) (sym (settle-text old))
       (AppendsPart-more a c _ _ (subst (λ (ss : List AnyAnswer). AppendsPart a c (answers_text ss)) (sym (answered-next k old now a b S e h l v refl)) all))
 
-  module _ (none : settle (opening_of old.name) S.most (seen now) ≡ []) (s : Bool) (ends : ends_at now.name (seen now) ≡ settle_end s) where
-    pub world-end : run (opening_of old.name) (seen old) (settle (opening_of old.name) settle_limit (seen old)) ≡ seen now
-    world-end = S.world ∙ ap (λ (es : List AnyEvent). run (opening_of old.name) (seen now) es) none
+  module _ (none : settle (opening_of old) S.most (seen now) ≡ []) (s : Bool) (ends : ends_at (opening_of now) (seen now) ≡ settle_end s) where
+    pub world-end : run (opening_of old) (seen old) (settle (opening_of old) settle_limit (seen old)) ≡ seen now
+    world-end = S.world ∙ ap (λ (es : List AnyEvent). run (opening_of old) (seen now) es) none
 
-    pub answers-end : all_answers (opening_of old.name) (seen old) (settle (opening_of old.name) settle_limit (seen old)) ≡ S.given
-    answers-end = S.answered ∙ ap (λ (es : List AnyEvent). S.given ++ all_answers (opening_of old.name) (seen now) es) none ∙ append-nil S.given
+    pub answers-end : all_answers (opening_of old) (seen old) (settle (opening_of old) settle_limit (seen old)) ≡ S.given
+    answers-end = S.answered ∙ ap (λ (es : List AnyEvent). S.given ++ all_answers (opening_of old) (seen now) es) none ∙ append-nil S.given
 
-    pub output-end : ends_at old.name (run (opening_of old.name) (seen old) (settle (opening_of old.name) settle_limit (seen old))) ≡ settle_end s
-    output-end = ap (λ (w : World). ends_at old.name w) world-end
-        ∙ ap (λ (n : ℕ). ends_at n (seen now)) (sym S.name) ∙ ends
+    pub output-end : ends_at (opening_of old) (run (opening_of old) (seen old) (settle (opening_of old) settle_limit (seen old))) ≡ settle_end s
+    output-end = ap (λ (w : World). ends_at (opening_of old) w) world-end
+        ∙ ap (λ (o : Opening). ends_at o (seen now)) (sym S.opening) ∙ ends
 
     pub text-end : shown_on old (Ok Settle) ≡ answers_text S.given ++ output_line (settle_end s)
-    text-end = settle-text old ∙ ap (λ (x : Output). answers_text (all_answers (opening_of old.name) (seen old) (settle (opening_of old.name) settle_limit (seen old))) ++ output_line x) output-end
+    text-end = settle-text old ∙ ap (λ (x : Output). answers_text (all_answers (opening_of old) (seen old) (settle (opening_of old) settle_limit (seen old))) ++ output_line x) output-end
         ∙ ap (λ (ss : List AnyAnswer). answers_text ss ++ output_line (settle_end s)) answers-end
 
     -- no more deliveries are made: how it ended is written
-    pub settle-ended : (c : Option (List ℕ)) (r : Result Bool ScriptFault) → Writes b c r (output_line (settle_end s)) → IfOk r (λ fine. fine ≡ s)
+    pub settle-ended : (c : Option (List ℕ)) (r : Result Bool WriteFault) → Writes b c r (output_line (settle_end s)) → IfOk r (λ fine. fine ≡ s)
         → PlaysOrStops old now (Ok Settle) a c r
     settle-ended c (Err f) w q =
         subst (λ (t : List ℕ). AppendsPart a c t) (sym text-end) (AppendsPart-behind a b c (answers_text S.given) (output_line (settle_end s)) S.wrote w)
     settle-ended c (Ok fine) w q = record {
-      name = S.name;
+      opening = S.opening;
       world = sym world-end;
       wrote = subst (λ (t : List ℕ). Appends a c t) (sym text-end) (Appends-trans a b c (answers_text S.given) (output_line (settle_end s)) S.wrote w);
       fine_is = q ∙ fine-end s ∙ ap is_fine_output (sym output-end)
-          ∙ sym (Said-fine-last (all_answers (opening_of old.name) (seen old) (settle (opening_of old.name) settle_limit (seen old)))
-          (ends_at old.name (run (opening_of old.name) (seen old) (settle (opening_of old.name) settle_limit (seen old)))));
+          ∙ sym (Said-fine-last (all_answers (opening_of old) (seen old) (settle (opening_of old) settle_limit (seen old)))
+          (ends_at (opening_of old) (run (opening_of old) (seen old) (settle (opening_of old) settle_limit (seen old)))));
     }
       where
         fine-end : (t : Bool) → t ≡ is_fine_output (settle_end t)
@@ -203,9 +206,9 @@ module _ (k : ℕ) (old now : Held) (a b : Option (List ℕ)) (S : Settles k old
         fine-end false = refl
 
 -- an event that was accepted, and its answers
-pub Delivers-played : {A : Type 0} (old new : Held) (e : WorldEvent) (given : List Answer) (a b : Option (List ℕ)) (r : Result A ScriptFault)
+pub Delivers-played : {A : Type 0} (old new : Held) (e : WorldEvent) (given : List Answer) (a b : Option (List ℕ)) (r : Result A WriteFault)
     → Played e old new [] given → Writes a b r (answers_text (map answer_of given)) → Delivers old new (event_of e) a b r
-Delivers-played old new e given a b (Ok x) p w = (p.name, p.happens, subst (λ (ss : List AnyAnswer). Appends a b (answers_text ss)) p.answers w)
+Delivers-played old new e given a b (Ok x) p w = (opening_of-same old new p.nodes p.cluster, p.happens, subst (λ (ss : List AnyAnswer). Appends a b (answers_text ss)) p.answers w)
 Delivers-played old new e given a b (Err f) p w = subst (λ (ss : List AnyAnswer). AppendsPart a b (answers_text ss)) p.answers w
 
 -- a test for none, by the test for some
@@ -217,11 +220,11 @@ is_none-by (Some v) false e = refl
 
 module _ (k : ℕ) (old now : Held) (a b : Option (List ℕ)) (S : Settles k old now a b) where
   -- no letter waits
-  pub none_waits : next_delivery (opening_of now.name) (seen now) ≡ None → settle (opening_of old.name) S.most (seen now) ≡ []
-  none_waits h = settle-none (opening_of old.name) S.most (seen now) (subst (λ (n : ℕ). next_delivery (opening_of n) (seen now) ≡ None) S.name h)
+  pub none_waits : next_delivery (opening_of now) (seen now) ≡ None → settle (opening_of old) S.most (seen now) ≡ []
+  none_waits h = settle-none (opening_of old) S.most (seen now) (subst (λ (o : Opening). next_delivery o (seen now) ≡ None) S.opening h)
 
   -- all deliveries were made
-  pub none_left : 100000 ≤ k → settle (opening_of old.name) S.most (seen now) ≡ []
+  pub none_left : 100000 ≤ k → settle (opening_of old) S.most (seen now) ≡ []
   none_left l =
       let z : S.most ≡ 0 = omega (arith, S.counted) in
-      ap (λ (n : ℕ). settle (opening_of old.name) n (seen now)) z
+      ap (λ (n : ℕ). settle (opening_of old) n (seen now)) z

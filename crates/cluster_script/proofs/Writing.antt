@@ -6,10 +6,10 @@ use Rattle.std.proofs.lemmas.List.{take-append-drop}
 use Rattle.std.proofs.lemmas.Grind.{take_at_read}
 use Rattle.protocol_model.specs.Script.{Said, Line as ScriptLine}
 use Rattle.cluster_world.specs.Held.{Held}
-use Rattle.cluster_world.specs.Seen.{answer_of}
-use Rattle.cluster_world.specs.declared.events.Answer.{Answer}
+use Rattle.node_core.specs.Seen.{answer_of}
+use Rattle.node_core.specs.declared.events.Answer.{Answer}
 use Rattle.cluster_script.specs.declared.faults.LineFault.{LineFault}
-use Rattle.cluster_script.specs.declared.faults.ScriptFault.{ScriptFault}
+use Rattle.cluster_script.specs.declared.faults.WriteFault.{WriteFault}
 use Rattle.cluster_script.specs.Printing.{answers_text, output_line}
 use Rattle.cluster_script.specs.Played.{PlaysOrStops, shown_on}
 use Rattle.cluster_script.specs.Script.{AppendsPart, Writes}
@@ -37,7 +37,7 @@ pub Writes-err : {A E : Type 0} (a b : Option (List ℕ)) (r : Result A E) (y : 
 Writes-err a b r y text e p = rw e p
 
 -- and of a line that is played
-pub PlaysOrStops-err : (old new : Held) (asked : Result ScriptLine LineFault) (a b : Option (List ℕ)) (r : Result Bool ScriptFault) (y : ScriptFault)
+pub PlaysOrStops-err : (old new : Held) (asked : Result ScriptLine LineFault) (a b : Option (List ℕ)) (r : Result Bool WriteFault) (y : WriteFault)
     → r ≡ Err y → AppendsPart a b (shown_on old asked) → PlaysOrStops old new asked a b r
 PlaysOrStops-err old new asked a b r y e p = rw e p
 

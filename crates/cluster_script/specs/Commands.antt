@@ -5,12 +5,12 @@ use Rattle.registry_model.specs.Process.{Process}
 use Rattle.registry_model.specs.Call.{Look, NameCall}
 use Rattle.protocol_model.specs.Event.{Event, Call}
 use Rattle.protocol_model.specs.World.{WorldEvent}
-use Rattle.protocol_model.specs.Script.{Line, Play, Settle}
+use Rattle.protocol_model.specs.Script.{Line, Play, Settle, TableAt, MembersAt}
 use Rattle.term.specs.declared.faults.TextFault.{TextFault}
 use Rattle.term.specs.Spelling.{SpellsText, RefusesText, SpellsPid, RefusesPid}
 use Rattle.cluster_script.specs.declared.faults.LineFault.{LineFault}
 use Rattle.cluster_script.specs.declared.faults.LineFault.TheVariants.{BadLine, LineTooLong, NotAscii, Text}
-use Rattle.cluster_world.specs.Seen.{event_of}
+use Rattle.cluster_world.specs.Events.{event_of}
 use Rattle.cluster_script.specs.declared.commands.Task.{Task}
 use Rattle.cluster_script.specs.Lines.{longest_line}
 use Rattle.cluster_script.specs.Words.{words}
@@ -21,12 +21,17 @@ pub data Command : Type 0 where
   RegisterAt : (node : List ℕ) → (name : List ℕ) → (owner : List ℕ) → Command
   WhereisAt : (node : List ℕ) → (name : List ℕ) → Command
   DeliverFrom : (sender : List ℕ) → (receiver : List ℕ) → Command
+  RetryAt : (node : List ℕ) → Command
+  TableOf : (node : List ℕ) → Command
+  MembersOf : (node : List ℕ) → Command
   SettleAll : Command
 
 -- the command of these words, if there is one
 abbrev pub command_of : List (List ℕ) → Option Command
 command_of (w ∷ []) = if bytes_eq w (codes "settle") then Some SettleAll else None
-command_of (w ∷ a ∷ []) = if bytes_eq w (codes "spawn") then Some (SpawnAt a) else None
+command_of (w ∷ a ∷ []) =
+    if bytes_eq w (codes "spawn") then Some (SpawnAt a) else (if bytes_eq w (codes "retry") then Some (RetryAt a)
+    else (if bytes_eq w (codes "table") then Some (TableOf a) else (if bytes_eq w (codes "members") then Some (MembersOf a) else None)))
 command_of (w ∷ a ∷ b ∷ []) =
     if bytes_eq w (codes "whereis") then Some (WhereisAt a b) else (if bytes_eq w (codes "deliver") then Some (DeliverFrom a b) else None)
 command_of (w ∷ a ∷ b ∷ c ∷ []) = if bytes_eq w (codes "register") then Some (RegisterAt a b c) else None
@@ -57,10 +62,21 @@ made_of_three f (Err e) b c = Err e
 abbrev pub at_node : ℕ → Call → Line
 at_node a call = Play (WorldEvent.At a (Event.Calling call))
 
+-- a node asks again
+abbrev pub retry_at : ℕ → Line
+retry_at a = Play (WorldEvent.At a Event.Retry)
+
+-- a command with one text, which names a node
+abbrev pub AsksAt : (ℕ → Line) → List ℕ → Result Line TextFault → Type 0
+AsksAt f a r = (n : Result ℕ TextFault) × ReadsText a n × (r ≡ made_of f n)
+
 -- what a command asks for, or the fault of the first of its texts that has one
 abbrev pub Asks : Command → Result Line TextFault → Type 0
 Asks SettleAll r = r ≡ Ok Settle
-Asks (SpawnAt a) r = (n : Result ℕ TextFault) × ReadsText a n × (r ≡ made_of (λ n. at_node n Call.Spawn) n)
+Asks (SpawnAt a) r = AsksAt (λ n. at_node n Call.Spawn) a r
+Asks (RetryAt a) r = AsksAt retry_at a r
+Asks (TableOf a) r = AsksAt TableAt a r
+Asks (MembersOf a) r = AsksAt MembersAt a r
 Asks (WhereisAt a x) r = (n : Result ℕ TextFault) × (y : Result ℕ TextFault) × ReadsText a n × ReadsText x y
     × (r ≡ made_of_both (λ n y. at_node n (Call.LookUp (Look.Whereis y))) n y)
 Asks (DeliverFrom a b) r = (n : Result ℕ TextFault) × (m : Result ℕ TextFault) × ReadsText a n × ReadsText b m
@@ -100,6 +116,8 @@ LineAsks line r = AsksUnless (unread line) line r
 abbrev pub line_in : Task → Line
 line_in (Task.Play e) = Play (event_of e)
 line_in Task.Settle = Settle
+line_in (Task.Table a) = TableAt a
+line_in (Task.Members a) = MembersAt a
 
 -- what was read, as what a line asks for
 abbrev pub asked_by : Result Task LineFault → Result Line LineFault

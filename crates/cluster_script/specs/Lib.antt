@@ -3,5 +3,4 @@ pub mod Words
 pub mod Commands
 pub mod Printing
 pub mod Script
-pub mod Header
 pub mod Played

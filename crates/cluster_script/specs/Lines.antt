@@ -3,6 +3,8 @@ use Rattle.std.specs.Prelude.{ℕ, Bool, true, false, ◌+◌, ◌-◌, ◌/◌,
 use Rattle.std.specs.List.{list_all, All}
 use Rattle.std.specs.Io.KnownBytes.{Consumes, IsAtEnd}
 use Rattle.std.specs.Str.Lines.{lines, strip_carriage_return}
+use Rattle.cluster_script.specs.declared.faults.ScriptFault.{ScriptFault}
+use Rattle.cluster_script.specs.declared.faults.ScriptFault.TheVariants.{TooManyLines}
 use Rattle.cluster_script.specs.declared.lines.Line.{Line}
 use Rattle.cluster_script.specs.declared.lines.Line.TheVariants.{Text, TooLong}
 use Rattle.cluster_script.specs.declared.lines.Part.{Part}
@@ -57,6 +59,15 @@ LosesLines None new ls = ⊤
 LosesLines (Some xs) None ls = ⊥
 LosesLines (Some xs) (Some ys) ls = lines xs ≡ ls ++ lines ys
 
+-- known bytes begin with these lines
+abbrev pub BeginsWithLines : Option (List ℕ) → List (List ℕ) → Type 0
+BeginsWithLines None ls = ⊤
+BeginsWithLines (Some xs) ls = (more : List (List ℕ)) × (lines xs ≡ ls ++ more)
+
+-- these first lines count for no more than the most, and with the next one they count for more
+abbrev pub GoesPast : Option (List ℕ) → ℕ → List (List ℕ) → Type 0
+GoesPast input most ls = (line : List ℕ) × BeginsWithLines input (ls ++ line ∷ []) × (count_of_all ls ≤ most) × (most < count_of_all (ls ++ line ∷ []))
+
 -- there is no further line in known bytes
 abbrev pub HasNoLine : Option (List ℕ) → Type 0
 HasNoLine None = ⊤
@@ -80,3 +91,8 @@ TakesByte old new (Some b) = Consumes old new (b ∷ [])
 abbrev pub TakesLine : Option (List ℕ) → Option (List ℕ) → ℕ → ℕ → Option Line → Type 0
 TakesLine old new most left None = LosesLines old new [] × HasNoLine new × (most ≡ left)
 TakesLine old new most left (Some kept) = (line : List ℕ) × IsKept line kept × LosesLines old new (line ∷ []) × (most ≡ left + count_of line)
+
+-- the next line isn't read: if for too many lines, it counts for more than may come
+abbrev pub StopsAtLine : Option (List ℕ) → ℕ → ScriptFault → Type 0
+StopsAtLine input left TooManyLines = GoesPast input left []
+StopsAtLine input left _ = ⊤

@@ -1,33 +1,37 @@
 -- What it comes to that the program plays a line, or reads on to the next one.
-use Rattle.std.specs.Prelude.{ℕ, Bool, true, ◌≡◌, ◌+◌, List, [], ◌∷◌, Option, Some, None, Result, Ok, Err, if◌then◌else◌}
+use Rattle.std.specs.Prelude.{ℕ, ⊤, Bool, true, ◌≡◌, ◌+◌, List, [], ◌∷◌, Option, Some, None, is_some, Result, Ok, Err, if◌then◌else◌}
 use Rattle.std.specs.List.{list_all}
 use Rattle.std.specs.Io.KnownBytes.{Appends}
-use Rattle.protocol_model.specs.Event.{Refusal as AnyRefusal}
-use Rattle.protocol_model.specs.Script.{Line as ScriptLine, Output, Settled, SettleLimit}
+use Rattle.registry_model.specs.Process.{nodes_of}
+use Rattle.protocol_model.specs.Event.{Refusal as AnyRefusal, NoSuchNode}
+use Rattle.protocol_model.specs.Script.{Line as ScriptLine, Output, Settled, SettleLimit, TableIs, MembersAre, shown_at}
 use Rattle.protocol_model.specs.World.{WorldEvent as AnyEvent, happens, answers}
 use Rattle.cluster_world.specs.Held.{Held}
-use Rattle.cluster_world.specs.Seen.{opening_of, seen, refusal_of, is_memory}
+use Rattle.cluster_world.specs.Refusals.{refusal_of, is_memory}
+use Rattle.cluster_world.specs.Seen.{opening_of, seen}
 use Rattle.cluster_world.specs.declared.events.Refusal.{Refusal}
 use Rattle.cluster_script.specs.declared.faults.LineFault.{LineFault}
 use Rattle.cluster_script.specs.declared.faults.ScriptFault.{ScriptFault}
+use Rattle.cluster_script.specs.declared.faults.ScriptFault.TheVariants.{Read, TooManyLines}
+use Rattle.cluster_script.specs.declared.faults.WriteFault.{WriteFault}
 use Rattle.cluster_script.specs.declared.lines.Line.{Line}
-use Rattle.cluster_script.specs.Lines.{spoken, count_of_all, IsKept, LosesLines, HasNoLine}
-use Rattle.cluster_script.specs.Printing.{answers_text, shown_text, is_fine, refusal_word}
-use Rattle.cluster_script.specs.Script.{behind, behind_all, shown, shown_all, AllAsk, AppendsPart, BeginsWithLines}
+use Rattle.cluster_script.specs.Lines.{spoken, count_of_all, IsKept, LosesLines, HasNoLine, BeginsWithLines, GoesPast}
+use Rattle.cluster_script.specs.Printing.{answers_text, shown_text, is_fine, is_fine_output, output_line, error_line, refusal_word}
+use Rattle.cluster_script.specs.Script.{settle_limit, behind, behind_all, shown, shown_all, AllAsk, AppendsPart}
 
 -- what is printed for a line on what is held
 abbrev pub shown_on : Held → Result ScriptLine LineFault → List ℕ
-shown_on h asked = shown_text (shown (opening_of h.name) (seen h) asked)
+shown_on h asked = shown_text (shown (opening_of h) (seen h) asked)
 
 -- a line was played, and what it prints was written
 pub record PlaysLine (old new : Held) (asked : Result ScriptLine LineFault) (before after : Option (List ℕ)) (fine : Bool) : Type 0 where
-  pub name : new.name ≡ old.name
-  pub world : seen new ≡ behind (opening_of old.name) (seen old) asked
+  pub opening : opening_of new ≡ opening_of old
+  pub world : seen new ≡ behind (opening_of old) (seen old) asked
   pub wrote : Appends before after (shown_on old asked)
-  pub fine_is : fine ≡ list_all is_fine (shown (opening_of old.name) (seen old) asked)
+  pub fine_is : fine ≡ list_all is_fine (shown (opening_of old) (seen old) asked)
 
 -- it was played, or after a fault a part of what it prints was written
-abbrev pub PlaysOrStops : Held → Held → Result ScriptLine LineFault → Option (List ℕ) → Option (List ℕ) → Result Bool ScriptFault → Type 0
+abbrev pub PlaysOrStops : Held → Held → Result ScriptLine LineFault → Option (List ℕ) → Option (List ℕ) → Result Bool WriteFault → Type 0
 PlaysOrStops old new asked before after (Ok fine) = PlaysLine old new asked before after fine
 PlaysOrStops old new asked before after (Err f) = AppendsPart before after (shown_on old asked)
 
@@ -40,11 +44,34 @@ IsWordOf r (Some word) = (any : AnyRefusal) × (refusal_of r ≡ Some any) × (w
 abbrev pub settle_end : Bool → Output
 settle_end settled = if settled then Settled else SettleLimit
 
+-- what a script shows of node a: its table
+abbrev pub table_of : Held → ℕ → Output
+table_of h a = TableIs ((seen h).node a).replica.table
+
+-- and its members
+abbrev pub members_of : Held → ℕ → Output
+members_of h a = MembersAre (nodes_of (opening_of h).bound ((seen h).node a).replica.members)
+
+-- the line where there is one, or the refusal for want of such a node
+abbrev pub line_or_refusal : Option (List ℕ) → List ℕ
+line_or_refusal None = error_line (refusal_word NoSuchNode)
+line_or_refusal (Some line) = line
+
+-- the line that shows x of node a, or none where x isn't shown
+pub record IsShown (h : Held) (a : ℕ) (x : Output) (line : Option (List ℕ)) : Type 0 where
+  pub text : line_or_refusal line ≡ output_line (shown_at (opening_of h) settle_limit (seen h) a x)
+  pub fine : is_some line ≡ is_fine_output (shown_at (opening_of h) settle_limit (seen h) a x)
+
 -- the next line that isn't empty was read, or there was none
 abbrev pub ReadsOn : Option (List ℕ) → Option (List ℕ) → ℕ → ℕ → Option Line → Type 0
 ReadsOn old new most left None = (ls : List (List ℕ)) × (spoken ls ≡ []) × LosesLines old new ls × HasNoLine new × (most ≡ left + count_of_all ls)
 ReadsOn old new most left (Some kept) = (ls : List (List ℕ)) × (line : List ℕ) × IsKept line kept × (spoken ls ≡ line ∷ []) × LosesLines old new ls
     × (most ≡ left + count_of_all ls)
+
+-- no further line is read: if for too many lines, there are empty ones, and the next counts for more than may come
+abbrev pub StopsReading : Option (List ℕ) → ℕ → ScriptFault → Type 0
+StopsReading input left TooManyLines = (ls : List (List ℕ)) × (spoken ls ≡ []) × GoesPast input left ls
+StopsReading input left _ = ⊤
 
 -- lines were read and played
 pub record PlaysLines (input rest : Option (List ℕ)) (most left : ℕ) (old new : Held) (before after : Option (List ℕ)) (fine : Bool) : Type 0 where
@@ -53,26 +80,32 @@ pub record PlaysLines (input rest : Option (List ℕ)) (most left : ℕ) (old ne
   pub read : LosesLines input rest taken
   pub counted : most ≡ left + count_of_all taken
   pub each : AllAsk (spoken taken) asked
-  pub name : new.name ≡ old.name
-  pub world : seen new ≡ behind_all (opening_of old.name) (seen old) asked
-  pub wrote : Appends before after (shown_text (shown_all (opening_of old.name) (seen old) asked))
-  pub fine_is : fine ≡ list_all is_fine (shown_all (opening_of old.name) (seen old) asked)
+  pub opening : opening_of new ≡ opening_of old
+  pub world : seen new ≡ behind_all (opening_of old) (seen old) asked
+  pub wrote : Appends before after (shown_text (shown_all (opening_of old) (seen old) asked))
+  pub fine_is : fine ≡ list_all is_fine (shown_all (opening_of old) (seen old) asked)
 
 -- a letter was delivered, and its answers were written, or after a fault a part of them
-abbrev pub Delivers : {A : Type 0} → Held → Held → AnyEvent → Option (List ℕ) → Option (List ℕ) → Result A ScriptFault → Type 0
-Delivers old new e before after (Ok x) = (new.name ≡ old.name) × (seen new ≡ happens (opening_of old.name) (seen old) e)
-    × Appends before after (answers_text (answers (opening_of old.name) (seen old) e))
-Delivers old new e before after (Err f) = AppendsPart before after (answers_text (answers (opening_of old.name) (seen old) e))
+abbrev pub Delivers : {A : Type 0} → Held → Held → AnyEvent → Option (List ℕ) → Option (List ℕ) → Result A WriteFault → Type 0
+Delivers old new e before after (Ok x) = (opening_of new ≡ opening_of old) × (seen new ≡ happens (opening_of old) (seen old) e)
+    × Appends before after (answers_text (answers (opening_of old) (seen old) e))
+Delivers old new e before after (Err f) = AppendsPart before after (answers_text (answers (opening_of old) (seen old) e))
 
--- Some first lines of the input were read and played, and a part of what they print was written
-pub record PlaysSome (input : Option (List ℕ)) (old : Held) (before after : Option (List ℕ)) : Type 0 where
+-- Some first lines of the input were read and played, and what they print was written, or a part of it
+pub record PlaysSome (Grows : Option (List ℕ) → Option (List ℕ) → List ℕ → Type 0) (input : Option (List ℕ)) (old : Held) (before after : Option (List ℕ)) : Type 0 where
   pub taken : List (List ℕ)
   pub asked : List (Result ScriptLine LineFault)
   pub read : BeginsWithLines input taken
   pub each : AllAsk (spoken taken) asked
-  pub wrote : AppendsPart before after (shown_text (shown_all (opening_of old.name) (seen old) asked))
+  pub wrote : Grows before after (shown_text (shown_all (opening_of old) (seen old) asked))
 
--- lines were played, and what they print was written; or after a fault some first lines were, and a part of what they print was written
+-- only some first lines were played: all is written that they print, unless it is the writer or memory that failed
+abbrev pub StopsPlaying : Option (List ℕ) → ℕ → Held → Option (List ℕ) → Option (List ℕ) → ScriptFault → Type 0
+StopsPlaying input most old before after TooManyLines = (s : PlaysSome Appends input old before after) × GoesPast input most s.taken
+StopsPlaying input most old before after Read = PlaysSome Appends input old before after
+StopsPlaying input most old before after _ = PlaysSome AppendsPart input old before after
+
+-- lines were played, and what they print was written; or after a fault some first lines were
 abbrev pub PlaysAll : Option (List ℕ) → Option (List ℕ) → ℕ → ℕ → Held → Held → Option (List ℕ) → Option (List ℕ) → Result Bool ScriptFault → Type 0
 PlaysAll input rest most left old new before after (Ok fine) = PlaysLines input rest most left old new before after fine × HasNoLine rest
-PlaysAll input rest most left old new before after (Err f) = PlaysSome input old before after
+PlaysAll input rest most left old new before after (Err f) = StopsPlaying input most old before after f

@@ -20,8 +20,11 @@ word_of (Text text.Empty) = codes "empty"
 word_of (Text text.TooLong) = codes "too_long"
 word_of (Text (text.BadByte place)) = codes "bad_byte"
 word_of (Text text.BadSerial) = codes "bad_serial"
+word_of (Text text.TooManyNodes) = codes "too_many_nodes"
 word_of (Start start.NoNode) = codes "no_node"
+word_of (Start start.SameNode) = codes "same_node"
 word_of (Start start.TooManyNodes) = codes "too_many_nodes"
+word_of (Start start.Memory) = codes "memory"
 
 -- the word for which the world or a node refuses an event
 abbrev pub refusal_word : Refusal → List ℕ

@@ -7,13 +7,17 @@ use Rattle.protocol_model.specs.World.{Opening, World, opening_world, run}
 use Rattle.protocol_model.specs.Script.{Line, events_in, printed}
 use Rattle.term.specs.declared.faults.TextFault.{TextFault}
 use Rattle.term.specs.Spelling.{SpellsText, RefusesText}
-use Rattle.cluster_world.specs.Playing.{start_refused}
+use Rattle.cluster_world.specs.Starting.{start_refused}
 use Rattle.cluster_world.specs.Held.{Held}
-use Rattle.cluster_world.specs.Seen.{opening_of, seen}
+use Rattle.cluster_world.specs.Seen.{opening_with, opening_of, seen}
 use Rattle.cluster_script.specs.declared.faults.LineFault.{LineFault}
 use Rattle.cluster_script.specs.declared.faults.LineFault.TheVariants.{BadLine, Text, Start}
+use Rattle.cluster_script.specs.declared.faults.ScriptFault.{ScriptFault}
+use Rattle.cluster_script.specs.declared.faults.ScriptFault.TheVariants.{Read, Write, TooManyLines, Memory}
+use Rattle.cluster_script.specs.declared.faults.WriteFault.{WriteFault}
+use Rattle.cluster_script.specs.declared.faults.WriteFault.TheVariants as write
 use Rattle.cluster_world.specs.declared.events.StartFault.{StartFault}
-use Rattle.cluster_script.specs.Lines.{spoken, count_of_all, most_lines}
+use Rattle.cluster_script.specs.Lines.{spoken, count_of_all, most_lines, BeginsWithLines, GoesPast}
 use Rattle.cluster_script.specs.Words.{words}
 use Rattle.cluster_script.specs.Commands.{unread, LineAsks}
 use Rattle.cluster_script.specs.Printing.{Shown, Shows, Refuses, shown_text, is_fine}
@@ -86,16 +90,20 @@ OpensUnless None line r = OpensIn (cluster_texts (words line)) r
 abbrev pub LineOpens : List ℕ → Result (List ℕ) LineFault → Type 0
 LineOpens line r = OpensUnless (unread line) line r
 
--- what was made of the first line: a world of one node that stands as at its opening, or why there is none
+-- a world of these nodes, which are all joined with each other
+abbrev pub opening_for : List ℕ → Opening
+opening_for nodes = opening_with nodes nodes
+
+-- what was made of the first line: a world of its nodes that stands as at its opening, or why there is none
 abbrev pub Opened : (Result (List ℕ) LineFault → Type 0) → Result Held LineFault → Type 0
-Opened Opens (Ok world) = Opens (Ok (world.name ∷ [])) × (seen world ≡ opening_world (opening_of world.name))
+Opened Opens (Ok world) = (nodes : List ℕ) × Opens (Ok nodes) × (opening_of world ≡ opening_for nodes) × (seen world ≡ opening_world (opening_for nodes))
 Opened Opens (Err f) = Opens (Err f)
 
 -- the lines behind the first are played on a world of these nodes; if there is none, nothing is
 abbrev pub Follows : Result (List ℕ) LineFault → List (List ℕ) → List Shown → Type 0
 Follows (Err f) ls out = out ≡ Refuses f ∷ []
-Follows (Ok nodes) ls out = (a : ℕ) × (asked : List (Result Line LineFault)) × (nodes ≡ a ∷ []) × AllAsk ls asked
-    × (out ≡ shown_all (opening_of a) (opening_world (opening_of a)) asked)
+Follows (Ok nodes) ls out = (asked : List (Result Line LineFault)) × AllAsk ls asked
+    × (out ≡ shown_all (opening_for nodes) (opening_world (opening_for nodes)) asked)
 
 -- what is printed for lines of which none is empty: without a first line there is none that opens a world
 abbrev pub PrintsSpoken : List (List ℕ) → List Shown → Type 0
@@ -111,11 +119,6 @@ abbrev pub HasLines : Option (List ℕ) → List (List ℕ) → Type 0
 HasLines None ls = ⊤
 HasLines (Some xs) ls = lines xs ≡ ls
 
--- known bytes begin with these lines
-abbrev pub BeginsWithLines : Option (List ℕ) → List (List ℕ) → Type 0
-BeginsWithLines None ls = ⊤
-BeginsWithLines (Some xs) ls = (more : List (List ℕ)) × (lines xs ≡ ls ++ more)
-
 -- known bytes grow by a part of these
 abbrev pub AppendsPart : Option (List ℕ) → Option (List ℕ) → List ℕ → Type 0
 AppendsPart old new text = (part : List ℕ) × (rest : List ℕ) × (text ≡ part ++ rest) × Appends old new part
@@ -130,19 +133,48 @@ pub record Ran (input : Option (List ℕ)) (old new : Option (List ℕ)) (fine :
   pub out : List Shown
   pub read : HasLines input all
   pub prints : Prints all out
-  -- the lines that were read, which count for no more than there may be; they are all, unless there is no world to play on
+  -- the lines that were read, which count for no more than there may be; they are all, or end behind the line that opens no world
   pub taken : List (List ℕ)
   pub untaken : List (List ℕ)
   pub parts : all ≡ taken ++ untaken
   pub counted : count_of_all taken ≤ most_lines
-  pub ended : (untaken ≡ []) ⊎ ((f : LineFault) × (out ≡ Refuses f ∷ []))
+  pub ended : (untaken ≡ []) ⊎ ((line : List ℕ) × (f : LineFault) × (spoken taken ≡ line ∷ []) × LineOpens line (Err f))
   pub wrote : Appends old new (shown_text out)
   pub fine_is : fine ≡ list_all is_fine out
 
--- A script of this input ended early: what was written is a part of what is printed for its first lines
-pub record Stopped (input : Option (List ℕ)) (old new : Option (List ℕ)) : Type 0 where
+-- what is printed for lines, where others are played behind them: nothing before the one that opens a world
+abbrev pub PrintsOn : List (List ℕ) → List Shown → Type 0
+PrintsOn [] out = out ≡ []
+PrintsOn (l ∷ ls) out = (nodes : List ℕ) × LineOpens l (Ok nodes) × Follows (Ok nodes) ls out
+
+-- A script of this input ended between two lines: all is written that is printed for those before
+pub record StoppedBetween (input old new : Option (List ℕ)) : Type 0 where
+  pub first : List (List ℕ)
+  pub out : List Shown
+  pub read : BeginsWithLines input first
+  pub prints : PrintsOn (spoken first) out
+  pub wrote : Appends old new (shown_text out)
+
+-- A script of this input ended within a line: a part is written of what is printed for its first lines
+pub record StoppedWithin (input old new : Option (List ℕ)) : Type 0 where
   pub first : List (List ℕ)
   pub out : List Shown
   pub read : BeginsWithLines input first
   pub prints : Prints first out
   pub wrote : AppendsPart old new (shown_text out)
+
+-- A script of this input ended with a fault: with too many lines, where the next one takes the count past the most
+abbrev pub Stopped : Option (List ℕ) → Option (List ℕ) → Option (List ℕ) → ScriptFault → Type 0
+Stopped input old new TooManyLines = (s : StoppedBetween input old new) × GoesPast input most_lines s.first
+Stopped input old new Read = StoppedBetween input old new
+Stopped input old new Write = StoppedWithin input old new
+Stopped input old new Memory = StoppedWithin input old new
+
+-- where a script of known bytes is played to its end, it has no line that takes the count past the most
+abbrev pub EndsOneWay : Type 0
+EndsOneWay = (input : List ℕ) (a b c d : Option (List ℕ)) (fine : Bool) → Ran (Some input) a b fine → Stopped (Some input) c d TooManyLines → ⊥
+
+-- the fault of a script of which a text wasn't written
+abbrev pub stop_of : WriteFault → ScriptFault
+stop_of write.Writer = Write
+stop_of write.Memory = Memory

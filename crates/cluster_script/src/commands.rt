@@ -5,7 +5,7 @@ ghost use Rattle.protocol_model.specs.Event.{Call as AnyCall};
 ghost use Rattle.protocol_model.specs.Script as script;
 ghost use Rattle.protocol_model.specs.World.{WorldEvent as AnyWorldEvent};
 ghost use Rattle.cluster_script.specs.Lines.{IsKept};
-ghost use Rattle.cluster_script.specs.Commands.{AsksIn, LineAsks, command_of, asked_by, unread, is_ascii, fault_of, made_of, made_of_both, made_of_three, at_node, SpawnAt, WhereisAt, DeliverFrom, RegisterAt};
+ghost use Rattle.cluster_script.specs.Commands.{AsksIn, LineAsks, command_of, asked_by, unread, is_ascii, fault_of, made_of, made_of_both, made_of_three, at_node, retry_at as any_retry, SpawnAt, RetryAt, TableOf, MembersOf, WhereisAt, DeliverFrom, RegisterAt};
 
 use crate::faults::LineFault;
 use crate::lines::Line;
@@ -22,6 +22,10 @@ pub(crate) enum Task {
     Play(WorldEvent),
     /// Letters are delivered until none waits.
     Settle,
+    /// The table of a node is shown.
+    Table(NodeName),
+    /// The members of a node are shown.
+    Members(NodeName),
 }
 
 /// A new process at a node.
@@ -29,6 +33,27 @@ fn spawn(node: Result<NodeName, TextFault>) -> Result<Task, LineFault>
     ensures { asked_by result ≡ fault_of (made_of (λ n. at_node n AnyCall.Spawn) node) }
 {
     Ok(Task::Play(WorldEvent::At(node?, Event::Call(Call::Spawn))))
+}
+
+/// A node asks again.
+fn retry(node: Result<NodeName, TextFault>) -> Result<Task, LineFault>
+    ensures { asked_by result ≡ fault_of (made_of any_retry node) }
+{
+    Ok(Task::Play(WorldEvent::At(node?, Event::Retry)))
+}
+
+/// The table of a node.
+fn table(node: Result<NodeName, TextFault>) -> Result<Task, LineFault>
+    ensures { asked_by result ≡ fault_of (made_of script.TableAt node) }
+{
+    Ok(Task::Table(node?))
+}
+
+/// The members of a node.
+fn members(node: Result<NodeName, TextFault>) -> Result<Task, LineFault>
+    ensures { asked_by result ≡ fault_of (made_of script.MembersAt node) }
+{
+    Ok(Task::Members(node?))
 }
 
 /// A look-up at a node.
@@ -71,6 +96,27 @@ fn spawn_at(node: &str) -> Result<Task, LineFault>
     spawn(parse_node(node))
 }
 
+/// `retry NODE`
+fn retry_at(node: &str) -> Result<Task, LineFault>
+    ensures { AsksIn (Some (RetryAt node.now)) (asked_by result) }
+{
+    retry(parse_node(node))
+}
+
+/// `table NODE`
+fn table_of(node: &str) -> Result<Task, LineFault>
+    ensures { AsksIn (Some (TableOf node.now)) (asked_by result) }
+{
+    table(parse_node(node))
+}
+
+/// `members NODE`
+fn members_of(node: &str) -> Result<Task, LineFault>
+    ensures { AsksIn (Some (MembersOf node.now)) (asked_by result) }
+{
+    members(parse_node(node))
+}
+
 /// `whereis NODE NAME`
 fn look_up_at(node: &str, name: &str) -> Result<Task, LineFault>
     ensures { AsksIn (Some (WhereisAt node.now name.now)) (asked_by result) }
@@ -109,6 +155,12 @@ fn read_two(word: &str, text: &str) -> Result<Task, LineFault>
 {
     if word == "spawn" {
         spawn_at(text)
+    } else if word == "retry" {
+        retry_at(text)
+    } else if word == "table" {
+        table_of(text)
+    } else if word == "members" {
+        members_of(text)
     } else {
         Err(LineFault::BadLine)
     }

@@ -1,8 +1,10 @@
 //! Why a script ends early.
 ghost use Rattle.std.specs.Prelude.{◌≡◌};
 ghost use Rattle.cluster_script.specs.Printing.{word_of};
+ghost use Rattle.cluster_script.specs.Script.{stop_of};
 ghost use Rattle.cluster_script.specs.declared.faults.LineFault.TheVariants.{Text};
 ghost use Rattle.cluster_script.specs.declared.faults.ScriptFault.TheVariants.{Memory};
+ghost use Rattle.cluster_script.specs.declared.faults.WriteFault.TheVariants as write;
 
 use cluster_world::StartFault;
 use std::alloc::AllocError;
@@ -12,16 +14,16 @@ use thiserror::Error;
 /// Why a script ended before its last line was played.
 #[derive(Debug, Drop, Error)]
 pub enum ScriptFault {
-    /// The reader failed.
+    /// The reader failed: all is written that the lines before print.
     #[error("the script can't be read")]
     Read,
-    /// The writer failed.
+    /// The writer failed: a part is written of what the lines so far print.
     #[error("the answers can't be written")]
     Write,
-    /// The script has more than 1,000,000 lines.
+    /// The next line takes the count past 1,000,000 lines: all is written that the lines before it print.
     #[error("too many lines")]
     TooManyLines,
-    /// Memory was refused.
+    /// Memory was refused: a part is written of what the lines so far print.
     #[error("memory")]
     Memory,
 }
@@ -31,6 +33,34 @@ impl From<AllocError> for ScriptFault {
 
     fn from(_: AllocError) -> Self {
         ScriptFault::Memory
+    }
+}
+
+/// Why a text wasn't written.
+#[derive(Drop)]
+pub(crate) enum WriteFault {
+    /// The writer failed.
+    Writer,
+    /// Memory was refused.
+    Memory,
+}
+
+impl From<AllocError> for WriteFault {
+    ghost from_gives = { λ _ e. e ≡ write.Memory };
+
+    fn from(_: AllocError) -> Self {
+        WriteFault::Memory
+    }
+}
+
+impl From<WriteFault> for ScriptFault {
+    ghost from_gives = { λ f e. e ≡ stop_of f };
+
+    fn from(fault: WriteFault) -> Self {
+        match fault {
+            WriteFault::Writer => ScriptFault::Write,
+            WriteFault::Memory => ScriptFault::Memory,
+        }
     }
 }
 
@@ -45,7 +75,7 @@ pub(crate) enum LineFault {
     NotAscii,
     /// A text spells nothing.
     Text(TextFault),
-    /// There can't be a world of these nodes.
+    /// There can't be a world of these nodes. Want of memory is no such cause: it ends the script.
     Start(StartFault),
 }
 
@@ -70,8 +100,11 @@ impl LineFault {
             LineFault::Text(TextFault::TooLong) => "too_long",
             LineFault::Text(TextFault::BadByte(_)) => "bad_byte",
             LineFault::Text(TextFault::BadSerial) => "bad_serial",
+            LineFault::Text(TextFault::TooManyNodes) => "too_many_nodes",
             LineFault::Start(StartFault::NoNode) => "no_node",
+            LineFault::Start(StartFault::SameNode) => "same_node",
             LineFault::Start(StartFault::TooManyNodes) => "too_many_nodes",
+            LineFault::Start(StartFault::Memory) => "memory",
         }
     }
 }

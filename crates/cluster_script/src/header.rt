@@ -1,21 +1,21 @@
 //! The first line of a script, which opens its world.
-ghost use Rattle.std.specs.Prelude.{◌≡◌, IfOk, map, List, ℕ};
+ghost use Rattle.std.specs.Prelude.{◌≡◌, IfOk, map, List, ℕ, Ok};
 ghost use Rattle.cluster_script.specs.Lines.{IsKept};
-ghost use Rattle.cluster_script.specs.Script.{ReadsTexts, OpensIn, LineOpens, Opened, cluster_texts};
-ghost use Rattle.cluster_script.specs.Header.{read_nodes_as, Starts};
+ghost use Rattle.cluster_script.specs.Commands.{made_of};
+ghost use Rattle.cluster_script.specs.Script.{ReadsTexts, OpensIn, LineOpens, Opened, cluster_texts, started};
 
 use crate::commands::text_of;
 use crate::faults::LineFault;
 use crate::lines::Line;
 use crate::words::words_of;
-use cluster_world::World;
+use cluster_world::{StartFault, World};
 use name_table::ListTable;
 use std::alloc::{AllocError, Global};
 use term::{NodeName, TextFault, parse_node};
 
 /// The nodes that the texts spell, or the fault of the first that spells none.
 fn read_nodes(alloc: Global, texts: &[&str]) -> Result<Result<Vec<NodeName>, TextFault>, AllocError>
-    ensures { IfOk result (λ nodes. ReadsTexts (map (λ text. text.now) texts.now) (read_nodes_as nodes)) }
+    ensures { IfOk result (λ nodes. ReadsTexts (map (λ text. text.now) texts.now) (made_of (λ nodes. nodes.items) nodes)) }
 {
     let mut nodes = Vec::new(alloc);
     for text in texts {
@@ -27,13 +27,17 @@ fn read_nodes(alloc: Global, texts: &[&str]) -> Result<Result<Vec<NodeName>, Tex
     Ok(Ok(nodes))
 }
 
-/// A world of these nodes.
-fn start(alloc: Global, nodes: &[NodeName]) -> Result<World<ListTable<Global>>, LineFault>
-    ensures { Starts nodes.now result }
+/// A world of these nodes, which are all joined with each other, or why there is none.
+fn start(
+    alloc: Global,
+    nodes: &[NodeName],
+) -> Result<Result<World<ListTable<Global>>, LineFault>, AllocError>
+    ensures { IfOk result (Opened (λ opened. opened ≡ started (Ok nodes.now))) }
 {
     match World::start(alloc, nodes, &[]) {
-        Ok(world) => Ok(world),
-        Err(fault) => Err(LineFault::Start(fault)),
+        Ok(world) => Ok(Ok(world)),
+        Err(StartFault::Memory) => Err(AllocError),
+        Err(fault) => Ok(Err(LineFault::Start(fault))),
     }
 }
 
@@ -51,7 +55,7 @@ fn open_words(
         return Ok(Err(LineFault::BadLine));
     }
     match read_nodes(alloc, texts)? {
-        Ok(nodes) => Ok(start(alloc, &nodes)),
+        Ok(nodes) => start(alloc, &nodes),
         Err(fault) => Ok(Err(LineFault::Text(fault))),
     }
 }

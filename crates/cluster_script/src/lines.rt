@@ -2,7 +2,8 @@
 ghost use Rattle.std.specs.Prelude.{false, ◌≡◌, ◌≤◌, ◌<◌, ◌+◌, ◌==◌, ℕ, List, Some, ◌∷◌, ◌++◌, [], length, MatchResult, MatchOption, IfSome, OnOk, IfOk, IsTrue, All, ◌≢◌};
 ghost use Rattle.std.specs.List.{list_all};
 ghost use Rattle.std.specs.Io.KnownBytes.{Keeps, Consumes, IsAtEnd};
-ghost use Rattle.cluster_script.specs.Lines.{IsPart, IsKept, line_of, count_for, count_of, is_blank as blank, most_lines, HasNoFeed, TakesByte, TakesPart, TakesLine, LosesLines, HasNoLine};
+ghost use Rattle.cluster_script.specs.declared.faults.ScriptFault.TheVariants as fault;
+ghost use Rattle.cluster_script.specs.Lines.{IsPart, IsKept, line_of, count_for, count_of, is_blank as blank, most_lines, HasNoFeed, TakesByte, TakesPart, TakesLine, StopsAtLine, LosesLines, HasNoLine};
 
 use crate::faults::ScriptFault;
 use std::alloc::{AllocError, Global};
@@ -40,7 +41,7 @@ fn count(len: u32) -> u32
 
 /// The next byte of a reader, or none at its end.
 fn next_byte<R: Read>(reader: &mut R) -> Result<Option<u8>, ScriptFault>
-    ensures { IfOk result (TakesByte (R.remaining reader.old) (R.remaining reader.new)) }
+    ensures { MatchResult result (TakesByte (R.remaining reader.old) (R.remaining reader.new)) (λ f. f ≡ fault.Read) }
 {
     let mut one = [0u8; 1];
     for _ in 0..u64::MAX {
@@ -113,8 +114,9 @@ impl Part {
 fn read_part<R: Read>(reader: &mut R, part: &mut Part, most: u32) -> Result<bool, ScriptFault>
     requires start { IsPart [] part.old }
     requires most { most ≤ most_lines }
-    ensures { IfOk result (λ is_ended. (bytes : List ℕ) × IsPart bytes part.new × HasNoFeed bytes
-        × TakesPart (R.remaining reader.old) (R.remaining reader.new) is_ended bytes) }
+    ensures { MatchResult result (λ is_ended. (bytes : List ℕ) × IsPart bytes part.new × HasNoFeed bytes
+        × TakesPart (R.remaining reader.old) (R.remaining reader.new) is_ended bytes)
+        (StopsAtLine (R.remaining reader.old) most) }
 {
     loop {
         match next_byte(reader)? {
@@ -137,7 +139,8 @@ pub(crate) fn read_line<R: Read>(
     left: &mut u32,
 ) -> Result<Option<Line>, ScriptFault>
     requires { left.old ≤ most_lines }
-    ensures { IfOk result (TakesLine (R.remaining reader.old) (R.remaining reader.new) left.old left.new) }
+    ensures { MatchResult result (TakesLine (R.remaining reader.old) (R.remaining reader.new) left.old left.new)
+        (StopsAtLine (R.remaining reader.old) left.old) }
 {
     let mut part = Part::new(alloc);
     let is_ended = read_part(reader, &mut part, *left)?;

@@ -3,13 +3,14 @@ ghost use Rattle.std.specs.Prelude.{◌≡◌, ◌++◌, ◌∷◌, [], ◌≤�
 ghost use Rattle.std.specs.Fmt.{decimal};
 ghost use Rattle.term.specs.Spelling.{bytes_of};
 ghost use Rattle.std.specs.Io.KnownBytes.{Appends, Keeps};
-ghost use Rattle.protocol_model.specs.Script.{Said};
-ghost use Rattle.cluster_world.specs.Seen.{answer_of as any_answer, reply_of as any_reply};
+ghost use Rattle.protocol_model.specs.Script.{Said, TableIs, MembersAre};
+ghost use Rattle.node_core.specs.Seen.{answer_of as any_answer, reply_of as any_reply};
 ghost use Rattle.cluster_script.specs.Printing as print;
 ghost use Rattle.cluster_script.specs.Script.{Writes};
 
-use crate::faults::ScriptFault;
+use crate::faults::WriteFault;
 use cluster_world::{Answer, Reply};
+use name_table::Pair;
 use std::alloc::{AllocError, Global};
 use std::io::{ErrorKind, Write};
 use term::NodeName;
@@ -52,6 +53,32 @@ pub(crate) fn answer_line(alloc: Global, answer: &Answer) -> Result<String, Allo
     }
 }
 
+/// The line of a table: its names with their owners, as they stand in it.
+pub(crate) fn table_line(alloc: Global, table: &[Pair]) -> Result<String, AllocError>
+    ensures { IfOk result (λ text. string_bytes text ≡ print.output_line (TableIs table.now)) }
+{
+    let mut line = String::from_str(alloc, "table")?;
+    for pair in table {
+        let text = format!(in alloc; " {}={}", pair.name, pair.owner)?;
+        line.push_str(text.as_str())?;
+    }
+    line.push('\n')?;
+    Ok(line)
+}
+
+/// The line of members, in their order.
+pub(crate) fn members_line(alloc: Global, members: &[NodeName]) -> Result<String, AllocError>
+    ensures { IfOk result (λ text. string_bytes text ≡ print.output_line (MembersAre members.now)) }
+{
+    let mut line = String::from_str(alloc, "members")?;
+    for member in members {
+        line.push(' ')?;
+        line.push_str(member.as_str())?;
+    }
+    line.push('\n')?;
+    Ok(line)
+}
+
 /// The line of a refusal.
 pub(crate) fn error_line(alloc: Global, word: &str) -> Result<String, AllocError>
     ensures { IfOk result (λ text. string_bytes text ≡ print.error_line word.now) }
@@ -60,25 +87,25 @@ pub(crate) fn error_line(alloc: Global, word: &str) -> Result<String, AllocError
 }
 
 /// Writes some bytes of a text that isn't empty, and says how many: none where the writer was interrupted.
-fn write_some<W: Write>(writer: &mut W, text: &[u8]) -> Result<usize, ScriptFault>
+fn write_some<W: Write>(writer: &mut W, text: &[u8]) -> Result<usize, WriteFault>
     ensures { MatchResult result (λ n. (n ≤ length text.now) × Appends (W.contents writer.old) (W.contents writer.new) (take n text.now))
         (λ _. Keeps (W.contents writer.old) (W.contents writer.new)) }
 {
     match writer.write(text) {
-        Ok(0) => Err(ScriptFault::Write),
+        Ok(0) => Err(WriteFault::Writer),
         Ok(count) => Ok(count),
         Err(e) => {
             if e.kind() == ErrorKind::Interrupted {
                 Ok(0)
             } else {
-                Err(ScriptFault::Write)
+                Err(WriteFault::Writer)
             }
         }
     }
 }
 
 /// Writes a text. After a fault a part of it was written.
-pub(crate) fn write_text<W: Write>(writer: &mut W, text: &[u8]) -> Result<(), ScriptFault>
+pub(crate) fn write_text<W: Write>(writer: &mut W, text: &[u8]) -> Result<(), WriteFault>
     ensures { Writes (W.contents writer.old) (W.contents writer.new) result text.now }
 {
     let mut rest = text;
@@ -89,5 +116,17 @@ pub(crate) fn write_text<W: Write>(writer: &mut W, text: &[u8]) -> Result<(), Sc
         let count = write_some(writer, rest)?;
         rest = &rest[count..];
     }
-    Err(ScriptFault::Write)
+    Err(WriteFault::Writer)
+}
+
+/// Writes the line of a refusal.
+pub(crate) fn write_error<W: Write>(
+    alloc: Global,
+    writer: &mut W,
+    word: &str,
+) -> Result<(), WriteFault>
+    ensures { Writes (W.contents writer.old) (W.contents writer.new) result (print.error_line word.now) }
+{
+    let line = error_line(alloc, word)?;
+    write_text(writer, line.as_bytes())
 }

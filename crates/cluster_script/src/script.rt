@@ -2,18 +2,20 @@
 ghost use Rattle.std.specs.Prelude.{◌≡◌, ◌&&◌, ◌++◌, ◌∷◌, [], ◌≤◌, Some, Ok, Err, MatchResult, IfOk, option_map, map, List, ℕ};
 ghost use Rattle.protocol_model.specs.Script as script;
 ghost use Rattle.protocol_model.specs.World.{WorldEvent as AnyEvent};
-ghost use Rattle.cluster_world.specs.Seen.{answer_of as any_answer, event_of as any_event};
+ghost use Rattle.node_core.specs.Seen.{answer_of as any_answer};
+ghost use Rattle.cluster_world.specs.Events.{event_of as any_event};
 ghost use Rattle.cluster_script.specs.Commands.{asked_by};
 ghost use Rattle.cluster_script.specs.Lines.{most_lines};
 ghost use Rattle.cluster_script.specs.Printing as print;
 ghost use Rattle.cluster_script.specs.Script.{Writes, Ran, Stopped};
-ghost use Rattle.cluster_script.specs.Played.{PlaysOrStops, PlaysAll, ReadsOn, Delivers, IsWordOf, settle_end};
+ghost use Rattle.cluster_script.specs.Played.{PlaysOrStops, PlaysAll, ReadsOn, StopsReading, Delivers, IsWordOf, settle_end};
 
 use crate::commands::{Task, read_task};
-use crate::faults::{LineFault, ScriptFault};
+use crate::faults::{LineFault, ScriptFault, WriteFault};
 use crate::header::open_world;
 use crate::lines::{Line, is_blank, read_line};
-use crate::printing::{answer_line, error_line, write_text};
+use crate::looking::{show_members, show_table};
+use crate::printing::{answer_line, write_error, write_text};
 use cluster_world::{Answer, Refusal, World, WorldEvent};
 use name_table::ListTable;
 use std::alloc::Global;
@@ -31,7 +33,7 @@ fn write_answers<W: Write>(
     alloc: Global,
     writer: &mut W,
     answers: &[Answer],
-) -> Result<(), ScriptFault>
+) -> Result<(), WriteFault>
     ensures { Writes (W.contents writer.old) (W.contents writer.new) result (print.answers_text (map any_answer answers.now)) }
 {
     for answer in answers {
@@ -39,14 +41,6 @@ fn write_answers<W: Write>(
         write_text(writer, line.as_bytes())?;
     }
     Ok(())
-}
-
-/// Writes the line of a refusal.
-fn write_error<W: Write>(alloc: Global, writer: &mut W, word: &str) -> Result<(), ScriptFault>
-    ensures { Writes (W.contents writer.old) (W.contents writer.new) result (print.error_line word.now) }
-{
-    let line = error_line(alloc, word)?;
-    write_text(writer, line.as_bytes())
 }
 
 /// The word of a refusal, unless it is want of memory.
@@ -57,6 +51,7 @@ fn refusal_word(refusal: &Refusal) -> Option<&'static str>
         Refusal::NoSuchNode => Some("no_such_node"),
         Refusal::EmptyLink => Some("empty_link"),
         Refusal::SerialsSpent => Some("serials_spent"),
+        Refusal::NothingToRetry => Some("nothing_to_retry"),
         Refusal::CallsSpent => Some("calls_spent"),
         Refusal::Memory => None,
     }
@@ -68,7 +63,7 @@ fn play_event<W: Write>(
     writer: &mut W,
     world: &mut World<ListTable<Global>>,
     event: &WorldEvent,
-) -> Result<bool, ScriptFault>
+) -> Result<bool, WriteFault>
     ensures { PlaysOrStops world.old world.new (Ok (script.Play (any_event event.now))) (W.contents writer.old) (W.contents writer.new) result }
 {
     match world.play(event) {
@@ -78,7 +73,7 @@ fn play_event<W: Write>(
         }
         Err(refusal) => {
             let Some(word) = refusal_word(&refusal) else {
-                return Err(ScriptFault::Memory);
+                return Err(WriteFault::Memory);
             };
             write_error(alloc, writer, word)?;
             Ok(false)
@@ -87,11 +82,7 @@ fn play_event<W: Write>(
 }
 
 /// Writes how `settle` ended.
-fn end_settle<W: Write>(
-    alloc: Global,
-    writer: &mut W,
-    is_settled: bool,
-) -> Result<bool, ScriptFault>
+fn end_settle<W: Write>(alloc: Global, writer: &mut W, is_settled: bool) -> Result<bool, WriteFault>
     ensures text { Writes (W.contents writer.old) (W.contents writer.new) result (print.output_line (settle_end is_settled)) }
     ensures fine { IfOk result (λ fine. fine ≡ is_settled) }
 {
@@ -110,12 +101,12 @@ fn deliver<W: Write>(
     world: &mut World<ListTable<Global>>,
     sender: NodeName,
     receiver: NodeName,
-) -> Result<(), ScriptFault>
+) -> Result<(), WriteFault>
     ensures { Delivers world.old world.new (AnyEvent.Deliver sender receiver) (W.contents writer.old) (W.contents writer.new) result }
 {
     match world.play(&WorldEvent::Deliver(sender, receiver)) {
         Ok(answers) => write_answers(alloc, writer, &answers),
-        Err(_) => Err(ScriptFault::Memory),
+        Err(_) => Err(WriteFault::Memory),
     }
 }
 
@@ -124,7 +115,7 @@ fn settle<W: Write>(
     alloc: Global,
     writer: &mut W,
     world: &mut World<ListTable<Global>>,
-) -> Result<bool, ScriptFault>
+) -> Result<bool, WriteFault>
     ensures { PlaysOrStops world.old world.new (Ok script.Settle) (W.contents writer.old) (W.contents writer.new) result }
 {
     for _ in 0..SETTLE_LIMIT {
@@ -142,12 +133,14 @@ fn play_task<W: Write>(
     writer: &mut W,
     world: &mut World<ListTable<Global>>,
     task: Result<Task, LineFault>,
-) -> Result<bool, ScriptFault>
+) -> Result<bool, WriteFault>
     ensures { PlaysOrStops world.old world.new (asked_by task) (W.contents writer.old) (W.contents writer.new) result }
 {
     match task {
         Ok(Task::Play(event)) => play_event(alloc, writer, world, &event),
         Ok(Task::Settle) => settle(alloc, writer, world),
+        Ok(Task::Table(node)) => show_table(alloc, writer, world, &node),
+        Ok(Task::Members(node)) => show_members(alloc, writer, world, &node),
         Err(fault) => {
             write_error(alloc, writer, fault.word())?;
             Ok(false)
@@ -162,7 +155,8 @@ fn next_line<R: Read>(
     left: &mut u32,
 ) -> Result<Option<Line>, ScriptFault>
     requires { left.old ≤ most_lines }
-    ensures { IfOk result (ReadsOn (R.remaining reader.old) (R.remaining reader.new) left.old left.new) }
+    ensures { MatchResult result (ReadsOn (R.remaining reader.old) (R.remaining reader.new) left.old left.new)
+        (StopsReading (R.remaining reader.old) left.old) }
 {
     loop {
         let Some(line) = read_line(alloc, reader, left)? else {
@@ -206,13 +200,18 @@ fn play_lines<R: Read, W: Write>(
 ///
 /// Its first line that isn't empty names the nodes of the cluster; each other line asks for an event, or for deliveries until no
 /// letter waits. A line that is refused prints the word for it and changes nothing; where there is no world, the script ends.
+///
+/// `TooManyLines` is answered only where a line takes the count past 1,000,000; that line isn't played, and all is written that
+/// those before it print, as after `Read`. The contract can't say when a reader, a writer or an allocator fails, since theirs
+/// don't: so it doesn't say when `Read`, `Write` and `Memory` come. After the last two a part is written of what some first
+/// lines print.
 pub fn run_script<R: BufRead, W: Write>(
     alloc: Global,
     reader: &mut R,
     writer: &mut W,
 ) -> Result<bool, ScriptFault>
     ensures { MatchResult result (Ran (R.remaining reader.old) (W.contents writer.old) (W.contents writer.new))
-        (λ _. Stopped (R.remaining reader.old) (W.contents writer.old) (W.contents writer.new)) }
+        (Stopped (R.remaining reader.old) (W.contents writer.old) (W.contents writer.new)) }
 {
     let mut left = MOST_LINES;
     let Some(line) = next_line(alloc, reader, &mut left)? else {

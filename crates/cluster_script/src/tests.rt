@@ -68,6 +68,113 @@ fn plays_rows(rt: HostRuntime) -> Result<(), Fail> {
 }
 
 #[test]
+fn plays_clusters(rt: HostRuntime) -> Result<(), Fail> {
+    assert!(rt;
+        prints(
+            rt.alloc(),
+            b"cluster a b c\nspawn a\nregister a x a.1\nsettle\nwhereis c x\n",
+            b"a.1\na#1 yes\nsettled\na.1\n",
+            true
+        )?
+    );
+    assert!(rt;
+        prints(
+            rt.alloc(),
+            b"cluster a b c\nspawn a\nspawn b\nregister a x a.1\nregister b x b.1\ndeliver b c\nsettle\n\
+retry a\nsettle\nwhereis a x\n",
+            b"a.1\nb.1\nb#1 yes\nsettled\na#1 no\nsettled\nb.1\n",
+            true
+        )?
+    );
+    assert!(rt;
+        prints(
+            rt.alloc(),
+            b"cluster a b\nspawn a\nspawn b\nregister a x a.1\n\
+deliver a b\ndeliver b a\ndeliver a a\ndeliver a a\ndeliver a a\ndeliver a b\ndeliver a a\ndeliver b a\ndeliver a b\n\
+register b y b.1\ndeliver b b\ndeliver b b\ndeliver b a\ndeliver a b\n\
+settle\nretry b\nsettle\nregister a z a.2\nsettle\ntable b\n",
+            b"a.1\nb.1\na#1 yes\nsettled\nb#1 yes\nsettled\na#2 yes\nsettled\ntable x=a.1 y=b.1 z=a.2\n",
+            true
+        )?
+    );
+    Ok(())
+}
+
+#[test]
+fn shows_nodes(rt: HostRuntime) -> Result<(), Fail> {
+    assert!(rt;
+        prints(
+            rt.alloc(),
+            b"cluster a b c d e f g h\nmembers a\n",
+            b"members a b c d e f g h\n",
+            true
+        )?
+    );
+    assert!(rt;
+        prints(
+            rt.alloc(),
+            b"cluster b c a\nmembers c\ntable c\nmembers d\ntable d\nretry d\n",
+            b"members a b c\ntable\nerror no_such_node\nerror no_such_node\nerror no_such_node\n",
+            false
+        )?
+    );
+    assert!(rt;
+        prints(
+            rt.alloc(),
+            b"cluster a\nspawn a\nspawn a\nregister a y a.1\nregister a x a.2\nsettle\ntable a\n",
+            b"a.1\na.2\na#1 yes\na#2 yes\nsettled\ntable x=a.2 y=a.1\n",
+            true
+        )?
+    );
+    assert!(rt;
+        prints(
+            rt.alloc(),
+            b"cluster a\ntable\nmembers a a\nretry\ntable a!\nmembers a.1\nretry !\n",
+            b"error bad_line\nerror bad_line\nerror bad_line\nerror bad_byte\nerror bad_byte\nerror bad_byte\n",
+            false
+        )?
+    );
+    Ok(())
+}
+
+#[test]
+fn refuses_clusters(rt: HostRuntime) -> Result<(), Fail> {
+    assert!(rt;
+        prints(
+            rt.alloc(),
+            b"cluster a b c d e f g h i\n",
+            b"error too_many_nodes\n",
+            false
+        )?
+    );
+    assert!(rt;
+        prints(
+            rt.alloc(),
+            b"cluster a a\nspawn a\n",
+            b"error same_node\n",
+            false
+        )?
+    );
+    assert!(rt;
+        prints(
+            rt.alloc(),
+            b"cluster a b c d e f g h i j a\n",
+            b"error same_node\n",
+            false
+        )?
+    );
+    assert!(rt;
+        prints(
+            rt.alloc(),
+            b"cluster a b\nretry a\n",
+            b"error nothing_to_retry\n",
+            false
+        )?
+    );
+    Ok(())
+}
+
+#[test]
 fn reads_longest_names(rt: HostRuntime) -> Result<(), Fail> {
     let name = b"nnnnnnnnnnnnnnnnnnnnnnnnnnnnnnnnnnnnnnnnnnnnnnnnnnnnnnnnnnnnnnnn";
     assert_eq!(rt; name.len(), 64);

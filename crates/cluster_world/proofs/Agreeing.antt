@@ -3,11 +3,11 @@ use Rattle.std.proofs.Common.{ℕ, ◌≡◌, List, [], ◌∷◌, ◌++◌, ref
 use Rattle.std.specs.Prelude.{take, Option}
 use Rattle.headline.proofs.Theorem.{agreement}
 use Rattle.protocol_model.specs.World.{Opening, World, WorldEvent as AnyWorldEvent, opening_world, happens, run}
-use Rattle.cluster_world.specs.declared.events.Answer.{Answer}
+use Rattle.node_core.specs.declared.events.Answer.{Answer}
 use Rattle.cluster_world.specs.declared.events.Refusal.{Refusal}
 use Rattle.cluster_world.specs.declared.events.WorldEvent.{WorldEvent}
 use Rattle.cluster_world.specs.Held.{Held}
-use Rattle.cluster_world.specs.Seen.{opening_of, seen}
+use Rattle.cluster_world.specs.Seen.{opening_of}
 use Rattle.cluster_world.specs.Playing.{Ran, events_of}
 use Rattle.cluster_world.specs.Agreeing.{AgreesAfter, Agrees}
 
@@ -25,7 +25,7 @@ agrees es old new k given stop R before is =
     (agreement o (before ++ now))
   where
     o : Opening
-    o = opening_of old.name
+    o = opening_of old
 
     now : List AnyWorldEvent
     now = events_of (take k es)

@@ -1,15 +1,17 @@
 -- Events that were played one after the other.
-use Rattle.std.proofs.Common.{ℕ, zero, suc, Bool, true, false, ◌≡◌, ◌+◌, Option, Some, None, List, [], ◌∷◌, ◌++◌, take, refl, sym, ap, ◌∙◌, arith}
+use Rattle.std.proofs.Common.{ℕ, zero, suc, Bool, true, false, ◌≡◌, ◌+◌, Option, Some, None, List, [], ◌∷◌, ◌++◌, ◌<◌, length, take, refl, sym, ap, subst, ◌∙◌, arith}
 use Rattle.std.specs.List.{slice_get}
 use Rattle.std.specs.Prelude.{◌&&◌, is_none}
 use Rattle.std.proofs.lemmas.List.{append_assoc, append-nil}
 use Rattle.protocol_model.specs.Event.{Answer as AnyAnswer, Refusal as AnyRefusal}
 use Rattle.protocol_model.specs.World.{Opening, World, WorldEvent as AnyWorldEvent, refusal, happens, answers, run, all_answers}
-use Rattle.cluster_world.specs.declared.events.Answer.{Answer}
+use Rattle.node_core.specs.declared.events.Answer.{Answer}
 use Rattle.cluster_world.specs.declared.events.WorldEvent.{WorldEvent}
 use Rattle.cluster_world.specs.Held.{Held}
-use Rattle.cluster_world.specs.Seen.{opening_of, seen, event_of}
-use Rattle.cluster_world.specs.Playing.{Played, IsSoFar, events_of, accepts_all}
+use Rattle.cluster_world.specs.Events.{event_of}
+use Rattle.cluster_world.specs.Seen.{opening_with, opening_of, seen}
+use Rattle.cluster_world.specs.declared.events.Refusal.{Refusal}
+use Rattle.cluster_world.specs.Playing.{Played, RefusedWith, IsSoFar, Ran, events_of, accepts_all}
 
 -- one event more is one more that happens
 run-push : (o : Opening) (w : World) (es : List AnyWorldEvent) (e : AnyWorldEvent) → run o w (es ++ e ∷ []) ≡ happens o (run o w es) e
@@ -43,24 +45,42 @@ events-push (d ∷ es) (suc k) e h = ap (λ (l : List AnyWorldEvent). event_of d
 pub so_far_more : (es : List WorldEvent) (old mid new : Held) (k : ℕ) (given now : List Answer) (e : WorldEvent)
     → IsSoFar es old mid k given → slice_get es k ≡ Some e → Played e mid new given now → IsSoFar es old new (k + 1) now
 so_far_more es old mid new k given now e S at P = record {
-  name = P.name ∙ S.name;
-  accepted = ap (accepts_all (opening_of old.name) (seen old)) (sym next)
-      ∙ accepts_all-push (opening_of old.name) (seen old) (events_of (take k es)) (event_of e) S.accepted
-      (ap (λ (w : World). refusal (opening_of old.name) w (event_of e)) (sym S.world)
-      ∙ ap (λ (n : ℕ). refusal (opening_of n) (seen mid) (event_of e)) (sym S.name) ∙ P.accepted);
-  world = P.happens ∙ ap (λ (n : ℕ). happens (opening_of n) (seen mid) (event_of e)) S.name
-      ∙ ap (λ (w : World). happens (opening_of old.name) w (event_of e)) S.world
-      ∙ sym (run-push (opening_of old.name) (seen old) (events_of (take k es)) (event_of e))
-      ∙ ap (run (opening_of old.name) (seen old)) next;
-  answers = P.answers ∙ ap (λ (l : List AnyAnswer). l ++ answers (opening_of mid.name) (seen mid) (event_of e)) S.answers
-      ∙ ap (λ (n : ℕ). all_answers (opening_of old.name) (seen old) (events_of (take k es)) ++ answers (opening_of n) (seen mid) (event_of e)) S.name
-      ∙ ap (λ (w : World). all_answers (opening_of old.name) (seen old) (events_of (take k es)) ++ answers (opening_of old.name) w (event_of e)) S.world
-      ∙ sym (answers-push (opening_of old.name) (seen old) (events_of (take k es)) (event_of e))
-      ∙ ap (all_answers (opening_of old.name) (seen old)) next;
+  nodes = P.nodes ∙ S.nodes;
+  cluster = P.cluster ∙ S.cluster;
+  accepted = ap (accepts_all o (seen old)) (sym next)
+      ∙ accepts_all-push o (seen old) (events_of (take k es)) (event_of e) S.accepted
+      (ap (λ (w : World). refusal o w (event_of e)) (sym S.world) ∙ ap (λ (p : Opening). refusal p (seen mid) (event_of e)) (sym same) ∙ P.accepted);
+  world = P.happens ∙ ap (λ (p : Opening). happens p (seen mid) (event_of e)) same ∙ ap (λ (w : World). happens o w (event_of e)) S.world
+      ∙ sym (run-push o (seen old) (events_of (take k es)) (event_of e)) ∙ ap (run o (seen old)) next;
+  answers = P.answers ∙ ap (λ (l : List AnyAnswer). l ++ answers (opening_of mid) (seen mid) (event_of e)) S.answers
+      ∙ ap (λ (p : Opening). all_answers o (seen old) (events_of (take k es)) ++ answers p (seen mid) (event_of e)) same
+      ∙ ap (λ (w : World). all_answers o (seen old) (events_of (take k es)) ++ answers o w (event_of e)) S.world
+      ∙ sym (answers-push o (seen old) (events_of (take k es)) (event_of e)) ∙ ap (all_answers o (seen old)) next;
 }
   where
+    o : Opening
+    o = opening_of old
+
+    same : opening_of mid ≡ opening_of old
+    same = ap (λ (ns : List ℕ). opening_with ns mid.cluster) S.nodes ∙ ap (opening_with old.nodes) S.cluster
+
     one_more : suc k ≡ k + 1
     one_more = omega arith
 
     next : events_of (take k es) ++ event_of e ∷ [] ≡ events_of (take (k + 1) es)
     next = sym (events-push es k e at) ∙ ap (λ (n : ℕ). events_of (take n es)) one_more
+
+-- the next event is refused, which changes nothing
+pub ran_stopped : (es : List WorldEvent) (old mid new : Held) (k : ℕ) (given now : List Answer) (e : WorldEvent) (r : Refusal)
+    → IsSoFar es old mid k given → k < length es → slice_get es k ≡ Some e → RefusedWith r e mid → new ≡ mid → now ≡ given
+    → Ran es old new k now (Some r)
+ran_stopped es old mid new k given now e r S within at refused same kept =
+    subst (λ (h : Held). Ran es old h k now (Some r)) (sym same) (subst (λ (l : List Answer). Ran es old mid k l (Some r)) (sym kept) (record {
+      nodes = S.nodes;
+      cluster = S.cluster;
+      within = omega arith;
+      accepted = S.accepted;
+      world = S.world;
+      answers = S.answers;
+      stopped = (e, at, refused);
+    }))

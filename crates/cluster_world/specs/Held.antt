@@ -1,18 +1,23 @@
--- What a world of one node holds.
-use Rattle.std.specs.Prelude.{ℕ, List}
-use Rattle.registry_model.specs.Table.{Table}
-use Rattle.cluster_world.specs.declared.events.Entry.{Entry}
-use Rattle.cluster_world.specs.declared.node.Letter.{Letter}
-use Rattle.cluster_world.specs.declared.node.Op.{Op}
-use Rattle.cluster_world.specs.declared.node.Phase.{Phase}
+-- What a world holds.
+use Rattle.std.specs.Prelude.{ℕ, ◌≡◌, List, map, All}
+use Rattle.registry_model.specs.Process.{nobody}
+use Rattle.term.specs.NodeSets.{IsNodeSet}
+use Rattle.link.specs.Held.{Held as Mesh, seen}
+use Rattle.node_core.specs.declared.events.Entry.{Entry}
+use Rattle.node_core.specs.declared.events.Letter.{Letter}
+use Rattle.node_core.specs.Held.{Held as Core}
 
 pub record Held : Type 0 where
-  pub name : ℕ
-  pub table : Table
-  pub locks : ℕ  -- how often the registrar has its own lock
-  pub queue : List Op
-  pub phase : Phase
-  pub last_call : ℕ
-  pub last_serial : ℕ
-  pub link : List Letter
+  pub nodes : List ℕ  -- rising
+  pub cluster : List ℕ  -- those of them that were joined at first
+  pub cores : List Core  -- one for each node, in the order of the nodes
+  pub links : Mesh Letter
   pub history : List Entry
+
+-- the cores and the links are those of the nodes, and no link is closed
+pub record IsWhole (h : Held) : Type 0 where
+  pub set : IsNodeSet h.nodes
+  pub names : map (λ c. c.name) h.cores ≡ h.nodes
+  pub worlds : All (λ c. c.world ≡ h.nodes) h.cores
+  pub links : h.links.nodes ≡ h.nodes
+  pub running : (seen h.links).closed ≡ nobody

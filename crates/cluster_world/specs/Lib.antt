@@ -1,5 +1,9 @@
+pub mod Links
 pub mod Held
-pub mod Steps
+pub mod Events
+pub mod Refusals
 pub mod Seen
+pub mod Steps
+pub mod Starting
 pub mod Playing
 pub mod Agreeing

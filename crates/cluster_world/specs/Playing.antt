@@ -2,30 +2,26 @@
 use Rattle.std.specs.Prelude.{ℕ, Bool, true, false, ◌&&◌, ◌≡◌, ◌≤◌, Option, Some, None, is_none, List, [], ◌∷◌, ◌++◌, map, take, length}
 use Rattle.std.specs.List.{slice_get}
 use Rattle.protocol_model.specs.World.{Opening, World, refusal, happens, answers, run, all_answers, next_delivery, WorldEvent as AnyWorldEvent, Deliver}
-use Rattle.cluster_world.specs.declared.events.Answer.{Answer}
+use Rattle.node_core.specs.declared.events.Answer.{Answer}
+use Rattle.node_core.specs.Seen.{answer_of}
 use Rattle.cluster_world.specs.declared.events.Refusal.{Refusal}
-use Rattle.cluster_world.specs.declared.events.StartFault.{StartFault}
-use Rattle.cluster_world.specs.declared.events.StartFault.TheVariants.{NoNode, TooManyNodes}
 use Rattle.cluster_world.specs.declared.events.WorldEvent.{WorldEvent}
 use Rattle.cluster_world.specs.Held.{Held}
-use Rattle.cluster_world.specs.Seen.{opening_of, seen, event_of, answer_of, refusal_of, is_memory}
+use Rattle.cluster_world.specs.Events.{event_of}
+use Rattle.cluster_world.specs.Refusals.{refusal_of, is_memory}
+use Rattle.cluster_world.specs.Seen.{opening_of, seen}
 
--- why a world isn't started, if it isn't: today it has one node, and that is joined
-abbrev pub start_refused : List ℕ → List ℕ → Option StartFault
-start_refused [] lone = Some NoNode
-start_refused (a ∷ []) [] = None
-start_refused _ _ = Some TooManyNodes
-
--- an event was accepted and played: the protocol's world makes its step, and gives these answers
+-- an event was accepted and played: the protocol's world makes its step, and gives these answers behind those given before
 pub record Played (e : WorldEvent) (old new : Held) (given now : List Answer) : Type 0 where
-  pub name : new.name ≡ old.name
-  pub accepted : refusal (opening_of old.name) (seen old) (event_of e) ≡ None
-  pub happens : seen new ≡ happens (opening_of old.name) (seen old) (event_of e)
-  pub answers : map answer_of now ≡ map answer_of given ++ answers (opening_of old.name) (seen old) (event_of e)
+  pub nodes : new.nodes ≡ old.nodes
+  pub cluster : new.cluster ≡ old.cluster
+  pub accepted : refusal (opening_of old) (seen old) (event_of e) ≡ None
+  pub happens : seen new ≡ happens (opening_of old) (seen old) (event_of e)
+  pub answers : map answer_of now ≡ map answer_of given ++ answers (opening_of old) (seen old) (event_of e)
 
 -- an event was refused as the protocol refuses it; memory is refused only where the protocol accepts it
 abbrev pub RefusedWith : Refusal → WorldEvent → Held → Type 0
-RefusedWith r e old = refusal (opening_of old.name) (seen old) (event_of e) ≡ refusal_of r
+RefusedWith r e old = refusal (opening_of old) (seen old) (event_of e) ≡ refusal_of r
 
 abbrev pub events_of : List WorldEvent → List AnyWorldEvent
 events_of es = map event_of es
@@ -45,23 +41,25 @@ abbrev pub IsStop : List WorldEvent → ℕ → Held → Option Refusal → Type
 IsStop es k now None = k ≡ length es
 IsStop es k now (Some r) = (e : WorldEvent) × (slice_get es k ≡ Some e) × RefusedWith r e now
 
+-- the first k of these events were accepted and played
+pub record IsSoFar (es : List WorldEvent) (old new : Held) (k : ℕ) (given : List Answer) : Type 0 where
+  pub nodes : new.nodes ≡ old.nodes
+  pub cluster : new.cluster ≡ old.cluster
+  pub accepted : accepts_all (opening_of old) (seen old) (events_of (take k es)) ≡ true
+  pub world : seen new ≡ run (opening_of old) (seen old) (events_of (take k es))
+  pub answers : map answer_of given ≡ all_answers (opening_of old) (seen old) (events_of (take k es))
+
 -- the first k of these events were accepted and played, and then it stopped
 pub record Ran (es : List WorldEvent) (old new : Held) (k : ℕ) (given : List Answer) (stop : Option Refusal) : Type 0 where
-  pub name : new.name ≡ old.name
+  pub nodes : new.nodes ≡ old.nodes
+  pub cluster : new.cluster ≡ old.cluster
   pub within : k ≤ length es
-  pub accepted : accepts_all (opening_of old.name) (seen old) (events_of (take k es)) ≡ true
-  pub world : seen new ≡ run (opening_of old.name) (seen old) (events_of (take k es))
-  pub answers : map answer_of given ≡ all_answers (opening_of old.name) (seen old) (events_of (take k es))
+  pub accepted : accepts_all (opening_of old) (seen old) (events_of (take k es)) ≡ true
+  pub world : seen new ≡ run (opening_of old) (seen old) (events_of (take k es))
+  pub answers : map answer_of given ≡ all_answers (opening_of old) (seen old) (events_of (take k es))
   pub stopped : IsStop es k new stop
 
 -- the delivery that `settle` makes next is that of the first link on which a letter waits
 abbrev pub WaitsOn : Option (ℕ × ℕ) → Held → Type 0
-WaitsOn None h = next_delivery (opening_of h.name) (seen h) ≡ None
-WaitsOn (Some (f, t)) h = next_delivery (opening_of h.name) (seen h) ≡ Some (Deliver f t)
-
--- the first k of these events were accepted and played
-pub record IsSoFar (es : List WorldEvent) (old new : Held) (k : ℕ) (given : List Answer) : Type 0 where
-  pub name : new.name ≡ old.name
-  pub accepted : accepts_all (opening_of old.name) (seen old) (events_of (take k es)) ≡ true
-  pub world : seen new ≡ run (opening_of old.name) (seen old) (events_of (take k es))
-  pub answers : map answer_of given ≡ all_answers (opening_of old.name) (seen old) (events_of (take k es))
+WaitsOn None h = next_delivery (opening_of h) (seen h) ≡ None
+WaitsOn (Some (f, t)) h = next_delivery (opening_of h) (seen h) ≡ Some (Deliver f t)

@@ -1,36 +1,36 @@
-//! What may happen in a world, what is answered, and what enters its history.
+//! What may happen in a world, and why it is refused.
 ghost use Rattle.std.specs.Prelude.{◌≡◌};
-ghost use Rattle.cluster_world.specs.Steps.{change_by};
+ghost use Rattle.cluster_world.specs.Events.{node_event};
 
-use name_table::Change;
+use link::LinkFault;
+use node_core::{Answer, Call, StepFault};
 use std::alloc::AllocError;
-use term::{Name, NodeName, Pid};
+use term::NodeName;
 use thiserror::Error;
 
-/// A look-up at one node.
-#[derive(Debug, PartialEq, Eq, Drop)]
-pub enum Look {
-    /// Who owns this name?
-    Whereis(Name),
-}
-
-/// What a client may call at a node.
-#[derive(Debug, Drop)]
-pub enum Call {
-    /// A new process of the node, with the next serial: answered at once by `Pid`.
-    Spawn,
-    /// The owner of a name, by the node's own table: answered at once by `Pid` or `Undefined`.
-    Whereis(Name),
-    /// The process is to own the name. The call is numbered at its node, from 1 on, and answered by `Yes` when it was written,
-    /// or by `No` or `UnknownNode` when it was decided.
-    Register(Name, Pid),
-}
-
-/// What may happen at a node.
+/// What may happen at a node, beside the delivery of a letter.
 #[derive(Debug, Drop)]
 pub enum Event {
     /// A client calls.
     Call(Call),
+    /// The operation whose round was refused asks again.
+    Retry,
+}
+
+impl Event {
+    /// The same, as the node has it. It takes no memory.
+    pub(crate) fn at_node(&self) -> node_core::Event
+        ensures { result ≡ node_event self.now }
+    {
+        match self {
+            Event::Call(Call::Spawn) => node_core::Event::Call(Call::Spawn),
+            Event::Call(Call::Whereis(name)) => node_core::Event::Call(Call::Whereis(name.copy())),
+            Event::Call(Call::Register(name, owner)) => {
+                node_core::Event::Call(Call::Register(name.copy(), owner.copy()))
+            }
+            Event::Retry => node_core::Event::Retry,
+        }
+    }
 }
 
 /// What may happen in a world.
@@ -40,85 +40,6 @@ pub enum WorldEvent {
     At(NodeName, Event),
     /// The oldest letter from the first node to the second is delivered.
     Deliver(NodeName, NodeName),
-}
-
-/// What a call is answered.
-#[derive(Debug, PartialEq, Eq, Drop)]
-pub enum Reply {
-    /// The name stands on all nodes.
-    Yes,
-    /// The name is in use, or the process has a name already.
-    No,
-    /// The owner's node is no member.
-    UnknownNode,
-    /// A process: the one that was spawned, or the owner of a name.
-    Pid(Pid),
-    /// Nobody owns the name.
-    Undefined,
-}
-
-impl Reply {
-    /// The same reply. It takes no memory.
-    pub fn copy(&self) -> Self
-        ensures { result ≡ self.now }
-    {
-        match self {
-            Reply::Yes => Reply::Yes,
-            Reply::No => Reply::No,
-            Reply::UnknownNode => Reply::UnknownNode,
-            Reply::Pid(process) => Reply::Pid(process.copy()),
-            Reply::Undefined => Reply::Undefined,
-        }
-    }
-}
-
-/// An answer to a call.
-#[derive(Debug, PartialEq, Eq, Drop)]
-pub struct Answer {
-    /// The node that answers.
-    pub node: NodeName,
-    /// The number of the call at that node: from 1 on for name calls, and 0 for `Spawn` and look-ups.
-    pub call: u32,
-    /// The reply.
-    pub reply: Reply,
-}
-
-/// A call that goes through the registry.
-#[derive(Debug, PartialEq, Eq, Drop)]
-pub enum NameCall {
-    /// The process is to own the name.
-    Register(Name, Pid),
-}
-
-impl NameCall {
-    /// The same call. It takes no memory.
-    pub fn copy(&self) -> Self
-        ensures { result ≡ self.now }
-    {
-        match self {
-            NameCall::Register(name, owner) => NameCall::Register(name.copy(), owner.copy()),
-        }
-    }
-
-    /// What the call changes where it is granted.
-    pub(crate) fn change(&self) -> Change
-        ensures { result ≡ change_by self.now }
-    {
-        match self {
-            NameCall::Register(name, owner) => Change::Put(name.copy(), owner.copy()),
-        }
-    }
-}
-
-/// An entry of the history, in the order in which operations took effect.
-#[derive(Debug, PartialEq, Eq, Drop)]
-pub enum Entry {
-    /// A name call was decided: its node, its number there, the call and the reply.
-    Name(NodeName, u32, NameCall, Reply),
-    /// The operation of the node that was written is done.
-    Done(NodeName),
-    /// A look-up was answered.
-    Read(NodeName, Look, Reply),
 }
 
 /// Why an event is refused, in the order in which the causes are looked for.
@@ -133,6 +54,9 @@ pub enum Refusal {
     /// The node has given its last serial, 4,294,967,295.
     #[error("serials_spent")]
     SerialsSpent,
+    /// No refused round of the node waits.
+    #[error("nothing_to_retry")]
+    NothingToRetry,
     /// The node has given its last number of a call, 4,294,967,295.
     #[error("calls_spent")]
     CallsSpent,
@@ -151,15 +75,60 @@ impl From<AllocError> for Refusal {
     }
 }
 
+impl From<StepFault> for Refusal {
+    ghost use Rattle.cluster_world.specs.Refusals.{refusal_by};
+
+    ghost from_gives = { λ fault refusal. refusal ≡ refusal_by fault };
+
+    fn from(fault: StepFault) -> Refusal {
+        match fault {
+            StepFault::SerialsSpent => Refusal::SerialsSpent,
+            StepFault::NothingToRetry => Refusal::NothingToRetry,
+            StepFault::CallsSpent => Refusal::CallsSpent,
+            StepFault::Memory => Refusal::Memory,
+        }
+    }
+}
+
+impl From<LinkFault> for Refusal {
+    ghost use Rattle.cluster_world.specs.Refusals.{refusal_on};
+
+    ghost from_gives = { λ fault refusal. refusal ≡ refusal_on fault };
+
+    fn from(fault: LinkFault) -> Refusal {
+        match fault {
+            LinkFault::NoSuchNode => Refusal::NoSuchNode,
+            LinkFault::EmptyLink => Refusal::EmptyLink,
+            LinkFault::Memory => Refusal::Memory,
+        }
+    }
+}
+
 /// Why a world isn't started, in the order in which the causes are looked for.
 #[derive(Clone, Copy, Debug, PartialEq, Eq, Error)]
 pub enum StartFault {
     /// The cluster has no node.
     #[error("no_node")]
     NoNode,
-    /// There are more nodes than a world may have: today more than one.
+    /// A node is named twice, among those of the cluster and the lone ones.
+    #[error("same_node")]
+    SameNode,
+    /// There are more nodes than a world may have, which is eight.
     #[error("too_many_nodes")]
     TooManyNodes,
+    /// Memory was refused.
+    #[error("memory")]
+    Memory,
+}
+
+impl From<AllocError> for StartFault {
+    ghost use Rattle.cluster_world.specs.declared.events.StartFault.{StartFault};
+
+    ghost from_gives = { λ _ fault. fault ≡ StartFault.Memory };
+
+    fn from(_: AllocError) -> StartFault {
+        StartFault::Memory
+    }
 }
 
 /// How far a list of events was played.

@@ -1,14 +1,14 @@
-//! The world: nodes with their links, which plays events one by one, in every order of deliveries. Today it has one node.
+//! The world: up to eight nodes with their links, which plays events one by one, in every order of deliveries.
 #![tactic(auto)]
 
 mod events;
 pub mod laws;
-mod node;
+mod post;
+mod start;
 mod world;
 
-pub use events::{
-    Answer, Call, Entry, Event, Look, NameCall, Refusal, Reply, RunEnd, StartFault, WorldEvent,
-};
+pub use events::{Event, Refusal, RunEnd, StartFault, WorldEvent};
+pub use node_core::{Answer, Call, Entry, Look, NameCall, Reply};
 pub use world::World;
 
 #[cfg(test)]

@@ -1,370 +1,89 @@
-//! A world of one node.
+//! A world of up to eight nodes.
 ghost use Rattle.std.specs.Prelude.{◌≡◌};
 
-use crate::events::{
-    Answer, Call, Entry, Event, Look, NameCall, Refusal, Reply, RunEnd, StartFault, WorldEvent,
-};
-use crate::node::{Letter, Op, Phase};
-use name_table::{Change, Names};
-use std::alloc::{AllocError, Global};
-use std::collections::VecDeque;
+use crate::events::{Refusal, RunEnd, WorldEvent};
+use crate::post::{enter, post};
+use link::Mesh;
+use name_table::Names;
+use node_core::{Answer, Entry, Letter, NodeCore};
+use std::alloc::AllocError;
 use std::marker::Model;
-use std::mem::replace;
-use term::{Name, NodeName, Pid};
+use term::{NodeName, NodeSet};
 
-/// A world: its node, the link of the node to itself, and the history. Contracts see what it holds as the protocol's world
-/// with this one node.
+/// A world: its nodes, the links between them, and the history. Contracts see what it holds as the protocol's world.
 #[derive(Drop)]
 pub struct World<N: Names> {
-    name: NodeName,
-    table: N,
-    /// How often the registrar was granted its own lock, and didn't give it back.
-    locks: u32,
-    /// The calls that wait for the registrar, the oldest first.
-    queue: VecDeque<Op>,
-    phase: Phase,
-    /// The number that the last name call was given; 0 before the first.
-    last_call: u32,
-    /// The serial that the last process was given; 0 before the first.
-    last_serial: u32,
-    /// The letters of the node to itself, the oldest first.
-    link: VecDeque<Letter>,
-    history: Vec<Entry>,
+    pub(crate) nodes: NodeSet,
+    /// The nodes that were joined at first.
+    pub(crate) cluster: NodeSet,
+    /// The core of each node, in the order of the nodes.
+    pub(crate) cores: Vec<NodeCore<N>>,
+    pub(crate) links: Mesh<Letter>,
+    pub(crate) history: Vec<Entry>,
 }
 
 impl<N: Names> Model for World<N> {
-    ghost use Rattle.cluster_world.specs.Held.{Held};
+    ghost use Rattle.cluster_world.specs.Held.{Held, IsWhole};
 
     ghost Value = { Held };
 
     ghost view = { λ w. record {
-      name = w.name;
-      table = N.contents w.table;
-      locks = w.locks;
-      queue = w.queue.items;
-      phase = w.phase;
-      last_call = w.last_call;
-      last_serial = w.last_serial;
-      link = w.link.items;
+      nodes = w.nodes;
+      cluster = w.cluster;
+      cores = w.cores.items;
+      links = w.links;
       history = w.history.items;
     } };
+
+    ghost invariant = { λ w. IsWhole (record {
+      nodes = w.nodes;
+      cluster = w.cluster;
+      cores = w.cores.items;
+      links = w.links;
+      history = w.history.items;
+    }) };
 }
 
 impl<N: Names> World<N> {
-    ghost use Rattle.std.specs.Prelude.{◌≡◌, ◌==◌, ◌<◌, false, [], is_some, Option, Some, None, OnOk, IfOk, IfErr, IfSome};
-    ghost use Rattle.cluster_world.specs.Seen.{opening_of, seen, is_memory};
+    ghost use Rattle.std.specs.Prelude.{false, [], is_some, OnOk, IfOk, IfErr, IfSome};
+    ghost use Rattle.std.specs.Option.{option_copied};
+    ghost use Rattle.protocol_model.specs.World.{holder, left};
+    ghost use Rattle.node_core.specs.Held.{IsWithin};
+    ghost use Rattle.term.specs.NodeSets.{set_of};
+    ghost use Rattle.cluster_world.specs.Held.{IsWhole};
+    ghost use Rattle.cluster_world.specs.Seen.{opening_of, core_of, seen};
+    ghost use Rattle.cluster_world.specs.Refusals.{is_memory};
+    ghost use Rattle.cluster_world.specs.Steps.{Moves, FailsAt};
     ghost use Rattle.cluster_world.specs.Playing.{Played, RefusedWith, ran_out, Ran, WaitsOn};
     ghost use Rattle.cluster_world.specs.Agreeing.{Agrees};
-    ghost use Rattle.protocol_model.specs.World.{holder};
-    ghost use Rattle.cluster_world.specs.Steps.{answer_to, started, sent, entered, replied, released, granted, denied, decided, done, heard, counted_applied, judged, read, delivered, spawned, looked_up, called, called_with, call_refused, refused, stepped, is_nil, last_u32};
 
-    /// The front of the queue becomes current, where the registrar is free.
-    fn start_next(&mut self) -> Result<(), AllocError>
-        ensures { OnOk result (self.new ≡ started self.old) }
-    {
-        if let Phase::Free = self.phase {
-            if let Some(op) = self.queue.pop_front() {
-                self.phase = Phase::Asking(op);
-                self.link.push_back(Letter::SetLock)?;
-            }
-        }
-        Ok(())
-    }
-
-    /// The answer to a call.
-    fn answer(&self, call: u32, reply: Reply) -> Answer
-        ensures { result ≡ answer_to self.now call reply }
-    {
-        Answer {
-            node: self.name.copy(),
-            call,
-            reply,
-        }
-    }
-
-    /// The reply to a name call, by the table as it is.
-    fn reply_to(&self, call: &NameCall) -> Reply
-        ensures { result ≡ replied self.now call.now }
-    {
-        match call {
-            NameCall::Register(name, owner) => {
-                if owner.node != self.name {
-                    Reply::UnknownNode
-                } else if self.table.get(name).is_some() || self.table.owned_by(owner).is_some() {
-                    Reply::No
-                } else {
-                    Reply::Yes
-                }
-            }
-        }
-    }
-
-    /// The lock goes back, and the registrar is free.
-    fn release(&mut self) -> Result<(), AllocError>
-        ensures { OnOk result (self.new ≡ released self.old) }
-    {
-        self.phase = Phase::Free;
-        self.link.push_back(Letter::GiveBack)?;
-        Ok(())
-    }
-
-    /// A granted call is entered and written.
-    fn grant(
-        &mut self,
-        call: u32,
-        name_call: NameCall,
-        reply: Reply,
-    ) -> Result<Option<Answer>, AllocError>
-        ensures { IfOk result (λ answer. record { held = self.new; answer = answer } ≡ granted call name_call reply self.old) }
-    {
-        let entry = Entry::Name(self.name.copy(), call, name_call.copy(), reply.copy());
-        self.history.push(entry)?;
-        self.link.push_back(Letter::Apply(name_call.change()))?;
-        self.phase = Phase::Writing(Op::Name(call, name_call), reply);
-        Ok(None)
-    }
-
-    /// A refused call is entered and answered.
-    fn deny(
-        &mut self,
-        call: u32,
-        name_call: NameCall,
-        reply: Reply,
-    ) -> Result<Option<Answer>, AllocError>
-        ensures { IfOk result (λ answer. record { held = self.new; answer = answer } ≡ denied call name_call reply self.old) }
-    {
-        let entry = Entry::Name(self.name.copy(), call, name_call, reply.copy());
-        self.history.push(entry)?;
-        self.release()?;
-        Ok(Some(self.answer(call, reply)))
-    }
-
-    /// The lock is held: the operation is decided.
-    fn decide(&mut self, op: Op) -> Result<Option<Answer>, AllocError>
-        ensures { IfOk result (λ answer. record { held = self.new; answer = answer } ≡ decided op self.old) }
-    {
-        match op {
-            Op::Name(call, name_call) => {
-                let reply = self.reply_to(&name_call);
-                if let Reply::Yes = reply {
-                    self.grant(call, name_call, reply)
-                } else {
-                    self.deny(call, name_call, reply)
-                }
-            }
-        }
-    }
-
-    /// The operation was written.
-    fn finish(&mut self, op: Op, reply: Reply) -> Result<Option<Answer>, AllocError>
-        ensures { IfOk result (λ answer. record { held = self.new; answer = answer } ≡ done op reply self.old) }
-    {
-        match op {
-            Op::Name(call, _) => {
-                let entry = Entry::Done(self.name.copy());
-                self.history.push(entry)?;
-                self.release()?;
-                Ok(Some(self.answer(call, reply)))
-            }
-        }
-    }
-
-    /// The lock table answers.
-    fn judge(&mut self) -> Result<(), AllocError>
-        ensures { OnOk result (self.new ≡ judged self.old) }
-    {
-        if self.locks < u32::MAX {
-            self.locks += 1;
-            self.link.push_back(Letter::LockAnswer(true))?;
-        } else {
-            self.link.push_back(Letter::LockAnswer(false))?;
-        }
-        Ok(())
-    }
-
-    /// What the node does with the letter that was taken off its link.
-    fn read(&mut self, letter: Letter) -> Result<Option<Answer>, AllocError>
-        ensures { IfOk result (λ answer. record { held = self.new; answer = answer } ≡ read letter self.old) }
-    {
-        match letter {
-            Letter::SetLock => {
-                self.judge()?;
-                Ok(None)
-            }
-            Letter::LockAnswer(granted) => self.hear(granted),
-            Letter::Apply(change) => {
-                self.table.write(change)?;
-                self.link.push_back(Letter::Applied)?;
-                Ok(None)
-            }
-            Letter::Applied => self.count_applied(),
-            Letter::GiveBack => {
-                self.locks = self.locks.saturating_sub(1);
-                Ok(None)
-            }
-        }
-    }
-
-    /// The lock is granted or refused.
-    fn hear(&mut self, granted: bool) -> Result<Option<Answer>, AllocError>
-        ensures { IfOk result (λ answer. record { held = self.new; answer = answer } ≡ heard granted self.old.phase self.old) }
-    {
-        match replace(&mut self.phase, Phase::Free) {
-            Phase::Asking(op) => {
-                if granted {
-                    self.decide(op)
-                } else {
-                    self.phase = Phase::Waiting(op);
-                    Ok(None)
-                }
-            }
-            phase => {
-                self.phase = phase;
-                Ok(None)
-            }
-        }
-    }
-
-    /// The change was written.
-    fn count_applied(&mut self) -> Result<Option<Answer>, AllocError>
-        ensures { IfOk result (λ answer. record { held = self.new; answer = answer } ≡ counted_applied self.old.phase self.old) }
-    {
-        match replace(&mut self.phase, Phase::Free) {
-            Phase::Writing(op, reply) => self.finish(op, reply),
-            phase => {
-                self.phase = phase;
-                Ok(None)
-            }
-        }
-    }
-
-    /// The oldest letter is read, and the registrar starts what is next.
-    fn deliver(&mut self) -> Result<Option<Answer>, AllocError>
-        ensures { IfOk result (λ answer. record { held = self.new; answer = answer } ≡ delivered self.old.link self.old) }
-    {
-        let Some(letter) = self.link.pop_front() else {
-            return Ok(None);
-        };
-        let answer = self.read(letter)?;
-        self.start_next()?;
-        Ok(answer)
-    }
-
-    /// A new process.
-    fn spawn(&mut self) -> Result<Option<Answer>, AllocError>
-        requires { self.old.last_serial < last_u32 }
-        ensures { IfOk result (λ answer. record { held = self.new; answer = answer } ≡ spawned self.old) }
-    {
-        self.last_serial += 1;
-        let process = Pid {
-            node: self.name.copy(),
-            serial: self.last_serial,
-        };
-        self.start_next()?;
-        Ok(Some(self.answer(0, Reply::Pid(process))))
-    }
-
-    /// The owner of a name, by the node's own table.
-    fn look_up(&mut self, name: &Name) -> Result<Option<Answer>, AllocError>
-        ensures { IfOk result (λ answer. record { held = self.new; answer = answer } ≡ looked_up name.now self.old) }
-    {
-        let reply = match self.table.get(name) {
-            Some(owner) => Reply::Pid(owner),
-            None => Reply::Undefined,
-        };
-        let entry = Entry::Read(self.name.copy(), Look::Whereis(name.copy()), reply.copy());
-        self.history.push(entry)?;
-        self.start_next()?;
-        Ok(Some(self.answer(0, reply)))
-    }
-
-    /// A name call goes to the back of the queue.
-    fn enqueue(&mut self, call: NameCall) -> Result<Option<Answer>, AllocError>
-        requires { (self.old.last_call == last_u32) ≡ false }
-        ensures { IfOk result (λ answer. record { held = self.new; answer = answer } ≡ called call self.old) }
-    {
-        self.last_call += 1;
-        self.queue.push_back(Op::Name(self.last_call, call))?;
-        self.start_next()?;
-        Ok(None)
-    }
-
-    /// Why the node refuses a call, if it does.
-    fn call_refusal(&self, call: &Call) -> Option<Refusal>
-        ensures { result ≡ call_refused call.now self.now }
-    {
-        match call {
-            Call::Spawn if self.last_serial < u32::MAX => None,
-            Call::Spawn => Some(Refusal::SerialsSpent),
-            Call::Register(..) if self.last_call == u32::MAX => Some(Refusal::CallsSpent),
-            Call::Whereis(_) | Call::Register(..) => None,
-        }
-    }
-
-    /// Why an event is refused, if it is.
-    fn refusal(&self, event: &WorldEvent) -> Option<Refusal>
-        ensures { result ≡ refused event.now self.now }
-    {
-        match event {
-            WorldEvent::At(node, Event::Call(call)) => {
-                if *node == self.name {
-                    self.call_refusal(call)
-                } else {
-                    Some(Refusal::NoSuchNode)
-                }
-            }
-            WorldEvent::Deliver(sender, receiver) => {
-                if *receiver != self.name || *sender != self.name {
-                    Some(Refusal::NoSuchNode)
-                } else if self.link.is_empty() {
-                    Some(Refusal::EmptyLink)
-                } else {
-                    None
-                }
-            }
-        }
-    }
-
-    /// What a call does that isn't refused.
-    fn call(&mut self, call: &Call) -> Result<Option<Answer>, AllocError>
-        requires { call_refused call.now self.old ≡ None }
-        ensures { IfOk result (λ answer. record { held = self.new; answer = answer } ≡ called_with call.now self.old) }
-    {
-        match call {
-            Call::Spawn => self.spawn(),
-            Call::Whereis(name) => self.look_up(name),
-            Call::Register(name, owner) => self.enqueue(NameCall::Register(
-                name.copy(),
-                owner.copy(),
-            )),
-        }
-    }
-
-    /// What an event does that isn't refused.
-    fn step(&mut self, event: &WorldEvent) -> Result<Option<Answer>, AllocError>
-        requires { refused event.now self.old ≡ None }
-        ensures { IfOk result (λ answer. record { held = self.new; answer = answer } ≡ stepped event.now self.old) }
-    {
-        match event {
-            WorldEvent::At(_, Event::Call(call)) => self.call(call),
-            WorldEvent::Deliver(..) => self.deliver(),
-        }
-    }
-
-    /// Plays one event, and puts its answer behind those given before.
-    fn play_into(&mut self, event: &WorldEvent, answers: &mut Vec<Answer>) -> Result<(), Refusal>
-        ensures ok { OnOk result (Played event.now self.old self.new answers.old.items answers.new.items) }
-        ensures refused { IfErr result (λ refusal. RefusedWith refusal event.now self.old) }
+    /// A node takes the step of an event: its letters go onto their links, and its entries into the history.
+    fn step(&mut self, node: &NodeName, event: &node_core::Event) -> Result<Vec<Answer>, Refusal>
+        ensures ok { IfOk result (λ answers. Moves node.now event.now self.old self.new answers.items) }
+        ensures refused { IfErr result (λ refusal. FailsAt refusal node.now event.now self.old) }
         ensures unchanged { IfErr result (λ refusal. is_memory refusal ≡ false → self.new ≡ self.old) }
-        ensures kept { IfErr result (λ refusal. is_memory refusal ≡ false → answers.new.items ≡ answers.old.items) }
+        ensures whole { IsWhole self.old }
     {
-        if let Some(refusal) = self.refusal(event) {
-            return Err(refusal);
-        }
-        if let Some(answer) = self.step(event)? {
-            answers.push(answer).map_err(AllocError::from)?;
-        }
-        Ok(())
+        let Some(place) = self.nodes.position(node) else {
+            return Err(Refusal::NoSuchNode);
+        };
+        let mut letters = Vec::new(*self.history.allocator());
+        let core = &mut self.cores[place];
+        let answers = core.step(event, &mut letters)?;
+        post(&mut self.links, node, letters)?;
+        enter(&mut self.history, core.entered())?;
+        Ok(answers)
+    }
+
+    /// The oldest letter of a link is taken, and its receiver reads it.
+    fn deliver(&mut self, sender: &NodeName, receiver: &NodeName) -> Result<Vec<Answer>, Refusal>
+        ensures ok { IfOk result (λ answers. Played (WorldEvent.Deliver sender.now receiver.now) self.old self.new [] answers.items) }
+        ensures refused { IfErr result (λ refusal. RefusedWith refusal (WorldEvent.Deliver sender.now receiver.now) self.old) }
+        ensures unchanged { IfErr result (λ refusal. is_memory refusal ≡ false → self.new ≡ self.old) }
+    {
+        let letter = self.links.deliver(sender, receiver)?;
+        let event = node_core::Event::FromPeer(sender.copy(), letter);
+        self.step(receiver, &event)
     }
 
     /// Plays one event, and gives what its step answers. A refused event changes nothing; only where `Memory` is refused is the
@@ -374,16 +93,30 @@ impl<N: Names> World<N> {
         ensures refused { IfErr result (λ refusal. RefusedWith refusal event.now self.old) }
         ensures unchanged { IfErr result (λ refusal. is_memory refusal ≡ false → self.new ≡ self.old) }
     {
-        let mut answers = Vec::new(*self.history.allocator());
-        self.play_into(event, &mut answers)?;
-        Ok(answers)
+        match event {
+            WorldEvent::At(node, event) => self.step(node, &event.at_node()),
+            WorldEvent::Deliver(sender, receiver) => self.deliver(sender, receiver),
+        }
+    }
+
+    /// Plays one event, and puts its answers behind those given before.
+    fn play_into(&mut self, event: &WorldEvent, answers: &mut Vec<Answer>) -> Result<(), Refusal>
+        ensures ok { OnOk result (Played event.now self.old self.new answers.old.items answers.new.items) }
+        ensures refused { IfErr result (λ refusal. RefusedWith refusal event.now self.old) }
+        ensures unchanged { IfErr result (λ refusal. is_memory refusal ≡ false → self.new ≡ self.old) }
+        ensures kept { IfErr result (λ refusal. is_memory refusal ≡ false → answers.new.items ≡ answers.old.items) }
+    {
+        for answer in self.play(event)? {
+            answers.push(answer).map_err(AllocError::from)?;
+        }
+        Ok(())
     }
 
     /// Plays events in order, up to the first that is refused. That one changes nothing, and those behind it aren't looked at.
     /// Where `Memory` is refused, the contract says nothing of the world and of the answers.
     ///
     /// Behind whatever was played on a world from its opening on, the headline holds: the answers to name calls are those of one
-    /// sequential registry that takes the granted operations in lock order, and the table is that registry's.
+    /// sequential registry that takes the granted operations in lock order, and the tables are that registry's.
     pub fn run(&mut self, events: &[WorldEvent]) -> RunEnd
         ensures ran { ran_out result.refusal ≡ false → Ran events.now self.old self.new result.played result.answers.items result.refusal }
         ensures agrees { ran_out result.refusal ≡ false → Agrees events.now self.old self.new result.played }
@@ -419,88 +152,61 @@ impl<N: Names> World<N> {
         self.history.as_slice()
     }
 
-    /// The table of a node, or `None` where the node isn't of this world.
+    /// The nodes of the world.
+    pub fn nodes(&self) -> &NodeSet
+        ensures { result.now ≡ self.now.nodes }
+    {
+        &self.nodes
+    }
+
+    /// The core of a node.
+    fn core(&self, node: &NodeName) -> Option<&NodeCore<N>>
+        ensures here { is_some result ≡ set_of self.now.nodes node.now }
+        ensures core { option_copied result ≡ core_of node.now self.now.cores }
+        ensures world { IfSome result (λ core. core.now.world ≡ self.now.nodes) }
+        ensures whole { IsWhole self.now }
+    {
+        let place = self.nodes.position(node)?;
+        Some(&self.cores[place])
+    }
+
+    /// The table of a node, or `None` where the node isn't of this world. No node has left a world.
     pub fn table(&self, node: &NodeName) -> Option<&N>
-        ensures here { is_some result ≡ (node.now == self.now.name) }
-        ensures table { IfSome result (λ table. N.contents table.now ≡ self.now.table) }
+        ensures here { is_some result ≡ set_of self.now.nodes node.now }
+        ensures table { IfSome result (λ table. N.contents table.now ≡ ((seen self.now).node node.now).replica.table) }
+        ensures running { left (seen self.now) node.now ≡ false }
     {
-        if *node == self.name {
-            Some(&self.table)
-        } else {
-            None
-        }
+        Some(self.core(node)?.table())
     }
 
-    /// The node that holds the global lock, if one does: from its grant until what it wrote is acknowledged.
+    /// The members of a node, itself among them, or `None` where the node isn't of this world. All are nodes of the world, and none
+    /// has left it.
+    pub fn members(&self, node: &NodeName) -> Option<&NodeSet>
+        ensures here { is_some result ≡ set_of self.now.nodes node.now }
+        ensures members { IfSome result (λ members. set_of members.now ≡ ((seen self.now).node node.now).replica.members) }
+        ensures within { IfSome result (λ members. IsWithin self.now.nodes members.now) }
+        ensures running { left (seen self.now) node.now ≡ false }
+    {
+        Some(self.core(node)?.members())
+    }
+
+    /// The joined node that holds the global lock, if one does: from the grant of the last member until what it wrote is
+    /// acknowledged by all.
     pub fn holder(&self) -> Option<NodeName>
-        ensures { result ≡ holder (opening_of self.now.name) (seen self.now) }
+        ensures { result ≡ holder (opening_of self.now) (seen self.now) }
     {
-        if let Phase::Writing(..) = self.phase {
-            Some(self.name.copy())
-        } else {
-            None
+        for core in &self.cores {
+            if core.is_joined() && core.holds_global() {
+                return Some(core.name().copy());
+            }
         }
-    }
-
-    /// Whether no letter is on its way.
-    fn is_quiet(&self) -> bool
-        ensures { result ≡ is_nil self.now.link }
-    {
-        self.link.is_empty()
+        None
     }
 
     /// The first link on which a letter waits, as its sender and its receiver; links go by sender and then receiver.
     pub fn waiting(&self) -> Option<(NodeName, NodeName)>
         ensures { WaitsOn result self.now }
     {
-        if self.is_quiet() {
-            None
-        } else {
-            Some((self.name.copy(), self.name.copy()))
-        }
-    }
-}
-
-impl<N: Names<Memory = Global>> World<N> {
-    ghost use Rattle.std.specs.Prelude.{IfOk, IfErr, ◌≡◌, ◌∷◌, [], Some, None};
-    ghost use Rattle.protocol_model.specs.World.{opening_world};
-    ghost use Rattle.cluster_world.specs.Seen.{opening_of, seen};
-    ghost use Rattle.cluster_world.specs.Playing.{start_refused};
-
-    /// A world of the nodes of `cluster`, which are joined with each other, and of lone nodes. A world without a joined node is
-    /// refused, then one of more nodes than a world may have, which today is one.
-    pub fn start(
-        alloc: Global,
-        cluster: &[NodeName],
-        lone: &[NodeName],
-    ) -> Result<World<N>, StartFault>
-        ensures node { IfOk result (λ world. cluster.now ≡ world.name ∷ []) }
-        ensures world { IfOk result (λ world. seen world ≡ opening_world (opening_of world.name)) }
-        ensures ok { IfOk result (λ world. start_refused cluster.now lone.now ≡ None) }
-        ensures err { IfErr result (λ fault. start_refused cluster.now lone.now ≡ Some fault) }
-    {
-        match (cluster, lone) {
-            ([], _) => Err(StartFault::NoNode),
-            ([name], []) => Ok(World::open(alloc, name.copy())),
-            _ => Err(StartFault::TooManyNodes),
-        }
-    }
-
-    /// A world of this node, which is joined.
-    fn open(alloc: Global, name: NodeName) -> World<N>
-        ensures node { result.name ≡ name }
-        ensures world { seen result ≡ opening_world (opening_of result.name) }
-    {
-        World {
-            name,
-            table: N::empty(alloc),
-            locks: 0,
-            queue: VecDeque::new(alloc),
-            phase: Phase::Free,
-            last_call: 0,
-            last_serial: 0,
-            link: VecDeque::new(alloc),
-            history: Vec::new(alloc),
-        }
+        self.links.first_waiting()
     }
 }

@@ -36,8 +36,19 @@ impl Pair {
 }
 
 /// A change of a table.
-#[derive(Debug, Drop)]
+#[derive(Debug, PartialEq, Eq, Drop)]
 pub enum Change {
     /// The process has the name, and nobody else does.
     Put(Name, Pid),
+}
+
+impl Change {
+    /// The same change. It takes no memory.
+    pub fn copy(&self) -> Self
+        ensures { result ≡ self.now }
+    {
+        match self {
+            Change::Put(name, owner) => Change::Put(name.copy(), owner.copy()),
+        }
+    }
 }

@@ -3,9 +3,9 @@ use Rattle.std.proofs.Common.{◌≡◌, ℕ, ◌<◌, ◌⊎◌, inl, inr, List
 use Rattle.std.proofs.lemmas.Bool.{cases_lt, eqb-true}
 use Rattle.std.proofs.lemmas.List.Sums.{split_at_first, passes_at_first}
 use Rattle.std.specs.List.{after_first, position_or_len}
-use Rattle.registry_model.specs.Process.{Process, text_of}
+use Rattle.registry_model.specs.Process.{Process}
 use Rattle.term.specs.declared.faults.TextFault.{TextFault}
-use Rattle.term.specs.declared.faults.TextFault.TheVariants.{Empty, TooLong, BadByte, BadSerial}
+use Rattle.term.specs.declared.faults.TextFault.TheVariants.{Empty, TooLong, BadByte, BadSerial, TooManyNodes}
 use Rattle.term.specs.Laws.{IsExact}
 use Rattle.term.specs.Spelling.{IsText, SpellsText, RefusesText, SpellsSerial, SpellsPid, RefusesPid, node_part, dot}
 use Rattle.term.proofs.ExactTexts as texts
@@ -49,6 +49,7 @@ one_text bytes others p s t =
 -- a text that spells a process is refused for no fault
 never_both : (bytes : List ℕ) (p : Process) (f : TextFault) → SpellsPid bytes p → RefusesPid bytes f → ⊥
 never_both bytes p BadSerial s r = r.1 p s
+never_both bytes p TooManyNodes s r = r
 never_both bytes p Empty s r = texts.never_both (node_part bytes) p.node Empty (node_part-spells bytes p s) r
 never_both bytes p TooLong s r = texts.never_both (node_part bytes) p.node TooLong (node_part-spells bytes p s) r
 never_both bytes p (BadByte k) s r = texts.never_both (node_part bytes) p.node (BadByte k) (node_part-spells bytes p s) r
@@ -60,10 +61,7 @@ part-refused bytes BadSerial r = inl (r.0, refl)
 part-refused bytes Empty r = inr r
 part-refused bytes TooLong r = inr r
 part-refused bytes (BadByte k) r = inr r
-
--- a text is refused as a name for no fault
-text-refused : (bytes : List ℕ) (f : TextFault) → IsText bytes → RefusesText bytes f → ⊥
-text-refused bytes f t r = texts.never_both bytes (text_of bytes) f (record { text = t; number = refl }) r
+part-refused bytes TooManyNodes r = absurd r
 
 -- a text is refused as a process for one fault
 one_fault : (bytes : List ℕ) (f g : TextFault) → RefusesPid bytes f → RefusesPid bytes g → f ≡ g
@@ -71,10 +69,10 @@ one_fault bytes f g r t =
     elim (part-refused bytes f r) [
       | inl a ↦ elim (part-refused bytes g t) [
         | inl b ↦ a.1 ∙ sym b.1
-        | inr y ↦ absurd (text-refused (node_part bytes) g a.0 y)
+        | inr y ↦ absurd (texts.text-refused (node_part bytes) g a.0 y)
       ]
       | inr x ↦ elim (part-refused bytes g t) [
-        | inl b ↦ absurd (text-refused (node_part bytes) f b.0 x)
+        | inl b ↦ absurd (texts.text-refused (node_part bytes) f b.0 x)
         | inr y ↦ texts.one_fault (node_part bytes) f g x y
       ]
     ]
@@ -85,6 +83,7 @@ refused-part bytes BadSerial r = absurd r
 refused-part bytes Empty r = r
 refused-part bytes TooLong r = r
 refused-part bytes (BadByte k) r = r
+refused-part bytes TooManyNodes r = r
 
 -- a text with a dot is its two parts
 parts-split : (bytes : List ℕ) → position_or_len is_dot bytes < length bytes

@@ -6,13 +6,13 @@ use Rattle.std.proofs.lemmas.List.Sums.{fails_before_first, passes_at_first}
 use Rattle.std.specs.List.{AllPass, position_or_len}
 use Rattle.registry_model.specs.Process.{longest, text_of}
 use Rattle.term.specs.declared.faults.TextFault.{TextFault}
-use Rattle.term.specs.declared.faults.TextFault.TheVariants.{Empty, TooLong, BadByte, BadSerial}
+use Rattle.term.specs.declared.faults.TextFault.TheVariants.{Empty, TooLong, BadByte, BadSerial, TooManyNodes}
 use Rattle.term.specs.Laws.{IsExact, KeepsByteOrder}
-use Rattle.term.specs.Spelling.{IsFirstBad, SpellsText, RefusesText, is_allowed}
+use Rattle.term.specs.Spelling.{IsText, IsFirstBad, SpellsText, RefusesText, is_allowed}
 use Rattle.term.proofs.Texts.{nat_cmp-text_of, text_of-injective}
 
 -- a text spells one name
-one_value : (bytes : List ℕ) (v w : ℕ) → SpellsText bytes v → SpellsText bytes w → v ≡ w
+pub one_value : (bytes : List ℕ) (v w : ℕ) → SpellsText bytes v → SpellsText bytes w → v ≡ w
 one_value bytes v w s u = s.number ∙ sym u.number
 
 -- a name has one text
@@ -42,6 +42,11 @@ never_both bytes v Empty s r = omega (arith, s.text.some, r)
 never_both bytes v TooLong s r = omega (arith, s.text.fits, r)
 never_both bytes v (BadByte p) s r = cc (s.text.allowed p 0 r.1.inside, r.1.bad)
 never_both bytes v BadSerial s r = r
+never_both bytes v TooManyNodes s r = r
+
+-- a text is refused for no fault
+pub text-refused : (bytes : List ℕ) (f : TextFault) → IsText bytes → RefusesText bytes f → ⊥
+text-refused bytes f t r = never_both bytes (text_of bytes) f (record { text = t; number = refl }) r
 
 -- a text is refused for one fault
 pub one_fault : (bytes : List ℕ) (f g : TextFault) → RefusesText bytes f → RefusesText bytes g → f ≡ g
@@ -58,6 +63,10 @@ one_fault bytes BadSerial g r t = absurd r
 one_fault bytes Empty BadSerial r t = absurd t
 one_fault bytes TooLong BadSerial r t = absurd t
 one_fault bytes (BadByte p) BadSerial r t = absurd t
+one_fault bytes TooManyNodes g r t = absurd r
+one_fault bytes Empty TooManyNodes r t = absurd t
+one_fault bytes TooLong TooManyNodes r t = absurd t
+one_fault bytes (BadByte p) TooManyNodes r t = absurd t
 
 -- whether a byte is bad
 abbrev is_bad : ℕ → Bool

@@ -1,5 +1,9 @@
+mod ExactNodes
 mod ExactPids
 mod ExactTexts
+pub mod NodeLists
+pub mod NodeSets
+mod NodeTexts
 mod Parts
 mod Places
 mod Serials

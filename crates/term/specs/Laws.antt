@@ -5,6 +5,13 @@ use Rattle.std.specs.Ordering.{nat_cmp}
 use Rattle.term.specs.declared.faults.TextFault.{TextFault}
 use Rattle.term.specs.Spelling.{SpellsText}
 
+-- a text spells one value or is refused for one fault, never both
+pub record IsDecided {V : Type 0} (Spells : List ℕ → V → Type 0) (Refuses : List ℕ → TextFault → Type 0) : Type 0 where
+  pub one_value : (bytes : List ℕ) (v w : V) → Spells bytes v → Spells bytes w → v ≡ w
+  pub one_fault : (bytes : List ℕ) (f g : TextFault) → Refuses bytes f → Refuses bytes g → f ≡ g
+  pub never_both : (bytes : List ℕ) (v : V) (f : TextFault) → Spells bytes v → Refuses bytes f → ⊥
+  pub always_either : (bytes : List ℕ) → ((v : V) × Spells bytes v) ⊎ ((f : TextFault) × Refuses bytes f)
+
 -- a text spells one value or is refused for one fault, never both, and a value has one text at most
 pub record IsExact {V : Type 0} (Spells : List ℕ → V → Type 0) (Refuses : List ℕ → TextFault → Type 0) : Type 0 where
   pub one_value : (bytes : List ℕ) (v w : V) → Spells bytes v → Spells bytes w → v ≡ w

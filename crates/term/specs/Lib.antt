@@ -1,2 +1,5 @@
 pub mod Laws
+pub mod LockIds
+pub mod NodeLists
+pub mod NodeSets
 pub mod Spelling

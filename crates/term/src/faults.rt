@@ -16,4 +16,7 @@ pub enum TextFault {
     /// No serial of a process follows the name of its node.
     #[error("bad_serial")]
     BadSerial,
+    /// There are more than eight nodes.
+    #[error("too_many_nodes")]
+    TooManyNodes,
 }

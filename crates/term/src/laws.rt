@@ -2,7 +2,8 @@
 ghost use Rattle.std.specs.Prelude.{◌≡◌, ◌==◌, ℕ, List};
 ghost use Rattle.std.specs.Ordering.{nat_cmp, ordering_then};
 ghost use Rattle.registry_model.specs.Process.{Process, is_process};
-ghost use Rattle.term.specs.Laws.{IsExact, KeepsByteOrder};
+ghost use Rattle.term.specs.Laws.{IsExact, IsDecided, KeepsByteOrder};
+ghost use Rattle.term.specs.NodeLists.{SpellsNodes, RefusesNodes, list_of};
 ghost use Rattle.term.specs.Spelling.{SpellsText, RefusesText, SpellsPid, RefusesPid, bytes_of};
 
 use crate::name::Name;
@@ -17,6 +18,13 @@ pub fn names_are_exact()
 /// Each text spells one process or is refused for one fault, and a process has one text.
 pub fn pids_are_exact()
     ensures { IsExact SpellsPid RefusesPid }
+{}
+
+/// Each text spells one set of nodes or is refused for one fault, and a set that some text spells is spelled by the
+/// text that it is printed as. The names of a set may stand in any order, so a set has many texts.
+pub fn node_lists_are_decided()
+    ensures decided { IsDecided SpellsNodes RefusesNodes }
+    ensures printed { (bytes nodes : List ℕ) → SpellsNodes bytes nodes → SpellsNodes (list_of nodes) nodes }
 {}
 
 /// Names are ordered as the bytes of their texts are.

@@ -1,21 +1,33 @@
-//! The texts of the product: names of nodes, names, and processes.
+//! The texts of the product: names of nodes, names, processes, and ids of locks.
 #![tactic(auto)]
 
 mod faults;
 mod laws;
+mod lock_id;
+mod lock_laws;
 mod name;
 mod node_name;
+mod node_set;
 mod pid;
+mod requester;
+mod resource;
 mod text;
 
 pub use faults::TextFault;
 pub use laws::{
     comparisons_are_by_number, names_are_exact, names_keep_byte_order, names_keep_their_bytes,
-    pids_are_exact,
+    node_lists_are_decided, pids_are_exact,
 };
+pub use lock_id::LockId;
+pub use lock_laws::{global_is_spelled_so, lock_ids_are_compared_by_number};
 pub use name::{Name, parse_name, print_name};
 pub use node_name::{NodeName, parse_node, print_node};
+pub use node_set::{MOST_NODES, NodeSet, parse_nodes, print_nodes};
 pub use pid::{Pid, parse_pid, print_pid};
+pub use requester::{Requester, parse_requester, print_requester};
+pub use resource::{Resource, parse_resource, print_resource};
 
+#[cfg(test)]
+mod lock_id_tests;
 #[cfg(test)]
 mod tests;

@@ -5,6 +5,7 @@ ghost use Rattle.term.specs.Spelling.{SpellsText, RefusesText, bytes_of};
 use crate::faults::TextFault;
 use crate::text::ShortText;
 use std::alloc::{AllocError, Allocator};
+use std::default::MadeWith;
 use std::fmt;
 use std::marker::Model;
 
@@ -25,6 +26,18 @@ impl Model for NodeName {
     ghost inverse = { λ v. record { text = v } };
 }
 
+/// What fills the places of a list in place that hold no name yet.
+#[derive(Clone, Copy, Drop)]
+pub(crate) struct Blank;
+
+impl MadeWith<Blank> for NodeName {
+    fn made_with(_blank: Blank) -> Self {
+        NodeName {
+            text: ShortText::shortest(),
+        }
+    }
+}
+
 impl NodeName {
     /// The same name. It takes no memory.
     pub fn copy(&self) -> Self
@@ -41,6 +54,13 @@ impl NodeName {
         ensures bytes { result.now ≡ bytes_of self.now }
     {
         self.text.as_str()
+    }
+
+    /// A copy of the text that it is made of.
+    pub(crate) fn short_text(&self) -> ShortText
+        ensures { result ≡ self.now }
+    {
+        self.text.copy()
     }
 }
 

@@ -1,7 +1,7 @@
 //! Worked rows, and each printing call once.
 use crate::{
-    Name, NodeName, Pid, TextFault, parse_name, parse_node, parse_pid, print_name, print_node,
-    print_pid,
+    MOST_NODES, Name, NodeName, NodeSet, Pid, TextFault, parse_name, parse_node, parse_nodes,
+    parse_pid, print_name, print_node, print_nodes, print_pid,
 };
 use std::test::Fail;
 
@@ -59,6 +59,7 @@ fn prints_values(rt: HostRuntime) -> Result<(), Fail> {
         (TextFault::TooLong, "too_long"),
         (TextFault::BadByte(7), "bad_byte"),
         (TextFault::BadSerial, "bad_serial"),
+        (TextFault::TooManyNodes, "too_many_nodes"),
     ] {
         assert_eq!(rt; format!(in rt.alloc(); "{fault}")?.as_str(), text);
     }
@@ -73,5 +74,77 @@ fn copies_and_clones(rt: HostRuntime) -> Result<(), Fail> {
     assert!(rt; parse_pid("a.9")? < pid);
     assert!(rt; pid < parse_pid("b.8")?);
     assert!(rt; parse_pid("b.10")? > parse_pid("b.9")?);
+    Ok(())
+}
+
+#[test]
+fn holds_nodes(rt: HostRuntime) -> Result<(), Fail> {
+    let mut nodes = NodeSet::empty();
+    assert!(rt; nodes.is_empty());
+    assert!(rt; nodes.greatest().is_none());
+    for name in ["f", "b", "h", "d", "a", "g", "c", "e"] {
+        assert_eq!(rt; nodes.insert(parse_node(name)?), Ok(true), "{name}");
+    }
+    assert_eq!(rt; nodes.len(), MOST_NODES);
+    assert_eq!(rt; nodes.insert(parse_node("d")?), Ok(false));
+    assert_eq!(rt;
+        nodes.insert(parse_node("i")?),
+        Err(TextFault::TooManyNodes)
+    );
+    assert_eq!(rt; nodes.greatest(), Some(&parse_node("h")?));
+    assert_eq!(rt; nodes.position(&parse_node("c")?), Some(2));
+    assert_eq!(rt; nodes.position(&parse_node("i")?), None);
+    assert!(rt; nodes.contains(&parse_node("a")?));
+    let others = nodes.copy();
+    assert_eq!(rt; others, nodes);
+    assert!(rt; nodes.remove(&parse_node("a")?));
+    assert!(rt; !nodes.remove(&parse_node("a")?));
+    assert!(rt; !nodes.contains(&parse_node("a")?));
+    assert!(rt; nodes != others);
+    assert_eq!(rt; nodes.as_slice().first(), Some(&parse_node("b")?));
+    assert_eq!(rt; nodes.insert(parse_node("i")?), Ok(true));
+    assert_eq!(rt; NodeSet::one(parse_node("b")?), parse_nodes("b")?);
+    Ok(())
+}
+
+#[test]
+fn prints_nodes(rt: HostRuntime) -> Result<(), Fail> {
+    let nodes = parse_nodes("c,a,b,a")?;
+    assert!(rt; !nodes.is_empty());
+    assert_eq!(rt; print_nodes(rt.alloc(), &nodes)?.as_str(), "a,b,c");
+    Ok(())
+}
+
+#[test]
+fn reads_and_shows_nodes(rt: HostRuntime) -> Result<(), Fail> {
+    for (text, printed) in [
+        ("a", "a"),
+        ("all,all", "all"),
+        ("c,a,b,a", "a,b,c"),
+        ("b,ab,a@x,B", "B,a@x,ab,b"),
+        ("h,g,f,e,d,c,b,a", "a,b,c,d,e,f,g,h"),
+        ("a,b,c,d,e,f,g,h,d", "a,b,c,d,e,f,g,h"),
+    ] {
+        let nodes = parse_nodes(text)?;
+        assert_eq!(rt;
+            format!(in rt.alloc(); "{nodes}")?.as_str(),
+            printed,
+            "{text}"
+        );
+        assert_eq!(rt; parse_nodes(printed)?, nodes, "{text}");
+    }
+    for (text, fault) in [
+        ("", TextFault::Empty),
+        ("a,,b", TextFault::Empty),
+        ("a,", TextFault::Empty),
+        (",a", TextFault::Empty),
+        ("a,b c", TextFault::BadByte(1)),
+        ("a,b!,", TextFault::BadByte(1)),
+        ("a,b,c,d,e,f,g,h,i", TextFault::TooManyNodes),
+        ("a,b,c,d,e,f,g,h,i,a", TextFault::TooManyNodes),
+        ("a,b,c,d,e,f,g,h,i,!", TextFault::BadByte(0)),
+    ] {
+        assert_eq!(rt; parse_nodes(text), Err(fault), "{text}");
+    }
     Ok(())
 }

@@ -5,7 +5,8 @@ ghost use Rattle.std.specs.Hash as fed;
 ghost use Rattle.std.specs.Ordering.{nat_cmp, as_partial_cmp};
 ghost use Rattle.std.specs.List.{AllPass};
 ghost use Rattle.std.proofs.Common.{rules};
-ghost use Rattle.term.specs.Spelling.{is_allowed as is_allowed_byte, IsFirstBad, SpellsText, RefusesText, bytes_of};
+ghost use Rattle.registry_model.specs.Process.{text_of};
+ghost use Rattle.term.specs.Spelling.{is_allowed as is_allowed_byte, IsFirstBad, IsText, SpellsText, RefusesText, bytes_of};
 
 use crate::faults::TextFault;
 use arrayvec::ArrayString;
@@ -60,6 +61,23 @@ impl ShortText {
             return Err(TextFault::BadByte(place));
         }
         Ok(ShortText { bytes })
+    }
+
+    /// A text of one byte.
+    pub(crate) fn shortest() -> Self {
+        let mut bytes = ArrayString::new();
+        bytes.push('a');
+        ShortText { bytes }
+    }
+
+    /// The text of these bytes, which are known to be one.
+    pub(crate) fn of(text: &str) -> Self
+        requires { IsText text.now }
+        ensures { result ≡ text_of text.now }
+    {
+        let mut bytes = ArrayString::new();
+        bytes.push_str(text);
+        ShortText { bytes }
     }
 
     /// Its bytes.

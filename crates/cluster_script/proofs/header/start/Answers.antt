@@ -1,12 +1,10 @@
-use Rattle.std.proofs.Common.{ap, Option}
-use Rattle.cluster_world.specs.declared.events.StartFault.{StartFault}
-use Rattle.cluster_script.specs.Script.{started_unless}
+use Rattle.std.proofs.Common.{ap, sym, ◌∙◌}
+use Rattle.protocol_model.specs.World.{opening_world}
 use Rattle.cluster_script.proofs.Headers.{started_Ok}
+use Rattle.cluster_script.proofs.Nodes.{opening_of-named}
 use Rattle.cluster_script.proofs.header.start.Goals as goal
 
 pub returns-in-Ok : goal.returns-in-Ok
 returns-in-Ok c =
-    (started_Ok c.args.nodes.now _ c.in-Ok.ensures.node c.in-Ok.ensures.ok, c.in-Ok.ensures.world)
-
-pub returns-in-Err : goal.returns-in-Err
-returns-in-Err c = ap (λ (o : Option StartFault). started_unless c.args.nodes.now o) c.in-Err.ensures.err
+    let e = opening_of-named c.args.nodes.now c.in-Ok.world c.in-Ok.ensures.nodes in
+    (c.args.nodes.now, sym (started_Ok c.args.nodes.now c.in-Ok.ensures.ok), e, c.in-Ok.ensures.world ∙ ap opening_world e)

@@ -1,7 +1,7 @@
-use Rattle.std.proofs.Common.{true, ℕ, ◌∷◌, ◌++◌, [], ap, ◌∙◌, arith, Some}
+use Rattle.std.proofs.Common.{true, ℕ, ◌∷◌, ◌++◌, [], ap, ◌∙◌, arith, Some, length-append}
 use Rattle.std.proofs.lemmas.Bool.{ne_eqb}
-use Rattle.cluster_script.specs.Lines.{IsPart}
-use Rattle.cluster_script.proofs.Known.{Consumes-end, Consumes-more, count_for-bound, HasNoFeed-push}
+use Rattle.cluster_script.specs.Lines.{IsPart, count_for}
+use Rattle.cluster_script.proofs.Known.{Consumes-end, Consumes-more, count_for-bound, HasNoFeed-push, GoesPast-begun}
 use Rattle.cluster_script.proofs.Parts.{length-line_of}
 use Rattle.cluster_script.proofs.lines.read_part.Goals as goal
 
@@ -38,3 +38,14 @@ loop-byte-preserved g c =
       );
       short = less (omega (arith, len, n, bound.1)) (omega (arith, c.count.ensures, c.if-count-most.false)) c.requires.most;
     }
+
+pub returns-then-count-most : goal.returns-then-count-most
+returns-then-count-most g c =
+    let r = c.loop-byte.invariant.read in
+    let b : ℕ = c.in-Some.byte in
+    let p : IsPart (r.0 ++ b ∷ []) c.push.new.self = c.in_ok-push-in-Some.ensures r.0 r.1 in
+    let n = c.line_len.ensures (r.0 ++ b ∷ []) p in
+    GoesPast-begun (g.R.Read.remaining c.args.reader.now) (g.R.Read.remaining c.next_byte.new.reader) (r.0 ++ b ∷ []) c.args.most
+    (HasNoFeed-push r.0 b r.2 (ne_eqb b 10 c.in-Some.byte-test.1)) (omega (arith, length-append r.0 (b ∷ [])))
+    (Consumes-more _ _ _ r.0 b _ r.3 c.in_ok-next_byte.ensures c.in-Some.is)
+    (omega (arith, c.count.ensures ∙ ap count_for n, c.if-count-most.true))

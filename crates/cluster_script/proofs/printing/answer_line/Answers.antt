@@ -1,5 +1,5 @@
 use Rattle.std.proofs.Common.{◌∙◌}
-use Rattle.cluster_world.specs.Seen.{answer_of}
+use Rattle.node_core.specs.Seen.{answer_of}
 use Rattle.cluster_script.proofs.Texts.{numbered_text}
 use Rattle.cluster_script.proofs.printing.answer_line.Goals as goal
 

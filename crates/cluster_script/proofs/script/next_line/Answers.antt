@@ -1,7 +1,10 @@
 use Rattle.std.proofs.Common.{◌≡◌, ◌++◌, ◌∷◌, ◌+◌, ◌<◌, ℕ, List, [], Option, ◌∙◌, subst, ap, sym, append-nil, arith}
 use Rattle.cluster_script.specs.Lines.{TakesLine, LosesLines, count_of, spoken}
+use Rattle.std.proofs.lemmas.Result.{err_from_is_err_and}
 use Rattle.cluster_script.specs.declared.lines.Line.{Line}
-use Rattle.cluster_script.proofs.Known.{LosesLines-trans, spoken-append, spoken-blank, spoken-said, count_of_all-append}
+use Rattle.cluster_script.specs.declared.faults.ScriptFault.{ScriptFault}
+use Rattle.cluster_script.specs.Played.{StopsReading}
+use Rattle.cluster_script.proofs.Known.{LosesLines-trans, spoken-append, spoken-blank, spoken-said, count_of_all-append, StopsReading-behind, MatchResult-err}
 use Rattle.cluster_script.proofs.script.next_line.Goals as goal
 
 -- a line counts for at least one
@@ -48,3 +51,12 @@ pub loop-line-smaller-else-not-is_blank : goal.loop-line-smaller-else-not-is_bla
 loop-line-smaller-else-not-is_blank g c =
     let t = subst (λ (o : Option Line). TakesLine (g.R.Read.remaining c.loop-line.reader) (g.R.Read.remaining c.read_line.new.reader) c.loop-line.left c.read_line.new.left o) c.in-Some.is c.in_ok-line.ensures in
     less c.loop-line.left c.read_line.new.left t.0 t.3
+
+pub returns-in_err-line : goal.returns-in_err-line
+returns-in_err-line g c =
+    let p = err_from_is_err_and c.from_residual.result c.from_residual.ensures.1 in
+    let i = c.loop-line.invariant in
+    let s = StopsReading-behind (g.R.Read.remaining c.args.reader.now) (g.R.Read.remaining c.loop-line.reader) i.0 c.args.left.now c.loop-line.left i.1 i.2 i.3
+    c.in_err-line.field-0.0 c.in_err-line.ensures in
+    MatchResult-err _ (StopsReading (g.R.Read.remaining c.args.reader.now) c.args.left.now) c.from_residual.result p.0 p.1
+    (subst (λ (f : ScriptFault). StopsReading (g.R.Read.remaining c.args.reader.now) c.args.left.now f) (sym p.2) s)

@@ -2,8 +2,9 @@ use Rattle.std.proofs.Common.{ℕ, List, ◌∙◌, subst, ap, Ok}
 use Rattle.std.proofs.lemmas.Result.{err_from_is_err_and}
 use Rattle.std.specs.Io.KnownBytes.{Appends}
 use Rattle.protocol_model.specs.Script.{Play}
-use Rattle.cluster_world.specs.Seen.{event_of, answer_of}
-use Rattle.cluster_world.specs.declared.events.Answer.{Answer}
+use Rattle.cluster_world.specs.Events.{event_of}
+use Rattle.node_core.specs.Seen.{answer_of}
+use Rattle.node_core.specs.declared.events.Answer.{Answer}
 use Rattle.cluster_script.specs.Printing.{answers_text, error_line}
 use Rattle.cluster_script.specs.Script.{AppendsPart}
 use Rattle.cluster_script.proofs.Writing.{PlaysOrStops-err}

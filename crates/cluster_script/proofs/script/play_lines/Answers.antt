@@ -1,11 +1,12 @@
 use Rattle.std.proofs.Common.{◌≡◌, ◌+◌, ◌<◌, ℕ, Bool, List, [], ◌∷◌, Option, ◌∙◌, subst, sym, arith}
 use Rattle.std.proofs.lemmas.Result.{err_from_is_err_and}
 use Rattle.cluster_script.specs.declared.lines.Line.{Line}
+use Rattle.cluster_script.specs.declared.faults.ScriptFault.{ScriptFault}
 use Rattle.cluster_script.specs.Lines.{spoken, count_of_all}
 use Rattle.cluster_script.specs.Commands.{asked_by}
-use Rattle.cluster_script.specs.Played.{ReadsOn, PlaysLines}
+use Rattle.cluster_script.specs.Played.{ReadsOn, PlaysLines, StopsPlaying}
 use Rattle.cluster_script.proofs.Known.{count_of_all-some}
-use Rattle.cluster_script.proofs.Scripts.{PlaysLines-start, PlaysLines-next, PlaysSome-next, PlaysLines-blank, PlaysAll-err}
+use Rattle.cluster_script.proofs.Scripts.{PlaysLines-start, PlaysLines-next, PlaysSome-next, PlaysLines-blank, PlaysAll-err, StopsPlaying-reading, StopsPlaying-writing}
 use Rattle.cluster_script.proofs.script.play_lines.Goals as goal
 
 -- a line that isn't empty counts
@@ -26,10 +27,11 @@ returns-in_err-fine g c =
     let t = subst (λ (o : Option Line). ReadsOn (g.R.Read.remaining c.loop-line.reader) (g.R.Read.remaining c.next_line.new.reader) c.loop-line.left c.next_line.new.left o)
     c.in-Some.is c.in_ok-line.ensures in
     PlaysAll-err _ _ _ _ _ _ _ _ c.from_residual-in_err-fine.result p.0 p.1
+    (StopsPlaying-writing _ _ _ _ _ c.in_err-fine.field-0.0 p.0 p.2
     (PlaysSome-next (g.R.Read.remaining c.args.reader.now) (g.R.Read.remaining c.loop-line.reader) c.args.left.now c.loop-line.left c.args.world.now c.loop-line.world
     (g.W.Write.contents c.args.writer.now) (g.W.Write.contents c.loop-line.writer) c.loop-line.is_fine c.loop-line.invariant
     (g.R.Read.remaining c.next_line.new.reader) t.0 t.1 (asked_by c.in_ok-task.task) t.3 t.4 (c.in_ok-task.ensures t.1 t.2)
-    (g.W.Write.contents c.play_task.new.writer) c.in_err-fine.ensures)
+    (g.W.Write.contents c.play_task.new.writer) c.in_err-fine.ensures))
 
 pub loop-line-smaller-in_ok-fine : goal.loop-line-smaller-in_ok-fine
 loop-line-smaller-in_ok-fine g c =
@@ -74,3 +76,13 @@ returns g c =
           c.loop-line.invariant t.0 t.1 t.2 t.4,
       t.3,
     )
+
+pub returns-in_err-line : goal.returns-in_err-line
+returns-in_err-line g c =
+    let p = err_from_is_err_and c.from_residual.result c.from_residual.ensures.1 in
+    let s = StopsPlaying-reading (g.R.Read.remaining c.args.reader.now) (g.R.Read.remaining c.loop-line.reader) c.args.left.now c.loop-line.left c.args.world.now
+    c.loop-line.world (g.W.Write.contents c.args.writer.now) (g.W.Write.contents c.loop-line.writer) c.loop-line.is_fine c.loop-line.invariant
+    c.in_err-line.field-0.0 c.in_err-line.ensures in
+    PlaysAll-err _ _ _ _ _ _ _ _ c.from_residual.result p.0 p.1
+    (subst (λ (f : ScriptFault). StopsPlaying (g.R.Read.remaining c.args.reader.now) c.args.left.now c.args.world.now (g.W.Write.contents c.args.writer.now)
+    (g.W.Write.contents c.loop-line.writer) f) (sym p.2) s)

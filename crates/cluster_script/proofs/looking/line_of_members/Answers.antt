@@ -1,0 +1,16 @@
+use Rattle.std.proofs.Common.{ℕ, List, ap, sym, ◌∙◌, string_bytes}
+use Rattle.protocol_model.specs.Script.{MembersAre}
+use Rattle.cluster_script.specs.Printing.{output_line}
+use Rattle.cluster_script.specs.Played.{members_of}
+use Rattle.cluster_script.proofs.Shown.{IsShown-none, IsShown-members}
+use Rattle.cluster_script.proofs.looking.line_of_members.Goals as goal
+
+pub returns-in_default : goal.returns-in_default
+returns-in_default c =
+    IsShown-none c.args.world.now c.args.node.now (members_of c.args.world.now c.args.node.now) (sym c.in_default.ensures.here)
+
+pub returns : goal.returns
+returns c =
+    IsShown-members c.args.world.now c.args.node.now c.in-Some.members.now (string_bytes c.in_ok-members_line.field-0) (sym c.in-Some.ensures.here)
+    c.in-Some.ensures.running c.as_slice.ensures.set c.in-Some.ensures.within c.in-Some.ensures.members
+    (c.in_ok-members_line.ensures ∙ ap (λ (xs : List ℕ). output_line (MembersAre xs)) c.as_slice.ensures.nodes)

@@ -1,0 +1,89 @@
+//! What a script shows of a node.
+ghost use Rattle.std.specs.Prelude.{◌≡◌, IfOk, Ok, is_some, option_map, string_bytes};
+ghost use Rattle.protocol_model.specs.Script.{TableAt, MembersAt};
+ghost use Rattle.cluster_script.specs.Script.{Writes};
+ghost use Rattle.cluster_script.specs.Played.{PlaysOrStops, IsShown, table_of, members_of, line_or_refusal};
+
+use crate::faults::WriteFault;
+use crate::printing::{members_line, table_line, write_error, write_text};
+use cluster_world::World;
+use name_table::{ListTable, Names};
+use std::alloc::{AllocError, Global};
+use std::io::Write;
+use term::NodeName;
+
+/// The line of a node's table, or none where the world has no such node.
+fn line_of_table(
+    alloc: Global,
+    world: &World<ListTable<Global>>,
+    node: &NodeName,
+) -> Result<Option<String>, AllocError>
+    ensures { IfOk result (λ line. IsShown world.now node.now (table_of world.now node.now) (option_map string_bytes line)) }
+{
+    let Some(table) = world.table(node) else {
+        return Ok(None);
+    };
+    let pairs = table.pairs(alloc)?;
+    Ok(Some(table_line(alloc, &pairs)?))
+}
+
+/// The line of a node's members, or none where the world has no such node.
+fn line_of_members(
+    alloc: Global,
+    world: &World<ListTable<Global>>,
+    node: &NodeName,
+) -> Result<Option<String>, AllocError>
+    ensures { IfOk result (λ line. IsShown world.now node.now (members_of world.now node.now) (option_map string_bytes line)) }
+{
+    let Some(members) = world.members(node) else {
+        return Ok(None);
+    };
+    Ok(Some(members_line(alloc, members.as_slice())?))
+}
+
+/// Writes what is shown of a node, or that there is no such node: whether there is one.
+fn write_shown<W: Write>(
+    alloc: Global,
+    writer: &mut W,
+    line: Option<String>,
+) -> Result<bool, WriteFault>
+    ensures text { Writes (W.contents writer.old) (W.contents writer.new) result (line_or_refusal (option_map string_bytes line)) }
+    ensures fine { IfOk result (λ fine. fine ≡ is_some line) }
+{
+    match line {
+        Some(line) => {
+            write_text(writer, line.as_bytes())?;
+            Ok(true)
+        }
+        None => {
+            write_error(alloc, writer, "no_such_node")?;
+            Ok(false)
+        }
+    }
+}
+
+/// Writes the names in the table of a node with their owners, or why it is refused: whether it isn't.
+pub(crate) fn show_table<W: Write>(
+    alloc: Global,
+    writer: &mut W,
+    world: &World<ListTable<Global>>,
+    node: &NodeName,
+) -> Result<bool, WriteFault>
+    ensures { PlaysOrStops world.now world.now (Ok (TableAt node.now)) (W.contents writer.old) (W.contents writer.new) result }
+{
+    let line = line_of_table(alloc, world, node)?;
+    write_shown(alloc, writer, line)
+}
+
+/// Writes the members of a node, or why it is refused: whether it isn't.
+pub(crate) fn show_members<W: Write>(
+    alloc: Global,
+    writer: &mut W,
+    world: &World<ListTable<Global>>,
+    node: &NodeName,
+) -> Result<bool, WriteFault>
+    ensures { PlaysOrStops world.now world.now (Ok (MembersAt node.now)) (W.contents writer.old) (W.contents writer.new) result }
+{
+    let line = line_of_members(alloc, world, node)?;
+    write_shown(alloc, writer, line)
+}

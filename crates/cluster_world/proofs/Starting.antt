@@ -1,0 +1,192 @@
+-- What a world is started with.
+use Rattle.std.proofs.Common.{ℕ, suc, Bool, true, false, ◌==◌, ◌≡◌, ◌<◌, ◌≤◌, ◌+◌, Some, None, List, [], ◌∷◌, ◌++◌, length, length-append, get_or, take, map, filter, refl, sym, ap, subst, ◌∙◌, arith, inl, inr}
+use Rattle.std.specs.Prelude.{if◌then◌else◌, ◌&&◌, ◌||◌, nat_lt, All, Result, Ok, Err, MatchResult, is_ok}
+use Rattle.std.proofs.Math.Path.{fun_ext}
+use Rattle.std.proofs.lemmas.Bool.{cases_eq, eq-eqb, eqb-true, ne_eqb}
+use Rattle.std.proofs.lemmas.Bool.Decides.{nat_tests}
+use Rattle.std.proofs.lemmas.Grind.{take_at_read}
+use Rattle.std.proofs.lemmas.List.{map-append}
+use Rattle.std.proofs.lemmas.List.Elements.{All-map}
+use Rattle.registry_model.specs.Process.{Nodes, nobody}
+use Rattle.registry_model.specs.Table.{without}
+use Rattle.protocol_model.specs.Links.{Links, no_letters}
+use Rattle.protocol_model.specs.Node.{Node, opening_node}
+use Rattle.protocol_model.specs.World.{in_world, in_cluster, opening_world}
+use Rattle.term.specs.NodeSets.{set_of, with_node, IsNodeSet}
+use Rattle.boss_order.proofs.Sets.{set_of-append}
+use Rattle.link.specs.Held.{Held as Mesh, seen as links_of}
+use Rattle.node_core.specs.declared.events.Entry.{Entry}
+use Rattle.node_core.specs.declared.events.Letter.{Letter}
+use Rattle.node_core.specs.Held.{Held as Core, fresh, IsWithin}
+use Rattle.node_core.specs.Seen.{node_of, letter_of, entry_of}
+use Rattle.cluster_world.specs.Links.{mapped}
+use Rattle.cluster_world.specs.Held.{IsWhole}
+use Rattle.cluster_world.specs.Seen.{opening_with, opening_core, core_of, node_with, seen}
+use Rattle.cluster_world.specs.Starting.{Opens}
+use Rattle.cluster_world.proofs.Nodes.{listed, world_is}
+use Rattle.cluster_world.proofs.Steps.{name_of}
+
+or_false : (b : Bool) → (b || false) ≡ b
+or_false true = refl
+or_false false = refl
+
+pub or_assoc : (a b c : Bool) → ((a || b) || c) ≡ (a || (b || c))
+or_assoc true b c = refl
+or_assoc false b c = refl
+
+-- one node more was taken
+pub took : (xs : List ℕ) (i n c : ℕ) → i < length xs → n ≡ get_or xs i n → set_of (take (i + 1) xs) c ≡ (set_of (take i xs) c || (n == c))
+took xs i n c l is = ap (λ (ns : List ℕ). set_of ns c) (take_at_read xs i n l).1 ∙ set_of-append (take i xs) (get_or xs i n ∷ []) c
+    ∙ ap (λ (b : Bool). set_of (take i xs) c || b) (or_false (get_or xs i n == c) ∙ ap (λ (m : ℕ). m == c) (sym is))
+
+-- a node of the list, alone
+pub one_within : (xs : List ℕ) (i n : ℕ) → i < length xs → n ≡ get_or xs i n → IsWithin xs (n ∷ [])
+one_within xs i n l is c e = ap (set_of xs) (sym (eqb-true n c (sym (or_false (n == c)) ∙ e)) ∙ is) ∙ listed xs i n l
+
+-- one core more was made
+pub made : {X Y : Type 0} (f : X → Y) (xs : List X) (i : ℕ) (x : X) → i < length xs → x ≡ get_or xs i x
+    → map f (take i xs) ++ f x ∷ [] ≡ map f (take (i + 1) xs)
+made {X} {Y} f xs i x l is = ap (λ (y : X). map f (take i xs) ++ f y ∷ []) is
+    ∙ sym (ap (map f) (take_at_read xs i x l).1 ∙ map-append f (take i xs) (get_or xs i x ∷ []))
+
+-- a set grows by one node at most
+grown : (xs : List ℕ) (c : ℕ) → length (filter (λ m. nat_lt m c) xs) + length (filter (λ m. nat_lt c m) xs) ≤ length xs
+grown [] c = omega arith
+grown (x ∷ xs) c = go (nat_lt x c) (nat_lt c x) refl refl (grown xs c)
+  where
+    go : (a b : Bool) → nat_lt x c ≡ a → nat_lt c x ≡ b → length (filter (λ m. nat_lt m c) xs) + length (filter (λ m. nat_lt c m) xs) ≤ length xs
+        → length (if a then x ∷ filter (λ m. nat_lt m c) xs else filter (λ m. nat_lt m c) xs) + length (if b then x ∷ filter (λ m. nat_lt c m) xs else filter (λ m. nat_lt c m) xs) ≤ suc (length xs)
+    go true true e f h = absurd (never x c e f)
+      where
+        never : (x c : ℕ) → nat_lt x c ≡ true → nat_lt c x ≡ true → ⊥
+        never x c e f = grind (arith, nat_tests)
+    go true false e f h = omega arith
+    go false true e f h = omega arith
+    go false false e f h = omega arith
+
+pub length-with_node : (xs : List ℕ) (c : ℕ) → length (with_node xs c) ≤ length xs + 1
+length-with_node xs c = omega (arith, grown xs c, length-append (filter (λ m. nat_lt m c) xs) (c ∷ filter (λ m. nat_lt c m) xs))
+
+-- what stands on success
+pub matched_ok : {T E : Type 0} (P : T → Type 0) (Q : E → Type 0) (r : Result T E) → is_ok r ≡ true → MatchResult r P Q → (x : T) × P x
+matched_ok P Q (Ok x) e p = (x, p)
+matched_ok P Q (Err y) e p = cc
+
+module _ (nodes cluster : List ℕ) where
+  -- the core of a joined node
+  pub joined_core : (a : ℕ) → set_of cluster a ≡ true → fresh a nodes cluster true ≡ opening_core nodes cluster a
+  joined_core a e = sym (ap (λ (b : Bool). if b then fresh a nodes cluster true else fresh a nodes (a ∷ []) false) e)
+
+  -- and of a lone one
+  pub lone_core : (a : ℕ) → set_of cluster a ≡ false → fresh a nodes (a ∷ []) false ≡ opening_core nodes cluster a
+  lone_core a e = sym (ap (λ (b : Bool). if b then fresh a nodes cluster true else fresh a nodes (a ∷ []) false) e)
+
+  opens_name : (a : ℕ) → (opening_core nodes cluster a).name ≡ a
+  opens_name a = go (set_of cluster a)
+    where
+      go : (b : Bool) → (if b then fresh a nodes cluster true else fresh a nodes (a ∷ []) false).name ≡ a
+      go true = refl
+      go false = refl
+
+  opens_world : (a : ℕ) → (opening_core nodes cluster a).world ≡ nodes
+  opens_world a = go (set_of cluster a)
+    where
+      go : (b : Bool) → (if b then fresh a nodes cluster true else fresh a nodes (a ∷ []) false).world ≡ nodes
+      go true = refl
+      go false = refl
+
+  names_are : (xs : List ℕ) → map name_of (map (opening_core nodes cluster) xs) ≡ xs
+  names_are [] = refl
+  names_are (x ∷ xs) = ap (λ (y : ℕ). y ∷ map name_of (map (opening_core nodes cluster) xs)) (opens_name x) ∙ ap (λ (ys : List ℕ). x ∷ ys) (names_are xs)
+
+  found : (a : ℕ) (xs : List ℕ) → core_of a (map (opening_core nodes cluster) xs) ≡ (if set_of xs a then Some (opening_core nodes cluster a) else None)
+  found a [] = refl
+  found a (x ∷ xs) = ap (λ (y : ℕ). if y == a then Some (opening_core nodes cluster x) else core_of a (map (opening_core nodes cluster) xs)) (opens_name x)
+      ∙ go (x == a) refl (found a xs)
+    where
+      go : (b : Bool) → (x == a) ≡ b → core_of a (map (opening_core nodes cluster) xs) ≡ (if set_of xs a then Some (opening_core nodes cluster a) else None)
+          → (if b then Some (opening_core nodes cluster x) else core_of a (map (opening_core nodes cluster) xs))
+          ≡ (if b || set_of xs a then Some (opening_core nodes cluster a) else None)
+      go true e later = ap (λ (y : ℕ). Some (opening_core nodes cluster y)) (eqb-true x a e)
+      go false e later = later
+
+  cluster_is : IsWithin nodes cluster → in_cluster (opening_with nodes cluster) ≡ set_of cluster
+  cluster_is within = fun_ext (λ c. go c (set_of cluster c) refl)
+    where
+      and_false : (b : Bool) → (b && false) ≡ false
+      and_false true = refl
+      and_false false = refl
+
+      go : (c : ℕ) (b : Bool) → set_of cluster c ≡ b → (in_world (opening_with nodes cluster) c && b) ≡ b
+      go c true e = ap (λ (s : Nodes). s c && true) (world_is nodes cluster) ∙ ap (λ (b : Bool). b && true) (within c e)
+      go c false e = and_false (in_world (opening_with nodes cluster) c)
+
+  and_true : (b : Bool) → (b && true) ≡ b
+  and_true true = refl
+  and_true false = refl
+
+  turned : (a c : ℕ) → ((a == c) || false) ≡ ((c == a) && true)
+  turned a c = elim (cases_eq a c) [
+    | inl e ↦ rw (eq-eqb a c e, eq-eqb c a (sym e)) refl
+    | inr ne ↦ rw (ne_eqb a c ne, ne_eqb c a (λ e. ne (sym e))) refl
+  ]
+
+  core_is : (a : ℕ) → node_of (opening_core nodes cluster a) ≡ opening_node (set_of cluster) a
+  core_is a = go (set_of cluster a)
+    where
+      go : (b : Bool) → node_of (if b then fresh a nodes cluster true else fresh a nodes (a ∷ []) false)
+          ≡ record (opening_node (set_of cluster) a) {
+            replica = record {
+              table = without nobody (if b then [] else []);
+              members = λ c. (if b then set_of cluster c else c == a) && true;
+              told = nobody;
+              joined = b;
+            };
+          }
+      go true = ap (λ (s : Nodes). record (node_of (fresh a nodes cluster true)) { replica = record { table = []; members = s; told = nobody; joined = true } })
+          (fun_ext (λ c. sym (and_true (set_of cluster c))))
+      go false = ap (λ (s : Nodes). record (node_of (fresh a nodes (a ∷ []) false)) { replica = record { table = []; members = s; told = nobody; joined = false } })
+          (fun_ext (turned a))
+
+  node_is : IsWithin nodes cluster → (a : ℕ) → node_with (opening_with nodes cluster) a (core_of a (map (opening_core nodes cluster) nodes))
+      ≡ opening_node (in_cluster (opening_with nodes cluster)) a
+  node_is within a = ap (node_with (opening_with nodes cluster) a) (found a nodes) ∙ go (set_of nodes a)
+    where
+      go : (b : Bool) → node_with (opening_with nodes cluster) a (if b then Some (opening_core nodes cluster a) else None)
+          ≡ opening_node (in_cluster (opening_with nodes cluster)) a
+      go true = core_is a ∙ ap (λ (s : Nodes). opening_node s a) (sym (cluster_is within))
+      go false = refl
+
+  module _ (cores : List Core) (links : Mesh Letter) (history : List Entry) (made : cores ≡ map (opening_core nodes cluster) nodes)
+      (empty : links_of links ≡ no_letters) where
+    pub opens_whole : IsNodeSet nodes → links.nodes ≡ nodes
+        → IsWhole (record { nodes = nodes; cluster = cluster; cores = cores; links = links; history = history })
+    opens_whole set same = record {
+      set = set;
+      names = ap (map name_of) made ∙ names_are nodes;
+      worlds = subst (λ (cs : List Core). All (λ c. c.world ≡ nodes) cs) (sym made)
+          (All-map (λ (c : Core). c.world ≡ nodes) (opening_core nodes cluster) nodes (λ k d l. opens_world (get_or nodes k d)));
+      links = same;
+      running = ap (λ (w : Links Letter). w.closed) empty;
+    }
+
+    pub opens_seen : IsWithin nodes cluster → history ≡ []
+        → seen (record { nodes = nodes; cluster = cluster; cores = cores; links = links; history = history }) ≡ opening_world (opening_with nodes cluster)
+    opens_seen within none =
+        ap (λ (cs : List Core). seen (record { nodes = nodes; cluster = cluster; cores = cs; links = links; history = history })) made
+        ∙ ap (λ (f : ℕ → Node). record { node = f; links = mapped letter_of (links_of links); history = map entry_of history }) (fun_ext (node_is within))
+        ∙ ap (λ (w : Links Letter). record { node = opening_node (in_cluster (opening_with nodes cluster)); links = mapped letter_of w; history = map entry_of history }) empty
+        ∙ ap (λ (es : List Entry). record (opening_world (opening_with nodes cluster)) { history = map entry_of es }) none
+
+-- the nodes that were gathered are those that were named
+module _ (cluster lone joined nodes : List ℕ) (first : (c : ℕ) → set_of joined c ≡ set_of cluster c)
+    (all : (c : ℕ) → set_of nodes c ≡ (set_of joined c || set_of lone c)) where
+  pub joined_within : IsWithin nodes joined
+  joined_within c e = all c ∙ ap (λ (b : Bool). b || set_of lone c) e
+
+  pub opens : (cores : List Core) (links : Mesh Letter) (history : List Entry)
+      → Opens cluster lone (record { nodes = nodes; cluster = joined; cores = cores; links = links; history = history })
+  opens cores links history = record {
+    nodes = λ c. all c ∙ ap (λ (b : Bool). b || set_of lone c) (first c) ∙ sym (set_of-append cluster lone c);
+    joined = first;
+  }

@@ -1,0 +1,148 @@
+-- The step of one node, as a step of the world.
+use Rattle.std.proofs.Common.{ℕ, Bool, true, false, ◌==◌, ◌≡◌, ◌<◌, Some, None, List, [], ◌∷◌, ◌++◌, length, get_or, set, map, filter, refl, sym, ap, ◌∙◌, arith}
+use Rattle.std.specs.Prelude.{if◌then◌else◌}
+use Rattle.std.proofs.Math.Path.{fun_ext}
+use Rattle.std.proofs.lemmas.List.{map-append, length-map, set-get_or}
+use Rattle.std.proofs.lemmas.List.Elements.{All-set}
+use Rattle.registry_model.specs.Process.{at}
+use Rattle.registry_model.specs.History.{Entry as AnyEntry}
+use Rattle.protocol_model.specs.Letter.{Letter as AnyLetter}
+use Rattle.protocol_model.specs.Links.{Links, posted}
+use Rattle.protocol_model.specs.Node.{Node}
+use Rattle.protocol_model.specs.Turn.{Turn, sent_to}
+use Rattle.protocol_model.specs.World.{apply}
+use Rattle.term.specs.NodeSets.{set_of}
+use Rattle.link.specs.Held.{Held as Mesh, place, seen as links_of}
+use Rattle.link.proofs.Places.{place-Some}
+use Rattle.node_core.specs.declared.events.Answer.{Answer}
+use Rattle.node_core.specs.declared.events.Entry.{Entry}
+use Rattle.node_core.specs.declared.events.Event.{Event as NodeEvent}
+use Rattle.node_core.specs.declared.events.Letter.{Letter}
+use Rattle.node_core.specs.declared.events.StepFault.{StepFault}
+use Rattle.node_core.specs.declared.events.StepFault.TheVariants.{SerialsSpent, NothingToRetry, CallsSpent, Memory}
+use Rattle.node_core.specs.Held.{Held as Core}
+use Rattle.node_core.specs.Seen.{node_of, turn_of, send_of, letter_of, entry_of, fault_of, is_memory as node_memory}
+use Rattle.node_core.specs.Steps.{Steps, refusal_of as node_refusal}
+use Rattle.cluster_world.specs.Links.{mapped, letters_to}
+use Rattle.cluster_world.specs.Held.{Held, IsWhole}
+use Rattle.cluster_world.specs.Seen.{opening_of, core_of, node_with, seen}
+use Rattle.cluster_world.specs.declared.events.Refusal.TheVariants.{Memory as OutOfMemory}
+use Rattle.cluster_world.specs.Refusals.{refusal_by, is_memory}
+use Rattle.cluster_world.specs.Steps.{Stands, Moves, FailsAt}
+use Rattle.cluster_world.proofs.Cores.{name_at, names-set, core_here, core_wrote, no_core}
+use Rattle.cluster_world.proofs.Nodes.{known_place, no_place}
+use Rattle.cluster_world.proofs.Mail.{mapped-posted}
+
+abbrev pub name_of : Core → ℕ
+name_of c = c.name
+
+-- the letters of a turn to a node
+sent_to-map : (t : ℕ) (ss : List (ℕ × Letter)) → map letter_of (letters_to t ss) ≡ sent_to t (map send_of ss)
+sent_to-map t [] = refl
+sent_to-map t (s ∷ ss) = go (s.0 == t) (sent_to-map t ss)
+  where
+    go : (b : Bool) → map letter_of (letters_to t ss) ≡ sent_to t (map send_of ss)
+        → map letter_of (map (λ s. s.1) (if b then s ∷ filter (λ s. s.0 == t) ss else filter (λ s. s.0 == t) ss))
+        ≡ map (λ s. s.letter) (if b then send_of s ∷ filter (λ s. s.to == t) (map send_of ss) else filter (λ s. s.to == t) (map send_of ss))
+    go true e = ap (λ (ls : List AnyLetter). letter_of s.1 ∷ ls) e
+    go false e = e
+
+module _ (h : Held) (whole : IsWhole h) (a i : ℕ) (core : Core) (there : place a h.nodes ≡ Some i) (is : core ≡ get_or h.cores i core) where
+  there_too : place a (map name_of h.cores) ≡ Some i
+  there_too = ap (place a) whole.names ∙ there
+
+  within : i < length h.cores
+  within = omega (arith, (place-Some a (map name_of h.cores) i there_too).0, length-map h.cores name_of)
+
+  -- the core at the place of a node is the node's
+  pub stands : Stands a h core
+  stands = record {
+    known = known_place h.nodes a i there;
+    is = core_here name_of h.cores i core a within there_too ∙ ap Some (sym is);
+    name = ap name_of is ∙ name_at name_of h.cores i core within ∙ (place-Some a (map name_of h.cores) i there_too).1;
+    world = ap (λ (c : Core). c.world) is ∙ whole.worlds i core within;
+  }
+
+  -- the node fails
+  pub fails : (e : NodeEvent) (fault : StepFault) → node_refusal e core ≡ fault_of fault → FailsAt (refusal_by fault) a e h
+  fails e SerialsSpent q = (core, stands, q)
+  fails e NothingToRetry q = (core, stands, q)
+  fails e CallsSpent q = (core, stands, q)
+  fails e Memory q = (core, stands, q)
+
+  -- the same where memory was refused behind the turn
+  pub fails_behind : (e : NodeEvent) (new : Core) (before after : List (ℕ × Letter)) (given : List Answer)
+      → Steps e core new before after given → FailsAt OutOfMemory a e h
+  fails_behind e new before after given S = (core, stands, S.accepted)
+
+  -- the core stayed as it was
+  pub unchanged : (new : Core) → new ≡ core → record h { cores = set h.cores i new } ≡ h
+  unchanged new same = ap (λ (cs : List Core). record h { cores = cs }) (ap (set h.cores i) (same ∙ is) ∙ set-get_or h.cores i core)
+
+  -- with another core of this name the world is whole
+  pub whole_with : (new : Core) (links : Mesh Letter) (history : List Entry) → new.name ≡ core.name → new.world ≡ core.world
+      → links.nodes ≡ h.links.nodes → (links_of links).closed ≡ (links_of h.links).closed
+      → IsWhole (record { nodes = h.nodes; cluster = h.cluster; cores = set h.cores i new; links = links; history = history })
+  whole_with new links history named placed same closed = record {
+    set = whole.set;
+    names = names-set name_of h.cores i new within (named ∙ stands.name ∙ sym (place-Some a (map name_of h.cores) i there_too).1) ∙ whole.names;
+    worlds = All-set (λ (c : Core). c.world ≡ h.nodes) h.cores i new (placed ∙ stands.world) whole.worlds;
+    links = same ∙ whole.links;
+    running = closed ∙ whole.running;
+  }
+
+  module _ (e : NodeEvent) (new : Core) (before sends : List (ℕ × Letter)) (given : List Answer) (links : Mesh Letter) (history : List Entry)
+      (none : before ≡ []) (S : Steps e core new before sends given)
+      (post : links_of links ≡ posted a (λ t. letters_to t sends) (links_of h.links)) (enter : history ≡ h.history ++ new.entered) where
+    -- what is held behind the step
+    abbrev behind : Held
+    behind = record { nodes = h.nodes; cluster = h.cluster; cores = set h.cores i new; links = links; history = history }
+
+    abbrev turn : Turn
+    turn = turn_of new (record { letters = S.sent; entries = new.entered; answers = given })
+
+    nodes_are : (x : ℕ) → node_with (opening_of h) x (core_of x (set h.cores i new)) ≡ at (seen h).node a (node_of new) x
+    nodes_are x = ap (node_with (opening_of h) x) (core_wrote name_of h.cores i new a within there_too (S.name ∙ stands.name) x) ∙ go (x == a)
+      where
+        go : (b : Bool) → node_with (opening_of h) x (if b then Some new else core_of x h.cores)
+            ≡ (if b then node_of new else node_with (opening_of h) x (core_of x h.cores))
+        go true = refl
+        go false = refl
+
+    sent : sends ≡ S.sent
+    sent = S.letters ∙ ap (λ (ss : List (ℕ × Letter)). ss ++ S.sent) none
+
+    links_are : mapped letter_of (links_of links) ≡ posted a (λ t. sent_to t (map send_of S.sent)) (mapped letter_of (links_of h.links))
+    links_are = ap (mapped letter_of) post ∙ mapped-posted letter_of a (λ t. letters_to t sends) (links_of h.links)
+        ∙ ap (λ (ls : ℕ → List AnyLetter). posted a ls (mapped letter_of (links_of h.links)))
+        (fun_ext (λ t. sent_to-map t sends ∙ ap (λ (ss : List (ℕ × Letter)). sent_to t (map send_of ss)) sent))
+
+    world_is : seen behind ≡ apply a turn (seen h)
+    world_is =
+        ap (λ (f : ℕ → Node). record (seen behind) { node = f }) (fun_ext nodes_are)
+        ∙ ap (λ (w : Links AnyLetter). record { node = at (seen h).node a (node_of new); links = w; history = map entry_of history }) links_are
+        ∙ ap (λ (es : List AnyEntry). record (apply a turn (seen h)) { history = es }) (ap (map entry_of) enter ∙ map-append entry_of h.history new.entered)
+
+    pub moves : Moves a e h behind given
+    moves = record {
+      nodes = refl;
+      cluster = refl;
+      core = core;
+      stands = stands;
+      accepted = S.accepted;
+      turn = turn;
+      makes = S.turn;
+      world = world_is;
+      answers = refl;
+    }
+
+-- the world runs out of memory where its node does
+pub same_memory : (fault : StepFault) → is_memory (refusal_by fault) ≡ false → node_memory fault ≡ false
+same_memory SerialsSpent e = refl
+same_memory NothingToRetry e = refl
+same_memory CallsSpent e = refl
+same_memory Memory e = cc
+
+-- a node that has no place has no core
+pub core_missing : (h : Held) → IsWhole h → (a : ℕ) → place a h.nodes ≡ None → core_of a h.cores ≡ None
+core_missing h whole a e = no_core name_of h.cores a (ap (λ (ns : List ℕ). set_of ns a) whole.names ∙ no_place h.nodes a e)

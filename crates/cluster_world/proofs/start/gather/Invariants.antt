@@ -1,0 +1,10 @@
+use Rattle.std.proofs.Common.{ℕ, ◌≡◌, ◌+◌, ◌≤◌, length, take}
+use Rattle.std.specs.Prelude.{◌||◌}
+use Rattle.term.specs.NodeSets.{set_of}
+use Rattle.cluster_world.proofs.start.gather.Given as goal
+
+abbrev pub invariant-loop-node : goal.invariant-loop-node
+invariant-loop-node l = record {
+  holds : (c : ℕ) → set_of l.set c ≡ (set_of l.initial.set c || set_of (take l.node-index l.nodes) c);
+  room : length l.set ≤ length l.initial.set + l.node-index;
+}

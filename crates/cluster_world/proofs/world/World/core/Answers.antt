@@ -1,0 +1,27 @@
+use Rattle.std.proofs.Common.{◌∙◌, ap, sym}
+use Rattle.term.specs.NodeSets.{set_of}
+use Rattle.cluster_world.specs.Held.{Held}
+use Rattle.cluster_world.specs.Seen.{core_of}
+use Rattle.cluster_world.proofs.Nodes.{no_place, known_place}
+use Rattle.cluster_world.proofs.Steps.{stands, core_missing}
+use Rattle.cluster_world.proofs.world.World.core.Goals as goal
+
+pub returns-in_err-place-clause-here : goal.returns-in_err-place-clause-here
+returns-in_err-place-clause-here g c =
+    rw c.from_residual.ensures (sym (ap (λ (k : Held). set_of k.nodes c.args.node.now) (sym c.self.view_is)
+    ∙ no_place c.self.inside.nodes c.args.node.now (sym c.position.ensures ∙ c.in_err-place.was)))
+
+pub returns-in_err-place-clause-core : goal.returns-in_err-place-clause-core
+returns-in_err-place-clause-core g c =
+    rw c.from_residual.ensures (sym (ap (λ (k : Held). core_of c.args.node.now k.cores) (sym c.self.view_is)
+    ∙ core_missing _ c.self.invariant c.args.node.now (sym c.position.ensures ∙ c.in_err-place.was)))
+
+pub returns-clause-here : goal.returns-clause-here
+returns-clause-here g c =
+    sym (ap (λ (k : Held). set_of k.nodes c.args.node.now) (sym c.self.view_is)
+    ∙ known_place c.self.inside.nodes c.args.node.now c.in_ok-place.place (sym c.position.ensures ∙ c.in_ok-place.was))
+
+pub returns-clause-core : goal.returns-clause-core
+returns-clause-core g c =
+    sym (ap (λ (k : Held). core_of c.args.node.now k.cores) (sym c.self.view_is)
+    ∙ (stands _ c.self.invariant c.args.node.now c.in_ok-place.place c.index.result.now (sym c.position.ensures ∙ c.in_ok-place.was) c.index.ensures).is)

@@ -1,0 +1,20 @@
+use Rattle.std.proofs.Common.{[], sym, subst}
+use Rattle.std.proofs.lemmas.Result.{IfOk-weaker, IfErr-weaker}
+use Rattle.node_core.specs.declared.events.Event.{Event as NodeEvent}
+use Rattle.cluster_world.specs.declared.events.WorldEvent.{WorldEvent}
+use Rattle.cluster_world.specs.Playing.{Played, RefusedWith}
+use Rattle.cluster_world.specs.Steps.{Moves, FailsAt}
+use Rattle.cluster_world.proofs.Plays.{plays_own, refuses_own}
+use Rattle.cluster_world.proofs.world.World.play.Goals as goal
+
+pub returns-in-At-clause-ok : goal.returns-in-At-clause-ok
+returns-in-At-clause-ok g c =
+    IfOk-weaker c.step.result _ _ (λ answers M. subst (λ (e : WorldEvent). Played e c.args.self.now c.step.new.self [] answers.items) (sym c.in-At.is)
+    (plays_own c.args.self.now c.step.new.self c.in-At.node c.in-At.event answers.items c.step.ensures.whole
+    (subst (λ (e : NodeEvent). Moves c.in-At.node e c.args.self.now c.step.new.self answers.items) c.at_node.ensures M))) c.step.ensures.ok
+
+pub returns-in-At-clause-refused : goal.returns-in-At-clause-refused
+returns-in-At-clause-refused g c =
+    IfErr-weaker c.step.result _ _ (λ r F. subst (λ (e : WorldEvent). RefusedWith r e c.args.self.now) (sym c.in-At.is)
+    (refuses_own c.args.self.now c.in-At.node c.in-At.event r c.step.ensures.whole
+    (subst (λ (e : NodeEvent). FailsAt r c.in-At.node e c.args.self.now) c.at_node.ensures F))) c.step.ensures.refused

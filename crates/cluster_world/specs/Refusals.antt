@@ -1,0 +1,36 @@
+-- Why an event is refused: by the protocol, by its node, or by its link.
+use Rattle.std.specs.Prelude.{Bool, true, false, Option, Some, None}
+use Rattle.protocol_model.specs.Event.{Refusal as AnyRefusal}
+use Rattle.link.specs.declared.faults.LinkFault.{LinkFault}
+use Rattle.link.specs.declared.faults.LinkFault.TheVariants as on_link
+use Rattle.node_core.specs.declared.events.StepFault.{StepFault}
+use Rattle.node_core.specs.declared.events.StepFault.TheVariants as by_node
+use Rattle.cluster_world.specs.declared.events.Refusal.{Refusal}
+use Rattle.cluster_world.specs.declared.events.Refusal.TheVariants.{NoSuchNode, EmptyLink, SerialsSpent, NothingToRetry, CallsSpent, Memory}
+
+-- the protocol's refusal; want of memory is none of its
+abbrev pub refusal_of : Refusal → Option AnyRefusal
+refusal_of NoSuchNode = Some AnyRefusal.NoSuchNode
+refusal_of EmptyLink = Some AnyRefusal.EmptyLink
+refusal_of SerialsSpent = Some AnyRefusal.SerialsSpent
+refusal_of NothingToRetry = Some AnyRefusal.NothingToRetry
+refusal_of CallsSpent = Some AnyRefusal.CallsSpent
+refusal_of Memory = None
+
+-- where the node refuses
+abbrev pub refusal_by : StepFault → Refusal
+refusal_by by_node.SerialsSpent = SerialsSpent
+refusal_by by_node.NothingToRetry = NothingToRetry
+refusal_by by_node.CallsSpent = CallsSpent
+refusal_by by_node.Memory = Memory
+
+-- where the link refuses
+abbrev pub refusal_on : LinkFault → Refusal
+refusal_on on_link.NoSuchNode = NoSuchNode
+refusal_on on_link.EmptyLink = EmptyLink
+refusal_on on_link.Memory = Memory
+
+-- memory was refused
+abbrev pub is_memory : Refusal → Bool
+is_memory Memory = true
+is_memory _ = false

@@ -1,0 +1,62 @@
+//! What one step of a node brings to the world.
+ghost use Rattle.std.specs.Prelude.{◌≡◌, ◌++◌, OnOk, IfErr};
+ghost use Rattle.protocol_model.specs.Links.{posted};
+ghost use Rattle.link.specs.Held.{seen as links_of};
+ghost use Rattle.cluster_world.specs.Links.{letters_to};
+
+use crate::events::Refusal;
+use link::Mesh;
+use node_core::{Entry, Letter, Look};
+use std::alloc::AllocError;
+use term::NodeName;
+
+/// Puts each letter at the back of the link to its receiver.
+pub(crate) fn post(
+    links: &mut Mesh<Letter>,
+    sender: &NodeName,
+    letters: Vec<(NodeName, Letter)>,
+) -> Result<(), Refusal>
+    ensures nodes { links.new.nodes ≡ links.old.nodes }
+    ensures closed { (links_of links.new).closed ≡ (links_of links.old).closed }
+    ensures ok { OnOk result (links_of links.new ≡ posted sender.now (λ t. letters_to t letters.items) (links_of links.old)) }
+    ensures err { IfErr result (λ refusal. refusal ≡ Refusal.Memory) }
+{
+    for (receiver, letter) in letters {
+        if links.send(sender, &receiver, letter).is_err() {
+            return Err(Refusal::Memory);
+        }
+    }
+    Ok(())
+}
+
+/// The same look-up. It takes no memory.
+fn look_copy(look: &Look) -> Look
+    ensures { result ≡ look.now }
+{
+    match look {
+        Look::Whereis(name) => Look::Whereis(name.copy()),
+    }
+}
+
+/// The same entry. It takes no memory.
+fn entry_copy(entry: &Entry) -> Entry
+    ensures { result ≡ entry.now }
+{
+    match entry {
+        Entry::Name(node, call, name_call, reply) => {
+            Entry::Name(node.copy(), *call, name_call.copy(), reply.copy())
+        }
+        Entry::Done(node) => Entry::Done(node.copy()),
+        Entry::Read(node, look, reply) => Entry::Read(node.copy(), look_copy(look), reply.copy()),
+    }
+}
+
+/// Puts the same entries at the end of the history.
+pub(crate) fn enter(history: &mut Vec<Entry>, entries: &[Entry]) -> Result<(), AllocError>
+    ensures { OnOk result (history.new.items ≡ history.old.items ++ entries.now) }
+{
+    for entry in entries {
+        history.push(entry_copy(entry))?;
+    }
+    Ok(())
+}

@@ -1,0 +1,4 @@
+mod Asking
+mod Holders
+mod Places
+mod Soundness

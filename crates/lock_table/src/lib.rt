@@ -1,0 +1,14 @@
+//! The lock table of one node. Each resource is under one requester, whose holders are counted.
+#![tactic(auto)]
+
+mod grant;
+mod laws;
+mod table;
+mod verdict;
+
+pub use laws::sound_tables_tell_who_holds;
+pub use table::LockTable;
+pub use verdict::Verdict;
+
+#[cfg(test)]
+mod tests;

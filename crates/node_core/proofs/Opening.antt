@@ -1,0 +1,49 @@
+-- A node at its beginning.
+use Rattle.std.proofs.Common.{ℕ, Bool, true, false, ◌==◌, ◌≡◌, List, [], refl, sym, ap, ◌∙◌}
+use Rattle.std.specs.Prelude.{not, ◌&&◌, if◌then◌else◌}
+use Rattle.std.proofs.Math.Path.{fun_ext}
+use Rattle.registry_model.specs.Process.{Nodes, nobody}
+use Rattle.registry_model.specs.Table.{Table, without}
+use Rattle.protocol_model.specs.LockTable.{Locks}
+use Rattle.protocol_model.specs.Node.{Node, opening_node}
+use Rattle.term.specs.NodeSets.{set_of}
+use Rattle.transaction.specs.Work.{Work, idle}
+use Rattle.node_core.specs.declared.events.Entry.{Entry}
+use Rattle.node_core.specs.declared.node.Phase.TheVariants.{Waiting}
+use Rattle.node_core.specs.Held.{Held, fresh}
+use Rattle.node_core.specs.Seen.{node_of}
+
+-- a joined node is the protocol's, where its members are the cluster
+pub opens : (a : ℕ) (world members : List ℕ) (joined : Bool) → set_of members a ≡ true → joined ≡ true
+    → node_of (fresh a world members joined) ≡ opening_node (set_of members) a
+opens a world members joined own is =
+    ap (λ (b : Bool). node_of (fresh a world members b)) is
+    ∙ ap with_members (fun_ext (λ c. and_true (set_of members c)))
+    ∙ ap (λ (b : Bool). with_own b) (sym own)
+  where
+    and_true : (b : Bool) → b ≡ (b && true)
+    and_true true = refl
+    and_true false = refl
+
+    with_members : Nodes → Node
+    with_members s = record (node_of (fresh a world members true)) { replica = record { table = []; members = s; told = nobody; joined = true } }
+
+    with_own : Bool → Node
+    with_own b = record (node_of (fresh a world members true)) {
+      replica = record {
+        table = without nobody (if b then [] else []);
+        members = λ c. (if b then set_of members c else c == a) && not (nobody c);
+        told = nobody;
+        joined = b;
+      };
+    }
+
+-- the same of what is made for it
+pub opened : (h : Held) (a : ℕ) (world members w m : List ℕ) (joined : Bool) (t : Table) (locks : Locks) (r : Work) (es : List Entry)
+    → w ≡ world → m ≡ members → t ≡ [] → locks ≡ [] → r ≡ idle → es ≡ []
+    → h ≡ record { name = a; world = w; members = m; joined = joined; table = t; locks = locks; last_serial = 0; registrar = r; phase = Waiting; last_call = 0; entered = es }
+    → set_of members a ≡ true → joined ≡ true → node_of h ≡ opening_node (set_of members) a
+opened h a world members w m joined t locks r es e1 e2 e3 e4 e5 e6 e own is = ap node_of same ∙ opens a world members joined own is
+  where
+    same : h ≡ fresh a world members joined
+    same = cc

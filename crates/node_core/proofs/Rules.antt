@@ -1,0 +1,290 @@
+-- The rules of the registrar, one by one.
+use Rattle.std.proofs.Common.{ℕ, zero, suc, Bool, true, false, ◌==◌, ◌≡◌, ◌<◌, inl, inr, arith, Option, Some, None, List, [], ◌∷◌, refl, sym, ap, ◌∙◌, subst}
+use Rattle.std.specs.Prelude.{not, ◌&&◌, ◌||◌, if◌then◌else◌, All, is_some}
+use Rattle.std.proofs.lemmas.Bool.{cases_eq, eq-eqb}
+use Rattle.std.proofs.Math.Path.{fun_ext}
+use Rattle.std.proofs.lemmas.List.{map-append}
+use Rattle.registry_model.specs.Process.{Nodes, at}
+use Rattle.registry_model.specs.Call.{Reply as AnyReply, reply_to, is_grant, change_of as change_of_call}
+use Rattle.registry_model.specs.Table.{Change as AnyChange}
+use Rattle.registry_model.specs.History.{Entry as AnyEntry}
+use Rattle.protocol_model.specs.Letter.{Letter as AnyLetter, Global}
+use Rattle.protocol_model.specs.Node.{Op as AnyOp, Current}
+use Rattle.protocol_model.specs.Turn.{Turn, at_work, send_all, enter}
+use Rattle.protocol_model.specs.Registrar.{registrar, give_global, finish, done, write, decide, await_less}
+use Rattle.protocol_model.specs.Round.{is_empty}
+use Rattle.boss_order.proofs.Sets.{set_of-filter}
+use Rattle.protocol_model.specs.Deciding.{held}
+use Rattle.name_table.specs.declared.change.Change.{Change}
+use Rattle.name_table.specs.Changes.{change_of}
+use Rattle.term.specs.NodeSets.{IsNodeSet, set_of, without_node}
+use Rattle.transaction.specs.declared.op.NameCall.{NameCall}
+use Rattle.transaction.specs.declared.op.Op.{Op}
+use Rattle.transaction.specs.declared.op.Op.TheVariants.{Name as NameOp}
+use Rattle.transaction.specs.Ops.{op_of, name_call_of}
+use Rattle.transaction.specs.Work.{Work, is_nobody}
+use Rattle.node_core.specs.declared.events.Entry.{Entry}
+use Rattle.node_core.specs.declared.events.Entry.TheVariants.{Name, Done}
+use Rattle.node_core.specs.declared.events.Letter.{Letter}
+use Rattle.node_core.specs.declared.events.Letter.TheVariants.{Apply}
+use Rattle.node_core.specs.declared.events.Reply.{Reply}
+use Rattle.node_core.specs.declared.events.Reply.TheVariants.{Yes, No, UnknownNode, Pid, Undefined}
+use Rattle.node_core.specs.declared.node.Phase.{Phase}
+use Rattle.node_core.specs.declared.node.Phase.TheVariants.{Writing}
+use Rattle.node_core.specs.Made.{Made, sent_all, entered}
+use Rattle.node_core.specs.Held.{Held, bound_of, IsWithin, IsWhole}
+use Rattle.node_core.specs.Seen.{turn_of, letter_of, reply_of, entry_of, phase_of, current_of}
+use Rattle.node_core.specs.Steps.{Makes, Works}
+use Rattle.node_core.proofs.Sends.{sent_all_is, all_below}
+
+-- one rule behind another
+pub followed : {f g : ℕ → ℕ → Turn → Turn} {h k m : Held} {t u v : Made} → Makes f h t k u → Makes g k u m v → Makes (λ n a x. g n a (f n a x)) h t m v
+followed {f} {g} {h} {k} {m} {t} {u} {v} p q = record {
+  name = q.name ∙ p.name;
+  world = q.world ∙ p.world;
+  turn = q.turn ∙ ap (λ (w : List ℕ). g (bound_of w) k.name (turn_of k u)) p.world ∙ ap (λ (a : ℕ). g (bound_of h.world) a (turn_of k u)) p.name
+      ∙ ap (g (bound_of h.world) h.name) p.turn;
+}
+
+-- the lock goes back to these
+pub gives_global : (h : Held) (t u : Made) (cs : List ℕ) (l : Letter) → IsNodeSet cs → IsWithin h.world cs
+    → letter_of l ≡ AnyLetter.GiveBack (Global h.name) (registrar h.name) false → u ≡ sent_all cs l t
+    → Makes (λ n a. give_global n a (set_of cs)) h t h u
+gives_global h t u cs l set within is made = record {
+  name = refl;
+  world = refl;
+  turn = ap (turn_of h) made ∙ sent_all_is h t cs l set within
+      ∙ ap (λ (x : AnyLetter). send_all (bound_of h.world) (set_of cs) x (turn_of h t)) is;
+}
+
+-- an entry more
+pub entered_is : (h : Held) (t : Made) (e : Entry) → turn_of h (entered e t) ≡ enter (entry_of e) (turn_of h t)
+entered_is h t e = ap (λ (es : List AnyEntry). record (turn_of h t) { entries = es }) (map-append entry_of t.entries (e ∷ []))
+
+-- the phase of a current operation
+pub phased : (h : Held) (t : Made) (op : Op) (p : Phase) → h.registrar.current ≡ Some op
+    → turn_of (record h { phase = p }) t ≡ at_work (phase_of op h.registrar.awaited p) (turn_of h t)
+phased h t op p is = ap (λ (o : Option Op). at_work (current_of o h.registrar.awaited p) (turn_of h t)) is
+
+-- done: the entry, and then the end
+pub does : (h0 h k : Held) (t u v : Made) (a : ℕ) (asked : Nodes) (reply : Option AnyReply) → h0 ≡ h → a ≡ h0.name → u ≡ entered (Done a) t
+    → Works (λ op n a. finish n a op asked reply) h0 u k v → Works (λ op n a. done n a op asked reply) h t k v
+does h0 h k t u v a asked reply same here made W =
+    subst (λ (x : Held). Works (λ op n a. done n a op asked reply) x t k v) same (λ op is. record {
+      name = (W op is).name;
+      world = (W op is).world;
+      turn = (W op is).turn
+          ∙ ap (finish (bound_of h0.world) h0.name (op_of op) asked reply) (ap (turn_of h0) made ∙ entered_is h0 t (Done a)
+          ∙ ap (λ (b : ℕ). enter (AnyEntry.Done b) (turn_of h0 t)) here);
+    })
+
+-- the change goes to every member
+pub writes : (h0 h : Held) (t u : Made) (w : Work) (asked : List ℕ) (reply : Reply) (change : Change) → h0 ≡ h → IsNodeSet h0.members → IsWithin h0.world h0.members
+    → w ≡ record h0.registrar { awaited = h0.members } → u ≡ sent_all h0.members (Apply change) t
+    → Works (λ op n a. write n a op (set_of asked) (Some (reply_of reply)) (change_of change)) h t (record h0 { registrar = w; phase = Writing asked reply }) u
+writes h0 h t u w asked reply change same set within awaits made =
+    subst (λ (x : Held). Works rule x t (record h0 { registrar = w; phase = Writing asked reply }) u) same
+    (subst (λ (y : Work). Works rule h0 t (record h0 { registrar = y; phase = Writing asked reply }) u) (sym awaits) (λ op is. record {
+      name = refl;
+      world = refl;
+      turn = ap (turn_of k) made ∙ sent_all_is k t h0.members (Apply change) set within
+          ∙ ap (λ (x : Turn). send_all (bound_of h0.world) (set_of h0.members) (AnyLetter.Apply (change_of change)) x)
+          (ap (λ (o : Option Op). at_work (current_of o h0.members (Writing asked reply)) (turn_of h0 t)) is);
+    }))
+  where
+    rule : AnyOp → ℕ → ℕ → Turn → Turn
+    rule op n a = write n a op (set_of asked) (Some (reply_of reply)) (change_of change)
+
+    k : Held
+    k = record h0 { registrar = record h0.registrar { awaited = h0.members }; phase = Writing asked reply }
+
+-- the only current operation is this
+current_is : (h : Held) (op other : Op) → h.registrar.current ≡ Some op → h.registrar.current ≡ Some other → other ≡ op
+current_is h op other e f = cc
+
+-- a granted call is written
+pub grants : (h0 h k : Held) (t u v : Made) (asked : List ℕ) (i : ℕ) (c : NameCall) (r : Reply) (change : Change) → h0 ≡ h
+    → h0.registrar.current ≡ Some (NameOp i c)
+    → reply_of r ≡ reply_to (set_of h0.members) h0.table (name_call_of c) → is_grant (reply_of r) ≡ true
+    → change_of change ≡ change_of_call (name_call_of c) → u ≡ entered (Name h0.name i c r) t
+    → Works (λ op n a. write n a op (set_of asked) (Some (reply_of r)) (change_of change)) h0 u k v
+    → (number : ℕ → ℕ) → Works (λ op n a. held n a number op (set_of asked)) h t k v
+grants h0 h k t u v asked i c r change same cur reply yes_ changes made W number =
+    subst (λ (x : Held). Works (λ op n a. held n a number op (set_of asked)) x t k v) same
+    (λ op is. subst (λ (o : Op). Makes (λ n a. held n a number (op_of o) (set_of asked)) h0 t k v) (sym (current_is h0 (NameOp i c) op cur is)) (record {
+      name = (W (NameOp i c) cur).name;
+      world = (W (NameOp i c) cur).world;
+      turn = (W (NameOp i c) cur).turn
+          ∙ ap (λ (x : AnyChange). write n a call (set_of asked) (Some (reply_of r)) x (turn_of h0 u)) changes
+          ∙ ap (write n a call (set_of asked) (Some (reply_of r)) (change_of_call (name_call_of c))) (ap (turn_of h0) made ∙ entered_is h0 t (Name h0.name i c r))
+          ∙ ap (λ (b : Bool). if b
+          then write n a call (set_of asked) (Some (reply_of r)) (change_of_call (name_call_of c)) (enter entry (turn_of h0 t))
+          else finish n a call (set_of asked) (Some (reply_of r)) (enter entry (turn_of h0 t))) (sym yes_)
+          ∙ ap (λ (x : AnyReply). decide n a i (name_call_of c) (set_of asked) x (turn_of h0 t)) reply;
+    }))
+  where
+    n : ℕ
+    n = bound_of h0.world
+
+    a : ℕ
+    a = h0.name
+
+    call : AnyOp
+    call = AnyOp.Name i (name_call_of c)
+
+    entry : AnyEntry
+    entry = AnyEntry.Name h0.name i (name_call_of c) (reply_of r)
+
+-- a refused call ends at once
+pub denies : (h0 h k : Held) (t u v : Made) (asked : List ℕ) (i : ℕ) (c : NameCall) (r : Reply) → h0 ≡ h
+    → h0.registrar.current ≡ Some (NameOp i c)
+    → reply_of r ≡ reply_to (set_of h0.members) h0.table (name_call_of c) → is_grant (reply_of r) ≡ false
+    → u ≡ entered (Name h0.name i c r) t
+    → Works (λ op n a. finish n a op (set_of asked) (Some (reply_of r))) h0 u k v
+    → (number : ℕ → ℕ) → Works (λ op n a. held n a number op (set_of asked)) h t k v
+denies h0 h k t u v asked i c r same cur reply none made W number =
+    subst (λ (x : Held). Works (λ op n a. held n a number op (set_of asked)) x t k v) same
+    (λ op is. subst (λ (o : Op). Makes (λ n a. held n a number (op_of o) (set_of asked)) h0 t k v) (sym (current_is h0 (NameOp i c) op cur is)) (record {
+      name = (W (NameOp i c) cur).name;
+      world = (W (NameOp i c) cur).world;
+      turn = (W (NameOp i c) cur).turn
+          ∙ ap (finish n a call (set_of asked) (Some (reply_of r))) (ap (turn_of h0) made ∙ entered_is h0 t (Name h0.name i c r))
+          ∙ ap (λ (b : Bool). if b
+          then write n a call (set_of asked) (Some (reply_of r)) (change_of_call (name_call_of c)) (enter entry (turn_of h0 t))
+          else finish n a call (set_of asked) (Some (reply_of r)) (enter entry (turn_of h0 t))) (sym none)
+          ∙ ap (λ (x : AnyReply). decide n a i (name_call_of c) (set_of asked) x (turn_of h0 t)) reply;
+    }))
+  where
+    n : ℕ
+    n = bound_of h0.world
+
+    a : ℕ
+    a = h0.name
+
+    call : AnyOp
+    call = AnyOp.Name i (name_call_of c)
+
+    entry : AnyEntry
+    entry = AnyEntry.Name h0.name i (name_call_of c) (reply_of r)
+
+-- a reply other than `yes` grants nothing
+pub denied_by : (r : Reply) → (r ≡ Yes → ⊥) → is_grant (reply_of r) ≡ false
+denied_by Yes not_yes = absurd (not_yes refl)
+denied_by No not_yes = refl
+denied_by UnknownNode not_yes = refl
+denied_by (Pid p) not_yes = refl
+denied_by Undefined not_yes = refl
+
+-- whether one of many nodes is another
+without_is : (xs : List ℕ) (f : ℕ) → set_of (without_node xs f) ≡ at (set_of xs) f false
+without_is xs f = fun_ext (λ c. set_of-filter (λ m. not (m == f)) xs c ∙ go (c == f) (set_of xs c))
+  where
+    go : (b s : Bool) → (s && not b) ≡ (if b then false else s)
+    go true true = refl
+    go true false = refl
+    go false true = refl
+    go false false = refl
+
+-- nobody is left below n
+nobody_left : (n : ℕ) → is_empty n (set_of []) ≡ true
+nobody_left zero = refl
+nobody_left (suc n) = nobody_left n
+
+-- somebody is left below n
+somebody_left : (n : ℕ) (s : Nodes) (c : ℕ) → c < n → s c ≡ true → is_empty n s ≡ false
+somebody_left zero s c l e = absurd (omega arith)
+somebody_left (suc n) s c l e = elim (cases_eq c n) [
+  | inl same ↦ ap (λ (b : Bool). not b && is_empty n s) (subst (λ (d : ℕ). s d ≡ true) same e)
+  | inr ne ↦ and_no (not (s n)) (somebody_left n s c (omega arith) e)
+]
+  where
+    and_no : (b : Bool) {t : Bool} → t ≡ false → (b && t) ≡ false
+    and_no true e = e
+    and_no false e = refl
+
+-- the nodes of a list are none where the list is empty
+nobody_is : (n : ℕ) (xs : List ℕ) → All (λ c. c < n) xs → is_empty n (set_of xs) ≡ is_nobody xs
+nobody_is n [] below = nobody_left n
+nobody_is n (x ∷ xs) below =
+    somebody_left n (set_of (x ∷ xs)) x (below 0 0 (omega arith)) (ap (λ (b : Bool). b || set_of xs x) (eq-eqb x x refl))
+
+-- one node less
+pub less_within : (world xs : List ℕ) (f : ℕ) → IsWithin world xs → IsWithin world (without_node xs f)
+less_within world xs f within = λ c e. within c (passes (set_of xs c) (not (c == f)) (sym (set_of-filter (λ m. not (m == f)) xs c) ∙ e))
+  where
+    passes : (a b : Bool) → (a && b) ≡ true → a ≡ true
+    passes true b e = refl
+    passes false b e = e
+
+-- one node less is awaited
+pub whole_less : (h : Held) (w : Work) (f : ℕ) → IsWhole h → w ≡ record h.registrar { awaited = without_node h.registrar.awaited f } → IsWhole (record h { registrar = w })
+whole_less h w f whole is = record {
+  self = whole.self;
+  members = whole.members;
+  awaited = subst (λ (v : Work). IsWithin h.world v.awaited) (sym is) (less_within h.world h.registrar.awaited f whole.awaited);
+  phase = whole.phase;
+}
+
+module _ (h0 h : Held) (t : Made) (w : Work) (f : ℕ) (asked : List ℕ) (reply : Reply) (same : h0 ≡ h) (whole : IsWhole h0)
+    (writing : h0.phase ≡ Writing asked reply) (was : set_of h0.registrar.awaited f ≡ true)
+    (less : w ≡ record h0.registrar { awaited = without_node h0.registrar.awaited f }) where
+  abbrev rule : ℕ → ℕ → Turn → Turn
+  rule n a u = await_less n a f u.node.current u
+
+  -- the same, of a node that is known to write, and awaits f
+  at_it : (op : Op) (u : Turn) → (b : Bool) → is_nobody (without_node h0.registrar.awaited f) ≡ b
+      → await_less (bound_of h0.world) h0.name f (Current.Writing (op_of op) (set_of asked) (set_of h0.registrar.awaited) (Some (reply_of reply))) u
+      ≡ (if b
+      then done (bound_of h0.world) h0.name (op_of op) (set_of asked) (Some (reply_of reply)) u
+      else at_work (Current.Writing (op_of op) (set_of asked) (set_of (without_node h0.registrar.awaited f)) (Some (reply_of reply))) u)
+  at_it op u b left =
+      ap (λ (x : Bool). if x then inner (at (set_of h0.registrar.awaited) f false) else u) was
+      ∙ ap inner (sym (without_is h0.registrar.awaited f))
+      ∙ ap (λ (x : Bool). if x
+      then done (bound_of h0.world) h0.name (op_of op) (set_of asked) (Some (reply_of reply)) u
+      else at_work (Current.Writing (op_of op) (set_of asked) (set_of (without_node h0.registrar.awaited f)) (Some (reply_of reply))) u)
+      (nobody_is (bound_of h0.world) (without_node h0.registrar.awaited f)
+      (all_below h0.world (without_node h0.registrar.awaited f) (less_within h0.world h0.registrar.awaited f whole.awaited)) ∙ left)
+    where
+      inner : Nodes → Turn
+      inner s = if is_empty (bound_of h0.world) s
+          then done (bound_of h0.world) h0.name (op_of op) (set_of asked) (Some (reply_of reply)) u
+          else at_work (Current.Writing (op_of op) (set_of asked) s (Some (reply_of reply))) u
+
+  -- the operation is done
+  pub last_awaited : (k : Held) (u : Made) → is_some h0.registrar.current ≡ true → is_nobody w.awaited ≡ true
+      → Works (λ op n a. done n a op (set_of asked) (Some (reply_of reply))) (record h0 { registrar = w }) t k u
+      → Makes rule h t k u
+  last_awaited k u cur left W = subst (λ (x : Held). Makes rule x t k u) same
+      (go h0.registrar.current refl cur (subst (λ (v : Work). Works (λ op n a. done n a op (set_of asked) (Some (reply_of reply))) (record h0 { registrar = v }) t k u) less W))
+    where
+      go : (o : Option Op) → h0.registrar.current ≡ o → is_some o ≡ true
+          → Works (λ op n a. done n a op (set_of asked) (Some (reply_of reply))) (record h0 { registrar = record h0.registrar { awaited = without_node h0.registrar.awaited f } }) t k u
+          → Makes rule h0 t k u
+      go None e some V = cc
+      go (Some (NameOp i c)) e some V = record {
+        name = (V (NameOp i c) e).name;
+        world = (V (NameOp i c) e).world;
+        turn = (V (NameOp i c) e).turn
+            ∙ sym (at_it (NameOp i c) (turn_of h0 t) true (ap (λ (v : Work). is_nobody v.awaited) (sym less) ∙ left))
+            ∙ ap (λ (x : Current). await_less (bound_of h0.world) h0.name f x (turn_of h0 t))
+            (sym (ap (λ (x : Option Op). current_of x h0.registrar.awaited h0.phase) e ∙ ap (phase_of (NameOp i c) h0.registrar.awaited) writing));
+      }
+
+  -- others are awaited still
+  pub more_awaited : is_some h0.registrar.current ≡ true → is_nobody w.awaited ≡ false → Makes rule h t (record h0 { registrar = w }) t
+  more_awaited cur left = subst (λ (x : Held). Makes rule x t (record h0 { registrar = w }) t) same
+      (subst (λ (v : Work). Makes rule h0 t (record h0 { registrar = v }) t) (sym less) (go h0.registrar.current refl cur))
+    where
+      go : (o : Option Op) → h0.registrar.current ≡ o → is_some o ≡ true
+          → Makes rule h0 t (record h0 { registrar = record h0.registrar { awaited = without_node h0.registrar.awaited f } }) t
+      go None e some = cc
+      go (Some op) e some = record {
+        name = refl;
+        world = refl;
+        turn = ap (λ (x : Option Op). at_work (current_of x (without_node h0.registrar.awaited f) h0.phase) (turn_of h0 t)) e
+            ∙ ap (λ (p : Phase). at_work (phase_of op (without_node h0.registrar.awaited f) p) (turn_of h0 t)) writing
+            ∙ sym (at_it op (turn_of h0 t) false (ap (λ (v : Work). is_nobody v.awaited) (sym less) ∙ left))
+            ∙ ap (λ (x : Current). await_less (bound_of h0.world) h0.name f x (turn_of h0 t))
+            (sym (ap (λ (x : Option Op). current_of x h0.registrar.awaited h0.phase) e ∙ ap (phase_of op h0.registrar.awaited) writing));
+      }

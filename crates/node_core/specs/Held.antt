@@ -1,0 +1,60 @@
+-- What a node holds.
+use Rattle.std.specs.Prelude.{ℕ, Bool, true, ◌+◌, ◌≡◌, max, List, [], ◌∷◌}
+use Rattle.registry_model.specs.Table.{Table}
+use Rattle.protocol_model.specs.LockTable.{Locks}
+use Rattle.term.specs.NodeSets.{set_of}
+use Rattle.transaction.specs.Work.{Work, idle}
+use Rattle.node_core.specs.declared.events.Entry.{Entry}
+use Rattle.node_core.specs.declared.node.Phase.{Phase}
+use Rattle.node_core.specs.declared.node.Phase.TheVariants.{Asking, Waiting, Writing}
+
+pub record Held : Type 0 where
+  pub name : ℕ
+  pub world : List ℕ  -- all nodes, rising
+  pub members : List ℕ
+  pub joined : Bool
+  pub table : Table
+  pub locks : Locks
+  pub last_serial : ℕ
+  pub registrar : Work
+  pub phase : Phase  -- where the current operation stands
+  pub last_call : ℕ
+  pub entered : List Entry  -- what the last step entered into the history
+
+-- above all of these nodes
+abbrev pub bound_of : List ℕ → ℕ
+bound_of [] = 0
+bound_of (c ∷ cs) = max (c + 1) (bound_of cs)
+
+-- these nodes are of the world
+abbrev pub IsWithin : List ℕ → List ℕ → Type 0
+IsWithin world cs = (c : ℕ) → set_of cs c ≡ true → set_of world c ≡ true
+
+-- the nodes of a phase are of the world
+abbrev pub IsPhaseWithin : List ℕ → Phase → Type 0
+IsPhaseWithin world (Asking r) = IsWithin world r.nodes
+IsPhaseWithin world Waiting = Unit {0}
+IsPhaseWithin world (Writing asked reply) = IsWithin world asked
+
+-- the node is one of its members, and all nodes that it knows of are of the world
+pub record IsWhole (h : Held) : Type 0 where
+  pub self : set_of h.members h.name ≡ true
+  pub members : IsWithin h.world h.members
+  pub awaited : IsWithin h.world h.registrar.awaited
+  pub phase : IsPhaseWithin h.world h.phase
+
+-- a node at its beginning
+abbrev pub fresh : ℕ → List ℕ → List ℕ → Bool → Held
+fresh a world members joined = record {
+  name = a;
+  world = world;
+  members = members;
+  joined = joined;
+  table = [];
+  locks = [];
+  last_serial = 0;
+  registrar = idle;
+  phase = Waiting;
+  last_call = 0;
+  entered = [];
+}

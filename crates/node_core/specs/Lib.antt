@@ -1,0 +1,4 @@
+pub mod Made
+pub mod Held
+pub mod Seen
+pub mod Steps

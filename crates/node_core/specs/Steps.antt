@@ -1,0 +1,65 @@
+-- What a step of a node comes to, as the protocol has it.
+use Rattle.std.specs.Prelude.{ℕ, ◌≡◌, Option, Some, None, List, ◌++◌}
+use Rattle.protocol_model.specs.Event.{Event as AnyEvent, Refusal as AnyRefusal, causes, first_cause}
+use Rattle.protocol_model.specs.Node.{Op as AnyOp}
+use Rattle.protocol_model.specs.Turn.{Turn, begun}
+use Rattle.protocol_model.specs.Calling.{event}
+use Rattle.protocol_model.specs.Reading.{receive}
+use Rattle.term.specs.NodeSets.{set_of}
+use Rattle.transaction.specs.declared.op.Op.{Op}
+use Rattle.transaction.specs.Ops.{op_of}
+use Rattle.node_core.specs.declared.events.Answer.{Answer}
+use Rattle.node_core.specs.declared.events.Event.{Event}
+use Rattle.node_core.specs.declared.events.Event.TheVariants.{Call, FromPeer, Retry}
+use Rattle.node_core.specs.declared.events.Letter.{Letter}
+use Rattle.node_core.specs.declared.events.StepFault.{StepFault}
+use Rattle.node_core.specs.Held.{Held, bound_of}
+use Rattle.node_core.specs.Made.{Made}
+use Rattle.node_core.specs.Seen.{node_of, turn_of, letter_of, call_of, fault_of}
+
+-- what no step changes, whatever comes of it
+pub record Keeps (old new : Held) : Type 0 where
+  pub name : new.name ≡ old.name
+  pub world : new.world ≡ old.world
+
+-- A rule of a node n, above all nodes of the world, and a, this node. It makes k and u of what was held and made before
+pub record Makes (rule : ℕ → ℕ → Turn → Turn) (h : Held) (t : Made) (k : Held) (u : Made) : Type 0 where
+  pub name : k.name ≡ h.name
+  pub world : k.world ≡ h.world
+  pub turn : turn_of k u ≡ rule (bound_of h.world) h.name (turn_of h t)
+
+-- the same of a rule for the current operation, where there is one
+abbrev pub Works : (AnyOp → ℕ → ℕ → Turn → Turn) → Held → Made → Held → Made → Type 0
+Works rule h t k u = (op : Op) → h.registrar.current ≡ Some op → Makes (rule (op_of op)) h t k u
+
+-- the rule of an event is carried out; a letter's is the same whatever joins there are
+abbrev pub Takes : Event → Held → Made → Held → Made → Type 0
+Takes (Call c) h t k u = Makes (λ n a. event n a (set_of h.world) (AnyEvent.Calling (call_of c))) h t k u
+Takes Retry h t k u = Makes (λ n a. event n a (set_of h.world) AnyEvent.Retry) h t k u
+Takes (FromPeer f l) h t k u = (number : ℕ → ℕ) → Makes (λ n a. receive n a number f (letter_of l)) h t k u
+
+-- the turn that the protocol has for an event
+abbrev pub IsTurn : Event → Held → Turn → Type 0
+IsTurn (Call c) h u = u ≡ event (bound_of h.world) h.name (set_of h.world) (AnyEvent.Calling (call_of c)) (begun (node_of h))
+IsTurn Retry h u = u ≡ event (bound_of h.world) h.name (set_of h.world) AnyEvent.Retry (begun (node_of h))
+IsTurn (FromPeer f l) h u = (number : ℕ → ℕ) → u ≡ receive (bound_of h.world) h.name number f (letter_of l) (begun (node_of h))
+
+-- why an event is refused, if it is; a letter never is
+abbrev pub refusal_of : Event → Held → Option AnyRefusal
+refusal_of (Call c) h = first_cause (causes h.name (node_of h) (AnyEvent.Calling (call_of c)))
+refusal_of Retry h = first_cause (causes h.name (node_of h) AnyEvent.Retry)
+refusal_of (FromPeer f l) h = None
+
+-- the refusal that a fault stands for, if there is a fault
+abbrev pub cause_of : Option StepFault → Option AnyRefusal
+cause_of None = None
+cause_of (Some fault) = fault_of fault
+
+-- An event was accepted, and the protocol's node makes its turn, which sends what comes behind the letters before
+pub record Steps (e : Event) (old new : Held) (before after : List (ℕ × Letter)) (answers : List Answer) : Type 0 where
+  pub name : new.name ≡ old.name
+  pub world : new.world ≡ old.world
+  pub accepted : refusal_of e old ≡ None
+  pub sent : List (ℕ × Letter)
+  pub letters : after ≡ before ++ sent
+  pub turn : IsTurn e old (turn_of new (record { letters = sent; entries = new.entered; answers = answers }))

@@ -1,0 +1,152 @@
+//! What may happen at a node, what it says to other nodes, and what it answers.
+ghost use Rattle.std.specs.Prelude.{◌≡◌};
+
+use name_table::Change;
+use std::alloc::AllocError;
+use term::{LockId, Name, NodeName, Pid};
+use thiserror::Error;
+use transaction::NameCall;
+
+/// What one node says to another, or to itself.
+#[derive(Debug, PartialEq, Eq, Drop)]
+pub enum Letter {
+    /// Asks for one grant of a lock.
+    SetLock(LockId, Pid),
+    /// Answers that: whether it is granted.
+    LockAnswer(LockId, Pid, bool),
+    /// Takes one grant of a lock back, and asks for a `GivenBack` where the flag is set.
+    GiveBack(LockId, Pid, bool),
+    /// Answers that.
+    GivenBack(Pid),
+    /// Write this.
+    Apply(Change),
+    /// It was written.
+    Applied,
+}
+
+impl Letter {
+    /// The same letter. It takes no memory.
+    pub fn copy(&self) -> Self
+        ensures { result ≡ self.now }
+    {
+        match self {
+            Letter::SetLock(id, holder) => Letter::SetLock(id.copy(), holder.copy()),
+            Letter::LockAnswer(id, holder, granted) => {
+                Letter::LockAnswer(id.copy(), holder.copy(), *granted)
+            }
+            Letter::GiveBack(id, holder, ack) => Letter::GiveBack(id.copy(), holder.copy(), *ack),
+            Letter::GivenBack(holder) => Letter::GivenBack(holder.copy()),
+            Letter::Apply(change) => Letter::Apply(change.copy()),
+            Letter::Applied => Letter::Applied,
+        }
+    }
+}
+
+/// A look-up at one node.
+#[derive(Debug, PartialEq, Eq, Drop)]
+pub enum Look {
+    /// Who owns this name?
+    Whereis(Name),
+}
+
+/// What a client may call at a node.
+#[derive(Debug, PartialEq, Eq, Drop)]
+pub enum Call {
+    /// A new process of the node, with the next serial: answered at once by `Pid`.
+    Spawn,
+    /// The owner of a name, by the node's own table: answered at once by `Pid` or `Undefined`.
+    Whereis(Name),
+    /// The process is to own the name. The call is numbered at its node, from 1 on, and answered by `Yes` when it was written
+    /// at every member, or by `No` or `UnknownNode` when it was decided.
+    Register(Name, Pid),
+}
+
+/// What may happen at a node.
+#[derive(Debug, PartialEq, Eq, Drop)]
+pub enum Event {
+    /// A client calls.
+    Call(Call),
+    /// A letter from a node is read.
+    FromPeer(NodeName, Letter),
+    /// The operation whose round was refused asks again.
+    Retry,
+}
+
+/// What a call is answered.
+#[derive(Debug, PartialEq, Eq, Drop)]
+pub enum Reply {
+    /// The name stands on all nodes.
+    Yes,
+    /// The name is in use, or the process has a name already.
+    No,
+    /// The owner's node is no member.
+    UnknownNode,
+    /// A process: the one that was spawned, or the owner of a name.
+    Pid(Pid),
+    /// Nobody owns the name.
+    Undefined,
+}
+
+impl Reply {
+    /// The same reply. It takes no memory.
+    pub fn copy(&self) -> Self
+        ensures { result ≡ self.now }
+    {
+        match self {
+            Reply::Yes => Reply::Yes,
+            Reply::No => Reply::No,
+            Reply::UnknownNode => Reply::UnknownNode,
+            Reply::Pid(process) => Reply::Pid(process.copy()),
+            Reply::Undefined => Reply::Undefined,
+        }
+    }
+}
+
+/// An answer to a call.
+#[derive(Debug, PartialEq, Eq, Drop)]
+pub struct Answer {
+    /// The node that answers.
+    pub node: NodeName,
+    /// The number of the call at that node: from 1 on for name calls, and 0 for `Spawn` and look-ups.
+    pub call: u32,
+    /// The reply.
+    pub reply: Reply,
+}
+
+/// An entry of the history, in the order in which operations took effect.
+#[derive(Debug, PartialEq, Eq, Drop)]
+pub enum Entry {
+    /// A name call was decided: its node, its number there, the call and the reply.
+    Name(NodeName, u32, NameCall, Reply),
+    /// The operation of the node that was written is done.
+    Done(NodeName),
+    /// A look-up was answered.
+    Read(NodeName, Look, Reply),
+}
+
+/// Why a node doesn't take a step.
+#[derive(Clone, Copy, Debug, PartialEq, Eq, Error)]
+pub enum StepFault {
+    /// The node has given its last serial, 4,294,967,295.
+    #[error("serials_spent")]
+    SerialsSpent,
+    /// No refused round waits.
+    #[error("nothing_to_retry")]
+    NothingToRetry,
+    /// The node has given its last number of a call, 4,294,967,295.
+    #[error("calls_spent")]
+    CallsSpent,
+    /// Memory was refused. What stands then isn't said, and the node isn't to be used any more.
+    #[error("memory")]
+    Memory,
+}
+
+impl From<AllocError> for StepFault {
+    ghost use Rattle.node_core.specs.declared.events.StepFault.{StepFault};
+
+    ghost from_gives = { λ _ fault. fault ≡ StepFault.Memory };
+
+    fn from(_: AllocError) -> StepFault {
+        StepFault::Memory
+    }
+}

@@ -1,0 +1,13 @@
+//! One node of a cluster: what it holds, and the step that it takes with each letter, call and retry.
+#![tactic(auto)]
+
+mod events;
+mod node;
+mod turn;
+
+pub use events::{Answer, Call, Entry, Event, Letter, Look, Reply, StepFault};
+pub use node::NodeCore;
+pub use transaction::{NameCall, Op};
+
+#[cfg(test)]
+mod tests;

@@ -1,0 +1,253 @@
+//! One node.
+ghost use Rattle.std.specs.Prelude.{◌≡◌};
+
+mod calling;
+mod reading;
+mod registrar;
+mod rounds;
+
+use crate::events::{Answer, Call, Entry, Event, Letter, Reply, StepFault};
+use crate::turn::Turn;
+use lock_table::LockTable;
+use locker::Round;
+use name_table::Names;
+use std::alloc::{AllocError, Global};
+use std::marker::Model;
+use term::{NodeName, NodeSet};
+use transaction::{Op, Registrar};
+
+/// Where the current operation stands. Where there is none, this says nothing.
+#[derive(Drop)]
+pub(crate) enum Phase {
+    /// Its round asks for the lock.
+    Asking(Round),
+    /// Its round was refused, and a retry is waited for.
+    Waiting,
+    /// It holds the lock at the nodes that were asked, and waits until the members have written it; the reply comes then.
+    Writing(NodeSet, Reply),
+}
+
+/// One node: its table, its locks, its registrar, and the numbers that it has given. It takes steps, and knows nothing of links:
+/// each step says what is to be sent to whom.
+#[derive(Drop)]
+pub struct NodeCore<N: Names> {
+    name: NodeName,
+    world: NodeSet,
+    members: NodeSet,
+    joined: bool,
+    table: N,
+    locks: LockTable,
+    /// The serial that the last process was given; 0 before the first.
+    last_serial: u32,
+    registrar: Registrar,
+    phase: Phase,
+    /// The number that the last name call was given; 0 before the first.
+    last_call: u32,
+    /// What the last step entered into the history.
+    entered: Vec<Entry>,
+}
+
+impl<N: Names> Model for NodeCore<N> {
+    ghost use Rattle.node_core.specs.Held.{Held, IsWhole};
+
+    ghost Value = { Held };
+
+    ghost view = { λ c. record {
+      name = c.name;
+      world = c.world;
+      members = c.members;
+      joined = c.joined;
+      table = N.contents c.table;
+      locks = c.locks;
+      last_serial = c.last_serial;
+      registrar = c.registrar;
+      phase = c.phase;
+      last_call = c.last_call;
+      entered = c.entered.items;
+    } };
+
+    ghost invariant = { λ c. IsWhole (record {
+      name = c.name;
+      world = c.world;
+      members = c.members;
+      joined = c.joined;
+      table = N.contents c.table;
+      locks = c.locks;
+      last_serial = c.last_serial;
+      registrar = c.registrar;
+      phase = c.phase;
+      last_call = c.last_call;
+      entered = c.entered.items;
+    }) };
+}
+
+impl<N: Names> NodeCore<N> {
+    ghost use Rattle.std.specs.Prelude.{false, None, is_some, OnOk, IfOk, IfErr};
+    ghost use Rattle.std.specs.Option.{option_copied};
+    ghost use Rattle.protocol_model.specs.Node.{holds_global};
+    ghost use Rattle.node_core.specs.Held.{IsWhole};
+    ghost use Rattle.node_core.specs.Seen.{node_of, fault_of, is_memory};
+    ghost use Rattle.node_core.specs.Steps.{Steps, Keeps, Takes, refusal_of, cause_of};
+    ghost use Rattle.protocol_model.specs.Event.{can_retry};
+
+    /// Takes the step of an event: gives its answers, and puts its letters, each with its receiver, behind those that are there.
+    /// A refused event changes nothing; only where `Memory` is refused is the node not to be used any more.
+    pub fn step(
+        &mut self,
+        event: &Event,
+        letters: &mut Vec<(NodeName, Letter)>,
+    ) -> Result<Vec<Answer>, StepFault>
+        ensures name { self.new.name ≡ self.old.name }
+        ensures world { self.new.world ≡ self.old.world }
+        ensures ok { IfOk result (λ answers. Steps event.now self.old self.new letters.old.items letters.new.items answers.items) }
+        ensures refused { IfErr result (λ fault. refusal_of event.now self.old ≡ fault_of fault) }
+        ensures unchanged { IfErr result (λ fault. is_memory fault ≡ false → self.new ≡ self.old) }
+        ensures unsent { IfErr result (λ fault. is_memory fault ≡ false → letters.new.items ≡ letters.old.items) }
+    {
+        if let Some(fault) = self.refusal(event) {
+            return Err(fault);
+        }
+        let mut turn = Turn::begin(*self.entered.allocator());
+        self.take(&mut turn, event)?;
+        let Turn {
+            letters: mut sent,
+            entries,
+            answers,
+        } = turn;
+        letters.append(&mut sent)?;
+        self.entered = entries;
+        Ok(answers)
+    }
+
+    /// What an event does that isn't refused.
+    fn take(&mut self, turn: &mut Turn, event: &Event) -> Result<(), AllocError>
+        requires { refusal_of event.now self.old ≡ None }
+        ensures turn { OnOk result (Takes event.now self.old turn.old self.new turn.new) }
+        ensures kept { Keeps self.old self.new }
+    {
+        match event {
+            Event::Call(call) => self.call(turn, call)?,
+            Event::Retry => self.retry(turn)?,
+            Event::FromPeer(from, letter) => return self.receive(turn, from, letter),
+        }
+        self.start(turn)
+    }
+
+    /// Whether an operation is current.
+    fn is_at_work(&self) -> bool
+        ensures { result ≡ is_some self.now.registrar.current }
+    {
+        self.registrar.current().is_some()
+    }
+
+    /// Whether a refused round waits for a retry.
+    fn can_retry(&self) -> bool
+        ensures { result ≡ can_retry (node_of self.now) }
+    {
+        self.registrar.current().is_some() && matches!(self.phase, Phase::Waiting)
+    }
+
+    /// Why an event is refused, if it is.
+    fn refusal(&self, event: &Event) -> Option<StepFault>
+        ensures { refusal_of event.now self.now ≡ cause_of result }
+    {
+        match event {
+            Event::Call(Call::Spawn) if self.last_serial == u32::MAX => {
+                Some(StepFault::SerialsSpent)
+            }
+            Event::Call(Call::Register(..)) if self.last_call == u32::MAX => {
+                Some(StepFault::CallsSpent)
+            }
+            Event::Retry if !self.can_retry() => Some(StepFault::NothingToRetry),
+            Event::Call(_) | Event::Retry | Event::FromPeer(..) => None,
+        }
+    }
+
+    /// Its name.
+    pub fn name(&self) -> &NodeName
+        ensures name { result.now ≡ self.now.name }
+        ensures whole { IsWhole self.now }
+    {
+        &self.name
+    }
+
+    /// The operation that its registrar is at, if there is one.
+    pub fn current(&self) -> Option<&Op>
+        ensures { option_copied result ≡ self.now.registrar.current }
+    {
+        self.registrar.current()
+    }
+
+    /// Its table.
+    pub fn table(&self) -> &N
+        ensures { N.contents result.now ≡ self.now.table }
+    {
+        &self.table
+    }
+
+    /// Its members, itself among them.
+    pub fn members(&self) -> &NodeSet
+        ensures members { result.now ≡ self.now.members }
+        ensures whole { IsWhole self.now }
+    {
+        &self.members
+    }
+
+    /// Whether it is joined with the cluster.
+    pub fn is_joined(&self) -> bool
+        ensures { result ≡ self.now.joined }
+    {
+        self.joined
+    }
+
+    /// Whether it holds the global lock: from the grant of the last member until what it wrote is acknowledged by all.
+    pub fn holds_global(&self) -> bool
+        ensures { result ≡ holds_global (node_of self.now) }
+    {
+        self.registrar.current().is_some() && matches!(self.phase, Phase::Writing(..))
+    }
+
+    /// What its last step entered into the history, the oldest entry first.
+    pub fn entered(&self) -> &[Entry]
+        ensures { result.now ≡ self.now.entered }
+    {
+        self.entered.as_slice()
+    }
+}
+
+impl<N: Names<Memory = Global>> NodeCore<N> {
+    ghost use Rattle.std.specs.Prelude.{true};
+    ghost use Rattle.protocol_model.specs.Node.{opening_node};
+    ghost use Rattle.term.specs.NodeSets.{set_of};
+    ghost use Rattle.node_core.specs.Held.{IsWithin, fresh};
+    ghost use Rattle.node_core.specs.Seen.{node_of};
+
+    /// A node at its beginning: one of the world's, with its members, and without names, processes and operations. It takes no
+    /// memory.
+    pub fn new(
+        alloc: Global,
+        name: NodeName,
+        world: &NodeSet,
+        members: &NodeSet,
+        joined: bool,
+    ) -> Self
+        requires own { set_of members.now name ≡ true }
+        requires members { IsWithin world.now members.now }
+        ensures fresh { result ≡ fresh name world.now members.now joined }
+        ensures opening { joined ≡ true → node_of result ≡ opening_node (set_of members.now) name }
+    {
+        NodeCore {
+            name,
+            world: world.copy(),
+            members: members.copy(),
+            joined,
+            table: N::empty(alloc),
+            locks: LockTable::new(alloc),
+            last_serial: 0,
+            registrar: Registrar::new(alloc),
+            phase: Phase::Waiting,
+            last_call: 0,
+            entered: Vec::new(alloc),
+        }
+    }
+}

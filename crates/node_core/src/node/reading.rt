@@ -1,0 +1,125 @@
+//! What a node does with a letter.
+ghost use Rattle.std.specs.Prelude.{◌≡◌};
+ghost use Rattle.node_core.specs.Seen.{is_granted};
+
+use crate::events::Letter;
+use crate::node::NodeCore;
+use crate::turn::Turn;
+use lock_table::Verdict;
+use name_table::{Change, Names};
+use std::alloc::AllocError;
+use term::{LockId, NodeName, Pid};
+
+/// Whether the lock table grants.
+fn is_grant(verdict: &Verdict) -> bool
+    ensures { result ≡ is_granted verdict.now }
+{
+    matches!(verdict, Verdict::Grant)
+}
+
+impl<N: Names> NodeCore<N> {
+    ghost use Rattle.std.specs.Prelude.{◌≡◌, ℕ, OnOk};
+    ghost use Rattle.protocol_model.specs.LockTable.{is_free_for};
+    ghost use Rattle.protocol_model.specs.Letter.{Letter as AnyLetter};
+    ghost use Rattle.protocol_model.specs.Node.{wrote};
+    ghost use Rattle.protocol_model.specs.Turn.{send, with_replica};
+    ghost use Rattle.protocol_model.specs.Reading.{judge, hear, take_back, read, receive};
+    ghost use Rattle.lock_table.specs.Ids.{id_of};
+    ghost use Rattle.name_table.specs.Changes.{change_of};
+    ghost use Rattle.node_core.specs.Seen.{letter_of};
+    ghost use Rattle.node_core.specs.Steps.{Keeps, Makes};
+
+    /// The lock table answers a node that asks for a grant.
+    fn judge(
+        &mut self,
+        turn: &mut Turn,
+        from: &NodeName,
+        id: &LockId,
+        holder: &Pid,
+    ) -> Result<(), AllocError>
+        ensures turn { (number : ℕ → ℕ) → OnOk result
+            (Makes (λ n a u. judge n a number from.now (id_of id.now) holder.now (is_free_for (id_of id.now) holder.now u.node.locks) u) self.old turn.old self.new turn.new) }
+        ensures kept { Keeps self.old self.new }
+    {
+        let verdict = self.locks.ask(id.copy(), holder.copy())?;
+        let granted = is_grant(&verdict);
+        turn.send(
+            from.copy(),
+            Letter::LockAnswer(id.copy(), holder.copy(), granted),
+        )
+    }
+
+    /// An answer goes to the round of its holder, which is this node's registrar, or is none any more.
+    fn hear(
+        &mut self,
+        turn: &mut Turn,
+        from: &NodeName,
+        holder: &Pid,
+        granted: bool,
+    ) -> Result<(), AllocError>
+        ensures turn { (number : ℕ → ℕ) → OnOk result (Makes (λ n a. hear n a number from.now holder.now granted) self.old turn.old self.new turn.new) }
+        ensures kept { Keeps self.old self.new }
+    {
+        if *holder != self.registrar_pid() {
+            return Ok(());
+        }
+        self.hear_answer(turn, from, granted)
+    }
+
+    /// One grant of a lock is taken back, which is answered where the letter says so.
+    fn take_back(
+        &mut self,
+        turn: &mut Turn,
+        from: &NodeName,
+        id: &LockId,
+        holder: &Pid,
+        ack: bool,
+    ) -> Result<(), AllocError>
+        ensures turn { (number : ℕ → ℕ) → OnOk result (Makes (λ n a. take_back n a number from.now (id_of id.now) holder.now ack) self.old turn.old self.new turn.new) }
+        ensures kept { Keeps self.old self.new }
+    {
+        self.locks.give_back(id, holder);
+        if ack {
+            turn.send(from.copy(), Letter::GivenBack(holder.copy()))?;
+        }
+        Ok(())
+    }
+
+    /// A change is written, and acknowledged.
+    fn apply(&mut self, turn: &mut Turn, from: &NodeName, change: Change) -> Result<(), AllocError>
+        ensures turn { OnOk result (Makes (λ n a u. send from.now AnyLetter.Applied (with_replica (wrote (change_of change)) u)) self.old turn.old self.new turn.new) }
+        ensures kept { Keeps self.old self.new }
+    {
+        self.table.write(change)?;
+        turn.send(from.copy(), Letter::Applied)
+    }
+
+    /// What the node does with a letter.
+    fn read(&mut self, turn: &mut Turn, from: &NodeName, letter: &Letter) -> Result<(), AllocError>
+        ensures turn { (number : ℕ → ℕ) → OnOk result (Makes (λ n a. read n a number from.now (letter_of letter.now)) self.old turn.old self.new turn.new) }
+        ensures kept { Keeps self.old self.new }
+    {
+        match letter {
+            Letter::SetLock(id, holder) => self.judge(turn, from, id, holder),
+            Letter::LockAnswer(_, holder, granted) => self.hear(turn, from, holder, *granted),
+            Letter::GiveBack(id, holder, ack) => self.take_back(turn, from, id, holder, *ack),
+            Letter::GivenBack(_) => Ok(()),
+            Letter::Apply(change) => self.apply(turn, from, change.copy()),
+            Letter::Applied => self.await_less(turn, from),
+        }
+    }
+
+    /// A letter is read, and then the registrar starts what is next.
+    pub(super) fn receive(
+        &mut self,
+        turn: &mut Turn,
+        from: &NodeName,
+        letter: &Letter,
+    ) -> Result<(), AllocError>
+        ensures turn { (number : ℕ → ℕ) → OnOk result (Makes (λ n a. receive n a number from.now (letter_of letter.now)) self.old turn.old self.new turn.new) }
+        ensures kept { Keeps self.old self.new }
+    {
+        self.read(turn, from, letter)?;
+        self.start(turn)
+    }
+}

@@ -1,0 +1,198 @@
+//! The rules of the registrar, which runs its operations one at a time, each under the global lock.
+use crate::events::{Answer, Entry, Letter, Reply};
+use crate::node::{NodeCore, Phase};
+use crate::turn::Turn;
+use name_table::{Change, Names};
+use std::alloc::AllocError;
+use term::{LockId, NodeName, NodeSet, Pid};
+use transaction::{NameCall, Op};
+
+impl<N: Names> NodeCore<N> {
+    ghost use Rattle.std.specs.Prelude.{◌≡◌, ℕ, false, Some, OnOk, is_some, IsTrue};
+    ghost use Rattle.registry_model.specs.Call.{reply_to, is_grant};
+    ghost use Rattle.protocol_model.specs.Letter.{Global, Letter as AnyLetter};
+    ghost use Rattle.protocol_model.specs.Registrar.{registrar, give_global, finish, done, write, give_up, await_less};
+    ghost use Rattle.protocol_model.specs.Deciding.{held};
+    ghost use Rattle.term.specs.NodeSets.{set_of};
+    ghost use Rattle.name_table.specs.Changes.{change_of};
+    ghost use Rattle.transaction.specs.declared.op.Op.TheVariants.{Name as NameOp};
+    ghost use Rattle.transaction.specs.Ops.{name_call_of, op_of};
+    ghost use Rattle.node_core.specs.Held.{IsWithin};
+    ghost use Rattle.node_core.specs.Seen.{letter_of, reply_of};
+    ghost use Rattle.node_core.specs.Steps.{Keeps, Makes, Works};
+
+    /// The registrar, as the holder of its lock.
+    pub(super) fn registrar_pid(&self) -> Pid
+        ensures { result ≡ registrar self.now.name }
+    {
+        Pid {
+            node: self.name.copy(),
+            serial: 0,
+        }
+    }
+
+    /// Asks for the global lock.
+    pub(super) fn set_lock(&self) -> Letter
+        ensures { letter_of result ≡ AnyLetter.SetLock (Global self.now.name) (registrar self.now.name) }
+    {
+        Letter::SetLock(LockId::global(&self.name), self.registrar_pid())
+    }
+
+    /// Gives the global lock back.
+    fn lock_back(&self) -> Letter
+        ensures { letter_of result ≡ AnyLetter.GiveBack (Global self.now.name) (registrar self.now.name) false }
+    {
+        Letter::GiveBack(LockId::global(&self.name), self.registrar_pid(), false)
+    }
+
+    /// These nodes get the global lock back.
+    fn give_global(&self, turn: &mut Turn, nodes: &NodeSet) -> Result<(), AllocError>
+        requires { IsWithin self.now.world nodes.now }
+        ensures { OnOk result (Makes (λ n a. give_global n a (set_of nodes.now)) self.now turn.old self.now turn.new) }
+    {
+        turn.send_all(nodes, &self.lock_back())
+    }
+
+    /// The answer to a name call, or to another call where the number is 0.
+    pub(super) fn answer(&self, call: u32, reply: Reply) -> Answer
+        ensures { result ≡ record { node = self.now.name; call = call; reply = reply } }
+    {
+        Answer {
+            node: self.name.copy(),
+            call,
+            reply,
+        }
+    }
+
+    /// The current operation is answered, who was asked gets the lock back, and the registrar is free.
+    fn finish(&mut self, turn: &mut Turn, asked: &NodeSet, reply: Reply) -> Result<(), AllocError>
+        requires current { IsTrue (is_some self.old.registrar.current) }
+        requires within { IsWithin self.old.world asked.now }
+        ensures turn { OnOk result (Works (λ op n a. finish n a op (set_of asked.now) (Some (reply_of reply))) self.old turn.old self.new turn.new) }
+        ensures kept { Keeps self.old self.new }
+    {
+        if let Some(Op::Name(call, _)) = self.registrar.current() {
+            turn.answer(self.answer(*call, reply))?;
+        }
+        self.give_global(turn, asked)?;
+        self.registrar.finish();
+        Ok(())
+    }
+
+    /// The current operation was carried out everywhere, and is done.
+    fn done(&mut self, turn: &mut Turn, asked: &NodeSet, reply: Reply) -> Result<(), AllocError>
+        requires current { IsTrue (is_some self.old.registrar.current) }
+        requires within { IsWithin self.old.world asked.now }
+        ensures turn { OnOk result (Works (λ op n a. done n a op (set_of asked.now) (Some (reply_of reply))) self.old turn.old self.new turn.new) }
+        ensures kept { Keeps self.old self.new }
+    {
+        turn.enter(Entry::Done(self.name.copy()))?;
+        self.finish(turn, asked, reply)
+    }
+
+    /// The change goes to every member, and each is to say that it was written.
+    fn write(
+        &mut self,
+        turn: &mut Turn,
+        asked: NodeSet,
+        reply: Reply,
+        change: Change,
+    ) -> Result<(), AllocError>
+        requires current { IsTrue (is_some self.old.registrar.current) }
+        requires within { IsWithin self.old.world asked }
+        ensures turn { OnOk result (Works (λ op n a. write n a op (set_of asked) (Some (reply_of reply)) (change_of change)) self.old turn.old self.new turn.new) }
+        ensures kept { Keeps self.old self.new }
+    {
+        self.registrar.await_from(&self.members);
+        self.phase = Phase::Writing(asked, reply);
+        turn.send_all(&self.members, &Letter::Apply(change))
+    }
+
+    /// The reply to a name call, by the members and the table as they are.
+    fn reply_to(&self, call: &NameCall) -> Reply
+        ensures reply { reply_of result ≡ reply_to (set_of self.now.members) self.now.table (name_call_of call.now) }
+    {
+        match call {
+            NameCall::Register(name, owner) => {
+                if !self.members.contains(&owner.node) {
+                    Reply::UnknownNode
+                } else if self.table.get(name).is_some() || self.table.owned_by(owner).is_some() {
+                    Reply::No
+                } else {
+                    Reply::Yes
+                }
+            }
+        }
+    }
+
+    /// The lock is held: the current name call is decided, and enters the history. It is written where it is granted, and else
+    /// ends at once.
+    fn decide(
+        &mut self,
+        turn: &mut Turn,
+        asked: NodeSet,
+        call: u32,
+        name_call: NameCall,
+    ) -> Result<(), AllocError>
+        requires current { self.old.registrar.current ≡ Some (NameOp call name_call) }
+        requires within { IsWithin self.old.world asked }
+        ensures turn { (number : ℕ → ℕ) → OnOk result (Works (λ op n a. held n a number op (set_of asked)) self.old turn.old self.new turn.new) }
+        ensures kept { Keeps self.old self.new }
+    {
+        let reply = self.reply_to(&name_call);
+        let change = name_call.change();
+        let entry = Entry::Name(self.name.copy(), call, name_call, reply.copy());
+        turn.enter(entry)?;
+        if let Reply::Yes = reply {
+            self.write(turn, asked, reply, change)
+        } else {
+            self.finish(turn, &asked, reply)
+        }
+    }
+
+    /// The lock is held: the current operation is decided.
+    pub(super) fn held(&mut self, turn: &mut Turn, asked: NodeSet) -> Result<(), AllocError>
+        requires within { IsWithin self.old.world asked }
+        ensures turn { (number : ℕ → ℕ) → OnOk result (Works (λ op n a. held n a number op (set_of asked)) self.old turn.old self.new turn.new) }
+        ensures kept { Keeps self.old self.new }
+    {
+        match self.registrar.current() {
+            Some(Op::Name(call, name_call)) => {
+                let (call, name_call) = (*call, name_call.copy());
+                self.decide(turn, asked, call, name_call)
+            }
+            None => Ok(()),
+        }
+    }
+
+    /// The round failed: who granted gets the lock back, and the operation waits for a retry.
+    pub(super) fn give_up(&mut self, turn: &mut Turn, granted: &NodeSet) -> Result<(), AllocError>
+        requires within { IsWithin self.old.world granted.now }
+        ensures turn { OnOk result (Works (λ op n a. give_up n a op (set_of granted.now)) self.old turn.old self.new turn.new) }
+        ensures kept { Keeps self.old self.new }
+    {
+        self.phase = Phase::Waiting;
+        self.give_global(turn, granted)
+    }
+
+    /// A node has written the change: one less is awaited, and where none is left the operation is done.
+    pub(super) fn await_less(&mut self, turn: &mut Turn, from: &NodeName) -> Result<(), AllocError>
+        ensures turn { OnOk result (Makes (λ n a u. await_less n a from.now u.node.current u) self.old turn.old self.new turn.new) }
+        ensures kept { Keeps self.old self.new }
+    {
+        if !self.is_at_work() {
+            return Ok(());
+        }
+        let Phase::Writing(asked, reply) = &self.phase else {
+            return Ok(());
+        };
+        let (asked, reply) = (asked.copy(), reply.copy());
+        if !self.registrar.applied(from) {
+            return Ok(());
+        }
+        if self.registrar.is_done() {
+            return self.done(turn, &asked, reply);
+        }
+        Ok(())
+    }
+}

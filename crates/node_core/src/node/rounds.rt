@@ -1,0 +1,114 @@
+//! The rounds of the registrar: the lock is asked for, first of the boss and then of the rest.
+use crate::node::{NodeCore, Phase};
+use crate::turn::Turn;
+use boss_order::boss;
+use locker::{Ending, Round};
+use name_table::Names;
+use std::alloc::AllocError;
+use term::NodeName;
+
+impl<N: Names> NodeCore<N> {
+    ghost use Rattle.std.specs.Prelude.{◌≡◌, ℕ, None, Some, OnOk};
+    ghost use Rattle.protocol_model.specs.Letter.{Global, Letter as AnyLetter};
+    ghost use Rattle.protocol_model.specs.Registrar.{registrar, ask_global, ask_rest, start, retry_global};
+    ghost use Rattle.protocol_model.specs.Deciding.{end_round, hear_answer};
+    ghost use Rattle.locker.specs.Held.{Held as HeldRound, seen};
+    ghost use Rattle.node_core.specs.declared.node.Phase.TheVariants.{Asking};
+    ghost use Rattle.node_core.specs.Held.{IsWithin};
+    ghost use Rattle.node_core.specs.Steps.{Keeps, Makes, Works};
+
+    /// A round over the members begins: the boss is asked.
+    fn ask_global(&mut self, turn: &mut Turn) -> Result<(), AllocError>
+        ensures turn { OnOk result (Works (λ op n a. ask_global n a op) self.old turn.old self.new turn.new) }
+        ensures kept { Keeps self.old self.new }
+    {
+        turn.send(boss(&self.members), self.set_lock())?;
+        self.phase = Phase::Asking(Round::begin(&self.members));
+        Ok(())
+    }
+
+    /// A free registrar begins the next operation.
+    pub(super) fn start(&mut self, turn: &mut Turn) -> Result<(), AllocError>
+        ensures turn { OnOk result (Makes start self.old turn.old self.new turn.new) }
+        ensures kept { Keeps self.old self.new }
+    {
+        if self.registrar.start() {
+            self.ask_global(turn)?;
+        }
+        Ok(())
+    }
+
+    /// A refused round begins anew.
+    pub(super) fn retry(&mut self, turn: &mut Turn) -> Result<(), AllocError>
+        ensures turn { OnOk result (Makes (λ n a u. retry_global n a u.node.current u) self.old turn.old self.new turn.new) }
+        ensures kept { Keeps self.old self.new }
+    {
+        if self.can_retry() {
+            self.ask_global(turn)?;
+        }
+        Ok(())
+    }
+
+    /// The boss's grant sends the same request to the rest.
+    fn ask_rest(
+        &self,
+        turn: &mut Turn,
+        round: &Round,
+        from: &NodeName,
+        granted: bool,
+    ) -> Result<(), AllocError>
+        requires { IsWithin self.now.world round.now.nodes }
+        ensures { OnOk result (Makes (λ n a. ask_rest n a from.now granted (AnyLetter.SetLock (Global a) (registrar a)) (seen round.now)) self.now turn.old self.now turn.new) }
+    {
+        if round.opens(from, granted) {
+            turn.send_all(&round.rest(), &self.set_lock())?;
+        }
+        Ok(())
+    }
+
+    /// The round ends, where it is over.
+    fn end_round(&mut self, turn: &mut Turn) -> Result<(), AllocError>
+        ensures turn { (number : ℕ → ℕ) (round : HeldRound) → self.old.phase ≡ Asking round
+            → OnOk result (Works (λ op n a. end_round n a number op (seen round)) self.old turn.old self.new turn.new) }
+        ensures kept { Keeps self.old self.new }
+    {
+        let Phase::Asking(round) = &self.phase else {
+            return Ok(());
+        };
+        if !round.is_over() {
+            return Ok(());
+        }
+        let asked = round.asked();
+        match round.finish(&self.members) {
+            Ending::Held => self.held(turn, asked),
+            Ending::GiveBack(granted) => self.give_up(turn, &granted),
+        }
+    }
+
+    /// A node answers the registrar's round: the rest are asked where it is the boss's grant, and the round may be over.
+    pub(super) fn hear_answer(
+        &mut self,
+        turn: &mut Turn,
+        from: &NodeName,
+        granted: bool,
+    ) -> Result<(), AllocError>
+        ensures turn { (number : ℕ → ℕ) → OnOk result (Makes (λ n a u. hear_answer n a number from.now granted u.node.current u) self.old turn.old self.new turn.new) }
+        ensures kept { Keeps self.old self.new }
+    {
+        if !self.is_at_work() {
+            return Ok(());
+        }
+        let Phase::Asking(round) = &self.phase else {
+            return Ok(());
+        };
+        if !round.owes(from) {
+            return Ok(());
+        }
+        self.ask_rest(turn, round, from, granted)?;
+        let Phase::Asking(round) = &mut self.phase else {
+            return Ok(());
+        };
+        round.answer(from, granted);
+        self.end_round(turn)
+    }
+}

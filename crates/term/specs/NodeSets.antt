@@ -1,0 +1,34 @@
+-- Sets of nodes, as the program holds them: the list of their nodes, rising.
+use Rattle.std.specs.Prelude.{◌≡◌, ℕ, false, not, nat_lt, ◌==◌, ◌≤◌, List, ◌∷◌, ◌++◌, length, filter}
+use Rattle.std.specs.List.{list_any}
+use Rattle.std.specs.List.Sorted.{IsStrictlyIncreasing}
+use Rattle.registry_model.specs.Process.{Nodes}
+use Rattle.term.specs.declared.faults.TextFault.{TextFault}
+use Rattle.term.specs.declared.faults.TextFault.TheVariants.{TooManyNodes}
+
+-- how many nodes a set holds at most
+abbrev pub most_nodes : ℕ
+most_nodes = 8
+
+-- the nodes are listed as a set is: rising, and not too many
+pub record IsNodeSet (nodes : List ℕ) : Type 0 where
+  pub rising : IsStrictlyIncreasing nodes
+  pub fits : length nodes ≤ most_nodes
+
+-- the set of the nodes listed
+abbrev pub set_of : List ℕ → Nodes
+set_of nodes = λ c. list_any (λ m. m == c) nodes
+
+-- the rising list of these nodes and one more, or of these alone where it is one of them
+abbrev pub with_node : List ℕ → ℕ → List ℕ
+with_node nodes c = filter (λ m. nat_lt m c) nodes ++ c ∷ filter (λ m. nat_lt c m) nodes
+
+-- the list of the other nodes
+abbrev pub without_node : List ℕ → ℕ → List ℕ
+without_node nodes c = filter (λ m. not (m == c)) nodes
+
+-- the set has no room for the node: it is full, and the node is none of it
+pub record HasNoRoom (nodes : List ℕ) (c : ℕ) (fault : TextFault) : Type 0 where
+  pub is : fault ≡ TooManyNodes
+  pub full : length nodes ≡ most_nodes
+  pub other : set_of nodes c ≡ false

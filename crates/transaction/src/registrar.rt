@@ -1,0 +1,105 @@
+//! The registrar's queue and its current operation.
+ghost use Rattle.std.specs.Prelude.{◌≡◌};
+
+use crate::op::Op;
+use std::alloc::{AllocError, Global};
+use std::collections::VecDeque;
+use std::marker::Model;
+use term::{NodeName, NodeSet};
+
+/// The operations of one node: those that wait, the oldest first, the current one, and the nodes that haven't yet said that
+/// they carried it out.
+#[derive(Drop)]
+pub struct Registrar {
+    queue: VecDeque<Op>,
+    current: Option<Op>,
+    awaited: NodeSet,
+}
+
+impl Model for Registrar {
+    ghost use Rattle.transaction.specs.Work.{Work};
+
+    ghost Value = { Work };
+
+    ghost view = { λ r. record { queue = r.queue.items; current = r.current; awaited = r.awaited } };
+}
+
+impl Registrar {
+    ghost use Rattle.std.specs.Prelude.{false, is_some, None, IsTrue, [], OnOk, OnErr};
+    ghost use Rattle.std.specs.Option.{option_copied};
+    ghost use Rattle.term.specs.NodeSets.{set_of, without_node};
+    ghost use Rattle.transaction.specs.Work.{idle, enqueued, starts, started, is_nobody};
+
+    /// A registrar without operations. It takes no memory.
+    pub fn new(alloc: Global) -> Self
+        ensures { result ≡ idle }
+    {
+        Registrar {
+            queue: VecDeque::new(alloc),
+            current: None,
+            awaited: NodeSet::empty(),
+        }
+    }
+
+    /// Puts an operation at the back of the queue. Where memory is refused the registrar stays as it was.
+    pub fn enqueue(&mut self, op: Op) -> Result<(), AllocError>
+        ensures ok { OnOk result (self.new ≡ enqueued op self.old) }
+        ensures err { OnErr result (self.new ≡ self.old) }
+    {
+        self.queue.push_back(op)?;
+        Ok(())
+    }
+
+    /// The current operation, if there is one.
+    pub fn current(&self) -> Option<&Op>
+        ensures { option_copied result ≡ self.now.current }
+    {
+        self.current.as_ref()
+    }
+
+    /// Makes the front of the queue the current operation, where none is current, and tells whether it did.
+    pub fn start(&mut self) -> bool
+        ensures state { self.new ≡ started self.old }
+        ensures began { result ≡ starts self.old }
+    {
+        if self.current.is_some() {
+            return false;
+        }
+        self.current = self.queue.pop_front();
+        self.current.is_some()
+    }
+
+    /// The current operation awaits each of these nodes.
+    pub fn await_from(&mut self, nodes: &NodeSet)
+        requires { IsTrue (is_some self.old.current) }
+        ensures { self.new ≡ record self.old { awaited = nodes.now } }
+    {
+        self.awaited = nodes.copy();
+    }
+
+    /// A node has carried out the current operation, and is awaited no longer. Tells whether it was awaited; where it wasn't,
+    /// nothing changes.
+    pub fn applied(&mut self, node: &NodeName) -> bool
+        ensures state { self.new ≡ record self.old { awaited = without_node self.old.awaited node.now } }
+        ensures was { result ≡ set_of self.old.awaited node.now }
+        ensures unchanged { set_of self.old.awaited node.now ≡ false → self.new ≡ self.old }
+    {
+        self.awaited.remove(node)
+    }
+
+    /// Whether no node is awaited.
+    pub fn is_done(&self) -> bool
+        ensures { result ≡ is_nobody self.now.awaited }
+    {
+        self.awaited.is_empty()
+    }
+
+    /// The current operation has ended: none is current, and nobody is awaited.
+    pub fn finish(&mut self)
+        requires { IsTrue (is_some self.old.current) }
+        ensures { self.new ≡ record self.old { current = None; awaited = [] } }
+    {
+        self.current = None;
+        self.awaited = NodeSet::empty();
+    }
+}
