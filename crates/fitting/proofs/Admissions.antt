@@ -6,20 +6,20 @@ use Rattle.std.proofs.lemmas.Bool.{eq-eqb, ne_eqb}
 use Rattle.registry_model.specs.Call.{NameCall, Reply, Joined, False, is_grant, reply_to}
 use Rattle.registry_model.specs.Process.{Nodes}
 use Rattle.registry_model.specs.Table.{Table}
-use Rattle.registry_model.specs.History.{Entry, Past, hold_at}
+use Rattle.registry_model.specs.History.{Entry, Standing, hold_at}
 use Rattle.protocol_model.specs.Node.{Node, Op, Current, is_writing}
 use Rattle.protocol_model.specs.Event.{Answer}
 use Rattle.protocol_model.specs.Client.{is_spent}
 use Rattle.protocol_model.specs.Answers.{answer_to, is_admission_of}
 use Rattle.protocol_model.specs.World.{Opening, World, join_number}
 use Rattle.moves.proofs.Rules
-use Rattle.moves.proofs.Invariants.{current, past_at, Replicas, IsWritten}
+use Rattle.moves.proofs.Invariants.{current, standing_at, Replicas, IsWritten}
 use Rattle.join_gates.proofs.Made.{entered, answered, answer_of, entries_made, answers_made}
 use Rattle.join_gates.proofs.Tokens.{Gate, Entering, is_entering, returns}
 use Rattle.join_gates.proofs.Gates.{Gates}
 use Rattle.join_gates.proofs.Pairs.{at_welcome}
 use Rattle.join_gates.proofs.Pasts.{Admitted, admitted_holds, admitted_along, admitted_back_along, have_done, have_admitted}
-use Rattle.join_gates.proofs.Still.{effect-past, effect-legal}
+use Rattle.join_gates.proofs.Still.{effect-standing, effect-legal}
 use Rattle.fitting.proofs.Accounts.{is_word}
 use Rattle.fitting.proofs.Settling.{seen_in-word}
 use Rattle.fitting.proofs.Chains.{Ground}
@@ -36,7 +36,7 @@ all_map P Q f [] p = tt
 all_map P Q f (x ∷ xs) p = (f x p.0, all_map P Q f xs p.1)
 
 -- the answer tells node a that its join was granted, whose admission holds by another node
-abbrev pub TellsJoin : ℕ → Past → Past → Answer → Type 0
+abbrev pub TellsJoin : ℕ → Standing → Standing → Answer → Type 0
 TellsJoin a t u s = s.reply ≡ Joined → (k : ℕ) × (f : ℕ) × (s ≡ answer_to a k Joined) × (f ≡ a → ⊥)
     × Admitted t a k f × Admitted u a k f
 
@@ -70,7 +70,7 @@ not_joined r e q = cc (sym (ap is_call_reply q) ∙ e)
 -- an answer `joined` of a rule
 pub joined_rule : (o : Opening) (a : ℕ) (w : World) (r : Rules.Rule) (gate : ℕ → ℕ → Gate) → Replicas o w
     → Gates o w gate → Rules.May o a w r
-    → AllByRecursion (TellsJoin a (past_at o w) (past_at o w)) (answered a r (w.node a))
+    → AllByRecursion (TellsJoin a (standing_at o w) (standing_at o w)) (answered a r (w.node a))
 joined_rule o a w Rules.Spawns gate R G M = (λ e. cc, tt)
 joined_rule o a w (Rules.LooksUp look) gate R G M =
     (λ e. absurd (cc (sym (seen_in-word (w.node a).replica.table look) ∙ ap is_word e)), tt)
@@ -84,7 +84,7 @@ joined_rule o a w (Rules.Finishes op asked awaited reply) gate R G M =
     done op reply (subst (IsWritten o w a) M.tested.0 (R.written a))
   where
     done : (op : Op) (reply : Option Reply) → IsWritten o w a (Current.Writing op asked awaited reply)
-        → AllByRecursion (TellsJoin a (past_at o w) (past_at o w)) (answer_of a op reply)
+        → AllByRecursion (TellsJoin a (standing_at o w) (standing_at o w)) (answer_of a op reply)
     done (Op.Name k call) (Some x) W = (λ e. absurd (cc (sym W.3.1 ∙ ap is_grant e)), tt)
     done (Op.Name k call) None W = tt
     done _ reply W = tt
@@ -95,21 +95,21 @@ joined_rule o a w (Rules.IsWelcomed f k members pairs told kills) gate R G M =
     shown : (gate a f ≡ Entering) × (returns M.front.1.0 ≡ [])
     shown = at_welcome (returns M.front.1.0) (gate a f) (sym (ap returns M.front.1.1) ∙ G.back a f M.running)
 
-    found : (i : ℕ) × (current o w a ≡ Current.Joining i f) × Admitted (past_at o w) a i f
+    found : (i : ℕ) × (current o w a ≡ Current.Joining i f) × Admitted (standing_at o w) a i f
     found = (G.facts a f).entering (ap is_entering shown.0) M.running
 
-    here : Admitted (past_at o w) a k f
-    here = subst (λ (i : ℕ). Admitted (past_at o w) a i f) (cc (sym M.tested.1 ∙ found.1)) found.2
+    here : Admitted (standing_at o w) a k f
+    here = subst (λ (i : ℕ). Admitted (standing_at o w) a i f) (cc (sym M.tested.1 ∙ found.1)) found.2
 
     apart : f ≡ a → ⊥
-    apart e = cc (sym (admitted_holds (past_at o w) a k f here) ∙ R.holds f
+    apart e = cc (sym (admitted_holds (standing_at o w) a k f here) ∙ R.holds f
         ∙ ap (λ (x : ℕ). is_writing (current o w x)) e ∙ ap is_writing M.tested.1)
 joined_rule o a w (Rules.LosesContact k m) gate R G M = (λ e. cc, tt)
 joined_rule o a w (Rules.FailsLock c) gate R G M = (λ e. cc, tt)
 joined_rule o a w (Rules.WinsLock c r) gate R G M = (λ e. cc, tt)
 joined_rule o a w (Rules.GivesUpLock c r granted) gate R G M = go (is_spent c.retries)
   where
-    go : (t : Bool) → AllByRecursion (TellsJoin a (past_at o w) (past_at o w))
+    go : (t : Bool) → AllByRecursion (TellsJoin a (standing_at o w) (standing_at o w))
         (if t then answer_to a c.number False ∷ [] else [])
     go true = (λ e. cc, tt)
     go false = tt
@@ -132,46 +132,46 @@ admitted_elsewhere a m number _ v ne = refl
 -- an admission by another node holds before a rule where it does behind it, and behind it where it does before
 on_rule : (o : Opening) (a : ℕ) (w : World) (r : Rules.Rule) → Replicas o (Rules.effect o a r w) → (k f : ℕ)
     → (f ≡ a → ⊥)
-    → Admitted (past_at o w) a k f → Admitted (past_at o (Rules.effect o a r w)) a k f
-on_rule o a w r R k f ne A = subst (λ (t : Past). Admitted t a k f) (sym (effect-past o a w r))
-    (admitted_along (Rules.turn_by o a w r).entries (past_at o w) a k f A (effect-legal o a w r R)
+    → Admitted (standing_at o w) a k f → Admitted (standing_at o (Rules.effect o a r w)) a k f
+on_rule o a w r R k f ne A = subst (λ (t : Standing). Admitted t a k f) (sym (effect-standing o a w r))
+    (admitted_along (Rules.turn_by o a w r).entries (standing_at o w) a k f A (effect-legal o a w r R)
     (ap (have_done f) (entries_made o a (join_number w) r (w.node a))
     ∙ done_elsewhere a f (join_number w) r (w.node a) (ne_eqb f a ne)))
 
 before_rule : (o : Opening) (a : ℕ) (w : World) (r : Rules.Rule) → Replicas o (Rules.effect o a r w) → (k f : ℕ)
     → (f ≡ a → ⊥)
-    → Admitted (past_at o (Rules.effect o a r w)) a k f → Admitted (past_at o w) a k f
+    → Admitted (standing_at o (Rules.effect o a r w)) a k f → Admitted (standing_at o w) a k f
 before_rule o a w r R k f ne A =
-    admitted_back_along (Rules.turn_by o a w r).entries (past_at o w) a k f (effect-legal o a w r R)
+    admitted_back_along (Rules.turn_by o a w r).entries (standing_at o w) a k f (effect-legal o a w r R)
     (ap (have_admitted f) (entries_made o a (join_number w) r (w.node a))
     ∙ admitted_elsewhere a f (join_number w) r (w.node a) (ne_eqb f a ne))
-    (subst (λ (t : Past). Admitted t a k f) (effect-past o a w r) A)
+    (subst (λ (t : Standing). Admitted t a k f) (effect-standing o a w r) A)
 
 module _ (o : Opening) (Good : World → Type 0) (K : Ground o Good) (a : ℕ) where
   on_chain : (rs : List Rules.Rule) (w : World) → Good w → Rules.MayAll o a rs w → (k f : ℕ) → (f ≡ a → ⊥)
-      → Admitted (past_at o w) a k f → Admitted (past_at o (Rules.effects o a rs w)) a k f
+      → Admitted (standing_at o w) a k f → Admitted (standing_at o (Rules.effects o a rs w)) a k f
   on_chain [] w G M k f ne A = A
   on_chain (r ∷ rs) w G M k f ne A = on_chain rs (Rules.effect o a r w) (K.keeps a w r G M.0) M.1 k f ne
       (on_rule o a w r (K.replicas (Rules.effect o a r w) (K.keeps a w r G M.0)) k f ne A)
 
   -- an answer `joined` of a chain: the admission holds before and behind it
   pub joined_along : (rs : List Rules.Rule) (w : World) → Good w → Rules.MayAll o a rs w
-      → AllByRecursion (TellsJoin a (past_at o w) (past_at o (Rules.effects o a rs w))) (Rules.answers_by o a rs w)
+      → AllByRecursion (TellsJoin a (standing_at o w) (standing_at o (Rules.effects o a rs w))) (Rules.answers_by o a rs w)
   joined_along [] w G M = tt
-  joined_along (r ∷ rs) w G M = all_append (TellsJoin a (past_at o w) (past_at o (Rules.effects o a rs v)))
+  joined_along (r ∷ rs) w G M = all_append (TellsJoin a (standing_at o w) (standing_at o (Rules.effects o a rs v)))
       (Rules.turn_by o a w r).answers (Rules.answers_by o a rs v)
-      (subst (AllByRecursion (TellsJoin a (past_at o w) (past_at o (Rules.effects o a rs v))))
+      (subst (AllByRecursion (TellsJoin a (standing_at o w) (standing_at o (Rules.effects o a rs v))))
       (sym (answers_made o a (join_number w) r (w.node a)))
-      (all_map (TellsJoin a (past_at o w) (past_at o w))
-      (TellsJoin a (past_at o w) (past_at o (Rules.effects o a rs v)))
-      (λ s T e. let x : (k : ℕ) × (f : ℕ) × (s ≡ answer_to a k Joined) × (f ≡ a → ⊥) × Admitted (past_at o w) a k f
-      × Admitted (past_at o w) a k f = T e in
+      (all_map (TellsJoin a (standing_at o w) (standing_at o w))
+      (TellsJoin a (standing_at o w) (standing_at o (Rules.effects o a rs v)))
+      (λ s T e. let x : (k : ℕ) × (f : ℕ) × (s ≡ answer_to a k Joined) × (f ≡ a → ⊥) × Admitted (standing_at o w) a k f
+      × Admitted (standing_at o w) a k f = T e in
       (x.0, x.1, x.2, x.3, x.4, on_chain (r ∷ rs) w G M x.0 x.1 x.3 x.4))
       (answered a r (w.node a)) (joined_rule o a w r (K.joins w G).gate (K.replicas w G) (K.joins w G).gates M.0)))
-      (all_map (TellsJoin a (past_at o v) (past_at o (Rules.effects o a rs v)))
-      (TellsJoin a (past_at o w) (past_at o (Rules.effects o a rs v)))
-      (λ s T e. let x : (k : ℕ) × (f : ℕ) × (s ≡ answer_to a k Joined) × (f ≡ a → ⊥) × Admitted (past_at o v) a k f
-      × Admitted (past_at o (Rules.effects o a rs v)) a k f = T e in
+      (all_map (TellsJoin a (standing_at o v) (standing_at o (Rules.effects o a rs v)))
+      (TellsJoin a (standing_at o w) (standing_at o (Rules.effects o a rs v)))
+      (λ s T e. let x : (k : ℕ) × (f : ℕ) × (s ≡ answer_to a k Joined) × (f ≡ a → ⊥) × Admitted (standing_at o v) a k f
+      × Admitted (standing_at o (Rules.effects o a rs v)) a k f = T e in
       (x.0, x.1, x.2, x.3, before_rule o a w r (K.replicas v (K.keeps a w r G M.0)) x.0 x.1 x.3 x.4, x.5))
       (Rules.answers_by o a rs v) (joined_along rs v (K.keeps a w r G M.0) M.1))
     where
@@ -179,7 +179,7 @@ module _ (o : Opening) (Good : World → Type 0) (K : Ground o Good) (a : ℕ) w
       v = Rules.effect o a r w
 
 -- the operation that holds at a is the admission of its join
-pub admission_of : (t : Past) (a k f : ℕ) → Admitted t a k f
+pub admission_of : (t : Standing) (a k f : ℕ) → Admitted t a k f
     → is_admission_of (answer_to a k Joined) (hold_at t a) ≡ true
 admission_of t a k f A =
     ap (λ (b : Bool). is_admission_of (answer_to a k Joined) (if b then t.held else t.lone_held a)) A.inside

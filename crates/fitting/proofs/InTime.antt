@@ -4,15 +4,15 @@ use Rattle.std.specs.Prelude.{if◌then◌else◌, fold, filter, is_none, Contai
 use Rattle.std.proofs.lemmas.List.{append-nil, append_assoc}
 use Rattle.std.proofs.lemmas.List.Elements.{All-from_recursion, All-contains}
 use Rattle.registry_model.specs.Call.{Joined}
-use Rattle.registry_model.specs.History.{Past, hold_at, after, past_of}
+use Rattle.registry_model.specs.History.{Standing, hold_at, after, standing_of}
 use Rattle.protocol_model.specs.Event.{Answer, Refusal}
 use Rattle.protocol_model.specs.Answers.{answer_to, is_prompt, due, is_admission_of, AnswersInTime}
 use Rattle.protocol_model.specs.World.{Opening, World, WorldEvent, in_cluster, place, opening_world, turn_of, refusal, accepted}
 use Rattle.protocol_model.specs.Course.{Played, played, course}
-use Rattle.protocol_model.specs.Headline.{past, EachStep}
+use Rattle.protocol_model.specs.Headline.{standing, EachStep}
 use Rattle.moves.proofs.Rules
-use Rattle.moves.proofs.Invariants.{past_at}
-use Rattle.join_gates.proofs.Pasts.{Admitted, past_of-append}
+use Rattle.moves.proofs.Invariants.{standing_at}
+use Rattle.join_gates.proofs.Pasts.{Admitted, standing_of-append}
 use Rattle.fitting.proofs.Calls.{chain}
 use Rattle.fitting.proofs.Chains.{Ground, Book, good_behind, history_along, book_keeps, book_opens}
 use Rattle.fitting.proofs.Prompt.{prompt_along}
@@ -21,12 +21,12 @@ use Rattle.fitting.proofs.Admissions.{TellsJoin, joined_along, admission_of}
 module _ (o : Opening) (Good : World → Type 0) (K : Ground o Good) where
   -- the answers of an accepted event come in time
   pub event_in_time : (w : World) (e : WorldEvent) → Good w → refusal o w e ≡ None
-      → AnswersInTime (past_at o w) (played o w e) (fold after (past_at o w) (played o w e).entries)
+      → AnswersInTime (standing_at o w) (played o w e) (fold after (standing_at o w) (played o w e).entries)
   event_in_time w e G is = record {
-    prompt = ap (filter is_prompt) given ∙ prompt_along o Good K a rs w G W.may ∙ ap (due (past_at o w)) W.entries;
+    prompt = ap (filter is_prompt) given ∙ prompt_along o Good K a rs w G W.may ∙ ap (due (standing_at o w)) W.entries;
     joined = λ s in_answers e. told s
-        (All-contains (TellsJoin a (past_at o w) (past_at o (Rules.effects o a rs w))) (Rules.answers_by o a rs w) s
-        (All-from_recursion (TellsJoin a (past_at o w) (past_at o (Rules.effects o a rs w)))
+        (All-contains (TellsJoin a (standing_at o w) (standing_at o (Rules.effects o a rs w))) (Rules.answers_by o a rs w) s
+        (All-from_recursion (TellsJoin a (standing_at o w) (standing_at o (Rules.effects o a rs w)))
         (Rules.answers_by o a rs w) (joined_along o Good K a rs w G W.may))
         (subst (λ (l : List Answer). Contains l s) given in_answers) e);
   }
@@ -46,34 +46,34 @@ module _ (o : Opening) (Good : World → Type 0) (K : Ground o Good) where
       given : p.answers ≡ Rules.answers_by o a rs w
       given = ap (λ (r : Option Refusal). if is_none r then (turn_of o w e).answers else []) is ∙ sym W.answers
 
-      behind : past_at o (Rules.effects o a rs w) ≡ fold after (past_at o w) p.entries
-      behind = ap (past_of (in_cluster o)) (history_along o a rs w)
-          ∙ past_of-append (in_cluster o) w.history (Rules.entries_by o a rs w)
-          ∙ ap (fold after (past_at o w)) W.entries
+      behind : standing_at o (Rules.effects o a rs w) ≡ fold after (standing_at o w) p.entries
+      behind = ap (standing_of (in_cluster o)) (history_along o a rs w)
+          ∙ standing_of-append (in_cluster o) w.history (Rules.entries_by o a rs w)
+          ∙ ap (fold after (standing_at o w)) W.entries
 
       told : (s : Answer) → (k : ℕ) × (f : ℕ) × (s ≡ answer_to a k Joined) × (f ≡ a → ⊥)
-          × Admitted (past_at o w) a k f × Admitted (past_at o (Rules.effects o a rs w)) a k f
-          → (is_admission_of s (hold_at (past_at o w) s.node) ≡ true)
-          × (is_admission_of s (hold_at (fold after (past_at o w) p.entries) s.node) ≡ true)
+          × Admitted (standing_at o w) a k f × Admitted (standing_at o (Rules.effects o a rs w)) a k f
+          → (is_admission_of s (hold_at (standing_at o w) s.node) ≡ true)
+          × (is_admission_of s (hold_at (fold after (standing_at o w) p.entries) s.node) ≡ true)
       told s x = (
-        ap (λ (t : Answer). is_admission_of t (hold_at (past_at o w) t.node)) x.2
-            ∙ admission_of (past_at o w) a x.0 x.1 x.4,
-        ap (λ (t : Answer). is_admission_of t (hold_at (fold after (past_at o w) p.entries) t.node)) x.2
-            ∙ admission_of (fold after (past_at o w) p.entries) a x.0 x.1
-            (subst (λ (t : Past). Admitted t a x.0 x.1) behind x.5),
+        ap (λ (t : Answer). is_admission_of t (hold_at (standing_at o w) t.node)) x.2
+            ∙ admission_of (standing_at o w) a x.0 x.1 x.4,
+        ap (λ (t : Answer). is_admission_of t (hold_at (fold after (standing_at o w) p.entries) t.node)) x.2
+            ∙ admission_of (fold after (standing_at o w) p.entries) a x.0 x.1
+            (subst (λ (t : Standing). Admitted t a x.0 x.1) behind x.5),
       )
 
   -- each event of a course that follows the events qs
   pub course_in_time : (es : List WorldEvent) (w : World) (qs : List Played) → Good w → Book o w qs
       → (before : List Played) (p : Played) (later : List Played) → course o w es ≡ before ++ p ∷ later
-      → AnswersInTime (past o (qs ++ before)) p (fold after (past o (qs ++ before)) p.entries)
+      → AnswersInTime (standing o (qs ++ before)) p (fold after (standing o (qs ++ before)) p.entries)
   course_in_time [] w qs G B [] p later is = cc
   course_in_time [] w qs G B (q ∷ before) p later is = cc
   course_in_time (e ∷ es) w qs G B before p later is =
       go (refusal o w e) refl (λ v rs H C b i. course_in_time es v rs H C b p later i) is
     where
       In : List Played → Type 0
-      In ps = AnswersInTime (past o ps) p (fold after (past o ps) p.entries)
+      In ps = AnswersInTime (standing o ps) p (fold after (standing o ps) p.entries)
 
       first : Played → List Played → Played
       first d [] = d
@@ -85,14 +85,14 @@ module _ (o : Opening) (Good : World → Type 0) (K : Ground o Good) where
 
       here : refusal o w e ≡ None → p ≡ played o w e → In qs
       here none same =
-          subst (λ (x : Played). AnswersInTime (past o qs) x (fold after (past o qs) x.entries)) (sym same)
-          (subst (λ (t : Past). AnswersInTime t (played o w e) (fold after t (played o w e).entries))
-          (ap (past_of (in_cluster o)) B.history) (event_in_time w e G none))
+          subst (λ (x : Played). AnswersInTime (standing o qs) x (fold after (standing o qs) x.entries)) (sym same)
+          (subst (λ (t : Standing). AnswersInTime t (played o w e) (fold after t (played o w e).entries))
+          (ap (standing_of (in_cluster o)) B.history) (event_in_time w e G none))
 
       go : (r : Option Refusal) → refusal o w e ≡ r
           → ((v : World) (rs : List Played) → Good v → Book o v rs → (b : List Played)
-          → course o v es ≡ b ++ p ∷ later → AnswersInTime (past o (rs ++ b)) p
-          (fold after (past o (rs ++ b)) p.entries))
+          → course o v es ≡ b ++ p ∷ later → AnswersInTime (standing o (rs ++ b)) p
+          (fold after (standing o (rs ++ b)) p.entries))
           → (if is_none r then played o w e ∷ [] else []) ++ course o (if is_none r then accepted o w e else w) es
           ≡ before ++ p ∷ later
           → In (qs ++ before)
@@ -108,6 +108,6 @@ module _ (o : Opening) (Good : World → Type 0) (K : Ground o Good) where
 
   -- each event of a whole course
   pub in_time : Good (opening_world o) → (es : List WorldEvent)
-      → EachStep (course o (opening_world o) es) (λ before p. AnswersInTime (past o before) p
-      (fold after (past o before) p.entries))
+      → EachStep (course o (opening_world o) es) (λ before p. AnswersInTime (standing o before) p
+      (fold after (standing o before) p.entries))
   in_time G es before p later is = course_in_time es (opening_world o) [] G (book_opens o) before p later is

@@ -7,7 +7,7 @@ use Rattle.protocol_model.specs.World.{Opening, World, WorldEvent, opening_world
 use Rattle.protocol_model.specs.Course.{Played, played, course, entries_of}
 use Rattle.protocol_model.specs.Fit.{IsPrefix, Fits}
 use Rattle.protocol_model.specs.Answers.{answers_at, entered_at, AnswersInTime}
-use Rattle.protocol_model.specs.Headline.{past, EachStep}
+use Rattle.protocol_model.specs.Headline.{standing, EachStep}
 use Rattle.fitting.proofs.Chains
 use Rattle.fitting.proofs.Courses
 use Rattle.fitting.proofs.Replies
@@ -56,5 +56,5 @@ module _ (o : Opening) (Good : World → Type 0) (K : Chains.Ground o Good) (G :
 
   -- they come in time
   pub in_time : EachStep (course o (opening_world o) es)
-      (λ before p. AnswersInTime (past o before) p (fold after (past o before) p.entries))
+      (λ before p. AnswersInTime (standing o before) p (fold after (standing o before) p.entries))
   in_time = InTime.in_time o Good K G es

@@ -38,9 +38,9 @@ accepted_by (Rules.CallsJoin m) v = JoinAs (v.last_call + 1) m ∷ []
 accepted_by _ v = []
 
 -- an operation comes to the back of the queue
-pushed : (a : ℕ) (f : ℕ → Option Reply) (c : Current) (q : List Op) (op : Op)
+with_effect : (a : ℕ) (f : ℕ → Option Reply) (c : Current) (q : List Op) (op : Op)
     → Settles a (numbered_op op) [] [] f f c q c (q ++ op ∷ [])
-pushed a f c q op = record {
+with_effect a f c q op = record {
   calls = append_assoc (undecided f c) (flat_map numbered_op q) (numbered_op op)
       ∙ ap (λ (l : List Numbered). undecided f c ++ l)
       (ap (λ (l : List Numbered). flat_map numbered_op q ++ l) (sym (append-nil (numbered_op op)))
@@ -225,9 +225,9 @@ pub settles_self : (o : Opening) (a : ℕ) (w : World) (r : Rules.Rule) (gate : 
 settles_self o a w (Rules.RefusesJoin f pairs) gate P R G M e = cc
 settles_self o a w (Rules.Admits j pairs r) gate P R G M e = cc
 settles_self o a w (Rules.CallsName call) gate P R G M e =
-    pushed a (replies_to gate a) (w.node a).current (w.node a).queue (Op.Name ((w.node a).last_call + 1) call)
+    with_effect a (replies_to gate a) (w.node a).current (w.node a).queue (Op.Name ((w.node a).last_call + 1) call)
 settles_self o a w (Rules.CallsJoin m) gate P R G M e =
-    pushed a (replies_to gate a) (w.node a).current (w.node a).queue (Op.Join ((w.node a).last_call + 1) m)
+    with_effect a (replies_to gate a) (w.node a).current (w.node a).queue (Op.Join ((w.node a).last_call + 1) m)
 settles_self o a w (Rules.Begins op ops) gate P R G M e =
     by_state a [] [] [] _ _ (w.node a) (Rules.turn_by o a w (Rules.Begins op ops)).node Current.Free (op ∷ ops)
     (Current.Asking op _) ops M.tested.0 M.tested.1 refl refl

@@ -6,15 +6,15 @@ use Rattle.std.proofs.Math.Path.{fun_ext}
 use Rattle.registry_model.specs.Process.{Nodes}
 use Rattle.registry_model.specs.Table.{is_rising, without}
 use Rattle.registry_model.specs.Registry.{Replica, replica_of}
-use Rattle.registry_model.specs.History.{Hold, Past, hold_at, is_of, old, old_or}
+use Rattle.registry_model.specs.History.{Hold, Standing, hold_at, is_hold_of, old, old_or}
 use Rattle.registry_model.specs.HistoryLaws.{HasOneOwner, IsLeftOut}
-use Rattle.registry_model.proofs.HistoryParts.{registry-past_of}
-use Rattle.registry_model.proofs.Holding.{Holds-past_of, left_out-hold_at}
+use Rattle.registry_model.proofs.HistoryParts.{registry-standing_of}
+use Rattle.registry_model.proofs.Holding.{Holds-standing_of, left_out-hold_at}
 use Rattle.registry_model.proofs.Rising.{Rises, Rises-registry_of, is_rising-view, one_owner_of}
 use Rattle.protocol_model.specs.Node.{is_writing}
 use Rattle.protocol_model.specs.World.{Opening, in_cluster, World}
-use Rattle.moves.proofs.Invariants.{IsUp, Replicas, replica, current, past_at, is_behind, is_pending}
-use Rattle.replicas.proofs.Legality.{Sound-past_of, hold_at-joined}
+use Rattle.moves.proofs.Invariants.{IsUp, Replicas, replica, current, standing_at, is_behind, is_pending}
+use Rattle.replicas.proofs.Legality.{Sound-standing_of, hold_at-joined}
 use Rattle.replicas.proofs.Groups.{Groups, Groups-sound}
 use Rattle.replicas.proofs.States
 use Rattle.headline.specs.Clauses.{world}
@@ -23,11 +23,11 @@ use Rattle.headline.proofs.Together.{replicas}
 use Rattle.headline.proofs.Theorem.{whole}
 
 module _ (o : Opening) (w : World) (R : Replicas o w) where
-  abbrev pub now : Past
-  now = past_at o w
+  abbrev pub now : Standing
+  now = standing_at o w
 
   groups : Groups now.registry (hold_at now)
-  groups = Groups-sound now (Sound-past_of (in_cluster o) w.history R.legal)
+  groups = Groups-sound now (Sound-standing_of (in_cluster o) w.history R.legal)
 
   -- a node that shows that it is joined is joined
   pub joined_shown : (a : ℕ) → IsUp o w a → (replica o w a).joined ≡ true → now.registry.joined a ≡ true
@@ -49,8 +49,8 @@ module _ (o : Opening) (w : World) (R : Replicas o w) where
           late false j = j
 
   -- a joined node that writes is the node of what holds in the cluster
-  writer_holds : (a : ℕ) → now.registry.joined a ≡ true → is_writing (current o w a) ≡ true → is_of a now.held ≡ true
-  writer_holds a joined writes = ap (is_of a) (sym (hold_at-joined now a joined)) ∙ R.holds a ∙ writes
+  writer_holds : (a : ℕ) → now.registry.joined a ≡ true → is_writing (current o w a) ≡ true → is_hold_of a now.held ≡ true
+  writer_holds a joined writes = ap (is_hold_of a) (sym (hold_at-joined now a joined)) ∙ R.holds a ∙ writes
 
   -- so two such nodes are one
   pub one_writer : (a b : ℕ) → now.registry.joined a ≡ true → now.registry.joined b ≡ true
@@ -58,13 +58,13 @@ module _ (o : Opening) (w : World) (R : Replicas o w) where
       → is_writing (current o w b) ≡ true → a ≡ b
   one_writer a b ja jb wa wb = go now.held (writer_holds a ja wa) (writer_holds b jb wb)
     where
-      go : (h : Option Hold) → is_of a h ≡ true → is_of b h ≡ true → a ≡ b
+      go : (h : Option Hold) → is_hold_of a h ≡ true → is_hold_of b h ≡ true → a ≡ b
       go None x y = cc
       go (Some h) x y = sym (eqb-true h.node a x) ∙ eqb-true h.node b y
 
   -- the registry, with what holds or without it, is that of a history
   rises_now : Rises now.registry
-  rises_now = subst Rises (sym (registry-past_of (in_cluster o) w.history)) (Rises-registry_of (in_cluster o) w.history)
+  rises_now = subst Rises (sym (registry-standing_of (in_cluster o) w.history)) (Rises-registry_of (in_cluster o) w.history)
 
   rises_old : (a : ℕ) → Rises (old now a)
   rises_old a = go (hold_at now a) refl
@@ -73,7 +73,7 @@ module _ (o : Opening) (w : World) (R : Replicas o w) where
       go None e = rises_now
       go (Some h) e =
           let L : IsLeftOut (in_cluster o) w.history h = left_out-hold_at (in_cluster o) w.history now
-          (Holds-past_of (in_cluster o) w.history) a h e in
+          (Holds-standing_of (in_cluster o) w.history) a h e in
           subst Rises (sym L.old) (Rises-registry_of (in_cluster o) (L.before ++ L.later))
 
   -- at no running node a name has two owners
@@ -124,7 +124,7 @@ joined_agree o es a b ra rb none same =
     let ub : IsUp o (world o es) b = runs_up o (world o es) b rb.runs in
     one_table o (world o es) R a b ua ub (joined_shown o (world o es) R a ua ra.joined)
     (joined_shown o (world o es) R b ub rb.joined)
-    (nothing (past_at o (world o es)).held (sym (States.holder_is o (world o es) R) ∙ none)) same
+    (nothing (standing_at o (world o es)).held (sym (States.holder_is o (world o es) R) ∙ none)) same
   where
     nothing : (h : Option Hold) → option_map (λ (h : Hold). h.node) h ≡ None → h ≡ None
     nothing None e = refl

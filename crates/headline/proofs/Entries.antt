@@ -9,17 +9,17 @@ use Rattle.registry_model.specs.Process.{Text, Process, Nodes}
 use Rattle.registry_model.specs.Table.{Table, Put, changed, get, owns, put}
 use Rattle.registry_model.specs.Call.{Register, Yes, No, reply_to}
 use Rattle.registry_model.specs.Registry.{Registry, Replica, in_group, table_of, view, members, replica_of}
-use Rattle.registry_model.specs.History.{Entry, Name, Past, past_of, registry_of}
+use Rattle.registry_model.specs.History.{Entry, Name, Standing, standing_of, registry_of}
 use Rattle.registry_model.specs.Legal.{IsLegal}
 use Rattle.registry_model.specs.HistoryLaws.{Takes, NamesStand}
 use Rattle.registry_model.proofs.Tables.{if_kept, get-put, get-without, is_rising-changed}
-use Rattle.registry_model.proofs.HistoryParts.{registry_of-push, registry-past_of, is_legal-at}
+use Rattle.registry_model.proofs.HistoryParts.{registry_of-push, registry-standing_of, is_legal-at}
 use Rattle.registry_model.proofs.Legality.{NameIsLegal, name_is_legal}
 use Rattle.registry_model.proofs.Rising.{Rises, Rises-registry_of, is_rising-table_of}
-use Rattle.registry_model.proofs.Standing.{yes_law, stand_law, view-with_table}
+use Rattle.registry_model.proofs.NamesStand.{yes_law, stand_law, view-with_table}
 use Rattle.protocol_model.specs.World.{in_cluster}
 use Rattle.protocol_model.specs.Headline.{IsRunning}
-use Rattle.moves.proofs.Invariants.{past_at}
+use Rattle.moves.proofs.Invariants.{standing_at}
 use Rattle.headline.specs.Clauses.{world, events, so_far}
 use Rattle.headline.specs.Laws.{NoToTheTaken, YesToTheFreeOnly, IsTaken, YesStands}
 use Rattle.headline.proofs.Together.{replicas}
@@ -33,11 +33,11 @@ no_to_the_taken o es before later n k x p e free = go (members t.registry n) (vi
     (ap (λ (r : Registry). get x (view r n)) same ∙ free.name)
     (ap (λ (r : Registry). owns p (view r n)) same ∙ free.owner)
   where
-    t : Past
-    t = past_of (in_cluster o) before
+    t : Standing
+    t = standing_of (in_cluster o) before
 
     same : t.registry ≡ registry_of (in_cluster o) before
-    same = registry-past_of (in_cluster o) before
+    same = registry-standing_of (in_cluster o) before
 
     N : NameIsLegal t n (Register x p) No
     N = name_is_legal t n (Register x p) No (is_legal-at (in_cluster o) before later (Name n k (Register x p) No)
@@ -126,19 +126,19 @@ yes_stands o es before later n k c x p e g untold r free =
     (e ∙ sym (append_assoc before (Name n k (Register x p) Yes ∷ []) later))
     (given_seen (in_cluster o) before n k c x p g untold))
   where
-    same : past_at o (world o es) ≡ so_far o es
+    same : standing_at o (world o es) ≡ so_far o es
     same = past_now o (events o es) (world o es) (whole o es) (told o es)
 
     running : IsRunning o (so_far o es) c
     running = (
       r.inside,
-      subst (λ (t : Past). t.registry.left c ≡ false) same
+      subst (λ (t : Standing). t.registry.left c ≡ false) same
           ((replicas o (world o es) (whole o es).kept).departed c ∙ r.stays),
     )
 
     shown : ((world o es).node c).replica ≡ replica_of (registry_of (in_cluster o) (world o es).history) c
-    shown = shows_when_free o es c running free ∙ ap (λ (t : Past). replica_of t.registry c) (sym same)
-        ∙ ap (λ (q : Registry). replica_of q c) (registry-past_of (in_cluster o) (world o es).history)
+    shown = shows_when_free o es c running free ∙ ap (λ (t : Standing). replica_of t.registry c) (sym same)
+        ∙ ap (λ (q : Registry). replica_of q c) (registry-standing_of (in_cluster o) (world o es).history)
 
     go : (get x (view (registry_of (in_cluster o) (world o es).history) c) ≡ Some p)
         ⊎ IsTaken (in_cluster o) (before ++ Name n k (Register x p) Yes ∷ []) later c x p

@@ -10,7 +10,7 @@ use Rattle.registry_model.specs.Process.{Nodes, nobody, at}
 use Rattle.registry_model.specs.Table.{Table, without, changed, StrikeOwner}
 use Rattle.registry_model.specs.Call.{is_grant, change_of}
 use Rattle.registry_model.specs.Registry.{Registry, Replica, with_table, replica_of}
-use Rattle.registry_model.specs.History.{Entry, Name, Strike, Join, Done, Exit, Left, Told, Read, Past, effect, after, nothing_yet}
+use Rattle.registry_model.specs.History.{Entry, Name, Strike, Join, Done, Exit, Left, Told, Read, Standing, effect, after, nothing_yet}
 use Rattle.registry_model.specs.Legal.{is_legal, all_legal, IsLegal}
 use Rattle.registry_model.proofs.HistoryParts.{registry-after}
 use Rattle.protocol_model.specs.Event.{Call, Event}
@@ -145,7 +145,7 @@ fixed_table cluster n f r F = go (r.joined n)
     go true = record { joined = F.joined; left = F.left; told = F.told }
     go false = record { joined = F.joined; left = F.left; told = F.told }
 
-fixed_after : (cluster : Nodes) (s : Past) (e : Entry) → IsFixed cluster s.registry → is_legal s e ≡ true
+fixed_after : (cluster : Nodes) (s : Standing) (e : Entry) → IsFixed cluster s.registry → is_legal s e ≡ true
     → is_settled e ≡ true → IsFixed cluster (effect e s.registry)
 fixed_after cluster s (Name n k call reply) F l i = go (is_grant reply)
   where
@@ -160,7 +160,7 @@ fixed_after cluster s (Left d) F l i = cc
 fixed_after cluster s (Told n d) F l i = cc (F.left d, l)
 fixed_after cluster s (Read n look reply) F l i = F
 
-fixed_along : (cluster : Nodes) (es : List Entry) (s : Past) → IsFixed cluster s.registry → all_legal s es ≡ true
+fixed_along : (cluster : Nodes) (es : List Entry) (s : Standing) → IsFixed cluster s.registry → all_legal s es ≡ true
     → list_all is_settled es ≡ true
     → IsFixed cluster (fold after s es).registry
 fixed_along cluster [] s F l i = F

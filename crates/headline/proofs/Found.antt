@@ -12,22 +12,22 @@ use Rattle.registry_model.specs.Process.{Text, Process, Nodes}
 use Rattle.registry_model.specs.Table.{Change, Put, StrikeOwner, changed, get}
 use Rattle.registry_model.specs.Call.{NameCall, Reply, Yes, Joined, ContactLeft, is_grant, change_of}
 use Rattle.registry_model.specs.Registry.{Registry, Replica, in_group, table_of, with_table, replica_of}
-use Rattle.registry_model.specs.History.{Entry, Name, Strike, Join, Done, Exit, Left, Told, Read, effect, holder_of, Hold, Past, hold_at, after, past_of, nothing_yet}
+use Rattle.registry_model.specs.History.{Entry, Name, Strike, Join, Done, Exit, Left, Told, Read, effect, granted_to, Hold, Standing, hold_at, after, standing_of, nothing_yet}
 use Rattle.registry_model.specs.Legal.{is_legal, all_legal, IsLegal}
-use Rattle.registry_model.specs.HistoryLaws.{IsAlone, IsLeftOut}
+use Rattle.registry_model.specs.HistoryLaws.{LeavesAlone, IsLeftOut}
 use Rattle.registry_model.proofs.Lists.{Contains-cases, Contains-nil, Contains-front, Contains-behind}
 use Rattle.registry_model.proofs.Tables.{get-put}
-use Rattle.registry_model.proofs.HistoryParts.{past_of-append, registry-after, registry-past_of, all_legal-append, IsLegal-front}
+use Rattle.registry_model.proofs.HistoryParts.{standing_of-append, registry-after, registry-standing_of, all_legal-append, IsLegal-front}
 use Rattle.registry_model.proofs.Legality.{JoinIsLegal, join_is_legal}
 use Rattle.registry_model.proofs.Groups.{in_group-itself, table_of-group, table_of-with_table, table_of-with_table_other, seen-get}
 use Rattle.registry_model.proofs.Rising.{Rises, Rises-registry_of, is_rising-table_of}
-use Rattle.registry_model.proofs.Holding.{IsHeld, Holds-past_of, left_out-hold_at, alone_while_held, IsHeld-begun, IsHeld-after}
+use Rattle.registry_model.proofs.Holding.{IsHeld, Holds-standing_of, left_out-hold_at, alone_while_held, IsHeld-begun, IsHeld-after}
 use Rattle.protocol_model.specs.Event.{Call, Answer}
 use Rattle.protocol_model.specs.World.{in_cluster}
 use Rattle.protocol_model.specs.Course.{entries_of}
 use Rattle.protocol_model.specs.Fit.{Numbered, NameAs, JoinAs, numbered, calls_in, number_from, accepted_at, decided_at}
 use Rattle.protocol_model.specs.Answers.{answer_to, is_prompt, due_when_done, due_of, due, AnswersInTime}
-use Rattle.protocol_model.specs.Headline.{past}
+use Rattle.protocol_model.specs.Headline.{standing}
 use Rattle.moves.proofs.Indices.{both, neither, at_other}
 use Rattle.headline.specs.Clauses.{world, events, so_far}
 use Rattle.headline.specs.Laws.{YesIsFound}
@@ -56,14 +56,14 @@ kept_in {A} test (y ∷ ys) x c t = go (test y) refl (λ d. kept_in test ys x d 
     ]
 
 -- an entry that answered at once stands among these, with those before and behind it
-pub record Due (t : Past) (es : List Entry) (s : Answer) : Type 0 where
+pub record Due (t : Standing) (es : List Entry) (s : Answer) : Type 0 where
   pub front : List Entry
   pub entry : Entry
   pub rest : List Entry
   pub split : es ≡ front ++ entry ∷ rest
   pub answers : Contains (due_of (fold after t front) entry) s
 
-due_by : (t : Past) (es : List Entry) (s : Answer) → Contains (due t es) s → Due t es s
+due_by : (t : Standing) (es : List Entry) (s : Answer) → Contains (due t es) s → Due t es s
 due_by t [] s c = absurd (Contains-nil s c)
 due_by t (e ∷ es) s c = go (due_by (after t e) es s)
   where
@@ -86,7 +86,7 @@ one_of : {A : Type 0} (x y : A) → Contains (x ∷ []) y → x ≡ y
 one_of {A} x y c = elim (Contains-cases x [] y c) [ inl e ↦ e | inr d ↦ absurd (Contains-nil y d) ]
 
 -- a `yes` is due when the operation of its call is done
-pub record YesDue (t : Past) (f : Entry) (s : Answer) : Type 0 where
+pub record YesDue (t : Standing) (f : Entry) (s : Answer) : Type 0 where
   pub node : ℕ
   pub done : f ≡ Done node
   pub hold : Hold
@@ -94,7 +94,7 @@ pub record YesDue (t : Past) (f : Entry) (s : Answer) : Type 0 where
   pub call : NameCall
   pub entry : hold.entry ≡ Name s.node s.number call Yes
 
-yes_due : (t : Past) (f : Entry) (s : Answer) → s.reply ≡ Yes → Contains (due_of t f) s → YesDue t f s
+yes_due : (t : Standing) (f : Entry) (s : Answer) → s.reply ≡ Yes → Contains (due_of t f) s → YesDue t f s
 yes_due t (Done a) s y c = go (hold_at t a) refl c
   where
     by_entry : (h : Hold) → hold_at t a ≡ Some h → (e : Entry) → h.entry ≡ e
@@ -140,14 +140,14 @@ yes_due t (Told n m) s y c = absurd (Contains-nil s c)
 yes_due t (Read n look reply) s y c = absurd (Contains-nil s c)
 
 -- while an operation holds, no legal entry changes the table of its group
-table_held : (s : Past) (f : Entry) (a : ℕ) (k : Hold) → hold_at s a ≡ Some k → is_legal s f ≡ true
+table_held : (s : Standing) (f : Entry) (a : ℕ) (k : Hold) → hold_at s a ≡ Some k → is_legal s f ≡ true
     → table_of (effect f s.registry) a ≡ table_of s.registry a
 table_held s f a k h l = go f l (alone_while_held s f a k h l)
   where
     r : Registry
     r = s.registry
 
-    go : (f : Entry) → is_legal s f ≡ true → IsAlone r a f → table_of (effect f r) a ≡ table_of r a
+    go : (f : Entry) → is_legal s f ≡ true → LeavesAlone r a f → table_of (effect f r) a ≡ table_of r a
     go (Name n j call reply) l alone = by_grant (is_grant reply)
       where
         by_grant : (b : Bool) → table_of (if b then with_table n (changed (change_of call)) r else r) a ≡ table_of r a
@@ -192,7 +192,7 @@ table_calm r (Told n d) a b = refl
 table_calm r (Read n look reply) a b = refl
 
 -- a name in the table of a group stays there while an operation of the group holds
-name_held : (l : List Entry) (s : Past) (e : Entry) (a : ℕ) (x : Text) (o : Option Process) → IsHeld s a e
+name_held : (l : List Entry) (s : Standing) (e : Entry) (a : ℕ) (x : Text) (o : Option Process) → IsHeld s a e
     → all_legal s l ≡ true → (Contains l (Done a) → ⊥)
     → get x (table_of s.registry a) ≡ o → get x (table_of (fold after s l).registry a) ≡ o
 name_held [] s e a x o held legal none g = g
@@ -206,7 +206,7 @@ name_held (f ∷ l) s e a x o held legal none g =
     ∙ ap (get x) (table_held s f a held.0 held.1 parts.0) ∙ g)
 
 -- and while nothing begins to hold
-name_calm : (l : List Entry) (s : Past) (a : ℕ) (x : Text) (o : Option Process) → list_any begins l ≡ false
+name_calm : (l : List Entry) (s : Standing) (a : ℕ) (x : Text) (o : Option Process) → list_any begins l ≡ false
     → get x (table_of s.registry a) ≡ o → get x (table_of (fold after s l).registry a) ≡ o
 name_calm [] s a x o none g = g
 name_calm (f ∷ l) s a x o none g =
@@ -279,11 +279,11 @@ yes_is_found o es before p s call x q split c y calls gives n runs group untold 
     cluster : Nodes
     cluster = in_cluster o
 
-    now : Past
+    now : Standing
     now = so_far o es
 
-    t : Past
-    t = past o before
+    t : Standing
+    t = standing o before
 
     S : Written o (events o es) (world o es)
     S = told o es
@@ -300,26 +300,26 @@ yes_is_found o es before p s call x q split c y calls gives n runs group untold 
         (kept_in is_prompt p.answers s c (ap (λ (r : Reply). is_prompt (answer_to s.node s.number r)) y)))
 
     -- what was carried out
-    u : Past
+    u : Standing
     u = fold after t D.front
 
     Y : YesDue u D.entry s
     Y = yes_due u D.entry s y D.answers
 
     -- the history as far as its entry, and behind it
-    same : past_of cluster (h ++ D.front) ≡ u
-    same = past_of-append cluster h D.front
+    same : standing_of cluster (h ++ D.front) ≡ u
+    same = standing_of-append cluster h D.front
 
     L : IsLeftOut cluster (h ++ D.front) Y.hold
-    L = left_out-hold_at cluster (h ++ D.front) (past_of cluster (h ++ D.front))
-        (Holds-past_of cluster (h ++ D.front)) Y.node Y.hold
-        (ap (λ (v : Past). hold_at v Y.node) same ∙ Y.held)
+    L = left_out-hold_at cluster (h ++ D.front) (standing_of cluster (h ++ D.front))
+        (Holds-standing_of cluster (h ++ D.front)) Y.node Y.hold
+        (ap (λ (v : Standing). hold_at v Y.node) same ∙ Y.held)
 
     e : Entry
     e = Name s.node s.number Y.call Yes
 
     holder : Y.hold.node ≡ s.node
-    holder = let x : ◌≡◌ {A = Option ℕ} (Some s.node) (Some Y.hold.node) = ap holder_of (sym Y.entry)
+    holder = let x : ◌≡◌ {A = Option ℕ} (Some s.node) (Some Y.hold.node) = ap granted_to (sym Y.entry)
         ∙ L.holder in sym (cc x)
 
     parts : h ++ D.front ≡ L.before ++ e ∷ L.later
@@ -355,42 +355,42 @@ yes_is_found o es before p s call x q split c y calls gives n runs group untold 
     puts = ap change_of (one_call 1 (flat_map (calls_in s.node) (events o es)) s.number Y.call call asked calls) ∙ gives
 
     -- its entry puts the name
-    begun : Past
-    begun = past_of cluster (L.before ++ e ∷ [])
+    begun : Standing
+    begun = standing_of cluster (L.before ++ e ∷ [])
 
-    put_then : get x (table_of (after (past_of cluster L.before) e).registry s.node) ≡ Some q
+    put_then : get x (table_of (after (standing_of cluster L.before) e).registry s.node) ≡ Some q
     put_then =
-        let r : Registry = (past_of cluster L.before).registry in
-        ap (λ (g : Registry). get x (table_of g s.node)) (registry-after (past_of cluster L.before) e)
+        let r : Registry = (standing_of cluster L.before).registry in
+        ap (λ (g : Registry). get x (table_of g s.node)) (registry-after (standing_of cluster L.before) e)
         ∙ ap (get x) (table_of-with_table s.node (changed (change_of Y.call)) r s.node (in_group-itself r s.node))
         ∙ ap (λ (d : Change). get x (changed d (table_of r s.node))) puts
         ∙ get-put x q (table_of r s.node) x ∙ ap (λ (b : Bool). if b then Some q else get x (table_of r s.node))
         (eq-eqb x x refl)
 
     -- it stays while it holds
-    held_then : get x (table_of (fold after (after (past_of cluster L.before) e) L.later).registry s.node) ≡ Some q
-    held_then = name_held L.later (after (past_of cluster L.before) e) e s.node x (Some q)
-        (IsHeld-begun (past_of cluster L.before) e s.node refl)
-        (both (is_legal (past_of cluster L.before) e) (all_legal (after (past_of cluster L.before) e) L.later)
+    held_then : get x (table_of (fold after (after (standing_of cluster L.before) e) L.later).registry s.node) ≡ Some q
+    held_then = name_held L.later (after (standing_of cluster L.before) e) e s.node x (Some q)
+        (IsHeld-begun (standing_of cluster L.before) e s.node refl)
+        (both (is_legal (standing_of cluster L.before) e) (all_legal (after (standing_of cluster L.before) e) L.later)
         (all_legal-append (nothing_yet cluster) L.before (e ∷ L.later) legal).1).1
         (λ d. L.not_done (subst (λ (a : ℕ). Contains L.later (Done a)) (sym holder) d)) put_then
 
     at_done : get x (table_of u.registry s.node) ≡ Some q
-    at_done = ap (λ (v : Past). get x (table_of v.registry s.node))
-        (sym same ∙ ap (past_of cluster) parts ∙ past_of-append cluster L.before (e ∷ L.later))
+    at_done = ap (λ (v : Standing). get x (table_of v.registry s.node))
+        (sym same ∙ ap (standing_of cluster) parts ∙ standing_of-append cluster L.before (e ∷ L.later))
         ∙ held_then
 
     -- and to the end of the step
     given : get x (table_of now.registry s.node) ≡ Some q
-    given = ap (λ (v : Past). get x (table_of v.registry s.node)) last
+    given = ap (λ (v : Standing). get x (table_of v.registry s.node)) last
         ∙ name_calm (D.entry ∷ D.rest) u s.node x (Some q) calm at_done
       where
         last : now ≡ fold after u (D.entry ∷ D.rest)
-        last = ap (past o) split ∙ ap (past_of cluster)
+        last = ap (standing o) split ∙ ap (standing_of cluster)
             (entries_of-push before p ∙ ap (λ (l : List Entry). h ++ l) D.split
             ∙ sym (append_assoc h D.front (D.entry ∷ D.rest)))
-            ∙ past_of-append cluster (h ++ D.front) (D.entry ∷ D.rest)
-            ∙ ap (λ (v : Past). fold after v (D.entry ∷ D.rest)) same
+            ∙ standing_of-append cluster (h ++ D.front) (D.entry ∷ D.rest)
+            ∙ ap (λ (v : Standing). fold after v (D.entry ∷ D.rest)) same
 
         calm : list_any begins (D.entry ∷ D.rest) ≡ false
         calm = (neither (list_any begins D.front) (list_any begins (D.entry ∷ D.rest))
@@ -398,12 +398,12 @@ yes_is_found o es before p s call x q split c y calls gives n runs group untold 
             ∙ S.calm before p split s c y)).1
 
     rises : Rises now.registry
-    rises = subst Rises (sym (registry-past_of cluster (entries_of (events o es))))
+    rises = subst Rises (sym (registry-standing_of cluster (entries_of (events o es))))
         (Rises-registry_of cluster (entries_of (events o es)))
 
     shown : ((world o es).node n).replica ≡ replica_of now.registry n
     shown = yes_is_written o es before p s split c y n group (
       runs.inside,
-      subst (λ (v : Past). v.registry.left n ≡ false) (past_now o (events o es) (world o es) (whole o es) S)
+      subst (λ (v : Standing). v.registry.left n ≡ false) (past_now o (events o es) (world o es) (whole o es) S)
           ((replicas o (world o es) (whole o es).kept).departed n ∙ runs.stays),
     )

@@ -22,7 +22,7 @@ use Rattle.protocol_model.specs.Headline.{GroupShows}
 use Rattle.moves.proofs.Rules
 use Rattle.moves.proofs.Rules.{Rule, Walked}
 use Rattle.moves.proofs.Indices.{neither, at_same}
-use Rattle.moves.proofs.Invariants.{past_at}
+use Rattle.moves.proofs.Invariants.{standing_at}
 use Rattle.replicas.proofs.Owning.{IsOwn, own_keeps, own_writes}
 use Rattle.replicas.proofs.States.{group_shows}
 use Rattle.headline.proofs.Together.{Whole, replicas, event_makes}
@@ -174,11 +174,11 @@ module _ (o : Opening) (w : World) (e : WorldEvent) (W : Whole o w) (V : Whole o
   answers_here s c = of_node (place e) turn.answers s answers_own c
 
   -- where `yes` is answered, what holds in the group at the end is the node's own, if anything
-  yes_own : list_any is_yes turn.answers ≡ true → IsOwn (place e) (past_at o later)
+  yes_own : list_any is_yes turn.answers ≡ true → IsOwn (place e) (standing_at o later)
   yes_own = event_makes o K (place e) step w e refl W H (λ h. cc)
     where
       K : List Entry → List Answer → World → Type 0
-      K es ss x = list_any is_yes ss ≡ true → IsOwn (place e) (past_at o x)
+      K es ss x = list_any is_yes ss ≡ true → IsOwn (place e) (standing_at o x)
 
       step : (x : World) (r : Rule) (es : List Entry) (ss : List Answer) → K es ss x → Whole o x
           → Whole o (Rules.effect o (place e) r x)
@@ -189,7 +189,7 @@ module _ (o : Opening) (w : World) (e : WorldEvent) (W : Whole o w) (V : Whole o
           (go (list_any is_yes ss) refl (sym (list_any-append is_yes ss (Rules.turn_by o (place e) x r).answers) ∙ h))
         where
           go : (b : Bool) → list_any is_yes ss ≡ b → (b || list_any is_yes (Rules.turn_by o (place e) x r).answers)
-              ≡ true → IsOwn (place e) (past_at o x)
+              ≡ true → IsOwn (place e) (standing_at o x)
           go true i y = k i
           go false i y = own_writes o x (place e) (replicas o x X.kept) ((rule_says o (place e) x r m).yes y)
 
@@ -210,8 +210,8 @@ module _ (o : Opening) (w : World) (e : WorldEvent) (W : Whole o w) (V : Whole o
 
   -- where `yes` is answered, every running node of the group shows the registry
   pub event_written : (s : Answer) → Contains turn.answers s → s.reply ≡ Yes
-      → GroupShows o (past_at o later) s.node (seen o later)
-  event_written s c y = subst (λ (a : ℕ). GroupShows o (past_at o later) a (seen o later)) (sym (answers_here s c))
+      → GroupShows o (standing_at o later) s.node (seen o later)
+  event_written s c y = subst (λ (a : ℕ). GroupShows o (standing_at o later) a (seen o later)) (sym (answers_here s c))
       (group_shows o later (replicas o later V.kept) (place e) (yes_own (some_yes s c y)) idle)
     where
       idle : is_writing (later.node (place e)).current ≡ false

@@ -3,11 +3,11 @@ use Rattle.std.proofs.Common.{false, ◌≡◌, Option, None, List, [], ◌∷�
 use Rattle.std.specs.List.{list_any}
 use Rattle.std.specs.Prelude.{is_none, Contains, if◌then◌else◌}
 use Rattle.registry_model.specs.Call.{Yes}
-use Rattle.registry_model.specs.History.{Entry, Past, past_of}
+use Rattle.registry_model.specs.History.{Entry, Standing, standing_of}
 use Rattle.protocol_model.specs.Event.{Answer, Refusal}
 use Rattle.protocol_model.specs.World.{Opening, in_cluster, World, WorldEvent, opening_world, refusal, turn_of, accepted, run}
 use Rattle.protocol_model.specs.Course.{Played, played, entries_of, course, seen}
-use Rattle.protocol_model.specs.Headline.{past, GroupShows}
+use Rattle.protocol_model.specs.Headline.{standing, GroupShows}
 use Rattle.moves.proofs.Rules.{Walked}
 use Rattle.fitting.proofs.Chains.{Ground}
 use Rattle.headline.proofs.Together.{Whole, replicas, owners, course_keeps, rule_whole, event_walks}
@@ -36,7 +36,7 @@ pub record Written (o : Opening) (ps : List Played) (w : World) : Type 0 where
       → list_any begins p.entries ≡ false
   pub shown : (before : List Played) (p : Played) → ps ≡ before ++ p ∷ [] → (s : Answer) → Contains p.answers s
       → s.reply ≡ Yes
-      → GroupShows o (past o ps) s.node (seen o w)
+      → GroupShows o (standing o ps) s.node (seen o w)
 
 module _ (o : Opening) where
   -- nothing was answered yet
@@ -62,7 +62,7 @@ module _ (o : Opening) where
         → list_any begins q.entries ≡ false) ps p
         (λ s c y. event_begins o w e W V H s (subst (λ (ss : List Answer). Contains ss s) given c) y);
     shown = last_step (λ before q. (s : Answer) → Contains q.answers s → s.reply ≡ Yes
-        → GroupShows o (past o (ps ++ p ∷ [])) s.node (seen o (accepted o w e))) ps p last;
+        → GroupShows o (standing o (ps ++ p ∷ [])) s.node (seen o (accepted o w e))) ps p last;
   }
     where
       p : Played
@@ -75,9 +75,9 @@ module _ (o : Opening) where
       given = ap (λ (x : Option Refusal). if is_none x then (turn_of o w e).answers else []) r
 
       last : (s : Answer) → Contains p.answers s → s.reply ≡ Yes
-          → GroupShows o (past o (ps ++ p ∷ [])) s.node (seen o (accepted o w e))
-      last s c y = subst (λ (t : Past). GroupShows o t s.node (seen o (accepted o w e)))
-          (ap (past_of (in_cluster o)) history)
+          → GroupShows o (standing o (ps ++ p ∷ [])) s.node (seen o (accepted o w e))
+      last s c y = subst (λ (t : Standing). GroupShows o t s.node (seen o (accepted o w e)))
+          (ap (standing_of (in_cluster o)) history)
           (event_written o w e W V H s (subst (λ (ss : List Answer). Contains ss s) given c) y)
 
   -- so it stands after every list of events

@@ -1,7 +1,7 @@
 -- In the turn of a node that answers `yes` nothing begins to hold, and it writes nothing at its end, part by part.
 use Rattle.std.proofs.Common.{ℕ, Bool, true, false, ◌≡◌, Option, Some, None, List, [], ◌∷◌, ◌++◌, refl, sym, ap, ◌∙◌}
 use Rattle.std.specs.Prelude.{◌&&◌, ◌||◌, not, fold, is_some, if◌then◌else◌}
-use Rattle.registry_model.specs.History.{Entry, holder_of}
+use Rattle.registry_model.specs.History.{Entry, granted_to}
 use Rattle.std.specs.List.{list_any}
 use Rattle.std.proofs.lemmas.List.Folds.{list_any-append}
 use Rattle.registry_model.specs.Process.{at}
@@ -21,7 +21,7 @@ is_yes s = is_reply s.reply Yes
 
 -- with this entry an operation begins to hold
 abbrev pub begins : Entry → Bool
-begins e = is_some (holder_of e)
+begins e = is_some (granted_to e)
 
 -- an operation begins to hold, or is being written
 abbrev pub is_busy : Turn → Bool

@@ -2,14 +2,14 @@
 use mathlib.Core.Logic.{◌⊎◌}
 use Rattle.std.specs.Prelude.{ℕ, ◌≡◌, IsTrue, Contains, fold, Some, None, option_map, flat_map, List, [], ◌∷◌, ◌++◌, if◌then◌else◌}
 use Rattle.registry_model.specs.Call.{Yes}
-use Rattle.registry_model.specs.History.{Past, is_free, is_holding, old, after}
+use Rattle.registry_model.specs.History.{Standing, is_free, is_holding, old, after}
 use Rattle.registry_model.specs.Legal.{IsLegal}
 use Rattle.protocol_model.specs.Event.{Event, Answer, HoldsLock}
 use Rattle.protocol_model.specs.World.{Opening, in_cluster, World, WorldEvent, At, opening_world, run}
 use Rattle.protocol_model.specs.Course.{Played, Seen, entries_of, course, seen}
 use Rattle.protocol_model.specs.Fit.{IsPrefix, Fits}
 use Rattle.protocol_model.specs.Answers.{answers_at, entered_at, AnswersInTime}
-use Rattle.protocol_model.specs.Headline.{past, Shows, IsRunning, GroupShows, EachStep}
+use Rattle.protocol_model.specs.Headline.{standing, Shows, IsRunning, GroupShows, EachStep}
 
 module _ (o : Opening) (es : List WorldEvent) where
   -- the world after these events, what is seen of it, the events that it accepted, and what their history comes to
@@ -22,8 +22,8 @@ module _ (o : Opening) (es : List WorldEvent) where
   abbrev pub events : List Played
   events = course o (opening_world o) es
 
-  abbrev pub so_far : Past
-  so_far = past o events
+  abbrev pub so_far : Standing
+  so_far = standing o events
 
 -- the history grows at its end only, event by event
 abbrev pub HistoryGrows : Type 0
@@ -45,7 +45,7 @@ AnswersAreEntries = (o : Opening) (es : List WorldEvent) (a : ℕ) →
 -- in each step they come in time
 abbrev pub AnswersComeInTime : Type 0
 AnswersComeInTime = (o : Opening) (es : List WorldEvent) →
-    EachStep (events o es) (λ before p. AnswersInTime (past o before) p (fold after (past o before) p.entries))
+    EachStep (events o es) (λ before p. AnswersInTime (standing o before) p (fold after (standing o before) p.entries))
 
 -- while no operation of its group holds, a running node shows the registry
 abbrev pub ShowsWhenFree : Type 0

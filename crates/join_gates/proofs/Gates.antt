@@ -7,7 +7,7 @@ use Rattle.protocol_model.specs.Node.{Node, Op, Current}
 use Rattle.protocol_model.specs.Event.{is_join, is_joining}
 use Rattle.protocol_model.specs.World.{Opening, World, left}
 use Rattle.moves.proofs.Indices.{by_test, at_pair}
-use Rattle.moves.proofs.Invariants.{replica, current, past_at}
+use Rattle.moves.proofs.Invariants.{replica, current, standing_at}
 use Rattle.join_gates.proofs.Tokens.{Gate, Away, is_away, is_wait, is_turned, is_entering, hopes, knocks, returns, admissions, jobs, knocks_of, returns_of, queued_of, knocks-append, returns-append}
 use Rattle.join_gates.proofs.Links.{on_links}
 use Rattle.join_gates.proofs.Pasts.{Admitted}
@@ -17,10 +17,10 @@ pub record Facts (o : Opening) (w : World) (j m : ℕ) (g : Gate) : Type 0 where
   pub fit : is_away g ≡ false → (k : ℕ) × (current o w j ≡ Current.Joining k m)
   pub host : is_wait g ≡ true → (replica o w m).joined ≡ true
   pub heard : is_turned g ≡ true → left w j ≡ false → (replica o w j).told m ≡ false
-  pub tokens : (p : Table) → hopes g ≡ p ∷ [] → ((past_at o w).registry.joined j ≡ false)
-      × ((past_at o w).registry.lone j ≡ p)
+  pub tokens : (p : Table) → hopes g ≡ p ∷ [] → ((standing_at o w).registry.joined j ≡ false)
+      × ((standing_at o w).registry.lone j ≡ p)
   pub entering : is_entering g ≡ true → left w j ≡ false
-      → (k : ℕ) × (current o w j ≡ Current.Joining k m) × Admitted (past_at o w) j k m
+      → (k : ℕ) × (current o w j ≡ Current.Joining k m) × Admitted (standing_at o w) j k m
 
 -- the gate tells what of a join is on links and in queues towards nodes that run
 pub record Gates (o : Opening) (w : World) (gate : ℕ → ℕ → Gate) : Type 0 where
@@ -122,23 +122,23 @@ pub kept : (o : Opening) (w v : World) (j m : ℕ) (g : Gate) → Facts o w j m 
     → ((replica o w m).joined ≡ true → (replica o v m).joined ≡ true)
     → (left v j ≡ false → left w j ≡ false)
     → (is_turned g ≡ true → left v j ≡ false → (replica o w j).told m ≡ false → (replica o v j).told m ≡ false)
-    → ((k : ℕ) → current o w j ≡ Current.Joining k m → (past_at o w).registry.joined j ≡ false
-    → ((past_at o v).registry.joined j ≡ false) × ((past_at o v).registry.lone j ≡ (past_at o w).registry.lone j))
+    → ((k : ℕ) → current o w j ≡ Current.Joining k m → (standing_at o w).registry.joined j ≡ false
+    → ((standing_at o v).registry.joined j ≡ false) × ((standing_at o v).registry.lone j ≡ (standing_at o w).registry.lone j))
     → (is_entering g ≡ true → left v j ≡ false → (k : ℕ) → current o w j ≡ Current.Joining k m
-    → Admitted (past_at o w) j k m → Admitted (past_at o v) j k m)
+    → Admitted (standing_at o w) j k m → Admitted (standing_at o v) j k m)
     → Facts o v j m g
 kept o w v j m g F contact joined runs told lone admitted = record {
   fit = λ e. let here : (k : ℕ) × (current o w j ≡ Current.Joining k m) = F.fit e in (here.0, contact here.0 here.1);
   host = λ e. joined (F.host e);
   heard = λ e l. told e l (F.heard e (runs l));
   tokens = λ p e.
-      let now : ((past_at o w).registry.joined j ≡ false) × ((past_at o w).registry.lone j ≡ p) = F.tokens p e in
+      let now : ((standing_at o w).registry.joined j ≡ false) × ((standing_at o w).registry.lone j ≡ p) = F.tokens p e in
       let here : (k : ℕ) × (current o w j ≡ Current.Joining k m) = F.fit (busy g p e) in
-      let after : ((past_at o v).registry.joined j ≡ false)
-      × ((past_at o v).registry.lone j ≡ (past_at o w).registry.lone j) = lone here.0 here.1 now.0 in
+      let after : ((standing_at o v).registry.joined j ≡ false)
+      × ((standing_at o v).registry.lone j ≡ (standing_at o w).registry.lone j) = lone here.0 here.1 now.0 in
       (after.0, after.1 ∙ now.1);
   entering = λ e l.
-      let here : (k : ℕ) × (current o w j ≡ Current.Joining k m) × Admitted (past_at o w) j k m =
+      let here : (k : ℕ) × (current o w j ≡ Current.Joining k m) × Admitted (standing_at o w) j k m =
       F.entering e (runs l) in
       (here.0, contact here.0 here.1, admitted e l here.0 here.1 here.2);
 }

@@ -7,7 +7,7 @@ use Rattle.registry_model.specs.Process.{Process, Nodes, nodes_of, at}
 use Rattle.registry_model.specs.Table.{Table, put_all}
 use Rattle.registry_model.specs.Call.{Joined}
 use Rattle.registry_model.specs.Settlement.{Settled, settle}
-use Rattle.registry_model.specs.History.{Entry, Past, is_holding, after}
+use Rattle.registry_model.specs.History.{Entry, Standing, is_holding, after}
 use Rattle.registry_model.specs.Legal.{is_legal, all_legal}
 use Rattle.protocol_model.specs.Letter.{Letter}
 use Rattle.protocol_model.specs.Round.{Round}
@@ -17,7 +17,7 @@ use Rattle.protocol_model.specs.World.{Opening, World, left, Deliver, join_numbe
 use Rattle.moves.proofs.Rules
 use Rattle.moves.proofs.Sends.{sent_to-append, to_each}
 use Rattle.moves.proofs.Indices.{by_test, at_pair, at_same, both}
-use Rattle.moves.proofs.Invariants.{replica, current, past_at, Proper, Replicas}
+use Rattle.moves.proofs.Invariants.{replica, current, standing_at, Proper, Replicas}
 use Rattle.join_gates.proofs.Tokens.{Gate, Away, Knock, Wait, Turned, Entering, is_away, is_turned, are_plain, are_plain-each, plain_knocks, plain_returns, knocks, returns, knocks_of, returns_of, queued_of, admissions, admissions-append, asked_for, jobs, knocks-append, returns-append}
 use Rattle.join_gates.proofs.Links.{on_links, sent_none, sent_one, taken_none, taken_one}
 use Rattle.join_gates.proofs.Pasts.{Admitted, admitted_now, admitted_holds}
@@ -25,7 +25,7 @@ use Rattle.join_gates.proofs.Pairs.{self_pair, swap_pair, one_sent, none_sent, q
 use Rattle.join_gates.proofs.Gates.{Facts, Gates, moved, shut}
 use Rattle.join_gates.proofs.Turns.{facts_by}
 use Rattle.join_gates.proofs.Calm.{sends_plain}
-use Rattle.join_gates.proofs.Still.{effect-past, effect-legal, clears}
+use Rattle.join_gates.proofs.Still.{effect-standing, effect-legal, clears}
 use Rattle.join_gates.proofs.Shown.{LoneOwners, lone_shown}
 
 -- what is on links, by joiner and contact
@@ -76,7 +76,7 @@ asks_join o a w gate k m ops P R R2 own lone M G =
     jobs_stay x = sym (ap (λ (c : Current). admissions x (asked_for c ++ (w.node a).queue)) M.tested.0
         ∙ ap (admissions x) M.tested.1)
 
-    shown : ((past_at o w).registry.joined a ≡ false) × ((past_at o w).registry.lone a ≡ table)
+    shown : ((standing_at o w).registry.joined a ≡ false) × ((standing_at o w).registry.lone a ≡ table)
     shown = lone_shown o w gate a P R own G (M.inside, M.running) M.tested.0 lone
 
     here : Facts o v a m (Knock table)
@@ -85,8 +85,8 @@ asks_join o a w gate k m ops P R R2 own lone M G =
       host = λ e. cc;
       heard = λ e l. cc;
       tokens = λ p e. (
-        ap (λ (s : Past). s.registry.joined a) (effect-past o a w r) ∙ shown.0,
-        ap (λ (s : Past). s.registry.lone a) (effect-past o a w r) ∙ shown.1 ∙ cc,
+        ap (λ (s : Standing). s.registry.joined a) (effect-standing o a w r) ∙ shown.0,
+        ap (λ (s : Standing). s.registry.lone a) (effect-standing o a w r) ∙ shown.1 ∙ cc,
       );
       entering = λ e l. cc;
     }
@@ -113,10 +113,10 @@ queues_join o a w gate f pairs R2 M G = moved o w v gate f a (Wait pairs) (knock
     ∙ taken_none returns returns-append w f a (Letter.JoinAsk pairs) rest front refl y x
     ∙ self_pair (returns_on w) f a x y)
     (λ l. G.back f a l ∙ ap returns_of here.0)
-    (λ x y l. queue_here w a u.node f (λ x ne. pushed x
+    (λ x y l. queue_here w a u.node f (λ x ne. with_effect x
     ∙ ap (λ (t : Bool). admissions x (jobs (w.node a)) ++ (if t then pairs ∷ [] else []))
     (ne_eqb f x (λ e. ne (sym e))) ∙ append-nil (admissions x (jobs (w.node a)))) x y)
-    (λ l. pushed f ∙ ap (λ (t : Bool). admissions f (jobs (w.node a)) ++ (if t then pairs ∷ [] else []))
+    (λ l. with_effect f ∙ ap (λ (t : Bool). admissions f (jobs (w.node a)) ++ (if t then pairs ∷ [] else []))
     (eq-eqb f f refl)
     ∙ ap (λ (t : List Table). t ++ pairs ∷ []) (G.queued f a M.running ∙ ap queued_of here.0))
     (λ x y ne. stay x y (gate x y))
@@ -140,9 +140,9 @@ queues_join o a w gate f pairs R2 M G = moved o w v gate f a (Wait pairs) (knock
     here : (gate f a ≡ Knock pairs) × (knocks rest ≡ [])
     here = knocking o a w gate f pairs rest M.running front G
 
-    pushed : (x : ℕ) → admissions x (jobs u.node)
+    with_effect : (x : ℕ) → admissions x (jobs u.node)
         ≡ admissions x (jobs (w.node a)) ++ (if f == x then pairs ∷ [] else [])
-    pushed x = ap (admissions x) (sym (append_assoc (asked_for (w.node a).current) (w.node a).queue
+    with_effect x = ap (admissions x) (sym (append_assoc (asked_for (w.node a).current) (w.node a).queue
         (Op.Admission f pairs ∷ [])))
         ∙ admissions-append x (jobs (w.node a)) (Op.Admission f pairs ∷ [])
         ∙ ap (λ (t : List Table). admissions x (jobs (w.node a)) ++ t)
@@ -387,15 +387,15 @@ admits o a w gate j pairs r R2 M G = moved o w v gate j a Entering (knocks_on w 
         entry : u.entries ≡ Entry.Join j k a Joined ∷ []
         entry = ap (λ (n : ℕ). Entry.Join j n a Joined ∷ []) numbered
 
-        behind : past_at o v ≡ after (past_at o w) (Entry.Join j k a Joined)
-        behind = effect-past o a w rule ∙ ap (λ (es : List Entry). fold after (past_at o w) es) entry
+        behind : standing_at o v ≡ after (standing_at o w) (Entry.Join j k a Joined)
+        behind = effect-standing o a w rule ∙ ap (λ (es : List Entry). fold after (standing_at o w) es) entry
 
-        legal : is_legal (past_at o w) (Entry.Join j k a Joined) ≡ true
-        legal = (both (is_legal (past_at o w) (Entry.Join j k a Joined)) true
-            (ap (λ (es : List Entry). all_legal (past_at o w) es) (sym entry) ∙ effect-legal o a w rule R2)).0
+        legal : is_legal (standing_at o w) (Entry.Join j k a Joined) ≡ true
+        legal = (both (is_legal (standing_at o w) (Entry.Join j k a Joined)) true
+            (ap (λ (es : List Entry). all_legal (standing_at o w) es) (sym entry) ∙ effect-legal o a w rule R2)).0
 
-        holds : Admitted (past_at o v) j k a
-        holds = subst (λ (t : Past). Admitted t j k a) (sym behind) (admitted_now (past_at o w) j k a legal)
+        holds : Admitted (standing_at o v) j k a
+        holds = subst (λ (t : Standing). Admitted t j k a) (sym behind) (admitted_now (standing_at o w) j k a legal)
 
 -- an answer to its own join reaches a node
 pub ends_join : (o : Opening) (a : ℕ) (w : World) (gate : ℕ → ℕ → Gate) (f k : ℕ)
@@ -499,11 +499,11 @@ no_answer o w gate a m P R runs told G = no_return (gate a m)
     (λ e. cc (told, (G.facts a m).heard e runs))
     (λ e. still_there ((G.facts a m).entering e runs).2)
   where
-    still_there : {k : ℕ} → Admitted (past_at o w) a k m → ⊥
+    still_there : {k : ℕ} → Admitted (standing_at o w) a k m → ⊥
     still_there A = absurd (cc (P.told_left a m runs told, (R.writers m (sym (R.holds m) ∙ holding A)).1))
       where
-        holding : {k : ℕ} → Admitted (past_at o w) a k m → is_holding (past_at o w) m ≡ true
-        holding A = admitted_holds (past_at o w) a _ m A
+        holding : {k : ℕ} → Admitted (standing_at o w) a k m → is_holding (standing_at o w) m ≡ true
+        holding A = admitted_holds (standing_at o w) a _ m A
 
 -- the contact has left
 pub loses_contact : (o : Opening) (a : ℕ) (w : World) (gate : ℕ → ℕ → Gate) (k m : ℕ)

@@ -1,4 +1,4 @@
--- What one entry more makes of a history's past, as far as joins ask.
+-- What one entry more makes of a history's standing, as far as joins ask.
 use Rattle.std.proofs.Common.{ℕ, Bool, true, false, ◌≡◌, ◌==◌, Option, Some, None, List, [], ◌∷◌, ◌++◌, refl, sym, ap, ◌∙◌, subst}
 use Rattle.std.specs.Prelude.{◌&&◌, ◌||◌, not, if◌then◌else◌, fold, is_none}
 use Rattle.std.proofs.lemmas.Grind.{fold-append}
@@ -7,45 +7,45 @@ use Rattle.registry_model.specs.Process.{Nodes, at}
 use Rattle.registry_model.specs.Table.{Table, changed, StrikeOwner}
 use Rattle.registry_model.specs.Call.{Joined, is_grant, change_of}
 use Rattle.registry_model.specs.Registry.{Registry, with_table}
-use Rattle.registry_model.specs.History.{Entry, Hold, Past, effect, holder_of, hold_at, is_free, is_of, is_holding, with_hold, past_it, pushed, with_holder, after, nothing_yet, past_of}
+use Rattle.registry_model.specs.History.{Entry, Hold, Standing, effect, granted_to, hold_at, is_free, is_hold_of, is_holding, set_hold, with_effect_on, with_effect, begin_hold, after, nothing_yet, standing_of}
 use Rattle.registry_model.specs.Legal.{may_decide, is_legal, all_legal, IsLegal}
 use Rattle.moves.proofs.Indices.{by_test, at_same, both, neither}
 
 -- what a history comes to with these entries more
-pub past_of-append : (c : Nodes) (h es : List Entry) → past_of c (h ++ es) ≡ fold after (past_of c h) es
-past_of-append c h es = fold-append after (nothing_yet c) h es
+pub standing_of-append : (c : Nodes) (h es : List Entry) → standing_of c (h ++ es) ≡ fold after (standing_of c h) es
+standing_of-append c h es = fold-append after (nothing_yet c) h es
 
 -- the last entries of a legal history are legal behind the others
-all_legal-append : (s : Past) (h es : List Entry) → all_legal s (h ++ es) ≡ true
+all_legal-append : (s : Standing) (h es : List Entry) → all_legal s (h ++ es) ≡ true
     → all_legal (fold after s h) es ≡ true
 all_legal-append s [] es l = l
 all_legal-append s (d ∷ h) es l = all_legal-append (after s d) h es
     (both (is_legal s d) (all_legal (after s d) (h ++ es)) l).1
 
-pub legal_rest : (c : Nodes) (h es : List Entry) → IsLegal c (h ++ es) → all_legal (past_of c h) es ≡ true
+pub legal_rest : (c : Nodes) (h es : List Entry) → IsLegal c (h ++ es) → all_legal (standing_of c h) es ≡ true
 legal_rest c h es l = all_legal-append (nothing_yet c) h es l
 
-with_hold-registry : (n : ℕ) (h : Option Hold) (s : Past) → (with_hold n h s).registry ≡ s.registry
-with_hold-registry n h s = go (s.registry.joined n)
+set_hold-registry : (n : ℕ) (h : Option Hold) (s : Standing) → (set_hold n h s).registry ≡ s.registry
+set_hold-registry n h s = go (s.registry.joined n)
   where
     go : (b : Bool) → (if b then record s { held = h } else record s { lone_held = at s.lone_held n h }).registry
         ≡ s.registry
     go true = refl
     go false = refl
 
-with_holder-registry : (e : Entry) (r : Registry) (n : Option ℕ) (s : Past)
-    → (with_holder e r n s).registry ≡ s.registry
-with_holder-registry e r None s = refl
-with_holder-registry e r (Some n) s = with_hold-registry n (Some (record { node = n; entry = e; old = r })) s
+begin_hold-registry : (e : Entry) (r : Registry) (n : Option ℕ) (s : Standing)
+    → (begin_hold e r n s).registry ≡ s.registry
+begin_hold-registry e r None s = refl
+begin_hold-registry e r (Some n) s = set_hold-registry n (Some (record { node = n; entry = e; old = r })) s
 
 -- the registry after an entry is that before it with the entry's effect
-pub registry-after : (s : Past) (e : Entry) → (after s e).registry ≡ effect e s.registry
+pub registry-after : (s : Standing) (e : Entry) → (after s e).registry ≡ effect e s.registry
 registry-after s (Entry.Done n) = go (is_holding s n)
   where
-    go : (b : Bool) → (if b then with_hold n None s else s).registry ≡ s.registry
-    go true = with_hold-registry n None s
+    go : (b : Bool) → (if b then set_hold n None s else s).registry ≡ s.registry
+    go true = set_hold-registry n None s
     go false = refl
-registry-after s e = with_holder-registry e s.registry (holder_of e) (pushed e s)
+registry-after s e = begin_hold-registry e s.registry (granted_to e) (with_effect e s)
 
 -- the entry may change what a lone node j has
 abbrev pub touches : Entry → ℕ → Bool
@@ -113,13 +113,13 @@ joined_grows (Entry.Join i k m _) r x h = h
 joined_grows _ r x h = h
 
 -- what holds at a lone node is its own
-abbrev pub LoneHolds : Past → Type 0
+abbrev pub LoneHolds : Standing → Type 0
 LoneHolds s = (n : ℕ) (h : Hold) → s.lone_held n ≡ Some h → h.node ≡ n
 
-past_it-node : (e : Entry) (k : Option Hold) (n : ℕ) → ((h : Hold) → k ≡ Some h → h.node ≡ n) → (h : Hold)
-    → past_it e k ≡ Some h → h.node ≡ n
-past_it-node e None n old h q = cc
-past_it-node e (Some k) n old h q = go (old k refl)
+with_effect_on-node : (e : Entry) (k : Option Hold) (n : ℕ) → ((h : Hold) → k ≡ Some h → h.node ≡ n) → (h : Hold)
+    → with_effect_on e k ≡ Some h → h.node ≡ n
+with_effect_on-node e None n old h q = cc
+with_effect_on-node e (Some k) n old h q = go (old k refl)
   where
     node_of : Option Hold → ℕ
     node_of None = n
@@ -128,43 +128,43 @@ past_it-node e (Some k) n old h q = go (old k refl)
     go : k.node ≡ n → h.node ≡ n
     go z = sym (ap node_of q) ∙ z
 
-with_hold-lone : (n : ℕ) (k : Option Hold) (s : Past) → ((h : Hold) → k ≡ Some h → h.node ≡ n) → LoneHolds s
-    → LoneHolds (with_hold n k s)
-with_hold-lone n k s new L = go (s.registry.joined n)
+set_hold-lone : (n : ℕ) (k : Option Hold) (s : Standing) → ((h : Hold) → k ≡ Some h → h.node ≡ n) → LoneHolds s
+    → LoneHolds (set_hold n k s)
+set_hold-lone n k s new L = go (s.registry.joined n)
   where
     go : (b : Bool) → LoneHolds (if b then record s { held = k } else record s { lone_held = at s.lone_held n k })
     go true = L
     go false = λ x. by_test n (λ x t. (h : Hold) → (if t then k else s.lone_held x) ≡ Some h → h.node ≡ x) new
         (λ x ne. L x) x
 
-with_holder-lone : (e : Entry) (r : Registry) (n : Option ℕ) (s : Past) → LoneHolds s
-    → LoneHolds (with_holder e r n s)
-with_holder-lone e r None s L = L
-with_holder-lone e r (Some n) s L = with_hold-lone n (Some (record { node = n; entry = e; old = r })) s
+begin_hold-lone : (e : Entry) (r : Registry) (n : Option ℕ) (s : Standing) → LoneHolds s
+    → LoneHolds (begin_hold e r n s)
+begin_hold-lone e r None s L = L
+begin_hold-lone e r (Some n) s L = set_hold-lone n (Some (record { node = n; entry = e; old = r })) s
     (λ h q. sym (ap node_of q)) L
   where
     node_of : Option Hold → ℕ
     node_of None = n
     node_of (Some x) = x.node
 
-lone_holds_after : (s : Past) (e : Entry) → LoneHolds s → LoneHolds (after s e)
+lone_holds_after : (s : Standing) (e : Entry) → LoneHolds s → LoneHolds (after s e)
 lone_holds_after s (Entry.Done n) L = go (is_holding s n)
   where
-    go : (b : Bool) → LoneHolds (if b then with_hold n None s else s)
-    go true = with_hold-lone n None s (λ h q. cc) L
+    go : (b : Bool) → LoneHolds (if b then set_hold n None s else s)
+    go true = set_hold-lone n None s (λ h q. cc) L
     go false = L
-lone_holds_after s e L = with_holder-lone e s.registry (holder_of e) (pushed e s)
-    (λ n. past_it-node e (s.lone_held n) n (L n))
+lone_holds_after s e L = begin_hold-lone e s.registry (granted_to e) (with_effect e s)
+    (λ n. with_effect_on-node e (s.lone_held n) n (L n))
 
-lone_holds_fold : (s : Past) (h : List Entry) → LoneHolds s → LoneHolds (fold after s h)
+lone_holds_fold : (s : Standing) (h : List Entry) → LoneHolds s → LoneHolds (fold after s h)
 lone_holds_fold s [] L = L
 lone_holds_fold s (e ∷ h) L = lone_holds_fold (after s e) h (lone_holds_after s e L)
 
-pub lone_holds : (c : Nodes) (h : List Entry) → LoneHolds (past_of c h)
+pub lone_holds : (c : Nodes) (h : List Entry) → LoneHolds (standing_of c h)
 lone_holds c h = lone_holds_fold (nothing_yet c) h (λ n k q. cc)
 
 -- the admission of j by m holds, under the number k of j's join
-pub record Admitted (s : Past) (j k m : ℕ) : Type 0 where
+pub record Admitted (s : Standing) (j k m : ℕ) : Type 0 where
   pub hold : Hold
   pub held : s.held ≡ Some hold
   pub node : hold.node ≡ m
@@ -177,10 +177,10 @@ abbrev pub is_done_of : ℕ → Entry → Bool
 is_done_of m (Entry.Done n) = m == n
 is_done_of m _ = false
 
-admitted_pushed : (s : Past) (e : Entry) (j k m : ℕ) → Admitted s j k m → Admitted (pushed e s) j k m
+admitted_pushed : (s : Standing) (e : Entry) (j k m : ℕ) → Admitted s j k m → Admitted (with_effect e s) j k m
 admitted_pushed s e j k m A = record {
   hold = record A.hold { old = effect e A.hold.old };
-  held = ap (past_it e) A.held;
+  held = ap (with_effect_on e) A.held;
   node = A.node;
   entry = A.entry;
   inside = joined_grows e s.registry j A.inside;
@@ -188,41 +188,41 @@ admitted_pushed s e j k m A = record {
 }
 
 -- another operation begins to hold, which can only be at a lone node
-admitted_beside : (s : Past) (e : Entry) (n j k m : ℕ) → Admitted s j k m → is_free s n ≡ true
+admitted_beside : (s : Standing) (e : Entry) (n j k m : ℕ) → Admitted s j k m → is_free s n ≡ true
     → (effect e s.registry).joined n ≡ s.registry.joined n
-    → Admitted (with_holder e s.registry (Some n) (pushed e s)) j k m
+    → Admitted (begin_hold e s.registry (Some n) (with_effect e s)) j k m
 admitted_beside s e n j k m A free same = go (s.registry.joined n) refl
   where
-    P : Admitted (pushed e s) j k m
+    P : Admitted (with_effect e s) j k m
     P = admitted_pushed s e j k m A
 
     new : Hold
     new = record { node = n; entry = e; old = s.registry }
 
-    apart : Past → Past
+    apart : Standing → Standing
     apart t = record t { lone_held = at t.lone_held n (Some new) }
 
-    beside : Admitted (apart (pushed e s)) j k m
+    beside : Admitted (apart (with_effect e s)) j k m
     beside = record { hold = P.hold; held = P.held; node = P.node; entry = P.entry; inside = P.inside; host = P.host }
 
-    go : (b : Bool) → s.registry.joined n ≡ b → Admitted (with_holder e s.registry (Some n) (pushed e s)) j k m
+    go : (b : Bool) → s.registry.joined n ≡ b → Admitted (begin_hold e s.registry (Some n) (with_effect e s)) j k m
     go true is = absurd (cc (
       sym (ap (λ (t : Bool). is_none (if t then s.held else s.lone_held n)) is) ∙ free,
       ap is_none A.held,
     ))
-    go false is = subst (λ (t : Bool). Admitted (if t then record (pushed e s) { held = Some new } else apart
-        (pushed e s)) j k m) (sym (same ∙ is)) beside
+    go false is = subst (λ (t : Bool). Admitted (if t then record (with_effect e s) { held = Some new } else apart
+        (with_effect e s)) j k m) (sym (same ∙ is)) beside
 
 -- a legal entry leaves it so, but for that of its end
-pub admitted_stays : (s : Past) (e : Entry) (j k m : ℕ) → Admitted s j k m → is_legal s e ≡ true
+pub admitted_stays : (s : Standing) (e : Entry) (j k m : ℕ) → Admitted s j k m → is_legal s e ≡ true
     → is_done_of m e ≡ false → Admitted (after s e) j k m
 admitted_stays s (Entry.Done n) j k m A legal ne = go (is_holding s n) refl (s.registry.joined n) refl
   where
     go : (b : Bool) → is_holding s n ≡ b → (c : Bool) → s.registry.joined n ≡ c
-        → Admitted (if b then with_hold n None s else s) j k m
+        → Admitted (if b then set_hold n None s else s) j k m
     go false holding c is = A
     go true holding true is = absurd (cc (
-        sym (ap (λ (t : Bool). is_of n (if t then s.held else s.lone_held n)) is ∙ ap (is_of n) A.held
+        sym (ap (λ (t : Bool). is_hold_of n (if t then s.held else s.lone_held n)) is ∙ ap (is_hold_of n) A.held
         ∙ ap (λ (x : ℕ). x == n) A.node ∙ ne) ∙ holding
         ))
     go true holding false is = subst (λ (t : Bool). Admitted
@@ -234,7 +234,7 @@ admitted_stays s (Entry.Name n i call reply) j k m A legal ne = go (is_grant rep
     e = Entry.Name n i call reply
 
     go : (b : Bool) → is_grant reply ≡ b → Admitted
-        (with_holder e s.registry (if b then Some n else None) (pushed e s)) j k m
+        (begin_hold e s.registry (if b then Some n else None) (with_effect e s)) j k m
     go false is = admitted_pushed s e j k m A
     go true is = admitted_beside s e n j k m A (both (is_free s n) _
         (both (is_free s n && not (s.registry.left n)) _ legal).0).0
@@ -267,7 +267,7 @@ abbrev pub have_done : ℕ → List Entry → Bool
 have_done m [] = false
 have_done m (e ∷ es) = is_done_of m e || have_done m es
 
-pub lone_along : (es : List Entry) (s : Past) (j : ℕ) → touch es j ≡ false → s.registry.joined j ≡ false
+pub lone_along : (es : List Entry) (s : Standing) (j : ℕ) → touch es j ≡ false → s.registry.joined j ≡ false
     → ((fold after s es).registry.joined j ≡ false) × ((fold after s es).registry.lone j ≡ s.registry.lone j)
 lone_along [] s j none lone = (lone, refl)
 lone_along (e ∷ es) s j none lone =
@@ -279,7 +279,7 @@ lone_along (e ∷ es) s j none lone =
     = lone_along es (after s e) j parts.1 (ap (λ (r : Registry). r.joined j) (registry-after s e) ∙ now.0) in
     (more.0, more.1 ∙ ap (λ (r : Registry). r.lone j) (registry-after s e) ∙ now.1)
 
-pub admitted_along : (es : List Entry) (s : Past) (j k m : ℕ) → Admitted s j k m → all_legal s es ≡ true
+pub admitted_along : (es : List Entry) (s : Standing) (j k m : ℕ) → Admitted s j k m → all_legal s es ≡ true
     → have_done m es ≡ false
     → Admitted (fold after s es) j k m
 admitted_along [] s j k m A legal none = A
@@ -291,15 +291,15 @@ admitted_along (e ∷ es) s j k m A legal none =
     admitted_along es (after s e) j k m (admitted_stays s e j k m A legals.0 parts.0) legals.1 parts.1
 
 -- the contact of an admission holds
-pub admitted_holds : (s : Past) (j k m : ℕ) → Admitted s j k m → is_holding s m ≡ true
+pub admitted_holds : (s : Standing) (j k m : ℕ) → Admitted s j k m → is_holding s m ≡ true
 admitted_holds s j k m A =
-    ap (λ (b : Bool). is_of m (if b then s.held else s.lone_held m)) A.host ∙ ap (is_of m) A.held
+    ap (λ (b : Bool). is_hold_of m (if b then s.held else s.lone_held m)) A.host ∙ ap (is_hold_of m) A.held
     ∙ ap (λ (x : ℕ). x == m) A.node ∙ eq-eqb m m refl
 
 -- when the operation of an admission is done, nothing holds in the cluster
-pub done_frees : (s : Past) (j k m : ℕ) → Admitted s j k m → hold_at (after s (Entry.Done m)) j ≡ None
+pub done_frees : (s : Standing) (j k m : ℕ) → Admitted s j k m → hold_at (after s (Entry.Done m)) j ≡ None
 done_frees s j k m A =
-    ap (λ (b : Bool). hold_at (if b then with_hold m None s else s) j) (admitted_holds s j k m A)
+    ap (λ (b : Bool). hold_at (if b then set_hold m None s else s) j) (admitted_holds s j k m A)
     ∙ ap (λ (b : Bool). hold_at (if b then record s { held = None } else record s {
       lone_held =
           at s.lone_held m None;
@@ -307,11 +307,11 @@ done_frees s j k m A =
     ∙ ap (λ (b : Bool). if b then None else s.lone_held j) A.inside
 
 -- a granted join holds from its entry on
-pub admitted_now : (s : Past) (j k m : ℕ) → is_legal s (Entry.Join j k m Joined) ≡ true
+pub admitted_now : (s : Standing) (j k m : ℕ) → is_legal s (Entry.Join j k m Joined) ≡ true
     → Admitted (after s (Entry.Join j k m Joined)) j k m
 admitted_now s j k m legal = subst (λ (b : Bool). Admitted
-    (if b then record (pushed e s) { held = Some new } else record
-    (pushed e s) { lone_held = at (pushed e s).lone_held m (Some new) }) j k m) (sym now_host)
+    (if b then record (with_effect e s) { held = Some new } else record
+    (with_effect e s) { lone_held = at (with_effect e s).lone_held m (Some new) }) j k m) (sym now_host)
     (record { hold = new; held = refl; node = refl; entry = refl; inside = now_inside; host = now_host })
   where
     e : Entry
@@ -355,7 +355,7 @@ joined_same (Entry.Join i k m Joined) r x none = cc
 joined_same (Entry.Join i k m _) r x none = refl
 joined_same _ r x none = refl
 
-back_pushed : (s : Past) (e : Entry) (j k m : ℕ) → lets_in e ≡ false → Admitted (pushed e s) j k m → Admitted s j k m
+back_pushed : (s : Standing) (e : Entry) (j k m : ℕ) → lets_in e ≡ false → Admitted (with_effect e s) j k m → Admitted s j k m
 back_pushed s e j k m none A = go s.held refl
   where
     hold_of : Option Hold → Hold
@@ -363,9 +363,9 @@ back_pushed s e j k m none A = go s.held refl
     hold_of (Some h) = h
 
     go : (h : Option Hold) → s.held ≡ h → Admitted s j k m
-    go None is = absurd (cc (sym (ap (past_it e) is) ∙ A.held))
+    go None is = absurd (cc (sym (ap (with_effect_on e) is) ∙ A.held))
     go (Some h) is =
-        let same : record h { old = effect e h.old } ≡ A.hold = ap hold_of (sym (ap (past_it e) is) ∙ A.held) in
+        let same : record h { old = effect e h.old } ≡ A.hold = ap hold_of (sym (ap (with_effect_on e) is) ∙ A.held) in
         record {
           hold = h;
           held = is;
@@ -376,16 +376,16 @@ back_pushed s e j k m none A = go s.held refl
         }
 
 -- an operation that began to hold is no admission by m, so one by m held before
-back_beside : (s : Past) (e : Entry) (n j k m : ℕ) → lets_in e ≡ false
-    → Admitted (with_holder e s.registry (Some n) (pushed e s)) j k m → Admitted s j k m
+back_beside : (s : Standing) (e : Entry) (n j k m : ℕ) → lets_in e ≡ false
+    → Admitted (begin_hold e s.registry (Some n) (with_effect e s)) j k m → Admitted s j k m
 back_beside s e n j k m none A = go ((effect e s.registry).joined n) refl
   where
     new : Hold
     new = record { node = n; entry = e; old = s.registry }
 
-    at_last : Bool → Past
-    at_last b = if b then record (pushed e s) { held = Some new } else record
-        (pushed e s) { lone_held = at (pushed e s).lone_held n (Some new) }
+    at_last : Bool → Standing
+    at_last b = if b then record (with_effect e s) { held = Some new } else record
+        (with_effect e s) { lone_held = at (with_effect e s).lone_held n (Some new) }
 
     entry_of : Option Hold → Entry
     entry_of None = e
@@ -411,11 +411,11 @@ back_beside s e n j k m none A = go ((effect e s.registry).joined n) refl
         })
 
 -- what holds behind a legal entry, which is no admission by m, held before it
-pub admitted_back : (s : Past) (e : Entry) (j k m : ℕ) → is_legal s e ≡ true → admits_by m e ≡ false
+pub admitted_back : (s : Standing) (e : Entry) (j k m : ℕ) → is_legal s e ≡ true → admits_by m e ≡ false
     → Admitted (after s e) j k m → Admitted s j k m
 admitted_back s (Entry.Done n) j k m legal other A = go (is_holding s n) A
   where
-    last : Bool → Past
+    last : Bool → Standing
     last b = if b then record s { held = None } else record s { lone_held = at s.lone_held n None }
 
     freed : (b : Bool) → Admitted (last b) j k m → Admitted s j k m
@@ -430,7 +430,7 @@ admitted_back s (Entry.Done n) j k m legal other A = go (is_holding s n) A
           B.host;
     }
 
-    go : (b : Bool) → Admitted (if b then with_hold n None s else s) j k m → Admitted s j k m
+    go : (b : Bool) → Admitted (if b then set_hold n None s else s) j k m → Admitted s j k m
     go true B = freed (s.registry.joined n) B
     go false B = B
 admitted_back s (Entry.Name n i call reply) j k m legal other A = go (is_grant reply) A
@@ -438,7 +438,7 @@ admitted_back s (Entry.Name n i call reply) j k m legal other A = go (is_grant r
     e : Entry
     e = Entry.Name n i call reply
 
-    go : (b : Bool) → Admitted (with_holder e s.registry (if b then Some n else None) (pushed e s)) j k m
+    go : (b : Bool) → Admitted (begin_hold e s.registry (if b then Some n else None) (with_effect e s)) j k m
         → Admitted s j k m
     go true B = back_beside s e n j k m refl B
     go false B = back_pushed s e j k m refl B
@@ -467,7 +467,7 @@ abbrev pub have_admitted : ℕ → List Entry → Bool
 have_admitted m [] = false
 have_admitted m (e ∷ es) = admits_by m e || have_admitted m es
 
-pub admitted_back_along : (es : List Entry) (s : Past) (j k m : ℕ) → all_legal s es ≡ true
+pub admitted_back_along : (es : List Entry) (s : Standing) (j k m : ℕ) → all_legal s es ≡ true
     → have_admitted m es ≡ false
     → Admitted (fold after s es) j k m → Admitted s j k m
 admitted_back_along [] s j k m legal none A = A

@@ -6,12 +6,12 @@ use Rattle.std.proofs.lemmas.Bool.{eqb-true, eq-eqb}
 use Rattle.registry_model.specs.Process.{Nodes}
 use Rattle.registry_model.specs.Table.{Pair, Table, without}
 use Rattle.registry_model.specs.Registry.{Replica, replica_of}
-use Rattle.registry_model.specs.History.{Hold, Past, hold_at, is_of, is_holding, old}
+use Rattle.registry_model.specs.History.{Hold, Standing, hold_at, is_hold_of, is_holding, old}
 use Rattle.protocol_model.specs.Letter.{Letter}
 use Rattle.protocol_model.specs.Node.{Current, is_writing}
 use Rattle.protocol_model.specs.World.{Opening, World, in_cluster}
 use Rattle.moves.proofs.Indices.{both}
-use Rattle.moves.proofs.Invariants.{Each, IsUp, is_welcome, is_write, acts, replica, current, past_at, is_behind, is_pending, IsOnItsWay, Proper, Replicas}
+use Rattle.moves.proofs.Invariants.{Each, IsUp, is_welcome, is_write, acts, replica, current, standing_at, is_behind, is_pending, IsOnItsWay, Proper, Replicas}
 use Rattle.join_gates.proofs.Tokens.{Gate, is_away, returns, returns_of}
 use Rattle.join_gates.proofs.Pasts.{lone_holds}
 use Rattle.join_gates.proofs.Gates.{Gates}
@@ -19,8 +19,8 @@ use Rattle.join_gates.proofs.Calm.{admitted-same}
 
 -- the names of a lone node are of its own processes
 abbrev pub LoneOwners : Opening → World → Type 0
-LoneOwners o w = (n : ℕ) → (past_at o w).registry.joined n ≡ false
-    → list_all (λ (e : Pair). e.owner.node == n) ((past_at o w).registry.lone n) ≡ true
+LoneOwners o w = (n : ℕ) → (standing_at o w).registry.joined n ≡ false
+    → list_all (λ (e : Pair). e.owner.node == n) ((standing_at o w).registry.lone n) ≡ true
 
 -- the same, from any test that goes over the names so
 pub owners_from : (n : ℕ) (test : Table → Bool) → ((e : Pair) (t : Table) → test (e ∷ t) ≡ ((e.owner.node == n) && test t))
@@ -77,11 +77,11 @@ let_in g b c e = go g b e
 pub lone_shown : (o : Opening) (w : World) (gate : ℕ → ℕ → Gate) (a : ℕ) → Proper o w → Replicas o w → LoneOwners o w
     → Gates o w gate
     → IsUp o w a → current o w a ≡ Current.Free → (replica o w a).joined ≡ false
-    → ((past_at o w).registry.joined a ≡ false) × ((past_at o w).registry.lone a ≡ (replica o w a).table)
+    → ((standing_at o w).registry.joined a ≡ false) × ((standing_at o w).registry.lone a ≡ (replica o w a).table)
 lone_shown o w gate a P R own G up free lone = go (is_pending o w a) refl
   where
-    s : Past
-    s = past_at o w
+    s : Standing
+    s = standing_at o w
 
     shown : replica o w a ≡ replica_of s.registry a
         → (s.registry.joined a ≡ false) × (s.registry.lone a ≡ (replica o w a).table)
@@ -127,7 +127,7 @@ lone_shown o w gate a P R own G up free lone = go (is_pending o w a) refl
                 ∙ sym (ap (λ (v : Replica). v.joined) shows) ∙ lone in
                 let here : h.node ≡ a = lone_holds (in_cluster o) w.history a h
                 (sym (ap (λ (b : Bool). if b then s.held else s.lone_held a) alone) ∙ is) in
-                let holding : is_holding s a ≡ true = ap (is_of a) is ∙ eq-eqb h.node a here in
+                let holding : is_holding s a ≡ true = ap (is_hold_of a) is ∙ eq-eqb h.node a here in
                 absurd (cc (sym holding ∙ R.holds a ∙ ap is_writing free))
 
     go : (b : Bool) → is_pending o w a ≡ b → (s.registry.joined a ≡ false)

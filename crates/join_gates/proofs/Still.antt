@@ -3,18 +3,18 @@ use Rattle.std.proofs.Common.{ℕ, Bool, true, false, ◌≡◌, ◌==◌, Optio
 use Rattle.std.specs.Prelude.{◌||◌, fold}
 use Rattle.std.proofs.lemmas.Bool.{cases_eq, ne_eqb}
 use Rattle.registry_model.specs.Process.{at}
-use Rattle.registry_model.specs.History.{Entry, Past, hold_at, after, past_of}
+use Rattle.registry_model.specs.History.{Entry, Standing, hold_at, after, standing_of}
 use Rattle.registry_model.specs.Legal.{all_legal, IsLegal}
 use Rattle.protocol_model.specs.Letter.{Letter}
 use Rattle.protocol_model.specs.Node.{Node, Op, Current}
 use Rattle.protocol_model.specs.World.{Opening, World, in_cluster, left, join_number}
 use Rattle.moves.proofs.Rules
 use Rattle.moves.proofs.Indices.{at_same}
-use Rattle.moves.proofs.Invariants.{Each, is_welcome, current, past_at, IsWritten, is_write, IsOnItsWay, Replicas}
+use Rattle.moves.proofs.Invariants.{Each, is_welcome, current, standing_at, IsWritten, is_write, IsOnItsWay, Replicas}
 use Rattle.join_gates.proofs.Made.{entered, entries_made}
 use Rattle.join_gates.proofs.Tokens.{Gate, Entering, is_entering, returns, returns_of, returns-append, plain_returns}
 use Rattle.join_gates.proofs.Links.{sent_none}
-use Rattle.join_gates.proofs.Pasts.{Admitted, touch, have_done, past_of-append, legal_rest, done_frees}
+use Rattle.join_gates.proofs.Pasts.{Admitted, touch, have_done, standing_of-append, legal_rest, done_frees}
 use Rattle.join_gates.proofs.Gates.{Gates}
 use Rattle.join_gates.proofs.Turns.{calm_turn}
 use Rattle.join_gates.proofs.Calm.{sends_token, takes_token, turns_node, sends_plain, takes_plain, quietly}
@@ -66,14 +66,14 @@ pub effect-history : (o : Opening) (a : ℕ) (w : World) (r : Rules.Rule)
 effect-history o a w r = closed_by-history o a r _
     ∙ ap (λ (h : List Entry). h ++ (Rules.turn_by o a w r).entries) (without_letter-history o a (Rules.takes o a r) w)
 
-pub effect-past : (o : Opening) (a : ℕ) (w : World) (r : Rules.Rule)
-    → past_at o (Rules.effect o a r w) ≡ fold after (past_at o w) (Rules.turn_by o a w r).entries
-effect-past o a w r = ap (past_of (in_cluster o)) (effect-history o a w r)
-    ∙ past_of-append (in_cluster o) w.history (Rules.turn_by o a w r).entries
+pub effect-standing : (o : Opening) (a : ℕ) (w : World) (r : Rules.Rule)
+    → standing_at o (Rules.effect o a r w) ≡ fold after (standing_at o w) (Rules.turn_by o a w r).entries
+effect-standing o a w r = ap (standing_of (in_cluster o)) (effect-history o a w r)
+    ∙ standing_of-append (in_cluster o) w.history (Rules.turn_by o a w r).entries
 
 -- its entries are legal, where the history is behind it
 pub effect-legal : (o : Opening) (a : ℕ) (w : World) (r : Rules.Rule) → Replicas o (Rules.effect o a r w)
-    → all_legal (past_at o w) (Rules.turn_by o a w r).entries ≡ true
+    → all_legal (standing_at o w) (Rules.turn_by o a w r).entries ≡ true
 effect-legal o a w r R = legal_rest (in_cluster o) w.history (Rules.turn_by o a w r).entries
     (subst (IsLegal (in_cluster o)) (effect-history o a w r) R.legal)
 
@@ -174,7 +174,7 @@ finish_going o a w op asked awaited reply gate R G j m enters runs =
         k : ℕ
         k = ((G.facts j m).entering enters runs).0
 
-        A : Admitted (past_at o w) j k m
+        A : Admitted (standing_at o w) j k m
         A = ((G.facts j m).entering enters runs).2
 
         on_link : returns (v.links.queue m j) ≡ true ∷ []
@@ -182,11 +182,11 @@ finish_going o a w op asked awaited reply gate R G j m enters runs =
             (plain_returns _ (sends_plain o a (join_number w) r (w.node a) refl)) m j
             ∙ G.back j m runs ∙ entering_is (gate j m) enters
 
-        behind : past_at o v ≡ after (past_at o w) (Entry.Done m)
-        behind = effect-past o a w r ∙ ap (λ (es : List Entry). fold after (past_at o w) es)
+        behind : standing_at o v ≡ after (standing_at o w) (Entry.Done m)
+        behind = effect-standing o a w r ∙ ap (λ (es : List Entry). fold after (standing_at o w) es)
             (entries_made o a (join_number w) r (w.node a))
-            ∙ ap (λ (x : ℕ). after (past_at o w) (Entry.Done x)) (sym e)
+            ∙ ap (λ (x : ℕ). after (standing_at o w) (Entry.Done x)) (sym e)
 
         none : (l : Letter) × (is_welcome l ≡ true) × IsOnItsWay o v m j l → ⊥
-        none found = absurd (cc (sym (ap (λ (s : Past). hold_at s j) behind ∙ done_frees (past_at o w) j k m A)
+        none found = absurd (cc (sym (ap (λ (s : Standing). hold_at s j) behind ∙ done_frees (standing_at o w) j k m A)
             ∙ (found.2 (writes found.0 found.1)).1))

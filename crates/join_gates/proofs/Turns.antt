@@ -3,7 +3,7 @@ use Rattle.std.proofs.Common.{ℕ, Bool, true, false, ◌≡◌, Option, Some, N
 use Rattle.std.specs.Prelude.{if◌then◌else◌, fold}
 use Rattle.registry_model.specs.Process.{Nodes, at}
 use Rattle.registry_model.specs.Table.{Table}
-use Rattle.registry_model.specs.History.{Past, after, past_of}
+use Rattle.registry_model.specs.History.{Standing, after, standing_of}
 use Rattle.registry_model.specs.Legal.{all_legal}
 use Rattle.protocol_model.specs.Letter.{Letter}
 use Rattle.protocol_model.specs.Links.{Links}
@@ -13,10 +13,10 @@ use Rattle.protocol_model.specs.Turn.{Turn}
 use Rattle.protocol_model.specs.World.{Opening, World, in_cluster, left, apply}
 use Rattle.moves.proofs.Rules.{Taken, FrontTaken, without_letter}
 use Rattle.moves.proofs.Indices.{by_test}
-use Rattle.moves.proofs.Invariants.{replica, current, past_at}
+use Rattle.moves.proofs.Invariants.{replica, current, standing_at}
 use Rattle.join_gates.proofs.Tokens.{Gate, is_turned, is_entering, is_plain, are_plain, plain_knocks, plain_returns, knocks-plain, returns-plain, knocks, returns, admissions, admissions-append, asked_for, jobs, knocks-append, returns-append}
 use Rattle.join_gates.proofs.Links.{sent_none, taken_none}
-use Rattle.join_gates.proofs.Pasts.{Admitted, touch, have_done, past_of-append, lone_along, admitted_along}
+use Rattle.join_gates.proofs.Pasts.{Admitted, touch, have_done, standing_of-append, lone_along, admitted_along}
 use Rattle.join_gates.proofs.Gates.{Facts, Gates, Once, OnceIn, unmoved, kept}
 
 -- node v becomes u, and what joins ask of it stays
@@ -76,7 +76,7 @@ module _ (o : Opening) (a : ℕ) (w : World) (u : Turn) (gate : ℕ → ℕ → 
   -- the facts of a gate that stays, where the node may change
   pub facts_by : (v : World) → v.node ≡ at w.node a u.node → v.history ≡ w.history ++ u.entries
       → ((x : ℕ) → left v x ≡ false → left w x ≡ false)
-      → all_legal (past_at o w) u.entries ≡ true
+      → all_legal (standing_at o w) u.entries ≡ true
       → (j m : ℕ) (g : Gate)
       → (j ≡ a → (k : ℕ) → (w.node a).current ≡ Current.Joining k m → u.node.current ≡ Current.Joining k m)
       → ((w.node a).replica.joined ≡ true → u.node.replica.joined ≡ true)
@@ -98,21 +98,21 @@ module _ (o : Opening) (a : ℕ) (w : World) (u : Turn) (gate : ℕ → ℕ → 
       (by_test a (λ x t. (x ≡ a → (w.node a).replica.told m ≡ false → u.node.replica.told m ≡ false)
       → (w.node x).replica.told m ≡ false → (if t then u.node else w.node x).replica.told m ≡ false)
       (λ h. h refl) (λ x ne h e. e) j (λ q. told q e)))
-      (λ k e lone. subst (λ (s : Past). (s.registry.joined j ≡ false)
-      × (s.registry.lone j ≡ (past_at o w).registry.lone j)) (sym past)
-      (lone_along u.entries (past_at o w) j (clear k e) lone))
-      (λ e l k is A. subst (λ (s : Past). Admitted s j k m) (sym past)
-      (admitted_along u.entries (past_at o w) j k m A legal (going e l)))
+      (λ k e lone. subst (λ (s : Standing). (s.registry.joined j ≡ false)
+      × (s.registry.lone j ≡ (standing_at o w).registry.lone j)) (sym standing)
+      (lone_along u.entries (standing_at o w) j (clear k e) lone))
+      (λ e l k is A. subst (λ (s : Standing). Admitted s j k m) (sym standing)
+      (admitted_along u.entries (standing_at o w) j k m A legal (going e l)))
     where
-      past : past_at o v ≡ fold after (past_at o w) u.entries
-      past = ap (past_of (in_cluster o)) history ∙ past_of-append (in_cluster o) w.history u.entries
+      standing : standing_at o v ≡ fold after (standing_at o w) u.entries
+      standing = ap (standing_of (in_cluster o)) history ∙ standing_of-append (in_cluster o) w.history u.entries
 
   -- the same for a turn that leaves what joins ask
   pub facts_kept : (v : World) → v.node ≡ at w.node a u.node → v.history ≡ w.history ++ u.entries
       → ((x : ℕ) → left v x ≡ false → left w x ≡ false)
       → Quietly (w.node a) u.node
       → ((x k m : ℕ) → current o w x ≡ Current.Joining k m → touch u.entries x ≡ false)
-      → all_legal (past_at o w) u.entries ≡ true
+      → all_legal (standing_at o w) u.entries ≡ true
       → (j m : ℕ) (g : Gate) → (is_entering g ≡ true → left v j ≡ false → have_done m u.entries ≡ false)
       → Facts o w j m g → Facts o v j m g
   facts_kept v nodes history runs Q clear legal j m g going F = facts_by v nodes history runs legal j m g
@@ -125,7 +125,7 @@ module _ (o : Opening) (a : ℕ) (w : World) (u : Turn) (gate : ℕ → ℕ → 
       → ((x y : ℕ) → returns (ls.queue x y) ≡ returns (w.links.queue x y))
       → are_plain u.sends ≡ true → Quietly (w.node a) u.node
       → ((x k m : ℕ) → current o w x ≡ Current.Joining k m → touch u.entries x ≡ false)
-      → all_legal (past_at o w) u.entries ≡ true
+      → all_legal (standing_at o w) u.entries ≡ true
       → ((j m : ℕ) → is_entering (gate j m) ≡ true → left w j ≡ false → have_done m u.entries ≡ false)
       → Gates o w gate → Gates o (apply a u (record w { links = ls })) gate
   calm_on ls closed K B plain Q clear legal going G = unmoved o w v gate G runs
@@ -145,7 +145,7 @@ module _ (o : Opening) (a : ℕ) (w : World) (u : Turn) (gate : ℕ → ℕ → 
   pub calm_turn : (t : Option Taken) → FrontTaken o a w t → is_plain_taken t ≡ true → are_plain u.sends ≡ true
       → Quietly (w.node a) u.node
       → ((x k m : ℕ) → current o w x ≡ Current.Joining k m → touch u.entries x ≡ false)
-      → all_legal (past_at o w) u.entries ≡ true
+      → all_legal (standing_at o w) u.entries ≡ true
       → ((j m : ℕ) → is_entering (gate j m) ≡ true → left w j ≡ false → have_done m u.entries ≡ false)
       → Gates o w gate → Gates o (apply a u (without_letter o a t w)) gate
   calm_turn None front taken plain Q clear legal going G =

@@ -7,7 +7,7 @@ use Rattle.registry_model.specs.Process.{Process}
 use Rattle.registry_model.specs.Table.{Table}
 use Rattle.registry_model.specs.Call.{Reply, Joined, is_grant}
 use Rattle.registry_model.specs.Registry.{Replica, replica_of}
-use Rattle.registry_model.specs.History.{Entry, Hold, Past, past_of, hold_at, is_holding, old}
+use Rattle.registry_model.specs.History.{Entry, Hold, Standing, standing_of, hold_at, is_holding, old}
 use Rattle.registry_model.specs.Legal.{IsLegal}
 use Rattle.protocol_model.specs.Round.{Round}
 use Rattle.protocol_model.specs.Letter.{Letter, is_down}
@@ -45,8 +45,8 @@ module _ (o : Opening) (w : World) where
   current a = (w.node a).current
 
   -- what the history comes to
-  abbrev pub past_at : Past
-  past_at = past_of (in_cluster o) w.history
+  abbrev pub standing_at : Standing
+  standing_at = standing_of (in_cluster o) w.history
 
   -- what is known of a letter on the link from f to n by itself
   abbrev pub IsProper : ℕ → ℕ → Letter → Type 0
@@ -108,7 +108,7 @@ module _ (o : Opening) (w : World) where
   is_behind c (Some h) = list_any is_write (w.links.queue h.node c)
 
   abbrev pub is_pending : ℕ → Bool
-  is_pending c = is_behind c (hold_at past_at c)
+  is_pending c = is_behind c (hold_at standing_at c)
 
   -- the entry of the operation that node a writes
   abbrev pub IsEntryOf : ℕ → Op → Option Reply → Entry → Type 0
@@ -120,40 +120,40 @@ module _ (o : Opening) (w : World) where
   -- what an operation that is written has as its entry
   abbrev pub IsWritten : ℕ → Current → Type 0
   IsWritten a (Current.Writing op asked awaited reply) =
-      (h : Hold) × (hold_at past_at a ≡ Some h) × (h.node ≡ a) × IsEntryOf a op reply h.entry
+      (h : Hold) × (hold_at standing_at a ≡ Some h) × (h.node ≡ a) × IsEntryOf a op reply h.entry
   IsWritten a _ = Unit {0}
 
   -- what is known of a letter that carries an operation out, from f to c
   abbrev pub IsOnItsWay : ℕ → ℕ → Letter → Type 0
   IsOnItsWay f c l = is_write l ≡ true →
-      (h : Hold) × (hold_at past_at c ≡ Some h) × (h.node ≡ f) × IsUp f
-      × (acts l (replica_of (old past_at c) c) ≡ replica_of past_at.registry c)
+      (h : Hold) × (hold_at standing_at c ≡ Some h) × (h.node ≡ f) × IsUp f
+      × (acts l (replica_of (old standing_at c) c) ≡ replica_of standing_at.registry c)
 
   abbrev pub AllDead : List Process → Type 0
   AllDead [] = Unit {0}
-  AllDead (p ∷ ps) = (past_at.registry.dead p ≡ true) × AllDead ps
+  AllDead (p ∷ ps) = (standing_at.registry.dead p ≡ true) × AllDead ps
 
   -- the replicas are those of the registry of the history
   pub record Replicas : Type 0 where
     pub legal : IsLegal (in_cluster o) w.history
-    pub departed : (d : ℕ) → past_at.registry.left d ≡ left w d
-    pub joined_inside : (c : ℕ) → past_at.registry.joined c ≡ true → in_world o c ≡ true
+    pub departed : (d : ℕ) → standing_at.registry.left d ≡ left w d
+    pub joined_inside : (c : ℕ) → standing_at.registry.joined c ≡ true → in_world o c ≡ true
     -- an operation of a node holds by the history exactly while the node writes, and then it runs
-    pub holds : (a : ℕ) → is_holding past_at a ≡ is_writing (current a)
+    pub holds : (a : ℕ) → is_holding standing_at a ≡ is_writing (current a)
     pub writers : (a : ℕ) → is_writing (current a) ≡ true → IsUp a
     pub written : (a : ℕ) → IsWritten a (current a)
     -- a node shows the registry with the operation that holds, or without it where it still has to carry it out
-    pub facts : (c : ℕ) → IsUp c → replica c ≡ replica_of (if is_pending c then old past_at c else past_at.registry) c
+    pub facts : (c : ℕ) → IsUp c → replica c ≡ replica_of (if is_pending c then old standing_at c else standing_at.registry) c
     pub notes : (f c : ℕ) → left w c ≡ false → Each (IsOnItsWay f c) (w.links.queue f c)
     -- who dies by a letter, who is dead at home and who is to be struck is dead
     pub kills : (f c : ℕ) → left w c ≡ false → Each (λ l. AllDead (kills_in l)) (w.links.queue f c)
-    pub dead : (a s : ℕ) → is_dead (w.node a).watch s ≡ true → past_at.registry.dead (record { node = a; serial = s }) ≡ true
+    pub dead : (a s : ℕ) → is_dead (w.node a).watch s ≡ true → standing_at.registry.dead (record { node = a; serial = s }) ≡ true
 
   -- what the replicas ask of the joins
   pub record JoinsKnown : Type 0 where
     -- the joiner of an admission that is asked for waits for it, lone, with the names that it sent
     pub admission : (m j : ℕ) (pairs : Table) (r : Round) → IsUp m → current m ≡ Current.Asking (Op.Admission j pairs) r →
-        (past_at.registry.joined j ≡ false) × (past_at.registry.lone j ≡ pairs) × ((replica m).joined ≡ true)
+        (standing_at.registry.joined j ≡ false) × (standing_at.registry.lone j ≡ pairs) × ((replica m).joined ≡ true)
         × ((k : ℕ) × (current j ≡ Current.Joining k m))
     -- a node with a welcome on its way waits for it
     pub welcome : (f n : ℕ) → IsUp n → Each (λ l. is_welcome l ≡ true → (k : ℕ) × (current n ≡ Current.Joining k f)) (w.links.queue f n)

@@ -2,7 +2,7 @@
 use Rattle.std.specs.Prelude.{ℕ, Bool, true, false, ◌&&◌, ◌==◌, ◌≡◌, Contains, Option, Some, None, filter, List, [], ◌∷◌, ◌++◌, if◌then◌else◌}
 use Rattle.std.specs.List.{list_any}
 use Rattle.registry_model.specs.Call.{Reply, Yes, No, Ok, UnknownNode, Joined, ContactLeft, is_grant}
-use Rattle.registry_model.specs.History.{Entry, Past, Hold, hold_at, after}
+use Rattle.registry_model.specs.History.{Entry, Standing, Hold, hold_at, after}
 use Rattle.protocol_model.specs.Event.{Answer}
 use Rattle.protocol_model.specs.Course.{Played, answers_of}
 use Rattle.protocol_model.specs.Fit.{Numbered, NameAs, JoinAs, accepted_at}
@@ -40,14 +40,14 @@ due_when_done None = []
 due_when_done (Some h) = elim h.entry [ Entry.Name a k call reply ↦ answer_to a k reply ∷ [] | _ ↦ [] ]
 
 -- what an entry has answered at once
-abbrev pub due_of : Past → Entry → List Answer
+abbrev pub due_of : Standing → Entry → List Answer
 due_of t (Entry.Done a) = due_when_done (hold_at t a)
 due_of t (Entry.Name a k call reply) = if is_grant reply then [] else answer_to a k reply ∷ []
 due_of t (Entry.Join j k m ContactLeft) = answer_to j k ContactLeft ∷ []
 due_of t _ = []
 
 -- what these entries have answered at once, in order
-abbrev pub due : Past → List Entry → List Answer
+abbrev pub due : Standing → List Entry → List Answer
 due t [] = []
 due t (e ∷ es) = due_of t e ++ due (after t e) es
 
@@ -57,7 +57,7 @@ is_admission_of s None = false
 is_admission_of s (Some h) = elim h.entry [ Entry.Join j k m Joined ↦ (j == s.node) && (k == s.number) | _ ↦ false ]
 
 -- The answers of a step p, which t stands before and u behind
-pub record AnswersInTime (t : Past) (p : Played) (u : Past) : Type 0 where
+pub record AnswersInTime (t : Standing) (p : Played) (u : Standing) : Type 0 where
   -- `yes` and `ok` come in the step of `Done`, all that is refused in the step of its entry
   pub prompt : filter is_prompt p.answers ≡ due t p.entries
   -- `joined` comes while the admission holds

@@ -5,7 +5,7 @@ use Rattle.registry_model.specs.Process.{is_process, Nodes}
 use Rattle.registry_model.specs.Table.{Table}
 use Rattle.registry_model.specs.Call.{NameCall, Look, Whereis, RegisteredNames, Yes, Joined, is_reply}
 use Rattle.registry_model.specs.Registry.{Registry, Replica, in_group, replica_of}
-use Rattle.registry_model.specs.History.{Entry, Past, Hold, nothing_yet, is_free, is_holding, old, hold_at, after}
+use Rattle.registry_model.specs.History.{Entry, Standing, Hold, nothing_yet, is_free, is_holding, old, hold_at, after}
 use Rattle.registry_model.specs.Legal.{all_legal}
 use Rattle.protocol_model.specs.Round.{is_empty}
 use Rattle.protocol_model.specs.Event.{Event, Answer, Refusal, HoldsLock}
@@ -97,17 +97,17 @@ abbrev pub is_replied : Opening → List Played → List Entry → Bool
 is_replied o ps h = is_empty o.bound (λ a. not (begins_with is_answer (answers_at a ps) (flat_map (entered_at a) h)))
 
 -- where the answer is `joined`, its admission holds before and behind the step
-abbrev pub is_joined_in_time : Past → Past → Answer → Bool
+abbrev pub is_joined_in_time : Standing → Standing → Answer → Bool
 is_joined_in_time t u s =
     not (is_reply s.reply Joined) || is_admission_of s (hold_at t s.node) && is_admission_of s (hold_at u s.node)
 
 -- the answers of a step p, which t stands before and u behind, come in time
-abbrev pub is_in_time : Past → Played → Past → Bool
+abbrev pub is_in_time : Standing → Played → Standing → Bool
 is_in_time t p u =
     are_equal is_answer (filter is_prompt p.answers) (due t p.entries) && list_all (is_joined_in_time t u) p.answers
 
 -- node a is of the world and hasn't left
-abbrev pub is_running : Opening → Past → ℕ → Bool
+abbrev pub is_running : Opening → Standing → ℕ → Bool
 is_running o t a = in_world o a && not (t.registry.left a)
 
 -- node a shows all that the registry has for it
@@ -115,16 +115,16 @@ abbrev pub is_shown : Opening → Registry → World → ℕ → Bool
 is_shown o r w a = is_replica o.bound (w.node a).replica (replica_of r a)
 
 -- it shows the registry, or, while an operation of its group holds, the registry without that operation
-abbrev pub is_shown_or_old : Opening → Past → World → ℕ → Bool
+abbrev pub is_shown_or_old : Opening → Standing → World → ℕ → Bool
 is_shown_or_old o t w a = is_shown o t.registry w a || not (is_free t a) && is_shown o (old t a) w a
 
 -- all running nodes of the group of a show the registry
-abbrev pub is_shown_by_group : Opening → Past → World → ℕ → Bool
+abbrev pub is_shown_by_group : Opening → Standing → World → ℕ → Bool
 is_shown_by_group o t w a =
     is_empty o.bound (λ c. in_group t.registry a c && is_running o t c && not (is_shown o t.registry w c))
 
 -- each `yes` of a step comes once all running nodes of its group show the registry
-abbrev pub is_written : Opening → Past → Played → World → Bool
+abbrev pub is_written : Opening → Standing → Played → World → Bool
 is_written o t p w = list_all (λ s. not (is_reply s.reply Yes) || is_shown_by_group o t w s.node) p.answers
 
 -- a leave is refused for a hold of its own node, or not at all; holds: whether there is one
@@ -134,7 +134,7 @@ is_leave holds (Some HoldsLock) = holds
 is_leave holds (Some cause) = false
 
 -- every running node shows the registry, with or without what holds, and may leave unless it holds
-abbrev pub is_right : Opening → Past → World → Bool
+abbrev pub is_right : Opening → Standing → World → Bool
 is_right o t w = is_empty o.bound (λ a. is_running o t a
     && not (is_shown_or_old o t w a && is_leave (is_holding t a) (refusal o w (At a Event.Leave))))
 
@@ -145,34 +145,34 @@ is_holder (Some a) (Some h) = a == h.node
 is_holder _ _ = false
 
 -- all that stands between events; h: the entries of the events ps so far, t: what they come to
-abbrev pub stands : Opening → List Played → List Entry → Past → World → Bool
+abbrev pub stands : Opening → List Played → List Entry → Standing → World → Bool
 stands o ps h t w =
     are_entries w.history h && is_fit o ps h && is_replied o ps h && is_right o t w && is_holder (holder o w) t.held
 
 -- all that stands of a step p, which t stands before and u behind; w: the world behind it
-abbrev pub is_right_step : Opening → Past → Played → Past → World → Bool
+abbrev pub is_right_step : Opening → Standing → Played → Standing → World → Bool
 is_right_step o t p u w = all_legal t p.entries && is_in_time t p u && is_written o u p w
 
 -- how far a row was checked
 pub record Checked : Type 0 where
   pub plays : List Played
-  pub past : Past
+  pub standing : Standing
   pub world : World
   pub keeps : Bool
 
 module _ (o : Opening) where
   -- behind one accepted event more
-  abbrev pub checked_to : Checked → Played → List Played → Past → World → Checked
+  abbrev pub checked_to : Checked → Played → List Played → Standing → World → Checked
   checked_to k p ps u w = record {
     plays = ps;
-    past = u;
+    standing = u;
     world = w;
-    keeps = k.keeps && is_right_step o k.past p u w && stands o ps (entries_of ps) u w;
+    keeps = k.keeps && is_right_step o k.standing p u w && stands o ps (entries_of ps) u w;
   }
 
   -- what was played is checked
   abbrev pub check_played : Checked → WorldEvent → Played → Checked
-  check_played k e p = checked_to k p (k.plays ++ p ∷ []) (fold after k.past p.entries) (happens o k.world e)
+  check_played k e p = checked_to k p (k.plays ++ p ∷ []) (fold after k.standing p.entries) (happens o k.world e)
 
   -- a refused event changes nothing
   abbrev pub check_event : Checked → WorldEvent → Option Refusal → Checked
@@ -187,7 +187,7 @@ module _ (o : Opening) where
   abbrev pub opening_check : Checked
   opening_check = record {
     plays = [];
-    past = nothing_yet (in_cluster o);
+    standing = nothing_yet (in_cluster o);
     world = opening_world o;
     keeps = stands o [] [] (nothing_yet (in_cluster o)) (opening_world o);
   }

@@ -4,7 +4,7 @@ use mathlib.Core.Logic.{◌⊎◌}
 use Rattle.std.specs.Prelude.{ℕ, true, false, ◌≡◌, IsTrue, Contains, fold, Some, None, option_map, flat_map, List, [], ◌∷◌, ◌++◌, if◌then◌else◌}
 use Rattle.registry_model.specs.Call.{Yes}
 use Rattle.registry_model.specs.Registry.{Registry, in_group, replica_of}
-use Rattle.registry_model.specs.History.{Past, past_of, is_free, is_holding, old, after}
+use Rattle.registry_model.specs.History.{Standing, standing_of, is_free, is_holding, old, after}
 use Rattle.registry_model.specs.Legal.{IsLegal}
 use Rattle.protocol_model.specs.Event.{Event, Answer, HoldsLock}
 use Rattle.protocol_model.specs.World.{Opening, in_world, in_cluster, WorldEvent, At, opening_world, run}
@@ -13,19 +13,19 @@ use Rattle.protocol_model.specs.Fit.{IsPrefix, Fits}
 use Rattle.protocol_model.specs.Answers.{answers_at, entered_at, AnswersInTime}
 
 -- what the history of these events comes to
-abbrev pub past : Opening → List Played → Past
-past o ps = past_of (in_cluster o) (entries_of ps)
+abbrev pub standing : Opening → List Played → Standing
+standing o ps = standing_of (in_cluster o) (entries_of ps)
 
 -- node a shows all that the registry has for it: its table, its members, whom it was told has left, whether it is joined
 abbrev pub Shows : Registry → ℕ → Seen → Type 0
 Shows r a now = now.node a ≡ replica_of r a
 
 -- node a is of the world and hasn't left
-abbrev pub IsRunning : Opening → Past → ℕ → Type 0
+abbrev pub IsRunning : Opening → Standing → ℕ → Type 0
 IsRunning o t a = (in_world o a ≡ true) × (t.registry.left a ≡ false)
 
 -- all running nodes of the group of a show the registry
-abbrev pub GroupShows : Opening → Past → ℕ → Seen → Type 0
+abbrev pub GroupShows : Opening → Standing → ℕ → Seen → Type 0
 GroupShows o t a now = (c : ℕ) → in_group t.registry a c ≡ true → IsRunning o t c → Shows t.registry c now
 
 -- each event of a course, behind those before it
@@ -41,20 +41,20 @@ pub record Headline (o : Opening) (ps : List Played) (now : Seen) : Type 0 where
   -- at each node the answers to its name and join calls are those of its entries, in their order, each once
   pub replies : (a : ℕ) → IsPrefix (answers_at a ps) (flat_map (entered_at a) (entries_of ps))
   -- they come in time
-  pub in_time : EachStep ps (λ before p. AnswersInTime (past o before) p (fold after (past o before) p.entries))
+  pub in_time : EachStep ps (λ before p. AnswersInTime (standing o before) p (fold after (standing o before) p.entries))
   -- while no operation of its group holds, a running node shows the registry
-  pub free : (a : ℕ) → IsRunning o (past o ps) a → IsTrue (is_free (past o ps) a) → Shows (past o ps).registry a now
+  pub free : (a : ℕ) → IsRunning o (standing o ps) a → IsTrue (is_free (standing o ps) a) → Shows (standing o ps).registry a now
   -- while one holds, it shows the registry with or without that operation
-  pub held : (a : ℕ) → IsRunning o (past o ps) a →
-      Shows (past o ps).registry a now ⊎ Shows (old (past o ps) a) a now
+  pub held : (a : ℕ) → IsRunning o (standing o ps) a →
+      Shows (standing o ps).registry a now ⊎ Shows (old (standing o ps) a) a now
   -- in a step that answers `yes`, every running node of that group has carried out the write
   pub written : (before : List Played) (p : Played) (s : Answer) → ps ≡ before ++ p ∷ [] → Contains p.answers s → s.reply ≡ Yes →
-      GroupShows o (past o ps) s.node now
+      GroupShows o (standing o ps) s.node now
   -- a leave is refused exactly while an operation of that node holds
-  pub leave : (a : ℕ) → IsRunning o (past o ps) a →
-      now.refusal (At a Event.Leave) ≡ (if is_holding (past o ps) a then Some HoldsLock else None)
+  pub leave : (a : ℕ) → IsRunning o (standing o ps) a →
+      now.refusal (At a Event.Leave) ≡ (if is_holding (standing o ps) a then Some HoldsLock else None)
   -- the holder is the node of the operation that holds in the cluster
-  pub holder : now.holder ≡ option_map (λ h. h.node) (past o ps).held
+  pub holder : now.holder ≡ option_map (λ h. h.node) (standing o ps).held
 
 -- The headline for every list of events; those that the world refuses change nothing
 abbrev pub Agreement : Type 0

@@ -10,13 +10,13 @@ use Rattle.registry_model.specs.Table.{Table, StrikeOwner, changed}
 use Rattle.registry_model.specs.Call.{Joined, is_grant, change_of}
 use Rattle.registry_model.specs.Settlement.{settle}
 use Rattle.registry_model.specs.Registry.{Registry, with_table, view}
-use Rattle.registry_model.specs.History.{Entry, Name, Strike, Join, Done, Exit, Left, Told, Read, effect, registry_of, past_of}
+use Rattle.registry_model.specs.History.{Entry, Name, Strike, Join, Done, Exit, Left, Told, Read, effect, registry_of, standing_of}
 use Rattle.registry_model.specs.Legal.{IsLegal}
 use Rattle.registry_model.specs.HistoryLaws.{Died, DeadForGood, JoinsOnce}
 use Rattle.registry_model.specs.HistoryLaws.Died.{Exited, Killed}
 use Rattle.registry_model.proofs.Lists.{by_push, Contains-split, list_any-Contains, Contains-list_any, is_process-true, is_process-same}
 use Rattle.registry_model.proofs.Updates.{at_same, at_other}
-use Rattle.registry_model.proofs.HistoryParts.{registry_of-append, registry_of-push, registry-past_of, is_legal-at}
+use Rattle.registry_model.proofs.HistoryParts.{registry_of-append, registry_of-push, registry-standing_of, is_legal-at}
 use Rattle.registry_model.proofs.Groups.{joined-with_table}
 use Rattle.registry_model.proofs.Legality.{join_is_legal}
 
@@ -181,8 +181,8 @@ dead_law cluster h = record {
 pub lone_before : (cluster : Nodes) (before later : List Entry) (j k m : ℕ) →
     IsLegal cluster (before ++ Join j k m Joined ∷ later) → (registry_of cluster before).joined j ≡ false
 lone_before cluster before later j k m l =
-    ap (λ (r : Registry). r.joined j) (sym (registry-past_of cluster before))
-    ∙ (join_is_legal (past_of cluster before) j m (is_legal-at cluster before later (Join j k m Joined) l)).lone
+    ap (λ (r : Registry). r.joined j) (sym (registry-standing_of cluster before))
+    ∙ (join_is_legal (standing_of cluster before) j m (is_legal-at cluster before later (Join j k m Joined) l)).lone
 
 -- and is joined after
 pub joined_after : (cluster : Nodes) (before later : List Entry) (j k m : ℕ) →

@@ -7,12 +7,12 @@ use Rattle.std.proofs.lemmas.Bool.{eqb-true, eqb-false, eq-eqb, and_parts, both_
 use Rattle.registry_model.specs.Process.{Nodes, at}
 use Rattle.registry_model.specs.Call.{Joined, is_grant}
 use Rattle.registry_model.specs.Registry.{Registry, in_group}
-use Rattle.registry_model.specs.History.{Entry, Name, Strike, Join, Done, Exit, Left, Told, Read, effect, registry_of, holder_of, Hold, Past, hold_at, is_free, is_of, is_holding, with_hold, past_it, with_holder, pushed, after, nothing_yet, past_of}
+use Rattle.registry_model.specs.History.{Entry, Name, Strike, Join, Done, Exit, Left, Told, Read, effect, registry_of, granted_to, Hold, Standing, hold_at, is_free, is_hold_of, is_holding, set_hold, with_effect_on, begin_hold, with_effect, after, nothing_yet, standing_of}
 use Rattle.registry_model.specs.Legal.{is_legal, all_legal, IsLegal}
-use Rattle.registry_model.specs.HistoryLaws.{IsLeftOut, OldLeavesOut, HoldsUntilDone, IsAlone, NeverOverlap, decider_of}
+use Rattle.registry_model.specs.HistoryLaws.{IsLeftOut, OldLeavesOut, HoldsUntilDone, LeavesAlone, NeverOverlap, decided_by}
 use Rattle.registry_model.proofs.Lists.{by_push, Contains-nil, Contains-front, Contains-behind}
 use Rattle.registry_model.proofs.Updates.{at_same, at_other, by_test}
-use Rattle.registry_model.proofs.HistoryParts.{registry_of-push, past_of-push, past_of-append, registry-past_of, all_legal-append, is_legal-at, IsLegal-front}
+use Rattle.registry_model.proofs.HistoryParts.{registry_of-push, standing_of-push, standing_of-append, registry-standing_of, all_legal-append, is_legal-at, IsLegal-front}
 use Rattle.registry_model.proofs.Groups.{in_group-itself}
 use Rattle.registry_model.proofs.Legality.{decider_is_free, JoinIsLegal, join_is_legal}
 use Rattle.registry_model.proofs.Deaths.{joined_stays, joined-effect}
@@ -20,7 +20,7 @@ use Rattle.registry_model.proofs.Deaths.{joined_stays, joined-effect}
 -- an entry that ends no operation
 pub record IsNoDone (e : Entry) : Type 0 where
   pub other : (a : ℕ) → e ≡ Done a → ⊥
-  pub after : (s : Past) → after s e ≡ with_holder e s.registry (holder_of e) (pushed e s)
+  pub after : (s : Standing) → after s e ≡ begin_hold e s.registry (granted_to e) (with_effect e s)
 
 -- a `Done`, or any other entry
 pub cases_done : (e : Entry) → ((a : ℕ) × (e ≡ Done a)) ⊎ IsNoDone e
@@ -34,7 +34,7 @@ cases_done (Told n d) = inr (record { other = λ a k. cc; after = λ s. refl })
 cases_done (Read n look reply) = inr (record { other = λ a k. cc; after = λ s. refl })
 
 -- what began just now is left out
-pub IsLeftOut-now : (cluster : Nodes) (h : List Entry) (e : Entry) (n : ℕ) → holder_of e ≡ Some n →
+pub IsLeftOut-now : (cluster : Nodes) (h : List Entry) (e : Entry) (n : ℕ) → granted_to e ≡ Some n →
     IsLeftOut cluster (h ++ e ∷ []) (record { node = n; entry = e; old = registry_of cluster h })
 IsLeftOut-now cluster h e n i = record {
   before = h;
@@ -60,7 +60,7 @@ IsLeftOut-push cluster h e k ne l = record {
 }
 
 -- what is known of the operations that hold: of the cluster's, and of each lone node's
-pub record Holds (cluster : Nodes) (h : List Entry) (s : Past) : Type 0 where
+pub record Holds (cluster : Nodes) (h : List Entry) (s : Standing) : Type 0 where
   pub registry : s.registry ≡ registry_of cluster h
   pub joined : (k : Hold) → s.held ≡ Some k → s.registry.joined k.node ≡ true
   pub cluster_out : (k : Hold) → s.held ≡ Some k → IsLeftOut cluster h k
@@ -68,10 +68,10 @@ pub record Holds (cluster : Nodes) (h : List Entry) (s : Past) : Type 0 where
   pub lone_out : (n : ℕ) (k : Hold) → s.registry.joined n ≡ false → s.lone_held n ≡ Some k → IsLeftOut cluster h k
 
 -- an operation begins or ends to hold in n's group
-pub Holds-with_hold : (cluster : Nodes) (h : List Entry) (n : ℕ) (o : Option Hold) (s : Past) →
+pub Holds-set_hold : (cluster : Nodes) (h : List Entry) (n : ℕ) (o : Option Hold) (s : Standing) →
     ((k : Hold) → o ≡ Some k → (k.node ≡ n) × IsLeftOut cluster h k) → Holds cluster h s →
-    Holds cluster h (with_hold n o s)
-Holds-with_hold cluster h n o s new g = go (s.registry.joined n) refl
+    Holds cluster h (set_hold n o s)
+Holds-set_hold cluster h n o s new g = go (s.registry.joined n) refl
   where
     go : (b : Bool) → s.registry.joined n ≡ b →
         Holds cluster h (if b then record s { held = o } else record s { lone_held = at s.lone_held n o })
@@ -94,29 +94,29 @@ Holds-with_hold cluster h n o s new g = go (s.registry.joined n) refl
     }
 
 -- an entry comes after what holds
-pub past_it-some : (e : Entry) (o : Option Hold) (k : Hold) → past_it e o ≡ Some k →
+pub with_effect_on-some : (e : Entry) (o : Option Hold) (k : Hold) → with_effect_on e o ≡ Some k →
     (l : Hold) × (o ≡ Some l) × (record l { old = effect e l.old } ≡ k)
-past_it-some e None k i = absurd cc
-past_it-some e (Some l) k i = (l, refl, cc)
+with_effect_on-some e None k i = absurd cc
+with_effect_on-some e (Some l) k i = (l, refl, cc)
 
 -- an entry that isn't a `Done` of the holder comes after what holds
-pub Holds-pushed : (cluster : Nodes) (h : List Entry) (e : Entry) (s : Past) → ((a : ℕ) → e ≡ Done a → ⊥) →
-    Holds cluster h s → Holds cluster (h ++ e ∷ []) (pushed e s)
-Holds-pushed cluster h e s ne g = record {
+pub Holds-with_effect : (cluster : Nodes) (h : List Entry) (e : Entry) (s : Standing) → ((a : ℕ) → e ≡ Done a → ⊥) →
+    Holds cluster h s → Holds cluster (h ++ e ∷ []) (with_effect e s)
+Holds-with_effect cluster h e s ne g = record {
   registry = ap (effect e) g.registry ∙ sym (registry_of-push cluster h e);
   joined = λ k i. let (l, a, b) : (l : Hold) × (s.held ≡ Some l) × (record l { old = effect e l.old } ≡ k) =
-      past_it-some e s.held k i in
+      with_effect_on-some e s.held k i in
       subst (λ (k : Hold). (effect e s.registry).joined k.node ≡ true) b
       (joined_stays s.registry e l.node (g.joined l a));
   cluster_out = λ k i. let (l, a, b) : (l : Hold) × (s.held ≡ Some l) × (record l { old = effect e l.old } ≡ k) =
-      past_it-some e s.held k i in
+      with_effect_on-some e s.held k i in
       subst (λ (k : Hold). IsLeftOut cluster (h ++ e ∷ []) k) b
       (IsLeftOut-push cluster h e l (ne l.node) (g.cluster_out l a));
   lone = λ n k i. let (l, a, b) : (l : Hold) × (s.lone_held n ≡ Some l) × (record l { old = effect e l.old } ≡ k) =
-      past_it-some e (s.lone_held n) k i in
+      with_effect_on-some e (s.lone_held n) k i in
       subst (λ (k : Hold). k.node ≡ n) b (g.lone n l a);
   lone_out = λ n k j i. let (l, a, b) : (l : Hold) × (s.lone_held n ≡ Some l)
-      × (record l { old = effect e l.old } ≡ k) = past_it-some e (s.lone_held n) k i in
+      × (record l { old = effect e l.old } ≡ k) = with_effect_on-some e (s.lone_held n) k i in
       subst (λ (k : Hold). IsLeftOut cluster (h ++ e ∷ []) k) b
       (IsLeftOut-push cluster h e l (ne l.node) (g.lone_out n l (was_lone n j) a));
 }
@@ -129,7 +129,7 @@ Holds-pushed cluster h e s ne g = record {
         go false i = refl
 
 -- a `Done` of a node whose operation doesn't hold any more
-pub Holds-past_done : (cluster : Nodes) (h : List Entry) (a : ℕ) (s : Past) →
+pub Holds-past_done : (cluster : Nodes) (h : List Entry) (a : ℕ) (s : Standing) →
     ((k : Hold) → s.held ≡ Some k → k.node ≡ a → ⊥) →
     ((n : ℕ) (k : Hold) → s.registry.joined n ≡ false → s.lone_held n ≡ Some k → k.node ≡ a → ⊥) → Holds cluster h s →
     Holds cluster (h ++ Done a ∷ []) s
@@ -142,7 +142,7 @@ Holds-past_done cluster h a s not_held not_lone g = record {
 }
 
 -- each `Done`
-pub Holds-done : (cluster : Nodes) (h : List Entry) (a : ℕ) (s : Past) → Holds cluster h s →
+pub Holds-done : (cluster : Nodes) (h : List Entry) (a : ℕ) (s : Standing) → Holds cluster h s →
     Holds cluster (h ++ Done a ∷ []) (after s (Done a))
 Holds-done cluster h a s g = go (is_holding s a) refl
   where
@@ -159,8 +159,8 @@ Holds-done cluster h a s g = go (is_holding s a) refl
         subst (λ (x : ℕ). s.registry.joined x ≡ false) (sym (g.lone n k i) ∙ e) j in
         cc
 
-    ends : Holds cluster (h ++ Done a ∷ []) (with_hold a None s)
-    ends = by (s.registry.joined a) refl (Holds-with_hold cluster h a None s (λ k e. absurd cc) g)
+    ends : Holds cluster (h ++ Done a ∷ []) (set_hold a None s)
+    ends = by (s.registry.joined a) refl (Holds-set_hold cluster h a None s (λ k e. absurd cc) g)
       where
         by : (b : Bool) → s.registry.joined a ≡ b →
             Holds cluster h (if b then record s { held = None } else record s { lone_held = at s.lone_held a None }) →
@@ -188,20 +188,20 @@ Holds-done cluster h a s g = go (is_holding s a) refl
         cc)
         g
 
-    go : (b : Bool) → is_holding s a ≡ b → Holds cluster (h ++ Done a ∷ []) (if b then with_hold a None s else s)
+    go : (b : Bool) → is_holding s a ≡ b → Holds cluster (h ++ Done a ∷ []) (if b then set_hold a None s else s)
     go true i = ends
     go false i = stays i
 
 -- each entry
-pub Holds-after : (cluster : Nodes) (h : List Entry) (e : Entry) (s : Past) → Holds cluster h s →
+pub Holds-after : (cluster : Nodes) (h : List Entry) (e : Entry) (s : Standing) → Holds cluster h s →
     Holds cluster (h ++ e ∷ []) (after s e)
 Holds-after cluster h e s g = go (cases_done e)
   where
-    begun : (o : Option ℕ) → holder_of e ≡ o → Holds cluster (h ++ e ∷ []) (pushed e s) →
-        Holds cluster (h ++ e ∷ []) (with_holder e s.registry o (pushed e s))
+    begun : (o : Option ℕ) → granted_to e ≡ o → Holds cluster (h ++ e ∷ []) (with_effect e s) →
+        Holds cluster (h ++ e ∷ []) (begin_hold e s.registry o (with_effect e s))
     begun None i f = f
-    begun (Some n) i f = Holds-with_hold cluster (h ++ e ∷ []) n
-        (Some (record { node = n; entry = e; old = s.registry })) (pushed e s) new f
+    begun (Some n) i f = Holds-set_hold cluster (h ++ e ∷ []) n
+        (Some (record { node = n; entry = e; old = s.registry })) (with_effect e s) new f
       where
         hold : Registry → Hold
         hold r = record { node = n; entry = e; old = r }
@@ -217,15 +217,15 @@ Holds-after cluster h e s g = go (cases_done e)
     go : ((a : ℕ) × (e ≡ Done a)) ⊎ IsNoDone e → Holds cluster (h ++ e ∷ []) (after s e)
     go (inl (a, i)) = subst (λ (e : Entry). Holds cluster (h ++ e ∷ []) (after s e)) (sym i)
         (Holds-done cluster h a s g)
-    go (inr o) = subst (λ (s : Past). Holds cluster (h ++ e ∷ []) s) (sym (o.after s))
-        (begun (holder_of e) refl (Holds-pushed cluster h e s o.other g))
+    go (inr o) = subst (λ (s : Standing). Holds cluster (h ++ e ∷ []) s) (sym (o.after s))
+        (begun (granted_to e) refl (Holds-with_effect cluster h e s o.other g))
 
 -- what each history comes to
-pub Holds-past_of : (cluster : Nodes) (h : List Entry) → Holds cluster h (past_of cluster h)
-Holds-past_of cluster h =
-    by_push (λ h. Holds cluster h (past_of cluster h)) first
-    (λ h e g. subst (λ (s : Past). Holds cluster (h ++ e ∷ []) s) (sym (past_of-push cluster h e))
-    (Holds-after cluster h e (past_of cluster h) g)) h
+pub Holds-standing_of : (cluster : Nodes) (h : List Entry) → Holds cluster h (standing_of cluster h)
+Holds-standing_of cluster h =
+    by_push (λ h. Holds cluster h (standing_of cluster h)) first
+    (λ h e g. subst (λ (s : Standing). Holds cluster (h ++ e ∷ []) s) (sym (standing_of-push cluster h e))
+    (Holds-after cluster h e (standing_of cluster h) g)) h
   where
     first : Holds cluster [] (nothing_yet cluster)
     first = record {
@@ -237,7 +237,7 @@ Holds-past_of cluster h =
     }
 
 -- what holds in a group is left out
-pub left_out-hold_at : (cluster : Nodes) (h : List Entry) (s : Past) → Holds cluster h s → (n : ℕ) (k : Hold) →
+pub left_out-hold_at : (cluster : Nodes) (h : List Entry) (s : Standing) → Holds cluster h s → (n : ℕ) (k : Hold) →
     hold_at s n ≡ Some k → IsLeftOut cluster h k
 left_out-hold_at cluster h s g n k = go (s.registry.joined n) refl
   where
@@ -248,17 +248,17 @@ left_out-hold_at cluster h s g n k = go (s.registry.joined n) refl
 -- the registry kept beside an operation is that of the history without its entry
 pub old_law : (cluster : Nodes) (h : List Entry) → OldLeavesOut cluster h
 old_law cluster h = record {
-  registry = registry-past_of cluster h;
-  left_out = λ n k i. left_out-hold_at cluster h (past_of cluster h) (Holds-past_of cluster h) n k i;
+  registry = registry-standing_of cluster h;
+  left_out = λ n k i. left_out-hold_at cluster h (standing_of cluster h) (Holds-standing_of cluster h) n k i;
 }
 
 -- an operation of a holds, which began with this entry
-abbrev pub IsHeld : Past → ℕ → Entry → Type 0
+abbrev pub IsHeld : Standing → ℕ → Entry → Type 0
 IsHeld s a e = (k : Hold) × (hold_at s a ≡ Some k) × (k.node ≡ a) × (k.entry ≡ e)
 
 -- what begins to hold at n holds there
-pub hold_at-with_hold : (n : ℕ) (o : Option Hold) (s : Past) → hold_at (with_hold n o s) n ≡ o
-hold_at-with_hold n o s = go (s.registry.joined n) refl
+pub hold_at-set_hold : (n : ℕ) (o : Option Hold) (s : Standing) → hold_at (set_hold n o s) n ≡ o
+hold_at-set_hold n o s = go (s.registry.joined n) refl
   where
     go : (b : Bool) → s.registry.joined n ≡ b →
         hold_at (if b then record s { held = o } else record s { lone_held = at s.lone_held n o }) n ≡ o
@@ -266,8 +266,8 @@ hold_at-with_hold n o s = go (s.registry.joined n) refl
     go false j = rw j (at_same s.lone_held n o)
 
 -- and leaves what holds in other groups
-pub hold_at-with_hold_other : (a b : ℕ) (o : Option Hold) (s : Past) → in_group s.registry a b ≡ false →
-    hold_at (with_hold b o s) a ≡ hold_at s a
+pub hold_at-with_hold_other : (a b : ℕ) (o : Option Hold) (s : Standing) → in_group s.registry a b ≡ false →
+    hold_at (set_hold b o s) a ≡ hold_at s a
 hold_at-with_hold_other a b o s i = go (s.registry.joined b) refl (s.registry.joined a) refl i
   where
     go : (c : Bool) → s.registry.joined b ≡ c → (d : Bool) → s.registry.joined a ≡ d →
@@ -279,7 +279,7 @@ hold_at-with_hold_other a b o s i = go (s.registry.joined b) refl (s.registry.jo
     go false j false k i = rw k (at_other s.lone_held b o a (λ e. eqb-false b a i (sym e)))
 
 -- what holds in one group holds at each of its nodes
-pub hold_at-group : (s : Past) (a b : ℕ) → in_group s.registry a b ≡ true → hold_at s b ≡ hold_at s a
+pub hold_at-group : (s : Standing) (a b : ℕ) → in_group s.registry a b ≡ true → hold_at s b ≡ hold_at s a
 hold_at-group s a b i = go (s.registry.joined a) refl i
   where
     go : (d : Bool) → s.registry.joined a ≡ d → (if d then s.registry.joined b else b == a) ≡ true →
@@ -288,7 +288,7 @@ hold_at-group s a b i = go (s.registry.joined a) refl i
     go false k i = ap (hold_at s) (eqb-true b a i)
 
 -- where nothing holds, nothing holds in a's group, so it is another
-pub other_group : (s : Past) (a b : ℕ) (k : Hold) → hold_at s a ≡ Some k → is_free s b ≡ true →
+pub other_group : (s : Standing) (a b : ℕ) (k : Hold) → hold_at s a ≡ Some k → is_free s b ≡ true →
     in_group s.registry a b ≡ false
 other_group s a b k i f = go (in_group s.registry a b) refl
   where
@@ -300,15 +300,15 @@ other_group s a b k i f = go (in_group s.registry a b) refl
     go false g = refl
 
 -- while an operation of a holds, a legal entry decides nothing in a's group
-pub alone_while_held : (s : Past) (f : Entry) (a : ℕ) (k : Hold) → hold_at s a ≡ Some k → is_legal s f ≡ true →
-    IsAlone s.registry a f
+pub alone_while_held : (s : Standing) (f : Entry) (a : ℕ) (k : Hold) → hold_at s a ≡ Some k → is_legal s f ≡ true →
+    LeavesAlone s.registry a f
 alone_while_held s f a k i l = record {
   decided = λ b d. other_group s a b k i (decider_is_free s f b l d);
   joined = λ j o m e. other_group s a j k i (join_is_legal s j m (ap (is_legal s) (sym e) ∙ l)).free;
 }
 
 -- an entry that decides nothing in a's group leaves whether a is joined
-pub joined-alone : (s : Past) (f : Entry) (a : ℕ) → IsAlone s.registry a f →
+pub joined-alone : (s : Standing) (f : Entry) (a : ℕ) → LeavesAlone s.registry a f →
     (effect f s.registry).joined a ≡ s.registry.joined a
 joined-alone s f a alone = elim (joined-effect s.registry f a) [
   | inl (k, m, i) ↦ absurd (both_ways (in_group s.registry a a) (alone.joined a k m i) (in_group-itself s.registry a))
@@ -316,7 +316,7 @@ joined-alone s f a alone = elim (joined-effect s.registry f a) [
 ]
 
 -- whoever holds has decided
-pub decider-holder : (f : Entry) (b : ℕ) → holder_of f ≡ Some b → decider_of f ≡ Some b
+pub decider-holder : (f : Entry) (b : ℕ) → granted_to f ≡ Some b → decided_by f ≡ Some b
 decider-holder (Name n k call reply) b i = go (is_grant reply) i
   where
     go : (g : Bool) → (if g then Some n else None) ≡ Some b → ◌≡◌ {A = Option ℕ} (Some n) (Some b)
@@ -332,12 +332,12 @@ decider-holder (Told n c) b i = absurd cc
 decider-holder (Read n look reply) b i = absurd cc
 
 -- whoever decides was joined before, or is no joiner
-pub joined-decider : (s : Past) (f : Entry) (b : ℕ) → is_legal s f ≡ true → decider_of f ≡ Some b →
+pub joined-decider : (s : Standing) (f : Entry) (b : ℕ) → is_legal s f ≡ true → decided_by f ≡ Some b →
     (effect f s.registry).joined b ≡ s.registry.joined b
 joined-decider s f b l d = elim (joined-effect s.registry f b) [
   | inl (k, m, i) ↦
       let g : JoinIsLegal s b m = join_is_legal s b m (ap (is_legal s) (sym i) ∙ l) in
-      let e : ◌≡◌ {A = Option ℕ} (Some m) (Some b) = ap decider_of (sym i) ∙ d in
+      let e : ◌≡◌ {A = Option ℕ} (Some m) (Some b) = ap decided_by (sym i) ∙ d in
       let c : m ≡ b = cc in
       let j : s.registry.joined b ≡ true = subst (λ (x : ℕ). s.registry.joined x ≡ true) c g.contact in
       absurd (both_ways (s.registry.joined b) g.lone j)
@@ -345,11 +345,11 @@ joined-decider s f b l d = elim (joined-effect s.registry f b) [
 ]
 
 -- an operation holds as long as its node isn't done
-pub IsHeld-after : (s : Past) (e f : Entry) (a : ℕ) → IsHeld s a e → is_legal s f ≡ true → (f ≡ Done a → ⊥) →
+pub IsHeld-after : (s : Standing) (e f : Entry) (a : ℕ) → IsHeld s a e → is_legal s f ≡ true → (f ≡ Done a → ⊥) →
     IsHeld (after s f) a e
 IsHeld-after s e f a (k, i, n, w) l ne = go (cases_done f)
   where
-    alone : IsAlone s.registry a f
+    alone : LeavesAlone s.registry a f
     alone = alone_while_held s f a k i l
 
     -- a `Done` of another node
@@ -358,7 +358,7 @@ IsHeld-after s e f a (k, i, n, w) l ne = go (cases_done f)
       where
         by : (c : Bool) → in_group s.registry a b ≡ c → c ≡ false
         by true g =
-            let h : is_of b (Some k) ≡ true = ap (is_of b) (sym (hold_at-group s a b g ∙ i)) ∙ ap (is_legal s) (sym j)
+            let h : is_hold_of b (Some k) ≡ true = ap (is_hold_of b) (sym (hold_at-group s a b g ∙ i)) ∙ ap (is_legal s) (sym j)
             ∙ l in
             let m : b ≡ a = sym (eqb-true k.node b h) ∙ n in
             absurd (ne (j ∙ ap (λ (x : ℕ). Done x) m))
@@ -367,19 +367,19 @@ IsHeld-after s e f a (k, i, n, w) l ne = go (cases_done f)
     next : Hold
     next = record k { old = effect f k.old }
 
-    pushed_at : hold_at (pushed f s) a ≡ Some next
-    pushed_at = ap (λ (b : Bool). if b then past_it f s.held else past_it f (s.lone_held a)) (joined-alone s f a alone)
+    pushed_at : hold_at (with_effect f s) a ≡ Some next
+    pushed_at = ap (λ (b : Bool). if b then with_effect_on f s.held else with_effect_on f (s.lone_held a)) (joined-alone s f a alone)
         ∙ by (s.registry.joined a) refl i
       where
         by : (b : Bool) → s.registry.joined a ≡ b → (if b then s.held else s.lone_held a) ≡ Some k →
-            (if b then past_it f s.held else past_it f (s.lone_held a)) ≡ Some next
-        by true j i = ap (past_it f) i
-        by false j i = ap (past_it f) i
+            (if b then with_effect_on f s.held else with_effect_on f (s.lone_held a)) ≡ Some next
+        by true j i = ap (with_effect_on f) i
+        by false j i = ap (with_effect_on f) i
 
-    begun : (o : Option ℕ) → holder_of f ≡ o → hold_at (with_holder f s.registry o (pushed f s)) a ≡ Some next
+    begun : (o : Option ℕ) → granted_to f ≡ o → hold_at (begin_hold f s.registry o (with_effect f s)) a ≡ Some next
     begun None j = pushed_at
     begun (Some b) j = hold_at-with_hold_other a b (Some (record { node = b; entry = f; old = s.registry }))
-        (pushed f s) apart ∙ pushed_at
+        (with_effect f s) apart ∙ pushed_at
       where
         apart : in_group (effect f s.registry) a b ≡ false
         apart =
@@ -392,30 +392,30 @@ IsHeld-after s e f a (k, i, n, w) l ne = go (cases_done f)
     go (inl (b, j)) = (k, ap (λ (f : Entry). hold_at (after s f) a) j ∙ ends ∙ i, n, w)
       where
         ends : hold_at (after s (Done b)) a ≡ hold_at s a
-        ends = ap (λ (c : Bool). hold_at (if c then with_hold b None s else s) a) (ap (is_legal s) (sym j) ∙ l)
+        ends = ap (λ (c : Bool). hold_at (if c then set_hold b None s else s) a) (ap (is_legal s) (sym j) ∙ l)
             ∙ hold_at-with_hold_other a b None s (other b j)
-    go (inr o) = (next, ap (λ (t : Past). hold_at t a) (o.after s) ∙ begun (holder_of f) refl, n, w)
+    go (inr o) = (next, ap (λ (t : Standing). hold_at t a) (o.after s) ∙ begun (granted_to f) refl, n, w)
 
 -- an operation begins to hold
-pub IsHeld-begun : (s : Past) (e : Entry) (a : ℕ) → holder_of e ≡ Some a → IsHeld (after s e) a e
+pub IsHeld-begun : (s : Standing) (e : Entry) (a : ℕ) → granted_to e ≡ Some a → IsHeld (after s e) a e
 IsHeld-begun s e a i = go (cases_done e)
   where
     hold : Hold
     hold = record { node = a; entry = e; old = s.registry }
 
     go : ((a : ℕ) × (e ≡ Done a)) ⊎ IsNoDone e → IsHeld (after s e) a e
-    go (inl (b, j)) = let w : ◌≡◌ {A = Option ℕ} None (Some a) = ap holder_of (sym j) ∙ i in absurd cc
+    go (inl (b, j)) = let w : ◌≡◌ {A = Option ℕ} None (Some a) = ap granted_to (sym j) ∙ i in absurd cc
     go (inr o) = (
       hold,
-      ap (λ (t : Past). hold_at t a) (o.after s
-          ∙ ap (λ (m : Option ℕ). with_holder e s.registry m (pushed e s)) i)
-          ∙ hold_at-with_hold a (Some hold) (pushed e s),
+      ap (λ (t : Standing). hold_at t a) (o.after s
+          ∙ ap (λ (m : Option ℕ). begin_hold e s.registry m (with_effect e s)) i)
+          ∙ hold_at-set_hold a (Some hold) (with_effect e s),
       refl,
       refl,
     )
 
 -- through these entries too
-pub IsHeld-later : (s : Past) (e : Entry) (a : ℕ) (later : List Entry) → IsHeld s a e → all_legal s later ≡ true →
+pub IsHeld-later : (s : Standing) (e : Entry) (a : ℕ) (later : List Entry) → IsHeld s a e → all_legal s later ≡ true →
     (Contains later (Done a) → ⊥) → IsHeld (fold after s later) a e
 IsHeld-later s e a [] held l nd = held
 IsHeld-later s e a (f ∷ later) held l nd =
@@ -427,33 +427,33 @@ IsHeld-later s e a (f ∷ later) held l nd =
     (λ c. nd (Contains-behind f later (Done a) c))
 
 -- the end of these entries, behind an operation that began to hold
-pub IsHeld-past_of : (cluster : Nodes) (before later : List Entry) (e : Entry) (a : ℕ) →
-    IsLegal cluster (before ++ e ∷ later) → holder_of e ≡ Some a → (Contains later (Done a) → ⊥) →
-    IsHeld (past_of cluster (before ++ e ∷ later)) a e
-IsHeld-past_of cluster before later e a l i nd =
+pub IsHeld-standing_of : (cluster : Nodes) (before later : List Entry) (e : Entry) (a : ℕ) →
+    IsLegal cluster (before ++ e ∷ later) → granted_to e ≡ Some a → (Contains later (Done a) → ⊥) →
+    IsHeld (standing_of cluster (before ++ e ∷ later)) a e
+IsHeld-standing_of cluster before later e a l i nd =
     let rest : (all_legal (nothing_yet cluster) before ≡ true)
-    × (all_legal (past_of cluster before) (e ∷ later) ≡ true) =
+    × (all_legal (standing_of cluster before) (e ∷ later) ≡ true) =
     all_legal-append (nothing_yet cluster) before (e ∷ later) l in
-    let behind : (is_legal (past_of cluster before) e ≡ true)
-    × (all_legal (after (past_of cluster before) e) later ≡ true) =
-    and_parts (is_legal (past_of cluster before) e) (all_legal (after (past_of cluster before) e) later) rest.1 in
-    subst (λ (s : Past). IsHeld s a e) (sym (past_of-append cluster before (e ∷ later)))
-    (IsHeld-later (after (past_of cluster before) e) e a later
-    (IsHeld-begun (past_of cluster before) e a i) behind.1 nd)
+    let behind : (is_legal (standing_of cluster before) e ≡ true)
+    × (all_legal (after (standing_of cluster before) e) later ≡ true) =
+    and_parts (is_legal (standing_of cluster before) e) (all_legal (after (standing_of cluster before) e) later) rest.1 in
+    subst (λ (s : Standing). IsHeld s a e) (sym (standing_of-append cluster before (e ∷ later)))
+    (IsHeld-later (after (standing_of cluster before) e) e a later
+    (IsHeld-begun (standing_of cluster before) e a i) behind.1 nd)
 
 -- an operation holds from its entry until its node is done
 pub holds_law : (cluster : Nodes) (h : List Entry) → IsLegal cluster h → HoldsUntilDone cluster h
 holds_law cluster h l before later e a s i nd =
-    subst (λ (h : List Entry). IsHeld (past_of cluster h) a e) (sym s)
-    (IsHeld-past_of cluster before later e a (subst (λ (h : List Entry). IsLegal cluster h) s l) i nd)
+    subst (λ (h : List Entry). IsHeld (standing_of cluster h) a e) (sym s)
+    (IsHeld-standing_of cluster before later e a (subst (λ (h : List Entry). IsLegal cluster h) s l) i nd)
 
 -- while an operation holds, nothing else is decided in its group
 pub overlap_law : (cluster : Nodes) (h : List Entry) → IsLegal cluster h → NeverOverlap cluster h
 overlap_law cluster h l before middle later e f a s i nd =
     let legal : IsLegal cluster (before ++ e ∷ middle ++ f ∷ later) =
     subst (λ (h : List Entry). IsLegal cluster h) s l in
-    let (k, j, n, w) : IsHeld (past_of cluster (before ++ e ∷ middle)) a e =
-    IsHeld-past_of cluster before middle e a (IsLegal-front cluster (before ++ e ∷ middle) (f ∷ later) legal) i nd in
-    subst (λ (r : Registry). IsAlone r a f) (registry-past_of cluster (before ++ e ∷ middle))
-    (alone_while_held (past_of cluster (before ++ e ∷ middle)) f a k j
+    let (k, j, n, w) : IsHeld (standing_of cluster (before ++ e ∷ middle)) a e =
+    IsHeld-standing_of cluster before middle e a (IsLegal-front cluster (before ++ e ∷ middle) (f ∷ later) legal) i nd in
+    subst (λ (r : Registry). LeavesAlone r a f) (registry-standing_of cluster (before ++ e ∷ middle))
+    (alone_while_held (standing_of cluster (before ++ e ∷ middle)) f a k j
     (is_legal-at cluster (before ++ e ∷ middle) later f legal))

@@ -7,9 +7,9 @@ use Rattle.registry_model.specs.Process.{Text, Process, Nodes}
 use Rattle.registry_model.specs.Table.{Table, get, owns}
 use Rattle.registry_model.specs.Call.{NameCall, Register, ReRegister, Reply, Yes, No, Ok, UnknownNode, True, False, Joined, NotMember, ContactLeft, Pid, Undefined, Names, is_reply, is_grant, reply_to}
 use Rattle.registry_model.specs.Registry.{view, members}
-use Rattle.registry_model.specs.History.{Entry, Name, Strike, Join, Done, Exit, Left, Told, Read, Past, is_free}
-use Rattle.registry_model.specs.Legal.{is_legal, is_legal_name, is_legal_join, may_decide}
-use Rattle.registry_model.specs.HistoryLaws.{decider_of}
+use Rattle.registry_model.specs.History.{Entry, Name, Strike, Join, Done, Exit, Left, Told, Read, Standing, is_free}
+use Rattle.registry_model.specs.Legal.{is_legal, is_legal_name, is_legal_admission, may_decide}
+use Rattle.registry_model.specs.HistoryLaws.{decided_by}
 use Rattle.registry_model.proofs.Lists.{is_process-true}
 
 -- replies that pass the test are one
@@ -29,13 +29,13 @@ is_reply-true (Names xs) (Names ys) e = ap (λ (zs : List Text). Names zs) ((byt
 is_reply-true _ _ e = cc
 
 -- a legal name call
-pub record NameIsLegal (s : Past) (n : ℕ) (call : NameCall) (reply : Reply) : Type 0 where
+pub record NameIsLegal (s : Standing) (n : ℕ) (call : NameCall) (reply : Reply) : Type 0 where
   pub free : is_free s n ≡ true
   pub running : s.registry.left n ≡ false
   pub answer : reply ≡ reply_to (members s.registry n) (view s.registry n) call
 
 -- from the test
-pub name_is_legal : (s : Past) (n : ℕ) (call : NameCall) (reply : Reply) → is_legal_name s n call reply ≡ true →
+pub name_is_legal : (s : Standing) (n : ℕ) (call : NameCall) (reply : Reply) → is_legal_name s n call reply ≡ true →
     NameIsLegal s n call reply
 name_is_legal s n call reply l =
     let a : (may_decide s n ≡ true)
@@ -50,7 +50,7 @@ name_is_legal s n call reply l =
     }
 
 -- a legal join that is granted
-pub record JoinIsLegal (s : Past) (j m : ℕ) : Type 0 where
+pub record JoinIsLegal (s : Standing) (j m : ℕ) : Type 0 where
   pub lone : s.registry.joined j ≡ false
   pub free : is_free s j ≡ true
   pub contact : s.registry.joined m ≡ true
@@ -59,7 +59,7 @@ pub record JoinIsLegal (s : Past) (j m : ℕ) : Type 0 where
   pub untold : s.registry.told m j ≡ false
 
 -- from the test
-pub join_is_legal : (s : Past) (j m : ℕ) → is_legal_join s j m ≡ true → JoinIsLegal s j m
+pub join_is_legal : (s : Standing) (j m : ℕ) → is_legal_admission s j m ≡ true → JoinIsLegal s j m
 join_is_legal s j m l =
     let a : (not (s.registry.joined j) && is_free s j && s.registry.joined m && may_decide s m ≡ true)
     × (not (s.registry.told m j) ≡ true) = and_parts _ _ l in
@@ -78,7 +78,7 @@ join_is_legal s j m l =
     }
 
 -- where an operation is decided, none holds
-pub decider_is_free : (s : Past) (f : Entry) (b : ℕ) → is_legal s f ≡ true → decider_of f ≡ Some b → is_free s b ≡ true
+pub decider_is_free : (s : Standing) (f : Entry) (b : ℕ) → is_legal s f ≡ true → decided_by f ≡ Some b → is_free s b ≡ true
 decider_is_free s (Name n k call reply) b l d = let e : n ≡ b = cc in
     subst (λ (x : ℕ). is_free s x ≡ true) e (name_is_legal s n call reply l).free
 decider_is_free s (Strike p) b l d =

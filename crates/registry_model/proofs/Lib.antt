@@ -13,4 +13,4 @@ pub mod Legality
 pub mod Deaths
 pub mod Holding
 pub mod LoneOwners
-pub mod Standing
+pub mod NamesStand

@@ -6,7 +6,7 @@ use Rattle.registry_model.specs.Process.{Text, Process, is_process, Nodes, at}
 use Rattle.registry_model.specs.Table.{Table, is_rising, get, put, remove, strike, changed, StrikeOwner}
 use Rattle.registry_model.specs.Call.{NameCall, Register, ReRegister, Unregister, Reply, Yes, Joined, is_grant, change_of}
 use Rattle.registry_model.specs.Registry.{Registry, in_group, with_table, view, members}
-use Rattle.registry_model.specs.History.{Entry, Name, Strike, Join, Done, Exit, Left, Told, Read, effect, Past, past_of}
+use Rattle.registry_model.specs.History.{Entry, Name, Strike, Join, Done, Exit, Left, Told, Read, effect, Standing, standing_of}
 use Rattle.registry_model.specs.Legal.{is_legal, IsLegal}
 use Rattle.registry_model.proofs.Updates.{by_test}
 use Rattle.registry_model.proofs.Tables.{if_kept, get-put, get-remove, get-strike}
@@ -73,7 +73,7 @@ members-lone r n c j m = go (r.joined n) j (and_parts (in_group r n c) (not (r.t
     go false j i = eqb-true c n i
 
 -- a granted name call
-pub IsOwn-granted : (s : Past) (n : ℕ) (call : NameCall) (reply : Reply) → NameIsLegal s n call reply →
+pub IsOwn-granted : (s : Standing) (n : ℕ) (call : NameCall) (reply : Reply) → NameIsLegal s n call reply →
     is_grant reply ≡ true → s.registry.joined n ≡ false →
     IsOwn n (s.registry.lone n) → IsOwn n (changed (change_of call) (s.registry.lone n))
 IsOwn-granted s n (Register x p) reply l g j o =
@@ -88,7 +88,7 @@ IsOwn-granted s n (ReRegister x p) reply l g j o =
 IsOwn-granted s n (Unregister x) reply l g j o = IsOwn-remove n (s.registry.lone n) x o
 
 -- each legal entry
-pub LoneOwners-effect : (s : Past) (e : Entry) → is_legal s e ≡ true → Rises s.registry → LoneOwners s.registry →
+pub LoneOwners-effect : (s : Standing) (e : Entry) → is_legal s e ≡ true → Rises s.registry → LoneOwners s.registry →
     LoneOwners (effect e s.registry)
 LoneOwners-effect s (Name n k call reply) l r g = go (is_grant reply) refl
   where
@@ -117,8 +117,8 @@ pub record IsGood (r : Registry) : Type 0 where
   pub owners : LoneOwners r
 
 -- what each legal history comes to
-pub IsGood-past_of : (cluster : Nodes) (h : List Entry) → IsLegal cluster h → IsGood (past_of cluster h).registry
-IsGood-past_of cluster h l = legal_keeps cluster (λ s. IsGood s.registry)
+pub IsGood-standing_of : (cluster : Nodes) (h : List Entry) → IsLegal cluster h → IsGood (standing_of cluster h).registry
+IsGood-standing_of cluster h l = legal_keeps cluster (λ s. IsGood s.registry)
     (record {
       rises = record { table = refl; lone = λ n. refl };
       owners =

@@ -5,11 +5,11 @@ use Rattle.registry_model.specs.Table.{Pair, Table, is_rising, get, owns}
 use Rattle.registry_model.specs.Call.{Register, ReRegister, Unregister, Yes, Ok, Joined}
 use Rattle.registry_model.specs.Settlement.{settle}
 use Rattle.registry_model.specs.Registry.{Registry, in_group, table_of, view, members}
-use Rattle.registry_model.specs.History.{Entry, Name, Strike, Join, Done, Exit, Told, registry_of, holder_of, Hold, hold_at, past_of}
+use Rattle.registry_model.specs.History.{Entry, Name, Strike, Join, Done, Exit, Told, registry_of, granted_to, Hold, hold_at, standing_of}
 
 -- no name has two owners, and the names rise
 pub record HasOneOwner (table : Table) : Type 0 where
-  pub owner : (e d : Pair) → Contains table e → Contains table d → e.name ≡ d.name → e ≡ d
+  pub owner : (pair other : Pair) → Contains table pair → Contains table other → pair.name ≡ other.name → pair ≡ other
   pub rises : IsTrue (is_rising table)
 
 -- In the table of each group no name has two owners
@@ -56,42 +56,42 @@ NamesStand cluster h = (before later : List Entry) (e : Entry) (n : ℕ) (x : Te
     (get x (view (registry_of cluster (before ++ e ∷ [])) n) ≡ Some p) ⊎ Takes (registry_of cluster before) n x p e
 
 -- the node that the entry decides an operation of, be it granted or refused
-abbrev pub decider_of : Entry → Option ℕ
-decider_of (Name b k call reply) = Some b
-decider_of (Strike p) = Some p.node
-decider_of (Join j k b Joined) = Some b
-decider_of _ = None
+abbrev pub decided_by : Entry → Option ℕ
+decided_by (Name b k call reply) = Some b
+decided_by (Strike p) = Some p.node
+decided_by (Join j k b Joined) = Some b
+decided_by _ = None
 
--- nobody of a's group decides an operation or joins
-pub record IsAlone (r : Registry) (a : ℕ) (f : Entry) : Type 0 where
-  pub decided : (b : ℕ) → decider_of f ≡ Some b → in_group r a b ≡ false
+-- the entry leaves a's group undisturbed: it decides no operation of a node of that group, and no node of it joins
+pub record LeavesAlone (r : Registry) (a : ℕ) (f : Entry) : Type 0 where
+  pub decided : (b : ℕ) → decided_by f ≡ Some b → in_group r a b ≡ false
   pub joined : (j k m : ℕ) → f ≡ Join j k m Joined → in_group r a j ≡ false
 
 -- While an operation of a holds, nothing else is decided in a's group
 abbrev pub NeverOverlap : Nodes → List Entry → Type 0
 NeverOverlap cluster h = (before middle later : List Entry) (e f : Entry) (a : ℕ) →
-    h ≡ before ++ e ∷ middle ++ f ∷ later → holder_of e ≡ Some a → (Contains middle (Done a) → ⊥) →
-    IsAlone (registry_of cluster (before ++ e ∷ middle)) a f
+    h ≡ before ++ e ∷ middle ++ f ∷ later → granted_to e ≡ Some a → (Contains middle (Done a) → ⊥) →
+    LeavesAlone (registry_of cluster (before ++ e ∷ middle)) a f
 
 -- An operation holds from its entry until its node is done
 abbrev pub HoldsUntilDone : Nodes → List Entry → Type 0
 HoldsUntilDone cluster h = (before later : List Entry) (e : Entry) (a : ℕ) →
-    h ≡ before ++ e ∷ later → holder_of e ≡ Some a → (Contains later (Done a) → ⊥) →
-    (k : Hold) × (hold_at (past_of cluster h) a ≡ Some k) × (k.node ≡ a) × (k.entry ≡ e)
+    h ≡ before ++ e ∷ later → granted_to e ≡ Some a → (Contains later (Done a) → ⊥) →
+    (hold : Hold) × (hold_at (standing_of cluster h) a ≡ Some hold) × (hold.node ≡ a) × (hold.entry ≡ e)
 
--- the operation k has its entry between these, isn't done, and the registry beside it is that of the others
-pub record IsLeftOut (cluster : Nodes) (h : List Entry) (k : Hold) : Type 0 where
+-- the operation that holds has its entry between these and isn't done, and the registry kept beside it is that of the others
+pub record IsLeftOut (cluster : Nodes) (h : List Entry) (hold : Hold) : Type 0 where
   pub before : List Entry
   pub later : List Entry
-  pub split : h ≡ before ++ k.entry ∷ later
-  pub holder : holder_of k.entry ≡ Some k.node
-  pub not_done : Contains later (Done k.node) → ⊥
-  pub old : k.old ≡ registry_of cluster (before ++ later)
+  pub split : h ≡ before ++ hold.entry ∷ later
+  pub holder : granted_to hold.entry ≡ Some hold.node
+  pub not_done : Contains later (Done hold.node) → ⊥
+  pub old : hold.old ≡ registry_of cluster (before ++ later)
 
 -- The registry kept beside an operation that holds is that of the history without its entry
 pub record OldLeavesOut (cluster : Nodes) (h : List Entry) : Type 0 where
-  pub registry : (past_of cluster h).registry ≡ registry_of cluster h
-  pub left_out : (n : ℕ) (k : Hold) → hold_at (past_of cluster h) n ≡ Some k → IsLeftOut cluster h k
+  pub registry : (standing_of cluster h).registry ≡ registry_of cluster h
+  pub left_out : (n : ℕ) (hold : Hold) → hold_at (standing_of cluster h) n ≡ Some hold → IsLeftOut cluster h hold
 
 -- p died: it exited, or lost a name when a node joined
 pub data Died (cluster : Nodes) (h : List Entry) (p : Process) : Type 0 where

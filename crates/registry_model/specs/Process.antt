@@ -1,5 +1,5 @@
 -- Texts, processes, and sets of nodes.
-use Rattle.std.specs.Prelude.{ℕ, Bool, false, zero, suc, ◌==◌, ◌&&◌, ◌+◌, ◌-◌, ◌*◌, ◌^◌, List, [], ◌∷◌, ◌++◌, if◌then◌else◌}
+use Rattle.std.specs.Prelude.{ℕ, Bool, true, false, zero, suc, ◌==◌, ◌&&◌, ◌+◌, ◌-◌, ◌*◌, ◌^◌, List, [], ◌∷◌, ◌++◌, if◌then◌else◌}
 
 -- A text, as a name, a resource or a requester, is a number: the place of its bytes in the byte order of all texts. All that
 -- the registry asks of texts is whether two are one, and which is the lesser. A node is the text of its name
@@ -39,6 +39,10 @@ nobody c = false
 -- f, but v at a
 abbrev pub at : {A : Type 0} → (ℕ → A) → ℕ → A → ℕ → A
 at f a v x = if x == a then v else f x
+
+-- the set, and n with it
+abbrev pub with_node : ℕ → Nodes → Nodes
+with_node n s = at s n true
 
 -- the nodes of a set below n, rising
 abbrev pub nodes_of : ℕ → Nodes → List ℕ

@@ -1,7 +1,7 @@
 -- The registry: one table for the cluster, and one for each lone node. It knows no letters and no locks.
-use Rattle.std.specs.Prelude.{ℕ, Bool, true, false, not, ◌&&◌, ◌||◌, ◌==◌, [], if◌then◌else◌}
+use Rattle.std.specs.Prelude.{ℕ, Bool, false, not, ◌&&◌, ◌||◌, ◌==◌, [], if◌then◌else◌}
 use Rattle.std.specs.List.{list_any}
-use Rattle.registry_model.specs.Process.{Process, is_process, Nodes, nobody, at}
+use Rattle.registry_model.specs.Process.{Process, is_process, Nodes, nobody, at, with_node}
 use Rattle.registry_model.specs.Table.{Table, without, put_all}
 use Rattle.registry_model.specs.Settlement.{Settled}
 
@@ -60,7 +60,7 @@ replica_of r n = record { table = view r n; members = members r n; told = r.told
 abbrev pub with_joiner : ℕ → ℕ → Settled → Registry → Registry
 with_joiner j m s r = record {
   table = put_all s.puts r.table;
-  joined = at r.joined j true;
+  joined = with_node j r.joined;
   lone = at r.lone j [];
   left = r.left;
   told = at r.told j (λ d. r.told j d || r.told m d);

@@ -4,7 +4,7 @@ use Rattle.registry_model.specs.Process.{Process, Nodes}
 use Rattle.registry_model.specs.Table.{get}
 use Rattle.registry_model.specs.Call.{Register, ReRegister, Unregister, Whereis, Yes, No, Ok, UnknownNode, Pid, Undefined, Joined, NotMember, ContactLeft}
 use Rattle.registry_model.specs.Registry.{view}
-use Rattle.registry_model.specs.History.{Entry, Name, Strike, Join, Done, Exit, Left, Told, Read, registry_of, past_of, is_free, nothing_yet}
+use Rattle.registry_model.specs.History.{Entry, Name, Strike, Join, Done, Exit, Left, Told, Read, registry_of, standing_of, is_free, nothing_yet}
 use Rattle.registry_model.specs.Legal.{IsLegal, all_legal}
 
 -- nodes 0 and 1 are the cluster, all others are lone
@@ -32,5 +32,5 @@ pub record SampleHolds (history : List Entry) : Type 0 where
   pub legal : IsLegal two_nodes history
   pub given_up : get 7 (view (registry_of two_nodes history) 2) ≡ None
   pub killed : IsTrue ((registry_of two_nodes history).dead (process_at 2))
-  pub held : is_free (past_of two_nodes history) 0 ≡ false
+  pub held : is_free (standing_of two_nodes history) 0 ≡ false
   pub refused : all_legal (nothing_yet two_nodes) (history ++ Name 0 4 (Unregister 9) Ok ∷ []) ≡ false

@@ -11,21 +11,23 @@ pub record Settled : Type 0 where
 
 -- the joiner's process has its name
 abbrev pub with_put : Pair → Settled → Settled
-with_put e s = record s { puts = s.puts ++ e ∷ [] }
+with_put pair settled = record settled { puts = settled.puts ++ pair ∷ [] }
 
 -- p dies
 abbrev pub with_kill : Process → Settled → Settled
-with_kill p s = if list_any (is_process p) s.kills then s else record s { kills = s.kills ++ p ∷ [] }
+with_kill p settled =
+    if list_any (is_process p) settled.kills then settled else record settled { kills = settled.kills ++ p ∷ [] }
 
 -- one name of the joiner, which q has in the cluster, or nobody: the process on the lesser node keeps it and the other
 -- dies. On one node q keeps it, and the other dies unless it is q
 abbrev pub settle_one : Pair → Option Process → Settled → Settled
-settle_one e None s = with_put e s
-settle_one e (Some q) s =
-    if nat_lt e.owner.node q.node
-    then with_kill q (with_put e s)
-    else (if is_process e.owner q then s else with_kill e.owner s)
+settle_one pair None settled = with_put pair settled
+settle_one pair (Some q) settled =
+    if nat_lt pair.owner.node q.node
+    then with_kill q (with_put pair settled)
+    else (if is_process pair.owner q then settled else with_kill pair.owner settled)
 
 -- the joiner's names, rising, against the cluster's table
 abbrev pub settle : Table → Table → Settled
-settle table pairs = fold (λ s e. settle_one e (get e.name table) s) (record { puts = []; kills = [] }) pairs
+settle table pairs =
+    fold (λ settled pair. settle_one pair (get pair.name table) settled) (record { puts = []; kills = [] }) pairs

@@ -7,7 +7,7 @@ use Rattle.registry_model.specs.Settlement.{Settled}
 
 -- p has a name in this table
 abbrev pub HasAName : Process → Table → Type 0
-HasAName p table = (e : Pair) × Contains table e × (e.owner ≡ p)
+HasAName p table = (pair : Pair) × Contains table pair × (pair.owner ≡ p)
 
 -- The reply to a name call at a node with these members and this table
 pub data IsReplyTo (members : Nodes) (table : Table) : NameCall → Reply → Type 0 where
@@ -80,19 +80,19 @@ pub data Loses (table pairs : Table) (y : Text) (p : Process) : Type 0 where
   OfCluster : (q : Process) → get y pairs ≡ Some q → get y table ≡ Some p → q.node < p.node → Loses table pairs y p
 
 -- The settlement of a joiner's pairs against the cluster's table: who has each name once it is written, and who dies
-pub record Settles (table pairs : Table) (s : Settled) : Type 0 where
+pub record Settles (table pairs : Table) (settled : Settled) : Type 0 where
   -- a name that one side alone has stays with its owner
-  pub of_cluster : (y : Text) → get y pairs ≡ None → get y (put_all s.puts table) ≡ get y table
+  pub of_cluster : (y : Text) → get y pairs ≡ None → get y (put_all settled.puts table) ≡ get y table
   pub of_joiner : (y : Text) (p : Process) → get y pairs ≡ Some p → get y table ≡ None →
-      get y (put_all s.puts table) ≡ Some p
+      get y (put_all settled.puts table) ≡ Some p
   -- a name of both goes to the process on the lesser node, and to the cluster's where the nodes are one
   pub to_joiner : (y : Text) (p q : Process) → get y pairs ≡ Some p → get y table ≡ Some q → p.node < q.node →
-      get y (put_all s.puts table) ≡ Some p
+      get y (put_all settled.puts table) ≡ Some p
   pub to_cluster : (y : Text) (p q : Process) → get y pairs ≡ Some p → get y table ≡ Some q → q.node ≤ p.node →
-      get y (put_all s.puts table) ≡ Some q
+      get y (put_all settled.puts table) ≡ Some q
   -- only names of the joiner are written, rising
-  pub rises : IsTrue (is_rising s.puts)
-  pub written : (y : Text) (p : Process) → get y s.puts ≡ Some p → get y pairs ≡ Some p
+  pub rises : IsTrue (is_rising settled.puts)
+  pub written : (y : Text) (p : Process) → get y settled.puts ≡ Some p → get y pairs ≡ Some p
   -- who loses a name dies, nobody else does, and each of them once
-  pub killed : (p : Process) → Contains s.kills p ↔ ((y : Text) × Loses table pairs y p)
-  pub once : (before later : List Process) (p : Process) → s.kills ≡ before ++ p ∷ later → Contains before p → ⊥
+  pub killed : (p : Process) → Contains settled.kills p ↔ ((y : Text) × Loses table pairs y p)
+  pub once : (before later : List Process) (p : Process) → settled.kills ≡ before ++ p ∷ later → Contains before p → ⊥

@@ -15,49 +15,49 @@ Table = List Pair
 -- the name stands before all names of the table
 abbrev pub is_below : Text → Table → Bool
 is_below x [] = true
-is_below x (e ∷ t) = nat_lt x e.name
+is_below x (pair ∷ t) = nat_lt x pair.name
 
 -- the names rise strictly
 abbrev pub is_rising : Table → Bool
 is_rising [] = true
-is_rising (e ∷ t) = is_below e.name t && is_rising t
+is_rising (pair ∷ t) = is_below pair.name t && is_rising t
 
 -- who has the name
 abbrev pub get : Text → Table → Option Process
 get x [] = None
-get x (e ∷ t) = if e.name == x then Some e.owner else get x t
+get x (pair ∷ t) = if pair.name == x then Some pair.owner else get x t
 
 -- p has the name x, and nobody else does
 abbrev pub put : Text → Process → Table → Table
 put x p [] = record { name = x; owner = p } ∷ []
-put x p (e ∷ t) =
-    if e.name == x
+put x p (pair ∷ t) =
+    if pair.name == x
     then record { name = x; owner = p } ∷ t
-    else (if nat_lt x e.name then record { name = x; owner = p } ∷ e ∷ t else e ∷ put x p t)
+    else (if nat_lt x pair.name then record { name = x; owner = p } ∷ pair ∷ t else pair ∷ put x p t)
 
 -- each of these pairs is put, in order
 abbrev pub put_all : Table → Table → Table
-put_all pairs t = fold (λ s e. put e.name e.owner s) t pairs
+put_all pairs t = fold (λ u pair. put pair.name pair.owner u) t pairs
 
 -- nobody has the name x
 abbrev pub remove : Text → Table → Table
-remove x t = filter (λ e. not (e.name == x)) t
+remove x t = filter (λ pair. not (pair.name == x)) t
 
 -- p has no name
 abbrev pub strike : Process → Table → Table
-strike p t = filter (λ e. not (is_process e.owner p)) t
+strike p t = filter (λ pair. not (is_process pair.owner p)) t
 
 -- the names whose owners aren't on these nodes
 abbrev pub without : Nodes → Table → Table
-without gone t = filter (λ e. not (gone e.owner.node)) t
+without gone t = filter (λ pair. not (gone pair.owner.node)) t
 
 -- whether p has a name
 abbrev pub owns : Process → Table → Bool
-owns p t = list_any (λ e. is_process e.owner p) t
+owns p t = list_any (λ pair. is_process pair.owner p) t
 
 -- all names, rising
 abbrev pub names : Table → List Text
-names t = map (λ e. e.name) t
+names t = map (λ pair. pair.name) t
 
 -- a change of a table
 pub data Change : Type 0 where

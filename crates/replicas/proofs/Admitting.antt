@@ -9,7 +9,7 @@ use Rattle.registry_model.specs.Table.{Table, put_all}
 use Rattle.registry_model.specs.Settlement.{Settled, settle}
 use Rattle.registry_model.specs.Call.{Joined}
 use Rattle.registry_model.specs.Registry.{Registry, in_group, view, Replica, replica_of, with_joiner}
-use Rattle.registry_model.specs.History.{Entry, Join, Hold, Past, hold_at}
+use Rattle.registry_model.specs.History.{Entry, Join, Hold, Standing, hold_at}
 use Rattle.registry_model.specs.Legal.{is_legal}
 use Rattle.protocol_model.specs.Round.{Round}
 use Rattle.protocol_model.specs.Letter.{Letter}
@@ -29,7 +29,7 @@ use Rattle.replicas.proofs.BaseLetters.{mine-append}
 use Rattle.replicas.proofs.Steps.{scene_of-effect}
 use Rattle.replicas.proofs.Begins.{IsWrittenTo, Beginning, Kept-begun}
 use Rattle.replicas.proofs.Carrying.{holder_busy}
-use Rattle.replicas.proofs.Bridge.{past, sound, groups}
+use Rattle.replicas.proofs.Bridge.{standing, sound, groups}
 use Rattle.replicas.proofs.Known.{Known}
 use Rattle.registry_model.proofs.HistoryParts.{registry-after}
 use Rattle.replicas.proofs.Deciding.{hold_at-begun, stepped-begun, may_decide_now, shown, free_now, is_member, no_member, group_below}
@@ -48,8 +48,8 @@ all_dead q all (p ∷ ps) dead among = (
 
 module _ (o : Opening) (w : World) (P : Proper o w) (X : Exclusive o w) (J : JoinsKnown o w) (I : Known o w) (a j : ℕ)
     (pairs : Table) (r : Round) (m : May o a w (Admits j pairs r)) where
-  abbrev s : Past
-  s = past o w P X J I
+  abbrev s : Standing
+  s = standing o w P X J I
 
   abbrev S : Scene
   S = scene_of o w

@@ -6,7 +6,7 @@ use Rattle.std.proofs.lemmas.Bool.{eq-eqb, ne_eqb}
 use Rattle.registry_model.specs.Process.{Process, Nodes, at}
 use Rattle.registry_model.specs.Call.{Reply}
 use Rattle.registry_model.specs.Registry.{Registry, replica_of}
-use Rattle.registry_model.specs.History.{Entry, effect, Hold, is_of, old_or, past_it}
+use Rattle.registry_model.specs.History.{Entry, effect, Hold, is_hold_of, old_or, with_effect_on}
 use Rattle.protocol_model.specs.Letter.{Letter}
 use Rattle.protocol_model.specs.Node.{Op}
 use Rattle.protocol_model.specs.World.{Opening, in_world}
@@ -14,7 +14,7 @@ use Rattle.moves.proofs.Indices.{by_test, at_other}
 use Rattle.moves.proofs.Rules.{kills_in}
 use Rattle.moves.proofs.Invariants.{Each}
 use Rattle.replicas.proofs.Mail.{carries, is_applied, carried}
-use Rattle.replicas.proofs.Histories.{is_of-past_it}
+use Rattle.replicas.proofs.Histories.{is_hold_of-with_effect_on}
 use Rattle.replicas.proofs.Scenes.{Doing, Nothing, Carries, is_busy, awaits_node, Scene, one_if, count_of, AllDead, IsEntryOf, Runs, is_late, before, IsHeldBy, Leads, Kept}
 use Rattle.replicas.proofs.BaseLetters.{Each-map, count_of-append, list_any-last}
 use Rattle.replicas.proofs.Steps.{sent}
@@ -56,7 +56,7 @@ module _ (o : Opening) (S : Scene) (a : ℕ) (q : Registry) (group : Nodes) (e :
   abbrev pub begun_scene : Scene
   begun_scene = record S {
     registry = q;
-    hold = λ c. if group c then Some begun_hold else past_it e (S.hold c);
+    hold = λ c. if group c then Some begun_hold else with_effect_on e (S.hold c);
     doing = at S.doing a (Carries op awaited reply);
     mail = sent a S.gone new S.mail;
   }
@@ -69,20 +69,20 @@ module _ (o : Opening) (S : Scene) (a : ℕ) (q : Registry) (group : Nodes) (e :
     now = Carries op awaited reply
 
     hold_here : (c : ℕ) → group c ≡ true → T.hold c ≡ Some begun_hold
-    hold_here c g = ap (λ (b : Bool). if b then Some begun_hold else past_it e (S.hold c)) g
+    hold_here c g = ap (λ (b : Bool). if b then Some begun_hold else with_effect_on e (S.hold c)) g
 
-    hold_there : (c : ℕ) → group c ≡ false → T.hold c ≡ past_it e (S.hold c)
-    hold_there c g = ap (λ (b : Bool). if b then Some begun_hold else past_it e (S.hold c)) g
+    hold_there : (c : ℕ) → group c ≡ false → T.hold c ≡ with_effect_on e (S.hold c)
+    hold_there c g = ap (λ (b : Bool). if b then Some begun_hold else with_effect_on e (S.hold c)) g
 
-    holds : (x : ℕ) → is_of x (T.hold x) ≡ is_busy (T.doing x)
+    holds : (x : ℕ) → is_hold_of x (T.hold x) ≡ is_busy (T.doing x)
     holds x = go (group x) refl
       where
-        go : (b : Bool) → group x ≡ b → is_of x (if b then Some begun_hold else past_it e (S.hold x))
+        go : (b : Bool) → group x ≡ b → is_hold_of x (if b then Some begun_hold else with_effect_on e (S.hold x))
             ≡ is_busy (T.doing x)
         go true g = by_test a (λ x t. S.hold x ≡ None → (a == x) ≡ is_busy (if t then now else S.doing x))
             (λ f. eq-eqb a a refl)
-            (λ x ne f. ne_eqb a x (λ i. ne (sym i)) ∙ ap (is_of x) (sym f) ∙ K.holds x) x (B.free x g)
-        go false g = is_of-past_it x e (S.hold x) ∙ K.holds x
+            (λ x ne f. ne_eqb a x (λ i. ne (sym i)) ∙ ap (is_hold_of x) (sym f) ∙ K.holds x) x (B.free x g)
+        go false g = is_hold_of-with_effect_on x e (S.hold x) ∙ K.holds x
             ∙ ap is_busy (sym (at_other S.doing a now x (λ i. absurd (cc (B.own, ap group (sym i), g)))))
 
     writers : (x : ℕ) → is_busy (T.doing x) ≡ true → Runs o S x
@@ -95,7 +95,7 @@ module _ (o : Opening) (S : Scene) (a : ℕ) (q : Registry) (group : Nodes) (e :
       where
         go : (b : Bool) → group x ≡ b → IsHeldBy o T x (Carries op awaited reply)
         go true g = absurd (cc (B.free x g, h.1))
-        go false g = (record h.0 { old = effect e h.0.old }, hold_there x g ∙ ap (past_it e) h.1, h.2, h.3)
+        go false g = (record h.0 { old = effect e h.0.old }, hold_there x g ∙ ap (with_effect_on e) h.1, h.2, h.3)
 
     written : (x : ℕ) → IsHeldBy o T x (T.doing x)
     written x = by_test a (λ x t. IsHeldBy o T x (if t then now else S.doing x))
@@ -113,7 +113,7 @@ module _ (o : Opening) (S : Scene) (a : ℕ) (q : Registry) (group : Nodes) (e :
       where
         still : (h : Option Hold) → group c ≡ false → S.hold c ≡ h
             → S.replica c ≡ replica_of (if is_late o S c h then old_or S.registry h else S.registry) c
-            → S.replica c ≡ replica_of (if is_late o T c (past_it e h) then old_or q (past_it e h) else q) c
+            → S.replica c ≡ replica_of (if is_late o T c (with_effect_on e h) then old_or q (with_effect_on e h) else q) c
         still None g k f = f ∙ sym (B.apart c g)
         still (Some h) g k f = each (list_any carries (S.mail h.node c)) f
             ∙ ap (λ (b : Bool). replica_of (if b then effect e h.old else q) c)
@@ -125,8 +125,8 @@ module _ (o : Opening) (S : Scene) (a : ℕ) (q : Registry) (group : Nodes) (e :
             each false f = f ∙ sym (B.apart c g)
 
         go : (b : Bool) → group c ≡ b → S.replica c
-            ≡ replica_of (if is_late o T c (if b then Some begun_hold else past_it e (S.hold c)) then old_or q
-            (if b then Some begun_hold else past_it e (S.hold c)) else q) c
+            ≡ replica_of (if is_late o T c (if b then Some begun_hold else with_effect_on e (S.hold c)) then old_or q
+            (if b then Some begun_hold else with_effect_on e (S.hold c)) else q) c
         go true g = K.facts c up ∙ ap (λ (h : Option Hold). replica_of
             (if is_late o S c h then old_or S.registry h else S.registry) c) (B.free c g)
             ∙ ap (λ (b : Bool). replica_of (if b then S.registry else q) c) (sym (late c up.1 g))
@@ -155,7 +155,7 @@ module _ (o : Opening) (S : Scene) (a : ℕ) (q : Registry) (group : Nodes) (e :
             (λ l n k. let x : (h : Hold) × (S.hold c ≡ Some h) × (h.node ≡ f) × Runs o S f
             × (carried l (replica_of (before o S c) c) ≡ replica_of S.registry c) = n k in
             let held : T.hold c ≡ Some (record x.0 { old = effect e x.0.old }) =
-            hold_there c m ∙ ap (past_it e) x.1 in (
+            hold_there c m ∙ ap (with_effect_on e) x.1 in (
               record x.0 { old = effect e x.0.old },
               held,
               x.2,

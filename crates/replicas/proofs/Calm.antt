@@ -65,7 +65,7 @@ module _ (o : Opening) (a : ℕ) (w : World) where
   pub calm_turn : (r : Rule) → is_calm r ≡ true → May o a w r → QuietTurn o a w (turn_by o a w r)
   calm_turn (CallsName c) e m = record {
     legal = refl;
-    past = refl;
+    standing = refl;
     silent = refl;
     replica = refl;
     doing =
@@ -76,7 +76,7 @@ module _ (o : Opening) (a : ℕ) (w : World) where
   }
   calm_turn (CallsJoin c) e m = record {
     legal = refl;
-    past = refl;
+    standing = refl;
     silent = refl;
     replica = refl;
     doing =
@@ -87,7 +87,7 @@ module _ (o : Opening) (a : ℕ) (w : World) where
   }
   calm_turn CallsLock e m = record {
     legal = refl;
-    past = refl;
+    standing = refl;
     silent = refl;
     replica = refl;
     doing = refl;
@@ -97,7 +97,7 @@ module _ (o : Opening) (a : ℕ) (w : World) where
   }
   calm_turn Spawns e m = record {
     legal = refl;
-    past = refl;
+    standing = refl;
     silent = refl;
     replica = refl;
     doing = refl;
@@ -107,7 +107,7 @@ module _ (o : Opening) (a : ℕ) (w : World) where
   }
   calm_turn (Begins op ops) e m = record {
     legal = refl;
-    past = refl;
+    standing = refl;
     silent = refl;
     replica = refl;
     doing = sym (ap doing_of m.tested.0);
@@ -116,7 +116,7 @@ module _ (o : Opening) (a : ℕ) (w : World) where
   }
   calm_turn (Retries op) e m = record {
     legal = refl;
-    past = refl;
+    standing = refl;
     silent = refl;
     replica = refl;
     doing = sym (ap doing_of m.tested);
@@ -125,7 +125,7 @@ module _ (o : Opening) (a : ℕ) (w : World) where
   }
   calm_turn (AsksJoin k c ops) e m = record {
     legal = refl;
-    past = refl;
+    standing = refl;
     silent = refl;
     replica = refl;
     doing = sym (ap doing_of m.tested.0);
@@ -139,7 +139,7 @@ module _ (o : Opening) (a : ℕ) (w : World) where
           (Letter.SetLock (Global a) (registrar a)) (begun v) else begun v))
       go true = record {
         legal = refl;
-        past = refl;
+        standing = refl;
         silent = silent-each (nodes_of o.bound (λ x. rest r x && not (v.replica.told x))) _ refl;
         replica = refl;
         doing = sym (ap doing_of m.tested.1);
@@ -148,7 +148,7 @@ module _ (o : Opening) (a : ℕ) (w : World) where
       }
       go false = record {
         legal = refl;
-        past = refl;
+        standing = refl;
         silent = refl;
         replica = refl;
         doing = sym (ap doing_of m.tested.1);
@@ -157,7 +157,7 @@ module _ (o : Opening) (a : ℕ) (w : World) where
       }
   calm_turn (MarksDown d op r) e m = record {
     legal = refl;
-    past = refl;
+    standing = refl;
     silent = refl;
     replica = refl;
     doing = sym (ap doing_of m.tested.1);
@@ -166,7 +166,7 @@ module _ (o : Opening) (a : ℕ) (w : World) where
   }
   calm_turn (GivesUp op r granted) e m = record {
     legal = refl;
-    past = refl;
+    standing = refl;
     silent = silent-each (nodes_of o.bound granted) _ refl;
     replica = refl;
     doing = sym (ap doing_of m.tested.0);
@@ -175,7 +175,7 @@ module _ (o : Opening) (a : ℕ) (w : World) where
   }
   calm_turn (Passes j pairs r) e m = record {
     legal = refl;
-    past = refl;
+    standing = refl;
     silent = silent-each (nodes_of o.bound _) _ refl;
     replica = refl;
     doing = sym (ap doing_of m.tested.0.current);
@@ -188,7 +188,7 @@ module _ (o : Opening) (a : ℕ) (w : World) where
           (if b then with_locks (grant id p) (begun v) else begun v))
       go true = record {
         legal = refl;
-        past = refl;
+        standing = refl;
         silent = refl;
         replica = refl;
         doing = refl;
@@ -198,7 +198,7 @@ module _ (o : Opening) (a : ℕ) (w : World) where
       }
       go false = record {
         legal = refl;
-        past = refl;
+        standing = refl;
         silent = refl;
         replica = refl;
         doing = refl;
@@ -212,7 +212,7 @@ module _ (o : Opening) (a : ℕ) (w : World) where
           (with_locks (give_back id p) (begun v)) else with_locks (give_back id p) (begun v))
       go true = record {
         legal = refl;
-        past = refl;
+        standing = refl;
         silent = refl;
         replica = refl;
         doing = refl;
@@ -222,7 +222,7 @@ module _ (o : Opening) (a : ℕ) (w : World) where
       }
       go false = record {
         legal = refl;
-        past = refl;
+        standing = refl;
         silent = refl;
         replica = refl;
         doing = refl;
@@ -232,7 +232,7 @@ module _ (o : Opening) (a : ℕ) (w : World) where
       }
   calm_turn (Releases f p) e m = record {
     legal = refl;
-    past = refl;
+    standing = refl;
     silent = refl;
     replica = refl;
     doing =
@@ -242,7 +242,7 @@ module _ (o : Opening) (a : ℕ) (w : World) where
   }
   calm_turn (QueuesJoin f pairs) e m = record {
     legal = refl;
-    past = refl;
+    standing = refl;
     silent = refl;
     replica = refl;
     doing =
@@ -253,7 +253,7 @@ module _ (o : Opening) (a : ℕ) (w : World) where
   }
   calm_turn (EndsJoin f k) e m = record {
     legal = refl;
-    past = refl;
+    standing = refl;
     silent = refl;
     replica = refl;
     doing = sym (ap doing_of m.tested.1);
@@ -262,7 +262,7 @@ module _ (o : Opening) (a : ℕ) (w : World) where
   }
   calm_turn (AsksLock c) e m = record {
     legal = refl;
-    past = refl;
+    standing = refl;
     silent = refl;
     replica = refl;
     doing =
@@ -272,7 +272,7 @@ module _ (o : Opening) (a : ℕ) (w : World) where
   }
   calm_turn (FailsLock c) e m = record {
     legal = refl;
-    past = refl;
+    standing = refl;
     silent = refl;
     replica = refl;
     doing =
@@ -287,7 +287,7 @@ module _ (o : Opening) (a : ℕ) (w : World) where
           (begun v) else begun v))
       go true = record {
         legal = refl;
-        past = refl;
+        standing = refl;
         silent = silent-each (nodes_of o.bound (λ x. rest r x && not (v.replica.told x))) _ refl;
         replica = refl;
         doing = refl;
@@ -296,7 +296,7 @@ module _ (o : Opening) (a : ℕ) (w : World) where
       }
       go false = record {
         legal = refl;
-        past = refl;
+        standing = refl;
         silent = refl;
         replica = refl;
         doing = refl;
@@ -306,7 +306,7 @@ module _ (o : Opening) (a : ℕ) (w : World) where
       }
   calm_turn (MarksLockDown d c r) e m = record {
     legal = refl;
-    past = refl;
+    standing = refl;
     silent = refl;
     replica = refl;
     doing =
@@ -316,7 +316,7 @@ module _ (o : Opening) (a : ℕ) (w : World) where
   }
   calm_turn (WinsLock c r) e m = record {
     legal = refl;
-    past = refl;
+    standing = refl;
     silent = refl;
     replica = refl;
     doing =
@@ -331,7 +331,7 @@ module _ (o : Opening) (a : ℕ) (w : World) where
           (give_lock o.bound a c granted (begun v)))
       go true = record {
         legal = refl;
-        past = refl;
+        standing = refl;
         silent = silent-each (nodes_of o.bound granted) _ refl;
         replica =
             refl;
@@ -341,7 +341,7 @@ module _ (o : Opening) (a : ℕ) (w : World) where
       }
       go false = record {
         legal = refl;
-        past = refl;
+        standing = refl;
         silent = silent-each (nodes_of o.bound granted) _ refl;
         replica =
             refl;
@@ -351,7 +351,7 @@ module _ (o : Opening) (a : ℕ) (w : World) where
       }
   calm_turn (DeletesLock c) e m = record {
     legal = refl;
-    past = refl;
+    standing = refl;
     silent =
         silent-each (nodes_of o.bound _) _ refl;
     replica = refl;
@@ -361,7 +361,7 @@ module _ (o : Opening) (a : ℕ) (w : World) where
   }
   calm_turn (DeletesNothing c) e m = record {
     legal = refl;
-    past = refl;
+    standing = refl;
     silent = refl;
     replica = refl;
     doing =
@@ -370,13 +370,13 @@ module _ (o : Opening) (a : ℕ) (w : World) where
     dead = refl;
   }
   calm_turn (CountsGivenBack f c owing) e m =
-      record { legal = refl; past = refl; silent = refl; replica = refl; doing = refl; struck = refl; dead = refl }
+      record { legal = refl; standing = refl; silent = refl; replica = refl; doing = refl; struck = refl; dead = refl }
   calm_turn (EndsDeletion f c owing) e m =
-      record { legal = refl; past = refl; silent = refl; replica = refl; doing = refl; struck = refl; dead = refl }
+      record { legal = refl; standing = refl; silent = refl; replica = refl; doing = refl; struck = refl; dead = refl }
   calm_turn (CountsLockDown d c owing) e m =
-      record { legal = refl; past = refl; silent = refl; replica = refl; doing = refl; struck = refl; dead = refl }
+      record { legal = refl; standing = refl; silent = refl; replica = refl; doing = refl; struck = refl; dead = refl }
   calm_turn (EndsDeletionDown d c owing) e m =
-      record { legal = refl; past = refl; silent = refl; replica = refl; doing = refl; struck = refl; dead = refl }
+      record { legal = refl; standing = refl; silent = refl; replica = refl; doing = refl; struck = refl; dead = refl }
   calm_turn _ e m = cc
 
   -- none of them is the last step of its node

@@ -5,7 +5,7 @@ use Rattle.std.specs.List.{list_any}
 use Rattle.std.proofs.lemmas.Bool.{cases_eq, eq-eqb, ne_eqb}
 use Rattle.registry_model.specs.Process.{at}
 use Rattle.registry_model.specs.Registry.{replica_of}
-use Rattle.registry_model.specs.History.{Hold, is_of}
+use Rattle.registry_model.specs.History.{Hold, is_hold_of}
 use Rattle.protocol_model.specs.Letter.{Letter}
 use Rattle.protocol_model.specs.World.{Opening}
 use Rattle.moves.proofs.Indices.{by_test}
@@ -21,7 +21,7 @@ use Rattle.replicas.proofs.Sending.{sent-same, sent-other, Each-sent, count_of-s
 module _ (o : Opening) (S : Scene) (K : Kept o S) (G : Groups S.registry S.hold) where
   -- whoever holds in a group is at it, and runs
   pub holder_busy : (c : ℕ) (h : Hold) → S.hold c ≡ Some h → is_busy (S.doing h.node) ≡ true
-  holder_busy c h e = sym (K.holds h.node) ∙ ap (is_of h.node) (hold-holder S.registry S.hold G c h e)
+  holder_busy c h e = sym (K.holds h.node) ∙ ap (is_hold_of h.node) (hold-holder S.registry S.hold G c h e)
       ∙ eq-eqb h.node h.node refl
 
   -- so it runs

@@ -6,7 +6,7 @@ use Rattle.std.proofs.lemmas.Bool.{cases_eq, ne_eqb, eqb-true}
 use Rattle.registry_model.specs.Process.{Process, Nodes, at}
 use Rattle.registry_model.specs.Call.{Reply}
 use Rattle.registry_model.specs.Registry.{in_group, Replica, replica_of}
-use Rattle.registry_model.specs.History.{Hold, is_of, old_or}
+use Rattle.registry_model.specs.History.{Hold, is_hold_of, old_or}
 use Rattle.protocol_model.specs.Letter.{Letter}
 use Rattle.protocol_model.specs.Node.{Op}
 use Rattle.protocol_model.specs.World.{Opening, in_world}
@@ -186,15 +186,15 @@ module _ (o : Opening) (S : Scene) (K : Kept o S) (G : Groups S.registry S.hold)
         go true g = K.joined_inside c g
         go false g = ap (in_world o) (eqb-true c a g) ∙ runs.0
 
-    done_holds : (x : ℕ) → is_of x (D.hold x) ≡ is_busy (D.doing x)
-    done_holds x = by_test a (λ x t. is_of x (D.hold x) ≡ is_busy (if t then Nothing else S.doing x))
-        (ap (is_of a) (none_in a (in_group-itself S.registry a)))
+    done_holds : (x : ℕ) → is_hold_of x (D.hold x) ≡ is_busy (D.doing x)
+    done_holds x = by_test a (λ x t. is_hold_of x (D.hold x) ≡ is_busy (if t then Nothing else S.doing x))
+        (ap (is_hold_of a) (none_in a (in_group-itself S.registry a)))
         (λ x ne. go x ne (group x) refl) x
       where
-        go : (x : ℕ) → (x ≡ a → ⊥) → (b : Bool) → group x ≡ b → is_of x (D.hold x) ≡ is_busy (S.doing x)
-        go x ne true g = ap (is_of x) (none_in x g) ∙ sym (ne_eqb own.0.node x (λ i. ne (sym i ∙ own.2)))
-            ∙ ap (is_of x) (sym (held_in x g)) ∙ K.holds x
-        go x ne false g = ap (is_of x) (same_out x g) ∙ K.holds x
+        go : (x : ℕ) → (x ≡ a → ⊥) → (b : Bool) → group x ≡ b → is_hold_of x (D.hold x) ≡ is_busy (S.doing x)
+        go x ne true g = ap (is_hold_of x) (none_in x g) ∙ sym (ne_eqb own.0.node x (λ i. ne (sym i ∙ own.2)))
+            ∙ ap (is_hold_of x) (sym (held_in x g)) ∙ K.holds x
+        go x ne false g = ap (is_hold_of x) (same_out x g) ∙ K.holds x
 
     done_writers : (x : ℕ) → is_busy (D.doing x) ≡ true → Runs o S x
     done_writers x = by_test a (λ x t. is_busy (if t then Nothing else S.doing x) ≡ true → Runs o S x) (λ k. cc)

@@ -7,7 +7,7 @@ use Rattle.registry_model.specs.Process.{Process, Nodes, nodes_of, at}
 use Rattle.registry_model.specs.Table.{Change, changed}
 use Rattle.registry_model.specs.Call.{Reply}
 use Rattle.registry_model.specs.Registry.{Registry, in_group, with_table, Replica, replica_of}
-use Rattle.registry_model.specs.History.{Entry, effect, Hold, Past, hold_at, with_hold, past_it, pushed, after}
+use Rattle.registry_model.specs.History.{Entry, effect, Hold, Standing, hold_at, set_hold, with_effect_on, with_effect, after}
 use Rattle.registry_model.specs.Legal.{may_decide}
 use Rattle.protocol_model.specs.Round.{Round}
 use Rattle.protocol_model.specs.Letter.{Letter}
@@ -22,13 +22,13 @@ use Rattle.registry_model.proofs.Groups.{joined-with_table}
 use Rattle.registry_model.proofs.Deaths.{dead_stays}
 use Rattle.replicas.proofs.Writes.{replica_of-written, replica_of-unwritten, with_table-left}
 use Rattle.registry_model.proofs.HistoryParts.{registry-after}
-use Rattle.replicas.proofs.Histories.{hold_at-pushed, hold_at-with, hold_at-without}
+use Rattle.replicas.proofs.Histories.{hold_at-with_effect, hold_at-with, hold_at-without}
 use Rattle.registry_model.proofs.Groups.{in_group-itself}
 use Rattle.replicas.proofs.Groups.{apart_before}
 use Rattle.replicas.proofs.Scenes.{Doing, Nothing, Carries, doing_of, struck_by, struck_of, mine, Scene, scene_of, IsEntryOf, Kept}
 use Rattle.replicas.proofs.Steps.{at-itself, sent, past_now, stepped}
 use Rattle.replicas.proofs.Begins.{Beginning, begun_hold, begun_scene, Kept-begun}
-use Rattle.replicas.proofs.Bridge.{past, sound, groups, untold, nobody_holds, shows_now}
+use Rattle.replicas.proofs.Bridge.{standing, sound, groups, untold, nobody_holds, shows_now}
 use Rattle.replicas.proofs.Known.{Known}
 
 -- scenes are told by their parts
@@ -46,28 +46,28 @@ same_scene S T r h g v d k e m =
     ∙ ap (λ (x : ℕ → ℕ → List Letter). record T { mail = x }) m
 
 -- what holds after an entry that begins to hold
-module _ (s : Past) (a : ℕ) (e : Entry) (begins : after s e
-    ≡ with_hold a (Some (record { node = a; entry = e; old = s.registry })) (pushed e s)) where
+module _ (s : Standing) (a : ℕ) (e : Entry) (begins : after s e
+    ≡ set_hold a (Some (record { node = a; entry = e; old = s.registry })) (with_effect e s)) where
   -- it holds in its group, and what holds elsewhere is left as it was but for the entry
   pub hold_at-begun : ((c : ℕ) → in_group (effect e s.registry) a c ≡ false
       → (effect e s.registry).joined c ≡ s.registry.joined c)
       → (c : ℕ) → hold_at (after s e) c ≡ (if in_group (effect e s.registry) a c then Some
-      (record { node = a; entry = e; old = s.registry }) else past_it e (hold_at s c))
-  hold_at-begun same c = ap (λ (t : Past). hold_at t c) begins ∙ go (in_group (effect e s.registry) a c) refl
+      (record { node = a; entry = e; old = s.registry }) else with_effect_on e (hold_at s c))
+  hold_at-begun same c = ap (λ (t : Standing). hold_at t c) begins ∙ go (in_group (effect e s.registry) a c) refl
     where
       go : (b : Bool) → in_group (effect e s.registry) a c ≡ b
-          → hold_at (with_hold a (Some (record { node = a; entry = e; old = s.registry })) (pushed e s)) c
-          ≡ (if b then Some (record { node = a; entry = e; old = s.registry }) else past_it e (hold_at s c))
-      go true g = hold_at-with a (Some (record { node = a; entry = e; old = s.registry })) (pushed e s) c g
-      go false g = hold_at-without a (Some (record { node = a; entry = e; old = s.registry })) (pushed e s) c g
-          ∙ hold_at-pushed e s c (same c g)
+          → hold_at (set_hold a (Some (record { node = a; entry = e; old = s.registry })) (with_effect e s)) c
+          ≡ (if b then Some (record { node = a; entry = e; old = s.registry }) else with_effect_on e (hold_at s c))
+      go true g = hold_at-with a (Some (record { node = a; entry = e; old = s.registry })) (with_effect e s) c g
+      go false g = hold_at-without a (Some (record { node = a; entry = e; old = s.registry })) (with_effect e s) c g
+          ∙ hold_at-with_effect e s c (same c g)
 
 module _ (o : Opening) (a : ℕ) (w : World) (u : Turn) (q : Registry) (group : Nodes) (e : Entry)
     (new : ℕ → List Letter) (op : Op) (awaited : Nodes) (reply : Option Reply) where
   -- the turn in which a hold begins
   pub stepped-begun : (fold after (past_now o a w) u.entries).registry ≡ q
       → ((c : ℕ) → hold_at (fold after (past_now o a w) u.entries) c
-      ≡ (if group c then Some (begun_hold o (scene_of o w) a q group e new op awaited reply) else past_it e
+      ≡ (if group c then Some (begun_hold o (scene_of o w) a q group e new op awaited reply) else with_effect_on e
       (hold_at (past_now o a w) c)))
       → u.node.replica ≡ (w.node a).replica → doing_of u.node.current ≡ Carries op awaited reply
       → struck_by u.node.current ++ struck_of u.node.queue
@@ -85,8 +85,8 @@ module _ (o : Opening) (a : ℕ) (w : World) (u : Turn) (q : Registry) (group : 
       (ap (λ (f : ℕ → List Letter). sent a w.links.closed f (scene_of o w).mail) (fun_ext m))
 
 module _ (o : Opening) (w : World) (P : Proper o w) (X : Exclusive o w) (J : JoinsKnown o w) (I : Known o w) where
-  abbrev s : Past
-  s = past o w P X J I
+  abbrev s : Standing
+  s = standing o w P X J I
 
   abbrev S : Scene
   S = scene_of o w
@@ -198,7 +198,7 @@ module _ (o : Opening) (w : World) (P : Proper o w) (X : Exclusive o w) (J : Joi
 
       -- so the replicas are still those of the registry after a turn that does this
       pub Kept-written : (u : Turn) → after s e
-          ≡ with_hold a (Some (record { node = a; entry = e; old = s.registry })) (pushed e s)
+          ≡ set_hold a (Some (record { node = a; entry = e; old = s.registry })) (with_effect e s)
           → u.entries ≡ e ∷ [] → u.node.replica ≡ (w.node a).replica
           → doing_of u.node.current ≡ Carries op members_now reply
           → struck_by u.node.current ++ struck_of u.node.queue

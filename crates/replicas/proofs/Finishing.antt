@@ -7,7 +7,7 @@ use Rattle.registry_model.specs.Process.{Process, Nodes, nodes_of}
 use Rattle.registry_model.specs.Call.{Reply}
 use Rattle.registry_model.specs.Registry.{in_group}
 use Rattle.registry_model.specs.Legal.{IsLegal}
-use Rattle.registry_model.specs.History.{Done, Past, hold_at, is_holding, with_hold, after}
+use Rattle.registry_model.specs.History.{Done, Standing, hold_at, is_holding, set_hold, after}
 use Rattle.protocol_model.specs.Letter.{Global, Letter}
 use Rattle.protocol_model.specs.Node.{Op, Current}
 use Rattle.protocol_model.specs.Turn.{Turn, begun, at_work, enter, sent_to}
@@ -22,7 +22,7 @@ use Rattle.replicas.proofs.Scenes.{Carries, doing_of, is_busy, struck_by, struck
 use Rattle.replicas.proofs.BaseLetters.{mine-silent, silent-each}
 use Rattle.replicas.proofs.Steps.{at-itself, sent, sent-nothing, stepped, scene_of-effect, effect-history}
 use Rattle.replicas.proofs.Counting.{done_scene, Kept-done}
-use Rattle.replicas.proofs.Bridge.{past, groups}
+use Rattle.replicas.proofs.Bridge.{standing, groups}
 use Rattle.replicas.proofs.Known.{Known}
 use Rattle.replicas.proofs.Deciding.{same_scene}
 
@@ -43,8 +43,8 @@ AreStruck-behind o S a (p ∷ ps) qs h = AreStruck-behind o S a ps qs h.1
 
 module _ (o : Opening) (w : World) (P : Proper o w) (X : Exclusive o w) (J : JoinsKnown o w) (I : Known o w) (a : ℕ)
     (op : Op) (asked awaited : Nodes) (reply : Option Reply) (m : May o a w (Finishes op asked awaited reply)) where
-  abbrev s : Past
-  s = past o w P X J I
+  abbrev s : Standing
+  s = standing o w P X J I
 
   abbrev S : Scene
   S = scene_of o w
@@ -76,14 +76,14 @@ module _ (o : Opening) (w : World) (P : Proper o w) (X : Exclusive o w) (J : Joi
   is_plain : turn_by o a w r ≡ turned plain
   is_plain = ap turned (answer_op-parts o.bound a op reply (enter (Done a) (begun (w.node a))))
 
-  after-done : after s (Done a) ≡ with_hold a None s
-  after-done = ap (λ (b : Bool). if b then with_hold a None s else s) holding
+  after-done : after s (Done a) ≡ set_hold a None s
+  after-done = ap (λ (b : Bool). if b then set_hold a None s else s) holding
 
   hold-done : (c : ℕ) → hold_at (after s (Done a)) c ≡ (if in_group s.registry a c then None else hold_at s c)
-  hold-done c = ap (λ (t : Past). hold_at t c) after-done ∙ go (in_group s.registry a c) refl
+  hold-done c = ap (λ (t : Standing). hold_at t c) after-done ∙ go (in_group s.registry a c) refl
     where
       go : (b : Bool) → in_group s.registry a c ≡ b
-          → hold_at (with_hold a None s) c ≡ (if b then None else hold_at s c)
+          → hold_at (set_hold a None s) c ≡ (if b then None else hold_at s c)
       go true g = hold_at-with a None s c g
       go false g = hold_at-without a None s c g
 

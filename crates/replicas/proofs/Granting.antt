@@ -7,7 +7,7 @@ use Rattle.registry_model.specs.Process.{Process}
 use Rattle.registry_model.specs.Table.{StrikeOwner, changed}
 use Rattle.registry_model.specs.Call.{NameCall, Reply, Pid, Names, is_reply, change_of, reply_to}
 use Rattle.registry_model.specs.Registry.{with_table, view, members, Replica}
-use Rattle.registry_model.specs.History.{Name, Strike, Past, with_hold, pushed}
+use Rattle.registry_model.specs.History.{Name, Strike, Standing, set_hold, with_effect}
 use Rattle.registry_model.specs.Legal.{is_legal, may_decide}
 use Rattle.protocol_model.specs.Round.{Round}
 use Rattle.protocol_model.specs.Node.{Op, Current}
@@ -18,7 +18,7 @@ use Rattle.registry_model.proofs.Lists.{is_process-same}
 use Rattle.replicas.proofs.Histories.{IsLegal-append, after-granted}
 use Rattle.replicas.proofs.Scenes.{doing_of, struck_by, struck_of, scene_of, AreStruck, Kept}
 use Rattle.replicas.proofs.Steps.{scene_of-effect}
-use Rattle.replicas.proofs.Bridge.{past}
+use Rattle.replicas.proofs.Bridge.{standing}
 use Rattle.replicas.proofs.Known.{Known}
 use Rattle.replicas.proofs.Deciding.{may_decide_now, shown, free_now, Kept-written}
 
@@ -29,8 +29,8 @@ is_reply-same (Names xs) = (bytes_eq-Decides xs xs).1 refl
 is_reply-same _ = refl
 
 module _ (o : Opening) (w : World) (P : Proper o w) (X : Exclusive o w) (J : JoinsKnown o w) (I : Known o w) where
-  abbrev s : Past
-  s = past o w P X J I
+  abbrev s : Standing
+  s = standing o w P X J I
 
   -- the reply that a held round gives is the one that the registry gives
   pub legal_reply : (a : ℕ) (up : IsUp o w a) (op : Op) (r : Round) → IsHeld o.bound (w.node a) op r
@@ -89,8 +89,8 @@ module _ (o : Opening) (w : World) (P : Proper o w) (X : Exclusive o w) (J : Joi
               (Kept-written o w P X J I a up (Op.Strike p) r held (Strike p) (StrikeOwner p) None
               (λ x. ap (λ (n : ℕ). with_table n (changed (StrikeOwner p)) x) i) (refl, i) (ap doing_of held.current)
               (turn_by o a w (Strikes p r))
-              (ap (λ (n : ℕ). with_hold n (Some (record { node = n; entry = Strike p; old = s.registry }))
-              (pushed (Strike p) s)) i)
+              (ap (λ (n : ℕ). set_hold n (Some (record { node = n; entry = Strike p; old = s.registry }))
+              (with_effect (Strike p) s)) i)
               refl refl refl (sym (ap (λ (c : Current). struck_by c ++ struck_of (w.node a).queue) held.current)) refl
               refl);
         }

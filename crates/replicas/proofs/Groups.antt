@@ -3,7 +3,7 @@ use Rattle.std.proofs.Common.{ℕ, Bool, true, false, ◌==◌, ◌≡◌, Optio
 use Rattle.std.specs.Prelude.{if◌then◌else◌}
 use Rattle.std.proofs.lemmas.Bool.{eq-eqb, ne_eqb}
 use Rattle.registry_model.specs.Registry.{Registry, in_group}
-use Rattle.registry_model.specs.History.{Hold, Past, hold_at}
+use Rattle.registry_model.specs.History.{Hold, Standing, hold_at}
 use Rattle.registry_model.proofs.Groups.{in_group-itself}
 use Rattle.registry_model.proofs.Holding.{hold_at-group}
 use Rattle.replicas.proofs.Soundness.{Within, WithinCluster, WithinLone, Sound}
@@ -18,7 +18,7 @@ pub record Groups (r : Registry) (hold : ℕ → Option Hold) : Type 0 where
   pub lone : (c : ℕ) (h : Hold) → hold c ≡ Some h → r.joined c ≡ false → (h.node ≡ c) × (h.old.joined c ≡ false)
 
 -- so it stands of every legal history
-pub Groups-sound : (s : Past) → Sound s → Groups s.registry (hold_at s)
+pub Groups-sound : (s : Standing) → Sound s → Groups s.registry (hold_at s)
 Groups-sound s S = record {
   alike = λ a c g. hold_at-group s a c g;
   within = λ c h e. within c h e (s.registry.joined c) refl;

@@ -2,7 +2,7 @@
 use Rattle.std.proofs.Common.{ℕ, Bool, true, false, ◌≡◌, None, refl}
 use Rattle.std.specs.Prelude.{if◌then◌else◌}
 use Rattle.registry_model.specs.Registry.{opening, replica_of}
-use Rattle.registry_model.specs.History.{is_of, old_or}
+use Rattle.registry_model.specs.History.{is_hold_of, old_or}
 use Rattle.protocol_model.specs.World.{Opening, in_world, in_cluster, World, opening_world}
 use Rattle.moves.proofs.Indices.{both}
 use Rattle.moves.proofs.Rules.{Rule, LooksUp, Exits, BeginsStrike, SkipsJoin, Grants, Denies, Strikes, Admits, CountsApplied, CountsDown, Finishes, Writes, RefusesJoin, Kills, IsAdmitted, IsWelcomed, IsTold, LosesContact, Ignores, Drops, Leaves, May, effect}
@@ -35,7 +35,7 @@ known_opens o = record {
   };
 }
   where
-    none_of : (a : ℕ) (b : Bool) → is_of a (if b then None else None) ≡ false
+    none_of : (a : ℕ) (b : Bool) → is_hold_of a (if b then None else None) ≡ false
     none_of a true = refl
     none_of a false = refl
 

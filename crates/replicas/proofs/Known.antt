@@ -10,7 +10,7 @@ use Rattle.protocol_model.specs.Letter.{Letter}
 use Rattle.protocol_model.specs.Node.{Current, is_writing}
 use Rattle.protocol_model.specs.World.{Opening, in_cluster, World}
 use Rattle.moves.proofs.Rules.{kills_in}
-use Rattle.moves.proofs.Invariants.{is_behind, past_at, IsWritten, IsOnItsWay, Replicas}
+use Rattle.moves.proofs.Invariants.{is_behind, standing_at, IsWritten, IsOnItsWay, Replicas}
 use Rattle.replicas.proofs.Mail.{carries, is_applied}
 use Rattle.replicas.proofs.Scenes.{doing_of, is_busy, is_late, is_mine, mine, scene_of, AllDead, IsHeldBy, Kept}
 use Rattle.replicas.proofs.BaseLetters.{Each-mine}
@@ -52,11 +52,11 @@ replicas_known o w I = record {
   writers = λ a e. I.kept.writers a (busy_writing (w.node a).current ∙ e);
   written = λ a. written a (w.node a).current (I.kept.written a);
   facts = λ c up. I.kept.facts c up ∙ ap (λ (b : Bool). replica_of
-      (if b then old (past_at o w) c else (past_at o w).registry) c) (late c (hold_at (past_at o w) c));
+      (if b then old (standing_at o w) c else (standing_at o w).registry) c) (late c (hold_at (standing_at o w) c));
   notes = λ f c g. Each-mine (IsOnItsWay o w f c) (w.links.queue f c) (λ l e k. absurd (other l e k))
       (I.kept.notes f c g);
-  kills = λ f c g. Each-mine (λ l. AllDead (past_at o w).registry (kills_in l)) (w.links.queue f c)
-      (kills_in-other (past_at o w).registry) (I.kept.kills f c g);
+  kills = λ f c g. Each-mine (λ l. AllDead (standing_at o w).registry (kills_in l)) (w.links.queue f c)
+      (kills_in-other (standing_at o w).registry) (I.kept.kills f c g);
   dead = I.kept.dead;
 }
   where

@@ -8,7 +8,7 @@ use Rattle.std.proofs.lemmas.List.Elements.{All-nil, All-cons, All-contains}
 use Rattle.registry_model.specs.Process.{Process, is_process, Nodes, nodes_of, at}
 use Rattle.registry_model.specs.Registry.{Registry, Replica, replica_of}
 use Rattle.registry_model.specs.Table.{is_rising}
-use Rattle.registry_model.specs.History.{Entry, Exit, Left, Told, effect as effect_of, Past, hold_at, pushed, after}
+use Rattle.registry_model.specs.History.{Entry, Exit, Left, Told, effect as effect_of, Standing, hold_at, with_effect, after}
 use Rattle.protocol_model.specs.Letter.{Letter}
 use Rattle.protocol_model.specs.Watch.{is_dead}
 use Rattle.protocol_model.specs.Node.{Node, Current}
@@ -21,12 +21,12 @@ use Rattle.moves.proofs.Rules.{IsTold, Exits, Leaves, Kills, BeginsStrike, kills
 use Rattle.moves.proofs.Invariants.{Each, IsProper, Proper, Exclusive, JoinsKnown}
 use Rattle.replicas.proofs.Mail.{carried, carried-bereft}
 use Rattle.replicas.proofs.Departures.{replica_of-told, replica_of-untold}
-use Rattle.replicas.proofs.Histories.{IsLegal-append, hold_at-pushed}
+use Rattle.replicas.proofs.Histories.{IsLegal-append, hold_at-with_effect}
 use Rattle.replicas.proofs.Scenes.{Nothing, doing_of, is_busy, struck_by, struck_of, mine, AllDead, Scene, scene_of, AreStruck, Kept}
 use Rattle.replicas.proofs.BaseLetters.{Each-mine, mine-silent, silent-each}
 use Rattle.replicas.proofs.Steps.{at-itself, sent-nothing, stepped, scene_of-turn, scene_of-silent}
 use Rattle.replicas.proofs.Passing.{Passes, passed_scene, Kept-passed, Kept-dead, Kept-struck, list_any-either, owed_dead}
-use Rattle.replicas.proofs.Bridge.{past, groups}
+use Rattle.replicas.proofs.Bridge.{standing, groups}
 use Rattle.replicas.proofs.Known.{Known, busy_writing, kills_in-other}
 use Rattle.replicas.proofs.Deciding.{same_scene}
 use Rattle.replicas.proofs.Reading.{same_history}
@@ -38,8 +38,8 @@ all_of_dead r (p ∷ ps) h = All-cons (λ p. r.dead p ≡ true) p ps h.0 (all_of
 
 module _ (o : Opening) (w : World) (P : Proper o w) (X : Exclusive o w) (J : JoinsKnown o w) (I : Known o w)
     (a : ℕ) where
-  abbrev s : Past
-  s = past o w P X J I
+  abbrev s : Standing
+  s = standing o w P X J I
 
   abbrev S : Scene
   S = scene_of o w
@@ -49,7 +49,7 @@ module _ (o : Opening) (w : World) (P : Proper o w) (X : Exclusive o w) (J : Joi
 
   -- the scene after a turn with an entry that leaves open who is joined
   stepped-passed : (u : Turn) (e : Entry) (turns : ℕ → Replica → Replica) (dead : ℕ → List ℕ) → u.entries ≡ e ∷ []
-      → after s e ≡ pushed e s
+      → after s e ≡ with_effect e s
       → ((c : ℕ) → (effect_of e s.registry).joined c ≡ s.registry.joined c)
       → at S.replica a u.node.replica ≡ (λ c. turns c (S.replica c)) → doing_of u.node.current ≡ doing_of v.current
       → struck_by u.node.current ++ struck_of u.node.queue ≡ struck_by v.current ++ struck_of v.queue
@@ -57,9 +57,9 @@ module _ (o : Opening) (w : World) (P : Proper o w) (X : Exclusive o w) (J : Joi
       → stepped o a w u S.mail ≡ passed_scene o S e turns S.gone dead S.mail
   stepped-passed u e turns dead entries passes same t d k n =
       same_scene (stepped o a w u S.mail) (passed_scene o S e turns S.gone dead S.mail)
-      (ap (λ (es : List Entry). (fold after s es).registry) entries ∙ ap (λ (t : Past). t.registry) passes)
+      (ap (λ (es : List Entry). (fold after s es).registry) entries ∙ ap (λ (t : Standing). t.registry) passes)
       (fun_ext (λ c. ap (λ (es : List Entry). hold_at (fold after s es) c) entries
-      ∙ ap (λ (t : Past). hold_at t c) passes ∙ hold_at-pushed e s c (same c)))
+      ∙ ap (λ (t : Standing). hold_at t c) passes ∙ hold_at-with_effect e s c (same c)))
       refl t (at-itself S.doing a (doing_of u.node.current) d)
       (at-itself S.struck a (struck_by u.node.current ++ struck_of u.node.queue) k) n refl
 

@@ -5,14 +5,14 @@ use Rattle.std.specs.Prelude.{if◌then◌else◌, is_none}
 use Rattle.registry_model.specs.Process.{Nodes, at}
 use Rattle.registry_model.specs.Call.{Joined, NotMember, ContactLeft, is_grant}
 use Rattle.registry_model.specs.Registry.{Registry}
-use Rattle.registry_model.specs.History.{Entry, Name, Strike, Join, Done, Exit, Left, Told, Read, effect, Hold, Past, hold_at, is_holding, with_hold, pushed, after, past_of}
+use Rattle.registry_model.specs.History.{Entry, Name, Strike, Join, Done, Exit, Left, Told, Read, effect, Hold, Standing, hold_at, is_holding, set_hold, with_effect, after, standing_of}
 use Rattle.registry_model.specs.Legal.{is_legal, IsLegal}
 use Rattle.registry_model.proofs.HistoryParts.{registry-after, legal_keeps}
-use Rattle.registry_model.proofs.Holding.{past_it-some}
+use Rattle.registry_model.proofs.Holding.{with_effect_on-some}
 use Rattle.registry_model.proofs.Legality.{JoinIsLegal, join_is_legal}
 use Rattle.registry_model.proofs.Rising.{Rises, Rises-effect}
 use Rattle.registry_model.proofs.Deaths.{IsJoinOf, joined-effect, joined_stays}
-use Rattle.registry_model.proofs.LoneOwners.{IsGood, IsGood-past_of}
+use Rattle.registry_model.proofs.LoneOwners.{IsGood, IsGood-standing_of}
 use Rattle.moves.proofs.Indices.{by_test}
 use Rattle.replicas.proofs.Histories.{after-denied, after-granted, after-read, after-not_member, after-contact_left}
 use Rattle.replicas.proofs.Soundness.{are_on-own, Within-behind, Within-begun, WithinCluster, WithinLone, Grouped, Sound, the_hold, behind}
@@ -23,19 +23,19 @@ none_of None e = refl
 none_of (Some h) e = cc
 
 -- what holds at a lone node
-pub hold_at-lone : (s : Past) (n : ℕ) → s.registry.joined n ≡ false → hold_at s n ≡ s.lone_held n
+pub hold_at-lone : (s : Standing) (n : ℕ) → s.registry.joined n ≡ false → hold_at s n ≡ s.lone_held n
 hold_at-lone s n j = ap (λ (b : Bool). if b then s.held else s.lone_held n) j
 
 -- and at a joined one
-pub hold_at-joined : (s : Past) (n : ℕ) → s.registry.joined n ≡ true → hold_at s n ≡ s.held
+pub hold_at-joined : (s : Standing) (n : ℕ) → s.registry.joined n ≡ true → hold_at s n ≡ s.held
 hold_at-joined s n j = ap (λ (b : Bool). if b then s.held else s.lone_held n) j
 
 -- an entry that has no node join in whose group something holds
-Grouped-pushed : (s : Past) (e : Entry) → Grouped s → ((n : ℕ) (h : Hold) → s.lone_held n ≡ Some h → IsJoinOf n e → ⊥)
-    → Grouped (pushed e s)
-Grouped-pushed s e G apart = record {
+Grouped-with_effect : (s : Standing) (e : Entry) → Grouped s → ((n : ℕ) (h : Hold) → s.lone_held n ≡ Some h → IsJoinOf n e → ⊥)
+    → Grouped (with_effect e s)
+Grouped-with_effect s e G apart = record {
   cluster = λ g k.
-      let x : (h : Hold) × (s.held ≡ Some h) × (behind e h ≡ g) = past_it-some e s.held g k in
+      let x : (h : Hold) × (s.held ≡ Some h) × (behind e h ≡ g) = with_effect_on-some e s.held g k in
       let C : WithinCluster s.registry x.0 = G.cluster x.0 x.1 in
       subst (WithinCluster (effect e s.registry)) x.2 (record {
         within = Within-behind s.registry e x.0 C.within;
@@ -43,7 +43,7 @@ Grouped-pushed s e G apart = record {
         before = joined_stays x.0.old e x.0.node C.before;
       });
   alone = λ n g k.
-      let x : (h : Hold) × (s.lone_held n ≡ Some h) × (behind e h ≡ g) = past_it-some e (s.lone_held n) g k in
+      let x : (h : Hold) × (s.lone_held n ≡ Some h) × (behind e h ≡ g) = with_effect_on-some e (s.lone_held n) g k in
       let L : WithinLone s.registry n x.0 = G.alone n x.0 x.1 in
       subst (WithinLone (effect e s.registry) n) x.2 (record {
         within = Within-behind s.registry e x.0 L.within;
@@ -59,23 +59,23 @@ Grouped-pushed s e G apart = record {
     still n r (inr same) apart = same
 
 -- a hold begins
-Grouped-begun : (s : Past) (a : ℕ) (e : Entry) → Grouped s → Rises s.registry
+Grouped-begun : (s : Standing) (a : ℕ) (e : Entry) → Grouped s → Rises s.registry
     → ((n : ℕ) (h : Hold) → s.lone_held n ≡ Some h → IsJoinOf n e → ⊥) → (IsJoinOf a e → ⊥)
-    → Grouped (with_hold a (Some (record { node = a; entry = e; old = s.registry })) (pushed e s))
+    → Grouped (set_hold a (Some (record { node = a; entry = e; old = s.registry })) (with_effect e s))
 Grouped-begun s a e G R apart stays = go ((effect e s.registry).joined a) refl
   where
     new : Hold
     new = record { node = a; entry = e; old = s.registry }
 
-    P : Grouped (pushed e s)
-    P = Grouped-pushed s e G apart
+    P : Grouped (with_effect e s)
+    P = Grouped-with_effect s e G apart
 
     same : (effect e s.registry).joined a ≡ s.registry.joined a
     same = elim (joined-effect s.registry e a) [ inl i ↦ absurd (stays i) | inr k ↦ k ]
 
     go : (b : Bool) → (effect e s.registry).joined a ≡ b
-        → Grouped (if b then record (pushed e s) { held = Some new } else record (pushed e s)
-        { lone_held = at (pushed e s).lone_held a (Some new) })
+        → Grouped (if b then record (with_effect e s) { held = Some new } else record (with_effect e s)
+        { lone_held = at (with_effect e s).lone_held a (Some new) })
     go true j = record {
       cluster = λ h k. subst (WithinCluster (effect e s.registry)) (ap (the_hold h) k)
           (record { within = Within-begun s.registry e a R; node = j; before = sym same ∙ j });
@@ -83,7 +83,7 @@ Grouped-begun s a e G R apart stays = go ((effect e s.registry).joined a) refl
     }
     go false j = record {
       cluster = P.cluster;
-      alone = λ n h. by_test a (λ n b. (if b then Some new else (pushed e s).lone_held n) ≡ Some h
+      alone = λ n h. by_test a (λ n b. (if b then Some new else (with_effect e s).lone_held n) ≡ Some h
           → WithinLone (effect e s.registry) n h)
           (λ k. subst (WithinLone (effect e s.registry) a) (ap (the_hold h) k)
           (record { within = Within-begun s.registry e a R; node = refl; lone = j; before = sym same ∙ j }))
@@ -91,7 +91,7 @@ Grouped-begun s a e G R apart stays = go ((effect e s.registry).joined a) refl
     }
 
 -- a hold ends
-Grouped-done : (a : ℕ) (s : Past) → Grouped s → Grouped (with_hold a None s)
+Grouped-done : (a : ℕ) (s : Standing) → Grouped s → Grouped (set_hold a None s)
 Grouped-done a s G = go (s.registry.joined a)
   where
     go : (b : Bool) → Grouped (if b then record s { held = None } else record s { lone_held = at s.lone_held a None })
@@ -103,7 +103,7 @@ Grouped-done a s G = go (s.registry.joined a)
     }
 
 -- each legal entry
-Grouped-after : (s : Past) (e : Entry) → Rises s.registry → Grouped s → is_legal s e ≡ true → Grouped (after s e)
+Grouped-after : (s : Standing) (e : Entry) → Rises s.registry → Grouped s → is_legal s e ≡ true → Grouped (after s e)
 Grouped-after s (Name n k call reply) R G l = go (is_grant reply) refl
   where
     go : (b : Bool) → is_grant reply ≡ b → Grouped (after s (Name n k call reply))
@@ -132,27 +132,27 @@ Grouped-after s (Join j k m ContactLeft) R G l = subst Grouped (sym (after-conta
 Grouped-after s (Join j k m _) R G l = cc
 Grouped-after s (Done n) R G l = go (is_holding s n)
   where
-    go : (b : Bool) → Grouped (if b then with_hold n None s else s)
+    go : (b : Bool) → Grouped (if b then set_hold n None s else s)
     go true = Grouped-done n s G
     go false = G
-Grouped-after s (Exit p) R G l = Grouped-pushed s (Exit p) G (λ x h e i. absurd (cc i.2))
-Grouped-after s (Left d) R G l = Grouped-pushed s (Left d) G (λ x h e i. absurd (cc i.2))
-Grouped-after s (Told n d) R G l = Grouped-pushed s (Told n d) G (λ x h e i. absurd (cc i.2))
+Grouped-after s (Exit p) R G l = Grouped-with_effect s (Exit p) G (λ x h e i. absurd (cc i.2))
+Grouped-after s (Left d) R G l = Grouped-with_effect s (Left d) G (λ x h e i. absurd (cc i.2))
+Grouped-after s (Told n d) R G l = Grouped-with_effect s (Told n d) G (λ x h e i. absurd (cc i.2))
 Grouped-after s (Read n look reply) R G l = subst Grouped (sym (after-read s n look reply)) G
 
--- every legal history comes to a sound past
-pub Sound-past_of : (cluster : Nodes) (h : List Entry) → IsLegal cluster h → Sound (past_of cluster h)
-Sound-past_of cluster h l = record {
+-- every legal history comes to a sound standing
+pub Sound-standing_of : (cluster : Nodes) (h : List Entry) → IsLegal cluster h → Sound (standing_of cluster h)
+Sound-standing_of cluster h l = record {
   rises = good.rises;
-  own = λ n j. are_on-own n ((past_of cluster h).registry.lone n) (good.rises.lone n) (good.owners.own n j);
+  own = λ n j. are_on-own n ((standing_of cluster h).registry.lone n) (good.rises.lone n) (good.owners.own n j);
   cluster = grouped.1.cluster;
   alone = grouped.1.alone;
 }
   where
-    good : IsGood (past_of cluster h).registry
-    good = IsGood-past_of cluster h l
+    good : IsGood (standing_of cluster h).registry
+    good = IsGood-standing_of cluster h l
 
-    grouped : Rises (past_of cluster h).registry × Grouped (past_of cluster h)
+    grouped : Rises (standing_of cluster h).registry × Grouped (standing_of cluster h)
     grouped = legal_keeps cluster (λ s. Rises s.registry × Grouped s)
         (record { table = refl; lone = λ n. refl }, record { cluster = λ h e. cc; alone = λ n h e. cc })
         (λ s e l g. (

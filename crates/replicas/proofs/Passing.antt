@@ -9,7 +9,7 @@ use Rattle.std.proofs.lemmas.Bool.{eq-eqb, eqb-true, or_left, or_right}
 use Rattle.registry_model.specs.Process.{Process, Nodes, at}
 use Rattle.registry_model.specs.Table.{Table, is_rising, owns}
 use Rattle.registry_model.specs.Registry.{Registry, Replica, replica_of}
-use Rattle.registry_model.specs.History.{Entry, effect, Hold, old_or, past_it}
+use Rattle.registry_model.specs.History.{Entry, effect, Hold, old_or, with_effect_on}
 use Rattle.protocol_model.specs.Letter.{Letter}
 use Rattle.protocol_model.specs.Watch.{lesser, least_owner}
 use Rattle.protocol_model.specs.World.{Opening}
@@ -19,7 +19,7 @@ use Rattle.moves.proofs.Invariants.{Each}
 use Rattle.registry_model.proofs.Deaths.{dead_stays}
 use Rattle.registry_model.proofs.Rising.{is_rising-view}
 use Rattle.replicas.proofs.Mail.{carries, is_applied, carried}
-use Rattle.replicas.proofs.Histories.{is_of-past_it}
+use Rattle.replicas.proofs.Histories.{is_hold_of-with_effect_on}
 use Rattle.replicas.proofs.Soundness.{behind}
 use Rattle.replicas.proofs.Groups.{Groups}
 use Rattle.replicas.proofs.Scenes.{Doing, Nothing, Carries, is_busy, Scene, count_of, AllDead, Runs, is_late, before, IsHeldBy, Leads, AreStruck, Kept}
@@ -46,7 +46,7 @@ module _ (o : Opening) (S : Scene) (e : Entry) (turns : ℕ → Replica → Repl
   abbrev pub passed_scene : Scene
   passed_scene = record {
     registry = effect e S.registry;
-    hold = λ c. past_it e (S.hold c);
+    hold = λ c. with_effect_on e (S.hold c);
     gone = gone;
     replica = λ c. turns c (S.replica c);
     doing = S.doing;
@@ -61,7 +61,7 @@ module _ (o : Opening) (S : Scene) (e : Entry) (turns : ℕ → Replica → Repl
 
     still_held : (x : ℕ) (d : Doing) → IsHeldBy o S x d → IsHeldBy o T x d
     still_held x Nothing h = tt
-    still_held x (Carries op awaited reply) h = (behind e h.0, ap (past_it e) h.1, h.2, h.3)
+    still_held x (Carries op awaited reply) h = (behind e h.0, ap (with_effect_on e) h.1, h.2, h.3)
 
     facts : (c : ℕ) → Runs o T c → T.replica c
         ≡ replica_of (if is_late o T c (T.hold c) then before o T c else T.registry) c
@@ -69,8 +69,8 @@ module _ (o : Opening) (S : Scene) (e : Entry) (turns : ℕ → Replica → Repl
       where
         go : (h : Option Hold) → S.replica c ≡ replica_of
             (if is_late o S c h then old_or S.registry h else S.registry) c
-            → turns c (S.replica c) ≡ replica_of (if is_late o T c (past_it e h) then old_or (effect e S.registry)
-            (past_it e h) else effect e S.registry) c
+            → turns c (S.replica c) ≡ replica_of (if is_late o T c (with_effect_on e h) then old_or (effect e S.registry)
+            (with_effect_on e h) else effect e S.registry) c
         go None f = ap (turns c) f ∙ sym (P.shows S.registry c)
         go (Some h) f = each (list_any carries (S.mail h.node c)) f
             ∙ ap (λ (ls : List Letter). replica_of
@@ -89,10 +89,10 @@ module _ (o : Opening) (S : Scene) (e : Entry) (turns : ℕ → Replica → Repl
         let stays : is_busy (S.doing x) ≡ true =
         ap (λ (q : ℕ). is_busy (S.doing q)) (sym z.2) ∙ holder_busy o S K G y z.0 z.1 in (
           behind e z.0,
-          ap (past_it e) z.1,
+          ap (with_effect_on e) z.1,
           z.2,
           (z.3.0, P.busy x stays),
-          ap (λ (q : Option Hold). carried l (replica_of (old_or (effect e S.registry) (past_it e q)) y)) z.1
+          ap (λ (q : Option Hold). carried l (replica_of (old_or (effect e S.registry) (with_effect_on e q)) y)) z.1
               ∙ ap (carried l) (P.shows z.0.old y)
               ∙ P.commutes y l (replica_of z.0.old y) (is_rising-view z.0.old (G.within y z.0 z.1).rises y)
               ∙ ap (turns y) (ap (λ (q : Option Hold). carried l (replica_of (old_or S.registry q) y)) (sym z.1)
@@ -105,7 +105,7 @@ module _ (o : Opening) (S : Scene) (e : Entry) (turns : ℕ → Replica → Repl
     Kept-passed = record {
       departed = P.left;
       joined_inside = λ c j. K.joined_inside c (sym (ap (λ (f : Nodes). f c) P.joined) ∙ j);
-      holds = λ x. is_of-past_it x e (S.hold x) ∙ K.holds x;
+      holds = λ x. is_hold_of-with_effect_on x e (S.hold x) ∙ K.holds x;
       writers = λ x k. ((K.writers x k).0, P.busy x k);
       written = λ x. still_held x (S.doing x) (K.written x);
       facts = facts;

@@ -22,7 +22,7 @@ use Rattle.replicas.proofs.BaseLetters.{mine-same}
 use Rattle.replicas.proofs.Steps.{at-itself, sent, sent-nothing, took, mine-took, stepped, mail_of, scene_of-effect, scene_of-silent, scene_of-quiet}
 use Rattle.replicas.proofs.Carrying.{carried_scene, Kept-carried, dropped_scene, Kept-dropped}
 use Rattle.replicas.proofs.Counting.{counted_scene, Kept-counted, less_scene, Kept-less}
-use Rattle.replicas.proofs.Bridge.{past, groups}
+use Rattle.replicas.proofs.Bridge.{standing, groups}
 use Rattle.replicas.proofs.Known.{Known}
 use Rattle.replicas.proofs.Deciding.{same_scene}
 
@@ -68,8 +68,8 @@ module _ (o : Opening) (w : World) (P : Proper o w) (X : Exclusive o w) (J : Joi
         same : stepped o a w u (sent a w.links.closed (λ y. mine (sent_to y u.sends)) (took f a (mine rest) S.mail))
             ≡ carried_scene o S I.kept (groups o w P X J I) f a l (mine rest) (front_mine (carries_mine l is))
         same = same_scene _ _
-            (ap (λ (es : List Entry). (fold after (past o w P X J I) es).registry) entries)
-            (ap (λ (es : List Entry). hold_at (fold after (past o w P X J I) es)) entries) refl
+            (ap (λ (es : List Entry). (fold after (standing o w P X J I) es).registry) entries)
+            (ap (λ (es : List Entry). hold_at (fold after (standing o w P X J I) es)) entries) refl
             (ap (at S.replica a) v) (at-itself S.doing a (doing_of u.node.current) d)
             (at-itself S.struck a (struck_by u.node.current ++ struck_of u.node.queue) k)
             (at-itself S.dead a u.node.watch.dead n)
@@ -233,7 +233,7 @@ module _ (o : Opening) (w : World) (P : Proper o w) (X : Exclusive o w) (J : Joi
           (ap not (unawaited f l m.front.1.0 m.front.1.1 (m.front.0, e) (m.inside, m.running) m.tested.1)) m.front
           (record {
             legal = refl;
-            past = refl;
+            standing = refl;
             silent = refl;
             replica = refl;
             doing = refl;

@@ -6,7 +6,7 @@ use Rattle.registry_model.specs.Process.{nodes_of}
 use Rattle.registry_model.specs.Table.{Table}
 use Rattle.registry_model.specs.Call.{NameCall, Look, NotMember, ContactLeft, is_reply, reply_to, seen_in}
 use Rattle.registry_model.specs.Registry.{Registry, view, Replica, replica_of}
-use Rattle.registry_model.specs.History.{Entry, Name, Join, Read, Hold, Past, hold_at, old_or, old}
+use Rattle.registry_model.specs.History.{Entry, Name, Join, Read, Hold, Standing, hold_at, old_or, old}
 use Rattle.registry_model.specs.Legal.{IsLegal, is_legal, all_legal}
 use Rattle.protocol_model.specs.Round.{Round, asked}
 use Rattle.protocol_model.specs.Letter.{Global, Letter}
@@ -20,14 +20,14 @@ use Rattle.replicas.proofs.Scenes.{doing_of, struck_by, struck_of, Scene, scene_
 use Rattle.replicas.proofs.BaseLetters.{silent-each}
 use Rattle.replicas.proofs.Steps.{is_leaving, is_foreign, QuietTurn, scene_of-quiet, effect-history}
 use Rattle.replicas.proofs.Calm.{is_calm, calm_turn, calm_stays, calm_foreign}
-use Rattle.replicas.proofs.Bridge.{past, groups}
+use Rattle.replicas.proofs.Bridge.{standing, groups}
 use Rattle.replicas.proofs.Known.{Known}
 use Rattle.replicas.proofs.Granting.{is_reply-same, legal_reply}
 
 module _ (o : Opening) (w : World) (P : Proper o w) (X : Exclusive o w) (J : JoinsKnown o w) (I : Known o w)
     (a : ℕ) where
-  abbrev s : Past
-  s = past o w P X J I
+  abbrev s : Standing
+  s = standing o w P X J I
 
   abbrev S : Scene
   S = scene_of o w
@@ -96,7 +96,7 @@ module _ (o : Opening) (w : World) (P : Proper o w) (X : Exclusive o w) (J : Joi
   pub Known-looked : (look : Look) → May o a w (LooksUp look) → Known o (effect o a (LooksUp look) w)
   Known-looked look m = Known-quiet (LooksUp look) refl refl tt (record {
     legal = one_legal (Read a look (seen_in v.replica.table look)) (legal_read (m.inside, m.running) look);
-    past = after-read s a look (seen_in v.replica.table look);
+    standing = after-read s a look (seen_in v.replica.table look);
     silent = refl;
     replica = refl;
     doing = refl;
@@ -110,7 +110,7 @@ module _ (o : Opening) (w : World) (P : Proper o w) (X : Exclusive o w) (J : Joi
   Known-denied k call r m = Known-quiet (Denies k call r) refl refl tt (record {
     legal = one_legal (Name a k call (reply_to v.replica.members v.replica.table call))
         (legal_reply o w P X J I a (m.inside, m.running) (Op.Name k call) r m.tested.0 k call);
-    past = after-denied s a k call (reply_to v.replica.members v.replica.table call) m.tested.1;
+    standing = after-denied s a k call (reply_to v.replica.members v.replica.table call) m.tested.1;
     silent = silent-each (nodes_of o.bound (λ c. asked r c && not (v.replica.told c)))
         (Letter.GiveBack (Global a) (registrar a) false) refl;
     replica = refl;
@@ -124,7 +124,7 @@ module _ (o : Opening) (w : World) (P : Proper o w) (X : Exclusive o w) (J : Joi
       → Known o (effect o a (SkipsJoin k c ops) w)
   Known-skipped k c ops m = Known-quiet (SkipsJoin k c ops) refl refl tt (record {
     legal = one_legal (Join a k c ContactLeft) (told_now (m.inside, m.running) c m.tested.2);
-    past = after-contact_left s a k c;
+    standing = after-contact_left s a k c;
     silent = refl;
     replica = refl;
     doing = refl;
@@ -136,7 +136,7 @@ module _ (o : Opening) (w : World) (P : Proper o w) (X : Exclusive o w) (J : Joi
   pub Known-lost : (k c : ℕ) → May o a w (LosesContact k c) → Known o (effect o a (LosesContact k c) w)
   Known-lost k c m = Known-quiet (LosesContact k c) refl refl tt (record {
     legal = one_legal (Join a k c ContactLeft) (told_now (m.inside, m.running) c m.tested.0);
-    past = after-contact_left s a k c;
+    standing = after-contact_left s a k c;
     silent = refl;
     replica = refl;
     doing = sym (ap doing_of m.tested.1);
@@ -150,7 +150,7 @@ module _ (o : Opening) (w : World) (P : Proper o w) (X : Exclusive o w) (J : Joi
   Known-refused f pairs m = Known-quiet (RefusesJoin f pairs) refl refl m.front (record {
     legal = one_legal (Join f (join_number w f) a NotMember)
         (ap not (not_joined_before (m.inside, m.running) m.tested.1));
-    past = after-not_member s f (join_number w f) a;
+    standing = after-not_member s f (join_number w f) a;
     silent = refl;
     replica = refl;
     doing = refl;

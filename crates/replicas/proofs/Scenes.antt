@@ -5,7 +5,7 @@ use Rattle.std.specs.List.{list_any}
 use Rattle.registry_model.specs.Process.{Process, Nodes}
 use Rattle.registry_model.specs.Call.{Reply, Joined, is_grant}
 use Rattle.registry_model.specs.Registry.{Registry, Replica, replica_of}
-use Rattle.registry_model.specs.History.{Entry, Hold, hold_at, is_of, old_or, past_of}
+use Rattle.registry_model.specs.History.{Entry, Hold, hold_at, is_hold_of, old_or, standing_of}
 use Rattle.protocol_model.specs.Letter.{Letter}
 use Rattle.protocol_model.specs.Node.{Op, Current}
 use Rattle.protocol_model.specs.World.{Opening, in_world, in_cluster, World}
@@ -71,8 +71,8 @@ pub record Scene : Type 0 where
 -- the scene of a world
 abbrev pub scene_of : Opening → World → Scene
 scene_of o w = record {
-  registry = (past_of (in_cluster o) w.history).registry;
-  hold = hold_at (past_of (in_cluster o) w.history);
+  registry = (standing_of (in_cluster o) w.history).registry;
+  hold = hold_at (standing_of (in_cluster o) w.history);
   gone = w.links.closed;
   replica = λ c. (w.node c).replica;
   doing = λ c. doing_of (w.node c).current;
@@ -139,7 +139,7 @@ module _ (o : Opening) (S : Scene) where
   pub record Kept : Type 0 where
     pub departed : (d : ℕ) → S.registry.left d ≡ S.gone d
     pub joined_inside : (c : ℕ) → S.registry.joined c ≡ true → in_world o c ≡ true
-    pub holds : (a : ℕ) → is_of a (S.hold a) ≡ is_busy (S.doing a)
+    pub holds : (a : ℕ) → is_hold_of a (S.hold a) ≡ is_busy (S.doing a)
     pub writers : (a : ℕ) → is_busy (S.doing a) ≡ true → Runs a
     pub written : (a : ℕ) → IsHeldBy a (S.doing a)
     pub facts : (c : ℕ) → Runs c → S.replica c ≡ replica_of (if is_late c (S.hold c) then before c else S.registry) c

@@ -9,7 +9,7 @@ use Rattle.registry_model.specs.Process.{Nodes, at}
 use Rattle.registry_model.specs.Table.{Table, is_below, is_rising, get, StrikeOwner, changed}
 use Rattle.registry_model.specs.Call.{Joined, is_grant, change_of}
 use Rattle.registry_model.specs.Registry.{Registry, with_table}
-use Rattle.registry_model.specs.History.{Entry, Name, Strike, Join, Told, effect, Hold, Past}
+use Rattle.registry_model.specs.History.{Entry, Name, Strike, Join, Told, effect, Hold, Standing}
 use Rattle.registry_model.proofs.Tables.{is_rising-parts, get-below, get-front, get-behind}
 use Rattle.registry_model.proofs.Groups.{told-with_table}
 use Rattle.registry_model.proofs.Rising.{Rises, Rises-effect}
@@ -56,11 +56,11 @@ pub record WithinLone (r : Registry) (n : ℕ) (h : Hold) : Type 0 where
   pub before : h.old.joined n ≡ false
 
 -- what holds is within its group
-pub record Grouped (s : Past) : Type 0 where
+pub record Grouped (s : Standing) : Type 0 where
   pub cluster : (h : Hold) → s.held ≡ Some h → WithinCluster s.registry h
   pub alone : (n : ℕ) (h : Hold) → s.lone_held n ≡ Some h → WithinLone s.registry n h
 
-pub record Sound (s : Past) : Type 0 where
+pub record Sound (s : Standing) : Type 0 where
   pub rises : Rises s.registry
   pub own : (n : ℕ) → s.registry.joined n ≡ false → are_on n (s.registry.lone n) ≡ true
   pub cluster : (h : Hold) → s.held ≡ Some h → WithinCluster s.registry h

@@ -10,18 +10,18 @@ use Rattle.std.proofs.lemmas.Bool.{cases_eq, eq-eqb, eqb-true, and_parts, and_fr
 use Rattle.registry_model.specs.Process.{Nodes, nodes_of}
 use Rattle.registry_model.specs.Table.{Pair, Table, without}
 use Rattle.registry_model.specs.Registry.{in_group, Replica, replica_of}
-use Rattle.registry_model.specs.History.{Hold, Past, hold_at, is_free, is_of, is_holding, old_or, old}
+use Rattle.registry_model.specs.History.{Hold, Standing, hold_at, is_free, is_hold_of, is_holding, old_or, old}
 use Rattle.protocol_model.specs.Letter.{Letter}
 use Rattle.protocol_model.specs.Node.{Current, is_writing, holds_global}
 use Rattle.protocol_model.specs.Event.{Event, NoSuchNode, NodeLeft, HoldsLock, cause, first_cause, is_joining}
 use Rattle.protocol_model.specs.World.{Opening, in_world, in_cluster, World, left, At, holder}
 use Rattle.protocol_model.specs.Course.{seen}
 use Rattle.protocol_model.specs.Headline.{Shows, IsRunning}
-use Rattle.moves.proofs.Invariants.{is_welcome, IsUp, past_at, is_behind, is_pending, IsOnItsWay, Proper, Replicas, JoinsKnown}
+use Rattle.moves.proofs.Invariants.{is_welcome, IsUp, standing_at, is_behind, is_pending, IsOnItsWay, Proper, Replicas, JoinsKnown}
 use Rattle.replicas.proofs.Mail.{carries, carried, carried-joined}
 use Rattle.replicas.proofs.BaseLetters.{Each-find}
 use Rattle.replicas.proofs.Soundness.{the_hold, are_on, Sound, WithinCluster}
-use Rattle.replicas.proofs.Legality.{none_of, hold_at-joined, Sound-past_of}
+use Rattle.replicas.proofs.Legality.{none_of, hold_at-joined, Sound-standing_of}
 use Rattle.replicas.proofs.Groups.{Groups, Groups-sound, hold-holder}
 
 -- nobody of a set passes
@@ -62,12 +62,12 @@ without-own n gone (e ∷ t) g h =
     ∙ ap (λ (u : Table). e ∷ u) (without-own n gone t g (and_parts (e.owner.node == n) (are_on n t) h).1)
 
 module _ (o : Opening) (w : World) (R : Replicas o w) where
-  abbrev s : Past
-  s = past_at o w
+  abbrev s : Standing
+  s = standing_at o w
 
   -- what the history alone says
   pub sound_now : Sound s
-  sound_now = Sound-past_of (in_cluster o) w.history R.legal
+  sound_now = Sound-standing_of (in_cluster o) w.history R.legal
 
   -- and what it says of groups
   pub groups_now : Groups s.registry (hold_at s)
@@ -75,7 +75,7 @@ module _ (o : Opening) (w : World) (R : Replicas o w) where
 
   -- the node of what holds writes
   pub holder_writes : (c : ℕ) (h : Hold) → hold_at s c ≡ Some h → is_writing (w.node h.node).current ≡ true
-  holder_writes c h e = sym (R.holds h.node) ∙ ap (is_of h.node) (hold-holder s.registry (hold_at s) groups_now c h e)
+  holder_writes c h e = sym (R.holds h.node) ∙ ap (is_hold_of h.node) (hold-holder s.registry (hold_at s) groups_now c h e)
       ∙ eq-eqb h.node h.node refl
 
   up : (a : ℕ) → IsRunning o s a → IsUp o w a
@@ -164,12 +164,12 @@ module _ (o : Opening) (w : World) (R : Replicas o w) where
       joined : s.registry.joined c ≡ true
       joined = joined_writer c (R.writers c more.1) more.0 more.1
 
-      holding : is_of c s.held ≡ true
-      holding = ap (is_of c) (sym (hold_at-joined s c joined)) ∙ R.holds c ∙ more.1
+      holding : is_hold_of c s.held ≡ true
+      holding = ap (is_hold_of c) (sym (hold_at-joined s c joined)) ∙ R.holds c ∙ more.1
 
       go : (x : Option Hold) → s.held ≡ x → (h : Hold) × (s.held ≡ Some h) × (h.node ≡ c)
-      go None e = cc (ap (is_of c) e, holding)
-      go (Some h) e = (h, e, eqb-true h.node c (ap (is_of c) (sym e) ∙ holding))
+      go None e = cc (ap (is_hold_of c) e, holding)
+      go (Some h) e = (h, e, eqb-true h.node c (ap (is_hold_of c) (sym e) ∙ holding))
 
   -- the holder is the node of what holds in the cluster
   pub holder_is : (seen o w).holder ≡ option_map (λ h. h.node) s.held
@@ -238,8 +238,8 @@ module _ (o : Opening) (w : World) (R : Replicas o w) where
 module _ (o : Opening) (w : World) (R : Replicas o w) (J : JoinsKnown o w) where
   -- it is as joined as the registry has it
   pub joined_now : (a : ℕ) → IsUp o w a → is_joining (w.node a).current ≡ false
-      → (w.node a).replica.joined ≡ (past_at o w).registry.joined a
-  joined_now a u waits = ap (λ (v : Replica). v.joined) (R.facts a u) ∙ go (hold_at (past_at o w) a) refl
+      → (w.node a).replica.joined ≡ (standing_at o w).registry.joined a
+  joined_now a u waits = ap (λ (v : Replica). v.joined) (R.facts a u) ∙ go (hold_at (standing_at o w) a) refl
     where
       no_welcome : (f : ℕ) (l : Letter) (b : Bool) → is_welcome l ≡ b
           → (is_welcome l ≡ true → (k : ℕ) × ((w.node a).current ≡ Current.Joining k f)) → b ≡ false
@@ -247,24 +247,24 @@ module _ (o : Opening) (w : World) (R : Replicas o w) (J : JoinsKnown o w) where
           cc (ap is_joining z.1, waits)
       no_welcome f l false i k = refl
 
-      late : (h : Hold) → hold_at (past_at o w) a ≡ Some h → (b : Bool) → is_behind o w a (Some h) ≡ b
-          → (if b then h.old else (past_at o w).registry).joined a ≡ (past_at o w).registry.joined a
+      late : (h : Hold) → hold_at (standing_at o w) a ≡ Some h → (b : Bool) → is_behind o w a (Some h) ≡ b
+          → (if b then h.old else (standing_at o w).registry).joined a ≡ (standing_at o w).registry.joined a
       late h e true k =
           let x : (l : Letter) × (carries l ≡ true) × IsOnItsWay o w h.node a l
           × (is_welcome l ≡ true → (k : ℕ) × ((w.node a).current ≡ Current.Joining k h.node)) =
           Each-find carries (IsOnItsWay o w h.node a)
           (λ l. is_welcome l ≡ true → (k : ℕ) × ((w.node a).current ≡ Current.Joining k h.node))
           (w.links.queue h.node a) k (R.notes h.node a u.1) (J.welcome h.node a u) in
-          let y : (g : Hold) × (hold_at (past_at o w) a ≡ Some g) × (g.node ≡ h.node) × IsUp o w h.node
-          × (carried x.0 (replica_of (old (past_at o w) a) a) ≡ replica_of (past_at o w).registry a) = x.2 x.1 in
-          ap (λ (q : Option Hold). (old_or (past_at o w).registry q).joined a) (sym e)
-          ∙ sym (carried-joined x.0 (replica_of (old (past_at o w) a) a) x.1
+          let y : (g : Hold) × (hold_at (standing_at o w) a ≡ Some g) × (g.node ≡ h.node) × IsUp o w h.node
+          × (carried x.0 (replica_of (old (standing_at o w) a) a) ≡ replica_of (standing_at o w).registry a) = x.2 x.1 in
+          ap (λ (q : Option Hold). (old_or (standing_at o w).registry q).joined a) (sym e)
+          ∙ sym (carried-joined x.0 (replica_of (old (standing_at o w) a) a) x.1
           (no_welcome h.node x.0 (is_welcome x.0) refl x.3))
           ∙ ap (λ (v : Replica). v.joined) y.4
       late h e false k = refl
 
-      go : (x : Option Hold) → hold_at (past_at o w) a ≡ x
-          → (if is_behind o w a x then old_or (past_at o w).registry x else (past_at o w).registry).joined a
-          ≡ (past_at o w).registry.joined a
+      go : (x : Option Hold) → hold_at (standing_at o w) a ≡ x
+          → (if is_behind o w a x then old_or (standing_at o w).registry x else (standing_at o w).registry).joined a
+          ≡ (standing_at o w).registry.joined a
       go None e = refl
       go (Some h) e = late h e (is_behind o w a (Some h)) refl

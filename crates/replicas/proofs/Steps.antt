@@ -5,7 +5,7 @@ use Rattle.std.proofs.Math.Path.{fun_ext}
 use Rattle.std.proofs.lemmas.List.{append-nil}
 use Rattle.registry_model.specs.Process.{Process, Nodes, at}
 use Rattle.registry_model.specs.Registry.{Replica}
-use Rattle.registry_model.specs.History.{Past, hold_at, after, past_of}
+use Rattle.registry_model.specs.History.{Standing, hold_at, after, standing_of}
 use Rattle.registry_model.specs.Legal.{all_legal}
 use Rattle.protocol_model.specs.Letter.{Letter}
 use Rattle.protocol_model.specs.Node.{Node}
@@ -13,7 +13,7 @@ use Rattle.protocol_model.specs.Turn.{Turn, sent_to}
 use Rattle.protocol_model.specs.World.{Opening, in_cluster, World, apply}
 use Rattle.moves.proofs.Indices.{by_test}
 use Rattle.moves.proofs.Rules.{Rule, Leaves, Taken, FrontTaken, takes, without_letter, turn_by, effect, closed_by}
-use Rattle.registry_model.proofs.HistoryParts.{past_of-append}
+use Rattle.registry_model.proofs.HistoryParts.{standing_of-append}
 use Rattle.replicas.proofs.Scenes.{Doing, doing_of, struck_by, struck_of, is_mine, mine, Scene, scene_of}
 use Rattle.replicas.proofs.BaseLetters.{mine-append, mine-other, is_silent, mine-silent}
 
@@ -68,8 +68,8 @@ took-other f a rest mail e = fun_ext (λ x. fun_ext
 
 module _ (o : Opening) (a : ℕ) (w : World) where
   -- what the history comes to
-  abbrev pub past_now : Past
-  past_now = past_of (in_cluster o) w.history
+  abbrev pub past_now : Standing
+  past_now = standing_of (in_cluster o) w.history
 
   -- the scene after a turn, but for letters that are taken
   abbrev pub stepped : Turn → (ℕ → ℕ → List Letter) → Scene
@@ -86,7 +86,7 @@ module _ (o : Opening) (a : ℕ) (w : World) where
   }
 
   -- a scene of these parts
-  abbrev scene_by : Past → (ℕ → Replica) → (ℕ → Doing) → (ℕ → List Process) → (ℕ → List ℕ) → (ℕ → ℕ → List Letter)
+  abbrev scene_by : Standing → (ℕ → Replica) → (ℕ → Doing) → (ℕ → List Process) → (ℕ → List ℕ) → (ℕ → ℕ → List Letter)
       → Scene
   scene_by s replica doing struck dead mail = record {
     registry = s.registry;
@@ -99,11 +99,11 @@ module _ (o : Opening) (a : ℕ) (w : World) where
     mail = mail;
   }
 
-  same_parts : {s s2 : Past} {r r2 : ℕ → Replica} {d d2 : ℕ → Doing} {k k2 : ℕ → List Process} {e e2 : ℕ → List ℕ}
+  same_parts : {s s2 : Standing} {r r2 : ℕ → Replica} {d d2 : ℕ → Doing} {k k2 : ℕ → List Process} {e e2 : ℕ → List ℕ}
       {m m2 : ℕ → ℕ → List Letter}
       → s ≡ s2 → r ≡ r2 → d ≡ d2 → k ≡ k2 → e ≡ e2 → m ≡ m2 → scene_by s r d k e m ≡ scene_by s2 r2 d2 k2 e2 m2
   same_parts {s} {s2} {r} {r2} {d} {d2} {k} {k2} {e} {e2} {m} {m2} es er ed ek ee em =
-      ap (λ (x : Past). scene_by x r d k e m) es ∙ ap (λ (x : ℕ → Replica). scene_by s2 x d k e m) er
+      ap (λ (x : Standing). scene_by x r d k e m) es ∙ ap (λ (x : ℕ → Replica). scene_by s2 x d k e m) er
       ∙ ap (λ (x : ℕ → Doing). scene_by s2 r2 x k e m) ed
       ∙ ap (λ (x : ℕ → List Process). scene_by s2 r2 d2 x e m) ek
       ∙ ap (λ (x : ℕ → List ℕ). scene_by s2 r2 d2 k2 x m) ee
@@ -123,12 +123,12 @@ module _ (o : Opening) (a : ℕ) (w : World) where
   pub scene_of-turn : (t : Option Taken) (u : Turn) → scene_of o (apply a u (without_letter o a t w))
       ≡ stepped u (sent a w.links.closed (λ y. mine (sent_to y u.sends))
       (λ x y. mine ((without_letter o a t w).links.queue x y)))
-  scene_of-turn None u = same_parts (past_of-append (in_cluster o) w.history u.entries)
+  scene_of-turn None u = same_parts (standing_of-append (in_cluster o) w.history u.entries)
       (at-map (λ (v : Node). v.replica) w.node a u.node) (at-map (λ (v : Node). doing_of v.current) w.node a u.node)
       (at-map (λ (v : Node). struck_by v.current ++ struck_of v.queue) w.node a u.node)
       (at-map (λ (v : Node). v.watch.dead) w.node a u.node)
       (mine-sent u w.links.queue)
-  scene_of-turn (Some t) u = same_parts (past_of-append (in_cluster o) w.history u.entries)
+  scene_of-turn (Some t) u = same_parts (standing_of-append (in_cluster o) w.history u.entries)
       (at-map (λ (v : Node). v.replica) w.node a u.node) (at-map (λ (v : Node). doing_of v.current) w.node a u.node)
       (at-map (λ (v : Node). struck_by v.current ++ struck_of v.queue) w.node a u.node)
       (at-map (λ (v : Node). v.watch.dead) w.node a u.node)
@@ -185,7 +185,7 @@ module _ (o : Opening) (a : ℕ) (w : World) where
   -- a turn that the scene doesn't show
   pub record QuietTurn (u : Turn) : Type 0 where
     pub legal : all_legal past_now u.entries ≡ true
-    pub past : fold after past_now u.entries ≡ past_now
+    pub standing : fold after past_now u.entries ≡ past_now
     pub silent : is_silent u.sends ≡ true
     pub replica : u.node.replica ≡ (w.node a).replica
     pub doing : doing_of u.node.current ≡ doing_of (w.node a).current
@@ -194,7 +194,7 @@ module _ (o : Opening) (a : ℕ) (w : World) where
     pub dead : u.node.watch.dead ≡ (w.node a).watch.dead
 
   stepped-quiet : (u : Turn) → QuietTurn u → stepped u (λ x y. mine (w.links.queue x y)) ≡ scene_of o w
-  stepped-quiet u q = same_parts q.past (at-itself (λ c. (w.node c).replica) a u.node.replica q.replica)
+  stepped-quiet u q = same_parts q.standing (at-itself (λ c. (w.node c).replica) a u.node.replica q.replica)
       (at-itself (λ c. doing_of (w.node c).current) a (doing_of u.node.current) q.doing)
       (at-itself (λ c. struck_by (w.node c).current ++ struck_of (w.node c).queue) a
       (struck_by u.node.current ++ struck_of u.node.queue) q.struck)
@@ -214,7 +214,7 @@ module _ (o : Opening) (a : ℕ) (w : World) where
   effect-history _ = refl
 
   -- and what it comes to
-  pub past_of-effect : (r : Rule) → past_of (in_cluster o) (effect o a r w).history
+  pub standing_of-effect : (r : Rule) → standing_of (in_cluster o) (effect o a r w).history
       ≡ fold after past_now (turn_by o a w r).entries
-  past_of-effect r = ap (past_of (in_cluster o)) (effect-history r)
-      ∙ past_of-append (in_cluster o) w.history (turn_by o a w r).entries
+  standing_of-effect r = ap (standing_of (in_cluster o)) (effect-history r)
+      ∙ standing_of-append (in_cluster o) w.history (turn_by o a w r).entries

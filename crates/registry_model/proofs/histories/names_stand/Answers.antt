@@ -1,4 +1,4 @@
-use Rattle.registry_model.proofs.Standing.{stand_law}
+use Rattle.registry_model.proofs.NamesStand.{stand_law}
 use Rattle.registry_model.proofs.histories.names_stand.Goals as goal
 
 pub returns : goal.returns

@@ -8,7 +8,7 @@ use Rattle.registry_model.specs.Table.{Table, Change, get, put_all, without, cha
 use Rattle.registry_model.specs.Call.{NameCall, Register, ReRegister, Unregister, Reply, Yes, Joined, is_grant, change_of}
 use Rattle.registry_model.specs.Settlement.{settle}
 use Rattle.registry_model.specs.Registry.{Registry, in_group, table_of, with_table, view, members}
-use Rattle.registry_model.specs.History.{Entry, Name, Strike, Join, Done, Exit, Left, Told, Read, effect, registry_of, Past, past_of}
+use Rattle.registry_model.specs.History.{Entry, Name, Strike, Join, Done, Exit, Left, Told, Read, effect, registry_of, Standing, standing_of}
 use Rattle.registry_model.specs.Legal.{is_legal, IsLegal}
 use Rattle.registry_model.specs.HistoryLaws.{Takes, NamesStand, IsFreeFor, YesToTheFree}
 use Rattle.registry_model.specs.HistoryLaws.Takes.{GivenUp, Replaced, Struck, Departed, Retaken, LostToJoiner, RetakenByJoiner, LostToCluster}
@@ -17,11 +17,11 @@ use Rattle.registry_model.proofs.Updates.{at_same, at_other}
 use Rattle.registry_model.proofs.Tables.{pair, if_kept, or_else, get-put, get-remove, get-strike, is_rising-changed, is_rising-put_all}
 use Rattle.registry_model.proofs.Changes.{cases_owner}
 use Rattle.registry_model.proofs.Settling.{wins, get-settled}
-use Rattle.registry_model.proofs.HistoryParts.{registry_of-push, registry-past_of, is_legal-at, IsLegal-front}
+use Rattle.registry_model.proofs.HistoryParts.{registry_of-push, registry-standing_of, is_legal-at, IsLegal-front}
 use Rattle.registry_model.proofs.Rising.{Rises, is_rising-table_of}
 use Rattle.registry_model.proofs.Groups.{told-with_table, table_of-group, table_of-with_table, table_of-with_table_other, get-seen, seen-get, get-unseen}
 use Rattle.registry_model.proofs.Legality.{NameIsLegal, name_is_legal, JoinIsLegal, join_is_legal, YesToRegister, yes_to_register, granted_register, granted_re_register}
-use Rattle.registry_model.proofs.LoneOwners.{IsGood, IsGood-past_of}
+use Rattle.registry_model.proofs.LoneOwners.{IsGood, IsGood-standing_of}
 
 -- n sees p under the name still, or the entry takes it
 abbrev pub Stands : Registry → ℕ → Text → Process → Entry → Type 0
@@ -53,7 +53,7 @@ stays-with_table m c r n x p g h i keeps =
     (keeps seen.0) seen.1
 
 -- a granted name call by a node of n's group
-pub stands-granted : (s : Past) (m k : ℕ) (call : NameCall) (reply : Reply) (n : ℕ) (x : Text) (p : Process) →
+pub stands-granted : (s : Standing) (m k : ℕ) (call : NameCall) (reply : Reply) (n : ℕ) (x : Text) (p : Process) →
     NameIsLegal s m call reply → is_grant reply ≡ true →
     Rises s.registry → get x (view s.registry n) ≡ Some p → in_group s.registry n m ≡ true →
     (get x (view (with_table m (changed (change_of call)) s.registry) n) ≡ Some p)
@@ -139,7 +139,7 @@ pub get-joined : (r : Registry) (j m : ℕ) → Rises r → (x : Text) →
 get-joined r j m g x = get-settled r.table (view r m) (r.lone j) (g.lone j) x
 
 -- a join, as the joiner sees it
-pub stands-own_join : (s : Past) (j k m : ℕ) (x : Text) (p : Process) → JoinIsLegal s j m → IsGood s.registry →
+pub stands-own_join : (s : Standing) (j k m : ℕ) (x : Text) (p : Process) → JoinIsLegal s j m → IsGood s.registry →
     get x (view s.registry j) ≡ Some p →
     Stands s.registry j x p (Join j k m Joined)
 stands-own_join s j k m x p l g h = go (cases_owner (get x (view r m)))
@@ -180,7 +180,7 @@ stands-own_join s j k m x p l g h = go (cases_owner (get x (view r m)))
     go (inr e) = inl (keeps (get-joined r j m g.rises x ∙ rw (had, e) refl))
 
 -- a join, as another node sees it
-pub stands-other_join : (s : Past) (j k m n : ℕ) (x : Text) (p : Process) → (n ≡ j → ⊥) → JoinIsLegal s j m →
+pub stands-other_join : (s : Standing) (j k m n : ℕ) (x : Text) (p : Process) → (n ≡ j → ⊥) → JoinIsLegal s j m →
     IsGood s.registry → get x (view s.registry n) ≡ Some p →
     Stands s.registry n x p (Join j k m Joined)
 stands-other_join s j k m n x p ne l g h = go (r.joined n) refl
@@ -235,7 +235,7 @@ stands-other_join s j k m n x p ne l g h = go (r.joined n) refl
             seen_by_contact = f ∙ sym at_contact.0 ∙ seen.0
 
 -- a join
-pub stands-join : (s : Past) (j k m n : ℕ) (x : Text) (p : Process) → JoinIsLegal s j m → IsGood s.registry →
+pub stands-join : (s : Standing) (j k m n : ℕ) (x : Text) (p : Process) → JoinIsLegal s j m → IsGood s.registry →
     get x (view s.registry n) ≡ Some p → Stands s.registry n x p (Join j k m Joined)
 stands-join s j k m n x p l g h = elim (cases_eq n j) [
   | inl i ↦ subst (λ (c : ℕ). Stands s.registry c x p (Join j k m Joined)) (sym i)
@@ -244,7 +244,7 @@ stands-join s j k m n x p l g h = elim (cases_eq n j) [
 ]
 
 -- each legal entry
-pub stands : (s : Past) (e : Entry) (n : ℕ) (x : Text) (p : Process) → is_legal s e ≡ true → IsGood s.registry →
+pub stands : (s : Standing) (e : Entry) (n : ℕ) (x : Text) (p : Process) → is_legal s e ≡ true → IsGood s.registry →
     get x (view s.registry n) ≡ Some p → Stands s.registry n x p e
 stands s (Name m k call reply) n x p l g h = go (is_grant reply) refl
   where
@@ -274,13 +274,13 @@ stands s (Read m look reply) n x p l g h = inl h
 pub stand_law : (cluster : Nodes) (h : List Entry) → IsLegal cluster h → NamesStand cluster h
 stand_law cluster h l before later e n x p s seen =
     let legal : IsLegal cluster (before ++ e ∷ later) = subst (λ (h : List Entry). IsLegal cluster h) s l in
-    let t : Past = past_of cluster before in
+    let t : Standing = standing_of cluster before in
     let held : Stands t.registry n x p e =
     stands t e n x p (is_legal-at cluster before later e legal)
-    (IsGood-past_of cluster before (IsLegal-front cluster before (e ∷ later) legal))
-    (ap (λ (r : Registry). get x (view r n)) (registry-past_of cluster before) ∙ seen) in
+    (IsGood-standing_of cluster before (IsLegal-front cluster before (e ∷ later) legal))
+    (ap (λ (r : Registry). get x (view r n)) (registry-standing_of cluster before) ∙ seen) in
     let here : Stands (registry_of cluster before) n x p e =
-    subst (λ (r : Registry). Stands r n x p e) (registry-past_of cluster before) held in
+    subst (λ (r : Registry). Stands r n x p e) (registry-standing_of cluster before) held in
     elim here [
       | inl k ↦ inl (ap (λ (r : Registry). get x (view r n)) (registry_of-push cluster before e) ∙ k)
       | inr k ↦ inr k
@@ -291,10 +291,10 @@ pub yes_law : (cluster : Nodes) (h : List Entry) → IsLegal cluster h → YesTo
 yes_law cluster h l before later n k x p s =
     let legal : IsLegal cluster (before ++ Name n k (Register x p) Yes ∷ later) =
     subst (λ (h : List Entry). IsLegal cluster h) s l in
-    let t : Past = past_of cluster before in
+    let t : Standing = standing_of cluster before in
     let a : NameIsLegal t n (Register x p) Yes =
     name_is_legal t n (Register x p) Yes (is_legal-at cluster before later (Name n k (Register x p) Yes) legal) in
     let y : YesToRegister (members t.registry n) (view t.registry n) x p =
     yes_to_register (members t.registry n) (view t.registry n) x p a.answer in
-    subst (λ (r : Registry). IsFreeFor r n x p) (registry-past_of cluster before)
+    subst (λ (r : Registry). IsFreeFor r n x p) (registry-standing_of cluster before)
     (record { name = y.name; owner = y.owner; member = y.member })
