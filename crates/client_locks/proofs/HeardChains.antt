@@ -8,7 +8,7 @@ use Rattle.registry_model.specs.Process.{Process, is_process}
 use Rattle.protocol_model.specs.Letter.{Id}
 use Rattle.protocol_model.specs.Node.{LockCall}
 use Rattle.protocol_model.specs.Event.{Answer, is_waiting_call}
-use Rattle.protocol_model.specs.ClientLocks.{is_tried, is_won, is_gone}
+use Rattle.client_locks.proofs.RoundNumbers.{is_tried, is_won, is_gone}
 use Rattle.protocol_model.specs.World.{Opening, World}
 use Rattle.moves.proofs.Rules.{Rule, MayAll, Ordered, effect, effects, turn_by, answers_by}
 use Rattle.moves.proofs.Indices.{both}

@@ -1,3 +1,4 @@
+pub mod RoundNumbers
 pub mod Ids
 pub mod LockTables
 pub mod Calls

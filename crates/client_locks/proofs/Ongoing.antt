@@ -12,7 +12,7 @@ use Rattle.protocol_model.specs.Node.{LockPhase, LockCall, call_of, put_call}
 use Rattle.protocol_model.specs.Event.{is_waiting_call}
 use Rattle.protocol_model.specs.Turn.{Turn, begun, keep_call}
 use Rattle.protocol_model.specs.Client.{in_phase, close_call, give_lock, is_spent}
-use Rattle.protocol_model.specs.ClientLocks.{is_tried}
+use Rattle.client_locks.proofs.RoundNumbers.{is_tried}
 use Rattle.protocol_model.specs.World.{Opening, World}
 use Rattle.moves.proofs.Rules.{Rule, Taken, May, Ordered, IsOpen, effect, turn_by, takes}
 use Rattle.moves.proofs.Rules.Rule.{HearsLock, MarksLockDown, WinsLock, GivesUpLock, CountsGivenBack, EndsDeletion, CountsLockDown, EndsDeletionDown}

@@ -6,7 +6,7 @@ use Rattle.protocol_model.specs.Letter.{Id, is_id, is_resource}
 use Rattle.protocol_model.specs.LockTable.{count}
 use Rattle.protocol_model.specs.Watch.{is_dead}
 use Rattle.protocol_model.specs.Event.{Answer, Refusal}
-use Rattle.protocol_model.specs.ClientLocks.{is_gone, counted, number_after, number_from, number, Holds, Exclusion}
+use Rattle.client_locks.proofs.RoundNumbers.{is_gone, counted, number_after, number_from, number, Holds, Exclusion}
 use Rattle.protocol_model.specs.World.{Opening, in_world, World, left, WorldEvent, place, opening_world, refusal, happens, accepted, answers, turn_of, run}
 use Rattle.moves.proofs.Rules.{Rule, May, MayAll, Ordered, Walked, effect, effects, answers_by}
 use Rattle.moves.proofs.Invariants.{Proper, IsUp}

@@ -1,31 +1,53 @@
 -- Clients' locks: how often a process holds a lock at a node, as events and answers tell it.
 use Rattle.std.specs.Prelude.{ℕ, Bool, true, false, ◌&&◌, ◌||◌, ◌==◌, ◌+◌, ◌-◌, ◌≡◌, ◌<◌, IsTrue, Option, Some, None, is_none, List, [], ◌∷◌, if◌then◌else◌}
 use Rattle.std.specs.List.{list_any}
-use Rattle.registry_model.specs.Process.{Process, is_process}
+use Rattle.registry_model.specs.Process.{Process, is_process, Nodes}
 use Rattle.registry_model.specs.Call.{True, is_reply}
-use Rattle.protocol_model.specs.Round.{asked}
 use Rattle.protocol_model.specs.Letter.{Id, Client, is_id, is_resource}
 use Rattle.protocol_model.specs.Watch.{is_dead}
-use Rattle.protocol_model.specs.Node.{LockPhase, LockCall, call_of, targets}
-use Rattle.protocol_model.specs.Event.{Call, Event, Answer}
+use Rattle.protocol_model.specs.Node.{Target, call_of, targets}
+use Rattle.protocol_model.specs.Event.{Call, Event, Answer, is_waiting_call}
 use Rattle.protocol_model.specs.World.{Opening, in_world, World, left, WorldEvent, At, opening_world, refusal, happens, answers, run}
 
--- the call is a `set_lock` of this id whose present try asks c
-abbrev pub is_tried : Id → ℕ → LockCall → Bool
-is_tried id c k = is_id k.id id && (elim k.phase [ LockPhase.Asking r ↦ asked r c | _ ↦ false ])
+-- a try of a `set_lock`: the number and the id of the call, whom it names, and the nodes that this try has to ask
+pub record Try : Type 0 where
+  pub number : ℕ
+  pub id : Id
+  pub target : Target
+  pub asks : Nodes
 
--- the answer is `true` to this call
-abbrev pub is_true_to : LockCall → Answer → Bool
-is_true_to k s = (s.node == k.holder.node) && (s.number == k.number) && is_reply s.reply True
+-- a try has to ask those of its target that are members when it begins
+abbrev pub try_of : Nodes → ℕ → Id → Target → Try
+try_of members k id target = record { number = k; id = id; target = target; asks = targets members target }
 
--- these answers give the call a lock of this id at c
-abbrev pub is_won : Id → ℕ → List Answer → Option LockCall → Bool
-is_won id c given None = false
-is_won id c given (Some k) = is_tried id c k && list_any (is_true_to k) given
+-- the same call is tried again
+abbrev pub tried_again : Nodes → Option Try → Option Try
+tried_again members None = None
+tried_again members (Some t) = Some (try_of members t.number t.id t.target)
 
--- the event answers `true` to p's `set_lock` of this id, whose last try asked c
-abbrev pub takes : Opening → World → WorldEvent → Process → Id → ℕ → Bool
-takes o w e p id c = is_won id c (answers o w e) (call_of p (w.node p.node).calls)
+-- the lock call of p was refused, and waits for a retry
+abbrev pub is_refused : World → Process → Bool
+is_refused w p = elim (call_of p (w.node p.node).calls) [ None ↦ false | Some c ↦ is_waiting_call c.phase ]
+
+-- the last try of p, which was t before this accepted event: its `set_lock` begins one, and so does a retry where it was refused
+abbrev pub last_try : World → WorldEvent → Process → Option Try → Option Try
+last_try w e p t = elim e [
+  | At a (Event.Calling (Call.SetLock q r z target retries)) ↦
+      if is_process q p
+      then Some (try_of (w.node a).replica.members ((w.node a).last_call + 1) (Client r z) target)
+      else t
+  | At a Event.Retry ↦ if (a == p.node) && is_refused w p then tried_again (w.node a).replica.members t else t
+  | _ ↦ t
+]
+
+-- the answer is `true` to this try of p
+abbrev pub is_true_to : Process → Try → Answer → Bool
+is_true_to p t s = (s.node == p.node) && (s.number == t.number) && is_reply s.reply True
+
+-- these answers give p the lock of this id at c
+abbrev pub is_won : Process → Id → ℕ → List Answer → Option Try → Bool
+is_won p id c given None = false
+is_won p id c given (Some t) = is_id t.id id && t.asks c && list_any (is_true_to p t) given
 
 -- the event is a `del_lock` of this id by p that goes to c
 abbrev pub gives : World → WorldEvent → Process → Id → ℕ → Bool
@@ -39,25 +61,38 @@ gives w e p id c = elim e [
 abbrev pub is_gone : World → Process → Bool
 is_gone w p = left w p.node || is_dead (w.node p.node).watch p.serial
 
--- what an accepted event makes of a number k: one more, one less, or none for good
-abbrev pub counted : Opening → World → WorldEvent → Process → Id → ℕ → ℕ → ℕ
-counted o w e p id c k =
+-- how often p holds a lock at a node, and its last try
+pub record Tally : Type 0 where
+  pub number : ℕ
+  pub last : Option Try
+
+-- what an accepted event makes of a number k, where t is p's last try: one more where its `set_lock` is answered `true` and the
+-- try had to ask c, one less where its `del_lock` goes to c, and none for good where it is gone
+abbrev pub counted : Opening → World → WorldEvent → Process → Id → ℕ → Option Try → ℕ → ℕ
+counted o w e p id c t k =
     if is_gone (happens o w e) p
     then 0
-    else (if takes o w e p id c then k + 1 else (if gives w e p id c then k - 1 else k))
+    else (if is_won p id c (answers o w e) t then k + 1 else (if gives w e p id c then k - 1 else k))
 
--- a refused event changes no number
-abbrev pub number_after : Opening → World → WorldEvent → Process → Id → ℕ → ℕ → ℕ
-number_after o w e p id c k = if is_none (refusal o w e) then counted o w e p id c k else k
+-- behind an accepted event
+abbrev pub tallied : Opening → World → WorldEvent → Process → Id → ℕ → Tally → Tally
+tallied o w e p id c k = record {
+  number = counted o w e p id c (last_try w e p k.last) k.number;
+  last = last_try w e p k.last;
+}
 
--- the number after these events, where it was k before them
-abbrev pub number_from : Opening → World → List WorldEvent → Process → Id → ℕ → ℕ → ℕ
-number_from o w [] p id c k = k
-number_from o w (e ∷ es) p id c k = number_from o (happens o w e) es p id c (number_after o w e p id c k)
+-- a refused event changes nothing
+abbrev pub tally_after : Opening → World → WorldEvent → Process → Id → ℕ → Tally → Tally
+tally_after o w e p id c k = if is_none (refusal o w e) then tallied o w e p id c k else k
 
--- how often p holds the lock at c. It is a function of the opening and the events alone: they determine the answers
+-- behind these events
+abbrev pub tally_from : Opening → World → List WorldEvent → Process → Id → ℕ → Tally → Tally
+tally_from o w [] p id c k = k
+tally_from o w (e ∷ es) p id c k = tally_from o (happens o w e) es p id c (tally_after o w e p id c k)
+
+-- how often p holds the lock at c. It is a function of the opening and the events alone: they determine answers and members
 abbrev pub number : Opening → List WorldEvent → Process → Id → ℕ → ℕ
-number o es p id c = number_from o (opening_world o) es p id c 0
+number o es p id c = (tally_from o (opening_world o) es p id c (record { number = 0; last = None })).number
 
 -- p holds the lock at c
 abbrev pub Holds : Opening → List WorldEvent → Process → Id → ℕ → Type 0

@@ -1,8 +1,11 @@
 -- What is seen of a world from outside: the events that it accepted, with what each brought, and what it shows now.
 use Rattle.std.specs.Prelude.{ℕ, Bool, false, Option, is_none, flat_map, List, [], ◌∷◌, ◌++◌, if◌then◌else◌}
+use Rattle.std.specs.List.{list_any}
+use Rattle.registry_model.specs.Process.{Nodes}
 use Rattle.registry_model.specs.Registry.{Replica}
 use Rattle.registry_model.specs.History.{Entry}
-use Rattle.protocol_model.specs.Letter.{Letter, is_down}
+use Rattle.protocol_model.specs.Letter.{Global, is_id, Letter, is_down}
+use Rattle.protocol_model.specs.LockTable.{Locks}
 use Rattle.protocol_model.specs.Event.{Answer, Refusal}
 use Rattle.protocol_model.specs.World.{Opening, World, WorldEvent, Deliver, refusal, happens, answers, turn_of, holder}
 
@@ -13,10 +16,12 @@ pub record Played : Type 0 where
   pub entries : List Entry
   pub down : Bool
 
--- what a world shows of itself; refusal e: why it would refuse e now, if it would
+-- what a world shows of itself; given c a: node c has given the global lock to a; refusal e: why it would refuse e now, if
+-- it would
 pub record Seen : Type 0 where
   pub history : List Entry
   pub node : ℕ → Replica
+  pub given : ℕ → Nodes
   pub holder : Option ℕ
   pub refusal : WorldEvent → Option Refusal
 
@@ -48,6 +53,16 @@ abbrev pub course : Opening → World → List WorldEvent → List Played
 course o w [] = []
 course o w (e ∷ es) = (if is_none (refusal o w e) then played o w e ∷ [] else []) ++ course o (happens o w e) es
 
+-- to whom a node has given the global lock, by its lock table
+abbrev pub global_given : Locks → Nodes
+global_given locks a = list_any (λ g. is_id g.id (Global a)) locks
+
 -- what a world shows
 abbrev pub seen : Opening → World → Seen
-seen o w = record { history = w.history; node = λ a. (w.node a).replica; holder = holder o w; refusal = refusal o w }
+seen o w = record {
+  history = w.history;
+  node = λ a. (w.node a).replica;
+  given = λ c. global_given (w.node c).locks;
+  holder = holder o w;
+  refusal = refusal o w;
+}

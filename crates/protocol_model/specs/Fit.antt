@@ -1,9 +1,9 @@
 -- When a history fits the events that were played.
 use Rattle.std.specs.Prelude.{ℕ, Bool, true, false, ◌&&◌, ◌==◌, ◌+◌, ◌≡◌, filter, flat_map, map, List, [], ◌∷◌, ◌++◌, if◌then◌else◌}
-use Rattle.registry_model.specs.Call.{NameCall}
+use Rattle.registry_model.specs.Call.{NameCall, ContactLeft}
 use Rattle.registry_model.specs.History.{Entry}
 use Rattle.protocol_model.specs.Event.{Call, Event}
-use Rattle.protocol_model.specs.World.{At, Deliver}
+use Rattle.protocol_model.specs.World.{WorldEvent, At, Deliver, place}
 use Rattle.protocol_model.specs.Course.{Played, entries_of}
 
 -- a name or join call of one node, with its number there
@@ -77,6 +77,38 @@ told_of p = elim p.event [ Deliver d a ↦ if p.down then Entry.Told a d ∷ [] 
 -- the entry of an accepted look-up, with the reply that it was given
 abbrev pub read_of : Played → List Entry
 read_of p = elim p.event [ At a (Event.Calling (Call.LookUp look)) ↦ map (λ s. Entry.Read a look s.reply) p.answers | _ ↦ [] ]
+
+-- the node that makes an entry: that of the operation or of the event; for a join its contact, but the joiner where the contact
+-- has left
+abbrev pub maker_of : Entry → ℕ
+maker_of (Entry.Name a k call reply) = a
+maker_of (Entry.Strike p) = p.node
+maker_of (Entry.Join j k m ContactLeft) = j
+maker_of (Entry.Join j k m _) = m
+maker_of (Entry.Done a) = a
+maker_of (Entry.Exit p) = p.node
+maker_of (Entry.Left d) = d
+maker_of (Entry.Told a d) = a
+maker_of (Entry.Read a look reply) = a
+
+-- what a node decides, refuses or ends by a letter that it reads: operations, and joins by a contact that hasn't left
+abbrev pub is_by_letter : Entry → Bool
+is_by_letter (Entry.Name a k call reply) = true
+is_by_letter (Entry.Strike p) = true
+is_by_letter (Entry.Join j k m ContactLeft) = false
+is_by_letter (Entry.Join j k m _) = true
+is_by_letter (Entry.Done a) = true
+is_by_letter _ = false
+
+-- the event is the delivery of a letter
+abbrev pub is_delivery : WorldEvent → Bool
+is_delivery (Deliver f t) = true
+is_delivery _ = false
+
+-- An entry of a step is made by the node of that step, and by a letter where it needs one
+pub record IsMadeIn (p : Played) (e : Entry) : Type 0 where
+  pub place : maker_of e ≡ place p.event
+  pub letter : is_by_letter e ≡ true → is_delivery p.event ≡ true
 
 -- ys begins with xs
 abbrev pub IsPrefix : {A : Type 0} → List A → List A → Type 0

@@ -1,10 +1,11 @@
 -- The headline: all answers to name calls and joins are those of one sequential registry that takes the granted operations
 -- in lock order, and whenever the lock is free, the replicas are that registry's.
 use mathlib.Core.Logic.{◌⊎◌}
-use Rattle.std.specs.Prelude.{ℕ, true, false, ◌≡◌, IsTrue, Contains, fold, Some, None, option_map, flat_map, List, [], ◌∷◌, ◌++◌, if◌then◌else◌}
+use Rattle.std.specs.Prelude.{ℕ, true, false, ◌==◌, ◌≡◌, IsTrue, Contains, fold, Some, None, option_map, flat_map, List, [], ◌∷◌, ◌++◌, if◌then◌else◌}
 use Rattle.registry_model.specs.Call.{Yes}
 use Rattle.registry_model.specs.Registry.{Registry, in_group, replica_of}
-use Rattle.registry_model.specs.History.{Standing, standing_of, is_free, is_holding, old, after}
+use Rattle.registry_model.specs.History.{Entry, Standing, standing_of, is_free, is_holding, old, after}
+use Rattle.registry_model.specs.HistoryLaws.{decided_by}
 use Rattle.registry_model.specs.Legal.{IsLegal}
 use Rattle.protocol_model.specs.Event.{Event, Answer, HoldsLock}
 use Rattle.protocol_model.specs.World.{Opening, in_world, in_cluster, WorldEvent, At, opening_world, run}
@@ -12,7 +13,7 @@ use Rattle.protocol_model.specs.Course.{Played, Seen, entries_of, course, seen}
 use Rattle.protocol_model.specs.Fit.{IsPrefix, Fits}
 use Rattle.protocol_model.specs.Answers.{answers_at, entered_at, AnswersInTime}
 
--- what the history of these events comes to
+-- how things stand behind these events
 abbrev pub standing : Opening → List Played → Standing
 standing o ps = standing_of (in_cluster o) (entries_of ps)
 
@@ -27,6 +28,16 @@ IsRunning o t a = (in_world o a ≡ true) × (t.registry.left a ≡ false)
 -- all running nodes of the group of a show the registry
 abbrev pub GroupShows : Opening → Standing → ℕ → Seen → Type 0
 GroupShows o t a now = (c : ℕ) → in_group t.registry a c ≡ true → IsRunning o t c → Shows t.registry c now
+
+-- every running node of the group of a has given the global lock to a, and to no other
+abbrev pub HasTheLock : Opening → Standing → ℕ → Seen → Type 0
+HasTheLock o t a now = (c b : ℕ) → in_group t.registry a c ≡ true → IsRunning o t c → now.given c b ≡ (b == a)
+
+-- where the last of these steps decides an operation, its node has the global lock behind it; the group is that before the entry
+abbrev pub DecidedUnderLock : Opening → List Played → Seen → Type 0
+DecidedUnderLock o ps now = (before : List Played) (p : Played) (earlier later : List Entry) (e : Entry) (a : ℕ) →
+    ps ≡ before ++ p ∷ [] → p.entries ≡ earlier ++ e ∷ later → decided_by e ≡ Some a →
+    HasTheLock o (fold after (standing o before) earlier) a now
 
 -- each event of a course, behind those before it
 abbrev pub EachStep : List Played → (List Played → Played → Type 0) → Type 0
