@@ -1,19 +1,19 @@
 -- Known bytes of a reader: which of them a line takes.
-use Rattle.std.proofs.Common.{ℕ, Bool, true, false, List, [], ◌∷◌, ◌++◌, ◌≡◌, ◌<◌, ◌≤◌, ◌+◌, ◌==◌, length, length-append, Result, Err, Option, Some, None, refl, sym, ap, subst, ◌∙◌, arith, append_assoc, append-nil, zero-add, add_assoc}
+use Rattle.std.proofs.Common.{ℕ, Bool, true, false, List, [], ◌∷◌, ◌++◌, ◌≡◌, ◌<◌, ◌≤◌, ◌+◌, ◌==◌, length, length-append, Result, Err, Option, Some, None, refl, sym, ap, subst, ◌∙◌, arith, append_assoc, append-nil, zero-add, add_assoc, inl, inr}
 use Rattle.std.specs.Prelude.{if◌then◌else◌, not, MatchResult}
 use Rattle.std.specs.List.{slice_split}
 use Rattle.std.specs.Str.Lines.{lines, lines_of_parts, strip_carriage_return}
 use Rattle.std.specs.List.{onto_first}
 use Rattle.std.proofs.lemmas.List.Splits.{slice_split_at, slice_split_none, slice_split-cons_no, length-slice_split}
 use Rattle.std.specs.Io.KnownBytes.{Consumes}
-use Rattle.std.proofs.KnownBytes.{Consumes-trans}
+use Rattle.std.proofs.KnownBytes.{Consumes-trans, Consumes-nil, Consumes-kept}
 use Rattle.std.proofs.lemmas.Bool.{ne_eqb}
 use Rattle.std.proofs.lemmas.List.Elements.{All-append, All-cons, All-nil, All-head, All-tail}
-use Rattle.cluster_script.specs.Lines.{TakesByte, TakesPart, HasNoFeed, LosesLines, HasNoLine, line_of, count_for, count_of, count_of_all, spoken, is_blank, BeginsWithLines, GoesPast, StopsAtLine}
+use Rattle.cluster_script.specs.Lines.{TakesByte, TakesPart, HasNoFeed, LosesLines, HasNoLine, line_of, count_for, count_of, count_of_all, spoken, is_blank, BeginsWithLines, GoesPast, GoesPastFor, LosesInto, LosesWithinLine, IsWithinLine, MayEndIn, StopsAtByte, StopsAtLine}
 use Rattle.cluster_script.specs.declared.faults.ScriptFault.{ScriptFault}
 use Rattle.cluster_script.specs.declared.faults.ScriptFault.TheVariants as fault
 use Rattle.cluster_script.specs.Script.{HasLines}
-use Rattle.cluster_script.specs.Played.{StopsReading}
+use Rattle.cluster_script.specs.Played.{StopsReading, LosesNext}
 use Rattle.cluster_script.proofs.Parts.{length-line_of}
 
 -- bytes, and then none: the end of a line without a line feed
@@ -205,14 +205,68 @@ GoesPast-behind a b ls ms most left t e g = (
   omega (arith, e, g.3, count_of_all-append ls ms, count_of_all-append ms (g.0 ∷ []), count_of_all-append (ls ++ ms) (g.0 ∷ [])),
 )
 
+-- the same, for any fault
+pub GoesPastFor-behind : (f : ScriptFault) (a b : Option (List ℕ)) (ls ms : List (List ℕ)) (most left : ℕ) → LosesLines a b ls → most ≡ left + count_of_all ls
+    → GoesPastFor f b left ms → GoesPastFor f a most (ls ++ ms)
+GoesPastFor-behind fault.TooManyLines a b ls ms most left t e g = GoesPast-behind a b ls ms most left t e g
+GoesPastFor-behind fault.Read a b ls ms most left t e g = tt
+GoesPastFor-behind fault.Write a b ls ms most left t e g = tt
+GoesPastFor-behind fault.Memory a b ls ms most left t e g = tt
+
+-- lines are lost, and nothing of the next
+pub LosesInto-whole : (a b : Option (List ℕ)) (ls : List (List ℕ)) → LosesLines a b ls → LosesInto a b ls []
+LosesInto-whole a b ls t = (b, t, Consumes-nil b)
+
+-- lines are lost, and then others and a part of the next
+pub LosesInto-behind : (a b c : Option (List ℕ)) (ls ms : List (List ℕ)) (part : List ℕ) → LosesLines a b ls → LosesInto b c ms part → LosesInto a c (ls ++ ms) part
+LosesInto-behind a b c ls ms part t g = (g.0, LosesLines-trans a b g.0 ls ms t g.1, g.2)
+
+-- bytes without a line feed are of one line at most
+pub IsWithinLine-part : (bytes : List ℕ) → HasNoFeed bytes → IsWithinLine bytes
+IsWithinLine-part [] h = omega arith
+IsWithinLine-part (b ∷ bytes) h = omega (arith, ap (λ (ls : List (List ℕ)). length ls) (lines-last (b ∷ bytes) h (omega arith)))
+
+-- and with one
+pub IsWithinLine-ended : (bytes : List ℕ) → HasNoFeed bytes → IsWithinLine (bytes ++ 10 ∷ [])
+IsWithinLine-ended bytes h = omega (arith, ap (λ (ls : List (List ℕ)). length ls) (lines-ended bytes [] h))
+
+-- a part of a line may have been read behind each fault
+pub MayEndIn-part : (f : ScriptFault) (part : List ℕ) → HasNoFeed part → MayEndIn f part
+MayEndIn-part fault.Read part h = h
+MayEndIn-part fault.Write part h = h
+MayEndIn-part fault.TooManyLines part h = IsWithinLine-part part h
+MayEndIn-part fault.Memory part h = IsWithinLine-part part h
+
+pub MayEndIn-none : (f : ScriptFault) → MayEndIn f []
+MayEndIn-none f = MayEndIn-part f [] (All-nil (λ b. (b == 10) ≡ false))
+
+-- the bytes of a line
+pub LosesWithinLine-taken : (a b : Option (List ℕ)) (e : Bool) (bytes : List ℕ) → HasNoFeed bytes → TakesPart a b e bytes → LosesWithinLine a b
+LosesWithinLine-taken a b true bytes h t = (bytes ++ 10 ∷ [], t, IsWithinLine-ended bytes h)
+LosesWithinLine-taken a b false bytes h t = (bytes, t.0, IsWithinLine-part bytes h)
+
+-- a byte isn't read behind bytes of a line
+pub StopsAtLine-byte : (a b c : Option (List ℕ)) (bytes : List ℕ) (left : ℕ) (f : ScriptFault) → HasNoFeed bytes → Consumes a b bytes → StopsAtByte b c f → StopsAtLine a c left f
+StopsAtLine-byte a b c bytes left f h t s = elim s.0 [
+  | inl e ↦ subst (λ (g : ScriptFault). StopsAtLine a c left g) (sym e) (bytes, Consumes-kept a b c bytes t s.1, h, tt)
+  | inr e ↦ subst (λ (g : ScriptFault). StopsAtLine a c left g) (sym e) (bytes, Consumes-kept a b c bytes t s.1, h, tt)
+]
+
 -- the line behind empty ones isn't read
-pub StopsReading-behind : (a b : Option (List ℕ)) (ls : List (List ℕ)) (most left : ℕ) → spoken ls ≡ [] → LosesLines a b ls → most ≡ left + count_of_all ls
-    → (f : ScriptFault) → StopsAtLine b left f → StopsReading a most f
-StopsReading-behind a b ls most left s t e fault.TooManyLines g =
-    (ls, s, subst (λ (xs : List (List ℕ)). GoesPast a most xs) (append-nil ls) (GoesPast-behind a b ls [] most left t e g))
-StopsReading-behind a b ls most left s t e fault.Read g = tt
-StopsReading-behind a b ls most left s t e fault.Write g = tt
-StopsReading-behind a b ls most left s t e fault.Memory g = tt
+pub StopsReading-behind : (a b c : Option (List ℕ)) (ls : List (List ℕ)) (most left : ℕ) → spoken ls ≡ [] → LosesLines a b ls → most ≡ left + count_of_all ls
+    → (f : ScriptFault) → StopsAtLine b c left f → StopsReading a c most f
+StopsReading-behind a b c ls most left s t e f g = (
+  ls,
+  g.0,
+  s,
+  (b, t, g.1),
+  g.2,
+  subst (λ (xs : List (List ℕ)). GoesPastFor f a most xs) (append-nil ls) (GoesPastFor-behind f a b ls [] most left t e g.3),
+)
+
+-- the next line that isn't empty, of which one line at most is lost behind empty ones
+pub LosesNext-behind : (a b c : Option (List ℕ)) (ls : List (List ℕ)) → spoken ls ≡ [] → LosesLines a b ls → LosesWithinLine b c → LosesNext a c
+LosesNext-behind a b c ls s t g = (ls, g.0, s, (b, t, g.1), g.2)
 
 -- what the exit of a `?` says, where its fault is known
 pub MatchResult-err : {A E : Type 0} (P : A → Type 0) (Q : E → Type 0) (r : Result A E) (y : E) → r ≡ Err y → Q y → MatchResult r P Q

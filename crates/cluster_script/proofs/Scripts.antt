@@ -3,8 +3,8 @@ use Rattle.std.proofs.Common.{ℕ, Bool, true, List, [], ◌∷◌, ◌++◌, �
 use Rattle.std.specs.Prelude.{◌&&◌}
 use Rattle.std.specs.List.{list_all}
 use Rattle.std.proofs.lemmas.List.Folds.{list_all-append}
-use Rattle.std.specs.Io.KnownBytes.{Appends}
-use Rattle.std.proofs.KnownBytes.{Appends-trans, Appends-nil}
+use Rattle.std.specs.Io.KnownBytes.{Appends, Keeps}
+use Rattle.std.proofs.KnownBytes.{Appends-trans, Appends-nil, Appends-kept}
 use Rattle.protocol_model.specs.World.{Opening, World}
 use Rattle.protocol_model.specs.Script.{Line as ScriptLine}
 use Rattle.cluster_world.specs.Held.{Held}
@@ -14,13 +14,13 @@ use Rattle.cluster_script.specs.declared.faults.ScriptFault.{ScriptFault}
 use Rattle.cluster_script.specs.declared.faults.ScriptFault.TheVariants as fault
 use Rattle.cluster_script.specs.declared.faults.WriteFault.{WriteFault}
 use Rattle.cluster_script.specs.declared.faults.WriteFault.TheVariants as write
-use Rattle.cluster_script.specs.Lines.{spoken, count_of_all, LosesLines}
+use Rattle.cluster_script.specs.Lines.{spoken, count_of_all, LosesLines, LosesInto, MayEndIn}
 use Rattle.cluster_script.specs.Commands.{LineAsks}
 use Rattle.cluster_script.specs.Printing.{shown_text, shown_line, is_fine, Shown}
 use Rattle.cluster_script.specs.Script.{AppendsPart, AllAsk, behind, behind_all, shown, shown_all, stop_of}
-use Rattle.cluster_script.specs.Played.{PlaysLine, PlaysLines, PlaysSome, StopsReading, StopsPlaying, PlaysAll, shown_on}
+use Rattle.cluster_script.specs.Played.{PlaysLine, PlaysLines, PlaysSome, LosesNext, StopsReading, StopsPlaying, PlaysAll, shown_on}
 use Rattle.cluster_script.proofs.Writing.{AppendsPart-behind, AppendsPart-whole}
-use Rattle.cluster_script.proofs.Known.{BeginsWithLines-front, GoesPast-behind, LosesLines-trans, LosesLines-nil, LosesLines-begins, spoken-append, count_of_all-append}
+use Rattle.cluster_script.proofs.Known.{GoesPast-behind, LosesLines-trans, LosesLines-nil, LosesInto-whole, LosesInto-behind, MayEndIn-none, spoken-append, count_of_all-append}
 
 -- two lists that are printed
 pub shown_text-append : (xs ys : List Shown) → shown_text (xs ++ ys) ≡ shown_text xs ++ shown_text ys
@@ -72,46 +72,43 @@ module _ (input mid : Option (List ℕ)) (most l1 : ℕ) (old h1 : Held) (a b : 
       ∙ ap (λ (w : World). shown_text (shown_all (opening_of old) (seen old) P.asked) ++ shown_text (shown (opening_of old) w asked)) (sym P.world)
       ∙ ap (λ (o : Opening). shown_text (shown_all (opening_of old) (seen old) P.asked) ++ shown_text (shown o (seen h1) asked)) (sym P.opening)
 
-  -- what was played so far, where a fault comes
-  pub PlaysSome-so_far : PlaysSome Appends input old a b
-  PlaysSome-so_far = record {
-    taken = P.taken;
-    asked = P.asked;
-    read = LosesLines-begins input mid P.taken P.read;
-    each = P.each;
-    wrote = P.wrote;
-  }
+  -- what was played so far, where a fault comes behind empty lines
+  module _ (rest : Option (List ℕ)) (ls : List (List ℕ)) (part : List ℕ) (s : spoken ls ≡ []) (t : LosesInto mid rest ls part) where
+    pub each-blank : AllAsk (spoken (P.taken ++ ls)) P.asked
+    each-blank = subst (λ (xs : List (List ℕ)). AllAsk xs P.asked)
+        (sym (spoken-append P.taken ls ∙ ap (λ (xs : List (List ℕ)). spoken P.taken ++ xs) s ∙ append-nil (spoken P.taken))) P.each
 
-  pub PlaysSome-part : PlaysSome AppendsPart input old a b
-  PlaysSome-part = record {
-    taken = P.taken;
-    asked = P.asked;
-    read = LosesLines-begins input mid P.taken P.read;
-    each = P.each;
-    wrote = subst (λ (t : List ℕ). AppendsPart a b t) (append-nil _) (AppendsPart-whole a b _ [] P.wrote);
-  }
+    abbrev pub PlaysSome-so_far : PlaysSome Appends input rest old a b
+    PlaysSome-so_far = record {
+      taken = P.taken ++ ls;
+      part = part;
+      asked = P.asked;
+      read = LosesInto-behind input mid rest P.taken ls part P.read t;
+      each = each-blank;
+      wrote = P.wrote;
+    }
 
-  -- empty lines were read behind them
-  each-blank : (ls : List (List ℕ)) → spoken ls ≡ [] → AllAsk (spoken (P.taken ++ ls)) P.asked
-  each-blank ls s = subst (λ (xs : List (List ℕ)). AllAsk xs P.asked)
-      (sym (spoken-append P.taken ls ∙ ap (λ (xs : List (List ℕ)). spoken P.taken ++ xs) s ∙ append-nil (spoken P.taken))) P.each
+    abbrev pub PlaysSome-part : PlaysSome AppendsPart input rest old a b
+    PlaysSome-part = record {
+      taken = P.taken ++ ls;
+      part = part;
+      asked = P.asked;
+      read = LosesInto-behind input mid rest P.taken ls part P.read t;
+      each = each-blank;
+      wrote = subst (λ (t : List ℕ). AppendsPart a b t) (append-nil _) (AppendsPart-whole a b _ [] P.wrote);
+    }
 
   -- the next line isn't read
-  pub StopsPlaying-reading : (f : ScriptFault) → StopsReading mid l1 f → StopsPlaying input most old a b f
-  StopsPlaying-reading fault.TooManyLines g =
-      let past = GoesPast-behind input mid P.taken g.0 most l1 P.read P.counted g.2 in (
-        record {
-          taken = P.taken ++ g.0;
-          asked = P.asked;
-          read = BeginsWithLines-front input (P.taken ++ g.0) (past.0 ∷ []) past.1;
-          each = each-blank g.0 g.1;
-          wrote = P.wrote;
-        },
-        past,
-      )
-  StopsPlaying-reading fault.Read g = PlaysSome-so_far
-  StopsPlaying-reading fault.Write g = PlaysSome-part
-  StopsPlaying-reading fault.Memory g = PlaysSome-part
+  pub StopsPlaying-reading : (rest : Option (List ℕ)) (f : ScriptFault) → StopsReading mid rest l1 f → StopsPlaying input rest most old a b f
+  StopsPlaying-reading rest fault.TooManyLines g =
+      (PlaysSome-so_far rest g.0 g.1 g.2 g.3, g.4, GoesPast-behind input mid P.taken g.0 most l1 P.read P.counted g.5)
+  StopsPlaying-reading rest fault.Read g = (PlaysSome-so_far rest g.0 g.1 g.2 g.3, g.4)
+  StopsPlaying-reading rest fault.Write g = (PlaysSome-part rest g.0 g.1 g.2 g.3, g.4)
+  StopsPlaying-reading rest fault.Memory g = (PlaysSome-part rest g.0 g.1 g.2 g.3, g.4)
+
+  -- memory is refused for what the next line asks
+  pub StopsPlaying-next : (rest : Option (List ℕ)) → LosesNext mid rest → StopsPlaying input rest most old a b fault.Memory
+  StopsPlaying-next rest g = (PlaysSome-part rest g.0 g.1 g.2 g.3, g.4)
 
   module _ (rest : Option (List ℕ)) (ls : List (List ℕ)) (line : List ℕ) (asked : Result ScriptLine LineFault) (s : spoken ls ≡ line ∷ []) (t : LosesLines mid rest ls)
       (q : LineAsks line asked) where
@@ -120,11 +117,12 @@ module _ (input mid : Option (List ℕ)) (most l1 : ℕ) (old h1 : Held) (a b : 
         (sym (spoken-append P.taken ls ∙ ap (λ (xs : List (List ℕ)). spoken P.taken ++ xs) s)) (AllAsk-push (spoken P.taken) P.asked line asked P.each q)
 
     -- a fault comes while a line is played
-    pub PlaysSome-next : (c : Option (List ℕ)) → AppendsPart b c (shown_on h1 asked) → PlaysSome AppendsPart input old a c
+    abbrev pub PlaysSome-next : (c : Option (List ℕ)) → AppendsPart b c (shown_on h1 asked) → PlaysSome AppendsPart input rest old a c
     PlaysSome-next c p = record {
       taken = P.taken ++ ls;
+      part = [];
       asked = P.asked ++ asked ∷ [];
-      read = LosesLines-begins input rest (P.taken ++ ls) (LosesLines-trans input mid rest P.taken ls P.read t);
+      read = LosesInto-whole input rest (P.taken ++ ls) (LosesLines-trans input mid rest P.taken ls P.read t);
       each = each-push;
       wrote = subst (λ (x : List ℕ). AppendsPart a c x) (sym (text-push asked)) (AppendsPart-behind a b c _ (shown_on h1 asked) P.wrote p);
     }
@@ -151,8 +149,23 @@ module _ (input mid : Option (List ℕ)) (most l1 : ℕ) (old h1 : Held) (a b : 
 
 -- what the exit of a `?` says of lines
 pub PlaysAll-err : (input rest : Option (List ℕ)) (most left : ℕ) (old new : Held) (a b : Option (List ℕ)) (r : Result Bool ScriptFault) (y : ScriptFault)
-    → r ≡ Err y → StopsPlaying input most old a b y → PlaysAll input rest most left old new a b r
+    → r ≡ Err y → StopsPlaying input rest most old a b y → PlaysAll input rest most left old new a b r
 PlaysAll-err input rest most left old new a b r y e p = rw e p
+
+-- what was written stays
+pub PlaysLines-kept : (input rest : Option (List ℕ)) (most left : ℕ) (old new : Held) (a b c : Option (List ℕ)) (fine : Bool) → PlaysLines input rest most left old new a b fine → Keeps b c
+    → PlaysLines input rest most left old new a c fine
+PlaysLines-kept input rest most left old new a b c fine p k = record {
+  taken = p.taken;
+  asked = p.asked;
+  read = p.read;
+  counted = p.counted;
+  each = p.each;
+  opening = p.opening;
+  world = p.world;
+  wrote = Appends-kept a b c (shown_text (shown_all (opening_of old) (seen old) p.asked)) p.wrote k;
+  fine_is = p.fine_is;
+}
 
 -- empty lines are read
 pub PlaysLines-blank : (input mid rest : Option (List ℕ)) (most l1 l2 : ℕ) (old h1 : Held) (a b : Option (List ℕ)) (fine : Bool) (P : PlaysLines input mid most l1 old h1 a b fine)
@@ -162,7 +175,7 @@ PlaysLines-blank input mid rest most l1 l2 old h1 a b fine P ls s t e = record {
   asked = P.asked;
   read = LosesLines-trans input mid rest P.taken ls P.read t;
   counted = omega (arith, P.counted, e, count_of_all-append P.taken ls);
-  each = each-blank input mid most l1 old h1 a b fine P ls s;
+  each = each-blank input mid most l1 old h1 a b fine P rest ls [] s (LosesInto-whole mid rest ls t);
   opening = P.opening;
   world = P.world;
   wrote = P.wrote;
@@ -170,7 +183,9 @@ PlaysLines-blank input mid rest most l1 l2 old h1 a b fine P ls s t e = record {
 }
 
 -- a text wasn't written, or memory was refused
-pub StopsPlaying-writing : (input : Option (List ℕ)) (most : ℕ) (old : Held) (a b : Option (List ℕ)) (f : WriteFault) (y : ScriptFault) → y ≡ stop_of f
-    → PlaysSome AppendsPart input old a b → StopsPlaying input most old a b y
-StopsPlaying-writing input most old a b write.Writer y e p = subst (λ (g : ScriptFault). StopsPlaying input most old a b g) (sym e) p
-StopsPlaying-writing input most old a b write.Memory y e p = subst (λ (g : ScriptFault). StopsPlaying input most old a b g) (sym e) p
+pub StopsPlaying-writing : (input rest : Option (List ℕ)) (most : ℕ) (old : Held) (a b : Option (List ℕ)) (f : WriteFault) (y : ScriptFault) → y ≡ stop_of f
+    → (p : PlaysSome AppendsPart input rest old a b) → p.part ≡ [] → StopsPlaying input rest most old a b y
+StopsPlaying-writing input rest most old a b write.Writer y e p n =
+    subst (λ (g : ScriptFault). StopsPlaying input rest most old a b g) (sym e) (p, subst (λ (xs : List ℕ). MayEndIn fault.Write xs) (sym n) (MayEndIn-none fault.Write))
+StopsPlaying-writing input rest most old a b write.Memory y e p n =
+    subst (λ (g : ScriptFault). StopsPlaying input rest most old a b g) (sym e) (p, subst (λ (xs : List ℕ). MayEndIn fault.Memory xs) (sym n) (MayEndIn-none fault.Memory))

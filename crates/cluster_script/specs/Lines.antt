@@ -1,10 +1,10 @@
 -- Lines of a script, without their ends: how long they may be, and how many there may be.
-use Rattle.std.specs.Prelude.{ℕ, Bool, true, false, ◌+◌, ◌-◌, ◌/◌, ◌≡◌, ◌≤◌, ◌<◌, ◌==◌, ◌&&◌, not, nat_lt, ⊤, List, [], ◌∷◌, ◌++◌, length, take, filter, slice_index, if◌then◌else◌, Option, Some, None}
+use Rattle.std.specs.Prelude.{ℕ, Bool, true, false, ◌+◌, ◌-◌, ◌/◌, ◌≡◌, ◌≤◌, ◌<◌, ◌==◌, ◌&&◌, ◌⊎◌, not, nat_lt, ⊤, List, [], ◌∷◌, ◌++◌, length, take, filter, slice_index, if◌then◌else◌, Option, Some, None}
 use Rattle.std.specs.List.{list_all, All}
-use Rattle.std.specs.Io.KnownBytes.{Consumes, IsAtEnd}
+use Rattle.std.specs.Io.KnownBytes.{Consumes, IsAtEnd, Keeps}
 use Rattle.std.specs.Str.Lines.{lines, strip_carriage_return}
 use Rattle.cluster_script.specs.declared.faults.ScriptFault.{ScriptFault}
-use Rattle.cluster_script.specs.declared.faults.ScriptFault.TheVariants.{TooManyLines}
+use Rattle.cluster_script.specs.declared.faults.ScriptFault.TheVariants.{Read, Write, TooManyLines, Memory}
 use Rattle.cluster_script.specs.declared.lines.Line.{Line}
 use Rattle.cluster_script.specs.declared.lines.Line.TheVariants.{Text, TooLong}
 use Rattle.cluster_script.specs.declared.lines.Part.{Part}
@@ -64,6 +64,10 @@ abbrev pub BeginsWithLines : Option (List ℕ) → List (List ℕ) → Type 0
 BeginsWithLines None ls = ⊤
 BeginsWithLines (Some xs) ls = (more : List (List ℕ)) × (lines xs ≡ ls ++ more)
 
+-- known bytes lose these lines, and then these bytes
+abbrev pub LosesInto : Option (List ℕ) → Option (List ℕ) → List (List ℕ) → List ℕ → Type 0
+LosesInto input rest ls part = (mid : Option (List ℕ)) × LosesLines input mid ls × Consumes mid rest part
+
 -- these first lines count for no more than the most, and with the next one they count for more
 abbrev pub GoesPast : Option (List ℕ) → ℕ → List (List ℕ) → Type 0
 GoesPast input most ls = (line : List ℕ) × BeginsWithLines input (ls ++ line ∷ []) × (count_of_all ls ≤ most) × (most < count_of_all (ls ++ line ∷ []))
@@ -77,6 +81,10 @@ HasNoLine (Some xs) = lines xs ≡ []
 abbrev pub HasNoFeed : List ℕ → Type 0
 HasNoFeed bytes = All (λ b. (b == 10) ≡ false) bytes
 
+-- these bytes are of one line at most
+abbrev pub IsWithinLine : List ℕ → Type 0
+IsWithinLine bytes = length (lines bytes) ≤ 1
+
 -- known bytes lose these bytes of a line, and with them its end
 abbrev pub TakesPart : Option (List ℕ) → Option (List ℕ) → Bool → List ℕ → Type 0
 TakesPart old new true bytes = Consumes old new (bytes ++ 10 ∷ [])
@@ -87,12 +95,32 @@ abbrev pub TakesByte : Option (List ℕ) → Option (List ℕ) → Option ℕ �
 TakesByte old new None = Consumes old new [] × IsAtEnd new
 TakesByte old new (Some b) = Consumes old new (b ∷ [])
 
+-- the next byte isn't read: nothing is lost
+abbrev pub StopsAtByte : Option (List ℕ) → Option (List ℕ) → ScriptFault → Type 0
+StopsAtByte old new f = ((f ≡ Read) ⊎ (f ≡ Write)) × Keeps old new
+
+-- known bytes lose bytes of one line at most
+abbrev pub LosesWithinLine : Option (List ℕ) → Option (List ℕ) → Type 0
+LosesWithinLine old new = (bytes : List ℕ) × Consumes old new bytes × IsWithinLine bytes
+
 -- the next line was read, or there is none
 abbrev pub TakesLine : Option (List ℕ) → Option (List ℕ) → ℕ → ℕ → Option Line → Type 0
 TakesLine old new most left None = LosesLines old new [] × HasNoLine new × (most ≡ left)
-TakesLine old new most left (Some kept) = (line : List ℕ) × IsKept line kept × LosesLines old new (line ∷ []) × (most ≡ left + count_of line)
+TakesLine old new most left (Some kept) = (line : List ℕ) × IsKept line kept × LosesLines old new (line ∷ []) × LosesWithinLine old new
+    × (most ≡ left + count_of line)
 
--- the next line isn't read: if for too many lines, it counts for more than may come
-abbrev pub StopsAtLine : Option (List ℕ) → ℕ → ScriptFault → Type 0
-StopsAtLine input left TooManyLines = GoesPast input left []
-StopsAtLine input left _ = ⊤
+-- how much of the next line may have been read where a script ends with this fault: not its end, or all of it
+abbrev pub MayEndIn : ScriptFault → List ℕ → Type 0
+MayEndIn Read part = HasNoFeed part
+MayEndIn Write part = HasNoFeed part
+MayEndIn TooManyLines part = IsWithinLine part
+MayEndIn Memory part = IsWithinLine part
+
+-- if a script ends for too many lines behind these, the next one counts for more than may come
+abbrev pub GoesPastFor : ScriptFault → Option (List ℕ) → ℕ → List (List ℕ) → Type 0
+GoesPastFor TooManyLines input most ls = GoesPast input most ls
+GoesPastFor _ input most ls = ⊤
+
+-- the next line isn't read, and a part of it is lost
+abbrev pub StopsAtLine : Option (List ℕ) → Option (List ℕ) → ℕ → ScriptFault → Type 0
+StopsAtLine old new left f = (part : List ℕ) × Consumes old new part × MayEndIn f part × GoesPastFor f old left []

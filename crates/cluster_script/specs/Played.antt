@@ -1,5 +1,5 @@
 -- What it comes to that the program plays a line, or reads on to the next one.
-use Rattle.std.specs.Prelude.{ℕ, ⊤, Bool, true, ◌≡◌, ◌+◌, List, [], ◌∷◌, Option, Some, None, is_some, Result, Ok, Err, if◌then◌else◌}
+use Rattle.std.specs.Prelude.{ℕ, Bool, true, ◌≡◌, ◌+◌, List, [], ◌∷◌, Option, Some, None, is_some, Result, Ok, Err, if◌then◌else◌}
 use Rattle.std.specs.List.{list_all}
 use Rattle.std.specs.Io.KnownBytes.{Appends}
 use Rattle.registry_model.specs.Process.{nodes_of}
@@ -15,7 +15,7 @@ use Rattle.cluster_script.specs.declared.faults.ScriptFault.{ScriptFault}
 use Rattle.cluster_script.specs.declared.faults.ScriptFault.TheVariants.{Read, TooManyLines}
 use Rattle.cluster_script.specs.declared.faults.WriteFault.{WriteFault}
 use Rattle.cluster_script.specs.declared.lines.Line.{Line}
-use Rattle.cluster_script.specs.Lines.{spoken, count_of_all, IsKept, LosesLines, HasNoLine, BeginsWithLines, GoesPast}
+use Rattle.cluster_script.specs.Lines.{spoken, count_of_all, IsKept, LosesLines, LosesInto, HasNoLine, IsWithinLine, MayEndIn, GoesPastFor}
 use Rattle.cluster_script.specs.Printing.{answers_text, shown_text, is_fine, is_fine_output, output_line, error_line, refusal_word}
 use Rattle.cluster_script.specs.Script.{settle_limit, behind, behind_all, shown, shown_all, AllAsk, AppendsPart}
 
@@ -62,16 +62,19 @@ pub record IsShown (h : Held) (a : ℕ) (x : Output) (line : Option (List ℕ)) 
   pub text : line_or_refusal line ≡ output_line (shown_at (opening_of h) settle_limit (seen h) a x)
   pub fine : is_some line ≡ is_fine_output (shown_at (opening_of h) settle_limit (seen h) a x)
 
+-- known bytes lose empty lines, and bytes of one line at most behind them
+abbrev pub LosesNext : Option (List ℕ) → Option (List ℕ) → Type 0
+LosesNext old new = (ls : List (List ℕ)) × (part : List ℕ) × (spoken ls ≡ []) × LosesInto old new ls part × IsWithinLine part
+
 -- the next line that isn't empty was read, or there was none
 abbrev pub ReadsOn : Option (List ℕ) → Option (List ℕ) → ℕ → ℕ → Option Line → Type 0
 ReadsOn old new most left None = (ls : List (List ℕ)) × (spoken ls ≡ []) × LosesLines old new ls × HasNoLine new × (most ≡ left + count_of_all ls)
 ReadsOn old new most left (Some kept) = (ls : List (List ℕ)) × (line : List ℕ) × IsKept line kept × (spoken ls ≡ line ∷ []) × LosesLines old new ls
-    × (most ≡ left + count_of_all ls)
+    × (most ≡ left + count_of_all ls) × LosesNext old new
 
--- no further line is read: if for too many lines, there are empty ones, and the next counts for more than may come
-abbrev pub StopsReading : Option (List ℕ) → ℕ → ScriptFault → Type 0
-StopsReading input left TooManyLines = (ls : List (List ℕ)) × (spoken ls ≡ []) × GoesPast input left ls
-StopsReading input left _ = ⊤
+-- no further line is read: empty ones are lost, and a part of the next
+abbrev pub StopsReading : Option (List ℕ) → Option (List ℕ) → ℕ → ScriptFault → Type 0
+StopsReading input rest most f = (ls : List (List ℕ)) × (part : List ℕ) × (spoken ls ≡ []) × LosesInto input rest ls part × MayEndIn f part × GoesPastFor f input most ls
 
 -- lines were read and played
 pub record PlaysLines (input rest : Option (List ℕ)) (most left : ℕ) (old new : Held) (before after : Option (List ℕ)) (fine : Bool) : Type 0 where
@@ -91,21 +94,23 @@ Delivers old new e before after (Ok x) = (opening_of new ≡ opening_of old) × 
     × Appends before after (answers_text (answers (opening_of old) (seen old) e))
 Delivers old new e before after (Err f) = AppendsPart before after (answers_text (answers (opening_of old) (seen old) e))
 
--- Some first lines of the input were read and played, and what they print was written, or a part of it
-pub record PlaysSome (Grows : Option (List ℕ) → Option (List ℕ) → List ℕ → Type 0) (input : Option (List ℕ)) (old : Held) (before after : Option (List ℕ)) : Type 0 where
+-- Some first lines of the input were lost and played, and what they print was written, or a part of it; of the next a part was lost
+pub record PlaysSome (Grows : Option (List ℕ) → Option (List ℕ) → List ℕ → Type 0) (input rest : Option (List ℕ)) (old : Held) (before after : Option (List ℕ)) : Type 0 where
   pub taken : List (List ℕ)
+  pub part : List ℕ
   pub asked : List (Result ScriptLine LineFault)
-  pub read : BeginsWithLines input taken
+  pub read : LosesInto input rest taken part
   pub each : AllAsk (spoken taken) asked
   pub wrote : Grows before after (shown_text (shown_all (opening_of old) (seen old) asked))
 
 -- only some first lines were played: all is written that they print, unless it is the writer or memory that failed
-abbrev pub StopsPlaying : Option (List ℕ) → ℕ → Held → Option (List ℕ) → Option (List ℕ) → ScriptFault → Type 0
-StopsPlaying input most old before after TooManyLines = (s : PlaysSome Appends input old before after) × GoesPast input most s.taken
-StopsPlaying input most old before after Read = PlaysSome Appends input old before after
-StopsPlaying input most old before after _ = PlaysSome AppendsPart input old before after
+abbrev pub StopsPlaying : Option (List ℕ) → Option (List ℕ) → ℕ → Held → Option (List ℕ) → Option (List ℕ) → ScriptFault → Type 0
+StopsPlaying input rest most old before after TooManyLines =
+    (s : PlaysSome Appends input rest old before after) × MayEndIn TooManyLines s.part × GoesPastFor TooManyLines input most s.taken
+StopsPlaying input rest most old before after Read = (s : PlaysSome Appends input rest old before after) × MayEndIn Read s.part
+StopsPlaying input rest most old before after f = (s : PlaysSome AppendsPart input rest old before after) × MayEndIn f s.part
 
 -- lines were played, and what they print was written; or after a fault some first lines were
 abbrev pub PlaysAll : Option (List ℕ) → Option (List ℕ) → ℕ → ℕ → Held → Held → Option (List ℕ) → Option (List ℕ) → Result Bool ScriptFault → Type 0
 PlaysAll input rest most left old new before after (Ok fine) = PlaysLines input rest most left old new before after fine × HasNoLine rest
-PlaysAll input rest most left old new before after (Err f) = StopsPlaying input most old before after f
+PlaysAll input rest most left old new before after (Err f) = StopsPlaying input rest most old before after f

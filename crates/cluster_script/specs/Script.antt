@@ -17,7 +17,7 @@ use Rattle.cluster_script.specs.declared.faults.ScriptFault.TheVariants.{Read, W
 use Rattle.cluster_script.specs.declared.faults.WriteFault.{WriteFault}
 use Rattle.cluster_script.specs.declared.faults.WriteFault.TheVariants as write
 use Rattle.cluster_world.specs.declared.events.StartFault.{StartFault}
-use Rattle.cluster_script.specs.Lines.{spoken, count_of_all, most_lines, BeginsWithLines, GoesPast}
+use Rattle.cluster_script.specs.Lines.{spoken, count_of_all, most_lines, LosesLines, LosesInto, HasNoLine, HasNoFeed, IsWithinLine, GoesPast}
 use Rattle.cluster_script.specs.Words.{words}
 use Rattle.cluster_script.specs.Commands.{unread, LineAsks}
 use Rattle.cluster_script.specs.Printing.{Shown, Shows, Refuses, shown_text, is_fine}
@@ -127,16 +127,17 @@ AppendsPart old new text = (part : List ℕ) × (rest : List ℕ) × (text ≡ p
 abbrev pub Writes : {A E : Type 0} → Option (List ℕ) → Option (List ℕ) → Result A E → List ℕ → Type 0
 Writes old new r text = MatchResult r (λ _. Appends old new text) (λ _. AppendsPart old new text)
 
--- A script of this input was played to its end
-pub record Ran (input : Option (List ℕ)) (old new : Option (List ℕ)) (fine : Bool) : Type 0 where
+-- A script of this input was played to its end, and this is left of it
+pub record Ran (input rest : Option (List ℕ)) (old new : Option (List ℕ)) (fine : Bool) : Type 0 where
   pub all : List (List ℕ)
   pub out : List Shown
   pub read : HasLines input all
   pub prints : Prints all out
-  -- the lines that were read, which count for no more than there may be; they are all, or end behind the line that opens no world
+  -- the lines that the input lost, which count for no more than there may be; they are all, or end behind the line that opens no world
   pub taken : List (List ℕ)
   pub untaken : List (List ℕ)
   pub parts : all ≡ taken ++ untaken
+  pub lost : LosesLines input rest taken
   pub counted : count_of_all taken ≤ most_lines
   pub ended : (untaken ≡ []) ⊎ ((line : List ℕ) × (f : LineFault) × (spoken taken ≡ line ∷ []) × LineOpens line (Err f))
   pub wrote : Appends old new (shown_text out)
@@ -147,32 +148,45 @@ abbrev pub PrintsOn : List (List ℕ) → List Shown → Type 0
 PrintsOn [] out = out ≡ []
 PrintsOn (l ∷ ls) out = (nodes : List ℕ) × LineOpens l (Ok nodes) × Follows (Ok nodes) ls out
 
--- A script of this input ended between two lines: all is written that is printed for those before
-pub record StoppedBetween (input old new : Option (List ℕ)) : Type 0 where
+-- why there is no world behind these lines, where this is left: no line is left to open one, or the only line is refused
+abbrev pub OpensNone : List (List ℕ) → Option (List ℕ) → LineFault → Type 0
+OpensNone [] rest f = HasNoLine rest × (f ≡ BadLine)
+OpensNone (l ∷ []) rest f = LineOpens l (Err f)
+OpensNone _ rest f = ⊥
+
+-- all that is printed is that there is no world, and nothing of a further line was read
+abbrev pub PrintsNoWorld : List (List ℕ) → Option (List ℕ) → List ℕ → List Shown → Type 0
+PrintsNoWorld ls rest part out = (f : LineFault) × OpensNone ls rest f × (part ≡ []) × (out ≡ Refuses f ∷ [])
+
+-- A script of this input ended between two lines, the first of which it lost, and a part of the next: all is written that is
+-- printed for those before
+pub record StoppedBetween (input rest old new : Option (List ℕ)) : Type 0 where
   pub first : List (List ℕ)
+  pub part : List ℕ
   pub out : List Shown
-  pub read : BeginsWithLines input first
+  pub read : LosesInto input rest first part
   pub prints : PrintsOn (spoken first) out
   pub wrote : Appends old new (shown_text out)
 
--- A script of this input ended within a line: a part is written of what is printed for its first lines
-pub record StoppedWithin (input old new : Option (List ℕ)) : Type 0 where
+-- A script of this input ended within a line, behind lines that it lost: a part is written of what is printed for these
+pub record StoppedWithin (input rest old new : Option (List ℕ)) : Type 0 where
   pub first : List (List ℕ)
+  pub part : List ℕ
   pub out : List Shown
-  pub read : BeginsWithLines input first
-  pub prints : Prints first out
+  pub read : LosesInto input rest first part
+  pub prints : PrintsOn (spoken first) out ⊎ PrintsNoWorld (spoken first) rest part out
   pub wrote : AppendsPart old new (shown_text out)
 
 -- A script of this input ended with a fault: with too many lines, where the next one takes the count past the most
-abbrev pub Stopped : Option (List ℕ) → Option (List ℕ) → Option (List ℕ) → ScriptFault → Type 0
-Stopped input old new TooManyLines = (s : StoppedBetween input old new) × GoesPast input most_lines s.first
-Stopped input old new Read = StoppedBetween input old new
-Stopped input old new Write = StoppedWithin input old new
-Stopped input old new Memory = StoppedWithin input old new
+abbrev pub Stopped : Option (List ℕ) → Option (List ℕ) → Option (List ℕ) → Option (List ℕ) → ScriptFault → Type 0
+Stopped input rest old new TooManyLines = (s : StoppedBetween input rest old new) × IsWithinLine s.part × GoesPast input most_lines s.first
+Stopped input rest old new Read = (s : StoppedBetween input rest old new) × HasNoFeed s.part
+Stopped input rest old new Write = (s : StoppedWithin input rest old new) × HasNoFeed s.part
+Stopped input rest old new Memory = (s : StoppedWithin input rest old new) × IsWithinLine s.part
 
 -- where a script of known bytes is played to its end, it has no line that takes the count past the most
 abbrev pub EndsOneWay : Type 0
-EndsOneWay = (input : List ℕ) (a b c d : Option (List ℕ)) (fine : Bool) → Ran (Some input) a b fine → Stopped (Some input) c d TooManyLines → ⊥
+EndsOneWay = (input : List ℕ) (r s a b c d : Option (List ℕ)) (fine : Bool) → Ran (Some input) r a b fine → Stopped (Some input) s c d TooManyLines → ⊥
 
 -- the fault of a script of which a text wasn't written
 abbrev pub stop_of : WriteFault → ScriptFault

@@ -1,13 +1,14 @@
 //! Lines of a reader.
-ghost use Rattle.std.specs.Prelude.{false, ◌≡◌, ◌≤◌, ◌<◌, ◌+◌, ◌==◌, ℕ, List, Some, ◌∷◌, ◌++◌, [], length, MatchResult, MatchOption, IfSome, OnOk, IfOk, IsTrue, All, ◌≢◌};
+ghost use Rattle.std.specs.Prelude.{false, ◌≡◌, ◌≤◌, ◌<◌, ◌+◌, ◌==◌, ℕ, List, Some, ◌∷◌, ◌++◌, [], length, MatchResult, MatchOption, IfSome, IfErr, OnOk, IfOk, IsTrue, All, ◌≢◌};
 ghost use Rattle.std.specs.List.{list_all};
 ghost use Rattle.std.specs.Io.KnownBytes.{Keeps, Consumes, IsAtEnd};
+ghost use Rattle.std.specs.Io.Buffered.{reader_remaining};
 ghost use Rattle.cluster_script.specs.declared.faults.ScriptFault.TheVariants as fault;
-ghost use Rattle.cluster_script.specs.Lines.{IsPart, IsKept, line_of, count_for, count_of, is_blank as blank, most_lines, HasNoFeed, TakesByte, TakesPart, TakesLine, StopsAtLine, LosesLines, HasNoLine};
+ghost use Rattle.cluster_script.specs.Lines.{IsPart, IsKept, line_of, count_for, count_of, is_blank as blank, most_lines, HasNoFeed, TakesByte, TakesPart, TakesLine, StopsAtByte, StopsAtLine, LosesLines, HasNoLine};
 
 use crate::faults::ScriptFault;
 use std::alloc::{AllocError, Global};
-use std::io::{ErrorKind, Read};
+use std::io::{BufReader, ErrorKind, Read, Write};
 
 /// The longest line that is read.
 const LONGEST_LINE: u32 = 1024;
@@ -39,9 +40,27 @@ fn count(len: u32) -> u32
     1 + len.saturating_sub(LONGEST_LINE) / LONGEST_LINE
 }
 
+/// Hands on what was written, where the reader has nothing at hand and may wait for more.
+fn hand_on<R: Read, W: Write>(
+    reader: &BufReader<R, Global>,
+    writer: &mut W,
+) -> Result<(), ScriptFault>
+    ensures fault { IfErr result (λ f. f ≡ fault.Write) }
+    ensures kept { Keeps (W.contents writer.old) (W.contents writer.new) }
+{
+    if !reader.buffer().is_empty() {
+        return Ok(());
+    }
+    match writer.flush() {
+        Ok(()) => Ok(()),
+        Err(_) => Err(ScriptFault::Write),
+    }
+}
+
 /// The next byte of a reader, or none at its end.
-fn next_byte<R: Read>(reader: &mut R) -> Result<Option<u8>, ScriptFault>
-    ensures { MatchResult result (TakesByte (R.remaining reader.old) (R.remaining reader.new)) (λ f. f ≡ fault.Read) }
+fn take_byte<R: Read>(reader: &mut R) -> Result<Option<u8>, ScriptFault>
+    ensures { MatchResult result (TakesByte (R.remaining reader.old) (R.remaining reader.new))
+        (λ f. (f ≡ fault.Read) × Keeps (R.remaining reader.old) (R.remaining reader.new)) }
 {
     let mut one = [0u8; 1];
     for _ in 0..u64::MAX {
@@ -56,6 +75,19 @@ fn next_byte<R: Read>(reader: &mut R) -> Result<Option<u8>, ScriptFault>
         }
     }
     Err(ScriptFault::Read)
+}
+
+/// The next byte of a reader, or none at its end. Nothing that was written is held back while the reader waits for it.
+fn next_byte<R: Read, W: Write>(
+    reader: &mut BufReader<R, Global>,
+    writer: &mut W,
+) -> Result<Option<u8>, ScriptFault>
+    ensures read { MatchResult result (TakesByte (reader_remaining R.remaining reader.old) (reader_remaining R.remaining reader.new))
+        (StopsAtByte (reader_remaining R.remaining reader.old) (reader_remaining R.remaining reader.new)) }
+    ensures kept { Keeps (W.contents writer.old) (W.contents writer.new) }
+{
+    hand_on(reader, writer)?;
+    take_byte(reader)
 }
 
 impl Part {
@@ -111,15 +143,21 @@ impl Part {
 
 /// Reads on to the end of a line, which is a line feed or the end of the input: whether it is a line feed. The line may count for
 /// `most` lines.
-fn read_part<R: Read>(reader: &mut R, part: &mut Part, most: u32) -> Result<bool, ScriptFault>
+fn read_part<R: Read, W: Write>(
+    reader: &mut BufReader<R, Global>,
+    writer: &mut W,
+    part: &mut Part,
+    most: u32,
+) -> Result<bool, ScriptFault>
     requires start { IsPart [] part.old }
     requires most { most ≤ most_lines }
-    ensures { MatchResult result (λ is_ended. (bytes : List ℕ) × IsPart bytes part.new × HasNoFeed bytes
-        × TakesPart (R.remaining reader.old) (R.remaining reader.new) is_ended bytes)
-        (StopsAtLine (R.remaining reader.old) most) }
+    ensures read { MatchResult result (λ is_ended. (bytes : List ℕ) × IsPart bytes part.new × HasNoFeed bytes
+        × TakesPart (reader_remaining R.remaining reader.old) (reader_remaining R.remaining reader.new) is_ended bytes)
+        (StopsAtLine (reader_remaining R.remaining reader.old) (reader_remaining R.remaining reader.new) most) }
+    ensures kept { Keeps (W.contents writer.old) (W.contents writer.new) }
 {
     loop {
-        match next_byte(reader)? {
+        match next_byte(reader, writer)? {
             None => return Ok(false),
             Some(b'\n') => return Ok(true),
             Some(byte) => {
@@ -133,17 +171,20 @@ fn read_part<R: Read>(reader: &mut R, part: &mut Part, most: u32) -> Result<bool
 }
 
 /// The next line of a reader, or none at its end. `left` says how many more lines may come.
-pub(crate) fn read_line<R: Read>(
+pub(crate) fn read_line<R: Read, W: Write>(
     alloc: Global,
-    reader: &mut R,
+    reader: &mut BufReader<R, Global>,
+    writer: &mut W,
     left: &mut u32,
 ) -> Result<Option<Line>, ScriptFault>
     requires { left.old ≤ most_lines }
-    ensures { MatchResult result (TakesLine (R.remaining reader.old) (R.remaining reader.new) left.old left.new)
-        (StopsAtLine (R.remaining reader.old) left.old) }
+    ensures read { MatchResult result
+        (TakesLine (reader_remaining R.remaining reader.old) (reader_remaining R.remaining reader.new) left.old left.new)
+        (StopsAtLine (reader_remaining R.remaining reader.old) (reader_remaining R.remaining reader.new) left.old) }
+    ensures kept { Keeps (W.contents writer.old) (W.contents writer.new) }
 {
     let mut part = Part::new(alloc);
-    let is_ended = read_part(reader, &mut part, *left)?;
+    let is_ended = read_part(reader, writer, &mut part, *left)?;
     if !is_ended && part.len == 0 {
         return Ok(None);
     }

@@ -1,5 +1,7 @@
 //! Scripts, line by line.
 ghost use Rattle.std.specs.Prelude.{◌≡◌, ◌&&◌, ◌++◌, ◌∷◌, [], ◌≤◌, Some, Ok, Err, MatchResult, IfOk, option_map, map, List, ℕ};
+ghost use Rattle.std.specs.Io.KnownBytes.{Keeps};
+ghost use Rattle.std.specs.Io.Buffered.{reader_remaining};
 ghost use Rattle.protocol_model.specs.Script as script;
 ghost use Rattle.protocol_model.specs.World.{WorldEvent as AnyEvent};
 ghost use Rattle.node_core.specs.Seen.{answer_of as any_answer};
@@ -19,7 +21,7 @@ use crate::printing::{answer_line, write_error, write_text};
 use cluster_world::{Answer, Refusal, World, WorldEvent};
 use name_table::ListTable;
 use std::alloc::Global;
-use std::io::{BufRead, Read, Write};
+use std::io::{BufReader, Read, Write};
 use term::NodeName;
 
 /// The most deliveries of one `settle`.
@@ -148,18 +150,22 @@ fn play_task<W: Write>(
     }
 }
 
-/// Reads on to the next line that isn't empty. `left` says how many more lines may come.
-fn next_line<R: Read>(
+/// Reads on to the next line that isn't empty. `left` says how many more lines may come. What was written is handed on before the
+/// reader waits.
+fn next_line<R: Read, W: Write>(
     alloc: Global,
-    reader: &mut R,
+    reader: &mut BufReader<R, Global>,
+    writer: &mut W,
     left: &mut u32,
 ) -> Result<Option<Line>, ScriptFault>
     requires { left.old ≤ most_lines }
-    ensures { MatchResult result (ReadsOn (R.remaining reader.old) (R.remaining reader.new) left.old left.new)
-        (StopsReading (R.remaining reader.old) left.old) }
+    ensures read { MatchResult result
+        (ReadsOn (reader_remaining R.remaining reader.old) (reader_remaining R.remaining reader.new) left.old left.new)
+        (StopsReading (reader_remaining R.remaining reader.old) (reader_remaining R.remaining reader.new) left.old) }
+    ensures kept { Keeps (W.contents writer.old) (W.contents writer.new) }
 {
     loop {
-        let Some(line) = read_line(alloc, reader, left)? else {
+        let Some(line) = read_line(alloc, reader, writer, left)? else {
             return Ok(None);
         };
         if !is_blank(&line) {
@@ -178,17 +184,17 @@ fn both(left: bool, right: bool) -> bool
 /// Reads and plays lines to the end of the input: whether no refusal was printed.
 fn play_lines<R: Read, W: Write>(
     alloc: Global,
-    reader: &mut R,
+    reader: &mut BufReader<R, Global>,
     writer: &mut W,
     world: &mut World<ListTable<Global>>,
     left: &mut u32,
 ) -> Result<bool, ScriptFault>
     requires { left.old ≤ most_lines }
-    ensures { PlaysAll (R.remaining reader.old) (R.remaining reader.new) left.old left.new world.old world.new
-        (W.contents writer.old) (W.contents writer.new) result }
+    ensures { PlaysAll (reader_remaining R.remaining reader.old) (reader_remaining R.remaining reader.new) left.old left.new
+        world.old world.new (W.contents writer.old) (W.contents writer.new) result }
 {
     let mut is_fine = true;
-    while let Some(line) = next_line(alloc, reader, left)? {
+    while let Some(line) = next_line(alloc, reader, writer, left)? {
         let task = read_task(alloc, &line)?;
         let fine = play_task(alloc, writer, world, task)?;
         is_fine = both(is_fine, fine);
@@ -199,22 +205,24 @@ fn play_lines<R: Read, W: Write>(
 /// Plays a script, and writes what it prints: whether no refusal is printed.
 ///
 /// Its first line that isn't empty names the nodes of the cluster; each other line asks for an event, or for deliveries until no
-/// letter waits. A line that is refused prints the word for it and changes nothing; where there is no world, the script ends.
+/// letter waits. A line that is refused prints the word for it and changes nothing; where there is no world, the script ends, and
+/// no further byte is read. What was written is handed on before the reader waits for more.
 ///
 /// `TooManyLines` is answered only where a line takes the count past 1,000,000; that line isn't played, and all is written that
 /// those before it print, as after `Read`. The contract can't say when a reader, a writer or an allocator fails, since theirs
-/// don't: so it doesn't say when `Read`, `Write` and `Memory` come. After the last two a part is written of what some first
-/// lines print.
-pub fn run_script<R: BufRead, W: Write>(
+/// don't: so it doesn't say when `Read`, `Write` and `Memory` come. After the last two a part is written of what the lines print
+/// that were read.
+pub fn run_script<R: Read, W: Write>(
     alloc: Global,
-    reader: &mut R,
+    reader: &mut BufReader<R, Global>,
     writer: &mut W,
 ) -> Result<bool, ScriptFault>
-    ensures { MatchResult result (Ran (R.remaining reader.old) (W.contents writer.old) (W.contents writer.new))
-        (Stopped (R.remaining reader.old) (W.contents writer.old) (W.contents writer.new)) }
+    ensures { MatchResult result
+        (Ran (reader_remaining R.remaining reader.old) (reader_remaining R.remaining reader.new) (W.contents writer.old) (W.contents writer.new))
+        (Stopped (reader_remaining R.remaining reader.old) (reader_remaining R.remaining reader.new) (W.contents writer.old) (W.contents writer.new)) }
 {
     let mut left = MOST_LINES;
-    let Some(line) = next_line(alloc, reader, &mut left)? else {
+    let Some(line) = next_line(alloc, reader, writer, &mut left)? else {
         write_error(alloc, writer, "bad_line")?;
         return Ok(false);
     };

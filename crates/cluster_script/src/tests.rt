@@ -1,12 +1,14 @@
-//! Worked rows, lines at their limits, and readers and writers that fail.
-use crate::{ScriptFault, run_script};
+//! Worked rows, and lines at their limits.
+mod streams;
+
+use crate::run_script;
 use std::alloc::Global;
-use std::io::{self, BufReader, Cursor, Error, ErrorKind, Read, Write};
+use std::io::{BufReader, Cursor};
 use std::test::Fail;
 
 /// Whether a script prints this, and no refusal where `fine`.
-fn prints(alloc: Global, script: &[u8], output: &[u8], fine: bool) -> Result<bool, ScriptFault> {
-    let mut reader = Cursor::new(script);
+fn prints(alloc: Global, script: &[u8], output: &[u8], fine: bool) -> Result<bool, Fail> {
+    let mut reader = BufReader::new(alloc, Cursor::new(script))?;
     let mut writer = Vec::new(alloc);
     let result = run_script(alloc, &mut reader, &mut writer)?;
     Ok(writer.as_slice() == output && result == fine)
@@ -247,59 +249,5 @@ fn reads_lines(rt: HostRuntime) -> Result<(), Fail> {
             false
         )?
     );
-    Ok(())
-}
-
-/// A reader that fails behind its first bytes.
-#[derive(Drop)]
-struct Torn<'a> {
-    bytes: &'a [u8],
-}
-
-impl<'a> Read for Torn<'a> {
-    fn read(&mut self, buf: &mut [u8]) -> io::Result<usize> {
-        if self.bytes.is_empty() {
-            return Err(Error::from(ErrorKind::BrokenPipe));
-        }
-        self.bytes.read(buf)
-    }
-}
-
-/// A writer that takes so many bytes and then fails.
-#[derive(Drop)]
-struct Full {
-    room: usize,
-}
-
-impl Write for Full {
-    fn write(&mut self, buf: &[u8]) -> io::Result<usize> {
-        if self.room == 0 {
-            return Err(Error::from(ErrorKind::BrokenPipe));
-        }
-        let count = buf.len().min(self.room);
-        self.room -= count;
-        Ok(count)
-    }
-
-    fn flush(&mut self) -> io::Result<()> {
-        Ok(())
-    }
-}
-
-#[test]
-fn passes_faults_on(rt: HostRuntime) -> Result<(), Fail> {
-    let torn = Torn {
-        bytes: b"cluster a\nspawn a\nspawn",
-    };
-    let mut reader = BufReader::new(rt.alloc(), torn)?;
-    let mut writer = Vec::new(rt.alloc());
-    let result = run_script(rt.alloc(), &mut reader, &mut writer);
-    assert!(rt; matches!(result, Err(ScriptFault::Read)));
-    assert_eq!(rt; writer.as_slice(), b"a.1\n".as_slice());
-    let mut reader = Cursor::new(b"cluster a\nspawn a\nspawn a\n".as_slice());
-    let mut writer = Full { room: 6 };
-    let result = run_script(rt.alloc(), &mut reader, &mut writer);
-    assert!(rt; matches!(result, Err(ScriptFault::Write)));
-    assert_eq!(rt; writer.room, 0);
     Ok(())
 }

@@ -1,22 +1,26 @@
-use Rattle.std.proofs.Common.{true, ℕ, ◌∷◌, ◌++◌, [], ap, ◌∙◌, arith, Some, length-append}
+use Rattle.std.proofs.Common.{true, ℕ, ◌∷◌, ◌++◌, [], ap, ◌∙◌, arith, Some, length-append, subst, sym}
 use Rattle.std.proofs.lemmas.Bool.{ne_eqb}
-use Rattle.cluster_script.specs.Lines.{IsPart, count_for}
-use Rattle.cluster_script.proofs.Known.{Consumes-end, Consumes-more, count_for-bound, HasNoFeed-push, GoesPast-begun}
+use Rattle.std.proofs.KnownBytes.{Keeps-trans}
+use Rattle.std.proofs.lemmas.Result.{err_from_is_err_and}
+use Rattle.cluster_script.specs.declared.faults.ScriptFault.{ScriptFault}
+use Rattle.cluster_script.specs.Lines.{IsPart, count_for, StopsAtByte, StopsAtLine}
+use Rattle.cluster_script.proofs.Known.{MatchResult-err, StopsAtLine-byte, IsWithinLine-part, Consumes-end, Consumes-more, count_for-bound, HasNoFeed-push, GoesPast-begun}
 use Rattle.cluster_script.proofs.Parts.{length-line_of}
+use Rattle.std.specs.Io.Buffered.{reader_remaining}
 use Rattle.cluster_script.proofs.lines.read_part.Goals as goal
 
-pub returns-in-None : goal.returns-in-None
-returns-in-None g c =
+pub returns-in-None-clause-read : goal.returns-in-None-clause-read
+returns-in-None-clause-read g c =
     let r = c.loop-byte.invariant.read in
-    (r.0, r.1, r.2, Consumes-end _ _ _ r.0 _ r.3 c.in_ok-next_byte.ensures c.in-None.is)
+    (r.0, r.1, r.2, Consumes-end _ _ _ r.0 _ r.3 c.in_ok-next_byte.ensures.read c.in-None.is)
 
-pub returns-in-Some-eq10 : goal.returns-in-Some-eq10
-returns-in-Some-eq10 g c =
+pub returns-in-Some-eq10-clause-read : goal.returns-in-Some-eq10-clause-read
+returns-in-Some-eq10-clause-read g c =
     let r = c.loop-byte.invariant.read in (
       r.0,
       r.1,
       r.2,
-      Consumes-more _ _ _ r.0 10 _ r.3 c.in_ok-next_byte.ensures
+      Consumes-more _ _ _ r.0 10 _ r.3 c.in_ok-next_byte.ensures.read
           (c.in-Some-eq10.is ∙ ap (λ (b : ℕ). Some b) c.in-Some-eq10.field-0-test),
     )
 
@@ -34,18 +38,47 @@ loop-byte-preserved g c =
         r.0 ++ b ∷ [],
         p,
         HasNoFeed-push r.0 b r.2 (ne_eqb b 10 c.in-Some.byte-test.1),
-        Consumes-more _ _ _ r.0 b _ r.3 c.in_ok-next_byte.ensures c.in-Some.is,
+        Consumes-more _ _ _ r.0 b _ r.3 c.in_ok-next_byte.ensures.read c.in-Some.is,
       );
+      kept = Keeps-trans (g.W.Write.contents c.args.writer.now) (g.W.Write.contents c.loop-byte.writer) (g.W.Write.contents c.next_byte.new.writer)
+          c.loop-byte.invariant.kept c.in_ok-next_byte.ensures.kept;
       short = less (omega (arith, len, n, bound.1)) (omega (arith, c.count.ensures, c.if-count-most.false)) c.requires.most;
     }
 
-pub returns-then-count-most : goal.returns-then-count-most
-returns-then-count-most g c =
+pub returns-then-count-most-clause-read : goal.returns-then-count-most-clause-read
+returns-then-count-most-clause-read g c =
     let r = c.loop-byte.invariant.read in
     let b : ℕ = c.in-Some.byte in
     let p : IsPart (r.0 ++ b ∷ []) c.push.new.self = c.in_ok-push-in-Some.ensures r.0 r.1 in
     let n = c.line_len.ensures (r.0 ++ b ∷ []) p in
-    GoesPast-begun (g.R.Read.remaining c.args.reader.now) (g.R.Read.remaining c.next_byte.new.reader) (r.0 ++ b ∷ []) c.args.most
-    (HasNoFeed-push r.0 b r.2 (ne_eqb b 10 c.in-Some.byte-test.1)) (omega (arith, length-append r.0 (b ∷ [])))
-    (Consumes-more _ _ _ r.0 b _ r.3 c.in_ok-next_byte.ensures c.in-Some.is)
-    (omega (arith, c.count.ensures ∙ ap count_for n, c.if-count-most.true))
+    let f = HasNoFeed-push r.0 b r.2 (ne_eqb b 10 c.in-Some.byte-test.1) in
+    let t = Consumes-more _ _ _ r.0 b _ r.3 c.in_ok-next_byte.ensures.read c.in-Some.is in (
+      r.0 ++ b ∷ [],
+      t,
+      IsWithinLine-part (r.0 ++ b ∷ []) f,
+      GoesPast-begun (reader_remaining g.R.Read.remaining c.args.reader.now) (reader_remaining g.R.Read.remaining c.next_byte.new.reader) (r.0 ++ b ∷ []) c.args.most
+          f (omega (arith, length-append r.0 (b ∷ []))) t (omega (arith, c.count.ensures ∙ ap count_for n, c.if-count-most.true)),
+    )
+
+pub returns-in_err-push-in-Some-clause-read : goal.returns-in_err-push-in-Some-clause-read
+returns-in_err-push-in-Some-clause-read g c =
+    let p = err_from_is_err_and c.from_residual-in_err-push-in-Some.result c.from_residual-in_err-push-in-Some.ensures.1 in
+    let r = c.loop-byte.invariant.read in
+    let b : ℕ = c.in-Some.byte in
+    let f = HasNoFeed-push r.0 b r.2 (ne_eqb b 10 c.in-Some.byte-test.1) in
+    let t = Consumes-more _ _ _ r.0 b _ r.3 c.in_ok-next_byte.ensures.read c.in-Some.is in
+    MatchResult-err _ (StopsAtLine (reader_remaining g.R.Read.remaining c.args.reader.now) (reader_remaining g.R.Read.remaining c.next_byte.new.reader) c.args.most)
+    c.from_residual-in_err-push-in-Some.result p.0 p.1
+    (subst (λ (x : ScriptFault). StopsAtLine (reader_remaining g.R.Read.remaining c.args.reader.now) (reader_remaining g.R.Read.remaining c.next_byte.new.reader) c.args.most x)
+    (sym p.2) (r.0 ++ b ∷ [], t, IsWithinLine-part (r.0 ++ b ∷ []) f, tt))
+
+pub returns-in_err-next_byte-clause-read : goal.returns-in_err-next_byte-clause-read
+returns-in_err-next_byte-clause-read g c =
+    let p = err_from_is_err_and c.from_residual.result c.from_residual.ensures.1 in
+    let r = c.loop-byte.invariant.read in
+    MatchResult-err _ (StopsAtLine (reader_remaining g.R.Read.remaining c.args.reader.now) (reader_remaining g.R.Read.remaining c.next_byte.new.reader) c.args.most)
+    c.from_residual.result p.0 p.1
+    (StopsAtLine-byte (reader_remaining g.R.Read.remaining c.args.reader.now) (reader_remaining g.R.Read.remaining c.loop-byte.reader)
+    (reader_remaining g.R.Read.remaining c.next_byte.new.reader) r.0 c.args.most p.0 r.2 r.3
+    (subst (λ (x : ScriptFault). StopsAtByte (reader_remaining g.R.Read.remaining c.loop-byte.reader) (reader_remaining g.R.Read.remaining c.next_byte.new.reader) x)
+    (sym p.2) c.in_err-next_byte.ensures.read))

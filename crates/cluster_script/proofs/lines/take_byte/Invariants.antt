@@ -1,5 +1,5 @@
 use Rattle.std.specs.Io.KnownBytes.{Keeps}
-use Rattle.cluster_script.proofs.lines.next_byte.Given as goal
+use Rattle.cluster_script.proofs.lines.take_byte.Given as goal
 
 -- no byte has been taken
 abbrev pub invariant-loop : goal.invariant-loop
