@@ -1,4 +1,5 @@
 mod Sends
+mod Receivers
 mod Rules
 mod Rounds
 mod Reading

@@ -9,9 +9,10 @@ use Rattle.node_core.specs.declared.events.Letter.{Letter}
 use Rattle.node_core.specs.declared.events.Event.{Event}
 use Rattle.node_core.specs.declared.events.Event.TheVariants.{Call, FromPeer, Retry}
 use Rattle.node_core.specs.Made.{Made, nothing}
-use Rattle.node_core.specs.Held.{Held, bound_of}
+use Rattle.node_core.specs.Held.{Held, IsWhole, bound_of}
 use Rattle.node_core.specs.Seen.{turn_of, letter_of}
 use Rattle.node_core.specs.Steps.{Makes, Takes, Steps, refusal_of}
+use Rattle.node_core.proofs.Receivers.{sends_within}
 
 -- an answer to the registrar goes to its round
 pub hears_own : (h k : Held) (t u : Made) (f : ℕ) (p q : Process) (g : Bool) → q ≡ registrar h.name → false ≡ not (is_process p q) → (number : ℕ → ℕ)
@@ -48,37 +49,40 @@ takes_letter r e f l h k t u is each = subst (λ (x : Event). OnOk r (Takes x h 
 
 -- the step of an event that was taken
 steps : (e : Event) (h k : Held) (u : Made) (before after : List (ℕ × Letter)) → refusal_of e h ≡ None → Takes e h nothing k u → after ≡ before ++ u.letters
-    → Steps e h (record k { entered = u.entries }) before after u.answers
-steps (Call c) h k u before after accepted made letters = record {
+    → IsWhole h → Steps e h (record k { entered = u.entries }) before after u.answers
+steps (Call c) h k u before after accepted made letters whole = record {
   name = made.name;
   world = made.world;
   accepted = accepted;
   sent = u.letters;
   letters = letters;
+  within = λ heard. sends_within h whole (Call c) k u heard made.turn;
   turn = made.turn;
 }
-steps Retry h k u before after accepted made letters = record {
+steps Retry h k u before after accepted made letters whole = record {
   name = made.name;
   world = made.world;
   accepted = accepted;
   sent = u.letters;
   letters = letters;
+  within = λ heard. sends_within h whole Retry k u heard made.turn;
   turn = made.turn;
 }
-steps (FromPeer f l) h k u before after accepted made letters = record {
+steps (FromPeer f l) h k u before after accepted made letters whole = record {
   name = (made (λ j. 0)).name;
   world = (made (λ j. 0)).world;
   accepted = accepted;
   sent = u.letters;
   letters = letters;
+  within = λ heard. sends_within h whole (FromPeer f l) k u heard (λ number. (made number).turn);
   turn = λ number. (made number).turn;
 }
 
 -- the same, where these are what the step began with, and what it came to
 pub steps_from : (e : Event) (h k k0 : Held) (t u u0 : Made) (before after : List (ℕ × Letter)) → t ≡ nothing → k ≡ k0 → u ≡ u0 → refusal_of e h ≡ None
-    → Takes e h t k0 u0 → after ≡ before ++ u.letters → Steps e h (record k { entered = u.entries }) before after u.answers
-steps_from e h k k0 t u u0 before after begun same_node same_turn accepted made letters =
+    → Takes e h t k0 u0 → after ≡ before ++ u.letters → IsWhole h → Steps e h (record k { entered = u.entries }) before after u.answers
+steps_from e h k k0 t u u0 before after begun same_node same_turn accepted made letters whole =
     steps e h k u before after accepted
     (subst (λ (x : Made). Takes e h nothing k x) (sym same_turn)
     (subst (λ (x : Held). Takes e h nothing x u0) (sym same_node)
-    (subst (λ (x : Made). Takes e h x k0 u0) begun made))) letters
+    (subst (λ (x : Made). Takes e h x k0 u0) begun made))) letters whole

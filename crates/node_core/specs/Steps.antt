@@ -1,5 +1,5 @@
 -- What a step of a node comes to, as the protocol has it.
-use Rattle.std.specs.Prelude.{ℕ, ◌≡◌, Option, Some, None, List, ◌++◌}
+use Rattle.std.specs.Prelude.{ℕ, true, ◌≡◌, Option, Some, None, List, ◌++◌, All}
 use Rattle.protocol_model.specs.Event.{Event as AnyEvent, Refusal as AnyRefusal, causes, first_cause}
 use Rattle.protocol_model.specs.Node.{Op as AnyOp}
 use Rattle.protocol_model.specs.Turn.{Turn, begun}
@@ -55,11 +55,22 @@ abbrev pub cause_of : Option StepFault → Option AnyRefusal
 cause_of None = None
 cause_of (Some fault) = fault_of fault
 
--- An event was accepted, and the protocol's node makes its turn, which sends what comes behind the letters before
+-- the letter of the event, if it has one, is from a node of the world
+abbrev pub IsHeardWithin : List ℕ → Event → Type 0
+IsHeardWithin world (FromPeer f l) = set_of world f ≡ true
+IsHeardWithin world _ = Unit {0}
+
+-- each of these letters goes to a node of the world
+abbrev pub GoWithin : List ℕ → List (ℕ × Letter) → Type 0
+GoWithin world ss = All (λ s. set_of world s.0 ≡ true) ss
+
+-- An event was accepted, and the protocol's node makes its turn. What it sends comes behind the letters before, and goes to
+-- nodes of the world alone, where it hears none but those
 pub record Steps (e : Event) (old new : Held) (before after : List (ℕ × Letter)) (answers : List Answer) : Type 0 where
   pub name : new.name ≡ old.name
   pub world : new.world ≡ old.world
   pub accepted : refusal_of e old ≡ None
   pub sent : List (ℕ × Letter)
   pub letters : after ≡ before ++ sent
+  pub within : IsHeardWithin old.world e → GoWithin old.world sent
   pub turn : IsTurn e old (turn_of new (record { letters = sent; entries = new.entered; answers = answers }))

@@ -82,7 +82,7 @@ impl<N: Names> Model for NodeCore<N> {
 }
 
 impl<N: Names> NodeCore<N> {
-    ghost use Rattle.std.specs.Prelude.{false, None, is_some, OnOk, IfOk, IfErr};
+    ghost use Rattle.std.specs.Prelude.{false, None, is_some, OnOk, OnErr, IfOk, IfErr};
     ghost use Rattle.std.specs.Option.{option_copied};
     ghost use Rattle.protocol_model.specs.Node.{holds_global};
     ghost use Rattle.node_core.specs.Held.{IsWhole};
@@ -91,7 +91,8 @@ impl<N: Names> NodeCore<N> {
     ghost use Rattle.protocol_model.specs.Event.{can_retry};
 
     /// Takes the step of an event: gives its answers, and puts its letters, each with its receiver, behind those that are there.
-    /// A refused event changes nothing; only where `Memory` is refused is the node not to be used any more.
+    /// They go to nodes of its world, where the letter that it reads is from one. A refused event changes nothing; where `Memory`
+    /// is refused no letter is put there either, but the node isn't to be used any more.
     pub fn step(
         &mut self,
         event: &Event,
@@ -102,7 +103,7 @@ impl<N: Names> NodeCore<N> {
         ensures ok { IfOk result (λ answers. Steps event.now self.old self.new letters.old.items letters.new.items answers.items) }
         ensures refused { IfErr result (λ fault. refusal_of event.now self.old ≡ fault_of fault) }
         ensures unchanged { IfErr result (λ fault. is_memory fault ≡ false → self.new ≡ self.old) }
-        ensures unsent { IfErr result (λ fault. is_memory fault ≡ false → letters.new.items ≡ letters.old.items) }
+        ensures unsent { OnErr result (letters.new.items ≡ letters.old.items) }
     {
         if let Some(fault) = self.refusal(event) {
             return Err(fault);

@@ -1,0 +1,432 @@
+-- The rules of a node send to nodes of its world alone.
+use Rattle.std.proofs.Common.{ℕ, zero, suc, Bool, true, false, ◌==◌, ◌≡◌, ◌<◌, ◌+◌, Option, Some, None, List, [], ◌∷◌, ◌++◌, get_or, map, refl, sym, ap, ◌∙◌, subst, inl, inr, arith}
+use Rattle.std.specs.Prelude.{◌&&◌, not, if◌then◌else◌, All, fold}
+use Rattle.std.proofs.lemmas.Bool.{cases_lt, eqb-true}
+use Rattle.std.proofs.lemmas.List.{get_or-map, length-map}
+use Rattle.std.proofs.lemmas.List.Elements.{All-nil, All-append, All-push, All-map}
+use Rattle.registry_model.specs.Process.{Process, is_process, Nodes, nodes_of}
+use Rattle.registry_model.specs.Table.{Change as AnyChange}
+use Rattle.registry_model.specs.Call.{Register as Registers, Reply as AnyReply, is_grant, change_of as change_of_call, reply_to}
+use Rattle.registry_model.specs.History.{Entry as AnyEntry}
+use Rattle.protocol_model.specs.Letter.{Letter as AnyLetter, Id, Global, is_down}
+use Rattle.protocol_model.specs.LockTable.{is_free_for}
+use Rattle.protocol_model.specs.Event.{Event as AnyEvent}
+use Rattle.protocol_model.specs.Node.{Op as AnyOp, Current, LockCall, call_of as call_of_holder}
+use Rattle.protocol_model.specs.Round as round
+use Rattle.protocol_model.specs.Round.{Round, Mark, begin, greatest, asked, granted, owes, opens, answer, is_out, is_over, is_empty, Ending, is_held}
+use Rattle.protocol_model.specs.Turn.{Turn, Send, begun, at_work, with_queue, send_all, enter}
+use Rattle.protocol_model.specs.Registrar.{registrar, answer_op, finish, done, write, ask_global, ask_rest, await_less, start, start_next, start_queue, start_free, retry_global}
+use Rattle.protocol_model.specs.Watch.{least_owner}
+use Rattle.protocol_model.specs.Client.{hear_lock, owe_less, retry_in, retry_locks}
+use Rattle.protocol_model.specs.Deciding.{held, end_by, end_round, go_on, hear_answer}
+use Rattle.protocol_model.specs.Reading.{judge, hear, take_back, read, receive}
+use Rattle.protocol_model.specs.Calling.{event, call}
+use Rattle.term.specs.NodeSets.{set_of}
+use Rattle.lock_table.specs.Ids.{id_of}
+use Rattle.locker.proofs.Marks.{asked-seen}
+use Rattle.transaction.specs.declared.op.Op.{Op}
+use Rattle.transaction.specs.declared.op.Op.TheVariants.{Name as NameOp}
+use Rattle.transaction.specs.Ops.{op_of}
+use Rattle.node_core.specs.declared.events.Call.{Call}
+use Rattle.node_core.specs.declared.events.Call.TheVariants.{Spawn, Whereis, Register}
+use Rattle.node_core.specs.declared.events.Event.{Event}
+use Rattle.node_core.specs.declared.events.Event.TheVariants.{Call as Calls, FromPeer, Retry}
+use Rattle.node_core.specs.declared.events.Letter.{Letter}
+use Rattle.node_core.specs.declared.events.Letter.TheVariants.{SetLock, LockAnswer, GiveBack, GivenBack, Apply, Applied}
+use Rattle.node_core.specs.declared.node.Phase.{Phase}
+use Rattle.node_core.specs.declared.node.Phase.TheVariants.{Asking, Waiting, Writing}
+use Rattle.node_core.specs.Made.{Made}
+use Rattle.node_core.specs.Held.{Held, IsWhole, IsPhaseWithin, bound_of}
+use Rattle.node_core.specs.Seen.{node_of, turn_of, send_of, letter_of, call_of, current_of}
+use Rattle.node_core.specs.Steps.{IsTurn, IsHeardWithin, GoWithin}
+use Rattle.node_core.proofs.Sends.{below_bound}
+
+-- all of these nodes are of the others
+abbrev AreOf : Nodes → Nodes → Type 0
+AreOf world s = (c : ℕ) → s c ≡ true → world c ≡ true
+
+-- each of these letters goes to one of these nodes
+abbrev GoTo : Nodes → List Send → Type 0
+GoTo world ss = All (λ s. world s.to ≡ true) ss
+
+-- the operation is a name call
+abbrev IsName : AnyOp → Type 0
+IsName (AnyOp.Name k c) = Unit {0}
+IsName _ = ⊥
+
+abbrev AreNames : List AnyOp → Type 0
+AreNames [] = Unit {0}
+AreNames (op ∷ ops) = IsName op × AreNames ops
+
+-- the current operation is a name call, and who is asked is of the world
+abbrev IsCurrentOf : Nodes → Current → Type 0
+IsCurrentOf world (Current.Asking op r) = IsName op × AreOf world (asked r)
+IsCurrentOf world (Current.Waiting op) = IsName op
+IsCurrentOf world (Current.Writing op s awaited reply) = AreOf world s
+IsCurrentOf world _ = Unit {0}
+
+-- whom a node knows of and sends to is of the world; it has neither dead processes nor lock calls
+record Knows (n : ℕ) (world known : Nodes) (deads : List ℕ) (ops : List AnyOp) (cur : Current) (locks : List LockCall)
+    (ss : List Send) : Type 0 where
+  pub members : AreOf world known
+  pub boss : world (greatest n known) ≡ true
+  pub dead : deads ≡ []
+  pub queue : AreNames ops
+  pub current : IsCurrentOf world cur
+  pub calls : locks ≡ []
+  pub sends : GoTo world ss
+
+-- the same of a turn
+abbrev IsWithin : ℕ → Nodes → Turn → Type 0
+IsWithin n world u =
+    Knows n world u.node.replica.members u.node.watch.dead u.node.queue u.node.current u.node.calls u.sends
+
+names-push : (ops : List AnyOp) (op : AnyOp) → AreNames ops → IsName op → AreNames (ops ++ op ∷ [])
+names-push [] op all one = (one, tt)
+names-push (o ∷ ops) op all one = (all.0, names-push ops op all.1 one)
+
+-- the greatest of a set is of the set
+greatest-within : (n : ℕ) (s : Nodes) (a : ℕ) → a < n → s a ≡ true → s (greatest n s) ≡ true
+greatest-within zero s a l e = absurd (omega arith)
+greatest-within (suc n) s a l e = go (s n) refl (λ less. greatest-within n s a less e)
+  where
+    never : a ≡ n → s n ≡ false → ⊥
+    never same here = cc (e, here, ap s same)
+
+    go : (b : Bool) → s n ≡ b → (a < n → s (greatest n s) ≡ true) → s (if b then n else greatest n s) ≡ true
+    go true here below = here
+    go false here below = elim (cases_lt a n) [
+      | inl less ↦ below less
+      | inr more ↦ absurd (never (omega arith) here)
+    ]
+
+-- the nodes of a set are of it
+nodes-within : (n : ℕ) (s : Nodes) → All (λ c. s c ≡ true) (nodes_of n s)
+nodes-within zero s = All-nil (λ c. s c ≡ true)
+nodes-within (suc n) s = go (s n) refl (nodes-within n s)
+  where
+    go : (b : Bool) → s n ≡ b → All (λ c. s c ≡ true) (nodes_of n s) → All (λ c. s c ≡ true) (nodes_of n s ++ (if b then n ∷ [] else []))
+    go true here below = All-push (λ c. s c ≡ true) (nodes_of n s) n below here
+    go false here below = All-append (λ c. s c ≡ true) (nodes_of n s) [] below (All-nil (λ c. s c ≡ true))
+
+-- the boss of a new round and the rest are of its set
+begun_of : (n : ℕ) (s : Nodes) (c : ℕ) → asked (begin n s) c ≡ true → s c ≡ true
+begun_of n s c e = go (s c) (c == greatest n s) e
+  where
+    go : (b d : Bool) → not (is_out (if b then (if d then round.Owes else round.Later) else round.Out)) ≡ true → b ≡ true
+    go true d f = refl
+    go false d f = f
+
+-- who has granted was asked
+granted_of : (r : Round) (c : ℕ) → granted r c ≡ true → asked r c ≡ true
+granted_of r c e = go (r.mark c) e
+  where
+    go : (m : Mark) → round.is_granted m ≡ true → not (is_out m) ≡ true
+    go round.Granted f = refl
+    go _ f = cc
+
+-- an answer that is owed asks nobody new
+answered_of : (r : Round) (c : ℕ) (g : Bool) → owes r c ≡ true → (x : ℕ) → asked (answer c g r) x ≡ true → asked r x ≡ true
+answered_of r c g owed x = go (opens c g r) (owes r c)
+  where
+    was_asked : (m : Mark) → round.is_owes m ≡ true → not (is_out m) ≡ true
+    was_asked round.Owes f = refl
+    was_asked _ f = cc
+
+    here : (x == c) ≡ true → asked r x ≡ true
+    here e = ap (asked r) (eqb-true x c e) ∙ was_asked (r.mark c) owed
+
+    too : (m : Mark) → not (is_out (round.asked_too m)) ≡ true → not (is_out m) ≡ true
+    too round.Out f = f
+    too _ f = refl
+
+    at_place : (b : Bool) (m k : Mark) → (x == c) ≡ b → (not (is_out k) ≡ true → asked r x ≡ true)
+        → not (is_out (if b then m else k)) ≡ true → asked r x ≡ true
+    at_place true m k e more f = here e
+    at_place false m k e more f = more f
+
+    go : (b d : Bool) → asked (if b then round.marked c round.Granted (record r { mark = λ y. round.asked_too (r.mark y) })
+        else (if d then round.marked c (if g then round.Granted else round.Refused) r else r)) x ≡ true → asked r x ≡ true
+    go true d f = at_place (x == c) round.Granted (round.asked_too (r.mark x)) refl (too (r.mark x)) f
+    go false true f = at_place (x == c) (if g then round.Granted else round.Refused) (r.mark x) refl (λ k. k) f
+    go false false f = f
+
+module _ (n a : ℕ) (number : ℕ → ℕ) (world : Nodes) where
+  module _ {known : Nodes} {deads : List ℕ} {ops : List AnyOp} {cur : Current} {locks : List LockCall} {ss : List Send}
+      (W : Knows n world known deads ops cur locks ss) where
+    -- the registrar is at this
+    works : (c : Current) → IsCurrentOf world c → Knows n world known deads ops c locks ss
+    works c of = record {
+      members = W.members;
+      boss = W.boss;
+      dead = W.dead;
+      queue = W.queue;
+      current = of;
+      calls = W.calls;
+      sends = W.sends;
+    }
+
+    -- these wait
+    queues : (more : List AnyOp) → AreNames more → Knows n world known deads more cur locks ss
+    queues more names = record {
+      members = W.members;
+      boss = W.boss;
+      dead = W.dead;
+      queue = names;
+      current = W.current;
+      calls = W.calls;
+      sends = W.sends;
+    }
+
+    -- these letters are sent
+    posts : (more : List Send) → GoTo world more → Knows n world known deads ops cur locks (ss ++ more)
+    posts more go = record {
+      members = W.members;
+      boss = W.boss;
+      dead = W.dead;
+      queue = W.queue;
+      current = W.current;
+      calls = W.calls;
+      sends = All-append (λ (s : Send). world s.to ≡ true) ss more W.sends go;
+    }
+
+    -- one to a node
+    sends : (c : ℕ) (l : AnyLetter) → world c ≡ true
+        → Knows n world known deads ops cur locks (ss ++ record { to = c; letter = l } ∷ [])
+    sends c l e = posts (record { to = c; letter = l } ∷ [])
+        (All-push (λ (s : Send). world s.to ≡ true) [] (record { to = c; letter = l }) (All-nil (λ (s : Send). world s.to ≡ true)) e)
+
+    -- one to each node of a set
+    sends_all : (s : Nodes) (l : AnyLetter) → AreOf world s
+        → Knows n world known deads ops cur locks (ss ++ map (λ c. record { to = c; letter = l }) (nodes_of n s))
+    sends_all s l of = posts (map (λ c. record { to = c; letter = l }) (nodes_of n s))
+        (All-map (λ (x : Send). world x.to ≡ true) (λ c. record { to = c; letter = l }) (nodes_of n s)
+        (λ k d m. of (get_or (nodes_of n s) k d) (nodes-within n s k d m)))
+
+  answers : (op : AnyOp) (reply : Option AnyReply) (u : Turn) → IsWithin n world u → IsWithin n world (answer_op n a op reply u)
+  answers (AnyOp.Name k c) (Some reply) u W = W
+  answers _ reply u W = W
+
+  -- of two tests the first
+  first : (b d : Bool) → (b && d) ≡ true → b ≡ true
+  first true d e = refl
+  first false d e = e
+
+  finishes : (op : AnyOp) (s : Nodes) (reply : Option AnyReply) (u : Turn) → AreOf world s → IsWithin n world u
+      → IsWithin n world (finish n a op s reply u)
+  finishes op s reply u of W =
+      works (sends_all (answers op reply u W) (λ c. s c && not (u.node.replica.told c))
+      (AnyLetter.GiveBack (Global a) (registrar a) false) (λ c e. of c (first (s c) (not (u.node.replica.told c)) e))) Current.Free tt
+
+  writes : (op : AnyOp) (s : Nodes) (reply : Option AnyReply) (change : AnyChange) (u : Turn) → AreOf world s → IsWithin n world u
+      → IsWithin n world (write n a op s reply change u)
+  writes op s reply change u of W =
+      sends_all (works W (Current.Writing op s u.node.replica.members reply) of) u.node.replica.members
+      (AnyLetter.Apply change) W.members
+
+  decides : (op : AnyOp) (s : Nodes) (u : Turn) → IsName op → AreOf world s → IsWithin n world u
+      → IsWithin n world (held n a number op s u)
+  decides (AnyOp.Name k c) s u name of W = go (is_grant reply)
+    where
+      reply : AnyReply
+      reply = reply_to u.node.replica.members u.node.replica.table c
+
+      v : Turn
+      v = enter (AnyEntry.Name a k c reply) u
+
+      go : (b : Bool) → IsWithin n world (if b
+          then write n a (AnyOp.Name k c) s (Some reply) (change_of_call c) v else finish n a (AnyOp.Name k c) s (Some reply) v)
+      go true = writes (AnyOp.Name k c) s (Some reply) (change_of_call c) v of W
+      go false = finishes (AnyOp.Name k c) s (Some reply) v of W
+  decides _ s u name of W = absurd name
+
+  ends : (op : AnyOp) (r : Round) (u : Turn) → IsName op → AreOf world (asked r) → IsWithin n world u
+      → IsWithin n world (end_round n a number op r u)
+  ends op r u name of W = go (is_over n r) (is_held n u.node.replica.members r)
+    where
+      go : (b d : Bool) → IsWithin n world (if b
+          then end_by n a number (if d then Ending.Held else Ending.GiveBack (granted r)) op (asked r) u else u)
+      go true true = decides op (asked r) u name of W
+      go true false = sends_all (works W (Current.Waiting op) name) (granted r) (AnyLetter.GiveBack (Global a) (registrar a) false)
+          (λ c e. of c (granted_of r c e))
+      go false d = W
+
+  asks_rest : (c : ℕ) (g : Bool) (l : AnyLetter) (r : Round) (u : Turn) → AreOf world (asked r) → IsWithin n world u
+      → IsWithin n world (ask_rest n a c g l r u)
+  asks_rest c g l r u of W = go (opens c g r)
+    where
+      others : Nodes
+      others x = round.rest r x && not (u.node.replica.told x)
+
+      go : (b : Bool) → IsWithin n world (if b then send_all n others l u else u)
+      go true = sends_all W others l
+          (λ x e. of x (first (asked r x) (not (x == r.boss)) (first (round.rest r x) (not (u.node.replica.told x)) e)))
+      go false = W
+
+  hears : (c : ℕ) (g : Bool) (cur : Current) (u : Turn) → IsCurrentOf world cur → IsWithin n world u
+      → IsWithin n world (hear_answer n a number c g cur u)
+  hears c g (Current.Asking op r) u of W = go (owes r c) refl
+    where
+      letter : AnyLetter
+      letter = AnyLetter.SetLock (Global a) (registrar a)
+
+      r2 : Round
+      r2 = answer c g r
+
+      v : Turn
+      v = ask_rest n a c g letter r u
+
+      asked_now : owes r c ≡ true → AreOf world (asked r2)
+      asked_now owed x e = of.1 x (answered_of r c g owed x e)
+
+      go : (b : Bool) → owes r c ≡ b → IsWithin n world (if b then go_on n a number op r2 v else u)
+      go true owed = ends op r2 (at_work (Current.Asking op r2) v) of.0 (asked_now owed)
+          (works (asks_rest c g letter r u of.1 W) (Current.Asking op r2) (of.0, asked_now owed))
+      go false owed = W
+  hears c g _ u of W = W
+
+  awaits : (c : ℕ) (cur : Current) (u : Turn) → IsCurrentOf world cur → IsWithin n world u → IsWithin n world (await_less n a c cur u)
+  awaits c (Current.Writing op s awaited reply) u of W = go (awaited c) (is_empty n less)
+    where
+      less : Nodes
+      less x = if x == c then false else awaited x
+
+      go : (b d : Bool) → IsWithin n world (if b
+          then (if d then done n a op s reply u else at_work (Current.Writing op s less reply) u) else u)
+      go true true = finishes op s reply (enter (AnyEntry.Done a) u) of W
+      go true false = works W (Current.Writing op s less reply) of
+      go false d = W
+  awaits c _ u of W = W
+
+  asks : (op : AnyOp) (u : Turn) → IsName op → IsWithin n world u → IsWithin n world (ask_global n a op u)
+  asks op u name W =
+      sends (works W (Current.Asking op (begin n u.node.replica.members))
+      (name, λ c e. W.members c (begun_of n u.node.replica.members c e)))
+      (greatest n u.node.replica.members) (AnyLetter.SetLock (Global a) (registrar a)) W.boss
+
+  starts_queue : (ops : List AnyOp) (u : Turn) → AreNames ops → IsWithin n world u → IsWithin n world (start_queue n a ops u)
+  starts_queue [] u names W = queues W [] tt
+  starts_queue (AnyOp.Name k c ∷ ops) u names W = asks (AnyOp.Name k c) (with_queue ops u) tt (queues W ops names.1)
+  starts_queue (_ ∷ ops) u names W = absurd names.0
+
+  -- a free registrar begins the next operation
+  starts : (u : Turn) → IsWithin n world u → IsWithin n world (start n a u)
+  starts u W = go u.node.current
+    where
+      go : (cur : Current) → IsWithin n world (start_free n a cur u)
+      go Current.Free =
+          subst (λ (ds : List ℕ). IsWithin n world (start_next n a (least_owner a u.node.replica.table ds) u)) (sym W.dead)
+          (starts_queue u.node.queue u W.queue W)
+      go _ = W
+
+  judges : (f : ℕ) (id : Id) (p : Process) (b : Bool) (u : Turn) → world f ≡ true → IsWithin n world u
+      → IsWithin n world (judge n a number f id p b u)
+  judges f id p true u e W = sends W f (AnyLetter.LockAnswer id p true) e
+  judges f id p false u e W = sends W f (AnyLetter.LockAnswer id p false) e
+
+  hears_for : (f : ℕ) (p : Process) (g : Bool) (u : Turn) → IsWithin n world u → IsWithin n world (hear n a number f p g u)
+  hears_for f p g u W = go (is_process p (registrar a))
+    where
+      go : (b : Bool) → IsWithin n world (if b
+          then hear_answer n a number f g u.node.current u else hear_lock n a f g (call_of_holder p u.node.calls) u)
+      go true = hears f g u.node.current u W.current W
+      go false =
+          subst (λ (cs : List LockCall). IsWithin n world (hear_lock n a f g (call_of_holder p cs) u)) (sym W.calls) W
+
+  takes_back : (f : ℕ) (id : Id) (p : Process) (ack : Bool) (u : Turn) → world f ≡ true → IsWithin n world u
+      → IsWithin n world (take_back n a number f id p ack u)
+  takes_back f id p true u e W = sends W f (AnyLetter.GivenBack p) e
+  takes_back f id p false u e W = W
+
+  -- what is done with a letter
+  reads_letter : (f : ℕ) (l : Letter) (u : Turn) → world f ≡ true → IsWithin n world u
+      → IsWithin n world (read n a number f (letter_of l) u)
+  reads_letter f (SetLock id p) u e W = judges f (id_of id) p (is_free_for (id_of id) p u.node.locks) u e W
+  reads_letter f (LockAnswer id p g) u e W = hears_for f p g u W
+  reads_letter f (GiveBack id p ack) u e W = takes_back f (id_of id) p ack u e W
+  reads_letter f (GivenBack p) u e W =
+      subst (λ (cs : List LockCall). IsWithin n world (owe_less n a f (call_of_holder p cs) u)) (sym W.calls) W
+  reads_letter f (Apply change) u e W = sends W f AnyLetter.Applied e
+  reads_letter f Applied u e W = awaits f u.node.current u W.current W
+
+  receives : (f : ℕ) (l : Letter) (u : Turn) → world f ≡ true → IsWithin n world u
+      → IsWithin n world (receive n a number f (letter_of l) u)
+  receives f l u e W = starts (v test) (go test)
+    where
+      test : Bool
+      test = u.node.replica.told f && not (is_down (letter_of l))
+
+      v : Bool → Turn
+      v b = if b then u else read n a number f (letter_of l) u
+
+      go : (b : Bool) → IsWithin n world (v b)
+      go true = W
+      go false = reads_letter f l u e W
+
+  -- what a call does
+  calls_for : (k : ℕ) (c : Call) (u : Turn) → IsWithin n world u → IsWithin n world (call n a k (call_of c) u)
+  calls_for k Spawn u W = W
+  calls_for k (Whereis x) u W = W
+  calls_for k (Register x p) u W = queues W (u.node.queue ++ AnyOp.Name k (Registers x p) ∷ [])
+      (names-push u.node.queue (AnyOp.Name k (Registers x p)) W.queue tt)
+
+  retries : (u : Turn) → IsWithin n world u → IsWithin n world (event n a world AnyEvent.Retry u)
+  retries u W = starts (retry_locks n a v) (again v (go u.node.current W.current))
+    where
+      v : Turn
+      v = retry_global n a u.node.current u
+
+      go : (cur : Current) → IsCurrentOf world cur → IsWithin n world (retry_global n a cur u)
+      go (Current.Waiting op) of = asks op u of W
+      go _ of = W
+
+      again : (w : Turn) → IsWithin n world w → IsWithin n world (retry_locks n a w)
+      again w V =
+          subst (λ (cs : List LockCall). IsWithin n world (fold (λ x c. retry_in n a c.phase c x) w cs)) (sym V.calls) V
+
+module _ (h : Held) (whole : IsWhole h) where
+  abbrev n : ℕ
+  n = bound_of h.world
+
+  abbrev world : Nodes
+  world = set_of h.world
+
+  -- a node that is whole knows of nodes of its world alone
+  opens_within : IsWithin n world (begun (node_of h))
+  opens_within = record {
+    members = whole.members;
+    boss = whole.members (greatest n (set_of h.members))
+        (greatest-within n (set_of h.members) h.name (below_bound h.world h.name (whole.members h.name whole.self)) whole.self);
+    dead = refl;
+    queue = names h.registrar.queue;
+    current = current h.registrar.current h.phase whole.phase;
+    calls = refl;
+    sends = All-nil (λ (s : Send). world s.to ≡ true);
+  }
+    where
+      names : (ops : List Op) → AreNames (map op_of ops)
+      names [] = tt
+      names (NameOp k c ∷ ops) = (tt, names ops)
+
+      current : (o : Option Op) (p : Phase) → IsPhaseWithin h.world p → IsCurrentOf world (current_of o h.registrar.awaited p)
+      current None p within = tt
+      current (Some (NameOp k c)) (Asking r) within = (tt, λ x e. within x (ap (λ (s : Nodes). s x) (asked-seen r) ∙ e))
+      current (Some (NameOp k c)) Waiting within = tt
+      current (Some (NameOp k c)) (Writing s reply) within = within
+
+  -- an event's turn sends to nodes of the world
+  turn_within : (e : Event) (u : Turn) → IsHeardWithin h.world e → IsTurn e h u → GoTo world u.sends
+  turn_within (Calls c) u heard is = subst (λ (v : Turn). GoTo world v.sends) (sym is)
+      (starts n h.name (λ j. 0) world (call n h.name (h.last_call + 1) (call_of c) (begun (node_of h)))
+      (calls_for n h.name (λ j. 0) world (h.last_call + 1) c (begun (node_of h)) opens_within)).sends
+  turn_within Retry u heard is = subst (λ (v : Turn). GoTo world v.sends) (sym is)
+      (retries n h.name (λ j. 0) world (begun (node_of h)) opens_within).sends
+  turn_within (FromPeer f l) u heard is = subst (λ (v : Turn). GoTo world v.sends) (sym (is (λ j. 0)))
+      (receives n h.name (λ j. 0) world f l (begun (node_of h)) heard opens_within).sends
+
+  -- so do the letters that it is made of
+  pub sends_within : (e : Event) (k : Held) (made : Made) → IsHeardWithin h.world e → IsTurn e h (turn_of k made)
+      → GoWithin h.world made.letters
+  sends_within e k made heard is = λ i d l.
+      ap (λ (s : Send). world s.to) (sym (get_or-map send_of made.letters i d (send_of d) l))
+      ∙ turn_within e (turn_of k made) heard is i (send_of d) (omega (arith, l, length-map made.letters send_of))
