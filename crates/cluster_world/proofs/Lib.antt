@@ -8,5 +8,5 @@ mod Plays
 mod Holding
 mod Deliveries
 mod Starting
-mod Running
 mod Agreeing
+mod Running

@@ -1,11 +1,17 @@
 -- Letters that are posted and taken, one by one, and seen as others.
-use Rattle.std.proofs.Common.{ℕ, Bool, true, false, ◌==◌, ◌≡◌, List, [], ◌∷◌, ◌++◌, drop, map, filter, refl, sym, ap, ◌∙◌, inl, inr}
-use Rattle.std.specs.Prelude.{not, ◌&&◌, if◌then◌else◌}
+use Rattle.std.proofs.Common.{ℕ, Bool, true, false, ◌==◌, ◌≡◌, List, [], ◌∷◌, ◌++◌, drop, map, filter, refl, sym, ap, subst, ◌∙◌, suc, inl, inr, arith}
+use Rattle.std.specs.Prelude.{not, ◌&&◌, is_some, if◌then◌else◌, All}
 use Rattle.std.proofs.Math.Path.{fun_ext}
 use Rattle.std.proofs.lemmas.Bool.{cases_eq, eq-eqb, ne_eqb}
 use Rattle.std.proofs.lemmas.List.{append_assoc, append-nil, map-append}
 use Rattle.protocol_model.specs.Links.{Links, posted, taken}
-use Rattle.link.specs.Held.{only_to}
+use Rattle.link.specs.declared.faults.LinkFault.{LinkFault}
+use Rattle.link.specs.declared.faults.LinkFault.TheVariants as on_link
+use Rattle.link.specs.Faults.{joins, IsUnsent}
+use Rattle.link.specs.Held.{Held, place, only_to}
+use Rattle.node_core.specs.declared.events.Letter.{Letter}
+use Rattle.cluster_world.specs.declared.events.Refusal.TheVariants.{NoSuchNode, Memory}
+use Rattle.cluster_world.specs.Refusals.{refusal_on}
 use Rattle.cluster_world.specs.Links.{mapped, letters_to}
 
 -- links with these queues
@@ -78,3 +84,24 @@ pub posted-push : {L : Type 0} (a : ℕ) (ss : List (ℕ × L)) (s : ℕ × L) (
     → posted a (λ t. letters_to t (ss ++ s ∷ [])) w ≡ posted a (only_to s.0 s.1) (posted a (λ t. letters_to t ss) w)
 posted-push a ss s w = sym (posted-posted a (λ t. letters_to t ss) (only_to s.0 s.1) w
     ∙ ap (λ (ls : ℕ → List _). posted a ls w) (fun_ext (λ t. sym (letters_to-push t ss s))))
+
+-- the first of these letters is between nodes of a mesh
+pub first_joined : (a : ℕ) (h : Held Letter) (s : ℕ × Letter) (ss rest : List (ℕ × Letter)) → ss ≡ s ∷ rest
+    → All (λ s. joins a s.0 h ≡ true) ss → joins a s.0 h ≡ true
+first_joined a h s ss rest is all = subst (λ (xs : List (ℕ × Letter)). All (λ s. joins a s.0 h ≡ true) xs) is all 0 s (omega arith)
+
+-- and so are the others
+pub others_joined : (a : ℕ) (h : Held Letter) (s : ℕ × Letter) (ss rest : List (ℕ × Letter)) → ss ≡ s ∷ rest
+    → All (λ s. joins a s.0 h ≡ true) ss → All (λ s. joins a s.0 h ≡ true) rest
+others_joined a h s ss rest is all = λ k d l.
+    subst (λ (xs : List (ℕ × Letter)). All (λ s. joins a s.0 h ≡ true) xs) is all (suc k) d (omega arith)
+
+-- between nodes of the mesh a letter isn't sent for want of memory alone
+pub only_memory : (fault : LinkFault) (a t : ℕ) (h k : Held Letter) → k.nodes ≡ h.nodes → joins a t h ≡ true → IsUnsent fault a t k
+    → refusal_on fault ≡ Memory
+only_memory on_link.NoSuchNode a t h k same known f = never (sym known ∙ ap (λ (ns : List ℕ). is_some (place a ns) && is_some (place t ns)) (sym same) ∙ f)
+  where
+    never : true ≡ false → NoSuchNode ≡ Memory
+    never e = cc
+only_memory on_link.EmptyLink a t h k same known f = absurd f
+only_memory on_link.Memory a t h k same known f = refl

@@ -22,7 +22,7 @@ use Rattle.node_core.specs.declared.events.Event.TheVariants.{FromPeer}
 use Rattle.node_core.specs.declared.events.Letter.{Letter}
 use Rattle.node_core.specs.Held.{Held as Core, bound_of}
 use Rattle.node_core.specs.Seen.{node_of, letter_of, answer_of}
-use Rattle.node_core.specs.Steps.{IsTurn, refusal_of as node_refusal}
+use Rattle.node_core.specs.Steps.{IsTurn, IsHeardWithin, refusal_of as node_refusal}
 use Rattle.cluster_world.specs.declared.events.Event.{Event}
 use Rattle.cluster_world.specs.declared.events.Event.TheVariants.{Call, Retry}
 use Rattle.cluster_world.specs.declared.events.Refusal.{Refusal}
@@ -101,6 +101,11 @@ module _ (h : Held) where
   stays a (Call c) = refl
   stays a Retry = refl
 
+-- it hears nobody
+pub own_hears : (nodes : List ℕ) (e : Event) → IsHeardWithin nodes (node_event e)
+own_hears nodes (Call c) = tt
+own_hears nodes Retry = tt
+
 -- the node's own event is refused
 pub refuses_own : (h : Held) (a : ℕ) (e : Event) (r : Refusal) → IsWhole h → FailsAt r a (node_event e) h → RefusedWith r (At a e) h
 refuses_own h a e NoSuchNode whole F = refused_stranger h a (own_event_of e) F
@@ -147,6 +152,14 @@ module _ (h : Held) (whole : IsWhole h) (f t : ℕ) where
   ends : (b : Bool) → joins f t h.links ≡ b → (set_of h.nodes f && set_of h.nodes t) ≡ b
   ends b e = sym (ap (λ (c : Bool). c && set_of h.nodes t) (is_some-place h.nodes f)) ∙ sym (ap (λ (c : Bool). is_some (place f h.nodes) && c) (is_some-place h.nodes t))
       ∙ ap (λ (ns : List ℕ). is_some (place f ns) && is_some (place t ns)) (sym whole.links) ∙ e
+
+  -- the sender of a letter that is taken is of the world
+  pub sender_within : joins f t h.links ≡ true → set_of h.nodes f ≡ true
+  sender_within e = go (set_of h.nodes f) (ends true e)
+    where
+      go : (b : Bool) → (b && set_of h.nodes t) ≡ true → b ≡ true
+      go true q = refl
+      go false q = q
 
   -- a delivery, by whether its ends are nodes of the world
   refused_by : (b d : Bool) → set_of h.nodes f ≡ b → set_of h.nodes t ≡ d

@@ -1,17 +1,20 @@
 -- Events that were played one after the other.
-use Rattle.std.proofs.Common.{ℕ, zero, suc, Bool, true, false, ◌≡◌, ◌+◌, Option, Some, None, List, [], ◌∷◌, ◌++◌, ◌<◌, length, take, refl, sym, ap, subst, ◌∙◌, arith}
+use Rattle.std.proofs.Common.{ℕ, zero, suc, Bool, true, false, ◌≡◌, ◌+◌, Option, Some, None, List, [], ◌∷◌, ◌++◌, ◌<◌, length, map, take, refl, sym, ap, subst, ◌∙◌, arith}
 use Rattle.std.specs.List.{slice_get}
 use Rattle.std.specs.Prelude.{◌&&◌, is_none}
 use Rattle.std.proofs.lemmas.List.{append_assoc, append-nil}
 use Rattle.protocol_model.specs.Event.{Answer as AnyAnswer, Refusal as AnyRefusal}
 use Rattle.protocol_model.specs.World.{Opening, World, WorldEvent as AnyWorldEvent, refusal, happens, answers, run, all_answers}
 use Rattle.node_core.specs.declared.events.Answer.{Answer}
+use Rattle.node_core.specs.Seen.{answer_of}
 use Rattle.cluster_world.specs.declared.events.WorldEvent.{WorldEvent}
 use Rattle.cluster_world.specs.Held.{Held}
 use Rattle.cluster_world.specs.Events.{event_of}
-use Rattle.cluster_world.specs.Seen.{opening_with, opening_of, seen}
+use Rattle.cluster_world.specs.Seen.{opening_of, seen}
 use Rattle.cluster_world.specs.declared.events.Refusal.{Refusal}
-use Rattle.cluster_world.specs.Playing.{Played, RefusedWith, IsSoFar, Ran, events_of, accepts_all}
+use Rattle.cluster_world.specs.Refusals.{is_memory}
+use Rattle.cluster_world.specs.Playing.{Keeps, Played, RefusedWith, IsSoFar, Ran, events_of, accepts_all}
+use Rattle.cluster_world.proofs.Agreeing.{same_opening}
 
 -- one event more is one more that happens
 run-push : (o : Opening) (w : World) (es : List AnyWorldEvent) (e : AnyWorldEvent) → run o w (es ++ e ∷ []) ≡ happens o (run o w es) e
@@ -62,7 +65,7 @@ so_far_more es old mid new k given now e S at P = record {
     o = opening_of old
 
     same : opening_of mid ≡ opening_of old
-    same = ap (λ (ns : List ℕ). opening_with ns mid.cluster) S.nodes ∙ ap (opening_with old.nodes) S.cluster
+    same = same_opening old mid (record { nodes = S.nodes; cluster = S.cluster })
 
     one_more : suc k ≡ k + 1
     one_more = omega arith
@@ -70,17 +73,35 @@ so_far_more es old mid new k given now e S at P = record {
     next : events_of (take k es) ++ event_of e ∷ [] ≡ events_of (take (k + 1) es)
     next = sym (events-push es k e at) ∙ ap (λ (n : ℕ). events_of (take n es)) one_more
 
--- the next event is refused, which changes nothing
+-- the next event is refused, which changes nothing but where memory was refused
 pub ran_stopped : (es : List WorldEvent) (old mid new : Held) (k : ℕ) (given now : List Answer) (e : WorldEvent) (r : Refusal)
-    → IsSoFar es old mid k given → k < length es → slice_get es k ≡ Some e → RefusedWith r e mid → new ≡ mid → now ≡ given
-    → Ran es old new k now (Some r)
-ran_stopped es old mid new k given now e r S within at refused same kept =
-    subst (λ (h : Held). Ran es old h k now (Some r)) (sym same) (subst (λ (l : List Answer). Ran es old mid k l (Some r)) (sym kept) (record {
-      nodes = S.nodes;
-      cluster = S.cluster;
-      within = omega arith;
-      accepted = S.accepted;
-      world = S.world;
-      answers = S.answers;
-      stopped = (e, at, refused);
-    }))
+    → IsSoFar es old mid k given → k < length es → slice_get es k ≡ Some e → RefusedWith r e mid → Keeps mid new
+    → (is_memory r ≡ false → new ≡ mid) → now ≡ given → Ran es old new k now (Some r)
+ran_stopped es old mid new k given now e r S within at refused K same kept = record {
+  nodes = K.nodes ∙ S.nodes;
+  cluster = K.cluster ∙ S.cluster;
+  within = omega arith;
+  accepted = S.accepted;
+  world = λ known. ap seen (same known) ∙ S.world;
+  answers = ap (map answer_of) kept ∙ S.answers;
+  stopped = (
+    e,
+    at,
+    ap (λ (w : World). refusal (opening_of old) w (event_of e)) (sym S.world)
+        ∙ ap (λ (p : Opening). refusal p (seen mid) (event_of e))
+        (sym (same_opening old mid (record { nodes = S.nodes; cluster = S.cluster }))) ∙ refused,
+  );
+}
+
+-- all were played
+pub ran_all : (es : List WorldEvent) (old new : Held) (k : ℕ) (given : List Answer) → IsSoFar es old new k given → k ≡ length es
+    → Ran es old new (length es) given None
+ran_all es old new k given S all = subst (λ (i : ℕ). Ran es old new i given None) all (record {
+  nodes = S.nodes;
+  cluster = S.cluster;
+  within = omega arith;
+  accepted = S.accepted;
+  world = λ known. S.world;
+  answers = S.answers;
+  stopped = all;
+})

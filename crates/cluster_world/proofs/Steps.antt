@@ -1,6 +1,6 @@
 -- The step of one node, as a step of the world.
-use Rattle.std.proofs.Common.{ℕ, Bool, true, false, ◌==◌, ◌≡◌, ◌<◌, Some, None, List, [], ◌∷◌, ◌++◌, length, get_or, set, map, filter, refl, sym, ap, ◌∙◌, arith}
-use Rattle.std.specs.Prelude.{if◌then◌else◌}
+use Rattle.std.proofs.Common.{ℕ, Bool, true, false, ◌==◌, ◌≡◌, ◌<◌, Option, Some, None, List, [], ◌∷◌, ◌++◌, length, get_or, set, map, filter, refl, sym, ap, subst, ◌∙◌, arith}
+use Rattle.std.specs.Prelude.{if◌then◌else◌, ◌&&◌, is_some, All}
 use Rattle.std.proofs.Math.Path.{fun_ext}
 use Rattle.std.proofs.lemmas.List.{map-append, length-map, set-get_or}
 use Rattle.std.proofs.lemmas.List.Elements.{All-set}
@@ -13,6 +13,7 @@ use Rattle.protocol_model.specs.Turn.{Turn, sent_to}
 use Rattle.protocol_model.specs.World.{apply}
 use Rattle.term.specs.NodeSets.{set_of}
 use Rattle.link.specs.Held.{Held as Mesh, place, seen as links_of}
+use Rattle.link.specs.Faults.{joins}
 use Rattle.link.proofs.Places.{place-Some}
 use Rattle.node_core.specs.declared.events.Answer.{Answer}
 use Rattle.node_core.specs.declared.events.Entry.{Entry}
@@ -22,7 +23,7 @@ use Rattle.node_core.specs.declared.events.StepFault.{StepFault}
 use Rattle.node_core.specs.declared.events.StepFault.TheVariants.{SerialsSpent, NothingToRetry, CallsSpent, Memory}
 use Rattle.node_core.specs.Held.{Held as Core}
 use Rattle.node_core.specs.Seen.{node_of, turn_of, send_of, letter_of, entry_of, fault_of, is_memory as node_memory}
-use Rattle.node_core.specs.Steps.{Steps, refusal_of as node_refusal}
+use Rattle.node_core.specs.Steps.{Steps, IsHeardWithin, refusal_of as node_refusal}
 use Rattle.cluster_world.specs.Links.{mapped, letters_to}
 use Rattle.cluster_world.specs.Held.{Held, IsWhole}
 use Rattle.cluster_world.specs.Seen.{opening_of, core_of, node_with, seen}
@@ -30,7 +31,7 @@ use Rattle.cluster_world.specs.declared.events.Refusal.TheVariants.{Memory as Ou
 use Rattle.cluster_world.specs.Refusals.{refusal_by, is_memory}
 use Rattle.cluster_world.specs.Steps.{Stands, Moves, FailsAt}
 use Rattle.cluster_world.proofs.Cores.{name_at, names-set, core_here, core_wrote, no_core}
-use Rattle.cluster_world.proofs.Nodes.{known_place, no_place}
+use Rattle.cluster_world.proofs.Nodes.{known_place, no_place, is_some-place}
 use Rattle.cluster_world.proofs.Mail.{mapped-posted}
 
 abbrev pub name_of : Core → ℕ
@@ -74,6 +75,19 @@ module _ (h : Held) (whole : IsWhole h) (a i : ℕ) (core : Core) (there : place
   pub fails_behind : (e : NodeEvent) (new : Core) (before after : List (ℕ × Letter)) (given : List Answer)
       → Steps e core new before after given → FailsAt OutOfMemory a e h
   fails_behind e new before after given S = (core, stands, S.accepted)
+
+  -- the letters of the step are between nodes of the mesh
+  pub joined : (e : NodeEvent) (new : Core) (before after : List (ℕ × Letter)) (given : List Answer) → before ≡ []
+      → Steps e core new before after given → IsHeardWithin h.nodes e → All (λ s. joins a s.0 h.links ≡ true) after
+  joined e new before after given none S heard =
+      subst (λ (ss : List (ℕ × Letter)). All (λ s. joins a s.0 h.links ≡ true) ss)
+      (sym (S.letters ∙ ap (λ (ss : List (ℕ × Letter)). ss ++ S.sent) none))
+      (λ k d l. both (get_or S.sent k d).0 (S.within (subst (λ (ns : List ℕ). IsHeardWithin ns e) (sym stands.world) heard) k d l))
+    where
+      both : (t : ℕ) → set_of core.world t ≡ true → joins a t h.links ≡ true
+      both t there_t = ap (λ (ns : List ℕ). is_some (place a ns) && is_some (place t ns)) whole.links
+          ∙ ap (λ (p : Option ℕ). is_some p && is_some (place t h.nodes)) there
+          ∙ is_some-place h.nodes t ∙ ap (λ (ns : List ℕ). set_of ns t) (sym stands.world) ∙ there_t
 
   -- the core stayed as it was
   pub unchanged : (new : Core) → new ≡ core → record h { cores = set h.cores i new } ≡ h

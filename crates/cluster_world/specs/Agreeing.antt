@@ -1,5 +1,5 @@
 -- The headline of a world.
-use Rattle.std.specs.Prelude.{ℕ, ◌≡◌, take, List, ◌++◌}
+use Rattle.std.specs.Prelude.{ℕ, ◌≡◌, List, ◌++◌}
 use Rattle.protocol_model.specs.World.{Opening, World, WorldEvent as AnyWorldEvent, opening_world, run}
 use Rattle.protocol_model.specs.Course.{course, seen as shown}
 use Rattle.protocol_model.specs.Headline.{Headline}
@@ -9,15 +9,23 @@ use Rattle.cluster_world.specs.Seen.{opening_with, opening_of, seen}
 use Rattle.cluster_world.specs.Playing.{events_of}
 
 -- the headline holds behind these events, of which the world now is
-abbrev pub AgreesAfter : Opening → List AnyWorldEvent → World → Type 0
-AgreesAfter o es w = Headline o (course o (opening_world o) es) (shown o w)
+abbrev pub HeadlineAfter : Opening → List AnyWorldEvent → World → Type 0
+HeadlineAfter o es w = Headline o (course o (opening_world o) es) (shown o w)
 
--- Where a world was opened and played these events before, the headline holds behind those and the first k of es
-abbrev pub Agrees : List WorldEvent → Held → Held → ℕ → Type 0
-Agrees es old new k = (before : List AnyWorldEvent) → seen old ≡ run (opening_of old) (opening_world (opening_of old)) before →
-    AgreesAfter (opening_of old) (before ++ events_of (take k es)) (seen new)
+-- these events, from its opening on, made the world what it is
+abbrev pub IsRunOf : List AnyWorldEvent → Held → Type 0
+IsRunOf es h = seen h ≡ run (opening_of h) (opening_world (opening_of h)) es
+
+-- these events made the world what it is, and the headline holds behind them
+pub record AgreesAfter (es : List AnyWorldEvent) (h : Held) : Type 0 where
+  pub is_run : IsRunOf es h
+  pub headline : HeadlineAfter (opening_of h) es (seen h)
+
+-- Whatever made the old world what it was, that and then these events made the new one, and the headline holds behind all
+abbrev pub Agrees : List WorldEvent → Held → Held → Type 0
+Agrees es old new = (before : List AnyWorldEvent) → IsRunOf before old → AgreesAfter (before ++ events_of es) new
 
 -- The headline of every world, whatever nodes it has and whichever of them are joined at first, after every list of events
 abbrev pub EveryWorldAgrees : Type 0
-EveryWorldAgrees = (nodes cluster : List ℕ) (es : List AnyWorldEvent) → AgreesAfter (opening_with nodes cluster) es
+EveryWorldAgrees = (nodes cluster : List ℕ) (es : List AnyWorldEvent) → HeadlineAfter (opening_with nodes cluster) es
     (run (opening_with nodes cluster) (opening_world (opening_with nodes cluster)) es)

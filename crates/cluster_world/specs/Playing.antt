@@ -11,6 +11,11 @@ use Rattle.cluster_world.specs.Events.{event_of}
 use Rattle.cluster_world.specs.Refusals.{refusal_of, is_memory}
 use Rattle.cluster_world.specs.Seen.{opening_of, seen}
 
+-- what no event changes, whatever comes of it
+pub record Keeps (old new : Held) : Type 0 where
+  pub nodes : new.nodes ≡ old.nodes
+  pub cluster : new.cluster ≡ old.cluster
+
 -- an event was accepted and played: the protocol's world makes its step, and gives these answers behind those given before
 pub record Played (e : WorldEvent) (old new : Held) (given now : List Answer) : Type 0 where
   pub nodes : new.nodes ≡ old.nodes
@@ -36,10 +41,10 @@ abbrev pub ran_out : Option Refusal → Bool
 ran_out None = false
 ran_out (Some r) = is_memory r
 
--- why a list of events stopped there
-abbrev pub IsStop : List WorldEvent → ℕ → Held → Option Refusal → Type 0
-IsStop es k now None = k ≡ length es
-IsStop es k now (Some r) = (e : WorldEvent) × (slice_get es k ≡ Some e) × RefusedWith r e now
+-- why a list of events stopped there, where the events before had made this world
+abbrev pub IsStop : List WorldEvent → ℕ → Opening → World → Option Refusal → Type 0
+IsStop es k o w None = k ≡ length es
+IsStop es k o w (Some r) = (e : WorldEvent) × (slice_get es k ≡ Some e) × (refusal o w (event_of e) ≡ refusal_of r)
 
 -- the first k of these events were accepted and played
 pub record IsSoFar (es : List WorldEvent) (old new : Held) (k : ℕ) (given : List Answer) : Type 0 where
@@ -49,15 +54,16 @@ pub record IsSoFar (es : List WorldEvent) (old new : Held) (k : ℕ) (given : Li
   pub world : seen new ≡ run (opening_of old) (seen old) (events_of (take k es))
   pub answers : map answer_of given ≡ all_answers (opening_of old) (seen old) (events_of (take k es))
 
--- the first k of these events were accepted and played, and then it stopped
+-- The first k of these events were accepted and played, with these answers, and then it stopped. What the world is where memory
+-- was refused isn't said
 pub record Ran (es : List WorldEvent) (old new : Held) (k : ℕ) (given : List Answer) (stop : Option Refusal) : Type 0 where
   pub nodes : new.nodes ≡ old.nodes
   pub cluster : new.cluster ≡ old.cluster
   pub within : k ≤ length es
   pub accepted : accepts_all (opening_of old) (seen old) (events_of (take k es)) ≡ true
-  pub world : seen new ≡ run (opening_of old) (seen old) (events_of (take k es))
+  pub world : ran_out stop ≡ false → seen new ≡ run (opening_of old) (seen old) (events_of (take k es))
   pub answers : map answer_of given ≡ all_answers (opening_of old) (seen old) (events_of (take k es))
-  pub stopped : IsStop es k new stop
+  pub stopped : IsStop es k (opening_of old) (run (opening_of old) (seen old) (events_of (take k es))) stop
 
 -- the delivery that `settle` makes next is that of the first link on which a letter waits
 abbrev pub WaitsOn : Option (ℕ × ℕ) → Held → Type 0

@@ -1,6 +1,7 @@
 //! What one step of a node brings to the world.
-ghost use Rattle.std.specs.Prelude.{◌≡◌, ◌++◌, OnOk, IfErr};
+ghost use Rattle.std.specs.Prelude.{◌≡◌, ◌++◌, true, All, OnOk, IfErr};
 ghost use Rattle.protocol_model.specs.Links.{posted};
+ghost use Rattle.link.specs.Faults.{joins};
 ghost use Rattle.link.specs.Held.{seen as links_of};
 ghost use Rattle.cluster_world.specs.Links.{letters_to};
 
@@ -10,20 +11,21 @@ use node_core::{Entry, Letter, Look};
 use std::alloc::AllocError;
 use term::NodeName;
 
-/// Puts each letter at the back of the link to its receiver.
+/// Puts each letter at the back of the link to its receiver, all between nodes of the mesh.
 pub(crate) fn post(
     links: &mut Mesh<Letter>,
     sender: &NodeName,
     letters: Vec<(NodeName, Letter)>,
 ) -> Result<(), Refusal>
+    requires { All (λ s. joins sender.now s.0 links.old ≡ true) letters.items }
     ensures nodes { links.new.nodes ≡ links.old.nodes }
     ensures closed { (links_of links.new).closed ≡ (links_of links.old).closed }
     ensures ok { OnOk result (links_of links.new ≡ posted sender.now (λ t. letters_to t letters.items) (links_of links.old)) }
     ensures err { IfErr result (λ refusal. refusal ≡ Refusal.Memory) }
 {
     for (receiver, letter) in letters {
-        if links.send(sender, &receiver, letter).is_err() {
-            return Err(Refusal::Memory);
+        if let Err(unsent) = links.send(sender, &receiver, letter) {
+            return Err(Refusal::from(unsent.fault));
         }
     }
     Ok(())

@@ -4,6 +4,7 @@ ghost use Rattle.protocol_model.specs.World.{opening_world};
 ghost use Rattle.term.specs.NodeSets.{set_of, most_nodes};
 ghost use Rattle.node_core.specs.Held.{IsWithin};
 ghost use Rattle.cluster_world.specs.Seen.{opening_of, opening_core, seen};
+ghost use Rattle.cluster_world.specs.Agreeing.{AgreesAfter};
 ghost use Rattle.cluster_world.specs.Starting.{repeats, start_refused, start_fault_of, Opens};
 
 use crate::events::StartFault;
@@ -88,6 +89,7 @@ impl<N: Names<Memory = Global>> World<N> {
     ) -> Result<World<N>, StartFault>
         ensures nodes { IfOk result (λ world. Opens cluster.now lone.now world) }
         ensures world { IfOk result (λ world. seen world ≡ opening_world (opening_of world)) }
+        ensures agrees { IfOk result (λ world. AgreesAfter [] world) }
         ensures ok { IfOk result (λ world. start_refused cluster.now lone.now ≡ None) }
         ensures err { IfErr result (λ fault. start_refused cluster.now lone.now ≡ start_fault_of fault) }
     {

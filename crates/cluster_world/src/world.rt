@@ -6,7 +6,6 @@ use crate::post::{enter, post};
 use link::Mesh;
 use name_table::Names;
 use node_core::{Answer, Entry, Letter, NodeCore};
-use std::alloc::AllocError;
 use std::marker::Model;
 use term::{NodeName, NodeSet};
 
@@ -45,20 +44,23 @@ impl<N: Names> Model for World<N> {
 }
 
 impl<N: Names> World<N> {
-    ghost use Rattle.std.specs.Prelude.{false, [], is_some, OnOk, IfOk, IfErr, IfSome};
+    ghost use Rattle.std.specs.Prelude.{false, [], ◌∷◌, take, is_some, OnOk, OnErr, IfOk, IfErr, IfSome};
     ghost use Rattle.std.specs.Option.{option_copied};
     ghost use Rattle.protocol_model.specs.World.{holder, left};
     ghost use Rattle.node_core.specs.Held.{IsWithin};
+    ghost use Rattle.node_core.specs.Steps.{IsHeardWithin};
     ghost use Rattle.term.specs.NodeSets.{set_of};
     ghost use Rattle.cluster_world.specs.Held.{IsWhole};
     ghost use Rattle.cluster_world.specs.Seen.{opening_of, core_of, seen};
     ghost use Rattle.cluster_world.specs.Refusals.{is_memory};
     ghost use Rattle.cluster_world.specs.Steps.{Moves, FailsAt};
-    ghost use Rattle.cluster_world.specs.Playing.{Played, RefusedWith, ran_out, Ran, WaitsOn};
+    ghost use Rattle.cluster_world.specs.Playing.{Keeps, Played, RefusedWith, ran_out, Ran, WaitsOn};
     ghost use Rattle.cluster_world.specs.Agreeing.{Agrees};
 
     /// A node takes the step of an event: its letters go onto their links, and its entries into the history.
     fn step(&mut self, node: &NodeName, event: &node_core::Event) -> Result<Vec<Answer>, Refusal>
+        requires { IsHeardWithin self.old.nodes event.now }
+        ensures kept { Keeps self.old self.new }
         ensures ok { IfOk result (λ answers. Moves node.now event.now self.old self.new answers.items) }
         ensures refused { IfErr result (λ refusal. FailsAt refusal node.now event.now self.old) }
         ensures unchanged { IfErr result (λ refusal. is_memory refusal ≡ false → self.new ≡ self.old) }
@@ -77,6 +79,7 @@ impl<N: Names> World<N> {
 
     /// The oldest letter of a link is taken, and its receiver reads it.
     fn deliver(&mut self, sender: &NodeName, receiver: &NodeName) -> Result<Vec<Answer>, Refusal>
+        ensures kept { Keeps self.old self.new }
         ensures ok { IfOk result (λ answers. Played (WorldEvent.Deliver sender.now receiver.now) self.old self.new [] answers.items) }
         ensures refused { IfErr result (λ refusal. RefusedWith refusal (WorldEvent.Deliver sender.now receiver.now) self.old) }
         ensures unchanged { IfErr result (λ refusal. is_memory refusal ≡ false → self.new ≡ self.old) }
@@ -88,7 +91,13 @@ impl<N: Names> World<N> {
 
     /// Plays one event, and gives what its step answers. A refused event changes nothing; only where `Memory` is refused is the
     /// world not to be used any more.
+    ///
+    /// Behind whatever was played on a world from its opening on, the headline holds: the answers to name calls are those of one
+    /// sequential registry that takes the granted operations in lock order, and the tables are that registry's.
     pub fn play(&mut self, event: &WorldEvent) -> Result<Vec<Answer>, Refusal>
+        ensures kept { Keeps self.old self.new }
+        ensures agrees { IfOk result (λ answers. Agrees (event.now ∷ []) self.old self.new) }
+        ensures still_agrees { IfErr result (λ refusal. is_memory refusal ≡ false → Agrees [] self.old self.new) }
         ensures ok { IfOk result (λ answers. Played event.now self.old self.new [] answers.items) }
         ensures refused { IfErr result (λ refusal. RefusedWith refusal event.now self.old) }
         ensures unchanged { IfErr result (λ refusal. is_memory refusal ≡ false → self.new ≡ self.old) }
@@ -101,32 +110,32 @@ impl<N: Names> World<N> {
 
     /// Plays one event, and puts its answers behind those given before.
     fn play_into(&mut self, event: &WorldEvent, answers: &mut Vec<Answer>) -> Result<(), Refusal>
+        ensures kept { Keeps self.old self.new }
         ensures ok { OnOk result (Played event.now self.old self.new answers.old.items answers.new.items) }
         ensures refused { IfErr result (λ refusal. RefusedWith refusal event.now self.old) }
         ensures unchanged { IfErr result (λ refusal. is_memory refusal ≡ false → self.new ≡ self.old) }
-        ensures kept { IfErr result (λ refusal. is_memory refusal ≡ false → answers.new.items ≡ answers.old.items) }
+        ensures unanswered { OnErr result (answers.new.items ≡ answers.old.items) }
     {
-        for answer in self.play(event)? {
-            answers.push(answer).map_err(AllocError::from)?;
-        }
+        let mut given = self.play(event)?;
+        answers.append(&mut given)?;
         Ok(())
     }
 
     /// Plays events in order, up to the first that is refused. That one changes nothing, and those behind it aren't looked at.
-    /// Where `Memory` is refused, the contract says nothing of the world and of the answers.
+    /// Where `Memory` is refused, what it counts as played was played, with these answers, and the world isn't to be used any
+    /// more.
     ///
-    /// Behind whatever was played on a world from its opening on, the headline holds: the answers to name calls are those of one
-    /// sequential registry that takes the granted operations in lock order, and the tables are that registry's.
+    /// The headline holds behind what was played, as behind one event.
     pub fn run(&mut self, events: &[WorldEvent]) -> RunEnd
-        ensures ran { ran_out result.refusal ≡ false → Ran events.now self.old self.new result.played result.answers.items result.refusal }
-        ensures agrees { ran_out result.refusal ≡ false → Agrees events.now self.old self.new result.played }
+        ensures ran { Ran events.now self.old self.new result.played result.answers.items result.refusal }
+        ensures agrees { ran_out result.refusal ≡ false → Agrees (take result.played events.now) self.old self.new }
     {
         self.play_all(events)
     }
 
     /// Plays events in order, up to the first that is refused.
     fn play_all(&mut self, events: &[WorldEvent]) -> RunEnd
-        ensures { ran_out result.refusal ≡ false → Ran events.now self.old self.new result.played result.answers.items result.refusal }
+        ensures { Ran events.now self.old self.new result.played result.answers.items result.refusal }
     {
         let mut answers = Vec::new(*self.history.allocator());
         for (played, event) in events.iter().enumerate() {

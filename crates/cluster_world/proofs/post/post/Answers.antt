@@ -1,15 +1,32 @@
-use Rattle.std.proofs.Common.{◌∙◌, ap, sym}
+use Rattle.std.proofs.Common.{ℕ, true, ◌≡◌, List, All, ◌∙◌, ap, refl, subst, sym}
 use Rattle.protocol_model.specs.Links.{Links, posted}
+use Rattle.link.specs.Faults.{joins}
 use Rattle.link.specs.Held.{seen, only_to}
 use Rattle.node_core.specs.declared.events.Letter.{Letter}
-use Rattle.cluster_world.proofs.Mail.{posted-push}
-use Rattle.cluster_world.proofs.Results.{at_ok}
+use Rattle.cluster_world.proofs.Mail.{posted-nothing, posted-push, first_joined, others_joined, only_memory}
 use Rattle.cluster_world.proofs.post.post.Goals as goal
 
 pub loop-receiver-preserved : goal.loop-receiver-preserved
 loop-receiver-preserved c = record {
   nodes = c.send.ensures.nodes ∙ c.loop-receiver.invariant.nodes;
-  posted = at_ok c.send.result c.if-is_err.ensures.negation c.send.ensures.ok
+  posted = c.in_default.ensures.ok
       ∙ ap (λ (w : Links Letter). posted c.args.sender.now (only_to c.in-Some.receiver c.in-Some.letter) w) c.loop-receiver.invariant.posted
       ∙ sym (posted-push c.args.sender.now c.loop-receiver.yielded (c.in-Some.receiver, c.in-Some.letter) (seen c.args.links.now));
+  left = others_joined c.args.sender.now c.args.links.now (c.in-Some.receiver, c.in-Some.letter) _ c.next.new.self.rest.items
+      c.in-Some.ensures.steps.0 c.loop-receiver.invariant.left;
+}
+
+pub returns-in-Err-clause-err : goal.returns-in-Err-clause-err
+returns-in-Err-clause-err c =
+    c.from.ensures
+    ∙ only_memory c.in-Err.unsent.fault c.args.sender.now c.in-Some.receiver c.args.links.now c.loop-receiver.links c.loop-receiver.invariant.nodes
+    (first_joined c.args.sender.now c.args.links.now (c.in-Some.receiver, c.in-Some.letter) _ c.next.new.self.rest.items
+    c.in-Some.ensures.steps.0 c.loop-receiver.invariant.left) c.in-Err.ensures.err
+
+pub loop-receiver-init : goal.loop-receiver-init
+loop-receiver-init c = record {
+  nodes = refl;
+  posted = sym (posted-nothing c.args.sender.now (seen c.args.links.now));
+  left = subst (λ (ss : List (ℕ × Letter)). All (λ s. joins c.args.sender.now s.0 c.args.links.now ≡ true) ss)
+      (sym c.into_iter-receiver-iterator.ensures.into_iter_gives.0) c.requires;
 }

@@ -1,12 +1,13 @@
-use Rattle.std.proofs.Common.{[], subst, ℕ}
+use Rattle.std.proofs.Common.{[], ap, subst, ◌∙◌, ℕ}
 use Rattle.std.proofs.lemmas.Result.{err_from_is_err_and, IfOk-weaker, IfErr-weaker}
+use Rattle.term.specs.NodeSets.{set_of}
 use Rattle.node_core.specs.declared.events.Event.TheVariants.{FromPeer}
 use Rattle.cluster_world.specs.declared.events.WorldEvent.TheVariants.{Deliver}
 use Rattle.cluster_world.specs.Held.{Held}
 use Rattle.cluster_world.specs.Refusals.{refusal_on}
 use Rattle.cluster_world.specs.Playing.{Played, RefusedWith}
 use Rattle.cluster_world.specs.Steps.{Moves, FailsAt}
-use Rattle.cluster_world.proofs.Plays.{refuses_on, plays_delivery, refuses_delivery, never_kept}
+use Rattle.cluster_world.proofs.Plays.{sender_within, refuses_on, plays_delivery, refuses_delivery, never_kept}
 use Rattle.cluster_world.proofs.world.World.deliver.Goals as goal
 
 pub returns-in_err-letter-clause-refused : goal.returns-in_err-letter-clause-refused
@@ -40,3 +41,8 @@ returns-clause-unchanged g c =
     IfErr-weaker c.step.result _ _ (λ r F kept. absurd (never_kept _ c.self.invariant c.args.sender.now c.args.receiver.now c.in_ok-letter.letter
     c.deliver.new.self c.in_ok-letter.ensures.known c.in_ok-letter.ensures.oldest c.in_ok-letter.ensures.ok c.in_ok-letter.ensures.nodes r
     (subst (λ (f : ℕ). FailsAt r c.args.receiver.now (FromPeer f c.in_ok-letter.letter) off) c.copy.ensures F) kept)) c.step.ensures.refused
+
+pub step-requires : goal.step-requires
+step-requires g c =
+    ap (λ (f : ℕ). set_of c.self.inside.nodes f) c.copy.ensures
+    ∙ sender_within _ c.self.invariant c.args.sender.now c.args.receiver.now c.in_ok-letter.ensures.known

@@ -4,6 +4,7 @@ use Rattle.node_core.specs.declared.events.Event.{Event as NodeEvent}
 use Rattle.cluster_world.specs.declared.events.WorldEvent.{WorldEvent}
 use Rattle.cluster_world.specs.Playing.{Played, RefusedWith}
 use Rattle.cluster_world.specs.Steps.{Moves, FailsAt}
+use Rattle.cluster_world.proofs.Agreeing.{agrees_played, agrees_unchanged}
 use Rattle.cluster_world.proofs.Plays.{plays_own, refuses_own}
 use Rattle.cluster_world.proofs.world.World.play.Goals as goal
 
@@ -18,3 +19,21 @@ returns-in-At-clause-refused g c =
     IfErr-weaker c.step.result _ _ (λ r F. subst (λ (e : WorldEvent). RefusedWith r e c.args.self.now) (sym c.in-At.is)
     (refuses_own c.args.self.now c.in-At.node c.in-At.event r c.step.ensures.whole
     (subst (λ (e : NodeEvent). FailsAt r c.in-At.node e c.args.self.now) c.at_node.ensures F))) c.step.ensures.refused
+
+pub returns-in-At-clause-agrees : goal.returns-in-At-clause-agrees
+returns-in-At-clause-agrees g c =
+    IfOk-weaker c.step.result _ _ (λ answers P. agrees_played c.args.event.now c.args.self.now c.step.new.self [] answers.items P)
+    (returns-in-At-clause-ok g c)
+
+pub returns-in-At-clause-still_agrees : goal.returns-in-At-clause-still_agrees
+returns-in-At-clause-still_agrees g c =
+    IfErr-weaker c.step.result _ _ (λ r same kept. agrees_unchanged c.args.self.now c.step.new.self (same kept)) c.step.ensures.unchanged
+
+pub returns-in-Deliver-clause-agrees : goal.returns-in-Deliver-clause-agrees
+returns-in-Deliver-clause-agrees g c =
+    IfOk-weaker c.deliver.result _ _ (λ answers P. agrees_played c.args.event.now c.args.self.now c.deliver.new.self [] answers.items
+    (subst (λ (e : WorldEvent). Played e c.args.self.now c.deliver.new.self [] answers.items) (sym c.in-Deliver.is) P)) c.deliver.ensures.ok
+
+pub returns-in-Deliver-clause-still_agrees : goal.returns-in-Deliver-clause-still_agrees
+returns-in-Deliver-clause-still_agrees g c =
+    IfErr-weaker c.deliver.result _ _ (λ r same kept. agrees_unchanged c.args.self.now c.deliver.new.self (same kept)) c.deliver.ensures.unchanged

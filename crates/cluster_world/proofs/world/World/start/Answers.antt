@@ -1,6 +1,7 @@
-use Rattle.std.proofs.Common.{ℕ, ◌∙◌, List, ap}
+use Rattle.std.proofs.Common.{ℕ, ◌∙◌, List, [], ap}
 use Rattle.std.specs.Prelude.{◌||◌}
 use Rattle.term.specs.NodeSets.{set_of}
+use Rattle.cluster_world.proofs.Agreeing.{agreed}
 use Rattle.cluster_world.proofs.Starting.{opens_whole, opens_seen, joined_within, opens}
 use Rattle.cluster_world.proofs.world.World.start.Goals as goal
 
@@ -24,3 +25,6 @@ returns-clause-world g c =
     (λ x. c.in_ok-gather.ensures.ok x ∙ ap (λ (ns : List ℕ). set_of ns x || set_of c.args.cluster.now x) c.empty-joined.ensures)
     (λ x. c.in_ok-gather-2.ensures.ok x ∙ ap (λ (ns : List ℕ). set_of ns x || set_of c.args.lone.now x) c.copy-nodes.ensures))
     c.new-2.ensures.items
+
+pub returns-clause-agrees : goal.returns-clause-agrees
+returns-clause-agrees g c = agreed [] _ (returns-clause-world g c)

@@ -2,12 +2,13 @@ use Rattle.std.proofs.Common.{◌∙◌, ◌++◌, List, set, ap, sym, subst, re
 use Rattle.std.proofs.lemmas.Result.{err_from_is_err_and}
 use Rattle.term.specs.NodeSets.{set_of}
 use Rattle.node_core.specs.declared.events.Entry.{Entry}
+use Rattle.node_core.specs.Steps.{IsHeardWithin}
 use Rattle.cluster_world.specs.declared.events.Refusal.TheVariants.{Memory}
 use Rattle.cluster_world.specs.Held.{Held}
 use Rattle.cluster_world.specs.Refusals.{refusal_by}
 use Rattle.cluster_world.specs.Steps.{Moves, FailsAt}
 use Rattle.cluster_world.proofs.Nodes.{no_place}
-use Rattle.cluster_world.proofs.Steps.{fails, fails_behind, unchanged, whole_with, moves, same_memory}
+use Rattle.cluster_world.proofs.Steps.{fails, fails_behind, joined, unchanged, whole_with, moves, same_memory}
 use Rattle.cluster_world.proofs.world.World.step.Goals as goal
 
 pub returns-in_default-clause-refused : goal.returns-in_default-clause-refused
@@ -87,3 +88,10 @@ returns-clause-ok g c =
     c.index_mut-core.ensures.value c.args.event.now c.step.new.self c.new-letters.result.items c.step.new.letters.items c.in_ok-answers.answers.items
     c.post.new.links c.enter.new.history.items c.new-letters.ensures.items c.in_ok-answers.ensures.ok c.in_ok-post.ensures.ok
     (c.in_ok-enter.ensures ∙ ap (λ (es : List Entry). c.self.inside.history.items ++ es) c.entered.ensures))
+
+pub post-requires : goal.post-requires
+post-requires g c =
+    joined _ c.self.invariant c.args.node.now c.in-Some.place c.index_mut-core.result.now (sym c.position.ensures ∙ c.in-Some.is)
+    c.index_mut-core.ensures.value c.args.event.now c.step.new.self c.new-letters.result.items c.step.new.letters.items c.in_ok-answers.answers.items
+    c.new-letters.ensures.items c.in_ok-answers.ensures.ok
+    (subst (λ (k : Held). IsHeardWithin k.nodes c.args.event.now) (sym c.self.view_is) c.requires)
