@@ -20,7 +20,7 @@ use Rattle.client_locks.proofs.Numbers.{num_by, nums_by, plus_if}
 use Rattle.client_locks.proofs.Growing.{Replying, replying_keeps}
 use Rattle.client_locks.proofs.Answering.{is_true, any_true, not_true_answers}
 use Rattle.client_locks.proofs.Steps.{is_step, nums_same, calls_aside, calls_from}
-use Rattle.client_locks.proofs.Ongoing.{Step, tries, rests, stepped}
+use Rattle.client_locks.proofs.Ongoing.{GoesOnFrom, Step, tries, rests, stepped}
 use Rattle.client_locks.proofs.Chains.{OrderedKept, aside_or_step, aside_gives_none, aside_counts_none, won_later, won_untried, rest_tries, up_before, Distinct, distinct_from, from_heard}
 
 and_false : (b : Bool) → (b && false) ≡ false
@@ -201,8 +201,7 @@ module _ (o : Opening) (a : ℕ) (kept : OrderedKept o) where
               ∙ ap (λ (b : Bool). plus_if b (num p id x)) (and_false (is_tried id x S.call)))
 
           -- it goes on as the same try
-          on : (next : Option LockCall) → ((d : LockCall) → next ≡ Some d
-              → (d.number ≡ S.call.number) × (d.holder ≡ S.call.holder)) →
+          on : (next : Option LockCall) → ((d : LockCall) → next ≡ Some d → GoesOnFrom S.call d) →
               ((i : Id) (y : ℕ) → tries i y next ≡ is_tried i y S.call) → S.ended ≡ false
               → plus_if (is_won id x later next) (plus_if (true && (S.ended && is_tried id x S.call)) (num p id x))
               ≡ plus_if (is_tried id x S.call && any_true S.call.holder.node S.call.number (first ++ later))

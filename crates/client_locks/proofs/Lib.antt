@@ -28,4 +28,5 @@ pub mod Chains
 pub mod HeardChains
 pub mod Numbering
 pub mod Told
+pub mod Retried
 pub mod Walking

@@ -36,6 +36,23 @@ abbrev pub rests : Option LockCall → Bool
 rests None = true
 rests (Some c) = is_waiting_call c.phase
 
+-- the call is a deletion
+abbrev pub is_deleting : LockPhase → Bool
+is_deleting (LockPhase.Deleting owing) = true
+is_deleting _ = false
+
+-- d is c, further on: the same call, and a deletion where it was one
+abbrev pub GoesOnFrom : LockCall → LockCall → Type 0
+GoesOnFrom c d =
+    (d.number ≡ c.number) × (d.holder ≡ c.holder) × (d.id ≡ c.id) × (d.target ≡ c.target)
+    × (is_deleting d.phase ≡ is_deleting c.phase)
+
+-- a call in another phase is the same call
+phase_goes_on : (c : LockCall) (phase : LockPhase) → is_deleting phase ≡ is_deleting c.phase → (d : LockCall)
+    → Some (in_phase phase c) ≡ Some d → GoesOnFrom c d
+phase_goes_on c phase h d e =
+    let one : in_phase phase c ≡ d = cc e in subst (GoesOnFrom c) one (refl, refl, refl, refl, h)
+
 -- what the rule r at node a, which changes num to num2, does to one open call
 pub record Step (o : Opening) (a : ℕ) (r : Rule) (w : World) (num : Numbers) : Type 0 where
   pub call : LockCall
@@ -43,7 +60,7 @@ pub record Step (o : Opening) (a : ℕ) (r : Rule) (w : World) (num : Numbers) :
   pub found : call_at w call.holder ≡ Some call
   pub busy : is_waiting_call call.phase ≡ false
   pub next : Option LockCall
-  pub same : (d : LockCall) → next ≡ Some d → (d.number ≡ call.number) × (d.holder ≡ call.holder)
+  pub same : (d : LockCall) → next ≡ Some d → GoesOnFrom call d
   pub calls : (p : Process) → call_at (effect o a r w) p ≡ (if is_process call.holder p then next else call_at w p)
   pub ended : Bool
   pub answers : (b m : ℕ) → any_true b m (turn_by o a w r).answers ≡ (ended && ((a == b) && (call.number == m)))
@@ -143,22 +160,18 @@ module _ (o : Opening) (a : ℕ) (w : World) (num : Numbers) (order : Ordered w)
 
     -- the call goes on in another phase, as the same try
     goes_on : (r : Rule) (t : Option Taken) (u : Turn) (phase : LockPhase) → effect o a r w ≡ turned a t u w
-        → is_waiting_call now ≡ false
+        → is_waiting_call now ≡ false → is_deleting phase ≡ is_deleting now
         → u.node.calls ≡ put_call (in_phase phase c) (w.node a).calls
         → ((b m : ℕ) → any_true b m (turn_by o a w r).answers ≡ false)
         → ((p : Process) (id : Id) (x : ℕ) → num_by a r w num p id x ≡ num p id x)
         → ((id : Id) (x : ℕ) → tried_in c.id id x phase ≡ tried_in c.id id x now) → Step o a r w num
-    goes_on r t u phase is busy calls answers nums tried = record {
+    goes_on r t u phase is busy deleting calls answers nums tried = record {
       call = c;
       home = home;
       found = found;
       busy = busy_by busy;
       next = Some (in_phase phase c);
-      same = λ d e. let one : in_phase phase c ≡ d = cc e in (
-        sym (ap (λ (k : LockCall). k.number) one),
-        sym
-            (ap (λ (k : LockCall). k.holder) one),
-      );
+      same = phase_goes_on c phase (deleting ∙ sym (ap is_deleting open_call.phase));
       calls = λ p. ap (λ (w1 : World). call_at w1 p) is ∙ call_after a t u w c.holder (Some (in_phase phase c)) home
           (λ k. ap (call_of k) calls ∙ calls_put a w order (in_phase phase c) home k) p;
       ended = false;
@@ -192,21 +205,21 @@ module _ (o : Opening) (a : ℕ) (w : World) (num : Numbers) (order : Ordered w)
   pub stepped : (r : Rule) → is_step r ≡ true → May o a w r → Step o a r w num
   stepped (HearsLock f id g c r) h m = goes_on c (LockPhase.Asking r) m.tested.2 (HearsLock f id g c r)
       (takes o a (HearsLock f id g c r)) (turn_by o a w (HearsLock f id g c r))
-      (LockPhase.Asking (answer f g r)) refl refl
+      (LockPhase.Asking (answer f g r)) refl refl refl
       (ap (put_call (in_phase (LockPhase.Asking (answer f g r)) c))
       (same_ask_rest o.bound a f g (Letter.SetLock c.id c.holder) r (w.node a)).calls)
       (λ b i. not_true_answers o a w b i (HearsLock f id g c r) refl m R) (λ p j x. refl)
       (λ j x. ap (λ (b : Bool). is_id c.id j && b) (asked_answer f g r m.tested.3 x))
   stepped (MarksLockDown d c r) h m = goes_on c (LockPhase.Asking r) m.tested.1 (MarksLockDown d c r) None
-      (turn_by o a w (MarksLockDown d c r)) (LockPhase.Asking (down d r)) refl refl refl
+      (turn_by o a w (MarksLockDown d c r)) (LockPhase.Asking (down d r)) refl refl refl refl
       (λ b i. refl) (λ p j x. refl) (λ j x. ap (λ (b : Bool). is_id c.id j && b) (asked_down d r x))
   stepped (CountsGivenBack f c owing) h m = goes_on c (LockPhase.Deleting owing) m.tested.1 (CountsGivenBack f c owing)
       (takes o a (CountsGivenBack f c owing)) (turn_by o a w (CountsGivenBack f c owing))
-      (LockPhase.Deleting (at owing f false)) refl refl refl
+      (LockPhase.Deleting (at owing f false)) refl refl refl refl
       (λ b i. refl) (λ p j x. refl) (λ j x. refl)
   stepped (CountsLockDown d c owing) h m = goes_on c (LockPhase.Deleting owing) m.tested.1
       (CountsLockDown d c owing) None (turn_by o a w (CountsLockDown d c owing))
-      (LockPhase.Deleting (at owing d false)) refl refl refl
+      (LockPhase.Deleting (at owing d false)) refl refl refl refl
       (λ b i. refl) (λ p j x. refl) (λ j x. refl)
   stepped (WinsLock c r) h m = ends c (LockPhase.Asking r) m.tested.0 (WinsLock c r) None refl refl refl
       (λ p id x. ap (λ (b : Bool). plus_if (is_process c.holder p && b) (num p id x))
@@ -254,14 +267,9 @@ module _ (o : Opening) (a : ℕ) (w : World) (num : Numbers) (order : Ordered w)
         goes = inr (resting b);
       }
         where
-          same : (b : Bool) (d : LockCall) → (if b then None else Some waiting) ≡ Some d
-              → (d.number ≡ c.number) × (d.holder ≡ c.holder)
+          same : (b : Bool) (d : LockCall) → (if b then None else Some waiting) ≡ Some d → GoesOnFrom c d
           same true d e = cc
-          same false d e = let one : waiting ≡ d = cc e in (
-            sym (ap (λ (k : LockCall). k.number) one),
-            sym
-                (ap (λ (k : LockCall). k.holder) one),
-          )
+          same false d e = phase_goes_on c LockPhase.Waiting (sym (ap is_deleting m.tested.0.phase)) d e
 
           resting : (b : Bool) → rests (if b then None else Some waiting) ≡ true
           resting true = refl
