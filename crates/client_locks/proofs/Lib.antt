@@ -29,4 +29,5 @@ pub mod HeardChains
 pub mod Numbering
 pub mod Told
 pub mod Retried
+pub mod Tries
 pub mod Walking
