@@ -30,4 +30,5 @@ pub mod Numbering
 pub mod Told
 pub mod Retried
 pub mod Tries
+pub mod TriedEvents
 pub mod Walking

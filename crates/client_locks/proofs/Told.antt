@@ -27,14 +27,14 @@ use Rattle.client_locks.proofs.Chains.{is_calm, aside_calm, OrderedKept, won_not
 use Rattle.client_locks.proofs.HeardChains.{heard_nums}
 use Rattle.client_locks.proofs.Numbering.{aside_hears, Numbered, numbered_from, last_effect, last_chain, from_self, from_chain, from_retry, beginner_home, numbered_begins}
 
-all_of_all : (f g : Rule → Bool) → ((r : Rule) → f r ≡ true → g r ≡ true) → (rs : List Rule) → list_all f rs ≡ true
+pub all_of_all : (f g : Rule → Bool) → ((r : Rule) → f r ≡ true → g r ≡ true) → (rs : List Rule) → list_all f rs ≡ true
     → list_all g rs ≡ true
 all_of_all f g h [] e = refl
 all_of_all f g h (r ∷ rs) e =
     let parts : (f r ≡ true) × (list_all f rs ≡ true) = both (f r) (list_all f rs) e in
     rw (h r parts.0, all_of_all f g h rs parts.1) refl
 
-retry_calm : (v : Node) (r : Rule) → suits (Again v) r ≡ true → is_calm r ≡ true
+pub retry_calm : (v : Node) (r : Rule) → suits (Again v) r ≡ true → is_calm r ≡ true
 retry_calm v (AsksLock c) h = refl
 retry_calm v (FailsLock c) h = refl
 retry_calm v r h = aside_calm r h
@@ -97,7 +97,7 @@ module _ (o : Opening) (kept : OrderedKept o) (w : World) (num : Numbers) (order
   }
 
   -- a delivery
-  first_heard : (f t : ℕ) (ls : List Letter) (rest : List Rule) → list_all (suits Hearing) rest ≡ true
+  pub first_heard : (f t : ℕ) (ls : List Letter) (rest : List Rule) → list_all (suits Hearing) rest ≡ true
       → list_all (suits Hearing) (first_by_letter o t f ls ++ rest) ≡ true
   first_heard f t [] rest h = h
   first_heard f t (Letter.Down ∷ ls) rest h = h
