@@ -17,7 +17,7 @@ use Rattle.protocol_model.specs.ClientLocks.{Try, try_of, tried_again, is_refuse
 use Rattle.protocol_model.specs.World.{Opening, in_world, World, WorldEvent, At, Deliver, place, accepted, turn_of}
 use Rattle.moves.proofs.Rules.{Rule, MayAll, Ordered, effect, effects, turn_by, answers_by}
 use Rattle.moves.proofs.Rules.Rule.{CallsLock, AsksLock, FailsLock, DeletesLock, DeletesNothing}
-use Rattle.moves.proofs.Indices.{by_test}
+use Rattle.moves.proofs.Indices.{by_test, both}
 use Rattle.walk.proofs.ChainKinds.{Aside, Again, Hearing, suits}
 use Rattle.walk.proofs.Walk.{InOrder}
 use Rattle.client_locks.proofs.RoundNumbers
@@ -31,7 +31,7 @@ use Rattle.client_locks.proofs.Answering.{is_true, any_true}
 use Rattle.client_locks.proofs.Steps.{call_after}
 use Rattle.client_locks.proofs.Ongoing.{is_deleting}
 use Rattle.client_locks.proofs.Chains.{is_calm, aside_calm, OrderedKept, won_nothing, calm_answers}
-use Rattle.client_locks.proofs.Numbering.{aside_hears, Numbered, last_effect, beginner_home}
+use Rattle.client_locks.proofs.Numbering.{aside_hears, Numbered, last_effect, last_chain, beginner_home}
 use Rattle.client_locks.proofs.Told.{all_of_all, retry_calm, chain_of, first_heard}
 use Rattle.client_locks.proofs.Retried.{IsTriedAgain, AreRetried, retry_calls}
 use Rattle.client_locks.proofs.Tries.{IsTryOf, Fits, lost_without, fits_chain, won_heard, fits_beside, fits_begins}
@@ -319,3 +319,169 @@ module _ (o : Opening) (kept : OrderedKept o) (w : World) (num : Numbers) (order
             first true false i j = refl
             first true true i j = absurd (omega (arith, eqb-true ((w.node a).last_call + 1) n j,
                 least (eqb-true a b i)))
+
+  -- a retry
+  module _ (a : ℕ) where
+    abbrev again : WorldEvent
+    again = At a Event.Retry
+
+    abbrev members : Nodes
+    members = (w.node a).replica.members
+
+    -- an open call behind it was open before, or was refused and is tried again
+    abbrev Was : ℕ → Process → LockCall → Type 0
+    Was x q d = (call_of q (w.node x).calls ≡ Some d)
+        ⊎ ((c : LockCall) × ((call_of q (w.node x).calls ≡ Some c) × (IsTriedAgain o.bound members c d × (x ≡ a))))
+
+    was_open : (q : Process) (d : LockCall) → call_at (accepted o w again) q ≡ Some d → Was q.node q d
+    was_open q d = by_test a (λ x b. call_of q (if b then (turn_of o w again).node else w.node x).calls ≡ Some d
+        → Was x q d)
+        (λ e. here (retry_calls o.bound a (in_world o) (w.node a) (order a) q d e)) (λ x ne e. inl e) q.node
+      where
+        here : (call_of q (w.node a).calls ≡ Some d)
+            ⊎ ((c : LockCall) × ((call_of q (w.node a).calls ≡ Some c) × IsTriedAgain o.bound members c d))
+            → Was a q d
+        here (inl e) = inl e
+        here (inr e) = inr (e.0, (e.1.0, (e.1.1, refl)))
+
+    -- the last try behind it
+    abbrev next_try : Bool → Option Try
+    next_try b = if b then tried_again members t else t
+
+    -- it has the number of the last one
+    same_number : (b : Bool) (s2 : Try) → next_try b ≡ Some s2 → (s : Try) × ((t ≡ Some s) × (s2.number ≡ s.number))
+    same_number b s2 e = go t refl b e
+      where
+        go : (k : Option Try) → t ≡ k → (d : Bool) → (if d then tried_again members k else k) ≡ Some s2
+            → (s : Try) × ((t ≡ Some s) × (s2.number ≡ s.number))
+        go None i true j = cc
+        go None i false j = cc
+        go (Some s) i true j =
+            let same : try_of members s.number s.id s.target ≡ s2 = cc j in
+            (s, (i, sym (ap (λ (y : Try). y.number) same)))
+        go (Some s) i false j = let same : s ≡ s2 = cc j in (s, (i, sym (ap (λ (y : Try). y.number) same)))
+
+    -- an open call is of the last try
+    next_own : (b : Bool) → ((a == p.node) && is_refused w p) ≡ b → (d : LockCall)
+        → call_at (accepted o w again) p ≡ Some d → is_deleting d.phase ≡ false
+        → (s : Try) × ((next_try b ≡ Some s) × IsTryOf s d)
+    next_own b i d e hd = go (was_open p d e) b i
+      where
+        refused_by : (c : LockCall) → call_at w p ≡ Some c → is_refused w p ≡ is_waiting_call c.phase
+        refused_by c f = ap (λ (k : Option LockCall). elim k [ None ↦ false | Some c ↦ is_waiting_call c.phase ]) f
+
+        tried : (s : Try) → t ≡ Some s → tried_again members t ≡ Some (try_of members s.number s.id s.target)
+        tried s f = ap (tried_again members) f
+
+        go : Was p.node p d → (g : Bool) → ((a == p.node) && is_refused w p) ≡ g
+            → (s : Try) × ((next_try g ≡ Some s) × IsTryOf s d)
+        go (inl f) false j = F.own d f hd
+        go (inl f) true j =
+            let known : (s : Try) × ((t ≡ Some s) × IsTryOf s d) = F.own d f hd in
+            let s : Try = known.0 in
+            (try_of members s.number s.id s.target, (tried s known.1.0, record {
+              number = known.1.1.number;
+              id = known.1.1.id;
+              target = known.1.1.target;
+              asks = inl (sym (refused_by d f) ∙ (both (a == p.node) (is_refused w p) j).1);
+            }))
+        go (inr f) false j =
+            let found : ((a == p.node) && is_refused w p) ≡ true =
+            ap (λ (y : Bool). y && is_refused w p) (eq-eqb a p.node (sym f.1.1.1))
+            ∙ refused_by f.0 f.1.0 ∙ f.1.1.0.refused in
+            absurd (cc (j, found))
+        go (inr f) true j =
+            let c : LockCall = f.0 in
+            let k : IsTriedAgain o.bound members c d = f.1.1.0 in
+            let known : (s : Try) × ((t ≡ Some s) × IsTryOf s c) = F.own c f.1.0 (waiting_not_deleting c.phase k.refused) in
+            let s : Try = known.0 in
+            (try_of members s.number s.id s.target, (tried s known.1.0, record {
+              number = known.1.1.number ∙ sym k.number;
+              id = known.1.1.id ∙ sym k.id;
+              target = known.1.1.target ∙ sym k.target;
+              asks = inr (λ id x. asks c k s known.1.1 id x);
+            }))
+          where
+            asks : (c : LockCall) → IsTriedAgain o.bound members c d → (s : Try) → IsTryOf s c → (id : Id) (x : ℕ)
+                → is_tried id x d ≡ (is_id s.id id && targets members s.target x)
+            asks c k s T id x =
+                ap (λ (f : LockPhase). is_id d.id id && (elim f [ LockPhase.Asking r ↦ asked r x | _ ↦ false ])) k.phase
+                ∙ ap (λ (g : Bool). is_id d.id id && g) (asked_begin o.bound (targets members c.target) x)
+                ∙ ap (λ (i : Id). is_id i id && targets members c.target x) (k.id ∙ sym T.id)
+                ∙ ap (λ (y : Target). is_id s.id id && targets members y x) (sym T.target)
+
+    retry_tried : (rest : List Rule) → MayAll o a rest w → list_all (suits (Again (w.node a))) rest ≡ true
+        → ((n : ℕ) → (w.node n).last_call ≤ ((accepted o w again).node n).last_call)
+        → Tried again (answers_by o a rest w) (accepted o w again)
+    retry_tried rest m h last = record {
+      won = λ id x. both_lost p id x (answers_by o a rest w) (last_try w again p t) (call_at w p)
+          (λ s e. calm_answers o a rest w calm m R p.node s.number)
+          (λ c e. calm_answers o a rest w calm m R c.holder.node c.number);
+      fits = record {
+        own = next_own ((a == p.node) && is_refused w p) refl;
+        alone = λ s e q c k f n. alone s (same_number ((a == p.node) && is_refused w p) s e) q c k (was_open q c f) n;
+        below = λ s e.
+            let one : (s0 : Try) × ((t ≡ Some s0) × (s.number ≡ s0.number)) = same_number
+            ((a == p.node) && is_refused w p) s e in
+            omega (arith, F.below one.0 one.1.0, one.1.1, last p.node);
+      };
+    }
+      where
+        calm : list_all is_calm rest ≡ true
+        calm = all_of_all (suits (Again (w.node a))) is_calm (retry_calm (w.node a)) rest h
+
+        alone : (s : Try) → (s0 : Try) × ((t ≡ Some s0) × (s.number ≡ s0.number)) → (q : Process) (c : LockCall)
+            → q.node ≡ p.node → Was q.node q c → c.number ≡ s.number → (q ≡ p) × (is_deleting c.phase ≡ false)
+        alone s one q c k (inl f) n = F.alone one.0 one.1.0 q c k f (n ∙ one.1.1)
+        alone s one q c k (inr f) n =
+            let was : (q ≡ p) × (is_deleting f.0.phase ≡ false) = F.alone one.0 one.1.0 q f.0 k f.1.0
+            (sym f.1.1.0.number ∙ n ∙ one.1.1) in
+            (was.0, ap is_deleting f.1.1.0.phase)
+
+  -- a call
+  call_tried : (a : ℕ) (c : Call) (rest : List Rule) → MayAll o a (chain_of o w (At a (Event.Calling c)) rest) w
+      → InOrder o w (At a (Event.Calling c)) rest → TriedBy (At a (Event.Calling c)) rest
+  call_tried a Call.Spawn rest m h = aside_tried (At a (Event.Calling Call.Spawn)) rest refl m h
+  call_tried a (Call.LookUp look) rest m h = aside_tried (At a (Event.Calling (Call.LookUp look))) rest refl m h
+  call_tried a (Call.OnName c) rest m h = aside_tried (At a (Event.Calling (Call.OnName c))) rest refl m h
+  call_tried a (Call.JoinBy j) rest m h = aside_tried (At a (Event.Calling (Call.JoinBy j))) rest refl m h
+  call_tried a (Call.SetLock q r z target retries) rest m h =
+      (subst (λ (rs : List Rule). MayAll o a (CallsLock ∷ rs) w → TriedBy (attempt a q r z target retries) rs)
+      (sym h.1.1.0)
+      (elim h.1.1.1 [
+        | inl e ↦ subst (λ (s : Rule). MayAll o a (CallsLock ∷ s ∷ h.1.0) w
+            → TriedBy (attempt a q r z target retries) (s ∷ h.1.0)) (sym e)
+            (λ k. asked_tried a q r z target retries h.1.0 k h.1.1.2)
+        | inr e ↦ subst (λ (s : Rule). MayAll o a (CallsLock ∷ s ∷ h.1.0) w
+            → TriedBy (attempt a q r z target retries) (s ∷ h.1.0)) (sym e)
+            (λ k. failed_tried a q r z target retries h.1.0 k h.1.1.2)
+      ])) m
+  call_tried a (Call.DelLock q r z target) rest m h =
+      (subst (λ (rs : List Rule). MayAll o a (CallsLock ∷ rs) w → TriedBy (deletion a q r z target) rs) (sym h.1.1.0)
+      (elim h.1.1.1 [
+        | inl e ↦ subst (λ (s : Rule). MayAll o a (CallsLock ∷ s ∷ h.1.0) w
+            → TriedBy (deletion a q r z target) (s ∷ h.1.0)) (sym e)
+            (λ k. deleted_tried a q r z target h.1.0 k h.1.1.2)
+        | inr e ↦ subst (λ (s : Rule). MayAll o a (CallsLock ∷ s ∷ h.1.0) w
+            → TriedBy (deletion a q r z target) (s ∷ h.1.0)) (sym e)
+            (λ k. deleted_nothing_tried a q r z target h.1.0 k h.1.1.2)
+      ])) m
+
+  -- each accepted event
+  pub tried : (e : WorldEvent) (rest : List Rule) → MayAll o (place e) (chain_of o w e rest) w → InOrder o w e rest
+      → effects o (place e) (chain_of o w e rest) w ≡ accepted o w e
+      → Tried e (answers_by o (place e) (chain_of o w e rest) w) (accepted o w e)
+  tried (At a Event.Retry) rest m h is = retry_tried a rest m h
+      (λ n. subst (λ (v : World). (w.node n).last_call ≤ (v.node n).last_call) is (last_chain o a rest w n))
+  tried (At a (Event.Calling c)) rest m h is =
+      let e : WorldEvent = At a (Event.Calling c) in
+      subst (Tried e (answers_by o a (chain_of o w e rest) w)) is (call_tried a c rest m h)
+  tried (At a (Event.Exiting q)) rest m h is =
+      let e : WorldEvent = At a (Event.Exiting q) in
+      subst (Tried e (answers_by o a (chain_of o w e rest) w)) is (aside_tried e rest refl m h)
+  tried (At a Event.Leave) rest m h is =
+      let e : WorldEvent = At a Event.Leave in
+      subst (Tried e (answers_by o a (chain_of o w e rest) w)) is (aside_tried e rest refl m h)
+  tried (Deliver f b) rest m h is =
+      let e : WorldEvent = Deliver f b in
+      subst (Tried e (answers_by o b (chain_of o w e rest) w)) is (delivery_tried f b rest m h)
