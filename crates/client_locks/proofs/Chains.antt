@@ -11,12 +11,13 @@ use Rattle.protocol_model.specs.Letter.{Id, is_id}
 use Rattle.protocol_model.specs.Round.{asked}
 use Rattle.protocol_model.specs.Node.{LockPhase, LockCall}
 use Rattle.protocol_model.specs.Event.{Answer, is_waiting_call}
-use Rattle.client_locks.proofs.RoundNumbers.{is_tried, is_won, is_true_to, is_gone}
+use Rattle.protocol_model.specs.ClientLocks.{is_gone}
 use Rattle.protocol_model.specs.World.{Opening, World}
 use Rattle.moves.proofs.Rules.{Rule, May, MayAll, Ordered, effect, effects, turn_by, answers_by}
 use Rattle.moves.proofs.Rules.Rule.{AsksLock, FailsLock, HearsLock, MarksLockDown, WinsLock, GivesUpLock, DeletesLock, DeletesNothing, CountsGivenBack, EndsDeletion, CountsLockDown, EndsDeletionDown}
 use Rattle.moves.proofs.Indices.{both, not_true}
 use Rattle.walk.proofs.ChainKinds.{Aside, Hearing, suits}
+use Rattle.client_locks.proofs.RoundNumbers.{is_tried, is_won, is_true_to}
 use Rattle.client_locks.proofs.Ids.{is_process_same}
 use Rattle.client_locks.proofs.Clients.{Numbers, call_at}
 use Rattle.client_locks.proofs.Numbers.{num_by, nums_by}

@@ -18,7 +18,7 @@ use Rattle.protocol_model.specs.Turn.{Turn, begun, send_all, enter, keep_call}
 use Rattle.protocol_model.specs.Registrar.{registrar, ask_rest, answer_op}
 use Rattle.protocol_model.specs.Client.{in_phase, close_call, give_lock, refuse_lock, is_spent}
 use Rattle.protocol_model.specs.Reading.{judge, take_back}
-use Rattle.client_locks.proofs.RoundNumbers.{is_gone}
+use Rattle.protocol_model.specs.ClientLocks.{is_gone}
 use Rattle.protocol_model.specs.World.{Opening, World, left, opening_world, join_number}
 use Rattle.moves.proofs.Rules.{Rule, Taken, May, effect, turn_by, takes}
 use Rattle.moves.proofs.Rules.Rule.{CallsName, CallsJoin, CallsLock, Exits, Begins, BeginsStrike, Retries, AsksJoin, HearsAnswer, MarksDown, GivesUp, Grants, Denies, Strikes, Admits, Passes, CountsApplied, CountsDown, Finishes, Judges, TakesBack, EndsJoin, Kills, IsWelcomed, LosesContact, HearsLock, GivesUpLock, Leaves}

@@ -8,11 +8,12 @@ use Rattle.registry_model.specs.Process.{Process, is_process}
 use Rattle.protocol_model.specs.Letter.{Id}
 use Rattle.protocol_model.specs.Node.{LockCall}
 use Rattle.protocol_model.specs.Event.{Answer, is_waiting_call}
-use Rattle.client_locks.proofs.RoundNumbers.{is_tried, is_won, is_gone}
+use Rattle.protocol_model.specs.ClientLocks.{is_gone}
 use Rattle.protocol_model.specs.World.{Opening, World}
 use Rattle.moves.proofs.Rules.{Rule, MayAll, Ordered, effect, effects, turn_by, answers_by}
 use Rattle.moves.proofs.Indices.{both}
 use Rattle.walk.proofs.ChainKinds.{Aside, Hearing, suits}
+use Rattle.client_locks.proofs.RoundNumbers.{is_tried, is_won}
 use Rattle.client_locks.proofs.Ids.{is_process_same, is_process_self}
 use Rattle.client_locks.proofs.Calls.{holder_of_call}
 use Rattle.client_locks.proofs.Clients.{Numbers, call_at}

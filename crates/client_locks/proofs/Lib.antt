@@ -32,3 +32,4 @@ pub mod Retried
 pub mod Tries
 pub mod TriedEvents
 pub mod Walking
+pub mod Tallies

@@ -12,10 +12,10 @@ use Rattle.protocol_model.specs.Node.{LockPhase, LockCall, call_of, put_call}
 use Rattle.protocol_model.specs.Event.{is_waiting_call}
 use Rattle.protocol_model.specs.Turn.{Turn, begun, keep_call}
 use Rattle.protocol_model.specs.Client.{in_phase, close_call, give_lock, is_spent}
-use Rattle.client_locks.proofs.RoundNumbers.{is_tried}
 use Rattle.protocol_model.specs.World.{Opening, World}
 use Rattle.moves.proofs.Rules.{Rule, Taken, May, Ordered, IsOpen, effect, turn_by, takes}
 use Rattle.moves.proofs.Rules.Rule.{HearsLock, MarksLockDown, WinsLock, GivesUpLock, CountsGivenBack, EndsDeletion, CountsLockDown, EndsDeletionDown}
+use Rattle.client_locks.proofs.RoundNumbers.{is_tried}
 use Rattle.client_locks.proofs.Calls.{call_of-drop, home_of_call}
 use Rattle.client_locks.proofs.Rounds.{mark_by, answer_opens, answer_owed}
 use Rattle.client_locks.proofs.Mail.{turned}

@@ -2,7 +2,7 @@
 -- again, over the members of now.
 use mathlib.Core.Logic.{◌⊎◌}
 use Rattle.std.proofs.Common.{ℕ, Bool, true, false, ◌==◌, ◌≡◌, Option, Some, None, List, [], ◌∷◌, refl, sym, ap, ◌∙◌, subst, inl, inr}
-use Rattle.std.specs.Prelude.{◌&&◌, nat_lt, fold, if◌then◌else◌}
+use Rattle.std.specs.Prelude.{nat_lt, fold, if◌then◌else◌}
 use Rattle.std.proofs.lemmas.Bool.{eqb-true}
 use Rattle.registry_model.specs.Process.{Process, is_process, Nodes}
 use Rattle.protocol_model.specs.Round.{is_empty, begin}
@@ -110,10 +110,13 @@ module _ (n a : ℕ) where
               ⊎ ((k : LockCall) × ((call_of p v.calls ≡ Some k) × IsTriedAgain n v.replica.members k d))
           put p d true i e =
               let same : again u.node.replica.members ≡ d = cc e in
-              inr (c, (
-                subst (λ (q : Process). call_of q v.calls ≡ Some c) (is_process_same c.holder p i) open_call,
-                subst (λ (k : LockCall). IsTriedAgain n v.replica.members c k) same (tried w),
-              ))
+              inr (
+                c,
+                (
+                  subst (λ (q : Process). call_of q v.calls ≡ Some c) (is_process_same c.holder p i) open_call,
+                  subst (λ (k : LockCall). IsTriedAgain n v.replica.members c k) same (tried w),
+                ),
+              )
           put p d false i e = R.retried p d e
 
       go : (x : LockPhase) → c.phase ≡ x → Retrying v (retry_in n a x c u)

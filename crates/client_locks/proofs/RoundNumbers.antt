@@ -1,14 +1,14 @@
--- The same numbers by the nodes that a call's own round asks: along every run they are those of the tries.
-use Rattle.std.specs.Prelude.{ℕ, Bool, true, false, ◌&&◌, ◌||◌, ◌==◌, ◌+◌, ◌-◌, ◌≡◌, ◌<◌, IsTrue, Option, Some, None, is_none, List, [], ◌∷◌, if◌then◌else◌}
+-- How often a process holds a lock at a node, by the nodes that its open call's own round asks.
+use Rattle.std.specs.Prelude.{ℕ, Bool, false, ◌&&◌, ◌==◌, ◌+◌, ◌-◌, Option, Some, None, is_none, List, [], ◌∷◌, if◌then◌else◌}
 use Rattle.std.specs.List.{list_any}
-use Rattle.registry_model.specs.Process.{Process, is_process}
+use Rattle.registry_model.specs.Process.{Process}
 use Rattle.registry_model.specs.Call.{True, is_reply}
 use Rattle.protocol_model.specs.Round.{asked}
-use Rattle.protocol_model.specs.Letter.{Id, Client, is_id, is_resource}
-use Rattle.protocol_model.specs.Watch.{is_dead}
-use Rattle.protocol_model.specs.Node.{LockPhase, LockCall, call_of, targets}
-use Rattle.protocol_model.specs.Event.{Call, Event, Answer}
-use Rattle.protocol_model.specs.World.{Opening, in_world, World, left, WorldEvent, At, opening_world, refusal, happens, answers, run}
+use Rattle.protocol_model.specs.Letter.{Id, is_id}
+use Rattle.protocol_model.specs.Node.{LockPhase, LockCall, call_of}
+use Rattle.protocol_model.specs.Event.{Answer}
+use Rattle.protocol_model.specs.ClientLocks.{gives, is_gone}
+use Rattle.protocol_model.specs.World.{Opening, World, WorldEvent, opening_world, refusal, happens, answers}
 
 -- the call is a `set_lock` of this id whose present try asks c
 abbrev pub is_tried : Id → ℕ → LockCall → Bool
@@ -26,18 +26,6 @@ is_won id c given (Some k) = is_tried id c k && list_any (is_true_to k) given
 -- the event answers `true` to p's `set_lock` of this id, whose last try asked c
 abbrev pub takes : Opening → World → WorldEvent → Process → Id → ℕ → Bool
 takes o w e p id c = is_won id c (answers o w e) (call_of p (w.node p.node).calls)
-
--- the event is a `del_lock` of this id by p that goes to c
-abbrev pub gives : World → WorldEvent → Process → Id → ℕ → Bool
-gives w e p id c = elim e [
-  | At a (Event.Calling (Call.DelLock q r z target)) ↦
-      is_process q p && is_id (Client r z) id && targets (w.node a).replica.members target c
-  | _ ↦ false
-]
-
--- p is dead at its node, or its node has left
-abbrev pub is_gone : World → Process → Bool
-is_gone w p = left w p.node || is_dead (w.node p.node).watch p.serial
 
 -- what an accepted event makes of a number k: one more, one less, or none for good
 abbrev pub counted : Opening → World → WorldEvent → Process → Id → ℕ → ℕ → ℕ
@@ -58,12 +46,3 @@ number_from o w (e ∷ es) p id c k = number_from o (happens o w e) es p id c (n
 -- how often p holds the lock at c. It is a function of the opening and the events alone: they determine the answers
 abbrev pub number : Opening → List WorldEvent → Process → Id → ℕ → ℕ
 number o es p id c = number_from o (opening_world o) es p id c 0
-
--- p holds the lock at c
-abbrev pub Holds : Opening → List WorldEvent → Process → Id → ℕ → Type 0
-Holds o es p id c = 0 < number o es p id c
-
--- at a running node no resource is held under two requesters
-abbrev pub Exclusion : Type 0
-Exclusion = (o : Opening) (es : List WorldEvent) (c : ℕ) → in_world o c ≡ true → left (run o (opening_world o) es) c ≡ false →
-    (p q : Process) (i j : Id) → Holds o es p i c → Holds o es q j c → IsTrue (is_resource i j) → IsTrue (is_id i j)

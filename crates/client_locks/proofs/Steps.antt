@@ -11,7 +11,7 @@ use Rattle.protocol_model.specs.Watch.{is_dead}
 use Rattle.protocol_model.specs.Node.{Node, LockCall, call_of}
 use Rattle.protocol_model.specs.Turn.{Turn, begun, enter}
 use Rattle.protocol_model.specs.Registrar.{registrar}
-use Rattle.client_locks.proofs.RoundNumbers.{is_gone}
+use Rattle.protocol_model.specs.ClientLocks.{is_gone}
 use Rattle.protocol_model.specs.World.{Opening, World, left, join_number}
 use Rattle.moves.proofs.Rules.{Rule, Taken, May, effect, turn_by}
 use Rattle.moves.proofs.Rules.Rule.{Exits, HearsAnswer, Finishes, Judges, TakesBack, Kills, AsksLock, FailsLock, HearsLock, MarksLockDown, WinsLock, GivesUpLock, DeletesLock, DeletesNothing, CountsGivenBack, EndsDeletion, CountsLockDown, EndsDeletionDown, Leaves}

@@ -10,13 +10,14 @@ use Rattle.protocol_model.specs.Letter.{Id, is_id, Client, Letter}
 use Rattle.protocol_model.specs.Node.{Node, LockPhase, LockCall, Target, Retries, Times, call_of, targets}
 use Rattle.protocol_model.specs.Event.{Call, Event, Answer}
 use Rattle.protocol_model.specs.Client.{new_call, in_phase}
-use Rattle.client_locks.proofs.RoundNumbers.{is_won, gives, is_gone}
+use Rattle.protocol_model.specs.ClientLocks.{gives, is_gone}
 use Rattle.protocol_model.specs.World.{Opening, World, WorldEvent, At, Deliver, place}
 use Rattle.moves.proofs.Rules.{Rule, MayAll, Ordered, effect, effects, turn_by, answers_by, first_by, first_by_letter}
 use Rattle.moves.proofs.Rules.Rule.{CallsLock, AsksLock, FailsLock, DeletesLock, DeletesNothing}
 use Rattle.moves.proofs.Indices.{both}
 use Rattle.walk.proofs.ChainKinds.{Aside, Again, Hearing, suits}
 use Rattle.walk.proofs.Walk.{InOrder}
+use Rattle.client_locks.proofs.RoundNumbers.{is_won}
 use Rattle.client_locks.proofs.Calls.{call_of-drop, holder_of_call}
 use Rattle.client_locks.proofs.Clients.{Numbers, call_at, part_same, node_here}
 use Rattle.client_locks.proofs.Numbers.{num_by, nums_by, plus_if, less_if}

@@ -1,7 +1,7 @@
 -- Each accepted event keeps that the last try of a process is that of its open lock call, and gives by the try what it
 -- gives by the call.
 use mathlib.Core.Logic.{◌⊎◌}
-use Rattle.std.proofs.Common.{ℕ, Bool, true, false, ◌==◌, ◌≡◌, ◌+◌, ◌≤◌, Option, Some, None, List, [], ◌∷◌, ◌++◌, refl, sym, ap, ◌∙◌, subst, arith, inl, inr}
+use Rattle.std.proofs.Common.{ℕ, Bool, true, false, ◌==◌, ◌≡◌, ◌+◌, ◌≤◌, Option, Some, None, List, [], ◌∷◌, refl, sym, ap, ◌∙◌, subst, arith, inl, inr}
 use Rattle.std.specs.Prelude.{not, ◌&&◌, ◌||◌, if◌then◌else◌}
 use Rattle.std.specs.List.{list_all}
 use Rattle.std.proofs.lemmas.List.Folds.{list_any-append}
@@ -30,10 +30,10 @@ use Rattle.client_locks.proofs.Growing.{Replying, replying_keeps}
 use Rattle.client_locks.proofs.Answering.{is_true, any_true}
 use Rattle.client_locks.proofs.Steps.{call_after}
 use Rattle.client_locks.proofs.Ongoing.{is_deleting}
-use Rattle.client_locks.proofs.Chains.{is_calm, aside_calm, OrderedKept, won_nothing, calm_answers}
+use Rattle.client_locks.proofs.Chains.{is_calm, aside_calm, OrderedKept, calm_answers}
 use Rattle.client_locks.proofs.Numbering.{aside_hears, Numbered, last_effect, last_chain, beginner_home}
 use Rattle.client_locks.proofs.Told.{all_of_all, retry_calm, chain_of, first_heard}
-use Rattle.client_locks.proofs.Retried.{IsTriedAgain, AreRetried, retry_calls}
+use Rattle.client_locks.proofs.Retried.{IsTriedAgain, retry_calls}
 use Rattle.client_locks.proofs.Tries.{IsTryOf, Fits, lost_without, fits_chain, won_heard, fits_beside, fits_begins}
 
 -- a round that begins asks those that it begins over
@@ -317,8 +317,11 @@ module _ (o : Opening) (kept : OrderedKept o) (w : World) (num : Numbers) (order
                 → (((d && g) && true) || false) ≡ false
             first false g i j = refl
             first true false i j = refl
-            first true true i j = absurd (omega (arith, eqb-true ((w.node a).last_call + 1) n j,
-                least (eqb-true a b i)))
+            first true true i j = absurd (omega (
+              arith,
+              eqb-true ((w.node a).last_call + 1) n j,
+              least (eqb-true a b i),
+            ))
 
   -- a retry
   module _ (a : ℕ) where
@@ -378,13 +381,18 @@ module _ (o : Opening) (kept : OrderedKept o) (w : World) (num : Numbers) (order
         go (inl f) false j = F.own d f hd
         go (inl f) true j =
             let known : (s : Try) × ((t ≡ Some s) × IsTryOf s d) = F.own d f hd in
-            let s : Try = known.0 in
-            (try_of members s.number s.id s.target, (tried s known.1.0, record {
-              number = known.1.1.number;
-              id = known.1.1.id;
-              target = known.1.1.target;
-              asks = inl (sym (refused_by d f) ∙ (both (a == p.node) (is_refused w p) j).1);
-            }))
+            let s : Try = known.0 in (
+              try_of members s.number s.id s.target,
+              (
+                tried s known.1.0,
+                record {
+                  number = known.1.1.number;
+                  id = known.1.1.id;
+                  target = known.1.1.target;
+                  asks = inl (sym (refused_by d f) ∙ (both (a == p.node) (is_refused w p) j).1);
+                },
+              ),
+            )
         go (inr f) false j =
             let found : ((a == p.node) && is_refused w p) ≡ true =
             ap (λ (y : Bool). y && is_refused w p) (eq-eqb a p.node (sym f.1.1.1))
@@ -394,13 +402,18 @@ module _ (o : Opening) (kept : OrderedKept o) (w : World) (num : Numbers) (order
             let c : LockCall = f.0 in
             let k : IsTriedAgain o.bound members c d = f.1.1.0 in
             let known : (s : Try) × ((t ≡ Some s) × IsTryOf s c) = F.own c f.1.0 (waiting_not_deleting c.phase k.refused) in
-            let s : Try = known.0 in
-            (try_of members s.number s.id s.target, (tried s known.1.0, record {
-              number = known.1.1.number ∙ sym k.number;
-              id = known.1.1.id ∙ sym k.id;
-              target = known.1.1.target ∙ sym k.target;
-              asks = inr (λ id x. asks c k s known.1.1 id x);
-            }))
+            let s : Try = known.0 in (
+              try_of members s.number s.id s.target,
+              (
+                tried s known.1.0,
+                record {
+                  number = known.1.1.number ∙ sym k.number;
+                  id = known.1.1.id ∙ sym k.id;
+                  target = known.1.1.target ∙ sym k.target;
+                  asks = inr (λ id x. asks c k s known.1.1 id x);
+                },
+              ),
+            )
           where
             asks : (c : LockCall) → IsTriedAgain o.bound members c d → (s : Try) → IsTryOf s c → (id : Id) (x : ℕ)
                 → is_tried id x d ≡ (is_id s.id id && targets members s.target x)

@@ -1,9 +1,9 @@
 -- A process's last try, as events tell it, is that of its open lock call, as long as there is one; and what a `true`
 -- gives by the one, it gives by the other.
 use mathlib.Core.Logic.{◌⊎◌}
-use Rattle.std.proofs.Common.{ℕ, Bool, true, false, ◌==◌, ◌≡◌, ◌+◌, ◌≤◌, Option, Some, None, List, [], ◌∷◌, ◌++◌, refl, sym, ap, ◌∙◌, subst, arith, inl, inr}
+use Rattle.std.proofs.Common.{ℕ, Bool, true, false, ◌==◌, ◌≡◌, ◌+◌, ◌≤◌, Option, Some, None, List, [], ◌∷◌, refl, sym, ap, ◌∙◌, subst, arith, inl, inr}
 use Rattle.std.specs.Prelude.{◌&&◌, ◌||◌, if◌then◌else◌}
-use Rattle.std.specs.List.{list_any, list_all}
+use Rattle.std.specs.List.{list_all}
 use Rattle.std.proofs.lemmas.List.Folds.{list_any-append}
 use Rattle.std.proofs.lemmas.Bool.{eqb-true}
 use Rattle.registry_model.specs.Process.{Process, is_process}
@@ -128,13 +128,18 @@ module _ (o : Opening) (a : ℕ) (kept : OrderedKept o) where
               → (if b then S.next else call_at w p) ≡ Some c → (s : Try) × ((t ≡ Some s) × IsTryOf s c)
           own c d true i j =
               let g : GoesOnFrom S.call c = S.same c j in
-              let was : (s : Try) × ((t ≡ Some s) × IsTryOf s S.call) = F.own S.call (there p i) (sym g.4 ∙ d) in
-              (was.0, (was.1.0, record {
-                number = was.1.1.number ∙ sym g.0;
-                id = was.1.1.id ∙ sym g.2;
-                target = was.1.1.target ∙ sym g.3;
-                asks = asks was.0 was.1.1 c j;
-              }))
+              let was : (s : Try) × ((t ≡ Some s) × IsTryOf s S.call) = F.own S.call (there p i) (sym g.4 ∙ d) in (
+                was.0,
+                (
+                  was.1.0,
+                  record {
+                    number = was.1.1.number ∙ sym g.0;
+                    id = was.1.1.id ∙ sym g.2;
+                    target = was.1.1.target ∙ sym g.3;
+                    asks = asks was.0 was.1.1 c j;
+                  },
+                ),
+              )
           own c d false i j = F.own c j d
 
           alone : (s : Try) → t ≡ Some s → (q : Process) (c : LockCall) → q.node ≡ p.node → c.number ≡ s.number
@@ -262,8 +267,14 @@ module _ (o : Opening) (a : ℕ) (kept : OrderedKept o) where
         → ((d : LockCall) → next ≡ Some d → (is_deleting d.phase ≡ false) × IsTryOf s d)
         → (w.node a).last_call + 1 ≤ (w2.node a).last_call → Numbered o w → Fits w2 q (Some s)
     fits_begins s number begins more N = record {
-      own = λ c e d. (s, (refl, (begins c (sym (ap (λ (b : Bool). if b then next else call_at w q) (is_process_self q))
-          ∙ sym (calls q) ∙ e)).1));
+      own = λ c e d. (
+        s,
+        (
+          refl,
+          (begins c (sym (ap (λ (b : Bool). if b then next else call_at w q) (is_process_self q))
+              ∙ sym (calls q) ∙ e)).1,
+        ),
+      );
       alone = λ s2 e r c h k n. let same : s ≡ s2 = cc e in
           alone r c h (n ∙ ap (λ (y : Try). y.number) (sym same)) (is_process q r) refl (sym (calls r) ∙ k);
       below = λ s2 e. let same : s ≡ s2 = cc e in

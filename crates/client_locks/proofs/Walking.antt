@@ -6,7 +6,7 @@ use Rattle.protocol_model.specs.Letter.{Id, is_id, is_resource}
 use Rattle.protocol_model.specs.LockTable.{count}
 use Rattle.protocol_model.specs.Watch.{is_dead}
 use Rattle.protocol_model.specs.Event.{Answer, Refusal}
-use Rattle.client_locks.proofs.RoundNumbers.{is_gone, counted, number_after, number_from, number, Holds, Exclusion}
+use Rattle.protocol_model.specs.ClientLocks.{is_gone}
 use Rattle.protocol_model.specs.World.{Opening, in_world, World, left, WorldEvent, place, opening_world, refusal, happens, accepted, answers, turn_of, run}
 use Rattle.moves.proofs.Rules.{Rule, May, MayAll, Ordered, Walked, effect, effects, answers_by}
 use Rattle.moves.proofs.Invariants.{Proper, IsUp}
@@ -14,6 +14,7 @@ use Rattle.walk.proofs.Receiving.{WelcomeWidens}
 use Rattle.walk.proofs.Walk.{OrderedWalk, walked_in_order}
 use Rattle.walk.proofs.Orders.{ordered_keeps, ordered_opens}
 use Rattle.walk.proofs.Joins.{JoinsOnce, joins_once_opens, joins_once_keeps}
+use Rattle.client_locks.proofs.RoundNumbers.{counted, number_after, number_from, number}
 use Rattle.client_locks.proofs.LockTables.{one_requester}
 use Rattle.client_locks.proofs.Sessions.{Live, live_along, settled, settled_le, view, due}
 use Rattle.client_locks.proofs.Mail.{asks, echoes}
@@ -142,7 +143,7 @@ module _ (o : Opening) (F : World → Type 0) (G : Grounds o F) where
           go true k = sym (K.clients.strangers p id x (gone_not_living o end p k))
           go false k = sym (T.numbers p k id x)
 
-  event_keeps : (w : World) (e : WorldEvent) (num : Numbers) → State w num
+  pub event_keeps : (w : World) (e : WorldEvent) (num : Numbers) → State w num
       → State (happens o w e) (λ p id x. number_after o w e p id x (num p id x))
   event_keeps w e num S = go (refusal o w e) refl
     where
@@ -184,14 +185,10 @@ module _ (o : Opening) (F : World → Type 0) (G : Grounds o F) where
           omega (arith, most, settled_le i (asks p (w.links.queue p.node c)) (count i p (w.node c).locks), h)
 
   pub excluded : (es : List WorldEvent) (c : ℕ) → in_world o c ≡ true → left (run o (opening_world o) es) c ≡ false →
-      (p q : Process) (i j : Id) → Holds o es p i c → Holds o es q j c → is_resource i j ≡ true → is_id i j ≡ true
+      (p q : Process) (i j : Id) → 0 < number o es p i c → 0 < number o es q j c → is_resource i j ≡ true → is_id i j ≡ true
   excluded es c inside up p q i j hp hq r =
       let S : State (run o (opening_world o) es) (λ k id x. number o es k id x) = run_state
       (opening_world o) es no_numbers opening_state in
       one_requester ((run o (opening_world o) es).node c).locks (S.clients.tables c) i p j q
       (stands (run o (opening_world o) es) (λ k id x. number o es k id x) S.clients c (inside, up) p i hp)
       (stands (run o (opening_world o) es) (λ k id x. number o es k id x) S.clients c (inside, up) q j hq) r
-
--- no resource is held under two requesters at a node that runs
-pub exclusion_from : (F : Opening → World → Type 0) → ((o : Opening) → Grounds o (F o)) → Exclusion
-exclusion_from F grounds o es c inside up p q i j hp hq r = excluded o (F o) (grounds o) es c inside up p q i j hp hq r

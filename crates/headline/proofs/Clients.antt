@@ -1,7 +1,8 @@
 -- Clients' locks: at a running node no resource is held under two requesters.
-use Rattle.client_locks.proofs.RoundNumbers.{Exclusion}
+use Rattle.protocol_model.specs.ClientLocks.{Exclusion}
 use Rattle.protocol_model.specs.World.{Opening}
-use Rattle.client_locks.proofs.Walking.{Grounds, exclusion_from}
+use Rattle.client_locks.proofs.Walking.{Grounds}
+use Rattle.client_locks.proofs.Tallies.{exclusion_from}
 use Rattle.headline.proofs.Together.{All, all_opens, all_keeps, widens}
 
 -- what clients' locks rest on

@@ -1,0 +1,86 @@
+-- Along every run the numbers by the last tries are those by the rounds, so at a running node no resource is held under
+-- two requesters.
+use Rattle.std.proofs.Common.{ℕ, Bool, ◌≡◌, ◌<◌, ◌+◌, ◌-◌, Option, Some, None, List, [], ◌∷◌, refl, sym, ap, ◌∙◌, subst}
+use Rattle.std.specs.Prelude.{is_none, if◌then◌else◌}
+use Rattle.registry_model.specs.Process.{Process}
+use Rattle.protocol_model.specs.Letter.{Id}
+use Rattle.protocol_model.specs.Event.{Answer, Refusal}
+use Rattle.protocol_model.specs.ClientLocks.{Try, gives, is_gone, Tally, tallied, tally_after, tally_from, number, Exclusion}
+use Rattle.protocol_model.specs.World.{Opening, World, WorldEvent, place, opening_world, refusal, happens, accepted, answers, turn_of}
+use Rattle.moves.proofs.Rules.{answers_by}
+use Rattle.walk.proofs.Walk.{OrderedWalk, walked_in_order}
+use Rattle.walk.proofs.Orders.{ordered_keeps}
+use Rattle.client_locks.proofs.RoundNumbers
+use Rattle.client_locks.proofs.RoundNumbers.{number_after, number_from}
+use Rattle.client_locks.proofs.Clients.{Numbers}
+use Rattle.client_locks.proofs.Opening.{no_numbers}
+use Rattle.client_locks.proofs.Told.{chain_of}
+use Rattle.client_locks.proofs.Tries.{Fits}
+use Rattle.client_locks.proofs.TriedEvents.{Tried, tried}
+use Rattle.client_locks.proofs.Walking.{Grounds, State, event_keeps, opening_state, excluded}
+
+-- at first nothing was tried, and no call is open
+fits_opens : (o : Opening) (p : Process) → Fits (opening_world o) p None
+fits_opens o p = record { own = λ c e d. cc; alone = λ s e q c h k n. cc; below = λ s e. cc }
+
+module _ (o : Opening) (F : World → Type 0) (G : Grounds o F) where
+  -- what an accepted event gives and keeps, where the last try of p fits
+  accepted_tried : (w : World) (e : WorldEvent) (num : Numbers) (S : State o F G w num) (p : Process) (t : Option Try)
+      (fit : Fits w p t) → refusal o w e ≡ None
+      → Tried o (ordered_keeps o) w num S.ordered S.replying S.numbered p t fit e (answers o w e) (accepted o w e)
+  accepted_tried w e num S p t fit h = subst
+      (λ (ss : List Answer). Tried o (ordered_keeps o) w num S.ordered S.replying S.numbered p t fit e ss (accepted o w e))
+      (sym answered)
+      (tried o (ordered_keeps o) w num S.ordered S.replying S.numbered p t fit e walked.walk.rest walked.walk.may
+      walked.in_order walked.walk.world)
+    where
+      walked : OrderedWalk o w e
+      walked = walked_in_order o w e S.ordered (G.wide w S.family S.once) h
+
+      answered : answers o w e ≡ answers_by o (place e) (chain_of o w e walked.walk.rest) w
+      answered = ap (λ (r : Option Refusal). if is_none r then (turn_of o w e).answers else []) h
+          ∙ sym walked.walk.answers
+
+  -- after an event the tally has the number by the rounds, and its last try fits
+  tally_keeps : (w : World) (e : WorldEvent) (num : Numbers) → State o F G w num → (k : Tally) (p : Process) (id : Id)
+      (x : ℕ) → Fits w p k.last → k.number ≡ num p id x
+      → ((tally_after o w e p id x k).number ≡ number_after o w e p id x (num p id x))
+      × Fits (happens o w e) p (tally_after o w e p id x k).last
+  tally_keeps w e num S k p id x fit same = go (refusal o w e) refl
+    where
+      go : (r : Option Refusal) → refusal o w e ≡ r
+          → ((if is_none r then tallied o w e p id x k else k).number
+          ≡ (if is_none r then RoundNumbers.counted o w e p id x (num p id x) else num p id x))
+          × Fits (if is_none r then accepted o w e else w) p (if is_none r then tallied o w e p id x k else k).last
+      go (Some r) h = (same, fit)
+      go None h =
+          let T : Tried o (ordered_keeps o) w num S.ordered S.replying S.numbered p k.last fit e (answers o w e)
+          (accepted o w e) = accepted_tried w e num S p k.last fit h in (
+            ap (λ (b : Bool). if is_gone (happens o w e) p then 0 else (if b then k.number + 1 else
+                (if gives w e p id x then k.number - 1 else k.number))) (T.won id x)
+                ∙ ap (λ (n : ℕ). RoundNumbers.counted o w e p id x n) same,
+            T.fits,
+          )
+
+  -- so the numbers are one
+  same_numbers : (es : List WorldEvent) (w : World) (num : Numbers) → State o F G w num → (k : Tally) (p : Process)
+      (id : Id) (x : ℕ) → Fits w p k.last → k.number ≡ num p id x
+      → (tally_from o w es p id x k).number ≡ number_from o w es p id x (num p id x)
+  same_numbers [] w num S k p id x fit same = same
+  same_numbers (e ∷ es) w num S k p id x fit same =
+      let K : ((tally_after o w e p id x k).number ≡ number_after o w e p id x (num p id x))
+      × Fits (happens o w e) p (tally_after o w e p id x k).last = tally_keeps w e num S k p id x fit same in
+      same_numbers es (happens o w e) (λ q i y. number_after o w e q i y (num q i y)) (event_keeps o F G w e num S)
+      (tally_after o w e p id x k) p id x K.1 K.0
+
+  -- after every list of events
+  pub numbers_agree : (es : List WorldEvent) (p : Process) (id : Id) (x : ℕ)
+      → number o es p id x ≡ RoundNumbers.number o es p id x
+  numbers_agree es p id x = same_numbers es (opening_world o) no_numbers (opening_state o F G)
+      (record { number = 0; last = None }) p id x (fits_opens o p) refl
+
+-- no resource is held under two requesters at a node that runs
+pub exclusion_from : (F : Opening → World → Type 0) → ((o : Opening) → Grounds o (F o)) → Exclusion
+exclusion_from F grounds o es c inside up p q i j hp hq r = excluded o (F o) (grounds o) es c inside up p q i j
+    (subst (λ (n : ℕ). 0 < n) (numbers_agree o (F o) (grounds o) es p i c) hp)
+    (subst (λ (n : ℕ). 0 < n) (numbers_agree o (F o) (grounds o) es q j c) hq) r
