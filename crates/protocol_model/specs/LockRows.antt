@@ -65,3 +65,15 @@ refused_lock_call_gives_all_back = row (world_of 2 (a ∷ b ∷ []) [])
     ∷ set_lock_at (pid a 1) r p (b ∷ []) 0 ∷ Settle ∷ [])
     (given (pid a 1) ∷ given (pid b 1) ∷ said a 1 True ∷ Settled ∷ said b 1 False ∷ Settled ∷ said a 2 True ∷ Settled
     ∷ [])
+
+-- of two requesters that ask at once, at one node, one gets the lock
+abbrev pub two_requesters_at_once : Row
+two_requesters_at_once = row (world_of 1 (a ∷ []) [])
+    (spawn a ∷ spawn a ∷ set_lock (pid a 1) r q 0 ∷ set_lock (pid a 2) r z 0 ∷ Settle ∷ [])
+    (given (pid a 1) ∷ given (pid a 2) ∷ said a 1 True ∷ said a 2 False ∷ Settled ∷ [])
+
+-- a lock of all members is one at each of them: another requester doesn't get it at the greatest
+abbrev pub all_members_are_asked : Row
+all_members_are_asked = row (world_of 2 (a ∷ b ∷ []) [])
+    (spawn a ∷ spawn a ∷ set_lock (pid a 1) r q 0 ∷ set_lock_at (pid a 2) r z (b ∷ []) 0 ∷ Settle ∷ [])
+    (given (pid a 1) ∷ given (pid a 2) ∷ said a 1 True ∷ said a 2 False ∷ Settled ∷ [])

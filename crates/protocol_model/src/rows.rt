@@ -9,7 +9,7 @@ ghost use Rattle.protocol_model.specs.Check.{Computes};
 ghost use Rattle.protocol_model.specs.NameRows.{registered_name_is_found, nothing_is_registered_yet, every_node_finds_the_name, process_has_one_name, nothing_to_unregister, owner_on_a_lone_node, who_gets_no_name, name_moves_and_goes, name_moves_to_members_alone};
 ghost use Rattle.protocol_model.specs.RoundRows.{boss_decides, failed_round_gives_all_back, nothing_to_retry, settle_has_a_limit, no_such_event};
 ghost use Rattle.protocol_model.specs.ExitRows.{second_name_and_both_struck, owner_dies_while_its_call_waits, dead_owner_is_struck, strike_comes_before_waiting_calls, dead_caller_is_not_answered};
-ghost use Rattle.protocol_model.specs.LockRows.{holders_are_counted, retries_and_a_dead_holder, one_lock_call_at_a_time, locks_at_named_nodes, retries_without_end, set_twice_deleted_twice, refused_lock_call_gives_all_back};
+ghost use Rattle.protocol_model.specs.LockRows.{holders_are_counted, retries_and_a_dead_holder, one_lock_call_at_a_time, locks_at_named_nodes, retries_without_end, set_twice_deleted_twice, refused_lock_call_gives_all_back, two_requesters_at_once, all_members_are_asked};
 ghost use Rattle.protocol_model.specs.DepartureRows.{boss_leaves_while_asked, owner_leaves_between_grant_and_write, no_leave_in_a_hold, departed_holder_keeps_nothing, one_notice_ends_many_rounds, no_node_left_to_ask, round_goes_on_without_a_departed_node, boss_leaves_after_its_grant, deletion_goes_on_without_a_departed_node};
 ghost use Rattle.protocol_model.specs.JoinRows.{cluster_wins_the_clash, joiner_wins_the_clash, members_grow_during_a_round, refused_joins, owner_leaves_during_an_admission, member_joins_again, welcome_on_its_way, joiner_leaves_early, killed_holder_keeps_no_lock, killed_before_it_was_spawned, departure_learnt_by_a_welcome, contact_known_to_have_left, departed_node_is_not_read, one_join_at_a_time, admitted_joiner_has_left};
 
@@ -53,6 +53,8 @@ pub fn client_locks_are_shared_by_requester()
     ensures retries_without_end { Computes retries_without_end }
     ensures set_twice_deleted_twice { Computes set_twice_deleted_twice }
     ensures refused_lock_call_gives_all_back { Computes refused_lock_call_gives_all_back }
+    ensures two_requesters_at_once { Computes two_requesters_at_once }
+    ensures all_members_are_asked { Computes all_members_are_asked }
 {}
 
 /// What a node that leaves does to rounds, writes and locks on their way.
@@ -99,4 +101,16 @@ pub fn locks_are_counted_for_each_holder()
         ≡ 1 ∷ 0 ∷ [] }
     ensures holder_after_it { numbers_behind departed_holder_keeps_nothing (9 ∷ []) (pid a 1) (Client r z) a
         ≡ 1 ∷ [] }
+{}
+
+/// Of two requesters of a resource one has it at a node, as soon as one is answered `true`.
+pub fn one_requester_has_the_lock()
+    ensures first_at_its_node { numbers_behind two_requesters_at_once (3 ∷ 4 ∷ 5 ∷ []) (pid a 1) (Client r q) a
+        ≡ 0 ∷ 0 ∷ 1 ∷ [] }
+    ensures second_at_its_node { numbers_behind two_requesters_at_once (3 ∷ 4 ∷ 5 ∷ []) (pid a 2) (Client r z) a
+        ≡ 0 ∷ 0 ∷ 0 ∷ [] }
+    ensures first_at_all { numbers_behind all_members_are_asked (3 ∷ 4 ∷ 5 ∷ []) (pid a 1) (Client r q) b
+        ≡ 0 ∷ 0 ∷ 1 ∷ [] }
+    ensures second_at_one { numbers_behind all_members_are_asked (3 ∷ 4 ∷ 5 ∷ []) (pid a 2) (Client r z) b
+        ≡ 0 ∷ 0 ∷ 0 ∷ [] }
 {}
