@@ -1,7 +1,7 @@
 -- Which rules of lock calls may come behind an event's own rule: none, those of a retry, or those that go on with open
--- calls.
+-- calls. And which rules need a letter, and which come first or not at all.
 use Rattle.std.proofs.Common.{ℕ, Bool, true, false, ◌==◌, ◌≡◌, Option, Some, None}
-use Rattle.std.specs.Prelude.{◌&&◌}
+use Rattle.std.specs.Prelude.{not, ◌&&◌, ◌||◌}
 use Rattle.protocol_model.specs.Node.{Node, LockCall, call_of}
 use Rattle.moves.proofs.Indices.{both}
 use Rattle.moves.proofs.Rules
@@ -43,12 +43,52 @@ suits k (Rules.DeletesLock c) = false
 suits k (Rules.DeletesNothing c) = false
 suits k _ = true
 
--- it isn't an event's own rule, and may come in such a chain
+-- by this rule a node decides, refuses or ends an operation, or refuses a joiner
+abbrev pub settles : Rule → Bool
+settles (Rules.Grants number call r) = true
+settles (Rules.Denies number call r) = true
+settles (Rules.Strikes p r) = true
+settles (Rules.Admits j pairs r) = true
+settles (Rules.Finishes op asked awaited reply) = true
+settles (Rules.RefusesJoin f pairs) = true
+settles _ = false
+
+-- it settles nothing, or does so by a letter
+abbrev pub is_allowed : Bool → Rule → Bool
+is_allowed delivered r = not (settles r) || delivered
+
+-- it leaves the lock table of its node as it is
+abbrev pub leaves_locks : Rule → Bool
+leaves_locks (Rules.Judges f id p) = false
+leaves_locks (Rules.TakesBack f id p ack) = false
+leaves_locks (Rules.Releases f p) = false
+leaves_locks (Rules.IsTold f) = false
+leaves_locks _ = true
+
+-- it isn't an event's own rule, and may begin such a chain
+abbrev pub may_begin : Kind → Rule → Bool
+may_begin k r = (is_quiet r && is_allowed (may_go_on k) r) && suits k r
+
+-- and may come later in it
 abbrev pub is_fit : Kind → Rule → Bool
-is_fit k r = is_quiet r && suits k r
+is_fit k r = leaves_locks r && may_begin k r
+
+pub begin_quiet : (k : Kind) (r : Rule) → may_begin k r ≡ true → is_quiet r ≡ true
+begin_quiet k r h = (both (is_quiet r) (is_allowed (may_go_on k) r)
+    (both (is_quiet r && is_allowed (may_go_on k) r) (suits k r) h).0).0
+
+pub begin_allowed : (k : Kind) (r : Rule) → may_begin k r ≡ true → is_allowed (may_go_on k) r ≡ true
+begin_allowed k r h = (both (is_quiet r) (is_allowed (may_go_on k) r)
+    (both (is_quiet r && is_allowed (may_go_on k) r) (suits k r) h).0).1
+
+pub begin_suits : (k : Kind) (r : Rule) → may_begin k r ≡ true → suits k r ≡ true
+begin_suits k r h = (both (is_quiet r && is_allowed (may_go_on k) r) (suits k r) h).1
+
+pub fit_begins : (k : Kind) (r : Rule) → is_fit k r ≡ true → may_begin k r ≡ true
+fit_begins k r h = (both (leaves_locks r) (may_begin k r) h).1
 
 pub fit_quiet : (k : Kind) (r : Rule) → is_fit k r ≡ true → is_quiet r ≡ true
-fit_quiet k r h = (both (is_quiet r) (suits k r) h).0
+fit_quiet k r h = begin_quiet k r (fit_begins k r h)
 
-pub fit_suits : (k : Kind) (r : Rule) → is_fit k r ≡ true → suits k r ≡ true
-fit_suits k r h = (both (is_quiet r) (suits k r) h).1
+pub fit_leaves : (k : Kind) (r : Rule) → is_fit k r ≡ true → leaves_locks r ≡ true
+fit_leaves k r h = (both (leaves_locks r) (may_begin k r) h).0

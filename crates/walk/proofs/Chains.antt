@@ -1,5 +1,5 @@
 -- Chains of rules: one behind another, and one rule more.
-use Rattle.std.proofs.Common.{ℕ, Bool, true, false, ◌≡◌, Option, None, List, [], ◌∷◌, ◌++◌, refl, sym, subst, ap, ◌∙◌}
+use Rattle.std.proofs.Common.{ℕ, Bool, true, false, ◌≡◌, Option, None, List, [], ◌∷◌, ◌++◌, drop, refl, sym, subst, ap, ◌∙◌}
 use Rattle.std.specs.Prelude.{◌&&◌}
 use Rattle.std.specs.List.{list_all}
 use Rattle.std.proofs.lemmas.List.{append-nil, append_assoc}
@@ -15,12 +15,30 @@ use Rattle.moves.proofs.Rules
 use Rattle.moves.proofs.Rules.{Rule, Taken, taking, is_quiet}
 use Rattle.walk.proofs.Worlds.{onto, apply-onto, apply-begun, opened-apply, stays_front}
 use Rattle.walk.proofs.Extends.{extended}
-use Rattle.walk.proofs.ChainKinds.{Kind, suits, is_fit, fit_quiet, fit_suits}
+use Rattle.walk.proofs.ChainKinds.{Kind, suits, may_go_on, is_allowed, leaves_locks, may_begin, is_fit, begin_quiet, begin_allowed, begin_suits, fit_begins, fit_quiet, fit_leaves}
 
 -- a rule that isn't a leave closes nobody out
 pub closed_by-quiet : (o : Opening) (a : ℕ) (r : Rule) (w : World) → is_quiet r ≡ true → Rules.closed_by o a r w ≡ w
 closed_by-quiet o a Rules.Leaves w q = cc
 closed_by-quiet o a _ w q = refl
+
+-- behind the first of them no rule changes the lock table
+abbrev pub LeaveLocks : List Rule → Type 0
+LeaveLocks rs = list_all leaves_locks (drop 1 rs) ≡ true
+
+-- one rule more that leaves it as it is
+leave_more : (rs : List Rule) (r : Rule) → LeaveLocks rs → leaves_locks r ≡ true → LeaveLocks (rs ++ r ∷ [])
+leave_more [] r h k = refl
+leave_more (x ∷ xs) r h k = list_all-append leaves_locks xs (r ∷ [])
+    ∙ ap (λ (t : Bool). t && (leaves_locks r && true)) h ∙ ap (λ (t : Bool). t && true) k
+
+-- a rule that takes no letter leaves it as it is, unless it is an event's own
+untaken_leaves : (o : Opening) (a : ℕ) (r : Rule) → Rules.takes o a r ≡ None → leaves_locks r ≡ true
+untaken_leaves o a (Rules.Judges f id p) e = cc
+untaken_leaves o a (Rules.TakesBack f id p ack) e = cc
+untaken_leaves o a (Rules.Releases f p) e = cc
+untaken_leaves o a (Rules.IsTold f) e = cc
+untaken_leaves o a _ e = refl
 
 module _ (o : Opening) (a : ℕ) where
   -- the effect of a chain and of another behind it
@@ -72,6 +90,8 @@ module _ (o : Opening) (a : ℕ) (K : Kind) where
     pub rest : List Rule
     pub quiet : list_all is_quiet rest ≡ true
     pub fit : list_all (suits K) rest ≡ true
+    pub allowed : list_all (is_allowed (may_go_on K)) rest ≡ true
+    pub locks : LeaveLocks (first ++ rest)
     pub may : Rules.MayAll o a (first ++ rest) w
     pub world : Rules.effects o a (first ++ rest) w ≡ apply a u b
     pub entries : Rules.entries_by o a (first ++ rest) w ≡ u.entries
@@ -84,6 +104,8 @@ module _ (o : Opening) (a : ℕ) (K : Kind) where
         rest = [];
         quiet = refl;
         fit = refl;
+        allowed = refl;
+        locks = refl;
         may = tt;
         world = sym
             (apply-begun a w);
@@ -99,6 +121,8 @@ module _ (o : Opening) (a : ℕ) (K : Kind) where
     rest = [];
     quiet = refl;
     fit = refl;
+    allowed = refl;
+    locks = refl;
     may = (m, tt);
     world = e;
     entries = append-nil (Rules.turn_by o a w r).entries;
@@ -106,13 +130,15 @@ module _ (o : Opening) (a : ℕ) (K : Kind) where
   }
 
   -- a first rule that counts among the rest
-  pub chain_quiet : (w b : World) (r : Rule) → Rules.May o a w r → is_fit K r ≡ true
+  pub chain_quiet : (w b : World) (r : Rule) → Rules.May o a w r → may_begin K r ≡ true
       → Rules.effect o a r w ≡ apply a (Rules.turn_by o a w r) b
       → Chain w [] b (Rules.turn_by o a w r)
   chain_quiet w b r m q e = record {
     rest = r ∷ [];
-    quiet = ap (λ (t : Bool). t && true) (fit_quiet K r q);
-    fit = ap (λ (t : Bool). t && true) (fit_suits K r q);
+    quiet = ap (λ (t : Bool). t && true) (begin_quiet K r q);
+    fit = ap (λ (t : Bool). t && true) (begin_suits K r q);
+    allowed = ap (λ (t : Bool). t && true) (begin_allowed K r q);
+    locks = refl;
     may = (m, tt);
     world = e;
     entries = append-nil (Rules.turn_by o a w r).entries;
@@ -130,7 +156,12 @@ module _ (o : Opening) (a : ℕ) (K : Kind) where
     quiet = list_all-append is_quiet h.rest (r ∷ []) ∙ ap (λ (t : Bool). t && (is_quiet r && true)) h.quiet
         ∙ ap (λ (t : Bool). t && true) (fit_quiet K r q);
     fit = list_all-append (suits K) h.rest (r ∷ []) ∙ ap (λ (t : Bool). t && (suits K r && true)) h.fit
-        ∙ ap (λ (t : Bool). t && true) (fit_suits K r q);
+        ∙ ap (λ (t : Bool). t && true) (begin_suits K r (fit_begins K r q));
+    allowed = list_all-append (is_allowed (may_go_on K)) h.rest (r ∷ [])
+        ∙ ap (λ (t : Bool). t && (is_allowed (may_go_on K) r && true)) h.allowed
+        ∙ ap (λ (t : Bool). t && true) (begin_allowed K r (fit_begins K r q));
+    locks = subst LeaveLocks (append_assoc first h.rest (r ∷ []))
+        (leave_more (first ++ h.rest) r h.locks (fit_leaves K r q));
     may = subst (λ (rs : List Rule). Rules.MayAll o a rs w) (append_assoc first h.rest (r ∷ []))
         (may_all-append o a (first ++ h.rest) (r ∷ []) w h.may
         (subst (λ (x : World). Rules.MayAll o a (r ∷ []) x) (sym h.world) (m, tt)));
@@ -203,6 +234,8 @@ module _ (o : Opening) (a : ℕ) (K : Kind) where
           rest = [];
           quiet = refl;
           fit = refl;
+          allowed = refl;
+          locks = ap (λ (t : Bool). t && true) (untaken_leaves o a s none);
           may = (m, (subst (λ (x : World). Rules.May o a x s) (sym e) (may_more w u s running none tested), tt));
           world = ap (λ (x : World). Rules.effect o a s x) e ∙ effect_more w u s q none;
           entries = ap (λ (x : World). u.entries ++ ((Rules.turn_by o a x s).entries ++ [])) e

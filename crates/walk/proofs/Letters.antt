@@ -20,7 +20,7 @@ use Rattle.protocol_model.specs.Reading.{admitted, welcomed, asked_to_admit, ref
 use Rattle.protocol_model.specs.World.{Opening, in_world, World, left, Deliver, number_in, join_number, apply, opened}
 use Rattle.moves.proofs.Rules
 use Rattle.moves.proofs.Rules.{Rule, taking, is_ordered, awaits, is_heard, is_heard_in, is_owed_in, is_awaited, is_joining_by, some_call, Ordered}
-use Rattle.walk.proofs.ChainKinds.{Hearing, is_fit, fit_quiet}
+use Rattle.walk.proofs.ChainKinds.{Hearing, may_begin, begin_quiet}
 use Rattle.walk.proofs.Chains.{Chain, closed_by-quiet, chain_none, chain_quiet, chain_letter}
 use Rattle.walk.proofs.Calls.{is_process-true, call_of-holder, ordered_found}
 use Rattle.walk.proofs.Rounds.{join_number-behind, awaited_less, end_round-chain}
@@ -34,7 +34,7 @@ module _ (o : Opening) (a : ℕ) (inside : in_world o a ≡ true) (w : World) (r
   Reads u = Chain o a Hearing w [] (opened (Deliver f a) w) u
 
   -- a rule that reads the letter
-  pub by_rule : (l : Letter) → w.links.queue f a ≡ l ∷ rest → (r : Rule) → is_fit Hearing r ≡ true
+  pub by_rule : (l : Letter) → w.links.queue f a ≡ l ∷ rest → (r : Rule) → may_begin Hearing r ≡ true
       → Rules.takes o a r ≡ taking f l
       → Rules.Tested o a w (w.node a) r
       → Reads (Rules.turn_by o a w r)
@@ -47,7 +47,7 @@ module _ (o : Opening) (a : ℕ) (inside : in_world o a ≡ true) (w : World) (r
       })
       q
       (closed_by-quiet o a r (apply a (Rules.turn_by o a w r) (Rules.without_letter o a (Rules.takes o a r) w))
-      (fit_quiet Hearing r q)
+      (begin_quiet Hearing r q)
       ∙ ap (λ (t : Option Rules.Taken). apply a (Rules.turn_by o a w r) (Rules.without_letter o a t w)) some)
 
   -- the registrar's numbers are as they were while it waits for no contact

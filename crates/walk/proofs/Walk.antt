@@ -1,5 +1,5 @@
 -- Every accepted event is a chain of rules, in which those of lock calls stand in order.
-use Rattle.std.proofs.Common.{ℕ, true, false, ◌≡◌, None, List, [], ◌∷◌, refl, sym, subst, ap, ◌∙◌, inl, inr}
+use Rattle.std.proofs.Common.{ℕ, Bool, true, false, ◌≡◌, None, List, [], ◌∷◌, ◌++◌, refl, sym, subst, ap, ◌∙◌, inl, inr}
 use Rattle.std.specs.Prelude.{◌&&◌}
 use Rattle.std.specs.List.{list_all}
 use Rattle.protocol_model.specs.Letter.{Letter}
@@ -7,10 +7,11 @@ use Rattle.protocol_model.specs.Links.{is_nil}
 use Rattle.protocol_model.specs.Node.{holds_global}
 use Rattle.protocol_model.specs.Event.{Call, Event, EmptyLink, HoldsLock}
 use Rattle.protocol_model.specs.World.{Opening, in_world, World, left, WorldEvent, At, Deliver, place, refusal, heard, turn_of, apply, opened, closed}
+use Rattle.protocol_model.specs.Fit.{is_delivery}
 use Rattle.moves.proofs.Rules
 use Rattle.moves.proofs.Rules.{Rule, Ordered, Walked, is_quiet}
-use Rattle.walk.proofs.ChainKinds.{Kind, Aside, Again, Hearing, suits}
-use Rattle.walk.proofs.Chains.{Chain}
+use Rattle.walk.proofs.ChainKinds.{Kind, Aside, Again, Hearing, suits, may_go_on, is_allowed}
+use Rattle.walk.proofs.Chains.{Chain, LeaveLocks}
 use Rattle.walk.proofs.Receiving.{WelcomeWidens, receive-chain}
 use Rattle.walk.proofs.Events.{no_cause, Accepted, accepted_of, IsSecond, CallWalk, call-chain, exit-chain, retry-chain}
 
@@ -31,18 +32,20 @@ InOrder o w (At a Event.Retry) rs = list_all (suits (Again (w.node a))) rs ≡ t
 InOrder o w (At a e) rs = list_all (suits Aside) rs ≡ true
 InOrder o w (Deliver f t) rs = list_all (suits Hearing) rs ≡ true
 
--- A walk in order
+-- A walk in order: the lock table is changed by its first rule or not at all, and nothing is settled without a letter
 pub record OrderedWalk (o : Opening) (w : World) (e : WorldEvent) : Type 0 where
   pub walk : Walked o w e
   pub in_order : InOrder o w e walk.rest
+  pub locks : LeaveLocks (Rules.first_by o (place e) w e ++ walk.rest)
+  pub allowed : list_all (is_allowed (is_delivery e)) walk.rest ≡ true
 
 -- an event whose turn is reached by a chain is walked, unless it closes a node out
 walked_by : (o : Opening) (w : World) (e : WorldEvent) (k : Kind)
     → closed e (apply (place e) (turn_of o w e) (opened e w)) ≡ apply (place e) (turn_of o w e) (opened e w)
     → (h : Chain o (place e) k w (Rules.first_by o (place e) w e) (opened e w) (turn_of o w e))
-    → (list_all (suits k) h.rest ≡ true → InOrder o w e h.rest)
+    → (list_all (suits k) h.rest ≡ true → InOrder o w e h.rest) → may_go_on k ≡ is_delivery e
     → OrderedWalk o w e
-walked_by o w e k same h order = record {
+walked_by o w e k same h order by = record {
   walk = record {
     rest = h.rest;
     quiet = h.quiet;
@@ -52,6 +55,8 @@ walked_by o w e k same h order = record {
     answers = h.answers;
   };
   in_order = order h.fit;
+  locks = h.locks;
+  allowed = subst (λ (t : Bool). list_all (is_allowed t) h.rest ≡ true) by h.allowed;
 }
 
 -- a call
@@ -67,10 +72,15 @@ walked_call o a inside w running (Call.SetLock p r q target retries) h = record 
     answers = h.chain.answers;
   };
   in_order = (h.second, (h.chain.rest, (refl, h.is_second, h.chain.fit)));
+  locks = h.chain.locks;
+  allowed = ap (λ t. t && list_all (is_allowed false) h.chain.rest) (allowed_second h.is_second) ∙ h.chain.allowed;
 }
   where
     quiet_second : IsSecond o a w (Call.SetLock p r q target retries) h.second → is_quiet h.second ≡ true
     quiet_second s = elim s [ inl e ↦ ap is_quiet e | inr e ↦ ap is_quiet e ]
+
+    allowed_second : IsSecond o a w (Call.SetLock p r q target retries) h.second → is_allowed false h.second ≡ true
+    allowed_second s = elim s [ inl e ↦ ap (is_allowed false) e | inr e ↦ ap (is_allowed false) e ]
 walked_call o a inside w running (Call.DelLock p r q target) h = record {
   walk = record {
     rest = h.second ∷ h.chain.rest;
@@ -81,18 +91,23 @@ walked_call o a inside w running (Call.DelLock p r q target) h = record {
     answers = h.chain.answers;
   };
   in_order = (h.second, (h.chain.rest, (refl, h.is_second, h.chain.fit)));
+  locks = h.chain.locks;
+  allowed = ap (λ t. t && list_all (is_allowed false) h.chain.rest) (allowed_second h.is_second) ∙ h.chain.allowed;
 }
   where
     quiet_second : IsSecond o a w (Call.DelLock p r q target) h.second → is_quiet h.second ≡ true
     quiet_second s = elim s [ inl e ↦ ap is_quiet e | inr e ↦ ap is_quiet e ]
+
+    allowed_second : IsSecond o a w (Call.DelLock p r q target) h.second → is_allowed false h.second ≡ true
+    allowed_second s = elim s [ inl e ↦ ap (is_allowed false) e | inr e ↦ ap (is_allowed false) e ]
 walked_call o a inside w running Call.Spawn h = walked_by o w (At a (Event.Calling Call.Spawn)) Aside refl h.chain
-    (λ e. e)
+    (λ e. e) refl
 walked_call o a inside w running (Call.LookUp look) h = walked_by o w
-    (At a (Event.Calling (Call.LookUp look))) Aside refl h.chain (λ e. e)
+    (At a (Event.Calling (Call.LookUp look))) Aside refl h.chain (λ e. e) refl
 walked_call o a inside w running (Call.OnName c) h = walked_by o w
-    (At a (Event.Calling (Call.OnName c))) Aside refl h.chain (λ e. e)
+    (At a (Event.Calling (Call.OnName c))) Aside refl h.chain (λ e. e) refl
 walked_call o a inside w running (Call.JoinBy m) h = walked_by o w
-    (At a (Event.Calling (Call.JoinBy m))) Aside refl h.chain (λ e. e)
+    (At a (Event.Calling (Call.JoinBy m))) Aside refl h.chain (λ e. e) refl
 
 -- a leave is one rule
 walked_leave : (o : Opening) (a : ℕ) (w : World) → Accepted o w (At a Event.Leave) → OrderedWalk o w (At a Event.Leave)
@@ -114,12 +129,14 @@ walked_leave o a w h = record {
     answers = refl;
   };
   in_order = refl;
+  locks = refl;
+  allowed = refl;
 }
 
 -- a delivery is the chain of its letter
 walked_delivery : (o : Opening) (f t : ℕ) (w : World) → Ordered w → WelcomeWidens o w → Accepted o w (Deliver f t)
     → OrderedWalk o w (Deliver f t)
-walked_delivery o f t w sorted wide h = walked_by o w (Deliver f t) Hearing refl (go (w.links.queue f t) refl) (λ e. e)
+walked_delivery o f t w sorted wide h = walked_by o w (Deliver f t) Hearing refl (go (w.links.queue f t) refl) (λ e. e) refl
   where
     go : (ls : List Letter) → w.links.queue f t ≡ ls
         → Chain o t Hearing w (Rules.first_by_letter o t f (w.links.queue f t)) (opened (Deliver f t) w)
@@ -144,9 +161,9 @@ walked_in_order o w e sorted wide h = go e (accepted_of o w e h)
         k.other_inside)
     go (At a Event.Retry) k =
         walked_by o w (At a Event.Retry) (Again (w.node a)) refl (retry-chain o a k.place_inside w k.running
-        (sorted a)) (λ i. i)
+        (sorted a)) (λ i. i) refl
     go (At a (Event.Exiting p)) k =
-        walked_by o w (At a (Event.Exiting p)) Aside refl (exit-chain o a k.place_inside w k.running p k.local) (λ i. i)
+        walked_by o w (At a (Event.Exiting p)) Aside refl (exit-chain o a k.place_inside w k.running p k.local) (λ i. i) refl
     go (At a Event.Leave) k = walked_leave o a w k
     go (Deliver f t) k = walked_delivery o f t w sorted wide k
 
