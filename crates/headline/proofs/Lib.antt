@@ -11,3 +11,4 @@ pub mod Entries
 pub mod Fixed
 pub mod Clients
 pub mod Found
+pub mod Making
