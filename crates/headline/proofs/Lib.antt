@@ -12,3 +12,4 @@ pub mod Fixed
 pub mod Clients
 pub mod Found
 pub mod Making
+pub mod Deciders

@@ -6,8 +6,10 @@ use Rattle.std.specs.List.{list_all}
 use Rattle.std.proofs.lemmas.Bool.{eq-eqb, eqb-true, and_parts, and_from}
 use Rattle.std.proofs.lemmas.List.Elements.{Contains-push_cases}
 use Rattle.std.proofs.lemmas.List.Folds.{list_all-append}
+use Rattle.registry_model.specs.Process.{Process}
 use Rattle.registry_model.specs.History.{Entry}
 use Rattle.registry_model.proofs.Lists.{Contains-cases, Contains-nil}
+use Rattle.protocol_model.specs.Round.{Round}
 use Rattle.protocol_model.specs.Letter.{Letter}
 use Rattle.protocol_model.specs.Node.{Current}
 use Rattle.protocol_model.specs.Event.{Call, Event}
@@ -44,6 +46,13 @@ made_by_letter : (a b : ℕ) (delivered : Bool) → b ≡ a → delivered ≡ tr
 made_by_letter a b delivered e d = ap (λ (t : Bool). t && delivered && true) (eq-eqb b a e)
     ∙ ap (λ (t : Bool). t && true) d
 
+-- a node strikes processes of its own
+pub strikes_own : (o : Opening) (a : ℕ) (w : World) (p : Process) (r : Round) → Whole o w
+    → Rules.May o a w (Rules.Strikes p r) → p.node ≡ a
+strikes_own o a w p r W m = (subst
+    (λ (x : Current). AreStruck o (scene_of o w) a (struck_by x ++ struck_of (w.node a).queue))
+    m.tested.current (W.kept.known.kept.struck a)).0.0
+
 module _ (o : Opening) (a : ℕ) (delivered : Bool) where
   -- the entries of a rule are so
   rule_made : (w : World) (r : Rule) → Whole o w → Rules.May o a w r → is_allowed delivered r ≡ true
@@ -57,9 +66,7 @@ module _ (o : Opening) (a : ℕ) (delivered : Bool) where
   rule_made w (Rules.SkipsJoin k c ops) W m d = made_freely a a refl
   rule_made w (Rules.Grants k call r) W m d = made_by_letter a a delivered refl d
   rule_made w (Rules.Denies k call r) W m d = made_by_letter a a delivered refl d
-  rule_made w (Rules.Strikes p r) W m d = made_by_letter a p.node delivered
-      (subst (λ (x : Current). AreStruck o (scene_of o w) a (struck_by x ++ struck_of (w.node a).queue))
-      m.tested.current (W.kept.known.kept.struck a)).0.0 d
+  rule_made w (Rules.Strikes p r) W m d = made_by_letter a p.node delivered (strikes_own o a w p r W m) d
   rule_made w (Rules.Admits j pairs r) W m d = made_by_letter a a delivered refl d
   rule_made w (Rules.Finishes op asked awaited reply) W m d = made_by_letter a a delivered refl d
   rule_made w (Rules.RefusesJoin f pairs) W m d = made_by_letter a a delivered refl d

@@ -23,6 +23,20 @@ own_mark : (h : ℕ) (c : Current) → is_writing c ≡ true → asks_itself h c
 own_mark h (Current.Writing op asked awaited reply) e k = ap (λ (b : Bool). if b then Mark.Granted else Mark.Out) k
 own_mark h _ e k = cc
 
+-- a member that runs has granted the lock once to a node whose round is held
+pub held_share : (o : Opening) (w : World) → Proper o w → Locks o w → (a h : ℕ) (op : Op) (r : Round) → IsUp o w a
+    → IsUp o w h → IsHeld o.bound (w.node a) op r → (replica o w a).members h ≡ true
+    → share a (globals (w.node h).locks) ≡ once
+held_share o w I L a h op r ua uh H member = P.1.share ∙ granted_share P.0
+    (subst (λ (b : Bool). fits P.0 (if b then Mark.Granted else Mark.Out) ≡ true) is_asked
+    (asked_granted o a w I L ua op r H h uh P.0 P.1.mark))
+  where
+    P : (s : Stage) × Session w a h s
+    P = L.pairs a h ua uh
+
+    is_asked : asked r h ≡ true
+    is_asked = (held_round o a w I L ua op r H).grown h (ltb-true h o.bound (below o a w I L ua h uh)) member
+
 -- a round that is held meets no member that writes
 pub exclusive : (o : Opening) (w : World) → Proper o w → Locks o w → Exclusive o w
 exclusive o w I L = record { alone = apart }
@@ -32,23 +46,13 @@ exclusive o w I L = record { alone = apart }
     apart a h op r ua uh H writes member = not_both (is_writing (w.node h).current) writes
         (subst (λ (y : ℕ). is_writing (w.node y).current ≡ false) same (ap is_writing H.current))
       where
-        P : (s : Stage) × Session w a h s
-        P = L.pairs a h ua uh
-
         Q : (s : Stage) × Session w h h s
         Q = L.pairs h h uh uh
-
-        is_asked : asked r h ≡ true
-        is_asked = (held_round o a w I L ua op r H).grown h (ltb-true h o.bound (below o a w I L ua h uh)) member
-
-        theirs : share a (globals (w.node h).locks) ≡ once
-        theirs = P.1.share ∙ granted_share P.0
-            (subst (λ (b : Bool). fits P.0 (if b then Mark.Granted else Mark.Out) ≡ true) is_asked
-            (asked_granted o a w I L ua op r H h uh P.0 P.1.mark))
 
         its_own : share h (globals (w.node h).locks) ≡ once
         its_own = Q.1.share ∙ granted_share Q.0
             (subst (λ (m : Mark). fits Q.0 m ≡ true) (own_mark h (w.node h).current writes (L.writers h uh)) Q.1.mark)
 
         same : a ≡ h
-        same = one_share (L.rows h uh).0 (w.node h).locks (L.rows h uh).1 a h 1 1 theirs its_own
+        same = one_share (L.rows h uh).0 (w.node h).locks (L.rows h uh).1 a h 1 1
+            (held_share o w I L a h op r ua uh H member) its_own

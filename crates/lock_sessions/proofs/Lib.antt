@@ -8,3 +8,4 @@ pub mod LockTurns
 pub mod JudgeTurns
 pub mod LockRules
 pub mod Exclusion
+pub mod Given
