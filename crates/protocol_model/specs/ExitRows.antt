@@ -3,7 +3,7 @@ use Rattle.std.specs.Prelude.{[], ◌∷◌}
 use Rattle.registry_model.specs.Call.{Yes, Ok, True, Pid, Undefined, Names}
 use Rattle.protocol_model.specs.Event.{Refusal}
 use Rattle.protocol_model.specs.Script.{Row, Settle, TableAt, Okay, Error, Settled, TableIs}
-use Rattle.protocol_model.specs.RowWords.{row, world_of, a, b, q, r, x, y, z, pid, spawn, register, re_register, unregister, whereis, names, set_lock, retry, exit, said, shown, given, owned}
+use Rattle.protocol_model.specs.RowWords.{row, world_of, a, b, d, q, r, x, y, z, pid, spawn, register, re_register, unregister, whereis, names, set_lock, retry, exit, said, shown, given, owned}
 
 -- a process has a second name by `re_register`, and both are struck when it dies
 abbrev pub second_name_and_both_struck : Row
@@ -41,3 +41,10 @@ abbrev pub dead_caller_is_not_answered : Row
 dead_caller_is_not_answered = row (world_of 1 (a ∷ []) [])
     (spawn a ∷ spawn a ∷ set_lock (pid a 1) r q 0 ∷ exit (pid a 1) ∷ Settle ∷ set_lock (pid a 2) r z 0 ∷ Settle ∷ [])
     (given (pid a 1) ∷ given (pid a 2) ∷ Okay ∷ Settled ∷ said a 2 True ∷ Settled ∷ [])
+
+-- a lone node, too, strikes its dead owner at the end of a round, and the name stands until then
+abbrev pub lone_node_strikes_in_a_round : Row
+lone_node_strikes_in_a_round = row (world_of 4 [] (d ∷ []))
+    (spawn d ∷ register d x (pid d 1) ∷ Settle ∷ TableAt d ∷ exit (pid d 1) ∷ TableAt d ∷ Settle ∷ TableAt d ∷ [])
+    (given (pid d 1) ∷ said d 1 Yes ∷ Settled ∷ TableIs (owned x (pid d 1) []) ∷ Okay
+    ∷ TableIs (owned x (pid d 1) []) ∷ Settled ∷ TableIs [] ∷ [])

@@ -1,8 +1,8 @@
 -- Rows about names.
 use Rattle.std.specs.Prelude.{[], ◌∷◌}
 use Rattle.registry_model.specs.Call.{Yes, No, Ok, UnknownNode, Pid, Undefined, Names}
-use Rattle.protocol_model.specs.Script.{Row, Settle, Settled}
-use Rattle.protocol_model.specs.RowWords.{row, world_of, a, b, c, d, stranger, w, x, y, zz, pid, spawn, register, re_register, unregister, whereis, names, said, shown, given}
+use Rattle.protocol_model.specs.Script.{Row, Settle, TableAt, Settled, TableIs}
+use Rattle.protocol_model.specs.RowWords.{row, world_of, a, b, c, d, stranger, w, x, y, z, zz, pid, spawn, register, re_register, unregister, whereis, names, said, shown, given, owned}
 
 -- a name that was registered is found
 abbrev pub registered_name_is_found : Row
@@ -61,3 +61,11 @@ abbrev pub name_moves_to_members_alone : Row
 name_moves_to_members_alone = row (world_of 4 (a ∷ []) (d ∷ []))
     (spawn d ∷ re_register a x (pid d 1) ∷ Settle ∷ names a ∷ [])
     (given (pid d 1) ∷ said a 1 UnknownNode ∷ Settled ∷ shown a (Names []) ∷ [])
+
+-- a lone node, too, refuses a name call at the end of a round, and nothing changes
+abbrev pub lone_node_refuses_in_a_round : Row
+lone_node_refuses_in_a_round = row (world_of 4 [] (d ∷ []))
+    (spawn d ∷ register d x (pid d 1) ∷ Settle ∷ register d y (pid d 1) ∷ TableAt d ∷ register d z (pid stranger 1)
+    ∷ TableAt d ∷ Settle ∷ TableAt d ∷ [])
+    (given (pid d 1) ∷ said d 1 Yes ∷ Settled ∷ TableIs (owned x (pid d 1) []) ∷ TableIs (owned x (pid d 1) [])
+    ∷ said d 2 No ∷ said d 3 UnknownNode ∷ Settled ∷ TableIs (owned x (pid d 1) []) ∷ [])

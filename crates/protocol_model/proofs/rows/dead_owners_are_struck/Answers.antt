@@ -15,3 +15,6 @@ returns-clause-strike_comes_before_waiting_calls start = record { prints = refl;
 
 pub returns-clause-dead_caller_is_not_answered : goal.returns-clause-dead_caller_is_not_answered
 returns-clause-dead_caller_is_not_answered start = record { prints = refl; keeps = refl }
+
+pub returns-clause-lone_node_strikes_in_a_round : goal.returns-clause-lone_node_strikes_in_a_round
+returns-clause-lone_node_strikes_in_a_round start = record { prints = refl; keeps = refl }

@@ -27,3 +27,6 @@ returns-clause-name_moves_and_goes start = record { prints = refl; keeps = refl 
 
 pub returns-clause-name_moves_to_members_alone : goal.returns-clause-name_moves_to_members_alone
 returns-clause-name_moves_to_members_alone start = record { prints = refl; keeps = refl }
+
+pub returns-clause-lone_node_refuses_in_a_round : goal.returns-clause-lone_node_refuses_in_a_round
+returns-clause-lone_node_refuses_in_a_round start = record { prints = refl; keeps = refl }
