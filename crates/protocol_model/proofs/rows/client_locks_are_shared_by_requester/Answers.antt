@@ -21,3 +21,9 @@ returns-clause-set_twice_deleted_twice start = record { prints = refl; keeps = r
 
 pub returns-clause-refused_lock_call_gives_all_back : goal.returns-clause-refused_lock_call_gives_all_back
 returns-clause-refused_lock_call_gives_all_back start = record { prints = refl; keeps = refl }
+
+pub returns-clause-two_requesters_at_once : goal.returns-clause-two_requesters_at_once
+returns-clause-two_requesters_at_once start = record { prints = refl; keeps = refl }
+
+pub returns-clause-all_members_are_asked : goal.returns-clause-all_members_are_asked
+returns-clause-all_members_are_asked start = record { prints = refl; keeps = refl }
