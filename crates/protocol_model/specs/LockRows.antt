@@ -1,9 +1,9 @@
 -- Rows about clients' locks.
 use Rattle.std.specs.Prelude.{[], ◌∷◌}
-use Rattle.registry_model.specs.Call.{True, False}
+use Rattle.registry_model.specs.Call.{True, False, Joined}
 use Rattle.protocol_model.specs.Event.{Refusal, Busy, global_resource}
 use Rattle.protocol_model.specs.Script.{Row, Settle, Okay, Error, Settled}
-use Rattle.protocol_model.specs.RowWords.{row, world_of, a, b, stranger, nosuch, p, q, r, z, pid, spawn, set_lock, set_lock_at, set_lock_endless, del_lock, del_lock_at, retry, exit, said, given}
+use Rattle.protocol_model.specs.RowWords.{row, world_of, a, b, c, stranger, nosuch, p, q, r, z, pid, spawn, set_lock, set_lock_at, set_lock_endless, del_lock, del_lock_at, join, retry, exit, said, given}
 
 -- processes that use one requester share a lock, and another requester waits for all of them
 abbrev pub holders_are_counted : Row
@@ -77,3 +77,11 @@ abbrev pub all_members_are_asked : Row
 all_members_are_asked = row (world_of 2 (a ∷ b ∷ []) [])
     (spawn a ∷ spawn a ∷ set_lock (pid a 1) r q 0 ∷ set_lock_at (pid a 2) r z (b ∷ []) 0 ∷ Settle ∷ [])
     (given (pid a 1) ∷ given (pid a 2) ∷ said a 1 True ∷ said a 2 False ∷ Settled ∷ [])
+
+-- a retry asks the members of now: also a node that has joined since the call was refused
+abbrev pub retry_asks_the_members_of_now : Row
+retry_asks_the_members_of_now = row (world_of 3 (a ∷ b ∷ []) (c ∷ []))
+    (spawn a ∷ spawn b ∷ set_lock (pid a 1) r q 0 ∷ Settle ∷ set_lock (pid b 1) r z 1 ∷ Settle ∷ join c a ∷ Settle
+    ∷ del_lock (pid a 1) r q ∷ Settle ∷ retry b ∷ Settle ∷ [])
+    (given (pid a 1) ∷ given (pid b 1) ∷ said a 1 True ∷ Settled ∷ Settled ∷ said c 1 Joined ∷ Settled
+    ∷ said a 2 True ∷ Settled ∷ said b 1 True ∷ Settled ∷ [])

@@ -27,3 +27,6 @@ returns-clause-two_requesters_at_once start = record { prints = refl; keeps = re
 
 pub returns-clause-all_members_are_asked : goal.returns-clause-all_members_are_asked
 returns-clause-all_members_are_asked start = record { prints = refl; keeps = refl }
+
+pub returns-clause-retry_asks_the_members_of_now : goal.returns-clause-retry_asks_the_members_of_now
+returns-clause-retry_asks_the_members_of_now start = record { prints = refl; keeps = refl }
