@@ -24,7 +24,7 @@ use Rattle.client_locks.proofs.Steps.{is_step, nums_same, calls_aside, calls_fro
 use Rattle.client_locks.proofs.Ongoing.{GoesOnFrom, Step, tries, rests, stepped}
 use Rattle.client_locks.proofs.Chains.{OrderedKept, aside_or_step, aside_gives_none, aside_counts_none, won_later, won_untried, rest_tries, up_before, Distinct, distinct_from, from_heard}
 
-and_false : (b : Bool) → (b && false) ≡ false
+pub and_false : (b : Bool) → (b && false) ≡ false
 and_false true = refl
 and_false false = refl
 

@@ -45,6 +45,7 @@ module _ (n a : ℕ) where
       go false e = refl
   start_queue_calls (op ∷ ops) u = refl
 
+  -- and so does the end of a step
   start_calls : (u : Turn) → (start n a u).node.calls ≡ u.node.calls
   start_calls u = go u.node.current (owed a u.node.replica.table u.node.watch)
     where

@@ -29,7 +29,8 @@ module _ (o : Opening) (F : World → Type 0) (G : Grounds o F) where
       (fit : Fits w p t) → refusal o w e ≡ None
       → Tried o (ordered_keeps o) w num S.ordered S.replying S.numbered p t fit e (answers o w e) (accepted o w e)
   accepted_tried w e num S p t fit h = subst
-      (λ (ss : List Answer). Tried o (ordered_keeps o) w num S.ordered S.replying S.numbered p t fit e ss (accepted o w e))
+      (λ (ss : List Answer). Tried o (ordered_keeps o) w num S.ordered S.replying S.numbered p t fit e ss
+      (accepted o w e))
       (sym answered)
       (tried o (ordered_keeps o) w num S.ordered S.replying S.numbered p t fit e walked.walk.rest walked.walk.may
       walked.in_order walked.walk.world)

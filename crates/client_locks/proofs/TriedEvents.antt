@@ -31,6 +31,7 @@ use Rattle.client_locks.proofs.Answering.{is_true, any_true}
 use Rattle.client_locks.proofs.Steps.{call_after}
 use Rattle.client_locks.proofs.Ongoing.{is_deleting}
 use Rattle.client_locks.proofs.Chains.{is_calm, aside_calm, OrderedKept, calm_answers}
+use Rattle.client_locks.proofs.HeardChains.{and_false}
 use Rattle.client_locks.proofs.Numbering.{aside_hears, Numbered, last_effect, last_chain, beginner_home}
 use Rattle.client_locks.proofs.Told.{all_of_all, retry_calm, chain_of, first_heard}
 use Rattle.client_locks.proofs.Retried.{IsTriedAgain, retry_calls}
@@ -59,10 +60,6 @@ both_lost : (p : Process) (id : Id) (x : ℕ) (ss : List Answer) (t : Option Try
 both_lost p id x ss t None new old = lost_without p id x ss t new
 both_lost p id x ss t (Some c) new old = lost_without p id x ss t new
     ∙ sym (ap (λ (b : Bool). is_tried id x c && b) (old c refl) ∙ and_false (is_tried id x c))
-  where
-    and_false : (b : Bool) → (b && false) ≡ false
-    and_false true = refl
-    and_false false = refl
 
 module _ (o : Opening) (kept : OrderedKept o) (w : World) (num : Numbers) (order : Ordered w) (R : Replying w)
     (N : Numbered o w) (p : Process) (t : Option Try) (F : Fits w p t) where
@@ -115,6 +112,7 @@ module _ (o : Opening) (kept : OrderedKept o) (w : World) (num : Numbers) (order
     abbrev w2 : World
     w2 = effect o a r w1
 
+    -- the calls, by those before the event
     all_calls : (k : Process) → call_at w2 k ≡ (if is_process q k then next else call_at w k)
     all_calls k = calls k ∙ ap (λ (c : Option LockCall). if is_process q k then next else c)
         (part_same (λ v. call_of k v.calls) w a (turn_by o a w CallsLock) refl k.node)
@@ -176,6 +174,7 @@ module _ (o : Opening) (kept : OrderedKept o) (w : World) (num : Numbers) (order
         go true e = begins e
         go false e = beside e
 
+    -- its round begins
     asked_tried : (rest : List Rule) → MayAll o a (CallsLock ∷ AsksLock new_try ∷ rest) w
         → list_all (suits Aside) rest ≡ true → TriedBy attempt (AsksLock new_try ∷ rest)
     asked_tried rest m h = record {
@@ -218,6 +217,7 @@ module _ (o : Opening) (kept : OrderedKept o) (w : World) (num : Numbers) (order
             subst (λ (c : LockCall). (is_deleting c.phase ≡ false) × IsTryOf trying c) same
             (refl, record { number = refl; id = refl; target = refl; asks = inr asks })
 
+    -- there is nobody to ask
     failed_tried : (rest : List Rule) → MayAll o a (CallsLock ∷ FailsLock new_try ∷ rest) w
         → list_all (suits Aside) rest ≡ true → TriedBy attempt (FailsLock new_try ∷ rest)
     failed_tried rest m h = record {
@@ -246,6 +246,7 @@ module _ (o : Opening) (kept : OrderedKept o) (w : World) (num : Numbers) (order
     abbrev fresh : LockCall
     fresh = new_call o.bound a ((w.node a).last_call + 1) q r z target (Times 0)
 
+    -- it goes to some node
     deleted_tried : (rest : List Rule) → MayAll o a (CallsLock ∷ DeletesLock fresh ∷ rest) w
         → list_all (suits Aside) rest ≡ true → TriedBy deletion (DeletesLock fresh ∷ rest)
     deleted_tried rest m h = record {
@@ -280,6 +281,7 @@ module _ (o : Opening) (kept : OrderedKept o) (w : World) (num : Numbers) (order
         first : LockCall
         first = in_phase (LockPhase.Deleting (targets (before.node a).replica.members target)) fresh
 
+    -- it goes nowhere, and is answered `true` under its own number
     deleted_nothing_tried : (rest : List Rule) → MayAll o a (CallsLock ∷ DeletesNothing fresh ∷ rest) w
         → list_all (suits Aside) rest ≡ true → TriedBy deletion (DeletesNothing fresh ∷ rest)
     deleted_nothing_tried rest m h = record {
@@ -336,6 +338,7 @@ module _ (o : Opening) (kept : OrderedKept o) (w : World) (num : Numbers) (order
     Was x q d = (call_of q (w.node x).calls ≡ Some d)
         ⊎ ((c : LockCall) × ((call_of q (w.node x).calls ≡ Some c) × (IsTriedAgain o.bound members c d × (x ≡ a))))
 
+    -- so it is of each open call
     was_open : (q : Process) (d : LockCall) → call_at (accepted o w again) q ≡ Some d → Was q.node q d
     was_open q d = by_test a (λ x b. call_of q (if b then (turn_of o w again).node else w.node x).calls ≡ Some d
         → Was x q d)
@@ -401,7 +404,8 @@ module _ (o : Opening) (kept : OrderedKept o) (w : World) (num : Numbers) (order
         go (inr f) true j =
             let c : LockCall = f.0 in
             let k : IsTriedAgain o.bound members c d = f.1.1.0 in
-            let known : (s : Try) × ((t ≡ Some s) × IsTryOf s c) = F.own c f.1.0 (waiting_not_deleting c.phase k.refused) in
+            let known : (s : Try) × ((t ≡ Some s) × IsTryOf s c) = F.own c f.1.0
+            (waiting_not_deleting c.phase k.refused) in
             let s : Try = known.0 in (
               try_of members s.number s.id s.target,
               (
@@ -423,6 +427,7 @@ module _ (o : Opening) (kept : OrderedKept o) (w : World) (num : Numbers) (order
                 ∙ ap (λ (i : Id). is_id i id && targets members c.target x) (k.id ∙ sym T.id)
                 ∙ ap (λ (y : Target). is_id s.id id && targets members y x) (sym T.target)
 
+    -- so the last try still fits, and nothing is won
     retry_tried : (rest : List Rule) → MayAll o a rest w → list_all (suits (Again (w.node a))) rest ≡ true
         → ((n : ℕ) → (w.node n).last_call ≤ ((accepted o w again).node n).last_call)
         → Tried again (answers_by o a rest w) (accepted o w again)

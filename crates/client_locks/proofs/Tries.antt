@@ -26,7 +26,7 @@ use Rattle.client_locks.proofs.Answering.{is_true, any_true, not_true_answers}
 use Rattle.client_locks.proofs.Steps.{is_step, calls_from}
 use Rattle.client_locks.proofs.Ongoing.{is_deleting, GoesOnFrom, Step, tries, rests, stepped}
 use Rattle.client_locks.proofs.Chains.{OrderedKept, aside_or_step, aside_gives_none, won_untried, rest_tries}
-use Rattle.client_locks.proofs.HeardChains.{Waits, answered_none}
+use Rattle.client_locks.proofs.HeardChains.{and_false, Waits, answered_none}
 use Rattle.client_locks.proofs.Numbering.{Numbered, last_effect}
 
 -- the try is that of this call, which asks the nodes of the try, or did so before it was refused
@@ -46,10 +46,6 @@ pub record Fits (w : World) (p : Process) (t : Option Try) : Type 0 where
       → c.number ≡ s.number → (q ≡ p) × (is_deleting c.phase ≡ false)
   pub below : (s : Try) → t ≡ Some s → s.number ≤ (w.node p.node).last_call
 
-and_false : (b : Bool) → (b && false) ≡ false
-and_false true = refl
-and_false false = refl
-
 -- nothing is won by a try that isn't answered `true`
 pub lost_without : (p : Process) (id : Id) (x : ℕ) (ss : List Answer) (t : Option Try)
     → ((s : Try) → t ≡ Some s → any_true p.node s.number ss ≡ false) → is_won p id x ss t ≡ false
@@ -57,10 +53,11 @@ lost_without p id x ss None none = refl
 lost_without p id x ss (Some s) none = ap (λ (b : Bool). (is_id s.id id && s.asks x) && b) (none s refl)
     ∙ and_false (is_id s.id id && s.asks x)
 
--- a call that waits is tried nowhere, and neither is a deletion
+-- a call that waits is tried nowhere
 untried_waiting : (c : LockCall) → is_waiting_call c.phase ≡ true → (id : Id) (x : ℕ) → is_tried id x c ≡ false
 untried_waiting c h id x = rest_tries id x (Some c) h
 
+-- and neither is a deletion
 untried_deleting : (c : LockCall) → is_deleting c.phase ≡ true → (id : Id) (x : ℕ) → is_tried id x c ≡ false
 untried_deleting c h id x = go c.phase h (is_id c.id id)
   where

@@ -1,4 +1,5 @@
--- Events are walked, so at a running node no resource is held under two requesters, after every list of events.
+-- Events are walked, so at a running node no resource is held under two requesters, after every list of events: by the
+-- numbers that the rounds of open calls give.
 use Rattle.std.proofs.Common.{ℕ, Bool, true, false, ◌==◌, ◌≡◌, ◌<◌, ◌+◌, Option, Some, None, List, [], ◌∷◌, refl, sym, ap, ◌∙◌, subst, arith}
 use Rattle.std.specs.Prelude.{not, ◌&&◌, ◌||◌, is_none, if◌then◌else◌}
 use Rattle.registry_model.specs.Process.{Process}
@@ -185,7 +186,8 @@ module _ (o : Opening) (F : World → Type 0) (G : Grounds o F) where
           omega (arith, most, settled_le i (asks p (w.links.queue p.node c)) (count i p (w.node c).locks), h)
 
   pub excluded : (es : List WorldEvent) (c : ℕ) → in_world o c ≡ true → left (run o (opening_world o) es) c ≡ false →
-      (p q : Process) (i j : Id) → 0 < number o es p i c → 0 < number o es q j c → is_resource i j ≡ true → is_id i j ≡ true
+      (p q : Process) (i j : Id) → 0 < number o es p i c → 0 < number o es q j c → is_resource i j ≡ true
+      → is_id i j ≡ true
   excluded es c inside up p q i j hp hq r =
       let S : State (run o (opening_world o) es) (λ k id x. number o es k id x) = run_state
       (opening_world o) es no_numbers opening_state in
