@@ -1,7 +1,7 @@
 -- Who decides an operation has the global lock: every running node of its group has given it to that node, and to no
 -- other, as long as the step goes on.
-use Rattle.std.proofs.Common.{ℕ, Bool, true, false, ◌==◌, ◌≡◌, Option, Some, None, List, [], ◌∷◌, ◌++◌, refl, sym, ap, ◌∙◌, subst}
-use Rattle.std.specs.Prelude.{fold, ◌&&◌, if◌then◌else◌}
+use Rattle.std.proofs.Common.{ℕ, Bool, true, false, ◌≡◌, Option, Some, None, List, [], ◌∷◌, ◌++◌, refl, sym, ap, ◌∙◌, subst}
+use Rattle.std.specs.Prelude.{fold, if◌then◌else◌}
 use Rattle.std.specs.List.{list_all}
 use Rattle.std.proofs.lemmas.Bool.{and_parts}
 use Rattle.std.proofs.lemmas.List.{append-nil, append_assoc}
@@ -18,7 +18,7 @@ use Rattle.protocol_model.specs.Turn.{Turn, begun, enter}
 use Rattle.protocol_model.specs.Registrar.{answer_op}
 use Rattle.protocol_model.specs.World.{Opening, in_cluster, World, WorldEvent, place, join_number, opening_world, refusal, turn_of, accepted, run}
 use Rattle.protocol_model.specs.Course.{Played, Seen, played, entries_of, course, global_given, seen}
-use Rattle.protocol_model.specs.Headline.{standing, IsRunning, HasTheLock, DecidedUnderLock}
+use Rattle.protocol_model.specs.Headline.{standing, HasTheLock, DecidedUnderLock}
 use Rattle.moves.proofs.Indices.{by_test}
 use Rattle.moves.proofs.Rules
 use Rattle.moves.proofs.Rules.{Rule, Walked, IsHeld}
@@ -118,18 +118,26 @@ module _ (o : Opening) where
     entered_under w (Rules.LooksUp look) W m = (λ b d. cc, tt)
     entered_under w (Rules.Exits p) W m = (λ b d. cc, tt)
     entered_under w (Rules.SkipsJoin k c ops) W m = (λ b d. cc, tt)
-    entered_under w (Rules.Grants k call r) W m =
-        (λ b d. decides (standing_at o w) (seen o w) b d
-        (held_lock w (Op.Name k call) r W (m.inside, m.running) m.tested.0), tt)
-    entered_under w (Rules.Denies k call r) W m =
-        (λ b d. decides (standing_at o w) (seen o w) b d
-        (held_lock w (Op.Name k call) r W (m.inside, m.running) m.tested.0), tt)
-    entered_under w (Rules.Strikes p r) W m =
-        (λ b d. decides (standing_at o w) (seen o w) b (ap Some (sym (strikes_own o a w p r W m)) ∙ d)
-        (held_lock w (Op.Strike p) r W (m.inside, m.running) m.tested), tt)
-    entered_under w (Rules.Admits j pairs r) W m =
-        (λ b d. decides (standing_at o w) (seen o w) b d
-        (held_lock w (Op.Admission j pairs) r W (m.inside, m.running) m.tested.0), tt)
+    entered_under w (Rules.Grants k call r) W m = (
+      λ b d. decides (standing_at o w) (seen o w) b d
+          (held_lock w (Op.Name k call) r W (m.inside, m.running) m.tested.0),
+      tt,
+    )
+    entered_under w (Rules.Denies k call r) W m = (
+      λ b d. decides (standing_at o w) (seen o w) b d
+          (held_lock w (Op.Name k call) r W (m.inside, m.running) m.tested.0),
+      tt,
+    )
+    entered_under w (Rules.Strikes p r) W m = (
+      λ b d. decides (standing_at o w) (seen o w) b (ap Some (sym (strikes_own o a w p r W m)) ∙ d)
+          (held_lock w (Op.Strike p) r W (m.inside, m.running) m.tested),
+      tt,
+    )
+    entered_under w (Rules.Admits j pairs r) W m = (
+      λ b d. decides (standing_at o w) (seen o w) b d
+          (held_lock w (Op.Admission j pairs) r W (m.inside, m.running) m.tested.0),
+      tt,
+    )
     entered_under w (Rules.Finishes op asked awaited reply) W m = (λ b d. cc, tt)
     entered_under w (Rules.RefusesJoin f pairs) W m = (λ b d. cc, tt)
     entered_under w (Rules.IsTold f) W m = (λ b d. cc, tt)

@@ -1,7 +1,6 @@
 -- Each entry is made by the node of its step, and by a letter where it needs one.
-use mathlib.Core.Logic.{◌⊎◌}
-use Rattle.std.proofs.Common.{ℕ, Bool, true, false, ◌==◌, ◌≡◌, None, List, [], ◌∷◌, ◌++◌, refl, sym, ap, ◌∙◌, subst, inl, inr}
-use Rattle.std.specs.Prelude.{not, ◌&&◌, ◌||◌, Contains, if◌then◌else◌}
+use Rattle.std.proofs.Common.{ℕ, Bool, true, ◌==◌, ◌≡◌, None, List, [], ◌∷◌, ◌++◌, refl, sym, ap, ◌∙◌, subst, inl, inr}
+use Rattle.std.specs.Prelude.{not, ◌&&◌, ◌||◌, Contains}
 use Rattle.std.specs.List.{list_all}
 use Rattle.std.proofs.lemmas.Bool.{eq-eqb, eqb-true, and_parts, and_from}
 use Rattle.std.proofs.lemmas.List.Elements.{Contains-push_cases}
@@ -13,7 +12,7 @@ use Rattle.protocol_model.specs.Round.{Round}
 use Rattle.protocol_model.specs.Letter.{Letter}
 use Rattle.protocol_model.specs.Node.{Current}
 use Rattle.protocol_model.specs.Event.{Call, Event}
-use Rattle.protocol_model.specs.World.{Opening, World, WorldEvent, At, Deliver, place, join_number, opening_world, refusal, turn_of, accepted, run}
+use Rattle.protocol_model.specs.World.{Opening, World, WorldEvent, At, Deliver, place, join_number, opening_world, refusal, turn_of, accepted}
 use Rattle.protocol_model.specs.Course.{Played, played, course}
 use Rattle.protocol_model.specs.Fit.{maker_of, is_by_letter, is_delivery, IsMadeIn}
 use Rattle.moves.proofs.Rules

@@ -1,11 +1,10 @@
 -- Whom a lock table shows the global lock given to.
-use Rattle.std.proofs.Common.{ℕ, Bool, true, false, ◌==◌, ◌≡◌, Option, Some, None, [], ◌∷◌, refl, sym, ap, ◌∙◌, inl, inr}
+use Rattle.std.proofs.Common.{ℕ, Bool, true, false, ◌==◌, ◌≡◌, Some, None, [], ◌∷◌, refl, sym, ap, ◌∙◌, inl, inr}
 use Rattle.std.specs.Prelude.{◌||◌, if◌then◌else◌}
-use Rattle.std.specs.List.{list_any}
 use Rattle.std.proofs.lemmas.Bool.{cases_eq, eq-eqb, ne_eqb, eqb-true}
 use Rattle.registry_model.specs.Process.{Process}
 use Rattle.protocol_model.specs.Round.{Round}
-use Rattle.protocol_model.specs.Letter.{Id, Global, Client, is_id}
+use Rattle.protocol_model.specs.Letter.{Id, Global, Client}
 use Rattle.protocol_model.specs.LockTable.{Locks}
 use Rattle.protocol_model.specs.Node.{Op}
 use Rattle.protocol_model.specs.World.{Opening, World}

@@ -73,6 +73,7 @@ may_begin k r = (is_quiet r && is_allowed (may_go_on k) r) && suits k r
 abbrev pub is_fit : Kind → Rule → Bool
 is_fit k r = leaves_locks r && may_begin k r
 
+-- what these tests say: of a rule that begins a chain
 pub begin_quiet : (k : Kind) (r : Rule) → may_begin k r ≡ true → is_quiet r ≡ true
 begin_quiet k r h = (both (is_quiet r) (is_allowed (may_go_on k) r)
     (both (is_quiet r && is_allowed (may_go_on k) r) (suits k r) h).0).0
@@ -84,6 +85,7 @@ begin_allowed k r h = (both (is_quiet r) (is_allowed (may_go_on k) r)
 pub begin_suits : (k : Kind) (r : Rule) → may_begin k r ≡ true → suits k r ≡ true
 begin_suits k r h = (both (is_quiet r && is_allowed (may_go_on k) r) (suits k r) h).1
 
+-- and of one that comes later
 pub fit_begins : (k : Kind) (r : Rule) → is_fit k r ≡ true → may_begin k r ≡ true
 fit_begins k r h = (both (leaves_locks r) (may_begin k r) h).1
 
