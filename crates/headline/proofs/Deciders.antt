@@ -213,7 +213,8 @@ module _ (o : Opening) where
       → AreUnderLock (seen o (accepted o w e)) (standing_at o w) (turn_of o w e).entries
   event_under w e W r =
       subst (AreUnderLock (seen o (accepted o w e)) (standing_at o w)) h.walk.entries
-      (subst (λ (v : World). AreUnderLock (seen o v) (standing_at o w) (Rules.entries_by o (place e) rules w)) h.walk.world
+      (subst (λ (v : World). AreUnderLock (seen o v) (standing_at o w) (Rules.entries_by o (place e) rules w))
+      h.walk.world
       (rules_under (place e) rules w W h.walk.may h.locks))
     where
       h : OrderedWalk o w e

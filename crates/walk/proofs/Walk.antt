@@ -136,7 +136,8 @@ walked_leave o a w h = record {
 -- a delivery is the chain of its letter
 walked_delivery : (o : Opening) (f t : ℕ) (w : World) → Ordered w → WelcomeWidens o w → Accepted o w (Deliver f t)
     → OrderedWalk o w (Deliver f t)
-walked_delivery o f t w sorted wide h = walked_by o w (Deliver f t) Hearing refl (go (w.links.queue f t) refl) (λ e. e) refl
+walked_delivery o f t w sorted wide h =
+    walked_by o w (Deliver f t) Hearing refl (go (w.links.queue f t) refl) (λ e. e) refl
   where
     go : (ls : List Letter) → w.links.queue f t ≡ ls
         → Chain o t Hearing w (Rules.first_by_letter o t f (w.links.queue f t)) (opened (Deliver f t) w)
@@ -163,7 +164,8 @@ walked_in_order o w e sorted wide h = go e (accepted_of o w e h)
         walked_by o w (At a Event.Retry) (Again (w.node a)) refl (retry-chain o a k.place_inside w k.running
         (sorted a)) (λ i. i) refl
     go (At a (Event.Exiting p)) k =
-        walked_by o w (At a (Event.Exiting p)) Aside refl (exit-chain o a k.place_inside w k.running p k.local) (λ i. i) refl
+        walked_by o w (At a (Event.Exiting p)) Aside refl (exit-chain o a k.place_inside w k.running p k.local)
+        (λ i. i) refl
     go (At a Event.Leave) k = walked_leave o a w k
     go (Deliver f t) k = walked_delivery o f t w sorted wide k
 
