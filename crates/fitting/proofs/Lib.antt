@@ -13,4 +13,5 @@ pub mod Admissions
 pub mod InTime
 pub mod Within
 pub mod Replies
+pub mod LookUps
 pub mod Theorem

@@ -1,6 +1,6 @@
 -- The answers to the name and join calls of a node are those of their entries, in their order.
 use Rattle.std.proofs.Common.{ℕ, Bool, true, false, ◌≡◌, ◌==◌, ◌+◌, ◌≤◌, ◌<◌, Option, Some, None, List, [], ◌∷◌, ◌++◌, length, refl, sym, ap, ◌∙◌, subst, arith}
-use Rattle.std.specs.Prelude.{◌&&◌, ◌||◌, if◌then◌else◌, filter, flat_map, is_none}
+use Rattle.std.specs.Prelude.{◌&&◌, ◌||◌, not, if◌then◌else◌, filter, flat_map, is_none}
 use Rattle.std.specs.List.{AllByRecursion, list_any}
 use Rattle.std.proofs.lemmas.List.{append-nil, append_assoc}
 use Rattle.std.proofs.lemmas.List.Folds.{list_any-append}
@@ -35,7 +35,7 @@ unused_one k n (Call.OnName c) ne = ap (λ (b : Bool). b || false) (ne_eqb k n n
 unused_one k n (Call.JoinBy m) ne = ap (λ (b : Bool). b || false) (ne_eqb k n ne)
 unused_one k n _ ne = refl
 
-unused_before : (k n : ℕ) (cs : List Call) → n < k → is_used (number_from k cs) n ≡ false
+pub unused_before : (k n : ℕ) (cs : List Call) → n < k → is_used (number_from k cs) n ≡ false
 unused_before k n [] l = refl
 unused_before k n (c ∷ cs) l = list_any-append (λ c. number_of c == n) (numbered k c) (number_from (k + 1) cs)
     ∙ ap (λ (b : Bool). b || is_used (number_from (k + 1) cs) n)
@@ -94,15 +94,31 @@ spare_lock ps p a c is lock = record {
     none (Call.DelLock p r q target) e = refl
     none _ e = cc
 
+-- the number of an open lock call of node a
+abbrev pub IsOfCall : List Played → ℕ → ℕ → Type 0
+IsOfCall ps a n = Spare ps a n × (0 < n)
+
+-- the event is a call that takes no number
+abbrev pub takes_none : WorldEvent → Bool
+takes_none (At a (Event.Calling c)) = not (is_numbered c)
+takes_none _ = false
+
+-- the number of an answer at node a that is no word, in the step of this event
+abbrev pub IsOfAnswer : WorldEvent → List Played → ℕ → ℕ → Type 0
+IsOfAnswer e ps a n = Spare ps a n × (takes_none e ≡ false → 0 < n)
+
+pub of_call : (e : WorldEvent) (ps : List Played) (a n : ℕ) → IsOfCall ps a n → IsOfAnswer e ps a n
+of_call e ps a n s = (s.0, λ h. s.1)
+
 -- open lock calls, and answers that are no words, have spare numbers
 pub record Spares (w : World) (ps : List Played) : Type 0 where
-  pub open_calls : (a : ℕ) → AllByRecursion (λ c. Spare ps a c.number) (w.node a).calls
+  pub open_calls : (a : ℕ) → AllByRecursion (λ c. IsOfCall ps a c.number) (w.node a).calls
   pub answers : AllByRecursion (λ s. is_word s.reply ≡ false → Spare ps s.node s.number) (answers_of ps)
 
 pub spares_open : (o : Opening) → Spares (opening_world o) []
 spares_open o = record { open_calls = λ a. tt; answers = tt }
 
-accepted-node : (o : Opening) (w : World) (e : WorldEvent)
+pub accepted-node : (o : Opening) (w : World) (e : WorldEvent)
     → (accepted o w e).node ≡ at w.node (place e) (turn_of o w e).node
 accepted-node o w (Deliver f t) = refl
 accepted-node o w (At a Event.Leave) = refl
@@ -117,15 +133,62 @@ word_kept_by o w a (Current.Writing (Op.Join k m) asked awaited reply) W = refl
 word_kept_by o w a (Current.Writing (Op.Admission j pairs) asked awaited reply) W = refl
 word_kept_by o w a _ W = refl
 
+-- what is answered in the step of an accepted event, and which lock calls are open behind it
+pub numbers_within : (o : Opening) (w : World) (e : WorldEvent) (ps : List Played) → Replicas o w → Book o w ps
+    → Spares w ps
+    → Within (IsOfCall (ps ++ played o w e ∷ []) (place e)) (IsOfAnswer e (ps ++ played o w e ∷ []) (place e))
+    (of_call e (ps ++ played o w e ∷ []) (place e)) (place e) (turn_of o w e)
+numbers_within o w e ps R B X = event_within (IsOfCall qs a) (IsOfAnswer e qs a) (of_call e qs a) o w e
+    (λ c q h. (
+      spare_zero qs a,
+      λ k. absurd (cc (sym (ap takes_none q ∙ ap not h), k)),
+    ))
+    locks
+    (record {
+      calls = all_map (λ c. IsOfCall ps a c.number) (λ c. IsOfCall qs a c.number)
+          (λ c k. (spare_more ps p a c.number k.0, k.1)) (w.node a).calls (X.open_calls a);
+      answers = tt;
+      word = word_kept_by o w a (w.node a).current (R.written a);
+    })
+  where
+    a : ℕ
+    a = place e
+
+    p : Played
+    p = played o w e
+
+    qs : List Played
+    qs = ps ++ p ∷ []
+
+    one : (c : Call) → is_lock_call c ≡ true → (if (a == a) && is_numbered c then c ∷ [] else []) ≡ c ∷ []
+    one (Call.SetLock x r q target retries) h = ap
+        (λ (t : Bool). if t && true then Call.SetLock x r q target retries ∷ [] else []) (eq-eqb a a refl)
+    one (Call.DelLock x r q target) h = ap (λ (t : Bool). if t && true then Call.DelLock x r q target ∷ [] else [])
+        (eq-eqb a a refl)
+    one _ h = cc
+
+    locks : (c : Call) → e ≡ At a (Event.Calling c) → is_lock_call c ≡ true → IsOfCall qs a ((w.node a).last_call + 1)
+    locks c q lock = (
+      subst (λ (k : ℕ). Spare qs a (k + 1)) (sym (B.count a))
+          (spare_lock ps p a c (ap (λ (x : WorldEvent). calls_in a (record p { event = x })) q ∙ one c lock) lock),
+      omega arith,
+    )
+
+-- an accepted event answers what its turn does
+pub answers_given : (o : Opening) (w : World) (e : WorldEvent) → refusal o w e ≡ None
+    → (played o w e).answers ≡ (turn_of o w e).answers
+answers_given o w e is = ap (λ (r : Option Refusal). if is_none r then (turn_of o w e).answers else []) is
+
 pub spares_keep : (o : Opening) (w : World) (e : WorldEvent) (ps : List Played) → Replicas o w → Book o w ps
     → refusal o w e ≡ None
     → Spares w ps → Spares (accepted o w e) (ps ++ played o w e ∷ [])
 spares_keep o w e ps R B is X = record {
-  open_calls = λ b. subst (λ (f : ℕ → Node). AllByRecursion (λ c. Spare qs b c.number) (f b).calls)
+  open_calls = λ b. subst (λ (f : ℕ → Node). AllByRecursion (λ c. IsOfCall qs b c.number) (f b).calls)
       (sym (accepted-node o w e))
-      (by_test a (λ b t. AllByRecursion (λ c. Spare qs b c.number)
+      (by_test a (λ b t. AllByRecursion (λ c. IsOfCall qs b c.number)
       (if t then u.node else w.node b).calls) within.calls
-      (λ b ne. all_map (λ c. Spare ps b c.number) (λ c. Spare qs b c.number) (λ c. spare_more ps p b c.number)
+      (λ b ne. all_map (λ c. IsOfCall ps b c.number) (λ c. IsOfCall qs b c.number)
+      (λ c k. (spare_more ps p b c.number k.0, k.1))
       (w.node b).calls (X.open_calls b)) b);
   answers = subst (AllByRecursion (λ (s : Answer). is_word s.reply ≡ false → Spare qs s.node s.number))
       (sym (flat_map-append (λ (q : Played). q.answers) ps (p ∷ [])))
@@ -135,10 +198,10 @@ spares_keep o w e ps R B is X = record {
       (λ (s : Answer). is_word s.reply ≡ false → Spare qs s.node s.number)
       (λ s h e. spare_more ps p s.node s.number (h e)) (answers_of ps) X.answers)
       (subst (AllByRecursion (λ (s : Answer). is_word s.reply ≡ false → Spare qs s.node s.number))
-      (sym (append-nil p.answers ∙ given))
-      (all_map (λ (s : Answer). (s.node ≡ a) × (is_word s.reply ≡ false → Spare qs a s.number))
+      (sym (append-nil p.answers ∙ answers_given o w e is))
+      (all_map (λ (s : Answer). (s.node ≡ a) × (is_word s.reply ≡ false → IsOfAnswer e qs a s.number))
       (λ (s : Answer). is_word s.reply ≡ false → Spare qs s.node s.number)
-      (λ s h e. subst (λ (b : ℕ). Spare qs b s.number) (sym h.0) (h.1 e)) u.answers within.answers)));
+      (λ s h e. subst (λ (b : ℕ). Spare qs b s.number) (sym h.0) (h.1 e).0) u.answers within.answers)));
 }
   where
     a : ℕ
@@ -153,43 +216,23 @@ spares_keep o w e ps R B is X = record {
     u : Turn
     u = turn_of o w e
 
-    given : p.answers ≡ u.answers
-    given = ap (λ (r : Option Refusal). if is_none r then u.answers else []) is
-
-    one : (c : Call) → is_lock_call c ≡ true → (if (a == a) && is_numbered c then c ∷ [] else []) ≡ c ∷ []
-    one (Call.SetLock x r q target retries) h = ap
-        (λ (t : Bool). if t && true then Call.SetLock x r q target retries ∷ [] else []) (eq-eqb a a refl)
-    one (Call.DelLock x r q target) h = ap (λ (t : Bool). if t && true then Call.DelLock x r q target ∷ [] else [])
-        (eq-eqb a a refl)
-    one _ h = cc
-
-    locks : (c : Call) → e ≡ At a (Event.Calling c) → is_lock_call c ≡ true → Spare qs a ((w.node a).last_call + 1)
-    locks c q lock = subst (λ (k : ℕ). Spare qs a (k + 1)) (sym (B.count a))
-        (spare_lock ps p a c (ap (λ (x : WorldEvent). calls_in a (record p { event = x })) q ∙ one c lock) lock)
-
-    within : Within (Spare qs a) a u
-    within = event_within (Spare qs a) o w e (spare_zero qs a) locks
-        (record {
-          calls = all_map (λ c. Spare ps a c.number) (λ c. Spare qs a c.number) (λ c. spare_more ps p a c.number)
-              (w.node a).calls (X.open_calls a);
-          answers = tt;
-          word = word_kept_by o w a (w.node a).current (R.written a);
-        })
+    within : Within (IsOfCall qs a) (IsOfAnswer e qs a) (of_call e qs a) a u
+    within = numbers_within o w e ps R B X
 
 -- a test that two lists of answers meet in the same way
-filter_same : {X : Type 0} (p q : X → Bool) (xs : List X) → AllByRecursion (λ x. p x ≡ q x) xs
+pub filter_same : {X : Type 0} (p q : X → Bool) (xs : List X) → AllByRecursion (λ x. p x ≡ q x) xs
     → filter p xs ≡ filter q xs
 filter_same p q [] h = refl
 filter_same p q (x ∷ xs) h = ap (λ (b : Bool). if b then x ∷ filter p xs else filter p xs) h.0
     ∙ ap (λ (l : List _). if q x then x ∷ l else l) (filter_same p q xs h.1)
 
-all_two : (P Q T : Answer → Type 0) → ((s : Answer) → P s → Q s → T s) → (xs : List Answer) → AllByRecursion P xs
+pub all_two : (P Q T : Answer → Type 0) → ((s : Answer) → P s → Q s → T s) → (xs : List Answer) → AllByRecursion P xs
     → AllByRecursion Q xs → AllByRecursion T xs
 all_two P Q T f [] p q = tt
 all_two P Q T f (x ∷ xs) p q = (f x p.0 q.0, all_two P Q T f xs p.1 q.1)
 
 -- an answer with the number n
-abbrev is_answered : List Answer → ℕ → Bool
+abbrev pub is_answered : List Answer → ℕ → Bool
 is_answered xs n = list_any (λ s. s.number == n) xs
 
 or_true : (b : Bool) → (b || true) ≡ true
@@ -197,7 +240,7 @@ or_true true = refl
 or_true false = refl
 
 -- each that passes a test has its number among those that do
-found : (test : Answer → Bool) (before xs : List Answer)
+pub found : (test : Answer → Bool) (before xs : List Answer)
     → AllByRecursion (λ s. test s ≡ true → is_answered (filter test (before ++ xs)) s.number ≡ true) xs
 found test before [] = tt
 found test before (x ∷ xs) = (
@@ -238,6 +281,19 @@ same_numbers_along a n (e ∷ es) = list_any-append (λ s. s.number == n) (enter
     ∙ ap (λ (b : Bool). is_used (decided_at a e) n || b) (same_numbers_along a n es)
     ∙ sym (list_any-append (λ c. number_of c == n) (decided_at a e) (flat_map (decided_at a) es))
 
+-- a word that is answered under a number answers a name or join call of that number
+pub word_used : (o : Opening) (w : World) (ps : List Played) (a n : ℕ) → Book o w ps
+    → is_answered (filter (is_word_at a) (answers_of ps)) n ≡ true → is_used (accepted_at a ps) n ≡ true
+word_used o w ps a n B e = ap (λ (l : List Numbered). is_used l n) (B.accounts.calls a)
+    ∙ list_any-append (λ c. number_of c == n) (flat_map (decided_at a) w.history)
+    (own (replies_to B.accounts.gate a) (w.node a))
+    ∙ ap (λ (b : Bool). b || is_used (own (replies_to B.accounts.gate a) (w.node a)) n)
+    (sym (same_numbers_along a n w.history)
+    ∙ ap (λ (l : List Answer). is_answered l n) (B.accounts.answers a)
+    ∙ list_any-append (λ t. t.number == n) (filter (is_word_at a) (answers_of ps)) _
+    ∙ ap (λ (b : Bool). b || is_answered (owed_by a (replies_to B.accounts.gate a)
+    (w.node a).current) n) e)
+
 -- the answers to the name and join calls of a node are the words that it answers
 answers_at-words : (o : Opening) (w : World) (ps : List Played) (a : ℕ) → Book o w ps → Spares w ps
     → answers_at a ps ≡ filter (is_word_at a) (answers_of ps)
@@ -247,18 +303,6 @@ answers_at-words o w ps a B X = filter_same (is_answer_at a (accepted_at a ps)) 
     (λ (s : Answer). is_answer_at a (accepted_at a ps) s ≡ is_word_at a s) same (answers_of ps) X.answers
     (found (is_word_at a) [] (answers_of ps)))
   where
-    used : (s : Answer) → is_answered (filter (is_word_at a) (answers_of ps)) s.number ≡ true
-        → is_used (accepted_at a ps) s.number ≡ true
-    used s e = ap (λ (l : List Numbered). is_used l s.number) (B.accounts.calls a)
-        ∙ list_any-append (λ c. number_of c == s.number) (flat_map (decided_at a) w.history)
-        (own (replies_to B.accounts.gate a) (w.node a))
-        ∙ ap (λ (b : Bool). b || is_used (own (replies_to B.accounts.gate a) (w.node a)) s.number)
-        (sym (same_numbers_along a s.number w.history)
-        ∙ ap (λ (l : List Answer). is_answered l s.number) (B.accounts.answers a)
-        ∙ list_any-append (λ t. t.number == s.number) (filter (is_word_at a) (answers_of ps)) _
-        ∙ ap (λ (b : Bool). b || is_answered (owed_by a (replies_to B.accounts.gate a)
-        (w.node a).current) s.number) e)
-
     same : (s : Answer) → (is_word s.reply ≡ false → Spare ps s.node s.number)
         → (is_word_at a s ≡ true → is_answered (filter (is_word_at a) (answers_of ps)) s.number ≡ true)
         → is_answer_at a (accepted_at a ps) s ≡ is_word_at a s
@@ -267,7 +311,7 @@ answers_at-words o w ps a B X = filter_same (is_answer_at a (accepted_at a ps)) 
         go : (b : Bool) → (s.node == a) ≡ b → (c : Bool) → is_word s.reply ≡ c
             → (b && is_used (accepted_at a ps) s.number) ≡ (b && c)
         go false here c is = refl
-        go true here true is = used s (word (ap (λ (t : Bool). t && is_word s.reply) here ∙ is))
+        go true here true is = word_used o w ps a s.number B (word (ap (λ (t : Bool). t && is_word s.reply) here ∙ is))
         go true here false is = subst (λ (b : ℕ). is_used (accepted_at b ps) s.number ≡ false)
             (eqb-true s.node a here) (spare is).unused
 

@@ -2,14 +2,14 @@
 use Rattle.std.proofs.Common.{ℕ, Bool, true, false, ◌≡◌, ◌+◌, Option, Some, None, List, [], ◌∷◌, refl, sym, ap, subst}
 use Rattle.std.specs.Prelude.{◌&&◌, ◌||◌, not, if◌then◌else◌, is_none}
 use Rattle.registry_model.specs.Process.{at}
-use Rattle.registry_model.specs.Call.{Reply, Look}
+use Rattle.registry_model.specs.Call.{Reply, Look, Pid}
 use Rattle.protocol_model.specs.Letter.{Letter, is_down}
-use Rattle.protocol_model.specs.Watch.{owed}
+use Rattle.protocol_model.specs.Watch.{owed, with_spawned}
 use Rattle.protocol_model.specs.Node.{Node, Op, Current}
 use Rattle.protocol_model.specs.Event.{Event, Refusal, NoSuchNode, NodeLeft, cause, first_cause}
 use Rattle.protocol_model.specs.Turn.{Turn, begun, with_queue, enter}
 use Rattle.protocol_model.specs.Registrar.{start, start_free, start_next, start_queue, contact_left, ask_join, retry_global}
-use Rattle.protocol_model.specs.Calling.{looked, call, die}
+use Rattle.protocol_model.specs.Calling.{looked, spawned, call, die}
 use Rattle.protocol_model.specs.Client.{retry_locks}
 use Rattle.protocol_model.specs.Reading.{read}
 use Rattle.registry_model.specs.History.{Entry}
@@ -69,6 +69,24 @@ looked-answers n a look reply v rested = go v.current refl
 
     go : (c : Current) → v.current ≡ c → (start_free n a c u).answers ≡ answer_to a 0 reply ∷ []
     go Current.Free e = next (owed a v.replica.table v.watch) (rested e)
+    go _ e = refl
+
+-- and so has a `spawn`
+pub spawned-answers : (n a serial : ℕ) (v : Node) → IsRested v
+    → (start n a (spawned n a serial (begun v))).answers ≡ answer_to a 0 (Pid (record { node = a; serial = serial })) ∷ []
+spawned-answers n a serial v rested = go v.current refl
+  where
+    u : Turn
+    u = spawned n a serial (begun v)
+
+    next : (s : Option ℕ) → v.queue ≡ []
+        → (start_next n a s u).answers ≡ answer_to a 0 (Pid (record { node = a; serial = serial })) ∷ []
+    next (Some s) e = refl
+    next None e = ap (λ (ops : List Op). (start_queue n a ops u).answers) e
+
+    go : (c : Current) → v.current ≡ c
+        → (start_free n a c u).answers ≡ answer_to a 0 (Pid (record { node = a; serial = serial })) ∷ []
+    go Current.Free e = next (owed a v.replica.table (with_spawned serial v.watch)) (rested e)
     go _ e = refl
 
 -- an accepted event is one at a node that hasn't left

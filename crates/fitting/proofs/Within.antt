@@ -22,6 +22,7 @@ use Rattle.protocol_model.specs.Client
 use Rattle.protocol_model.specs.Calling
 use Rattle.protocol_model.specs.Reading
 use Rattle.protocol_model.specs.World.{Opening, World, WorldEvent, At, Deliver, place, join_number, heard, turn_of}
+use Rattle.protocol_model.specs.Fit.{is_numbered}
 use Rattle.fitting.proofs.Accounts.{is_word}
 use Rattle.fitting.proofs.Settling.{reply_to-word}
 use Rattle.fitting.proofs.Admissions.{all_append}
@@ -47,12 +48,13 @@ is_lock_call (Call.SetLock p r q target retries) = true
 is_lock_call (Call.DelLock p r q target) = true
 is_lock_call _ = false
 
-module _ (S : ℕ → Type 0) (a : ℕ) where
+-- S: what is known of the numbers of open lock calls; T: of those of answers that are no words
+module _ (S T : ℕ → Type 0) (weaken : (k : ℕ) → S k → T k) (a : ℕ) where
   abbrev Numbered : List LockCall → Type 0
   Numbered cs = AllByRecursion (λ c. S c.number) cs
 
   abbrev Answered : List Answer → Type 0
-  Answered xs = AllByRecursion (λ s. (s.node ≡ a) × (is_word s.reply ≡ false → S s.number)) xs
+  Answered xs = AllByRecursion (λ s. (s.node ≡ a) × (is_word s.reply ≡ false → T s.number)) xs
 
   -- the open lock calls and the answers that are no words have such numbers
   pub record Within (u : Turn) : Type 0 where
@@ -97,11 +99,11 @@ module _ (S : ℕ → Type 0) (a : ℕ) where
       word = W.word;
     }
 
-    replies : (k : ℕ) (r : Reply) (u : Turn) → (is_word r ≡ false → S k) → Within u → Within (reply_with a k r u)
+    replies : (k : ℕ) (r : Reply) (u : Turn) → (is_word r ≡ false → T k) → Within u → Within (reply_with a k r u)
     replies k r u s W = record {
       calls = W.calls;
       answers =
-          all_append (λ (t : Answer). (t.node ≡ a) × (is_word t.reply ≡ false → S t.number)) u.answers _ W.answers
+          all_append (λ (t : Answer). (t.node ≡ a) × (is_word t.reply ≡ false → T t.number)) u.answers _ W.answers
           ((refl, s), tt);
       word = W.word;
     }
@@ -123,7 +125,8 @@ module _ (S : ℕ → Type 0) (a : ℕ) where
 
     closes : (c : LockCall) (granted : Bool) (u : Turn) → S c.number → Within u
         → Within (Client.close_call n a c granted u)
-    closes c granted u s W = replies c.number (if granted then True else False) (end_call c u) (λ e. s) (ends c u W)
+    closes c granted u s W = replies c.number (if granted then True else False) (end_call c u) (λ e. weaken c.number s)
+        (ends c u W)
 
     asks_lock : (c : LockCall) (t : Nodes) (u : Turn) → S c.number → Within u → Within (Client.ask_lock n a c t u)
     asks_lock c t u s W = sends _ _ (keeps (Client.in_phase _ c) u s W)
@@ -409,10 +412,10 @@ module _ (S : ℕ → Type 0) (a : ℕ) where
       receives f l u W = starts _ (either (u.node.replica.told f && not (is_down l)) u _ W (reads f l u W))
 
     -- a call, whose own number it may use where it is a lock call
-    pub makes_call : (k : ℕ) (c : Call) (u : Turn) → S 0 → (is_lock_call c ≡ true → S k) → Within u
-        → Within (Calling.call n a k c u)
-    makes_call k Call.Spawn u zero_is s W = replies 0 _ _ (λ e. zero_is) (becomes _ u refl W.word W)
-    makes_call k (Call.LookUp look) u zero_is s W = replies 0 _ _ (λ e. zero_is) (enters (Entry.Read a look _) u W)
+    pub makes_call : (k : ℕ) (c : Call) (u : Turn) → (is_numbered c ≡ false → T 0) → (is_lock_call c ≡ true → S k)
+        → Within u → Within (Calling.call n a k c u)
+    makes_call k Call.Spawn u zero_is s W = replies 0 _ _ (λ e. zero_is refl) (becomes _ u refl W.word W)
+    makes_call k (Call.LookUp look) u zero_is s W = replies 0 _ _ (λ e. zero_is refl) (enters (Entry.Read a look _) u W)
     makes_call k (Call.OnName c) u zero_is s W = queues _ (counted u) (becomes _ u refl W.word W)
     makes_call k (Call.SetLock p r q target retries) u zero_is s W =
         tries (Client.new_call n a k p r q target retries) _ (s refl) (becomes _ u refl W.word W)
@@ -421,22 +424,23 @@ module _ (S : ℕ → Type 0) (a : ℕ) where
     makes_call k (Call.JoinBy m) u zero_is s W = queues _ (counted u) (becomes _ u refl W.word W)
 
 -- what a node makes of an event has only such numbers
-pub event_within : (S : ℕ → Type 0) (o : Opening) (w : World) (e : WorldEvent) → S 0
+pub event_within : (S T : ℕ → Type 0) (weaken : (k : ℕ) → S k → T k) (o : Opening) (w : World) (e : WorldEvent)
+    → ((c : Call) → e ≡ At (place e) (Event.Calling c) → is_numbered c ≡ false → T 0)
     → ((c : Call) → e ≡ At (place e) (Event.Calling c) → is_lock_call c ≡ true → S ((w.node (place e)).last_call + 1))
-    → Within S (place e) (begun (w.node (place e))) → Within S (place e) (turn_of o w e)
-event_within S o w (At a (Event.Calling c)) z s W =
-    starts S a o.bound _ (makes_call S a o.bound ((w.node a).last_call + 1) c (begun (w.node a)) z (s c refl) W)
-event_within S o w (At a Event.Retry) z s W =
-    starts S a o.bound _ (retries_locks S a o.bound
+    → Within S T weaken (place e) (begun (w.node (place e))) → Within S T weaken (place e) (turn_of o w e)
+event_within S T weaken o w (At a (Event.Calling c)) z s W =
+    starts S T weaken a o.bound _ (makes_call S T weaken a o.bound ((w.node a).last_call + 1) c (begun (w.node a)) (z c refl) (s c refl) W)
+event_within S T weaken o w (At a Event.Retry) z s W =
+    starts S T weaken a o.bound _ (retries_locks S T weaken a o.bound
     (Registrar.retry_global o.bound a (w.node a).current (begun (w.node a)))
-    (retries_global S a o.bound (w.node a).current (begun (w.node a)) W))
-event_within S o w (At a (Event.Exiting p)) z s W =
-    starts S a o.bound _ (dies S a o.bound p (enter (Entry.Exit p) (begun (w.node a)))
-    (enters S a o.bound (Entry.Exit p) (begun (w.node a)) W))
-event_within S o w (At a Event.Leave) z s W =
-    sends S a o.bound _ _ (enters S a o.bound (Entry.Left a) (begun (w.node a)) W)
-event_within S o w (Deliver f t) z s W = go (w.links.queue f t)
+    (retries_global S T weaken a o.bound (w.node a).current (begun (w.node a)) W))
+event_within S T weaken o w (At a (Event.Exiting p)) z s W =
+    starts S T weaken a o.bound _ (dies S T weaken a o.bound p (enter (Entry.Exit p) (begun (w.node a)))
+    (enters S T weaken a o.bound (Entry.Exit p) (begun (w.node a)) W))
+event_within S T weaken o w (At a Event.Leave) z s W =
+    sends S T weaken a o.bound _ _ (enters S T weaken a o.bound (Entry.Left a) (begun (w.node a)) W)
+event_within S T weaken o w (Deliver f t) z s W = go (w.links.queue f t)
   where
-    go : (ls : List Letter) → Within S t (heard o.bound t w f ls)
+    go : (ls : List Letter) → Within S T weaken t (heard o.bound t w f ls)
     go [] = W
-    go (l ∷ ls) = receives S t o.bound (join_number w) f l (begun (w.node t)) W
+    go (l ∷ ls) = receives S T weaken t o.bound (join_number w) f l (begun (w.node t)) W
