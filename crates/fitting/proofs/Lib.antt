@@ -14,4 +14,5 @@ pub mod InTime
 pub mod Within
 pub mod Replies
 pub mod LookUps
+pub mod Once
 pub mod Theorem
