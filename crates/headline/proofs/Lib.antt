@@ -5,6 +5,8 @@ pub mod Answering
 pub mod Steps
 pub mod Story
 pub mod Fields
+pub mod LockAnswers
+pub mod LockSteps
 pub mod Theorem
 pub mod Agreeing
 pub mod Entries
