@@ -23,6 +23,7 @@ use Rattle.fitting.proofs.Accounts.{is_word, is_word_at}
 use Rattle.fitting.proofs.Rests.{Rested, looked-answers, spawned-answers, place_runs}
 use Rattle.fitting.proofs.Events.{Own, event_enters}
 use Rattle.fitting.proofs.Within.{Within}
+use Rattle.fitting.proofs.Admissions.{all_map}
 use Rattle.fitting.proofs.Chains.{Book}
 use Rattle.fitting.proofs.Replies.{Spares, is_used, is_answered, found, all_two, unused_before, word_used, IsOfCall, IsOfAnswer, of_call, takes_none, numbers_within, answers_given}
 
@@ -102,12 +103,14 @@ module _ (o : Opening) (w : World) (e : WorldEvent) (ps : List Played) (R : Repl
               ))
 
   -- each answer of the step stands under its node
+  pub own_answers : AllByRecursion (λ s. s.node ≡ a) u.answers
+  own_answers = all_map (λ (s : Answer). (s.node ≡ a) × (is_word s.reply ≡ false → IsOfAnswer e qs a s.number))
+      (λ (s : Answer). s.node ≡ a) (λ s x. x.0) u.answers within.answers
+
   pub own_place : (s : Answer) → Contains p.answers s → s.node ≡ a
-  own_place s c = (All-contains In u.answers s (All-from_recursion In u.answers within.answers)
-      (subst (λ (l : List Answer). Contains l s) (answers_given o w e is) c)).0
-    where
-      In : Answer → Type 0
-      In s = (s.node ≡ a) × (is_word s.reply ≡ false → IsOfAnswer e qs a s.number)
+  own_place s c = All-contains (λ (s : Answer). s.node ≡ a) u.answers s
+      (All-from_recursion (λ (s : Answer). s.node ≡ a) u.answers own_answers)
+      (subst (λ (l : List Answer). Contains l s) (answers_given o w e is) c)
 
   own : Own u.entries (exit_of p) (left_of p) (told_of p) (read_of p)
   own = event_enters o w e rested is W

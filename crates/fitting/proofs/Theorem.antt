@@ -23,7 +23,8 @@ pub record Kept (o : Opening) (w : World) (ps : List Played) : Type 0 where
 
 module _ (o : Opening) (Good : World → Type 0) (K : Chains.Ground o Good) (G : Good (opening_world o))
     (es : List WorldEvent) where
-  kept_on : (w : World) (e : WorldEvent) (ps : List Played) → Good w → refusal o w e ≡ None → Kept o w ps
+  -- an accepted event keeps it
+  pub kept_on : (w : World) (e : WorldEvent) (ps : List Played) → Good w → refusal o w e ≡ None → Kept o w ps
       → Kept o (accepted o w e) (ps ++ played o w e ∷ [])
   kept_on w e ps H is X = record {
     book = Chains.book_keeps o Good K w e ps H is X.book;

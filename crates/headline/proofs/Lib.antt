@@ -7,6 +7,7 @@ pub mod Story
 pub mod Fields
 pub mod LockAnswers
 pub mod LockSteps
+pub mod LockEvents
 pub mod Theorem
 pub mod Agreeing
 pub mod Entries

@@ -90,7 +90,7 @@ slice_get-more [] ys i x e = cc
 slice_get-more (y ∷ xs) ys zero x e = e
 slice_get-more (y ∷ xs) ys (suc i) x e = slice_get-more xs ys i x e
 
-slice_get-behind : {X : Type 0} (xs : List X) (x : X) → slice_get (xs ++ x ∷ []) (length xs) ≡ Some x
+pub slice_get-behind : {X : Type 0} (xs : List X) (x : X) → slice_get (xs ++ x ∷ []) (length xs) ≡ Some x
 slice_get-behind [] x = refl
 slice_get-behind (y ∷ xs) x = slice_get-behind xs x
 
@@ -285,10 +285,10 @@ module _ (a : ℕ) where
 
   -- a call is answered, and is open no more
   pub ledger_closed : (calls : List Call) (cs : List LockCall) (xs : List Answer) (c : LockCall) (reply : Reply)
-      → is_word reply ≡ false
-      → IsSingle cs xs c.holder c.number → (I : IsCalled calls c.number c.phase) → may_have I.call reply ≡ true
+      → is_word reply ≡ false → (phase : LockPhase)
+      → IsSingle cs xs c.holder c.number → (I : IsCalled calls c.number phase) → may_have I.call reply ≡ true
       → Ledger calls cs xs → Ledger calls (drop_call c.holder cs) (xs ++ answer_to a c.number reply ∷ [])
-  ledger_closed calls cs xs c reply word S I may L = record {
+  ledger_closed calls cs xs c reply word phase S I may L = record {
     called = λ p d e. L.called p d (left p d e).0;
     waits = λ p d e. given-more d.number xs (answer_to a c.number reply ∷ [])
         (given-other d.number c.number reply (λ n. S.alone p d (left p d e).0 (left p d e).1 (sym n)))

@@ -69,7 +69,7 @@ module _ (o : Opening) (a : ℕ) (w : World) (calls : List Call) (xs : List Answ
   closes : (c : LockCall) (now : LockPhase) (reply : Reply) → is_word reply ≡ false → IsOpen (w.node a) c now
       → ((I : IsCalled calls c.number c.phase) → may_have I.call reply ≡ true)
       → Ledger a calls (drop_call c.holder (w.node a).calls) (xs ++ answer_to a c.number reply ∷ [])
-  closes c now reply word e may = ledger_closed a calls (w.node a).calls xs c reply word
+  closes c now reply word e may = ledger_closed a calls (w.node a).calls xs c reply word c.phase
       (single_open a calls (w.node a).calls xs c.holder c L e.call) (L.called c.holder c e.call)
       (may (L.called c.holder c e.call)) L
 
