@@ -8,6 +8,7 @@ pub mod Fields
 pub mod LockAnswers
 pub mod LockSteps
 pub mod LockEvents
+pub mod Answered
 pub mod Theorem
 pub mod Agreeing
 pub mod Entries

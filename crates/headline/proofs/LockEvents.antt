@@ -264,12 +264,12 @@ module _ (o : Opening) (a : ℕ) (w : World) (calls : List Call) (xs : List Answ
 -- the open lock calls and the answers of the node of an accepted event, behind it
 module _ (o : Opening) (w : World) (ps : List Played) (W : Whole o w) where
   -- where e happens at a, what is said behind it
-  abbrev After : WorldEvent → Type 0
+  abbrev pub After : WorldEvent → Type 0
   After e = Ledger (place e) (calls_at (place e) ps ++ calls_in (place e) (played o w e)) ((accepted o w e).node (place e)).calls
       (answers_of ps ++ (turn_of o w e).answers)
 
   -- before it
-  abbrev Before : ℕ → Type 0
+  abbrev pub Before : ℕ → Type 0
   Before a = Ledger a (calls_at a ps) (w.node a).calls (answers_of ps)
 
   -- the chain of an event, behind which more calls are accepted
@@ -308,7 +308,8 @@ module _ (o : Opening) (w : World) (ps : List Played) (W : Whole o w) where
       (subst (λ (ss : List Answer). Ledger a (calls_at a ps ++ call ∷ [])
       ((Rules.effects o a rs (Rules.effect o a Rules.CallsLock w)).node a).calls (answers_of ps ++ ss)) answers L))
 
-  event_ledger : (e : WorldEvent) → OrderedWalk o w e → (w.node (place e)).last_call ≡ length (calls_at (place e) ps)
+  -- each accepted event
+  pub event_ledger : (e : WorldEvent) → OrderedWalk o w e → (w.node (place e)).last_call ≡ length (calls_at (place e) ps)
       → Before (place e) → After e
   event_ledger (Deliver f t) H count L = by_chain (Deliver f t) _
       (letter_hears f t (w.links.queue f t) H.walk.rest H.in_order) H.walk.may H.walk.world H.walk.answers L
