@@ -9,6 +9,7 @@ pub mod LockAnswers
 pub mod LockSteps
 pub mod LockEvents
 pub mod Answered
+pub mod Joiners
 pub mod Theorem
 pub mod Agreeing
 pub mod Entries
