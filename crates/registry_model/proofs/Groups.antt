@@ -30,6 +30,15 @@ told-with_table m f r = go (r.joined m)
     go true = refl
     go false = refl
 
+-- and who has left
+pub left-with_table : (m : ℕ) (f : Table → Table) (r : Registry) → (with_table m f r).left ≡ r.left
+left-with_table m f r = go (r.joined m)
+  where
+    go : (b : Bool) →
+        (if b then record r { table = f r.table } else record r { lone = at r.lone m (f (r.lone m)) }).left ≡ r.left
+    go true = refl
+    go false = refl
+
 -- a node is of its group
 pub in_group-itself : (r : Registry) (n : ℕ) → in_group r n n ≡ true
 in_group-itself r n = go (r.joined n) refl

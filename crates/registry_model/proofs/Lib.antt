@@ -14,3 +14,4 @@ pub mod Deaths
 pub mod Holding
 pub mod LoneOwners
 pub mod NamesStand
+pub mod Outcomes

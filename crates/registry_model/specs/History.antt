@@ -1,7 +1,7 @@
 -- Entries, histories, and how things stand after a history: the registry, and the operations that hold.
 -- In all these definitions h is a history, e and f are entries, s is how things stand, r a registry, p and q processes, a to d, j,
 -- m and n nodes (j a joiner, m its contact, d one that left), k the number of a call, x and y names.
-use Rattle.std.specs.Prelude.{ℕ, Bool, true, false, ◌||◌, ◌==◌, Option, Some, None, is_none, List, fold, if◌then◌else◌}
+use Rattle.std.specs.Prelude.{ℕ, Bool, false, ◌||◌, ◌==◌, Option, Some, None, is_none, List, fold, if◌then◌else◌}
 use Rattle.registry_model.specs.Process.{Process, is_process, Nodes, at, with_node}
 use Rattle.registry_model.specs.Table.{changed, StrikeOwner}
 use Rattle.registry_model.specs.Call.{NameCall, Look, Reply, Joined, is_grant, change_of}

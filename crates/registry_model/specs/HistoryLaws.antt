@@ -2,9 +2,10 @@
 use Rattle.std.specs.Prelude.{ℕ, true, false, ◌≡◌, ◌<◌, ◌≤◌, ◌↔◌, ◌⊎◌, IsTrue, Contains, Option, Some, None, List, [], ◌∷◌, ◌++◌}
 use Rattle.registry_model.specs.Process.{Text, Process, Nodes}
 use Rattle.registry_model.specs.Table.{Pair, Table, is_rising, get, owns}
-use Rattle.registry_model.specs.Call.{Register, ReRegister, Unregister, Yes, Ok, Joined}
+use Rattle.registry_model.specs.Call.{NameCall, Register, ReRegister, Unregister, Reply, Yes, Ok, Joined}
 use Rattle.registry_model.specs.Settlement.{settle}
 use Rattle.registry_model.specs.Registry.{Registry, in_group, table_of, view, members}
+use Rattle.registry_model.specs.SharedLaws.{IsReplyTo, IsCarriedOut}
 use Rattle.registry_model.specs.History.{Entry, Name, Strike, Join, Done, Exit, Told, registry_of, granted_to, Hold, hold_at, standing_of}
 
 -- no name has two owners, and the names rise
@@ -26,6 +27,23 @@ pub record IsFreeFor (r : Registry) (n : ℕ) (x : Text) (p : Process) : Type 0 
 abbrev pub YesToTheFree : Nodes → List Entry → Type 0
 YesToTheFree cluster h = (before later : List Entry) (n k : ℕ) (x : Text) (p : Process) →
     h ≡ before ++ Name n k (Register x p) Yes ∷ later → IsFreeFor (registry_of cluster before) n x p
+
+-- node n decides a name call with this reply: the reply is that of n's members and view, the table of n's group is what the
+-- call makes of it, and all else stays
+pub record IsDecided (before after : Registry) (n : ℕ) (call : NameCall) (reply : Reply) : Type 0 where
+  pub answer : IsReplyTo (members before n) (view before n) call reply
+  pub here : (a : ℕ) → in_group before a n ≡ true → IsCarriedOut (table_of before a) (table_of after a) call reply
+  pub elsewhere : (a : ℕ) → in_group before a n ≡ false → table_of after a ≡ table_of before a
+  pub joined : after.joined ≡ before.joined
+  pub left : after.left ≡ before.left
+  pub told : after.told ≡ before.told
+  pub dead : after.dead ≡ before.dead
+
+-- Each name call is carried out in the group of its node, and in no other
+abbrev pub CallsAreCarriedOut : Nodes → List Entry → Type 0
+CallsAreCarriedOut cluster h = (before later : List Entry) (n k : ℕ) (call : NameCall) (reply : Reply) →
+    h ≡ before ++ Name n k call reply ∷ later →
+    IsDecided (registry_of cluster before) (registry_of cluster (before ++ Name n k call reply ∷ [])) n call reply
 
 -- The entries that take the name x from p, as n sees it
 pub data Takes (r : Registry) (n : ℕ) (x : Text) (p : Process) : Entry → Type 0 where

@@ -55,6 +55,16 @@ IsChanged (Put x p) = IsGiven x (Some p)
 IsChanged (Remove x) = IsGiven x None
 IsChanged (StrikeOwner p) = IsStruck p
 
+-- What a name call with this reply makes of the table of its group: `yes` gives the name to the owner, `ok` to nobody, and
+-- all that is refused leaves the table
+pub data IsCarriedOut (before after : Table) : NameCall → Reply → Type 0 where
+  Registered : (x : Text) (p : Process) → IsGiven x (Some p) before after → IsCarriedOut before after (Register x p) Yes
+  Reregistered : (x : Text) (p : Process) → IsGiven x (Some p) before after →
+      IsCarriedOut before after (ReRegister x p) Yes
+  Unregistered : (x : Text) → IsGiven x None before after → IsCarriedOut before after (Unregister x) Ok
+  Refused : (call : NameCall) → after ≡ before → IsCarriedOut before after call No
+  OwnerUnknown : (call : NameCall) → after ≡ before → IsCarriedOut before after call UnknownNode
+
 -- nobody has the names whose owners were on these nodes, and each other name has whom it had
 pub record IsWithout (gone : Nodes) (before after : Table) : Type 0 where
   pub lost : (y : Text) (p : Process) → get y before ≡ Some p → gone p.node ≡ true → get y after ≡ None

@@ -4,7 +4,7 @@ ghost use Rattle.registry_model.specs.Process.{Nodes};
 ghost use Rattle.registry_model.specs.History.{Entry};
 ghost use Rattle.registry_model.specs.Legal.{IsLegal};
 ghost use Rattle.registry_model.specs.Sample.{sample, SampleHolds};
-ghost use Rattle.registry_model.specs.HistoryLaws.{OneOwner, YesToTheFree, NamesStand, NeverOverlap, HoldsUntilDone, OldLeavesOut, DeadForGood, JoinsOnce};
+ghost use Rattle.registry_model.specs.HistoryLaws.{OneOwner, YesToTheFree, CallsAreCarriedOut, NamesStand, NeverOverlap, HoldsUntilDone, OldLeavesOut, DeadForGood, JoinsOnce};
 
 /// In the table of each group no name has two owners.
 pub fn one_owner()
@@ -14,6 +14,11 @@ pub fn one_owner()
 /// Who is answered yes registered a free name.
 pub fn yes_to_the_free()
     ensures { (cluster : Nodes) (h : List Entry) → IsLegal cluster h → YesToTheFree cluster h }
+{}
+
+/// Each name call has the reply that its node sees, and is carried out in its group and in no other.
+pub fn calls_are_carried_out()
+    ensures { (cluster : Nodes) (h : List Entry) → IsLegal cluster h → CallsAreCarriedOut cluster h }
 {}
 
 /// A name that a node sees stands until an entry takes it.

@@ -1,10 +1,10 @@
 //! What the functions that registry and protocol share mean.
-ghost use Rattle.std.specs.Prelude.{◌≡◌, ◌↔◌, IsTrue};
+ghost use Rattle.std.specs.Prelude.{◌≡◌, ◌↔◌, IsTrue, if◌then◌else◌};
 ghost use Rattle.registry_model.specs.Process.{Nodes};
 ghost use Rattle.registry_model.specs.Table.{Table, Change, is_rising, changed, without, put_all};
-ghost use Rattle.registry_model.specs.Call.{NameCall, Look, Reply, reply_to, seen_in};
+ghost use Rattle.registry_model.specs.Call.{NameCall, Look, Reply, is_grant, change_of, reply_to, seen_in};
 ghost use Rattle.registry_model.specs.Settlement.{settle};
-ghost use Rattle.registry_model.specs.SharedLaws.{IsReplyTo, IsSeenIn, IsChanged, IsWithout, IsWrittenOver, IsTheTable, Settles};
+ghost use Rattle.registry_model.specs.SharedLaws.{IsReplyTo, IsSeenIn, IsChanged, IsCarriedOut, IsWithout, IsWrittenOver, IsTheTable, Settles};
 
 /// Each name call has one reply.
 pub fn reply()
@@ -22,6 +22,13 @@ pub fn look_up()
 pub fn change()
     ensures { (c : Change) (table : Table) → IsTrue (is_rising table) →
         IsTheTable (IsChanged c table) (changed c table) }
+{}
+
+/// What each name call makes of a table, by the reply that it was given.
+pub fn outcome()
+    ensures { (members : Nodes) (view table : Table) (call : NameCall) (r : Reply) → IsTrue (is_rising table) →
+        IsReplyTo members view call r →
+        IsTheTable (λ after. IsCarriedOut table after call r) (if is_grant r then changed (change_of call) table else table) }
 {}
 
 /// The table without the names on some nodes.
