@@ -1,4 +1,8 @@
 pub mod Together
+pub mod Same
+pub mod Asked
+pub mod AskedSteps
+pub mod Tied
 pub mod Courses
 pub mod Turns
 pub mod Answering

@@ -1,131 +1,107 @@
--- The headline as a test that runs, asked behind each event of a row, and what it means that a row computes.
-use Rattle.std.specs.Prelude.{ℕ, Bool, true, false, not, ◌&&◌, ◌||◌, ◌==◌, ◌≡◌, Option, Some, None, filter, flat_map, fold, List, [], ◌∷◌, ◌++◌}
-use Rattle.std.specs.List.{list_all}
-use Rattle.registry_model.specs.Process.{is_process, Nodes}
-use Rattle.registry_model.specs.Table.{Table}
-use Rattle.registry_model.specs.Call.{NameCall, Look, Whereis, RegisteredNames, Yes, Joined, is_reply}
-use Rattle.registry_model.specs.Registry.{Registry, Replica, in_group, replica_of}
+-- The headline as a test that runs, asked behind each event, and what it means that a row computes.
+-- A test has the name of the definition that it asks, and `keeps_x` asks the clause `x` of the headline.
+-- ps: the steps so far; p: the last of them, which t stands before and u behind; w: the world behind it.
+use Rattle.std.specs.Prelude.{ℕ, Bool, true, false, not, ◌&&◌, ◌||◌, ◌==◌, ◌-◌, ◌≡◌, Option, Some, None, filter, flat_map, fold, List, [], ◌∷◌, ◌++◌}
+use Rattle.std.specs.List.{list_any, list_all, slice_get}
+use Rattle.registry_model.specs.Process.{Nodes}
+use Rattle.registry_model.specs.Call.{Look, Reply, Yes, Joined, Pid, is_reply}
+use Rattle.registry_model.specs.Registry.{Registry, in_group, replica_of}
 use Rattle.registry_model.specs.History.{Entry, Standing, Hold, nothing_yet, is_free, is_holding, old, hold_at, after}
+use Rattle.registry_model.specs.HistoryLaws.{decided_by}
 use Rattle.registry_model.specs.Legal.{all_legal}
 use Rattle.protocol_model.specs.Round.{is_empty}
-use Rattle.protocol_model.specs.Event.{Event, Answer, Refusal, HoldsLock}
-use Rattle.protocol_model.specs.World.{Opening, in_world, in_cluster, World, WorldEvent, At, opening_world, refusal, happens, holder}
-use Rattle.protocol_model.specs.Course.{Played, played, entries_of}
-use Rattle.protocol_model.specs.Fit.{Numbered, NameAs, JoinAs, accepted_at, decided_at, is_exit, is_left, is_told, is_read, exit_of, left_of, told_of, read_of}
-use Rattle.protocol_model.specs.Answers.{answers_at, entered_at, is_prompt, due, is_admission_of}
+use Rattle.protocol_model.specs.Links.{is_nil}
+use Rattle.protocol_model.specs.Event.{Call, Event, Answer, Refusal, HoldsLock}
+use Rattle.protocol_model.specs.World.{Opening, in_world, in_cluster, World, WorldEvent, At, opening_world, place, refusal, happens, holder}
+use Rattle.protocol_model.specs.Course.{Played, played, entries_of, answers_of, global_given}
+use Rattle.protocol_model.specs.Fit.{accepted_at, decided_at, is_exit, is_left, is_told, is_read, exit_of, left_of, told_of, read_of, maker_of, is_by_letter, is_delivery}
+use Rattle.protocol_model.specs.Answers.{answer_to, answers_at, entered_at, is_prompt, due, is_admission_of, is_unnumbered, may_have, calls_at, answers_under}
 use Rattle.protocol_model.specs.Script.{Row, output, events}
+use Rattle.protocol_model.specs.Tests.{are_nodes, is_list, is_prefix, is_replica, is_numbered_call, is_look, is_answer, are_entries}
 
--- whether two truths are one
-abbrev pub is_same : Bool → Bool → Bool
-is_same true t = t
-is_same false t = not t
+-- at each node the name and join calls are decided in the order in which it accepted them, and what happens at once is entered
+-- in order
+abbrev pub fits : Opening → List Played → Bool
+fits o ps =
+    is_empty o.bound (λ a. not (is_prefix is_numbered_call (flat_map (decided_at a) (entries_of ps)) (accepted_at a ps)))
+    && are_entries (filter is_exit (entries_of ps)) (flat_map exit_of ps)
+    && are_entries (filter is_left (entries_of ps)) (flat_map left_of ps)
+    && are_entries (filter is_told (entries_of ps)) (flat_map told_of ps)
+    && are_entries (filter is_read (entries_of ps)) (flat_map read_of ps)
 
--- whether two sets agree below n
-abbrev pub are_same : ℕ → Nodes → Nodes → Bool
-are_same n s t = is_empty n (λ c. not (is_same (s c) (t c)))
+-- the entry is made by the node of its step, and by a letter where it needs one
+abbrev pub is_made_in : Played → Entry → Bool
+is_made_in p e = (maker_of e == place p.event) && (not (is_by_letter e) || is_delivery p.event)
 
--- ys begins with xs, by a test of their items
-abbrev pub begins_with : {A : Type 0} → (A → A → Bool) → List A → List A → Bool
-begins_with is [] ys = true
-begins_with is (x ∷ xs) [] = false
-begins_with is (x ∷ xs) (y ∷ ys) = is x y && begins_with is xs ys
+-- one entry and one answer, of one look-up at a
+abbrev pub is_looked_up : ℕ → Look → List Entry → List Answer → Bool
+is_looked_up a look (Entry.Read b sight reply ∷ []) (s ∷ []) =
+    (a == b) && is_look look sight && is_answer s (answer_to a 0 reply)
+is_looked_up a look _ _ = false
 
--- whether two lists are one, by a test of their items
-abbrev pub are_equal : {A : Type 0} → (A → A → Bool) → List A → List A → Bool
-are_equal is [] [] = true
-are_equal is (x ∷ xs) (y ∷ ys) = is x y && are_equal is xs ys
-are_equal is _ _ = false
+-- the answer to a `spawn` at a gives a process of a
+abbrev pub is_given_at : ℕ → Answer → Reply → Bool
+is_given_at a s (Pid q) = (q.node == a) && is_answer s (answer_to a 0 (Pid q))
+is_given_at a s _ = false
 
--- whether two tables are one
-abbrev pub is_table : Table → Table → Bool
-is_table t u = are_equal (λ f g. (f.name == g.name) && is_process f.owner g.owner) t u
+-- no entry and one answer, of a `spawn` at a
+abbrev pub is_spawned : ℕ → List Entry → List Answer → Bool
+is_spawned a [] (s ∷ []) = is_given_at a s s.reply
+is_spawned a _ _ = false
 
--- whether two name calls are one
-abbrev pub is_call : NameCall → NameCall → Bool
-is_call (NameCall.Register x p) (NameCall.Register y q) = (x == y) && is_process p q
-is_call (NameCall.ReRegister x p) (NameCall.ReRegister y q) = (x == y) && is_process p q
-is_call (NameCall.Unregister x) (NameCall.Unregister y) = x == y
-is_call _ _ = false
+-- what the step enters of look-ups, and what it answers under number 0
+abbrev pub looks_up_once : Played → Bool
+looks_up_once p = elim p.event [
+  | At a (Event.Calling (Call.LookUp look)) ↦
+      is_looked_up a look (filter is_read p.entries) (filter is_unnumbered p.answers)
+  | At a (Event.Calling Call.Spawn) ↦ is_spawned a (filter is_read p.entries) (filter is_unnumbered p.answers)
+  | _ ↦ is_nil (filter is_read p.entries) && is_nil (filter is_unnumbered p.answers)
+]
 
--- whether two look-ups are one
-abbrev pub is_look : Look → Look → Bool
-is_look (Whereis x) (Whereis y) = x == y
-is_look RegisteredNames RegisteredNames = true
-is_look _ _ = false
+-- there is a call, and it may have this reply
+abbrev pub may_be_answered : Option Call → Reply → Bool
+may_be_answered None reply = false
+may_be_answered (Some call) reply = may_have call reply
 
--- whether two entries are one
-abbrev pub is_entry : Entry → Entry → Bool
-is_entry (Entry.Name a k call reply) (Entry.Name b l deed answer) =
-    (a == b) && (k == l) && is_call call deed && is_reply reply answer
-is_entry (Entry.Strike p) (Entry.Strike q) = is_process p q
-is_entry (Entry.Join j k m reply) (Entry.Join i l n answer) = (j == i) && (k == l) && (m == n) && is_reply reply answer
-is_entry (Entry.Done a) (Entry.Done b) = a == b
-is_entry (Entry.Exit p) (Entry.Exit q) = is_process p q
-is_entry (Entry.Left d) (Entry.Left e) = d == e
-is_entry (Entry.Told a d) (Entry.Told b e) = (a == b) && (d == e)
-is_entry (Entry.Read a look reply) (Entry.Read b sight answer) = (a == b) && is_look look sight && is_reply reply answer
-is_entry _ _ = false
+-- no answer under number k, or one, which its call may have
+abbrev pub is_at_most_one : List Call → ℕ → List Answer → Bool
+is_at_most_one calls k [] = true
+is_at_most_one calls k (s ∷ []) = may_be_answered (slice_get calls (k - 1)) s.reply
+is_at_most_one calls k _ = false
 
--- whether two histories are one
-abbrev pub are_entries : List Entry → List Entry → Bool
-are_entries h i = are_equal is_entry h i
-
--- whether two numbered calls are one
-abbrev pub is_numbered_call : Numbered → Numbered → Bool
-is_numbered_call (NameAs k call) (NameAs l deed) = (k == l) && is_call call deed
-is_numbered_call (JoinAs k m) (JoinAs l n) = (k == l) && (m == n)
-is_numbered_call _ _ = false
-
--- whether two answers are one
-abbrev pub is_answer : Answer → Answer → Bool
-is_answer s t = (s.node == t.node) && (s.number == t.number) && is_reply s.reply t.reply
-
--- whether two replicas are one, as far as the nodes below n
-abbrev pub is_replica : ℕ → Replica → Replica → Bool
-is_replica n v u =
-    is_table v.table u.table && are_same n v.members u.members && are_same n v.told u.told && is_same v.joined u.joined
-
--- the history h of these events fits them
-abbrev pub is_fit : Opening → List Played → List Entry → Bool
-is_fit o ps h =
-    is_empty o.bound (λ a. not (begins_with is_numbered_call (flat_map (decided_at a) h) (accepted_at a ps)))
-    && are_entries (filter is_exit h) (flat_map exit_of ps) && are_entries (filter is_left h) (flat_map left_of ps)
-    && are_entries (filter is_told h) (flat_map told_of ps) && are_entries (filter is_read h) (flat_map read_of ps)
-
--- at each node the answers to its name and join calls are those of its entries, in their order, each once
-abbrev pub is_replied : Opening → List Played → List Entry → Bool
-is_replied o ps h = is_empty o.bound (λ a. not (begins_with is_answer (answers_at a ps) (flat_map (entered_at a) h)))
+-- the answer stands at its own node, and under a number of its own
+abbrev pub answers_call : List Played → Played → Answer → Bool
+answers_call ps p s =
+    (s.node == place p.event)
+    && ((s.number == 0) || is_at_most_one (calls_at s.node ps) s.number (answers_under s.node s.number ps))
 
 -- where the answer is `joined`, its admission holds before and behind the step
 abbrev pub is_joined_in_time : Standing → Standing → Answer → Bool
 is_joined_in_time t u s =
     not (is_reply s.reply Joined) || is_admission_of s (hold_at t s.node) && is_admission_of s (hold_at u s.node)
 
--- the answers of a step p, which t stands before and u behind, come in time
-abbrev pub is_in_time : Standing → Played → Standing → Bool
-is_in_time t p u =
-    are_equal is_answer (filter is_prompt p.answers) (due t p.entries) && list_all (is_joined_in_time t u) p.answers
+-- the answers of a step come in time
+abbrev pub answers_in_time : Standing → Played → Standing → Bool
+answers_in_time t p u =
+    is_list is_answer (filter is_prompt p.answers) (due t p.entries) && list_all (is_joined_in_time t u) p.answers
 
--- node a is of the world and hasn't left
-abbrev pub is_running : Opening → Standing → ℕ → Bool
-is_running o t a = in_world o a && not (t.registry.left a)
+-- node m ends what holds; where that is an admission, its joiner is among those answered, or has left
+abbrev pub is_joiner_answered : List Answer → Registry → ℕ → Option Hold → Bool
+is_joiner_answered given r m None = true
+is_joiner_answered given r m (Some hold) = not (hold.node == m) || (elim hold.entry [
+  | Entry.Join j k n Joined ↦ not (n == m) || (r.left j || list_any (is_answer (answer_to j k Joined)) given)
+  | _ ↦ true
+])
 
--- node a shows all that the registry has for it
-abbrev pub is_shown : Opening → Registry → World → ℕ → Bool
-is_shown o r w a = is_replica o.bound (w.node a).replica (replica_of r a)
+-- the entry ends no admission whose joiner is still to be answered; given: the answers before its step
+abbrev pub joiner_is_answered : List Answer → Standing → Entry → Bool
+joiner_is_answered given t (Entry.Done m) = is_joiner_answered given t.registry m (hold_at t m)
+joiner_is_answered given t _ = true
 
--- it shows the registry, or, while an operation of its group holds, the registry without that operation
-abbrev pub is_shown_or_old : Opening → Standing → World → ℕ → Bool
-is_shown_or_old o t w a = is_shown o t.registry w a || not (is_free t a) && is_shown o (old t a) w a
-
--- all running nodes of the group of a show the registry
-abbrev pub is_shown_by_group : Opening → Standing → World → ℕ → Bool
-is_shown_by_group o t w a =
-    is_empty o.bound (λ c. in_group t.registry a c && is_running o t c && not (is_shown o t.registry w c))
-
--- each `yes` of a step comes once all running nodes of its group show the registry
-abbrev pub is_written : Opening → Standing → Played → World → Bool
-is_written o t p w = list_all (λ s. not (is_reply s.reply Yes) || is_shown_by_group o t w s.node) p.answers
+-- each of these entries passes, as things stand before it
+abbrev pub all_entries : (Standing → Entry → Bool) → Standing → List Entry → Bool
+all_entries passes t [] = true
+all_entries passes t (e ∷ es) = passes t e && all_entries passes (after t e) es
 
 -- a leave is refused for a hold of its own node, or not at all; holds: whether there is one
 abbrev pub is_leave : Bool → Option Refusal → Bool
@@ -133,27 +109,13 @@ is_leave holds None = not holds
 is_leave holds (Some HoldsLock) = holds
 is_leave holds (Some cause) = false
 
--- every running node shows the registry, with or without what holds, and may leave unless it holds
-abbrev pub is_right : Opening → Standing → World → Bool
-is_right o t w = is_empty o.bound (λ a. is_running o t a
-    && not (is_shown_or_old o t w a && is_leave (is_holding t a) (refusal o w (At a Event.Leave))))
-
 -- the holder is the node of what holds in the cluster
 abbrev pub is_holder : Option ℕ → Option Hold → Bool
 is_holder None None = true
-is_holder (Some a) (Some h) = a == h.node
+is_holder (Some a) (Some hold) = a == hold.node
 is_holder _ _ = false
 
--- all that stands between events; h: the entries of the events ps so far, t: what they come to
-abbrev pub stands : Opening → List Played → List Entry → Standing → World → Bool
-stands o ps h t w =
-    are_entries w.history h && is_fit o ps h && is_replied o ps h && is_right o t w && is_holder (holder o w) t.held
-
--- all that stands of a step p, which t stands before and u behind; w: the world behind it
-abbrev pub is_right_step : Opening → Standing → Played → Standing → World → Bool
-is_right_step o t p u w = all_legal t p.entries && is_in_time t p u && is_written o u p w
-
--- how far a row was checked
+-- how far events were checked
 pub record Checked : Type 0 where
   pub plays : List Played
   pub standing : Standing
@@ -161,13 +123,85 @@ pub record Checked : Type 0 where
   pub keeps : Bool
 
 module _ (o : Opening) where
+  -- node a is of the world and hasn't left
+  abbrev pub is_running : Standing → ℕ → Bool
+  is_running u a = in_world o a && not (u.registry.left a)
+
+  -- node a shows all that the registry has for it
+  abbrev pub shows : Registry → ℕ → World → Bool
+  shows r a w = is_replica o.bound (w.node a).replica (replica_of r a)
+
+  -- it shows the registry, or, while an operation of its group holds, the registry without that operation
+  abbrev pub shows_with_or_without : Standing → ℕ → World → Bool
+  shows_with_or_without u a w = shows u.registry a w || not (is_free u a) && shows (old u a) a w
+
+  -- each running node of the group of a passes
+  abbrev pub group_all : Standing → ℕ → Nodes → Bool
+  group_all u a passes = is_empty o.bound (λ c. in_group u.registry a c && is_running u c && not (passes c))
+
+  -- all running nodes of the group of a show the registry
+  abbrev pub group_shows : Standing → ℕ → World → Bool
+  group_shows u a w = group_all u a (λ c. shows u.registry c w)
+
+  -- every running node of the group of a has given the global lock to a, and to no other
+  abbrev pub has_the_lock : Standing → ℕ → World → Bool
+  has_the_lock t a w = group_all t a (λ c. are_nodes o.bound (global_given (w.node c).locks) (λ b. b == a))
+
+  -- the node that decides an operation has the lock
+  abbrev pub decider_has_the_lock : World → Standing → Option ℕ → Bool
+  decider_has_the_lock w t None = true
+  decider_has_the_lock w t (Some a) = has_the_lock t a w
+
+  -- where the entry decides an operation, its node has the lock
+  abbrev pub decided_under_lock : World → Standing → Entry → Bool
+  decided_under_lock w t e = decider_has_the_lock w t (decided_by e)
+
+  -- the history is what the events added
+  abbrev pub keeps_history : List Played → World → Bool
+  keeps_history ps w = are_entries w.history (entries_of ps)
+
+  -- at each node the answers to its name and join calls are those of its entries, in their order, each once
+  abbrev pub keeps_replies : List Played → Bool
+  keeps_replies ps =
+      is_empty o.bound (λ a. not (is_prefix is_answer (answers_at a ps) (flat_map (entered_at a) (entries_of ps))))
+
+  -- a running node shows the registry, or, while an operation of its group holds, the registry without it
+  abbrev pub keeps_free_and_held : Standing → World → Bool
+  keeps_free_and_held u w = is_empty o.bound (λ a. is_running u a && not (shows_with_or_without u a w))
+
+  -- a leave is refused exactly while an operation of that node holds
+  abbrev pub keeps_leave : Standing → World → Bool
+  keeps_leave u w =
+      is_empty o.bound (λ a. is_running u a && not (is_leave (is_holding u a) (refusal o w (At a Event.Leave))))
+
+  -- the holder is the node of the operation that holds in the cluster
+  abbrev pub keeps_holder : Standing → World → Bool
+  keeps_holder u w = is_holder (holder o w) u.held
+
+  -- where it answers `yes`, every running node of the group shows the registry
+  abbrev pub keeps_written : Standing → Played → World → Bool
+  keeps_written u p w = list_all (λ s. not (is_reply s.reply Yes) || group_shows u s.node w) p.answers
+
+  -- all that stands between events
+  abbrev pub stands : List Played → Standing → World → Bool
+  stands ps u w =
+      keeps_history ps w && fits o ps && keeps_replies ps && keeps_free_and_held u w && keeps_leave u w && keeps_holder u w
+
+  -- all that stands of a step; before: the steps before it
+  abbrev pub step_stands : List Played → List Played → Standing → Played → Standing → World → Bool
+  step_stands before ps t p u w =
+      all_legal t p.entries && list_all (is_made_in p) p.entries && all_entries (decided_under_lock w) t p.entries
+      && looks_up_once p
+      && answers_in_time t p u && list_all (answers_call ps p) p.answers
+      && all_entries (joiner_is_answered (answers_of before)) t p.entries && keeps_written u p w
+
   -- behind one accepted event more
   abbrev pub checked_to : Checked → Played → List Played → Standing → World → Checked
   checked_to k p ps u w = record {
     plays = ps;
     standing = u;
     world = w;
-    keeps = k.keeps && is_right_step o k.standing p u w && stands o ps (entries_of ps) u w;
+    keeps = k.keeps && step_stands k.plays ps k.standing p u w && stands ps u w;
   }
 
   -- what was played is checked
@@ -189,14 +223,14 @@ module _ (o : Opening) where
     plays = [];
     standing = nothing_yet (in_cluster o);
     world = opening_world o;
-    keeps = stands o [] [] (nothing_yet (in_cluster o)) (opening_world o);
+    keeps = stands [] (nothing_yet (in_cluster o)) (opening_world o);
   }
 
--- the headline holds behind each event of the row
-abbrev pub keeps_headline : Row → Bool
-keeps_headline r = (fold (checked r.opening) (opening_check r.opening) (events r)).keeps
+  -- the test: the headline holds before these events and behind each of them
+  abbrev pub keeps_headline : List WorldEvent → Bool
+  keeps_headline es = (fold checked opening_check es).keeps
 
 -- The definitions compute the row: the world prints what it has to, and the headline holds behind each event
 pub record Computes (r : Row) : Type 0 where
   pub prints : output r ≡ r.prints
-  pub keeps : keeps_headline r ≡ true
+  pub keeps : keeps_headline r.opening (events r) ≡ true

@@ -19,6 +19,7 @@ pub mod Headline
 pub mod ClientLocks
 pub mod Script
 pub mod RowWords
+pub mod Tests
 pub mod Check
 pub mod NameRows
 pub mod RoundRows
