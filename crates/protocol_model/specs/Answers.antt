@@ -40,7 +40,7 @@ is_prompt s = elim s.reply [ Yes ↦ true | No ↦ true | Ok ↦ true | UnknownN
 -- a name call that was written is answered when it is done; an admission has no answer of its own
 abbrev pub due_when_done : Option Hold → List Answer
 due_when_done None = []
-due_when_done (Some h) = elim h.entry [ Entry.Name a k call reply ↦ answer_to a k reply ∷ [] | _ ↦ [] ]
+due_when_done (Some hold) = elim hold.entry [ Entry.Name a k call reply ↦ answer_to a k reply ∷ [] | _ ↦ [] ]
 
 -- what an entry has answered at once
 abbrev pub due_of : Standing → Entry → List Answer
@@ -57,7 +57,7 @@ due t (e ∷ es) = due_of t e ++ due (after t e) es
 -- the operation that holds is the admission that this answer tells of
 abbrev pub is_admission_of : Answer → Option Hold → Bool
 is_admission_of s None = false
-is_admission_of s (Some h) = elim h.entry [ Entry.Join j k m Joined ↦ (j == s.node) && (k == s.number) | _ ↦ false ]
+is_admission_of s (Some hold) = elim hold.entry [ Entry.Join j k m Joined ↦ (j == s.node) && (k == s.number) | _ ↦ false ]
 
 -- the answers under no number
 abbrev pub is_unnumbered : Answer → Bool

@@ -20,7 +20,7 @@ module _ (n a : ℕ) where
 
   -- those of the killed that live here, in order
   abbrev pub kill : List Process → Turn → Turn
-  kill ps u = fold (λ w p. if is_live a w.node.watch p then die p w else w) u ps
+  kill ps u = fold (λ turn p. if is_live a turn.node.watch p then die p turn else turn) u ps
 
   -- the operation goes to the back of the queue
   abbrev pub queued : Op → Turn → Turn

@@ -197,25 +197,25 @@ module _ (o : Opening) where
 
   -- behind one accepted event more
   abbrev pub checked_to : Checked → Played → List Played → Standing → World → Checked
-  checked_to k p ps u w = record {
+  checked_to so_far p ps u w = record {
     plays = ps;
     standing = u;
     world = w;
-    keeps = k.keeps && step_stands k.plays ps k.standing p u w && stands ps u w;
+    keeps = so_far.keeps && step_stands so_far.plays ps so_far.standing p u w && stands ps u w;
   }
 
   -- what was played is checked
   abbrev pub check_played : Checked → WorldEvent → Played → Checked
-  check_played k e p = checked_to k p (k.plays ++ p ∷ []) (fold after k.standing p.entries) (happens o k.world e)
+  check_played so_far e p = checked_to so_far p (so_far.plays ++ p ∷ []) (fold after so_far.standing p.entries) (happens o so_far.world e)
 
   -- a refused event changes nothing
   abbrev pub check_event : Checked → WorldEvent → Option Refusal → Checked
-  check_event k e (Some cause) = k
-  check_event k e None = check_played k e (played o k.world e)
+  check_event so_far e (Some refusal) = so_far
+  check_event so_far e None = check_played so_far e (played o so_far.world e)
 
   -- behind one event more
   abbrev pub checked : Checked → WorldEvent → Checked
-  checked k e = check_event k e (refusal o k.world e)
+  checked so_far e = check_event so_far e (refusal o so_far.world e)
 
   -- before the first event
   abbrev pub opening_check : Checked

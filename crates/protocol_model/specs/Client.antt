@@ -1,6 +1,6 @@
 -- The rules of clients' lock calls. n: above all nodes of the world. a: this node.
 use Rattle.std.specs.Prelude.{ℕ, Bool, true, false, zero, ◌-◌, Option, Some, None, fold, if◌then◌else◌}
-use Rattle.registry_model.specs.Process.{Text, Process, Nodes, at}
+use Rattle.registry_model.specs.Process.{Text, Process, Nodes, without_node}
 use Rattle.registry_model.specs.Call.{True, False}
 use Rattle.protocol_model.specs.Round.{Round, begin, greatest, is_empty, owes, asked, answer, down, is_over, Ending, ending}
 use Rattle.protocol_model.specs.Letter.{Client, Letter}
@@ -78,9 +78,9 @@ module _ (n a : ℕ) where
   abbrev pub owe_less_in : ℕ → LockPhase → LockCall → Turn → Turn
   owe_less_in f (LockPhase.Deleting owing) c u =
       if owing f
-      then (if is_empty n (at owing f false)
+      then (if is_empty n (without_node f owing)
       then close_call c true u
-      else keep_call (in_phase (LockPhase.Deleting (at owing f false)) c) u)
+      else keep_call (in_phase (LockPhase.Deleting (without_node f owing)) c) u)
       else u
   owe_less_in f _ c u = u
 
@@ -96,7 +96,7 @@ module _ (n a : ℕ) where
 
   -- all lock calls are told, by serial
   abbrev pub lose_node : ℕ → Turn → Turn
-  lose_node d u = fold (λ w c. lose_node_in d c.phase c w) u u.node.calls
+  lose_node d u = fold (λ turn c. lose_node_in d c.phase c turn) u u.node.calls
 
   -- a refused call uses one retry and is tried again
   abbrev pub retry_in : LockPhase → LockCall → Turn → Turn
@@ -105,7 +105,7 @@ module _ (n a : ℕ) where
 
   -- all refused calls are tried again, by serial
   abbrev pub retry_locks : Turn → Turn
-  retry_locks u = fold (λ w c. retry_in c.phase c w) u u.node.calls
+  retry_locks u = fold (λ turn c. retry_in c.phase c turn) u u.node.calls
 
   -- a new lock call, of number k
   abbrev pub new_call : ℕ → Process → Text → Text → Target → Retries → LockCall

@@ -1,7 +1,7 @@
 -- How the registrar's round ends, and what is decided then.
 -- n: above all nodes of the world. a: this node. number j: the number of j's current join, for the history alone.
 use Rattle.std.specs.Prelude.{ℕ, Bool, true, None, if◌then◌else◌}
-use Rattle.registry_model.specs.Process.{Nodes, at}
+use Rattle.registry_model.specs.Process.{Nodes, with_node}
 use Rattle.registry_model.specs.Table.{Table, StrikeOwner, put_all}
 use Rattle.registry_model.specs.Call.{Joined, reply_to}
 use Rattle.registry_model.specs.Settlement.{Settled, settle}
@@ -16,9 +16,11 @@ module _ (n a : ℕ) (number : ℕ → ℕ) where
   -- j is let in: the members are told to admit it, and it is welcomed with all that this node has
   abbrev pub admit : ℕ → Table → Nodes → Settled → Turn → Turn
   admit j pairs asked s u =
-      send j (Letter.Welcome (at u.node.replica.members j true) (put_all s.puts u.node.replica.table) u.node.replica.told s.kills)
+      send j
+      (Letter.Welcome (with_node j u.node.replica.members)
+      (put_all s.puts u.node.replica.table) u.node.replica.told s.kills)
       (send_all n u.node.replica.members (Letter.Admit j s.puts s.kills)
-      (at_work (Current.Writing (Op.Admission j pairs) asked (at u.node.replica.members j true) None)
+      (at_work (Current.Writing (Op.Admission j pairs) asked (with_node j u.node.replica.members) None)
       (enter (Entry.Join j (number j) a Joined) u)))
 
   -- the round is held: the operation is decided, and enters the history

@@ -52,7 +52,7 @@ pub record Cause : Type 0 where
 
 -- the refusal, where this is so
 abbrev pub cause : Bool → Refusal → Cause
-cause b r = record { stands = b; refusal = r }
+cause so refusal = record { stands = so; refusal = refusal }
 
 -- the first refusal that has cause
 abbrev pub first_cause : List Cause → Option Refusal

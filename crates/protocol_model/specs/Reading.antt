@@ -1,7 +1,7 @@
 -- A step of a node that a letter makes.
 -- n: above all nodes of the world. a: this node. number j: the number of j's current join, for the history alone.
 use Rattle.std.specs.Prelude.{ℕ, Bool, true, false, not, ◌&&◌, ◌||◌, ◌==◌, fold, List, if◌then◌else◌}
-use Rattle.registry_model.specs.Process.{Process, is_process, Nodes, at}
+use Rattle.registry_model.specs.Process.{Process, is_process, Nodes, with_node, without_node}
 use Rattle.registry_model.specs.Table.{Table, Put, without}
 use Rattle.registry_model.specs.Call.{Joined, NotMember}
 use Rattle.registry_model.specs.Registry.{Replica}
@@ -17,11 +17,11 @@ use Rattle.protocol_model.specs.Calling.{kill, queued}
 
 -- j is a member, unless it is told to have left
 abbrev pub with_member : ℕ → Replica → Replica
-with_member j v = if v.told j then v else record v { members = at v.members j true }
+with_member j v = if v.told j then v else record v { members = with_node j v.members }
 
 -- j is admitted: it is a member, and its names are written
 abbrev pub admitted : ℕ → Table → Replica → Replica
-admitted j puts v = fold (λ x e. wrote (Put e.name e.owner) x) (with_member j v) puts
+admitted j puts v = fold (λ replica pair. wrote (Put pair.name pair.owner) replica) (with_member j v) puts
 
 -- what a joined node has of these members and this table, where it was told that these have left
 abbrev pub joined_with : Nodes → Table → Nodes → Replica
@@ -34,7 +34,7 @@ welcomed members pairs told v = joined_with members pairs (λ d. v.told d || tol
 
 -- d is told to have left: it is no member, and what is owned on it goes
 abbrev pub bereft : ℕ → Replica → Replica
-bereft d v = record v { told = at v.told d true; members = at v.members d false; table = without (λ c. c == d) v.table }
+bereft d v = record v { told = with_node d v.told; members = without_node d v.members; table = without (λ c. c == d) v.table }
 
 module _ (n a : ℕ) (number : ℕ → ℕ) where
   -- the lock table answers f

@@ -1,7 +1,7 @@
 -- The rules of a node's registrar, which runs its operations one at a time, each under the global lock.
 -- n: above all nodes of the world. a: this node.
 use Rattle.std.specs.Prelude.{ℕ, Bool, false, not, ◌&&◌, Option, Some, None, List, [], ◌∷◌, ◌==◌, if◌then◌else◌}
-use Rattle.registry_model.specs.Process.{Process, Nodes, at}
+use Rattle.registry_model.specs.Process.{Process, Nodes, without_node}
 use Rattle.registry_model.specs.Table.{Change}
 use Rattle.registry_model.specs.Call.{NameCall, Reply, ContactLeft, is_grant, change_of}
 use Rattle.registry_model.specs.History.{Entry}
@@ -66,9 +66,9 @@ module _ (n a : ℕ) where
   abbrev pub await_less : ℕ → Current → Turn → Turn
   await_less c (Current.Writing op asked awaited reply) u =
       if awaited c
-      then (if is_empty n (at awaited c false)
+      then (if is_empty n (without_node c awaited)
       then done op asked reply u
-      else at_work (Current.Writing op asked (at awaited c false) reply) u)
+      else at_work (Current.Writing op asked (without_node c awaited) reply) u)
       else u
   await_less c _ u = u
 

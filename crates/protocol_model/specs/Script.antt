@@ -53,7 +53,7 @@ module _ (o : Opening) (limit : ℕ) where
   -- an event prints its answers, or why it is refused
   abbrev pub played : World → WorldEvent → Option Refusal → List Output
   played w e None = okay e ++ map Said (answers o w e)
-  played w e (Some r) = Error r ∷ []
+  played w e (Some refusal) = Error refusal ∷ []
 
   -- what stands behind the answers of a `Settle`, by the next delivery, if there is one
   abbrev pub settled : Option WorldEvent → Output

@@ -14,32 +14,32 @@ nobody_yet = record { last_serial = 0; dead = [] }
 
 -- the process of this serial is dead
 abbrev pub is_dead : Watch → ℕ → Bool
-is_dead w s = list_any (λ d. d == s) w.dead
+is_dead watch s = list_any (λ d. d == s) watch.dead
 
 -- p is a live process of node a; a serial that wasn't given yet counts as live
 abbrev pub is_live : ℕ → Watch → Process → Bool
-is_live a w p = (p.node == a) && not (p.serial == 0) && not (is_dead w p.serial)
+is_live a watch p = (p.node == a) && not (p.serial == 0) && not (is_dead watch p.serial)
 
 -- p is a process of node a whose serial, or a greater one, was given
 abbrev pub is_issued : ℕ → Watch → Process → Bool
-is_issued a w p = (p.node == a) && not (p.serial == 0) && not (nat_lt w.last_serial p.serial)
+is_issued a watch p = (p.node == a) && not (p.serial == 0) && not (nat_lt watch.last_serial p.serial)
 
--- the least serial from k on that isn't dead; it is at most as far off as there are dead ones
+-- the least serial from s on that isn't dead; it is at most as far off as there are dead ones
 abbrev pub first_live : ℕ → Watch → ℕ → ℕ
-first_live zero w k = k
-first_live (suc most) w k = if is_dead w k then first_live most w (k + 1) else k
+first_live zero watch s = s
+first_live (suc most) watch s = if is_dead watch s then first_live most watch (s + 1) else s
 
 -- the serial that is spawned next: the least above all given ones that isn't dead
 abbrev pub next_serial : Watch → ℕ
-next_serial w = first_live (length w.dead) w (w.last_serial + 1)
+next_serial watch = first_live (length watch.dead) watch (watch.last_serial + 1)
 
 -- the serial is given
 abbrev pub with_spawned : ℕ → Watch → Watch
-with_spawned s w = record w { last_serial = s }
+with_spawned s watch = record watch { last_serial = s }
 
 -- the process of this serial is dead from now on
 abbrev pub with_dead : ℕ → Watch → Watch
-with_dead s w = record w { dead = w.dead ++ s ∷ [] }
+with_dead s watch = record watch { dead = watch.dead ++ s ∷ [] }
 
 -- the lesser of a serial and another, if there is another
 abbrev pub lesser : ℕ → Option ℕ → ℕ
@@ -54,4 +54,4 @@ least_owner a t (s ∷ ss) =
 
 -- the least dead serial of node a that owns a name: its strike is owed
 abbrev pub owed : ℕ → Table → Watch → Option ℕ
-owed a t w = least_owner a t w.dead
+owed a t watch = least_owner a t watch.dead

@@ -44,6 +44,10 @@ at f a v x = if x == a then v else f x
 abbrev pub with_node : ℕ → Nodes → Nodes
 with_node n s = at s n true
 
+-- the set, and n not in it
+abbrev pub without_node : ℕ → Nodes → Nodes
+without_node n s = at s n false
+
 -- the nodes of a set below n, rising
 abbrev pub nodes_of : ℕ → Nodes → List ℕ
 nodes_of zero s = []
