@@ -8,7 +8,8 @@ use Rattle.registry_model.specs.History.{Entry}
 use Rattle.protocol_model.specs.Event.{Refusal}
 use Rattle.protocol_model.specs.World.{Opening, World, WorldEvent, turn_of, refusal, accepted, opening_world}
 use Rattle.protocol_model.specs.Course.{Played, played, entries_of}
-use Rattle.protocol_model.specs.Fit.{is_exit, is_left, is_told, is_read, exit_of, left_of, told_of, read_of}
+use Rattle.protocol_model.specs.Fit.{is_exit, is_left, is_told, is_read, exit_of, left_of, told_of}
+use Rattle.fitting.proofs.Events.{read_of}
 use Rattle.moves.proofs.Rules
 use Rattle.fitting.proofs.Rests.{Rested, rested_keeps, rested_opens}
 use Rattle.fitting.proofs.Events.{Own, event_enters}

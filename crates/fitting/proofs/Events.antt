@@ -11,11 +11,15 @@ use Rattle.protocol_model.specs.Event.{Call, Event, Answer, Refusal}
 use Rattle.registry_model.specs.Call.{Reply, seen_in}
 use Rattle.fitting.proofs.Rests.{Rested, looked-answers, place_runs}
 use Rattle.protocol_model.specs.World.{Opening, World, WorldEvent, At, Deliver, join_number, turn_of, refusal, answers}
-use Rattle.protocol_model.specs.Course.{played, is_down_first}
-use Rattle.protocol_model.specs.Fit.{is_exit, is_left, is_told, is_read, exit_of, left_of, told_of, read_of}
+use Rattle.protocol_model.specs.Course.{Played, played, is_down_first}
+use Rattle.protocol_model.specs.Fit.{is_exit, is_left, is_told, is_read, exit_of, left_of, told_of}
 use Rattle.moves.proofs.Rules
 use Rattle.moves.proofs.Indices.{both}
 use Rattle.join_gates.proofs.Made.{entered, entries_made}
+
+-- the entry of an accepted look-up, with the reply that it was given
+abbrev pub read_of : Played → List Entry
+read_of p = elim p.event [ At a (Event.Calling (Call.LookUp look)) ↦ map (λ s. Entry.Read a look s.reply) p.answers | _ ↦ [] ]
 
 -- the exits, departures, notices and look-ups among these entries are those
 pub record Own (es xs ds ts rs : List Entry) : Type 0 where

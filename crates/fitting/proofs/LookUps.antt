@@ -1,19 +1,20 @@
 -- What a step answers stands under its own node; a look-up and a `spawn` are answered once, and nothing else under number 0.
 use Rattle.std.proofs.Common.{ℕ, Bool, true, false, ◌≡◌, ◌==◌, ◌<◌, None, inl, inr, List, [], ◌∷◌, ◌++◌, refl, sym, ap, ◌∙◌, subst, arith}
-use Rattle.std.specs.Prelude.{◌&&◌, not, if◌then◌else◌, filter, flat_map, map, Contains}
+use Rattle.std.specs.Prelude.{◌&&◌, if◌then◌else◌, filter, flat_map, map, Contains}
 use Rattle.std.specs.List.{AllByRecursion}
 use Rattle.std.proofs.lemmas.List.Elements.{Contains-append_cases, All-contains, All-from_recursion}
 use Rattle.std.proofs.lemmas.List.{append-nil}
 use Rattle.std.proofs.lemmas.Grind.{flat_map-append}
 use Rattle.std.proofs.lemmas.Bool.{eq-eqb, ne_eqb, eqb-true}
 use Rattle.registry_model.specs.Process.{Process}
-use Rattle.registry_model.specs.Call.{Look, Reply, Pid, seen_in}
+use Rattle.registry_model.specs.Call.{Reply, Pid, seen_in}
 use Rattle.registry_model.specs.History.{Entry}
 use Rattle.registry_model.proofs.Lists.{Contains-cases, Contains-nil}
 use Rattle.protocol_model.specs.Watch.{next_serial}
 use Rattle.protocol_model.specs.Event.{Call, Event, Answer}
 use Rattle.protocol_model.specs.Turn.{Turn}
-use Rattle.protocol_model.specs.Fit.{is_read, read_of, exit_of, left_of, told_of, accepted_at, calls_in}
+use Rattle.protocol_model.specs.Fit.{exit_of, left_of, told_of, accepted_at, calls_in}
+use Rattle.fitting.proofs.Events.{read_of}
 use Rattle.protocol_model.specs.Answers.{answer_to, is_unnumbered, IsNoLookUp, LooksUpOnce}
 use Rattle.protocol_model.specs.World.{Opening, World, WorldEvent, At, Deliver, place, turn_of, refusal, accepted}
 use Rattle.protocol_model.specs.Course.{Played, played, answers_of}
@@ -97,10 +98,10 @@ module _ (o : Opening) (w : World) (e : WorldEvent) (ps : List Played) (R : Repl
               zero : (t : Bool) → (s.number == 0) ≡ t → t ≡ false
               zero false q = refl
               zero true q = absurd (cc (
-                sym (y (ap (λ (t : Bool). t && is_word s.reply) (eq-eqb s.node a x.0) ∙ k))
-                    ∙ ap (is_used (accepted_at a qs)) (eqb-true s.number 0 q)
-                    ∙ unused_before 1 0 (flat_map (calls_in a) qs) (omega arith)
-              ))
+                  sym (y (ap (λ (t : Bool). t && is_word s.reply) (eq-eqb s.node a x.0) ∙ k))
+                  ∙ ap (is_used (accepted_at a qs)) (eqb-true s.number 0 q)
+                  ∙ unused_before 1 0 (flat_map (calls_in a) qs) (omega arith)
+                  ))
 
   -- each answer of the step stands under its node
   pub own_answers : AllByRecursion (λ s. s.node ≡ a) u.answers
@@ -184,9 +185,9 @@ own_steps_keep o w e ps R B C X rested is W before p c = elim (Contains-append_c
   | inl h ↦ before p h
   | inr h ↦ elim (Contains-cases (played o w e) [] p h) [
     | inl q ↦ subst IsOwnStep q (record {
-        looks = looks_once o w e ps R B C X rested is W;
-        place = own_place o w e ps R B C X rested is W;
-      })
+      looks = looks_once o w e ps R B C X rested is W;
+      place = own_place o w e ps R B C X rested is W;
+    })
     | inr none ↦ absurd (Contains-nil p none)
   ]
 ]

@@ -1,7 +1,7 @@
 -- Each name call and each join of a node is answered at most once, by a reply that it may have.
 use Rattle.std.proofs.Common.{ℕ, zero, suc, Bool, true, false, ◌≡◌, ◌==◌, ◌+◌, ◌-◌, ◌<◌, Option, Some, None, List, [], ◌∷◌, ◌++◌, refl, sym, ap, ◌∙◌, subst, arith}
 use Rattle.std.specs.Prelude.{◌&&◌, not, if◌then◌else◌, filter, flat_map}
-use Rattle.std.specs.List.{AllByRecursion, slice_get}
+use Rattle.std.specs.List.{slice_get}
 use Rattle.std.proofs.lemmas.List.{append-nil}
 use Rattle.std.proofs.lemmas.List.Elements.{filter-append}
 use Rattle.std.proofs.lemmas.Bool.{eq-eqb, ne_eqb, eqb-true}
@@ -11,18 +11,18 @@ use Rattle.registry_model.specs.Call.{NameCall, Register, ReRegister, Unregister
 use Rattle.registry_model.specs.Registry.{members, view}
 use Rattle.registry_model.specs.History.{Entry, Standing, after}
 use Rattle.registry_model.specs.Legal.{is_legal, all_legal}
-use Rattle.registry_model.proofs.Legality.{NameIsLegal, name_is_legal}
+use Rattle.registry_model.proofs.Legality.{name_is_legal}
 use Rattle.protocol_model.specs.Event.{Call, Answer}
-use Rattle.protocol_model.specs.Fit.{Numbered, NameAs, JoinAs, numbered, calls_in, number_from, accepted_at, decided_at}
+use Rattle.protocol_model.specs.Fit.{Numbered, NameAs, JoinAs, numbered, number_from, accepted_at, decided_at}
 use Rattle.protocol_model.specs.Answers.{answer_to, number_of, entered_at, may_have, calls_at, answers_under, AtMostOne, NotYet, Once}
-use Rattle.protocol_model.specs.World.{Opening, World, opening_world}
+use Rattle.protocol_model.specs.World.{Opening, World}
 use Rattle.protocol_model.specs.Course.{Played, answers_of}
 use Rattle.moves.proofs.Indices.{both}
-use Rattle.moves.proofs.Invariants.{standing_at, Replicas}
+use Rattle.moves.proofs.Invariants.{Replicas}
 use Rattle.fitting.proofs.Accounts.{own, owed_by, is_word, is_word_at, replies_to}
 use Rattle.fitting.proofs.Admissions.{all_map}
 use Rattle.fitting.proofs.Chains.{Book}
-use Rattle.fitting.proofs.Replies.{Spare, Spares, is_used, is_answered, found, filter_same, all_two, word_used}
+use Rattle.fitting.proofs.Replies.{Spare, Spares, is_used, is_answered, found, filter_same, word_used}
 
 -- node a answers under number k
 abbrev pub is_under : ℕ → ℕ → Answer → Bool

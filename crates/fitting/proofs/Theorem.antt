@@ -50,7 +50,6 @@ module _ (o : Opening) (Good : World → Type 0) (K : Chains.Ground o Good) (G :
     exits = kept_run.apart.fits.exits;
     departures = kept_run.apart.fits.departures;
     notices = kept_run.apart.fits.notices;
-    reads = kept_run.apart.fits.reads;
   }
 
   -- a look-up is entered once and answered once; nothing but it and `spawn` is answered under number 0

@@ -1,6 +1,6 @@
 -- Of every course: look-ups are answered once, and each numbered call is answered at most once, by a reply that it may have.
-use Rattle.std.proofs.Common.{ℕ, Bool, true, false, ◌==◌, ◌≡◌, None, List, [], ◌∷◌, ◌++◌, refl, sym, ap, ◌∙◌, subst}
-use Rattle.std.specs.Prelude.{◌&&◌, not, if◌then◌else◌, flat_map, Contains}
+use Rattle.std.proofs.Common.{ℕ, Bool, false, ◌==◌, ◌≡◌, None, List, [], ◌∷◌, ◌++◌, sym, ap, ◌∙◌, subst}
+use Rattle.std.specs.Prelude.{◌&&◌, not, if◌then◌else◌, Contains}
 use Rattle.std.specs.List.{AllByRecursion}
 use Rattle.std.proofs.lemmas.List.{append-nil}
 use Rattle.std.proofs.lemmas.Grind.{flat_map-append}
@@ -10,14 +10,14 @@ use Rattle.protocol_model.specs.Event.{Call, Answer}
 use Rattle.protocol_model.specs.Turn.{Turn}
 use Rattle.protocol_model.specs.Fit.{calls_in}
 use Rattle.protocol_model.specs.Answers.{calls_at, LooksUpOnce, AnswersCalls}
-use Rattle.protocol_model.specs.World.{Opening, World, WorldEvent, place, turn_of, refusal, accepted, opening_world, run}
-use Rattle.protocol_model.specs.Course.{Played, played, answers_of, course}
+use Rattle.protocol_model.specs.World.{Opening, World, WorldEvent, place, turn_of, refusal, accepted, opening_world}
+use Rattle.protocol_model.specs.Course.{Played, played, answers_of}
 use Rattle.moves.proofs.Indices.{by_test, at_same}
 use Rattle.walk.proofs.Walk.{walked_in_order}
 use Rattle.fitting.proofs.Accounts.{is_word}
 use Rattle.fitting.proofs.Admissions.{all_map}
 use Rattle.fitting.proofs.Chains
-use Rattle.fitting.proofs.Once.{is_under, is_lock_under, answers_once}
+use Rattle.fitting.proofs.Once.{is_lock_under, answers_once}
 use Rattle.fitting.proofs.LookUps.{filter_none, own_answers}
 use Rattle.fitting.proofs.Replies.{accepted-node, answers_given}
 use Rattle.fitting.proofs.Theorem

@@ -20,7 +20,6 @@ use Rattle.protocol_model.specs.Answers.AtMostOne.{NotYet, Once}
 use Rattle.protocol_model.specs.Headline.{standing, Headline}
 use Rattle.protocol_model.specs.Tests.{is_answer}
 use Rattle.protocol_model.specs.Check.{is_made_in, looks_up_once, is_at_most_one, answers_call, is_joined_in_time, answers_in_time, is_joiner_answered, joiner_is_answered, all_entries, group_shows, decider_has_the_lock, decided_under_lock, keeps_written, stands, step_stands}
-use Rattle.headline.specs.Tie.{Further}
 use Rattle.headline.proofs.Courses.{entries_of-push}
 use Rattle.headline.proofs.Same
 use Rattle.headline.proofs.Asked.{where_so, or_left, or_right, Contains-last, all_from, any_from, entries_from, group_shown, lock_had, between}
@@ -96,7 +95,7 @@ joiner given r m (Some hold) h = where_so (hold.node == m) _ (λ own. of_entry (
     of_entry own _ i = refl
 
 module _ (o : Opening) (before : List Played) (p : Played) (w : World)
-    (H : Headline o (before ++ p ∷ []) (seen o w)) (F : Further o (before ++ p ∷ []) (seen o w)) where
+    (H : Headline o (before ++ p ∷ []) (seen o w)) where
   -- how things stand before the step, and behind it
   abbrev t : Standing
   t = standing o before
@@ -128,7 +127,7 @@ module _ (o : Opening) (before : List Played) (p : Played) (w : World)
           decider_has_the_lock o w (fold after t earlier) x ≡ true
       by earlier later e i None k = refl
       by earlier later e i (Some a) k =
-          lock_had o (fold after t earlier) a w (F.decided before p earlier later e a refl i k)
+          lock_had o (fold after t earlier) a w (H.decided before p earlier later e a refl i k)
 
   -- its joiners were answered
   joining : all_entries (joiner_is_answered (answers_of before)) t p.entries ≡ true
@@ -138,7 +137,7 @@ module _ (o : Opening) (before : List Played) (p : Played) (w : World)
           joiner_is_answered (answers_of before) (fold after t earlier) e ≡ true
       by earlier later (Entry.Done m) i =
           joiner (answers_of before) (fold after t earlier).registry m (hold_at (fold after t earlier) m)
-          (λ hold j k x own e. F.joiner before p [] refl earlier later hold j k m i x own e)
+          (λ hold j k x own e. H.joiner before p [] refl earlier later hold j k m i x own e)
       by earlier later _ i = refl
 
   -- where it answers `yes`, all is written
@@ -153,12 +152,12 @@ module _ (o : Opening) (before : List Played) (p : Played) (w : World)
   pub step : step_stands o before (before ++ p ∷ []) t p u w ≡ true
   step = and_from _ _ (and_from _ _ (and_from _ _ (and_from _ _ (and_from _ _ (and_from _ _ (and_from _ _
       legal
-      (all_from (is_made_in p) p.entries (λ e c. made p e (F.made p e last c))))
+      (all_from (is_made_in p) p.entries (λ e c. made p e (H.made p e last c))))
       deciding)
-      (looking p.event p.answers p.entries p.down (F.looks p last)))
+      (looking p.event p.answers p.entries p.down (H.looks p last)))
       (in_time t p u (H.in_time before p [] refl)))
       (all_from (answers_call (before ++ p ∷ []) p) p.answers
-      (λ s c. answering (before ++ p ∷ []) p s F.answered last c)))
+      (λ s c. answering (before ++ p ∷ []) p s H.answered last c)))
       joining)
       writing
 

@@ -1,7 +1,7 @@
 -- Where a step ends an admission, its joiner was answered `joined` in an earlier one, or has left.
 use mathlib.Core.Logic.{◌⊎◌}
-use Rattle.std.proofs.Common.{ℕ, Bool, true, false, ◌==◌, ◌≡◌, ◌+◌, ◌<◌, Option, Some, None, List, [], ◌∷◌, ◌++◌, refl, sym, ap, ◌∙◌, subst, arith, inl, inr}
-use Rattle.std.specs.Prelude.{◌&&◌, ◌||◌, not, nat_lt, if◌then◌else◌, filter, flat_map, fold, Contains}
+use Rattle.std.proofs.Common.{ℕ, Bool, true, false, ◌==◌, ◌≡◌, Option, Some, None, List, [], ◌∷◌, ◌++◌, refl, sym, ap, ◌∙◌, subst, arith, inl, inr}
+use Rattle.std.specs.Prelude.{nat_lt, if◌then◌else◌, filter, flat_map, fold, Contains}
 use Rattle.std.proofs.lemmas.List.{append-nil, append_assoc}
 use Rattle.std.proofs.lemmas.List.Elements.{Contains-append_cases, Contains-append_left, Contains-append_right}
 use Rattle.std.proofs.lemmas.Grind.{flat_map-append}
@@ -11,18 +11,18 @@ use Rattle.registry_model.specs.Registry.{Registry}
 use Rattle.registry_model.specs.Call.{Reply, Joined, is_grant}
 use Rattle.registry_model.specs.History.{Entry, Hold, Standing, standing_of, hold_at, after}
 use Rattle.registry_model.specs.HistoryLaws.{IsLeftOut}
-use Rattle.registry_model.specs.Legal.{IsLegal, is_legal}
+use Rattle.registry_model.specs.Legal.{IsLegal}
 use Rattle.registry_model.proofs.Lists.{Contains-cases, Contains-front, Contains-behind, Contains-nil}
 use Rattle.registry_model.proofs.HistoryParts.{is_legal-at, standing_of-append, registry-after}
 use Rattle.registry_model.proofs.Legality.{JoinIsLegal, join_is_legal}
 use Rattle.registry_model.proofs.Holding.{old_law}
 use Rattle.protocol_model.specs.Letter.{Letter}
-use Rattle.protocol_model.specs.Node.{Op, Current, is_writing}
+use Rattle.protocol_model.specs.Node.{Op, Current}
 use Rattle.protocol_model.specs.Event.{Answer}
 use Rattle.protocol_model.specs.Fit.{Numbered, accepted_at}
 use Rattle.protocol_model.specs.Answers.{answer_to, entered_at, JoinerIsAnswered}
-use Rattle.protocol_model.specs.World.{Opening, World, WorldEvent, in_world, in_cluster, left, place, turn_of, refusal, accepted, join_number, opening_world}
-use Rattle.protocol_model.specs.Course.{Played, played, answers_of, entries_of}
+use Rattle.protocol_model.specs.World.{Opening, World, WorldEvent, in_world, in_cluster, left, place, refusal, accepted, join_number, opening_world}
+use Rattle.protocol_model.specs.Course.{Played, played, answers_of}
 use Rattle.protocol_model.specs.Headline.{standing, EachStep}
 use Rattle.moves.proofs.Rules
 use Rattle.moves.proofs.Rules.{Rule}
@@ -31,11 +31,10 @@ use Rattle.moves.proofs.Invariants.{current, standing_at, Replicas, IsWritten}
 use Rattle.walk.proofs.Runs.{rules_of}
 use Rattle.join_gates.proofs.Made.{entered, entries_made}
 use Rattle.join_gates.proofs.Tokens.{Gate, Away, Knock, Wait, Turned, Entering, is_entering, returns, returns_of}
-use Rattle.join_gates.proofs.Gates.{Gates}
 use Rattle.join_gates.proofs.Pasts.{Admitted, joined_grows}
 use Rattle.join_gates.proofs.Still.{effect-standing}
 use Rattle.replicas.proofs.Mail.{carries}
-use Rattle.replicas.proofs.Scenes.{Carries, mine, count_of, awaits_node, doing_of, one_if}
+use Rattle.replicas.proofs.Scenes.{mine, count_of, awaits_node, doing_of, one_if}
 use Rattle.fitting.proofs.Accounts.{Accounts, answer_with, owed_by, replies_to, reply_by, is_word_at}
 use Rattle.fitting.proofs.Chains
 use Rattle.fitting.proofs.Keeping.{accepted_after, accounts_keep}
@@ -226,12 +225,12 @@ module _ (o : Opening) (a : ℕ) (before : List Answer) where
           go true e = inl (R.departed j ∙ e)
           go false e = elim (Contains-append_cases (filter (is_word_at j) (before ++ ss)) _ answer
               (subst (λ (xs : List Answer). Contains xs answer) (A.answers j) entered_here)) [
-            | inl c ↦ elim (Contains-append_cases before ss answer (Contains-filter (is_word_at j) (before ++ ss) answer c)) [
-              | inl d ↦ inr d
-              | inr d ↦ absurd (apart (own answer d))
-            ]
-            | inr c ↦ absurd (not_owed e (current o w j) (R.written j) c)
-          ]
+                | inl c ↦ elim (Contains-append_cases before ss answer (Contains-filter (is_word_at j) (before ++ ss) answer c)) [
+                  | inl d ↦ inr d
+                  | inr d ↦ absurd (apart (own answer d))
+                ]
+                | inr c ↦ absurd (not_owed e (current o w j) (R.written j) c)
+              ]
 
   -- what is entered by a rule
   rule_told : (w : World) (r : Rule) (ss : List Answer) (calls : ℕ → List Numbered) → Whole o w → Rules.May o a w r

@@ -1,10 +1,10 @@
 -- The lock calls of one node and their answers: an open call isn't answered yet, and each is answered at most once.
-use Rattle.std.proofs.Common.{ℕ, zero, suc, Bool, true, false, ◌==◌, ◌≡◌, ◌+◌, ◌-◌, ◌<◌, ◌≤◌, Option, Some, None, List, [], ◌∷◌, ◌++◌, length, refl, sym, ap, ◌∙◌, subst, arith, length-append}
+use Rattle.std.proofs.Common.{ℕ, zero, suc, Bool, true, false, ◌==◌, ◌≡◌, ◌+◌, ◌-◌, ◌<◌, Some, None, List, [], ◌∷◌, ◌++◌, length, refl, sym, ap, ◌∙◌, subst, arith}
 use Rattle.std.specs.Prelude.{◌&&◌, not, if◌then◌else◌, filter}
 use Rattle.std.specs.List.{slice_get}
 use Rattle.std.proofs.lemmas.List.{append-nil}
 use Rattle.std.proofs.lemmas.List.Elements.{filter-append}
-use Rattle.std.proofs.lemmas.Option.{slice_get_within, slice_get_past}
+use Rattle.std.proofs.lemmas.Option.{slice_get_within}
 use Rattle.std.proofs.lemmas.Bool.{eq-eqb, ne_eqb, eqb-true}
 use Rattle.registry_model.specs.Process.{Process, is_process}
 use Rattle.registry_model.specs.Call.{Reply, True, False}
@@ -13,9 +13,9 @@ use Rattle.protocol_model.specs.Event.{Call, Answer}
 use Rattle.protocol_model.specs.Answers.{answer_to, may_have, AtMostOne, NotYet, Once}
 use Rattle.moves.proofs.Rules.{is_ordered}
 use Rattle.fitting.proofs.Accounts.{is_word}
-use Rattle.fitting.proofs.Once.{is_under, is_lock_under}
-use Rattle.client_locks.proofs.Calls.{call_of-put, call_of-drop, holder_of_call}
-use Rattle.client_locks.proofs.Ids.{is_process_same, is_process_self}
+use Rattle.fitting.proofs.Once.{is_lock_under}
+use Rattle.client_locks.proofs.Calls.{call_of-put, call_of-drop}
+use Rattle.client_locks.proofs.Ids.{is_process_same}
 
 -- a lock call stands in a phase of its kind
 abbrev pub is_for : Call → LockPhase → Bool

@@ -1,41 +1,32 @@
 -- The open lock calls of each node and their answers, behind every list of events.
-use mathlib.Core.Logic.{◌⊎◌}
-use Rattle.std.proofs.Common.{ℕ, Bool, true, false, ◌==◌, ◌≡◌, ◌+◌, ◌-◌, ◌<◌, Option, Some, None, List, [], ◌∷◌, ◌++◌, length, refl, sym, ap, ◌∙◌, subst, arith, inl, inr}
-use Rattle.std.specs.Prelude.{◌&&◌, not, nat_lt, if◌then◌else◌, flat_map, fold}
-use Rattle.std.specs.List.{AllByRecursion, list_all, slice_get}
+use Rattle.std.proofs.Common.{ℕ, Bool, true, false, ◌==◌, ◌≡◌, ◌+◌, Option, Some, None, List, [], ◌∷◌, ◌++◌, length, refl, sym, ap, ◌∙◌, subst, arith, inl, inr}
+use Rattle.std.specs.Prelude.{◌&&◌, nat_lt, if◌then◌else◌, fold}
+use Rattle.std.specs.List.{list_all, slice_get}
 use Rattle.std.proofs.lemmas.List.{append-nil, append_assoc}
-use Rattle.std.proofs.lemmas.Grind.{flat_map-append}
-use Rattle.std.proofs.lemmas.Bool.{eq-eqb, ne_eqb, eqb-true}
-use Rattle.registry_model.specs.Process.{Text, Process, Nodes, at}
+use Rattle.std.proofs.lemmas.Bool.{eq-eqb, eqb-true}
 use Rattle.registry_model.specs.Call.{Reply, True, False, ContactLeft}
-use Rattle.registry_model.specs.History.{Entry}
 use Rattle.protocol_model.specs.Letter.{Letter}
 use Rattle.protocol_model.specs.Round.{begin, is_empty}
 use Rattle.protocol_model.specs.Watch.{owed}
-use Rattle.protocol_model.specs.Node.{Node, Op, Current, LockPhase, LockCall, Target, Retries, Times, call_of, put_call, drop_call, targets}
+use Rattle.protocol_model.specs.Node.{Node, Op, Current, LockPhase, LockCall, Times, call_of, put_call, drop_call, targets}
 use Rattle.protocol_model.specs.Event.{Call, Event, Answer}
 use Rattle.protocol_model.specs.Turn.{Turn, begun, with_queue}
 use Rattle.protocol_model.specs.Registrar.{start, start_free, start_next, start_queue, contact_left, ask_join, retry_global}
 use Rattle.protocol_model.specs.Client.{in_phase, one_less, close_call, ask_lock, try_lock, retry_in, retry_locks, new_call}
 use Rattle.protocol_model.specs.Fit.{is_numbered, calls_in}
 use Rattle.protocol_model.specs.Answers.{answer_to, may_have, calls_at}
-use Rattle.protocol_model.specs.World.{Opening, World, WorldEvent, At, Deliver, place, turn_of, refusal, accepted, opening_world, join_number}
+use Rattle.protocol_model.specs.World.{Opening, World, WorldEvent, At, Deliver, place, turn_of, accepted}
 use Rattle.protocol_model.specs.Course.{Played, played, answers_of}
 use Rattle.moves.proofs.Rules
 use Rattle.moves.proofs.Rules.{Rule, is_ordered}
-use Rattle.moves.proofs.Indices.{both, by_test, at_same}
+use Rattle.moves.proofs.Indices.{both, at_same}
 use Rattle.walk.proofs.Calls.{Only, only_none, only_drop, only_put, AllOpen, all_open, all_open-only, all_after, OrderedParts, ordered_parts}
 use Rattle.walk.proofs.ChainKinds.{Aside, Hearing, suits}
 use Rattle.walk.proofs.Orders.{effect-node}
-use Rattle.walk.proofs.Walk.{OrderedWalk, walked_in_order, InOrder}
-use Rattle.join_gates.proofs.Made.{answers_made}
+use Rattle.walk.proofs.Walk.{OrderedWalk, InOrder}
 use Rattle.fitting.proofs.Accounts.{is_word}
-use Rattle.fitting.proofs.Once.{is_lock_under}
-use Rattle.fitting.proofs.LookUps.{filter_none}
-use Rattle.fitting.proofs.Admissions.{all_map}
 use Rattle.client_locks.proofs.Numbering.{aside_hears, beginner_home}
-use Rattle.headline.proofs.Together.{Whole, widens, rule_whole}
-use Rattle.headline.proofs.LockAnswers
+use Rattle.headline.proofs.Together.{Whole, rule_whole}
 use Rattle.headline.proofs.LockAnswers.{is_for, is_try, true_fits, false_fits, try_for, IsCalled, Ledger, IsSingle, ledger_wider, ledger_aside, ledger_put, ledger_closed, single_open, single_new, aside_none, aside_word, slice_get-behind}
 use Rattle.headline.proofs.LockSteps.{chain_ledger}
 
@@ -74,8 +65,12 @@ module _ (o : Opening) (a : ℕ) (calls : List Call) (xs : List Answer) where
           (false_fits I.call d.phase I.suits t) L)
       go false = ledger_put a calls u.node.calls (xs ++ u.answers)
           (in_phase (LockPhase.Asking (begin o.bound (targets u.node.replica.members c.target))) c) home sorted single
-          (record { call = I.call; found = I.found; positive = I.positive;
-            suits = try_for I.call d.phase (LockPhase.Asking _) I.suits t refl }) L
+          (record {
+            call = I.call;
+            found = I.found;
+            positive = I.positive;
+            suits = try_for I.call d.phase (LockPhase.Asking _) I.suits t refl;
+          }) L
 
   -- and the others stay
   only_tried : (c : LockCall) (u : Turn) → (c.holder.node == a) ≡ true → nat_lt 0 c.holder.serial ≡ true

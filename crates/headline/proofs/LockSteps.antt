@@ -1,18 +1,17 @@
 -- What a rule makes of the open lock calls of its node and of their answers.
-use Rattle.std.proofs.Common.{ℕ, Bool, true, false, ◌==◌, ◌≡◌, ◌+◌, ◌<◌, Option, Some, None, List, [], ◌∷◌, ◌++◌, length, refl, sym, ap, ◌∙◌, subst, arith}
-use Rattle.std.specs.Prelude.{◌&&◌, not, if◌then◌else◌}
+use Rattle.std.proofs.Common.{ℕ, Bool, true, false, ◌≡◌, Option, Some, None, List, [], ◌∷◌, ◌++◌, refl, sym, ap, ◌∙◌, subst}
+use Rattle.std.specs.Prelude.{if◌then◌else◌}
 use Rattle.std.specs.List.{list_all}
 use Rattle.std.proofs.lemmas.List.{append-nil, append_assoc}
-use Rattle.std.proofs.lemmas.Bool.{eqb-true}
 use Rattle.registry_model.specs.Process.{Process, Nodes, at}
 use Rattle.registry_model.specs.Call.{Reply, Pid, True, False, ContactLeft, NotMember, Joined, reply_to, seen_in}
 use Rattle.registry_model.specs.History.{Entry}
 use Rattle.protocol_model.specs.Letter.{Letter, Global}
 use Rattle.protocol_model.specs.Round.{Round, answer, down}
 use Rattle.protocol_model.specs.LockTable.{is_free_for}
-use Rattle.protocol_model.specs.Node.{Node, Op, Current, LockPhase, LockCall, call_of, put_call, drop_call}
+use Rattle.protocol_model.specs.Node.{Node, Op, Current, LockPhase, LockCall, put_call, drop_call}
 use Rattle.protocol_model.specs.Event.{Call, Answer}
-use Rattle.protocol_model.specs.Turn.{Turn, begun, keep_call, enter}
+use Rattle.protocol_model.specs.Turn.{begun, keep_call, enter}
 use Rattle.protocol_model.specs.Client.{in_phase, close_call, give_lock, is_spent}
 use Rattle.protocol_model.specs.Registrar.{registrar}
 use Rattle.protocol_model.specs.Answers.{answer_to, may_have}
@@ -29,7 +28,7 @@ use Rattle.fitting.proofs.Settling.{reply_to-word, grant_word}
 use Rattle.client_locks.proofs.Calls.{home_of_call}
 use Rattle.client_locks.proofs.Growing.{node_answer_op, same_judge, same_take_back, same_ask_rest}
 use Rattle.headline.proofs.Together.{Whole, replicas, rule_whole}
-use Rattle.headline.proofs.LockAnswers.{is_try, true_fits, false_fits, try_for, deletion_for, IsCalled, Ledger, Aside, IsSingle, ledger_aside, ledger_dropped, ledger_put, ledger_closed, single_open, aside_none, aside_word, aside_zero}
+use Rattle.headline.proofs.LockAnswers.{is_try, true_fits, false_fits, try_for, deletion_for, IsCalled, Ledger, Aside, ledger_aside, ledger_dropped, ledger_put, ledger_closed, single_open, aside_none, aside_word, aside_zero}
 
 module _ (o : Opening) (a : ℕ) (w : World) (calls : List Call) (xs : List Answer)
     (sorted : is_ordered a (w.node a).calls ≡ true) (R : Replicas o w) (L : Ledger a calls (w.node a).calls xs) where
@@ -55,15 +54,23 @@ module _ (o : Opening) (a : ℕ) (w : World) (calls : List Call) (xs : List Answ
   tries_on : (c : LockCall) (r : Round) (next : LockPhase) → IsOpen (w.node a) c (LockPhase.Asking r)
       → is_try next ≡ true → Ledger a calls (put_call (in_phase next c) (w.node a).calls) (xs ++ [])
   tries_on c r next e t = goes_on c (LockPhase.Asking r) next e
-      (λ I. record { call = I.call; found = I.found; positive = I.positive;
-        suits = try_for I.call c.phase next I.suits (ap is_try e.phase) t })
+      (λ I. record {
+        call = I.call;
+        found = I.found;
+        positive = I.positive;
+        suits = try_for I.call c.phase next I.suits (ap is_try e.phase) t;
+      })
 
   -- and a deletion as a deletion
   deletes_on : (c : LockCall) (owing left : Nodes) → IsOpen (w.node a) c (LockPhase.Deleting owing)
       → Ledger a calls (put_call (in_phase (LockPhase.Deleting left) c) (w.node a).calls) (xs ++ [])
   deletes_on c owing left e = goes_on c (LockPhase.Deleting owing) (LockPhase.Deleting left) e
-      (λ I. record { call = I.call; found = I.found; positive = I.positive;
-        suits = deletion_for I.call c.phase (LockPhase.Deleting left) I.suits (ap is_try e.phase) refl })
+      (λ I. record {
+        call = I.call;
+        found = I.found;
+        positive = I.positive;
+        suits = deletion_for I.call c.phase (LockPhase.Deleting left) I.suits (ap is_try e.phase) refl;
+      })
 
   -- an open call is answered
   closes : (c : LockCall) (now : LockPhase) (reply : Reply) → is_word reply ≡ false → IsOpen (w.node a) c now

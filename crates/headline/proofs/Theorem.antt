@@ -3,10 +3,14 @@ use Rattle.std.proofs.Common.{List}
 use Rattle.protocol_model.specs.World.{Opening, WorldEvent}
 use Rattle.protocol_model.specs.Headline.{Agreement}
 use Rattle.fitting.proofs.Theorem
-use Rattle.headline.specs.Clauses.{world, events, HistoryGrows, HistoryIsLegal, HistoryFits, AnswersAreEntries, AnswersComeInTime, ShowsWhenFree, ShowsWhenHeld, YesIsWritten, LeaveWaits, HolderHolds}
+use Rattle.headline.specs.Clauses.{world, events, HistoryGrows, HistoryIsLegal, HistoryFits, AnswersAreEntries, AnswersComeInTime, EntriesAreMadeAtHome, IsDecidedUnderLock, EachLookUpOnce, CallsAreAnsweredOnce, JoinersAreAnswered, ShowsWhenFree, ShowsWhenHeld, YesIsWritten, LeaveWaits, HolderHolds}
 use Rattle.headline.proofs.Together.{Whole, run_whole, whole_opens}
 use Rattle.headline.proofs.Story.{ground, Written, written}
 use Rattle.headline.proofs.Fields
+use Rattle.headline.proofs.Making
+use Rattle.headline.proofs.Deciders
+use Rattle.headline.proofs.Answered
+use Rattle.headline.proofs.Joiners
 
 module _ (o : Opening) (es : List WorldEvent) where
   -- all families hold
@@ -32,6 +36,21 @@ answers_are_entries o es = Theorem.replies o (Whole o) (ground o) (whole_opens o
 pub answers_come_in_time : AnswersComeInTime
 answers_come_in_time o es = Theorem.in_time o (Whole o) (ground o) (whole_opens o) es
 
+pub entries_are_made_at_home : EntriesAreMadeAtHome
+entries_are_made_at_home o es = Making.made o es
+
+pub decided_under_lock : IsDecidedUnderLock
+decided_under_lock o es = Deciders.decided o es
+
+pub looks_up_once : EachLookUpOnce
+looks_up_once o es = Answered.looks o es
+
+pub calls_are_answered_once : CallsAreAnsweredOnce
+calls_are_answered_once o es = Answered.answered o es
+
+pub joiners_are_answered : JoinersAreAnswered
+joiners_are_answered o es = Joiners.joiner o es
+
 pub shows_when_free : ShowsWhenFree
 shows_when_free o es = Fields.free o (events o es) (world o es) (whole o es) (told o es)
 
@@ -55,6 +74,11 @@ agreement o es = record {
   fits = history_fits o es;
   replies = answers_are_entries o es;
   in_time = answers_come_in_time o es;
+  made = entries_are_made_at_home o es;
+  decided = decided_under_lock o es;
+  looks = looks_up_once o es;
+  answered = calls_are_answered_once o es;
+  joiner = joiners_are_answered o es;
   free = shows_when_free o es;
   held = shows_when_held o es;
   written = yes_is_written o es;

@@ -13,7 +13,8 @@ use Rattle.protocol_model.specs.Course.{Played, played, course, seen}
 use Rattle.protocol_model.specs.Fit.{IsPrefix}
 use Rattle.protocol_model.specs.Headline.{standing, Headline}
 use Rattle.protocol_model.specs.Check.{Checked, checked, check_event, opening_check}
-use Rattle.headline.specs.Tie.{Further, Stands, TestAsksTheHeadline}
+use Rattle.headline.specs.Tie.{TestAsksTheHeadline}
+use Rattle.headline.specs.Clauses.{now, events}
 use Rattle.headline.proofs.Asked.{between}
 use Rattle.headline.proofs.AskedSteps
 
@@ -36,29 +37,25 @@ module _ (o : Opening) where
   pub run-push : (w : World) (es : List WorldEvent) (e : WorldEvent) → run o w (es ++ e ∷ []) ≡ happens o (run o w es) e
   run-push w es e = fold-append (happens o) w es (e ∷ [])
 
-  -- what stands behind these events, of their course and their world
-  abbrev pub StandsOf : List Played → World → Type 0
-  StandsOf ps w = Headline o ps (seen o w) × Further o ps (seen o w)
-
   -- one event more is checked
   one_more : (ps : List Played) (w : World) (e : WorldEvent) (x : Option Refusal) → refusal o w e ≡ x →
-      StandsOf (ps ++ (if is_none x then played o w e ∷ [] else [])) (happens o w e) →
+      Headline o (ps ++ (if is_none x then played o w e ∷ [] else [])) (seen o (happens o w e)) →
       check_event o (passed ps w) e x ≡ passed (ps ++ (if is_none x then played o w e ∷ [] else [])) (happens o w e)
   one_more ps w e (Some cause) r h =
       ap₂ passed (sym (append-nil ps)) (sym (ap (λ (x : Option Refusal). if is_none x then accepted o w e else w) r))
-  one_more ps w e None r (h, f) =
+  one_more ps w e None r h =
       ap₂ (λ (u : Standing) (b : Bool). let k : Checked = record {
         plays = ps ++ played o w e ∷ [];
         standing = u;
         world = happens o w e;
         keeps = b;
-      } in k) (sym (AskedSteps.behind o ps (played o w e) (happens o w e) h f))
-      (and_from _ _ (AskedSteps.step o ps (played o w e) (happens o w e) h f)
-      (AskedSteps.stands_behind o ps (played o w e) (happens o w e) h f))
+      } in k) (sym (AskedSteps.behind o ps (played o w e) (happens o w e) h))
+      (and_from _ _ (AskedSteps.step o ps (played o w e) (happens o w e) h)
+      (AskedSteps.stands_behind o ps (played o w e) (happens o w e) h))
 
   -- all first ones of these events
   abbrev pub AllFirst : List WorldEvent → Type 0
-  AllFirst es = (first : List WorldEvent) → IsPrefix first es → Stands o first
+  AllFirst es = (first : List WorldEvent) → IsPrefix first es → Headline o (events o first) (now o first)
 
   -- so all events are
   all_passed : (es : List WorldEvent) → AllFirst es →
@@ -73,7 +70,7 @@ module _ (o : Opening) where
         standing = nothing_yet (in_cluster o);
         world = opening_world o;
         keeps = b;
-      } in k) (between o [] (opening_world o) (h [] ([], refl)).headline)
+      } in k) (between o [] (opening_world o) (h [] ([], refl)))
 
       more : (es : List WorldEvent) (e : WorldEvent) →
           (AllFirst es → fold (checked o) (opening_check o) es ≡ passed (course o (opening_world o) es) (run o (opening_world o) es)) →
@@ -95,13 +92,13 @@ module _ (o : Opening) where
           w : World
           w = run o (opening_world o) es
 
-          whole : Stands o (es ++ e ∷ [])
+          whole : Headline o (events o (es ++ e ∷ [])) (now o (es ++ e ∷ []))
           whole = h (es ++ e ∷ []) ([], sym (append-nil (es ++ e ∷ [])))
 
-          now_stands : StandsOf (ps ++ (if is_none (refusal o w e) then played o w e ∷ [] else [])) (happens o w e)
-          now_stands = subst (λ (qs : List Played). StandsOf qs (happens o w e)) (course-push (opening_world o) es e)
-              (subst (StandsOf (course o (opening_world o) (es ++ e ∷ []))) (run-push (opening_world o) es e)
-              (whole.headline, whole.further))
+          now_stands : Headline o (ps ++ (if is_none (refusal o w e) then played o w e ∷ [] else [])) (seen o (happens o w e))
+          now_stands = subst (λ (qs : List Played). Headline o qs (seen o (happens o w e))) (course-push (opening_world o) es e)
+              (subst (λ (v : World). Headline o (course o (opening_world o) (es ++ e ∷ [])) (seen o v))
+              (run-push (opening_world o) es e) whole)
 
 -- the test asks no more than the headline
 pub test_law : TestAsksTheHeadline

@@ -2,14 +2,14 @@
 use mathlib.Core.Logic.{◌⊎◌}
 use Rattle.std.specs.Prelude.{ℕ, ◌≡◌, IsTrue, Contains, fold, Some, None, option_map, flat_map, List, [], ◌∷◌, ◌++◌, if◌then◌else◌}
 use Rattle.registry_model.specs.Call.{Yes}
-use Rattle.registry_model.specs.History.{Standing, is_free, is_holding, old, after}
+use Rattle.registry_model.specs.History.{Entry, Standing, is_free, is_holding, old, after}
 use Rattle.registry_model.specs.Legal.{IsLegal}
 use Rattle.protocol_model.specs.Event.{Event, Answer, HoldsLock}
 use Rattle.protocol_model.specs.World.{Opening, in_cluster, World, WorldEvent, At, opening_world, run}
 use Rattle.protocol_model.specs.Course.{Played, Seen, entries_of, course, seen}
-use Rattle.protocol_model.specs.Fit.{IsPrefix, Fits}
-use Rattle.protocol_model.specs.Answers.{answers_at, entered_at, AnswersInTime}
-use Rattle.protocol_model.specs.Headline.{standing, Shows, IsRunning, GroupShows, EachStep}
+use Rattle.protocol_model.specs.Fit.{IsPrefix, IsMadeIn, Fits}
+use Rattle.protocol_model.specs.Answers.{answers_at, entered_at, AnswersInTime, LooksUpOnce, AnswersCalls, JoinerIsAnswered}
+use Rattle.protocol_model.specs.Headline.{standing, Shows, IsRunning, GroupShows, DecidedUnderLock, EachStep}
 
 module _ (o : Opening) (es : List WorldEvent) where
   -- the world after these events, what is seen of it, the events that it accepted, and what their history comes to
@@ -46,6 +46,28 @@ AnswersAreEntries = (o : Opening) (es : List WorldEvent) (a : ℕ) →
 abbrev pub AnswersComeInTime : Type 0
 AnswersComeInTime = (o : Opening) (es : List WorldEvent) →
     EachStep (events o es) (λ before p. AnswersInTime (standing o before) p (fold after (standing o before) p.entries))
+
+-- each entry is made by the node of its step; what is decided, refused or done is so by a letter
+abbrev pub EntriesAreMadeAtHome : Type 0
+EntriesAreMadeAtHome = (o : Opening) (es : List WorldEvent) (p : Played) (e : Entry) → Contains (events o es) p
+    → Contains p.entries e → IsMadeIn p e
+
+-- where a step decides an operation, every running node of the group has given the global lock to its node, and to no other
+abbrev pub IsDecidedUnderLock : Type 0
+IsDecidedUnderLock = (o : Opening) (es : List WorldEvent) → DecidedUnderLock o (events o es) (now o es)
+
+-- a look-up is entered once and answered once, with the reply of its entry
+abbrev pub EachLookUpOnce : Type 0
+EachLookUpOnce = (o : Opening) (es : List WorldEvent) (p : Played) → Contains (events o es) p → LooksUpOnce p
+
+-- each numbered call is answered at most once, at its node and by a reply that it may have
+abbrev pub CallsAreAnsweredOnce : Type 0
+CallsAreAnsweredOnce = (o : Opening) (es : List WorldEvent) → AnswersCalls (events o es)
+
+-- where a step ends an admission, its joiner was answered `joined` before, or has left
+abbrev pub JoinersAreAnswered : Type 0
+JoinersAreAnswered = (o : Opening) (es : List WorldEvent) →
+    EachStep (events o es) (λ before p. JoinerIsAnswered before (standing o before) p)
 
 -- while no operation of its group holds, a running node shows the registry
 abbrev pub ShowsWhenFree : Type 0

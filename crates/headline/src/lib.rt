@@ -4,7 +4,7 @@
 
 ghost use Rattle.protocol_model.specs.ClientLocks.{Exclusion};
 ghost use Rattle.protocol_model.specs.Headline.{Agreement};
-ghost use Rattle.headline.specs.Clauses.{HistoryGrows, HistoryIsLegal, HistoryFits, AnswersAreEntries, AnswersComeInTime, ShowsWhenFree, ShowsWhenHeld, YesIsWritten, LeaveWaits, HolderHolds};
+ghost use Rattle.headline.specs.Clauses.{HistoryGrows, HistoryIsLegal, HistoryFits, AnswersAreEntries, AnswersComeInTime, EntriesAreMadeAtHome, IsDecidedUnderLock, EachLookUpOnce, CallsAreAnsweredOnce, JoinersAreAnswered, ShowsWhenFree, ShowsWhenHeld, YesIsWritten, LeaveWaits, HolderHolds};
 ghost use Rattle.headline.specs.Tie.{TestAsksTheHeadline};
 ghost use Rattle.headline.specs.Laws.{OneHolder, OneOwnerAtEach, JoinedAgree, NoToTheTaken, YesToTheFreeOnly, YesStands, YesIsFound, RefusedChangesNothing, FixedAgreement};
 
@@ -42,6 +42,31 @@ pub fn answers_are_entries()
 /// Name calls are answered when they are done, or refused at once, and `joined` comes while the admission holds.
 pub fn answers_come_in_time()
     ensures { AnswersComeInTime }
+{}
+
+/// Each entry is made by the node of its step; what is decided, refused or done is so by a letter.
+pub fn entries_are_made_at_home()
+    ensures { EntriesAreMadeAtHome }
+{}
+
+/// Where a step decides an operation, every running node of the group has given the global lock to its node, and to no other.
+pub fn decided_under_lock()
+    ensures { IsDecidedUnderLock }
+{}
+
+/// A look-up is entered once and answered once, with the reply of its entry.
+pub fn looks_up_once()
+    ensures { EachLookUpOnce }
+{}
+
+/// Each numbered call is answered at most once, at its node and by a reply that it may have.
+pub fn calls_are_answered_once()
+    ensures { CallsAreAnsweredOnce }
+{}
+
+/// Where a step ends an admission, its joiner was answered `joined` before, or has left.
+pub fn joiners_are_answered()
+    ensures { JoinersAreAnswered }
 {}
 
 /// While no operation of its group holds, a running node shows the registry.

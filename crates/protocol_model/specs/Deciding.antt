@@ -1,6 +1,6 @@
 -- How the registrar's round ends, and what is decided then.
 -- n: above all nodes of the world. a: this node. number j: the number of j's current join, for the history alone.
-use Rattle.std.specs.Prelude.{ℕ, Bool, true, None, if◌then◌else◌}
+use Rattle.std.specs.Prelude.{ℕ, Bool, None, if◌then◌else◌}
 use Rattle.registry_model.specs.Process.{Nodes, with_node}
 use Rattle.registry_model.specs.Table.{Table, StrikeOwner, put_all}
 use Rattle.registry_model.specs.Call.{Joined, reply_to}

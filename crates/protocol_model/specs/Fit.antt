@@ -1,5 +1,5 @@
 -- When a history fits the events that were played.
-use Rattle.std.specs.Prelude.{ℕ, Bool, true, false, ◌&&◌, ◌==◌, ◌+◌, ◌≡◌, filter, flat_map, map, List, [], ◌∷◌, ◌++◌, if◌then◌else◌}
+use Rattle.std.specs.Prelude.{ℕ, Bool, true, false, ◌&&◌, ◌==◌, ◌+◌, ◌≡◌, filter, flat_map, List, [], ◌∷◌, ◌++◌, if◌then◌else◌}
 use Rattle.registry_model.specs.Call.{NameCall, ContactLeft}
 use Rattle.registry_model.specs.History.{Entry}
 use Rattle.protocol_model.specs.Event.{Call, Event}
@@ -74,10 +74,6 @@ left_of p = elim p.event [ At a Event.Leave ↦ Entry.Left a ∷ [] | _ ↦ [] ]
 abbrev pub told_of : Played → List Entry
 told_of p = elim p.event [ Deliver d a ↦ if p.down then Entry.Told a d ∷ [] else [] | _ ↦ [] ]
 
--- the entry of an accepted look-up, with the reply that it was given
-abbrev pub read_of : Played → List Entry
-read_of p = elim p.event [ At a (Event.Calling (Call.LookUp look)) ↦ map (λ s. Entry.Read a look s.reply) p.answers | _ ↦ [] ]
-
 -- the node that makes an entry: that of the operation or of the event; for a join its contact, but the joiner where the contact
 -- has left
 abbrev pub maker_of : Entry → ℕ
@@ -118,8 +114,7 @@ IsPrefix {A} xs ys = (zs : List A) × (ys ≡ xs ++ zs)
 pub record Fits (ps : List Played) : Type 0 where
   -- at each node its name and join calls were decided in the order in which it accepted them
   pub calls : (a : ℕ) → IsPrefix (flat_map (decided_at a) (entries_of ps)) (accepted_at a ps)
-  -- all accepted exits, leaves and look-ups and all delivered notices are entered, in order, and no others
+  -- all accepted exits and leaves and all delivered notices are entered, in order, and no others
   pub exits : filter is_exit (entries_of ps) ≡ flat_map exit_of ps
   pub departures : filter is_left (entries_of ps) ≡ flat_map left_of ps
   pub notices : filter is_told (entries_of ps) ≡ flat_map told_of ps
-  pub reads : filter is_read (entries_of ps) ≡ flat_map read_of ps

@@ -10,8 +10,8 @@ use Rattle.registry_model.specs.Legal.{IsLegal}
 use Rattle.protocol_model.specs.Event.{Event, Answer, HoldsLock}
 use Rattle.protocol_model.specs.World.{Opening, in_world, in_cluster, WorldEvent, At, opening_world, run}
 use Rattle.protocol_model.specs.Course.{Played, Seen, entries_of, course, seen}
-use Rattle.protocol_model.specs.Fit.{IsPrefix, Fits}
-use Rattle.protocol_model.specs.Answers.{answers_at, entered_at, AnswersInTime}
+use Rattle.protocol_model.specs.Fit.{IsPrefix, IsMadeIn, Fits}
+use Rattle.protocol_model.specs.Answers.{answers_at, entered_at, AnswersInTime, LooksUpOnce, AnswersCalls, JoinerIsAnswered}
 
 -- how things stand behind these events
 abbrev pub standing : Opening → List Played → Standing
@@ -53,6 +53,16 @@ pub record Headline (o : Opening) (ps : List Played) (now : Seen) : Type 0 where
   pub replies : (a : ℕ) → IsPrefix (answers_at a ps) (flat_map (entered_at a) (entries_of ps))
   -- they come in time
   pub in_time : EachStep ps (λ before p. AnswersInTime (standing o before) p (fold after (standing o before) p.entries))
+  -- each entry is made by the node of its step, and by a letter where it needs one
+  pub made : (p : Played) (e : Entry) → Contains ps p → Contains p.entries e → IsMadeIn p e
+  -- where the last step decides an operation, its node has the global lock behind it
+  pub decided : DecidedUnderLock o ps now
+  -- a look-up is entered once and answered once
+  pub looks : (p : Played) → Contains ps p → LooksUpOnce p
+  -- each numbered call is answered at most once, by a reply that it may have
+  pub answered : AnswersCalls ps
+  -- where a step ends an admission, its joiner was answered `joined`, or has left
+  pub joiner : EachStep ps (λ before p. JoinerIsAnswered before (standing o before) p)
   -- while no operation of its group holds, a running node shows the registry
   pub free : (a : ℕ) → IsRunning o (standing o ps) a → IsTrue (is_free (standing o ps) a) → Shows (standing o ps).registry a now
   -- while one holds, it shows the registry with or without that operation

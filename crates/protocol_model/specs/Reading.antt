@@ -1,6 +1,6 @@
 -- A step of a node that a letter makes.
 -- n: above all nodes of the world. a: this node. number j: the number of j's current join, for the history alone.
-use Rattle.std.specs.Prelude.{ℕ, Bool, true, false, not, ◌&&◌, ◌||◌, ◌==◌, fold, List, if◌then◌else◌}
+use Rattle.std.specs.Prelude.{ℕ, Bool, true, not, ◌&&◌, ◌||◌, ◌==◌, fold, List, if◌then◌else◌}
 use Rattle.registry_model.specs.Process.{Process, is_process, Nodes, with_node, without_node}
 use Rattle.registry_model.specs.Table.{Table, Put, without}
 use Rattle.registry_model.specs.Call.{Joined, NotMember}
