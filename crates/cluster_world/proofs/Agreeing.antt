@@ -1,9 +1,15 @@
 -- The headline, where events are played in pieces.
-use Rattle.std.proofs.Common.{ℕ, ◌≡◌, List, [], ◌∷◌, ◌++◌, refl, sym, ap, ◌∙◌, subst}
+use Rattle.std.proofs.Common.{ℕ, Bool, true, false, ◌≡◌, List, [], ◌∷◌, ◌++◌, map, refl, sym, ap, ◌∙◌, subst}
+use Rattle.std.specs.Prelude.{is_none, if◌then◌else◌}
+use Rattle.std.proofs.lemmas.List.{append_assoc, append-nil}
 use Rattle.headline.proofs.Theorem.{agreement}
-use Rattle.protocol_model.specs.World.{Opening, World, WorldEvent as AnyWorldEvent, opening_world, happens, run}
+use Rattle.protocol_model.specs.Course.{Played as AnyPlayed, course, delivers_down, answers_of}
+use Rattle.protocol_model.specs.Event.{Answer as AnyAnswer}
+use Rattle.protocol_model.specs.World.{Opening, World, WorldEvent as AnyWorldEvent, opening_world, refusal, turn_of, happens, answers, run, all_answers}
 use Rattle.node_core.specs.declared.events.Answer.{Answer}
+use Rattle.node_core.specs.Seen.{answer_of}
 use Rattle.cluster_world.specs.declared.events.WorldEvent.{WorldEvent}
+use Rattle.cluster_world.specs.Events.{event_of}
 use Rattle.cluster_world.specs.Held.{Held}
 use Rattle.cluster_world.specs.Seen.{opening_with, opening_of, seen}
 use Rattle.cluster_world.specs.Playing.{Keeps, Played, events_of}
@@ -25,11 +31,40 @@ agreed es h is = record {
   headline = subst (λ (w : World). HeadlineAfter (opening_of h) es w) (sym is) (agreement (opening_of h) es);
 }
 
+-- what a list of events answers is what its course does
+course_answers : (o : Opening) (w : World) (es : List AnyWorldEvent) → answers_of (course o w es) ≡ all_answers o w es
+course_answers o w [] = refl
+course_answers o w (e ∷ es) = go (is_none (refusal o w e)) (course_answers o (happens o w e) es)
+  where
+    by : Bool → AnyPlayed
+    by b = record {
+      event = e;
+      answers = if b then (turn_of o w e).answers else [];
+      entries = (turn_of o w e).entries;
+      down = delivers_down w e;
+    }
+
+    go : (b : Bool) → answers_of (course o (happens o w e) es) ≡ all_answers o (happens o w e) es
+        → answers_of ((if b then by b ∷ [] else []) ++ course o (happens o w e) es)
+        ≡ (if b then (turn_of o w e).answers else []) ++ all_answers o (happens o w e) es
+    go true rest = ap (λ (l : List AnyAnswer). (turn_of o w e).answers ++ l) rest
+    go false rest = rest
+
+all_answers-append : (o : Opening) (w : World) (xs ys : List AnyWorldEvent) → all_answers o w (xs ++ ys) ≡ all_answers o w xs ++ all_answers o (run o w xs) ys
+all_answers-append o w [] ys = refl
+all_answers-append o w (x ∷ xs) ys = ap (λ (l : List AnyAnswer). answers o w x ++ l) (all_answers-append o (happens o w x) xs ys)
+    ∙ sym (append_assoc (answers o w x) (all_answers o (happens o w x) xs) (all_answers o (run o (happens o w x) xs) ys))
+
 -- what was run behind them agrees
-pub agrees : (es : List WorldEvent) (old new : Held) → Keeps old new → seen new ≡ run (opening_of old) (seen old) (events_of es) → Agrees es old new
-agrees es old new K world before is =
-    agreed (before ++ now) new (world ∙ ap (λ (w : World). run o w now) is ∙ sym (run-append o (opening_world o) before now)
-    ∙ ap (λ (p : Opening). run p (opening_world p) (before ++ now)) (sym (same_opening old new K)))
+pub agrees : (es : List WorldEvent) (given : List Answer) (old new : Held) → Keeps old new → seen new ≡ run (opening_of old) (seen old) (events_of es)
+    → map answer_of given ≡ all_answers (opening_of old) (seen old) (events_of es) → Agrees es given old new
+agrees es given old new K world said before is = (
+  agreed (before ++ now) new (world ∙ ap (λ (w : World). run o w now) is ∙ sym (run-append o (opening_world o) before now)
+      ∙ ap (λ (p : Opening). run p (opening_world p) (before ++ now)) (sym (same_opening old new K))),
+  course_answers o (opening_world o) (before ++ now) ∙ all_answers-append o (opening_world o) before now
+      ∙ ap (λ (l : List AnyAnswer). l ++ all_answers o (run o (opening_world o) before) now) (sym (course_answers o (opening_world o) before))
+      ∙ ap (λ (l : List AnyAnswer). answers_of (course o (opening_world o) before) ++ l) (ap (λ (w : World). all_answers o w now) (sym is) ∙ sym said),
+)
   where
     o : Opening
     o = opening_of old
@@ -38,10 +73,11 @@ agrees es old new K world before is =
     now = events_of es
 
 -- an event that was played
-pub agrees_played : (e : WorldEvent) (old new : Held) (given now : List Answer) → Played e old new given now → Agrees (e ∷ []) old new
-agrees_played e old new given now P = agrees (e ∷ []) old new (record { nodes = P.nodes; cluster = P.cluster }) P.happens
+pub agrees_played : (e : WorldEvent) (old new : Held) (now : List Answer) → Played e old new [] now → Agrees (e ∷ []) now old new
+agrees_played e old new now P = agrees (e ∷ []) now old new (record { nodes = P.nodes; cluster = P.cluster }) P.happens
+    (P.answers ∙ sym (append-nil (answers (opening_of old) (seen old) (event_of e))))
 
 -- nothing was played
-pub agrees_unchanged : (old new : Held) → new ≡ old → Agrees [] old new
+pub agrees_unchanged : (old new : Held) → new ≡ old → Agrees [] [] old new
 agrees_unchanged old new same =
-    agrees [] old new (record { nodes = ap (λ (h : Held). h.nodes) same; cluster = ap (λ (h : Held). h.cluster) same }) (ap seen same)
+    agrees [] [] old new (record { nodes = ap (λ (h : Held). h.nodes) same; cluster = ap (λ (h : Held). h.cluster) same }) (ap seen same) refl

@@ -1,8 +1,10 @@
 -- The headline of a world.
-use Rattle.std.specs.Prelude.{ℕ, ◌≡◌, List, ◌++◌}
+use Rattle.std.specs.Prelude.{ℕ, ◌≡◌, List, ◌++◌, map}
 use Rattle.protocol_model.specs.World.{Opening, World, WorldEvent as AnyWorldEvent, opening_world, run}
-use Rattle.protocol_model.specs.Course.{course, seen as shown}
+use Rattle.protocol_model.specs.Course.{course, answers_of, seen as shown}
 use Rattle.protocol_model.specs.Headline.{Headline}
+use Rattle.node_core.specs.declared.events.Answer.{Answer}
+use Rattle.node_core.specs.Seen.{answer_of}
 use Rattle.cluster_world.specs.declared.events.WorldEvent.{WorldEvent}
 use Rattle.cluster_world.specs.Held.{Held}
 use Rattle.cluster_world.specs.Seen.{opening_with, opening_of, seen}
@@ -21,9 +23,16 @@ pub record AgreesAfter (es : List AnyWorldEvent) (h : Held) : Type 0 where
   pub is_run : IsRunOf es h
   pub headline : HeadlineAfter (opening_of h) es (seen h)
 
--- Whatever made the old world what it was, that and then these events made the new one, and the headline holds behind all
-abbrev pub Agrees : List WorldEvent → Held → Held → Type 0
-Agrees es old new = (before : List AnyWorldEvent) → IsRunOf before old → AgreesAfter (before ++ events_of es) new
+-- behind the events before, these events of a world that opened so add these answers
+abbrev pub Adds : Opening → List AnyWorldEvent → List AnyWorldEvent → List Answer → Type 0
+Adds o before es given =
+    answers_of (course o (opening_world o) (before ++ es)) ≡ answers_of (course o (opening_world o) before) ++ map answer_of given
+
+-- Whatever made the old world what it was, that and then these events made the new one, the headline holds behind them all,
+-- and these are the answers that they add
+abbrev pub Agrees : List WorldEvent → List Answer → Held → Held → Type 0
+Agrees es given old new = (before : List AnyWorldEvent) → IsRunOf before old
+    → AgreesAfter (before ++ events_of es) new × Adds (opening_of old) before (events_of es) given
 
 -- The headline of every world, whatever nodes it has and whichever of them are joined at first, after every list of events
 abbrev pub EveryWorldAgrees : Type 0

@@ -22,7 +22,7 @@ returns-in-At-clause-refused g c =
 
 pub returns-in-At-clause-agrees : goal.returns-in-At-clause-agrees
 returns-in-At-clause-agrees g c =
-    IfOk-weaker c.step.result _ _ (λ answers P. agrees_played c.args.event.now c.args.self.now c.step.new.self [] answers.items P)
+    IfOk-weaker c.step.result _ _ (λ answers P. agrees_played c.args.event.now c.args.self.now c.step.new.self answers.items P)
     (returns-in-At-clause-ok g c)
 
 pub returns-in-At-clause-still_agrees : goal.returns-in-At-clause-still_agrees
@@ -31,7 +31,7 @@ returns-in-At-clause-still_agrees g c =
 
 pub returns-in-Deliver-clause-agrees : goal.returns-in-Deliver-clause-agrees
 returns-in-Deliver-clause-agrees g c =
-    IfOk-weaker c.deliver.result _ _ (λ answers P. agrees_played c.args.event.now c.args.self.now c.deliver.new.self [] answers.items
+    IfOk-weaker c.deliver.result _ _ (λ answers P. agrees_played c.args.event.now c.args.self.now c.deliver.new.self answers.items
     (subst (λ (e : WorldEvent). Played e c.args.self.now c.deliver.new.self [] answers.items) (sym c.in-Deliver.is) P)) c.deliver.ensures.ok
 
 pub returns-in-Deliver-clause-still_agrees : goal.returns-in-Deliver-clause-still_agrees
