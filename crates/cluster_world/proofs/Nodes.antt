@@ -13,7 +13,7 @@ use Rattle.registry_model.specs.Process.{nodes_of}
 use Rattle.protocol_model.specs.World.{in_world}
 use Rattle.term.specs.NodeSets.{set_of, IsNodeSet}
 use Rattle.link.specs.Held.{place}
-use Rattle.link.proofs.Places.{place-Some}
+use Rattle.term.proofs.NodePlaces.{place-Some}
 use Rattle.boss_order.proofs.Sets.{nodes_of-set_of}
 use Rattle.node_core.specs.Held.{bound_of}
 use Rattle.cluster_world.specs.Seen.{opening_with}

@@ -14,7 +14,7 @@ use Rattle.protocol_model.specs.World.{apply}
 use Rattle.term.specs.NodeSets.{set_of}
 use Rattle.link.specs.Held.{Held as Mesh, place, seen as links_of}
 use Rattle.link.specs.Faults.{joins}
-use Rattle.link.proofs.Places.{place-Some}
+use Rattle.term.proofs.NodePlaces.{place-Some}
 use Rattle.node_core.specs.declared.events.Answer.{Answer}
 use Rattle.node_core.specs.declared.events.Entry.{Entry}
 use Rattle.node_core.specs.declared.events.Event.{Event as NodeEvent}

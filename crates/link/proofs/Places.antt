@@ -1,31 +1,21 @@
 -- The places of nodes, and what stands on the links between them.
-use Rattle.std.proofs.Common.{ℕ, Bool, false, ◌==◌, ◌≡◌, ◌<◌, ◌≤◌, ◌+◌, ◌*◌, Option, Some, None, List, [], length, get_or, set, refl, sym, ap, ◌∙◌, get_or-set_same, get_or-set_other, arith, inl, inr}
+use Rattle.std.proofs.Common.{ℕ, Bool, false, ◌==◌, ◌≡◌, ◌<◌, ◌≤◌, ◌+◌, ◌*◌, Option, Some, None, List, [], length, get_or, set, refl, ap, ◌∙◌, get_or-set_same, get_or-set_other, arith, inl, inr}
 use Rattle.std.specs.Prelude.{is_some, ◌&&◌, if◌then◌else◌}
 use Rattle.std.specs.List.{position, position_or_len}
 use Rattle.std.specs.List.Sorted.{IsStrictlyIncreasing}
-use Rattle.std.proofs.lemmas.Bool.{cases_order, eqb-true, eq-eqb}
+use Rattle.std.proofs.lemmas.Bool.{cases_order, eq-eqb}
 use Rattle.std.proofs.lemmas.Grind.{common_steps}
 use Rattle.std.proofs.lemmas.List.Kept.{AllPairs-from_increasing}
-use Rattle.std.proofs.lemmas.List.Quantifiers.{position-Some}
 use Rattle.std.proofs.lemmas.List.Sums.{fails_before_first}
 use Rattle.registry_model.proofs.Updates.{by_test}
+use Rattle.term.proofs.NodePlaces.{place-Some, one_place}
 use Rattle.link.specs.declared.mesh.TheConstants.{MOST_NODES}
 use Rattle.link.specs.Faults.{joins}
 use Rattle.link.specs.Held.{Held, place, link_at, closed_at, seen}
 
--- at the place of a node stands this node
-pub place-Some : (a : ℕ) (nodes : List ℕ) (i : ℕ) → place a nodes ≡ Some i → (i < length nodes) × (get_or nodes i 0 ≡ a)
-place-Some a nodes i e =
-    let found = position-Some (λ x. x == a) nodes i 0 e in
-    (found.0, eqb-true (get_or nodes i 0) a found.1)
-
 -- a test that passes nowhere has its first place behind the list
 none : (p : ℕ → Bool) (nodes : List ℕ) → position p nodes ≡ None → length nodes ≤ position_or_len p nodes
 none p nodes e = grind (arith, common_steps)
-
--- nodes at one place are one node
-pub one_place : (a b : ℕ) (nodes : List ℕ) (i : ℕ) → place a nodes ≡ Some i → place b nodes ≡ Some i → a ≡ b
-one_place a b nodes i e f = sym (place-Some a nodes i e).1 ∙ (place-Some b nodes i f).1
 
 -- what is on the link between two places
 pub link_at-Some : {L : Type 0} (p q : Option ℕ) (i j : ℕ) (links : List (List L)) → p ≡ Some i → q ≡ Some j

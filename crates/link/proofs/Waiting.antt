@@ -7,7 +7,8 @@ use Rattle.std.proofs.lemmas.List.Kept.{AllPairs-from_increasing}
 use Rattle.protocol_model.specs.Links.{is_nil}
 use Rattle.link.specs.declared.mesh.TheConstants.{MOST_NODES}
 use Rattle.link.specs.Held.{Held, IsWhole, place, link_at, WaitsFrom, IsFirst, WaitsFirst}
-use Rattle.link.proofs.Places.{place-Some, place-get_or, link_at-Some}
+use Rattle.term.proofs.NodePlaces.{place-Some}
+use Rattle.link.proofs.Places.{place-get_or, link_at-Some}
 
 -- what has no letter is empty
 pub is_nil-true : {L : Type 0} (ls : List L) → is_nil ls ≡ true → ls ≡ []

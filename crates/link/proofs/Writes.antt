@@ -8,7 +8,8 @@ use Rattle.registry_model.proofs.Updates.{by_test}
 use Rattle.protocol_model.specs.Links.{Links, posted, taken, closed_out}
 use Rattle.link.specs.declared.mesh.TheConstants.{MOST_NODES}
 use Rattle.link.specs.Held.{Held, IsWhole, place, link_at, seen, only_to}
-use Rattle.link.proofs.Places.{place-Some, one_place, link_at-Some, closed_at-Some, link_at-set, closed_at-set}
+use Rattle.term.proofs.NodePlaces.{place-Some, one_place}
+use Rattle.link.proofs.Places.{link_at-Some, closed_at-Some, link_at-set, closed_at-set}
 
 -- other lists on the links
 abbrev pub with_queue : {L : Type 0} → Links L → (ℕ → ℕ → List L) → Links L

@@ -13,7 +13,8 @@ use Rattle.boss_order.proofs.Others.{set_of-others}
 use Rattle.locker.specs.declared.mark.Mark.{Mark}
 use Rattle.locker.specs.declared.mark.Mark.TheVariants.{Later, Owes, Granted, Refused, Lost, Gone}
 use Rattle.locker.specs.Held.{Held, IsRound, as_mark, place, mark_at, seen}
-use Rattle.locker.proofs.Places.{place-Some, one_place, set_of-place, place-boss}
+use Rattle.term.proofs.NodePlaces.{place-Some, one_place}
+use Rattle.locker.proofs.Places.{set_of-place, place-boss}
 
 -- a node with a mark is asked
 is_out-as_mark : (m : Mark) → is_out (as_mark m) ≡ false

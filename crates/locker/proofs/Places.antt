@@ -1,24 +1,13 @@
 -- The places of nodes in a rising list.
-use Rattle.std.proofs.Common.{ℕ, Bool, true, false, suc, ◌==◌, ◌≡◌, ◌<◌, ◌+◌, ◌-◌, Some, None, List, [], ◌∷◌, length, get_or, refl, sym, ◌∙◌, arith}
+use Rattle.std.proofs.Common.{ℕ, Bool, true, false, suc, ◌==◌, ◌≡◌, ◌<◌, ◌+◌, ◌-◌, Some, None, List, [], ◌∷◌, length, refl, sym, ◌∙◌, arith}
 use Rattle.std.specs.Prelude.{nat_lt, not, ◌||◌, is_some, if◌then◌else◌}
 use Rattle.std.specs.List.{list_any, position_or_len}
-use Rattle.std.proofs.lemmas.Bool.{eqb-true, lt-ltb}
+use Rattle.std.proofs.lemmas.Bool.{lt-ltb}
 use Rattle.std.proofs.lemmas.Bool.Decides.{nat_tests}
-use Rattle.std.proofs.lemmas.List.Quantifiers.{position-Some}
 use Rattle.term.specs.NodeSets.{IsNodeSet, set_of}
 use Rattle.term.proofs.NodeSets.{position-there}
 use Rattle.boss_order.specs.Boss.{boss_of}
 use Rattle.locker.specs.Held.{place}
-
--- at the place of a node stands this node
-pub place-Some : (c : ℕ) (nodes : List ℕ) (i : ℕ) → place c nodes ≡ Some i → (i < length nodes) × (get_or nodes i 0 ≡ c)
-place-Some c nodes i e =
-    let found = position-Some (λ m. m == c) nodes i 0 e in
-    (found.0, eqb-true (get_or nodes i 0) c found.1)
-
--- nodes at one place are one node
-pub one_place : (a b : ℕ) (nodes : List ℕ) (i : ℕ) → place a nodes ≡ Some i → place b nodes ≡ Some i → a ≡ b
-one_place a b nodes i e f = sym (place-Some a nodes i e).1 ∙ (place-Some b nodes i f).1
 
 -- a test passes somewhere where it has a first place
 first_inside : (p : ℕ → Bool) (xs : List ℕ) → list_any p xs ≡ nat_lt (position_or_len p xs) (length xs)

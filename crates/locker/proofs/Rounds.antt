@@ -15,7 +15,8 @@ use Rattle.boss_order.proofs.Sets.{greatest-set_of, is_empty-within}
 use Rattle.locker.specs.declared.mark.Mark.{Mark}
 use Rattle.locker.specs.declared.mark.Mark.TheVariants.{Later, Owes, Granted, Lost, Gone}
 use Rattle.locker.specs.Held.{Held, IsRound, as_mark, place, mark_at, seen, is_settled}
-use Rattle.locker.proofs.Places.{place-Some, set_of-place, place-boss}
+use Rattle.term.proofs.NodePlaces.{place-Some}
+use Rattle.locker.proofs.Places.{set_of-place, place-boss}
 use Rattle.locker.proofs.Marks.{asked-seen, mark_at-Some, mark_at-set, mark_at-asked_too}
 
 -- a round whose marks are these

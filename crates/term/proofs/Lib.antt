@@ -2,6 +2,7 @@ mod ExactNodes
 mod ExactPids
 mod ExactTexts
 pub mod NodeLists
+pub mod NodePlaces
 pub mod NodeSets
 mod NodeTexts
 mod Parts
