@@ -22,7 +22,8 @@ run-append o w (x ∷ xs) ys = run-append o (happens o w x) xs ys
 
 -- what is kept is how the world opened
 pub same_opening : (old new : Held) → Keeps old new → opening_of new ≡ opening_of old
-same_opening old new K = ap (λ (ns : List ℕ). opening_with ns new.cluster) K.nodes ∙ ap (opening_with old.nodes) K.cluster
+same_opening old new K =
+    ap (λ (ns : List ℕ). opening_with ns new.cluster) K.nodes ∙ ap (opening_with old.nodes) K.cluster
 
 -- the headline holds behind the events that made a world
 pub agreed : (es : List AnyWorldEvent) (h : Held) → IsRunOf es h → AgreesAfter es h
@@ -50,20 +51,27 @@ course_answers o w (e ∷ es) = go (is_none (refusal o w e)) (course_answers o (
     go true rest = ap (λ (l : List AnyAnswer). (turn_of o w e).answers ++ l) rest
     go false rest = rest
 
-all_answers-append : (o : Opening) (w : World) (xs ys : List AnyWorldEvent) → all_answers o w (xs ++ ys) ≡ all_answers o w xs ++ all_answers o (run o w xs) ys
+all_answers-append : (o : Opening) (w : World) (xs ys : List AnyWorldEvent)
+    → all_answers o w (xs ++ ys) ≡ all_answers o w xs ++ all_answers o (run o w xs) ys
 all_answers-append o w [] ys = refl
-all_answers-append o w (x ∷ xs) ys = ap (λ (l : List AnyAnswer). answers o w x ++ l) (all_answers-append o (happens o w x) xs ys)
-    ∙ sym (append_assoc (answers o w x) (all_answers o (happens o w x) xs) (all_answers o (run o (happens o w x) xs) ys))
+all_answers-append o w (x ∷ xs) ys =
+    ap (λ (l : List AnyAnswer). answers o w x ++ l) (all_answers-append o (happens o w x) xs ys)
+    ∙ sym (append_assoc (answers o w x) (all_answers o (happens o w x) xs)
+    (all_answers o (run o (happens o w x) xs) ys))
 
 -- what was run behind them agrees
-pub agrees : (es : List WorldEvent) (given : List Answer) (old new : Held) → Keeps old new → seen new ≡ run (opening_of old) (seen old) (events_of es)
+pub agrees : (es : List WorldEvent) (given : List Answer) (old new : Held) → Keeps old new
+    → seen new ≡ run (opening_of old) (seen old) (events_of es)
     → map answer_of given ≡ all_answers (opening_of old) (seen old) (events_of es) → Agrees es given old new
 agrees es given old new K world said before is = (
-  agreed (before ++ now) new (world ∙ ap (λ (w : World). run o w now) is ∙ sym (run-append o (opening_world o) before now)
+  agreed (before ++ now) new (world ∙ ap (λ (w : World). run o w now) is
+      ∙ sym (run-append o (opening_world o) before now)
       ∙ ap (λ (p : Opening). run p (opening_world p) (before ++ now)) (sym (same_opening old new K))),
   course_answers o (opening_world o) (before ++ now) ∙ all_answers-append o (opening_world o) before now
-      ∙ ap (λ (l : List AnyAnswer). l ++ all_answers o (run o (opening_world o) before) now) (sym (course_answers o (opening_world o) before))
-      ∙ ap (λ (l : List AnyAnswer). answers_of (course o (opening_world o) before) ++ l) (ap (λ (w : World). all_answers o w now) (sym is) ∙ sym said),
+      ∙ ap (λ (l : List AnyAnswer). l ++ all_answers o (run o (opening_world o) before) now)
+      (sym (course_answers o (opening_world o) before))
+      ∙ ap (λ (l : List AnyAnswer). answers_of (course o (opening_world o) before) ++ l)
+      (ap (λ (w : World). all_answers o w now) (sym is) ∙ sym said),
 )
   where
     o : Opening
@@ -73,11 +81,13 @@ agrees es given old new K world said before is = (
     now = events_of es
 
 -- an event that was played
-pub agrees_played : (e : WorldEvent) (old new : Held) (now : List Answer) → Played e old new [] now → Agrees (e ∷ []) now old new
+pub agrees_played : (e : WorldEvent) (old new : Held) (now : List Answer) → Played e old new [] now
+    → Agrees (e ∷ []) now old new
 agrees_played e old new now P = agrees (e ∷ []) now old new (record { nodes = P.nodes; cluster = P.cluster }) P.happens
     (P.answers ∙ sym (append-nil (answers (opening_of old) (seen old) (event_of e))))
 
 -- nothing was played
 pub agrees_unchanged : (old new : Held) → new ≡ old → Agrees [] [] old new
 agrees_unchanged old new same =
-    agrees [] [] old new (record { nodes = ap (λ (h : Held). h.nodes) same; cluster = ap (λ (h : Held). h.cluster) same }) (ap seen same) refl
+    agrees [] [] old new (record { nodes = ap (λ (h : Held). h.nodes) same; cluster = ap (λ (h : Held). h.cluster) same })
+    (ap seen same) refl

@@ -88,7 +88,8 @@ posted-push a ss s w = sym (posted-posted a (λ t. letters_to t ss) (only_to s.0
 -- the first of these letters is between nodes of a mesh
 pub first_joined : (a : ℕ) (h : Held Letter) (s : ℕ × Letter) (ss rest : List (ℕ × Letter)) → ss ≡ s ∷ rest
     → All (λ s. joins a s.0 h ≡ true) ss → joins a s.0 h ≡ true
-first_joined a h s ss rest is all = subst (λ (xs : List (ℕ × Letter)). All (λ s. joins a s.0 h ≡ true) xs) is all 0 s (omega arith)
+first_joined a h s ss rest is all =
+    subst (λ (xs : List (ℕ × Letter)). All (λ s. joins a s.0 h ≡ true) xs) is all 0 s (omega arith)
 
 -- and so are the others
 pub others_joined : (a : ℕ) (h : Held Letter) (s : ℕ × Letter) (ss rest : List (ℕ × Letter)) → ss ≡ s ∷ rest
@@ -97,9 +98,10 @@ others_joined a h s ss rest is all = λ k d l.
     subst (λ (xs : List (ℕ × Letter)). All (λ s. joins a s.0 h ≡ true) xs) is all (suc k) d (omega arith)
 
 -- between nodes of the mesh a letter isn't sent for want of memory alone
-pub only_memory : (fault : LinkFault) (a t : ℕ) (h k : Held Letter) → k.nodes ≡ h.nodes → joins a t h ≡ true → IsUnsent fault a t k
-    → refusal_on fault ≡ Memory
-only_memory on_link.NoSuchNode a t h k same known f = never (sym known ∙ ap (λ (ns : List ℕ). is_some (place a ns) && is_some (place t ns)) (sym same) ∙ f)
+pub only_memory : (fault : LinkFault) (a t : ℕ) (h k : Held Letter) → k.nodes ≡ h.nodes → joins a t h ≡ true
+    → IsUnsent fault a t k → refusal_on fault ≡ Memory
+only_memory on_link.NoSuchNode a t h k same known f =
+    never (sym known ∙ ap (λ (ns : List ℕ). is_some (place a ns) && is_some (place t ns)) (sym same) ∙ f)
   where
     never : true ≡ false → NoSuchNode ≡ Memory
     never e = cc

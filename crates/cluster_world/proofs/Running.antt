@@ -94,8 +94,8 @@ ran_stopped es old mid new k given now e r S within at refused K same kept = rec
 }
 
 -- all were played
-pub ran_all : (es : List WorldEvent) (old new : Held) (k : ℕ) (given : List Answer) → IsSoFar es old new k given → k ≡ length es
-    → Ran es old new (length es) given None
+pub ran_all : (es : List WorldEvent) (old new : Held) (k : ℕ) (given : List Answer) → IsSoFar es old new k given
+    → k ≡ length es → Ran es old new (length es) given None
 ran_all es old new k given S all = subst (λ (i : ℕ). Ran es old new i given None) all (record {
   nodes = S.nodes;
   cluster = S.cluster;

@@ -82,7 +82,8 @@ module _ (h : Held) (whole : IsWhole h) (a i : ℕ) (core : Core) (there : place
   joined e new before after given none S heard =
       subst (λ (ss : List (ℕ × Letter)). All (λ s. joins a s.0 h.links ≡ true) ss)
       (sym (S.letters ∙ ap (λ (ss : List (ℕ × Letter)). ss ++ S.sent) none))
-      (λ k d l. both (get_or S.sent k d).0 (S.within (subst (λ (ns : List ℕ). IsHeardWithin ns e) (sym stands.world) heard) k d l))
+      (λ k d l. both (get_or S.sent k d).0 (S.within
+      (subst (λ (ns : List ℕ). IsHeardWithin ns e) (sym stands.world) heard) k d l))
     where
       both : (t : ℕ) → set_of core.world t ≡ true → joins a t h.links ≡ true
       both t there_t = ap (λ (ns : List ℕ). is_some (place a ns) && is_some (place t ns)) whole.links

@@ -26,10 +26,11 @@ pub record AgreesAfter (es : List AnyWorldEvent) (h : Held) : Type 0 where
 -- behind the events before, these events of a world that opened so add these answers
 abbrev pub Adds : Opening → List AnyWorldEvent → List AnyWorldEvent → List Answer → Type 0
 Adds o before es given =
-    answers_of (course o (opening_world o) (before ++ es)) ≡ answers_of (course o (opening_world o) before) ++ map answer_of given
+    answers_of (course o (opening_world o) (before ++ es))
+    ≡ answers_of (course o (opening_world o) before) ++ map answer_of given
 
--- Whatever made the old world what it was, that and then these events made the new one, the headline holds behind them all,
--- and these are the answers that they add
+-- Whatever made the old world what it was, that and then these events made the new one, the headline holds behind them
+-- all, and these are the answers that they add
 abbrev pub Agrees : List WorldEvent → List Answer → Held → Held → Type 0
 Agrees es given old new = (before : List AnyWorldEvent) → IsRunOf before old
     → AgreesAfter (before ++ events_of es) new × Adds (opening_of old) before (events_of es) given

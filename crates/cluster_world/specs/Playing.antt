@@ -54,8 +54,8 @@ pub record IsSoFar (es : List WorldEvent) (old new : Held) (k : ℕ) (given : Li
   pub world : seen new ≡ run (opening_of old) (seen old) (events_of (take k es))
   pub answers : map answer_of given ≡ all_answers (opening_of old) (seen old) (events_of (take k es))
 
--- The first k of these events were accepted and played, with these answers, and then it stopped. What the world is where memory
--- was refused isn't said
+-- The first k of these events were accepted and played, with these answers, and then it stopped. What the world is where
+-- memory was refused isn't said
 pub record Ran (es : List WorldEvent) (old new : Held) (k : ℕ) (given : List Answer) (stop : Option Refusal) : Type 0 where
   pub nodes : new.nodes ≡ old.nodes
   pub cluster : new.cluster ≡ old.cluster

@@ -92,8 +92,9 @@ impl<N: Names> World<N> {
     /// Plays one event, and gives what its step answers. A refused event changes nothing; only where `Memory` is refused is the
     /// world not to be used any more.
     ///
-    /// Whatever was played on a world since it opened, the headline holds behind that and this event: the answers to name calls
-    /// are those of one sequential registry that takes the granted operations in lock order, and the tables are that registry's.
+    /// Whatever was played on a world since it opened, the headline holds behind that and this event: the answers to name
+    /// calls are those of one sequential registry that takes the granted operations in lock order, and the tables are that
+    /// registry's.
     pub fn play(&mut self, event: &WorldEvent) -> Result<Vec<Answer>, Refusal>
         ensures kept { Keeps self.old self.new }
         ensures agrees { IfOk result (λ answers. Agrees (event.now ∷ []) answers.items self.old self.new) }
@@ -121,9 +122,9 @@ impl<N: Names> World<N> {
         Ok(())
     }
 
-    /// Plays events in order, up to the first that is refused. That one changes nothing, and those behind it aren't looked at.
-    /// Where `Memory` is refused, what it counts as played was played, with these answers, and the world isn't to be used any
-    /// more. The headline holds behind what was played, as it does behind one event.
+    /// Plays events in order, up to the first that is refused. That one changes nothing, and those behind it aren't looked
+    /// at. Where `Memory` is refused, what it counts as played was played, with these answers, and the world isn't to be used
+    /// any more. The headline holds behind what was played, as it does behind one event.
     pub fn run(&mut self, events: &[WorldEvent]) -> RunEnd
         ensures ran { Ran events.now self.old self.new result.played result.answers.items result.refusal }
         ensures agrees { ran_out result.refusal ≡ false → Agrees (take result.played events.now) result.answers.items self.old self.new }

@@ -80,7 +80,8 @@ steps (FromPeer f l) h k u before after accepted made letters whole = record {
 
 -- the same, where these are what the step began with, and what it came to
 pub steps_from : (e : Event) (h k k0 : Held) (t u u0 : Made) (before after : List (ℕ × Letter)) → t ≡ nothing → k ≡ k0 → u ≡ u0 → refusal_of e h ≡ None
-    → Takes e h t k0 u0 → after ≡ before ++ u.letters → IsWhole h → Steps e h (record k { entered = u.entries }) before after u.answers
+    → Takes e h t k0 u0 → after ≡ before ++ u.letters → IsWhole h
+    → Steps e h (record k { entered = u.entries }) before after u.answers
 steps_from e h k k0 t u u0 before after begun same_node same_turn accepted made letters whole =
     steps e h k u before after accepted
     (subst (λ (x : Made). Takes e h nothing k x) (sym same_turn)

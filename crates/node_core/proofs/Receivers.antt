@@ -105,7 +105,8 @@ nodes-within : (n : ℕ) (s : Nodes) → All (λ c. s c ≡ true) (nodes_of n s)
 nodes-within zero s = All-nil (λ c. s c ≡ true)
 nodes-within (suc n) s = go (s n) refl (nodes-within n s)
   where
-    go : (b : Bool) → s n ≡ b → All (λ c. s c ≡ true) (nodes_of n s) → All (λ c. s c ≡ true) (nodes_of n s ++ (if b then n ∷ [] else []))
+    go : (b : Bool) → s n ≡ b → All (λ c. s c ≡ true) (nodes_of n s)
+        → All (λ c. s c ≡ true) (nodes_of n s ++ (if b then n ∷ [] else []))
     go true here below = All-push (λ c. s c ≡ true) (nodes_of n s) n below here
     go false here below = All-append (λ c. s c ≡ true) (nodes_of n s) [] below (All-nil (λ c. s c ≡ true))
 
@@ -126,7 +127,8 @@ granted_of r c e = go (r.mark c) e
     go _ f = cc
 
 -- an answer that is owed asks nobody new
-answered_of : (r : Round) (c : ℕ) (g : Bool) → owes r c ≡ true → (x : ℕ) → asked (answer c g r) x ≡ true → asked r x ≡ true
+answered_of : (r : Round) (c : ℕ) (g : Bool) → owes r c ≡ true → (x : ℕ)
+    → asked (answer c g r) x ≡ true → asked r x ≡ true
 answered_of r c g owed x = go (opens c g r) (owes r c)
   where
     was_asked : (m : Mark) → round.is_owes m ≡ true → not (is_out m) ≡ true
@@ -145,8 +147,10 @@ answered_of r c g owed x = go (opens c g r) (owes r c)
     at_place true m k e more f = here e
     at_place false m k e more f = more f
 
-    go : (b d : Bool) → asked (if b then round.marked c round.Granted (record r { mark = λ y. round.asked_too (r.mark y) })
-        else (if d then round.marked c (if g then round.Granted else round.Refused) r else r)) x ≡ true → asked r x ≡ true
+    go : (b d : Bool)
+        → asked (if b then round.marked c round.Granted (record r { mark = λ y. round.asked_too (r.mark y) })
+        else (if d then round.marked c (if g then round.Granted else round.Refused) r else r)) x ≡ true
+        → asked r x ≡ true
     go true d f = at_place (x == c) round.Granted (round.asked_too (r.mark x)) refl (too (r.mark x)) f
     go false true f = at_place (x == c) (if g then round.Granted else round.Refused) (r.mark x) refl (λ k. k) f
     go false false f = f
@@ -194,7 +198,8 @@ module _ (n a : ℕ) (number : ℕ → ℕ) (world : Nodes) where
     sends : (c : ℕ) (l : AnyLetter) → world c ≡ true
         → Knows n world known deads ops cur locks (ss ++ record { to = c; letter = l } ∷ [])
     sends c l e = posts (record { to = c; letter = l } ∷ [])
-        (All-push (λ (s : Send). world s.to ≡ true) [] (record { to = c; letter = l }) (All-nil (λ (s : Send). world s.to ≡ true)) e)
+        (All-push (λ (s : Send). world s.to ≡ true) [] (record { to = c; letter = l })
+        (All-nil (λ (s : Send). world s.to ≡ true)) e)
 
     -- one to each node of a set
     sends_all : (s : Nodes) (l : AnyLetter) → AreOf world s
@@ -203,7 +208,8 @@ module _ (n a : ℕ) (number : ℕ → ℕ) (world : Nodes) where
         (All-map (λ (x : Send). world x.to ≡ true) (λ c. record { to = c; letter = l }) (nodes_of n s)
         (λ k d m. of (get_or (nodes_of n s) k d) (nodes-within n s k d m)))
 
-  answers : (op : AnyOp) (reply : Option AnyReply) (u : Turn) → IsWithin n world u → IsWithin n world (answer_op n a op reply u)
+  answers : (op : AnyOp) (reply : Option AnyReply) (u : Turn) → IsWithin n world u
+      → IsWithin n world (answer_op n a op reply u)
   answers (AnyOp.Name k c) (Some reply) u W = W
   answers _ reply u W = W
 
@@ -216,10 +222,11 @@ module _ (n a : ℕ) (number : ℕ → ℕ) (world : Nodes) where
       → IsWithin n world (finish n a op s reply u)
   finishes op s reply u of W =
       works (sends_all (answers op reply u W) (λ c. s c && not (u.node.replica.told c))
-      (AnyLetter.GiveBack (Global a) (registrar a) false) (λ c e. of c (first (s c) (not (u.node.replica.told c)) e))) Current.Free tt
+      (AnyLetter.GiveBack (Global a) (registrar a) false)
+      (λ c e. of c (first (s c) (not (u.node.replica.told c)) e))) Current.Free tt
 
-  writes : (op : AnyOp) (s : Nodes) (reply : Option AnyReply) (change : AnyChange) (u : Turn) → AreOf world s → IsWithin n world u
-      → IsWithin n world (write n a op s reply change u)
+  writes : (op : AnyOp) (s : Nodes) (reply : Option AnyReply) (change : AnyChange) (u : Turn) → AreOf world s
+      → IsWithin n world u → IsWithin n world (write n a op s reply change u)
   writes op s reply change u of W =
       sends_all (works W (Current.Writing op s u.node.replica.members reply) of) u.node.replica.members
       (AnyLetter.Apply change) W.members
@@ -235,7 +242,8 @@ module _ (n a : ℕ) (number : ℕ → ℕ) (world : Nodes) where
       v = enter (AnyEntry.Name a k c reply) u
 
       go : (b : Bool) → IsWithin n world (if b
-          then write n a (AnyOp.Name k c) s (Some reply) (change_of_call c) v else finish n a (AnyOp.Name k c) s (Some reply) v)
+          then write n a (AnyOp.Name k c) s (Some reply) (change_of_call c) v
+          else finish n a (AnyOp.Name k c) s (Some reply) v)
       go true = writes (AnyOp.Name k c) s (Some reply) (change_of_call c) v of W
       go false = finishes (AnyOp.Name k c) s (Some reply) v of W
   decides _ s u name of W = absurd name
@@ -247,8 +255,8 @@ module _ (n a : ℕ) (number : ℕ → ℕ) (world : Nodes) where
       go : (b d : Bool) → IsWithin n world (if b
           then end_by n a number (if d then Ending.Held else Ending.GiveBack (granted r)) op (asked r) u else u)
       go true true = decides op (asked r) u name of W
-      go true false = sends_all (works W (Current.Waiting op) name) (granted r) (AnyLetter.GiveBack (Global a) (registrar a) false)
-          (λ c e. of c (granted_of r c e))
+      go true false = sends_all (works W (Current.Waiting op) name) (granted r)
+          (AnyLetter.GiveBack (Global a) (registrar a) false) (λ c e. of c (granted_of r c e))
       go false d = W
 
   asks_rest : (c : ℕ) (g : Bool) (l : AnyLetter) (r : Round) (u : Turn) → AreOf world (asked r) → IsWithin n world u
@@ -285,7 +293,8 @@ module _ (n a : ℕ) (number : ℕ → ℕ) (world : Nodes) where
       go false owed = W
   hears c g _ u of W = W
 
-  awaits : (c : ℕ) (cur : Current) (u : Turn) → IsCurrentOf world cur → IsWithin n world u → IsWithin n world (await_less n a c cur u)
+  awaits : (c : ℕ) (cur : Current) (u : Turn) → IsCurrentOf world cur → IsWithin n world u
+      → IsWithin n world (await_less n a c cur u)
   awaits c (Current.Writing op s awaited reply) u of W = go (awaited c) (is_empty n less)
     where
       less : Nodes
@@ -304,7 +313,8 @@ module _ (n a : ℕ) (number : ℕ → ℕ) (world : Nodes) where
       (name, λ c e. W.members c (begun_of n u.node.replica.members c e)))
       (greatest n u.node.replica.members) (AnyLetter.SetLock (Global a) (registrar a)) W.boss
 
-  starts_queue : (ops : List AnyOp) (u : Turn) → AreNames ops → IsWithin n world u → IsWithin n world (start_queue n a ops u)
+  starts_queue : (ops : List AnyOp) (u : Turn) → AreNames ops → IsWithin n world u
+      → IsWithin n world (start_queue n a ops u)
   starts_queue [] u names W = queues W [] tt
   starts_queue (AnyOp.Name k c ∷ ops) u names W = asks (AnyOp.Name k c) (with_queue ops u) tt (queues W ops names.1)
   starts_queue (_ ∷ ops) u names W = absurd names.0
@@ -315,8 +325,8 @@ module _ (n a : ℕ) (number : ℕ → ℕ) (world : Nodes) where
     where
       go : (cur : Current) → IsWithin n world (start_free n a cur u)
       go Current.Free =
-          subst (λ (ds : List ℕ). IsWithin n world (start_next n a (least_owner a u.node.replica.table ds) u)) (sym W.dead)
-          (starts_queue u.node.queue u W.queue W)
+          subst (λ (ds : List ℕ). IsWithin n world (start_next n a (least_owner a u.node.replica.table ds) u))
+          (sym W.dead) (starts_queue u.node.queue u W.queue W)
       go _ = W
 
   judges : (f : ℕ) (id : Id) (p : Process) (b : Bool) (u : Turn) → world f ≡ true → IsWithin n world u
@@ -324,7 +334,8 @@ module _ (n a : ℕ) (number : ℕ → ℕ) (world : Nodes) where
   judges f id p true u e W = sends W f (AnyLetter.LockAnswer id p true) e
   judges f id p false u e W = sends W f (AnyLetter.LockAnswer id p false) e
 
-  hears_for : (f : ℕ) (p : Process) (g : Bool) (u : Turn) → IsWithin n world u → IsWithin n world (hear n a number f p g u)
+  hears_for : (f : ℕ) (p : Process) (g : Bool) (u : Turn) → IsWithin n world u
+      → IsWithin n world (hear n a number f p g u)
   hears_for f p g u W = go (is_process p (registrar a))
     where
       go : (b : Bool) → IsWithin n world (if b
@@ -396,7 +407,8 @@ module _ (h : Held) (whole : IsWhole h) where
   opens_within = record {
     members = whole.members;
     boss = whole.members (greatest n (set_of h.members))
-        (greatest-within n (set_of h.members) h.name (below_bound h.world h.name (whole.members h.name whole.self)) whole.self);
+        (greatest-within n (set_of h.members) h.name (below_bound h.world h.name
+        (whole.members h.name whole.self)) whole.self);
     dead = refl;
     queue = names h.registrar.queue;
     current = current h.registrar.current h.phase whole.phase;
@@ -408,7 +420,8 @@ module _ (h : Held) (whole : IsWhole h) where
       names [] = tt
       names (NameOp k c ∷ ops) = (tt, names ops)
 
-      current : (o : Option Op) (p : Phase) → IsPhaseWithin h.world p → IsCurrentOf world (current_of o h.registrar.awaited p)
+      current : (o : Option Op) (p : Phase) → IsPhaseWithin h.world p
+          → IsCurrentOf world (current_of o h.registrar.awaited p)
       current None p within = tt
       current (Some (NameOp k c)) (Asking r) within = (tt, λ x e. within x (ap (λ (s : Nodes). s x) (asked-seen r) ∙ e))
       current (Some (NameOp k c)) Waiting within = tt

@@ -64,8 +64,8 @@ IsHeardWithin world _ = Unit {0}
 abbrev pub GoWithin : List ℕ → List (ℕ × Letter) → Type 0
 GoWithin world ss = All (λ s. set_of world s.0 ≡ true) ss
 
--- An event was accepted, and the protocol's node makes its turn. What it sends comes behind the letters before, and goes to
--- nodes of the world alone, where it hears none but those
+-- An event was accepted, and the protocol's node makes its turn. What it sends comes behind the letters before, and goes
+-- to nodes of the world alone, where it hears none but those
 pub record Steps (e : Event) (old new : Held) (before after : List (ℕ × Letter)) (answers : List Answer) : Type 0 where
   pub name : new.name ≡ old.name
   pub world : new.world ≡ old.world

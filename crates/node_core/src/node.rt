@@ -90,9 +90,9 @@ impl<N: Names> NodeCore<N> {
     ghost use Rattle.node_core.specs.Steps.{Steps, Keeps, Takes, refusal_of, cause_of};
     ghost use Rattle.protocol_model.specs.Event.{can_retry};
 
-    /// Takes the step of an event: gives its answers, and puts its letters, each with its receiver, behind those that are there.
-    /// They go to nodes of its world, where the letter that it reads is from one. A refused event changes nothing; where `Memory`
-    /// is refused no letter is put there either, but the node isn't to be used any more.
+    /// Takes the step of an event: gives its answers, and puts its letters, each with its receiver, behind those that are
+    /// there. They go to nodes of its world, where the letter that it reads is from one. A refused event changes nothing;
+    /// where `Memory` is refused no letter is put there either, but the node isn't to be used any more.
     pub fn step(
         &mut self,
         event: &Event,
