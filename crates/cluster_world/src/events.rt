@@ -60,7 +60,7 @@ pub enum Refusal {
     /// The node has given its last number of a call, 4,294,967,295.
     #[error("calls_spent")]
     CallsSpent,
-    /// Memory was refused. What stands then isn't said yet, and the world isn't to be used any more.
+    /// Memory was refused. The world has its nodes still; nothing else is said of it, and it isn't to be used any more.
     #[error("memory")]
     Memory,
 }
