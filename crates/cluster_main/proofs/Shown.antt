@@ -9,7 +9,8 @@ use Rattle.cluster_main.specs.Answering.{DoesFor, DoesNothing, Streams, status_f
 
 -- help, the version or an error was shown, or memory was refused
 pub shown : (kinds : Kinds) (e : Error) (s : Streams) (status : ℕ) → HasKind kinds e → Keeps s.input s.rest
-    → (status ≡ status_for (kind_of e)) ⊎ ((status_for (kind_of e) ≡ 0) × (status ≡ 1)) → (status_for (kind_of e) ≢ 0 → Keeps s.old s.new)
+    → (status ≡ status_for (kind_of e)) ⊎ ((status_for (kind_of e) ≡ 0) × (status ≡ 1))
+    → (status_for (kind_of e) ≢ 0 → Keeps s.old s.new)
     → DoesFor kinds s status ⊎ (DoesNothing s × (status ≡ 1))
 shown kinds e s status h u t p = elim h [
   | inl o ↦

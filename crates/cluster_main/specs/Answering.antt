@@ -13,7 +13,7 @@ abbrev pub status_of : Result Bool ScriptFault → ℕ
 status_of (Ok fine) = if fine then 0 else 1
 status_of (Err f) = 1
 
--- the status for words that ask for no script: 0 where they ask for help or the version, and else 2; want of memory is no fault of theirs
+-- the status for words that ask for no script: 0 for help or the version, 2 for wrong ones, 1 for want of memory
 abbrev pub status_for : ErrorKind → ℕ
 status_for kind.DisplayHelp = 0
 status_for kind.DisplayVersion = 0
@@ -35,8 +35,8 @@ pub record PlaysScript (s : Streams) (status : ℕ) : Type 0 where
   pub flushed : Keeps printed s.new
   pub status_is : (status ≡ status_of played) ⊎ (status ≡ 1)
 
--- words of these kinds were answered with help, the version or an error: nothing is read, and for an error nothing is printed; 1 also
--- where help or the version can't be written
+-- words of these kinds were answered with help, the version or an error: nothing is read, and for an error
+-- nothing is printed; the status is 1 also where help or the version can't be written
 pub record ShowsText (kinds : Kinds) (s : Streams) (status : ℕ) : Type 0 where
   pub shown : ErrorKind
   pub among : IsAmong shown kinds
@@ -54,7 +54,7 @@ abbrev pub DoesFor : Kinds → Streams → ℕ → Type 0
 DoesFor [] s status = PlaysScript s status
 DoesFor (k ∷ ks) s status = ShowsText (k ∷ ks) s status
 
--- what the program does for its words, of which there are none where one of them is no text; or memory was refused for reading them
+-- what the program does for its words, or for none where one is no text; or memory was refused for reading them
 abbrev pub Does : Option (List Text) → Streams → ℕ → Type 0
 Does None s status = DoesNothing s × (status ≡ 2)
 Does (Some words) s status = DoesFor (refusals words) s status ⊎ (DoesNothing s × (status ≡ 1))

@@ -10,7 +10,7 @@ program =
     let app = with_subcommand (new_app (codes "cluster_main")) (new_app (codes "script")).top in
     record app { top = record app.top { has_version = true; subcommand_required = true } }
 
--- the kinds of error that a parse of words may give, the first of which is the program's name: none where they ask for a script
+-- the kinds of error that a parse of words, the program's name first, may give: none where they ask for a script
 abbrev pub refusals : List Text → Kinds
 refusals words = fault_of program words
 
@@ -21,5 +21,6 @@ pub record KnownWords : Type 0 where
   pub short_help : (name : Text) → refusals (name ∷ codes "-h" ∷ []) ≡ kind.DisplayHelp ∷ []
   pub version : (name : Text) → refusals (name ∷ codes "--version" ∷ []) ≡ kind.DisplayVersion ∷ []
   pub nothing : (name : Text) → refusals (name ∷ []) ≡ kind.MissingSubcommand ∷ []
-  pub nonsense : (name : Text) → refusals (name ∷ codes "nonsense" ∷ []) ≡ kind.UnknownArgument ∷ kind.InvalidSubcommand ∷ []
+  pub nonsense : (name : Text) → refusals (name ∷ codes "nonsense" ∷ [])
+      ≡ kind.UnknownArgument ∷ kind.InvalidSubcommand ∷ []
   pub more : (name : Text) → refusals (name ∷ codes "script" ∷ codes "more" ∷ []) ≡ kind.UnknownArgument ∷ []

@@ -66,8 +66,8 @@ fn show<W: Write, E: Write>(error: &Error, writer: &mut W, errors: &mut E) -> u8
     }
 }
 
-/// Does what the words ask for, the first of which is the program's name, and gives the status. They are none where an argument is
-/// no text.
+/// Does what the words ask for, the first of which is the program's name, and gives the status. They are none where an
+/// argument is no text.
 pub fn answer<R: Read, W: Write, E: Write>(
     alloc: Global,
     words: Option<&[String]>,

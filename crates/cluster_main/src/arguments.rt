@@ -18,7 +18,8 @@ pub enum Task {
     Script,
 }
 
-/// The program's name and its arguments, or none where one is no text or too long. How the program was called doesn't matter.
+/// The program's name and its arguments, or none where one is no text or too long. The name by which it was called
+/// doesn't matter.
 pub fn read_words<N: Env>(alloc: Global, env: &N) -> Result<Option<Vec<String>>, AllocError> {
     let mut words = Vec::new(alloc);
     words.push(String::from_str(alloc, "cluster_main")?)?;

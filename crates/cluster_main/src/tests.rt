@@ -104,24 +104,23 @@ fn shows_help_and_version(rt: HostRuntime) -> Result<(), Fail> {
     Ok(())
 }
 
+/// Whether the words are refused: nothing is read or printed, and the error is told.
+fn is_refused(alloc: Global, words: &[&[u8]]) -> Result<bool, Fail> {
+    let outcome = run(alloc, words, b"cluster a\nspawn a\n")?;
+    let is_told = outcome.errors.starts_with(b"error: ");
+    Ok(outcome.status == 2 && is_told && outcome.output.is_empty() && outcome.is_unread)
+}
+
 #[test]
 fn refuses_words(rt: HostRuntime) -> Result<(), Fail> {
+    assert!(rt; is_refused(rt.alloc(), &[b"program"])?);
+    assert!(rt; is_refused(rt.alloc(), &[b"program", b"nonsense"])?);
+    assert!(rt; is_refused(rt.alloc(), &[b"program", b"script", b"more"])?);
+    assert!(rt; is_refused(rt.alloc(), &[b"program", b"--bogus"])?);
+    assert!(rt; is_refused(rt.alloc(), &[b"program", b"\xff"])?);
+    assert!(rt; is_refused(rt.alloc(), &[b"program", b"script", b"\xc3\x28"])?);
     let long = [b'x'; 5000];
-    let wrong = [
-        [b"program".as_slice()].as_slice(),
-        [b"program".as_slice(), b"nonsense"].as_slice(),
-        [b"program".as_slice(), b"script", b"more"].as_slice(),
-        [b"program".as_slice(), b"--bogus"].as_slice(),
-        [b"program".as_slice(), b"\xff"].as_slice(),
-        [b"program".as_slice(), b"script", b"\xc3\x28"].as_slice(),
-        [b"program".as_slice(), b"script", long.as_slice()].as_slice(),
-    ];
-    for words in wrong {
-        let outcome = run(rt.alloc(), words, b"cluster a\nspawn a\n")?;
-        assert_eq!(rt; outcome.status, 2);
-        assert!(rt; outcome.output.is_empty() && outcome.is_unread);
-        assert!(rt; outcome.errors.starts_with(b"error: "));
-    }
+    assert!(rt; is_refused(rt.alloc(), &[b"program", b"script", &long])?);
     Ok(())
 }
 

@@ -61,16 +61,19 @@ module _ (exact : IsExact SpellsText RefusesText) where
     unless_one line (Some g) h k = ok_err g h
     unless_one line None h k = words_one (cluster_texts (words line)) h k
 
-  pub never_both : (input : List ℕ) (x y a b c d : Option (List ℕ)) (fine : Bool) → Ran (Some input) x a b fine → Stopped (Some input) y c d TooManyLines → ⊥
+  pub never_both : (input : List ℕ) (x y a b c d : Option (List ℕ)) (fine : Bool) → Ran (Some input) x a b fine
+      → Stopped (Some input) y c d TooManyLines → ⊥
   never_both input x y a b c d fine r s =
       let first = s.0.first in
       let line = s.2.0 in
       let more = s.2.1.0 in
-      let all : r.taken ++ r.untaken ≡ first ++ line ∷ more = sym r.parts ∙ sym r.read ∙ s.2.1.1 ∙ append_assoc first (line ∷ []) more in
+      let all : r.taken ++ r.untaken ≡ first ++ line ∷ more = sym r.parts ∙ sym r.read ∙ s.2.1.1 ∙ append_assoc first
+      (line ∷ []) more in
       elim r.ended [
         | inl none ↦
             let they : r.taken ≡ first ++ line ∷ more = sym (append-nil r.taken) ∙ ap (λ (ls : List (List ℕ)). r.taken ++ ls) (sym none) ∙ all in
-            omega (arith, r.counted, s.2.3, count_of_all-append first (line ∷ more), count_of_all-append first (line ∷ []), ap count_of_all they)
+            omega (arith, r.counted, s.2.3, count_of_all-append first (line ∷ more), count_of_all-append first (line
+            ∷ []), ap count_of_all they)
         | inr h ↦
             let u = some_first r.taken r.untaken first more line all (omega (arith, r.counted, s.2.3)) in
             let p : PrintsOn (h.0 ∷ spoken u.0) s.0.out = subst (λ (ls : List (List ℕ)). PrintsOn ls s.0.out)

@@ -206,7 +206,8 @@ GoesPast-behind a b ls ms most left t e g = (
 )
 
 -- the same, for any fault
-pub GoesPastFor-behind : (f : ScriptFault) (a b : Option (List ℕ)) (ls ms : List (List ℕ)) (most left : ℕ) → LosesLines a b ls → most ≡ left + count_of_all ls
+pub GoesPastFor-behind : (f : ScriptFault) (a b : Option (List ℕ)) (ls ms : List (List ℕ)) (most left : ℕ)
+    → LosesLines a b ls → most ≡ left + count_of_all ls
     → GoesPastFor f b left ms → GoesPastFor f a most (ls ++ ms)
 GoesPastFor-behind fault.TooManyLines a b ls ms most left t e g = GoesPast-behind a b ls ms most left t e g
 GoesPastFor-behind fault.Read a b ls ms most left t e g = tt
@@ -218,13 +219,15 @@ pub LosesInto-whole : (a b : Option (List ℕ)) (ls : List (List ℕ)) → Loses
 LosesInto-whole a b ls t = (b, t, Consumes-nil b)
 
 -- lines are lost, and then others and a part of the next
-pub LosesInto-behind : (a b c : Option (List ℕ)) (ls ms : List (List ℕ)) (part : List ℕ) → LosesLines a b ls → LosesInto b c ms part → LosesInto a c (ls ++ ms) part
+pub LosesInto-behind : (a b c : Option (List ℕ)) (ls ms : List (List ℕ)) (part : List ℕ) → LosesLines a b ls
+    → LosesInto b c ms part → LosesInto a c (ls ++ ms) part
 LosesInto-behind a b c ls ms part t g = (g.0, LosesLines-trans a b g.0 ls ms t g.1, g.2)
 
 -- bytes without a line feed are of one line at most
 pub IsWithinLine-part : (bytes : List ℕ) → HasNoFeed bytes → IsWithinLine bytes
 IsWithinLine-part [] h = omega arith
-IsWithinLine-part (b ∷ bytes) h = omega (arith, ap (λ (ls : List (List ℕ)). length ls) (lines-last (b ∷ bytes) h (omega arith)))
+IsWithinLine-part (b ∷ bytes) h = omega (arith, ap (λ (ls : List (List ℕ)). length ls) (lines-last (b ∷ bytes) h
+    (omega arith)))
 
 -- and with one
 pub IsWithinLine-ended : (bytes : List ℕ) → HasNoFeed bytes → IsWithinLine (bytes ++ 10 ∷ [])
@@ -241,19 +244,22 @@ pub MayEndIn-none : (f : ScriptFault) → MayEndIn f []
 MayEndIn-none f = MayEndIn-part f [] (All-nil (λ b. (b == 10) ≡ false))
 
 -- the bytes of a line
-pub LosesWithinLine-taken : (a b : Option (List ℕ)) (e : Bool) (bytes : List ℕ) → HasNoFeed bytes → TakesPart a b e bytes → LosesWithinLine a b
+pub LosesWithinLine-taken : (a b : Option (List ℕ)) (e : Bool) (bytes : List ℕ) → HasNoFeed bytes
+    → TakesPart a b e bytes → LosesWithinLine a b
 LosesWithinLine-taken a b true bytes h t = (bytes ++ 10 ∷ [], t, IsWithinLine-ended bytes h)
 LosesWithinLine-taken a b false bytes h t = (bytes, t.0, IsWithinLine-part bytes h)
 
 -- a byte isn't read behind bytes of a line
-pub StopsAtLine-byte : (a b c : Option (List ℕ)) (bytes : List ℕ) (left : ℕ) (f : ScriptFault) → HasNoFeed bytes → Consumes a b bytes → StopsAtByte b c f → StopsAtLine a c left f
+pub StopsAtLine-byte : (a b c : Option (List ℕ)) (bytes : List ℕ) (left : ℕ) (f : ScriptFault) → HasNoFeed bytes
+    → Consumes a b bytes → StopsAtByte b c f → StopsAtLine a c left f
 StopsAtLine-byte a b c bytes left f h t s = elim s.0 [
   | inl e ↦ subst (λ (g : ScriptFault). StopsAtLine a c left g) (sym e) (bytes, Consumes-kept a b c bytes t s.1, h, tt)
   | inr e ↦ subst (λ (g : ScriptFault). StopsAtLine a c left g) (sym e) (bytes, Consumes-kept a b c bytes t s.1, h, tt)
 ]
 
 -- the line behind empty ones isn't read
-pub StopsReading-behind : (a b c : Option (List ℕ)) (ls : List (List ℕ)) (most left : ℕ) → spoken ls ≡ [] → LosesLines a b ls → most ≡ left + count_of_all ls
+pub StopsReading-behind : (a b c : Option (List ℕ)) (ls : List (List ℕ)) (most left : ℕ) → spoken ls ≡ []
+    → LosesLines a b ls → most ≡ left + count_of_all ls
     → (f : ScriptFault) → StopsAtLine b c left f → StopsReading a c most f
 StopsReading-behind a b c ls most left s t e f g = (
   ls,
@@ -261,11 +267,13 @@ StopsReading-behind a b c ls most left s t e f g = (
   s,
   (b, t, g.1),
   g.2,
-  subst (λ (xs : List (List ℕ)). GoesPastFor f a most xs) (append-nil ls) (GoesPastFor-behind f a b ls [] most left t e g.3),
+  subst (λ (xs : List (List ℕ)). GoesPastFor f a most xs) (append-nil ls) (GoesPastFor-behind f a b ls [] most left t
+  e g.3),
 )
 
 -- the next line that isn't empty, of which one line at most is lost behind empty ones
-pub LosesNext-behind : (a b c : Option (List ℕ)) (ls : List (List ℕ)) → spoken ls ≡ [] → LosesLines a b ls → LosesWithinLine b c → LosesNext a c
+pub LosesNext-behind : (a b c : Option (List ℕ)) (ls : List (List ℕ)) → spoken ls ≡ [] → LosesLines a b ls
+    → LosesWithinLine b c → LosesNext a c
 LosesNext-behind a b c ls s t g = (ls, g.0, s, (b, t, g.1), g.2)
 
 -- what the exit of a `?` says, where its fault is known

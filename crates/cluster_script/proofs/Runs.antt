@@ -36,7 +36,8 @@ pub Appends-behind : (a x b : Option (List ℕ)) (text : List ℕ) → Keeps a x
 Appends-behind a x b text k h = Appends-trans a x b [] text (Appends-kept a a x [] (Appends-nil a) k) h
 
 -- and a part of one
-pub AppendsPart-kept : (a x b : Option (List ℕ)) (text : List ℕ) → Keeps a x → AppendsPart x b text → AppendsPart a b text
+pub AppendsPart-kept : (a x b : Option (List ℕ)) (text : List ℕ) → Keeps a x → AppendsPart x b text
+    → AppendsPart a b text
 AppendsPart-kept a x b text k p = (p.0, p.1, p.2, Appends-behind a x b p.0 k p.3)
 
 -- empty lines print nothing
@@ -44,9 +45,11 @@ PrintsOn-blank : (ls : List (List ℕ)) → spoken ls ≡ [] → PrintsOn (spoke
 PrintsOn-blank ls s = subst (λ (xs : List (List ℕ)). PrintsOn xs []) (sym s) refl
 
 -- a fault behind empty lines, before anything was written
-module _ (input rest a b : Option (List ℕ)) (kept : Keeps a b) (ls : List (List ℕ)) (part : List ℕ) (s : spoken ls ≡ []) (t : LosesInto input rest ls part) where
+module _ (input rest a b : Option (List ℕ)) (kept : Keeps a b) (ls : List (List ℕ)) (part : List ℕ) (s : spoken ls ≡
+    []) (t : LosesInto input rest ls part) where
   abbrev between : StoppedBetween input rest a b
-  between = record { first = ls; part = part; out = []; read = t; prints = PrintsOn-blank ls s; wrote = Appends-kept a a b [] (Appends-nil a) kept }
+  between = record { first = ls; part = part; out = []; read = t; prints = PrintsOn-blank ls s; wrote = Appends-kept
+      a a b [] (Appends-nil a) kept }
 
   abbrev within : StoppedWithin input rest a b
   within = record {
@@ -59,26 +62,32 @@ module _ (input rest a b : Option (List ℕ)) (kept : Keeps a b) (ls : List (Lis
   }
 
 -- the first line isn't read
-pub Stopped-reading : (input rest a b : Option (List ℕ)) → Keeps a b → (f : ScriptFault) → StopsReading input rest 1000000 f → Stopped input rest a b f
+pub Stopped-reading : (input rest a b : Option (List ℕ)) → Keeps a b → (f : ScriptFault)
+    → StopsReading input rest 1000000 f → Stopped input rest a b f
 Stopped-reading input rest a b k fault.TooManyLines g = (between input rest a b k g.0 g.1 g.2 g.3, g.4, g.5)
 Stopped-reading input rest a b k fault.Read g = (between input rest a b k g.0 g.1 g.2 g.3, g.4)
 Stopped-reading input rest a b k fault.Write g = (within input rest a b k g.0 g.1 g.2 g.3, g.4)
 Stopped-reading input rest a b k fault.Memory g = (within input rest a b k g.0 g.1 g.2 g.3, g.4)
 
 -- memory is refused for the world of the first line
-pub Stopped-early : (input rest a b : Option (List ℕ)) → Keeps a b → LosesNext input rest → Stopped input rest a b fault.Memory
+pub Stopped-early : (input rest a b : Option (List ℕ)) → Keeps a b → LosesNext input rest
+    → Stopped input rest a b fault.Memory
 Stopped-early input rest a b k g = (within input rest a b k g.0 g.1 g.2 g.3, g.4)
 
 -- a text wasn't written
-pub Stopped-writing : (input rest a b : Option (List ℕ)) (f : WriteFault) (y : ScriptFault) → y ≡ stop_of f → (s : StoppedWithin input rest a b) → s.part ≡ [] → Stopped input rest a b y
+pub Stopped-writing : (input rest a b : Option (List ℕ)) (f : WriteFault) (y : ScriptFault) → y ≡ stop_of f
+    → (s : StoppedWithin input rest a b) → s.part ≡ [] → Stopped input rest a b y
 Stopped-writing input rest a b write.Writer y e s n =
-    subst (λ (g : ScriptFault). Stopped input rest a b g) (sym e) (s, subst (λ (xs : List ℕ). MayEndIn fault.Write xs) (sym n) (MayEndIn-none fault.Write))
+    subst (λ (g : ScriptFault). Stopped input rest a b g) (sym e) (s, subst (λ (xs : List ℕ). MayEndIn fault.Write
+    xs) (sym n) (MayEndIn-none fault.Write))
 Stopped-writing input rest a b write.Memory y e s n =
-    subst (λ (g : ScriptFault). Stopped input rest a b g) (sym e) (s, subst (λ (xs : List ℕ). MayEndIn fault.Memory xs) (sym n) (MayEndIn-none fault.Memory))
+    subst (λ (g : ScriptFault). Stopped input rest a b g) (sym e) (s, subst (λ (xs : List ℕ). MayEndIn fault.Memory
+    xs) (sym n) (MayEndIn-none fault.Memory))
 
 module _ (input rest : Option (List ℕ)) (most left : ℕ) (bound : most ≤ 1000000) (a b : Option (List ℕ)) where
   -- there is no first line
-  pub Ran-missing : ReadsOn input rest most left None → Appends a b (error_line (word_of BadLine)) → Ran input rest a b false
+  pub Ran-missing : ReadsOn input rest most left None → Appends a b (error_line (word_of BadLine))
+      → Ran input rest a b false
   Ran-missing t w = record {
     all = t.0;
     out = Refuses BadLine ∷ [];
@@ -94,7 +103,8 @@ module _ (input rest : Option (List ℕ)) (most left : ℕ) (bound : most ≤ 10
     fine_is = refl;
   }
 
-  abbrev pub Stopped-missing : ReadsOn input rest most left None → AppendsPart a b (error_line (word_of BadLine)) → StoppedWithin input rest a b
+  abbrev pub Stopped-missing : ReadsOn input rest most left None → AppendsPart a b (error_line (word_of BadLine))
+      → StoppedWithin input rest a b
   Stopped-missing t w = record {
     first = t.0;
     part = [];
@@ -110,7 +120,8 @@ module _ (input rest : Option (List ℕ)) (most left : ℕ) (bound : most ≤ 10
     prints-by ms out p = subst (λ (xs : List (List ℕ)). PrintsSpoken xs out) (sym (spoken-append ls ms ∙ ap (λ (xs : List (List ℕ)). xs ++ spoken ms) s)) p
 
     -- the first line is refused
-    pub Ran-refused : (f : LineFault) → LineOpens line (Err f) → Appends a b (error_line (word_of f)) → Ran input rest a b false
+    pub Ran-refused : (f : LineFault) → LineOpens line (Err f) → Appends a b (error_line (word_of f))
+        → Ran input rest a b false
     Ran-refused f o w = record {
       all = ls ++ left_in rest;
       out = Refuses f ∷ [];
@@ -126,7 +137,8 @@ module _ (input rest : Option (List ℕ)) (most left : ℕ) (bound : most ≤ 10
       fine_is = refl;
     }
 
-    abbrev pub Stopped-refused : (f : LineFault) → LineOpens line (Err f) → AppendsPart a b (error_line (word_of f)) → StoppedWithin input rest a b
+    abbrev pub Stopped-refused : (f : LineFault) → LineOpens line (Err f)
+        → AppendsPart a b (error_line (word_of f)) → StoppedWithin input rest a b
     Stopped-refused f o w = record {
       first = ls;
       part = [];
@@ -150,7 +162,8 @@ module _ (input rest : Option (List ℕ)) (most left : ℕ) (bound : most ≤ 10
       -- the lines so far
       prints-first : (ms : List (List ℕ)) (asked : List (Result ScriptLine LineFault)) → AllAsk (spoken ms) asked
           → PrintsOn (spoken (ls ++ ms)) (shown_all (opening_of world) (seen world) asked)
-      prints-first ms asked h = subst (λ (xs : List (List ℕ)). PrintsOn xs (shown_all (opening_of world) (seen world) asked))
+      prints-first ms asked h = subst (λ (xs : List (List ℕ)). PrintsOn xs (shown_all (opening_of world) (seen world)
+          asked))
           (sym (spoken-append ls ms ∙ ap (λ (xs : List (List ℕ)). xs ++ spoken ms) s)) (played-on ms asked h)
 
       module _ (last x : Option (List ℕ)) (kept : Keeps a x) where
@@ -176,20 +189,24 @@ module _ (input rest : Option (List ℕ)) (most left : ℕ) (bound : most ≤ 10
           wrote = (p.wrote.0, p.wrote.1, p.wrote.2, Appends-behind a x b p.wrote.0 kept p.wrote.3);
         }
 
-        Stopped-played : (f : ScriptFault) → StopsPlaying rest last left world x b f → most ≡ 1000000 → Stopped input last a b f
+        Stopped-played : (f : ScriptFault) → StopsPlaying rest last left world x b f → most ≡ 1000000
+            → Stopped input last a b f
         Stopped-played fault.TooManyLines p m =
-            let past : GoesPast input most (ls ++ p.0.taken) = GoesPast-behind input rest ls p.0.taken most left l e p.2 in
+            let past : GoesPast input most (ls ++ p.0.taken) = GoesPast-behind input rest ls p.0.taken most left l e
+            p.2 in
             (StoppedBetween-played p.0, p.1, subst (λ (n : ℕ). GoesPast input n (ls ++ p.0.taken)) m past)
         Stopped-played fault.Read p m = (StoppedBetween-played p.0, p.1)
         Stopped-played fault.Write p m = (StoppedWithin-played p.0, p.1)
         Stopped-played fault.Memory p m = (StoppedWithin-played p.0, p.1)
 
         pub Ran-played : (new : Held) (left2 : ℕ) (r : Result Bool ScriptFault) → most ≡ 1000000
-            → PlaysAll rest last left left2 world new x b r → MatchResult r (Ran input last a b) (Stopped input last a b)
+            → PlaysAll rest last left left2 world new x b r
+            → MatchResult r (Ran input last a b) (Stopped input last a b)
         Ran-played new left2 (Ok fine) m p = record {
           all = ls ++ p.0.taken;
           out = shown_all (opening_of world) (seen world) p.0.asked;
-          read = LosesLines-all input last (ls ++ p.0.taken) (LosesLines-trans input rest last ls p.0.taken l p.0.read) p.1;
+          read = LosesLines-all input last (ls ++ p.0.taken) (LosesLines-trans input rest last ls p.0.taken l
+              p.0.read) p.1;
           prints = played-all p.0.taken p.0.asked p.0.each;
           taken = ls ++ p.0.taken;
           untaken = [];
@@ -203,6 +220,7 @@ module _ (input rest : Option (List ℕ)) (most left : ℕ) (bound : most ≤ 10
         Ran-played new left2 (Err f) m p = Stopped-played f p m
 
 -- what the exit of a `?` says of a script
-pub Stopped-err : (input rest a b : Option (List ℕ)) (r : Result Bool ScriptFault) (y : ScriptFault) → r ≡ Err y → Stopped input rest a b y
+pub Stopped-err : (input rest a b : Option (List ℕ)) (r : Result Bool ScriptFault) (y : ScriptFault) → r ≡ Err y
+    → Stopped input rest a b y
     → MatchResult r (Ran input rest a b) (Stopped input rest a b)
 Stopped-err input rest a b r y e p = rw e p

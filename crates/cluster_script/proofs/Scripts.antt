@@ -73,10 +73,12 @@ module _ (input mid : Option (List ℕ)) (most l1 : ℕ) (old h1 : Held) (a b : 
       ∙ ap (λ (o : Opening). shown_text (shown_all (opening_of old) (seen old) P.asked) ++ shown_text (shown o (seen h1) asked)) (sym P.opening)
 
   -- what was played so far, where a fault comes behind empty lines
-  module _ (rest : Option (List ℕ)) (ls : List (List ℕ)) (part : List ℕ) (s : spoken ls ≡ []) (t : LosesInto mid rest ls part) where
+  module _ (rest : Option (List ℕ)) (ls : List (List ℕ)) (part : List ℕ) (s : spoken ls ≡ []) (t : LosesInto mid rest
+      ls part) where
     pub each-blank : AllAsk (spoken (P.taken ++ ls)) P.asked
     each-blank = subst (λ (xs : List (List ℕ)). AllAsk xs P.asked)
-        (sym (spoken-append P.taken ls ∙ ap (λ (xs : List (List ℕ)). spoken P.taken ++ xs) s ∙ append-nil (spoken P.taken))) P.each
+        (sym (spoken-append P.taken ls ∙ ap (λ (xs : List (List ℕ)). spoken P.taken ++ xs) s ∙ append-nil (spoken
+        P.taken))) P.each
 
     abbrev pub PlaysSome-so_far : PlaysSome Appends input rest old a b
     PlaysSome-so_far = record {
@@ -99,7 +101,8 @@ module _ (input mid : Option (List ℕ)) (most l1 : ℕ) (old h1 : Held) (a b : 
     }
 
   -- the next line isn't read
-  pub StopsPlaying-reading : (rest : Option (List ℕ)) (f : ScriptFault) → StopsReading mid rest l1 f → StopsPlaying input rest most old a b f
+  pub StopsPlaying-reading : (rest : Option (List ℕ)) (f : ScriptFault) → StopsReading mid rest l1 f
+      → StopsPlaying input rest most old a b f
   StopsPlaying-reading rest fault.TooManyLines g =
       (PlaysSome-so_far rest g.0 g.1 g.2 g.3, g.4, GoesPast-behind input mid P.taken g.0 most l1 P.read P.counted g.5)
   StopsPlaying-reading rest fault.Read g = (PlaysSome-so_far rest g.0 g.1 g.2 g.3, g.4)
@@ -107,7 +110,8 @@ module _ (input mid : Option (List ℕ)) (most l1 : ℕ) (old h1 : Held) (a b : 
   StopsPlaying-reading rest fault.Memory g = (PlaysSome-part rest g.0 g.1 g.2 g.3, g.4)
 
   -- memory is refused for what the next line asks
-  pub StopsPlaying-next : (rest : Option (List ℕ)) → LosesNext mid rest → StopsPlaying input rest most old a b fault.Memory
+  pub StopsPlaying-next : (rest : Option (List ℕ)) → LosesNext mid rest
+      → StopsPlaying input rest most old a b fault.Memory
   StopsPlaying-next rest g = (PlaysSome-part rest g.0 g.1 g.2 g.3, g.4)
 
   module _ (rest : Option (List ℕ)) (ls : List (List ℕ)) (line : List ℕ) (asked : Result ScriptLine LineFault) (s : spoken ls ≡ line ∷ []) (t : LosesLines mid rest ls)
@@ -117,7 +121,8 @@ module _ (input mid : Option (List ℕ)) (most l1 : ℕ) (old h1 : Held) (a b : 
         (sym (spoken-append P.taken ls ∙ ap (λ (xs : List (List ℕ)). spoken P.taken ++ xs) s)) (AllAsk-push (spoken P.taken) P.asked line asked P.each q)
 
     -- a fault comes while a line is played
-    abbrev pub PlaysSome-next : (c : Option (List ℕ)) → AppendsPart b c (shown_on h1 asked) → PlaysSome AppendsPart input rest old a c
+    abbrev pub PlaysSome-next : (c : Option (List ℕ)) → AppendsPart b c (shown_on h1 asked)
+        → PlaysSome AppendsPart input rest old a c
     PlaysSome-next c p = record {
       taken = P.taken ++ ls;
       part = [];
@@ -153,7 +158,8 @@ pub PlaysAll-err : (input rest : Option (List ℕ)) (most left : ℕ) (old new :
 PlaysAll-err input rest most left old new a b r y e p = rw e p
 
 -- what was written stays
-pub PlaysLines-kept : (input rest : Option (List ℕ)) (most left : ℕ) (old new : Held) (a b c : Option (List ℕ)) (fine : Bool) → PlaysLines input rest most left old new a b fine → Keeps b c
+pub PlaysLines-kept : (input rest : Option (List ℕ)) (most left : ℕ) (old new : Held) (a b c : Option (List ℕ)) (fine
+    : Bool) → PlaysLines input rest most left old new a b fine → Keeps b c
     → PlaysLines input rest most left old new a c fine
 PlaysLines-kept input rest most left old new a b c fine p k = record {
   taken = p.taken;
@@ -183,9 +189,12 @@ PlaysLines-blank input mid rest most l1 l2 old h1 a b fine P ls s t e = record {
 }
 
 -- a text wasn't written, or memory was refused
-pub StopsPlaying-writing : (input rest : Option (List ℕ)) (most : ℕ) (old : Held) (a b : Option (List ℕ)) (f : WriteFault) (y : ScriptFault) → y ≡ stop_of f
+pub StopsPlaying-writing : (input rest : Option (List ℕ)) (most : ℕ) (old : Held) (a b : Option (List ℕ)) (f :
+    WriteFault) (y : ScriptFault) → y ≡ stop_of f
     → (p : PlaysSome AppendsPart input rest old a b) → p.part ≡ [] → StopsPlaying input rest most old a b y
 StopsPlaying-writing input rest most old a b write.Writer y e p n =
-    subst (λ (g : ScriptFault). StopsPlaying input rest most old a b g) (sym e) (p, subst (λ (xs : List ℕ). MayEndIn fault.Write xs) (sym n) (MayEndIn-none fault.Write))
+    subst (λ (g : ScriptFault). StopsPlaying input rest most old a b g) (sym e) (p, subst (λ (xs : List ℕ). MayEndIn
+    fault.Write xs) (sym n) (MayEndIn-none fault.Write))
 StopsPlaying-writing input rest most old a b write.Memory y e p n =
-    subst (λ (g : ScriptFault). StopsPlaying input rest most old a b g) (sym e) (p, subst (λ (xs : List ℕ). MayEndIn fault.Memory xs) (sym n) (MayEndIn-none fault.Memory))
+    subst (λ (g : ScriptFault). StopsPlaying input rest most old a b g) (sym e) (p, subst (λ (xs : List ℕ). MayEndIn
+    fault.Memory xs) (sym n) (MayEndIn-none fault.Memory))

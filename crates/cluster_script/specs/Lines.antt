@@ -106,8 +106,8 @@ LosesWithinLine old new = (bytes : List ℕ) × Consumes old new bytes × IsWith
 -- the next line was read, or there is none
 abbrev pub TakesLine : Option (List ℕ) → Option (List ℕ) → ℕ → ℕ → Option Line → Type 0
 TakesLine old new most left None = LosesLines old new [] × HasNoLine new × (most ≡ left)
-TakesLine old new most left (Some kept) = (line : List ℕ) × IsKept line kept × LosesLines old new (line ∷ []) × LosesWithinLine old new
-    × (most ≡ left + count_of line)
+TakesLine old new most left (Some kept) = (line : List ℕ) × IsKept line kept × LosesLines old new (line ∷ [])
+    × LosesWithinLine old new × (most ≡ left + count_of line)
 
 -- how much of the next line may have been read where a script ends with this fault: not its end, or all of it
 abbrev pub MayEndIn : ScriptFault → List ℕ → Type 0

@@ -64,7 +64,8 @@ pub record IsShown (h : Held) (a : ℕ) (x : Output) (line : Option (List ℕ)) 
 
 -- known bytes lose empty lines, and bytes of one line at most behind them
 abbrev pub LosesNext : Option (List ℕ) → Option (List ℕ) → Type 0
-LosesNext old new = (ls : List (List ℕ)) × (part : List ℕ) × (spoken ls ≡ []) × LosesInto old new ls part × IsWithinLine part
+LosesNext old new = (ls : List (List ℕ)) × (part : List ℕ) × (spoken ls ≡ []) × LosesInto old new ls part
+    × IsWithinLine part
 
 -- the next line that isn't empty was read, or there was none
 abbrev pub ReadsOn : Option (List ℕ) → Option (List ℕ) → ℕ → ℕ → Option Line → Type 0
@@ -74,7 +75,8 @@ ReadsOn old new most left (Some kept) = (ls : List (List ℕ)) × (line : List �
 
 -- no further line is read: empty ones are lost, and a part of the next
 abbrev pub StopsReading : Option (List ℕ) → Option (List ℕ) → ℕ → ScriptFault → Type 0
-StopsReading input rest most f = (ls : List (List ℕ)) × (part : List ℕ) × (spoken ls ≡ []) × LosesInto input rest ls part × MayEndIn f part × GoesPastFor f input most ls
+StopsReading input rest most f = (ls : List (List ℕ)) × (part : List ℕ) × (spoken ls ≡ [])
+    × LosesInto input rest ls part × MayEndIn f part × GoesPastFor f input most ls
 
 -- lines were read and played
 pub record PlaysLines (input rest : Option (List ℕ)) (most left : ℕ) (old new : Held) (before after : Option (List ℕ)) (fine : Bool) : Type 0 where
@@ -94,8 +96,13 @@ Delivers old new e before after (Ok x) = (opening_of new ≡ opening_of old) × 
     × Appends before after (answers_text (answers (opening_of old) (seen old) e))
 Delivers old new e before after (Err f) = AppendsPart before after (answers_text (answers (opening_of old) (seen old) e))
 
--- Some first lines of the input were lost and played, and what they print was written, or a part of it; of the next a part was lost
-pub record PlaysSome (Grows : Option (List ℕ) → Option (List ℕ) → List ℕ → Type 0) (input rest : Option (List ℕ)) (old : Held) (before after : Option (List ℕ)) : Type 0 where
+-- how known bytes grow by a text: by all of it, or by a part
+abbrev pub Growth : Type 1
+Growth = Option (List ℕ) → Option (List ℕ) → List ℕ → Type 0
+
+-- Some first lines were lost and played, and what they print was written, or a part of it; of the next a part was lost
+pub record PlaysSome (Grows : Growth) (input rest : Option (List ℕ)) (old : Held) (before after : Option (List ℕ))
+    : Type 0 where
   pub taken : List (List ℕ)
   pub part : List ℕ
   pub asked : List (Result ScriptLine LineFault)
@@ -104,11 +111,15 @@ pub record PlaysSome (Grows : Option (List ℕ) → Option (List ℕ) → List �
   pub wrote : Grows before after (shown_text (shown_all (opening_of old) (seen old) asked))
 
 -- only some first lines were played: all is written that they print, unless it is the writer or memory that failed
-abbrev pub StopsPlaying : Option (List ℕ) → Option (List ℕ) → ℕ → Held → Option (List ℕ) → Option (List ℕ) → ScriptFault → Type 0
+abbrev pub StopsPlaying : Option (List ℕ) → Option (List ℕ) → ℕ → Held → Option (List ℕ) → Option (List ℕ)
+    → ScriptFault → Type 0
 StopsPlaying input rest most old before after TooManyLines =
-    (s : PlaysSome Appends input rest old before after) × MayEndIn TooManyLines s.part × GoesPastFor TooManyLines input most s.taken
-StopsPlaying input rest most old before after Read = (s : PlaysSome Appends input rest old before after) × MayEndIn Read s.part
-StopsPlaying input rest most old before after f = (s : PlaysSome AppendsPart input rest old before after) × MayEndIn f s.part
+    (s : PlaysSome Appends input rest old before after) × MayEndIn TooManyLines s.part
+    × GoesPastFor TooManyLines input most s.taken
+StopsPlaying input rest most old before after Read =
+    (s : PlaysSome Appends input rest old before after) × MayEndIn Read s.part
+StopsPlaying input rest most old before after f =
+    (s : PlaysSome AppendsPart input rest old before after) × MayEndIn f s.part
 
 -- lines were played, and what they print was written; or after a fault some first lines were
 abbrev pub PlaysAll : Option (List ℕ) → Option (List ℕ) → ℕ → ℕ → Held → Held → Option (List ℕ) → Option (List ℕ) → Result Bool ScriptFault → Type 0

@@ -133,7 +133,7 @@ pub record Ran (input rest : Option (List ℕ)) (old new : Option (List ℕ)) (f
   pub out : List Shown
   pub read : HasLines input all
   pub prints : Prints all out
-  -- the lines that the input lost, which count for no more than there may be; they are all, or end behind the line that opens no world
+  -- the lines that the input lost, which count for no more than there may be: all, or up to the one that opens no world
   pub taken : List (List ℕ)
   pub untaken : List (List ℕ)
   pub parts : all ≡ taken ++ untaken
@@ -148,7 +148,7 @@ abbrev pub PrintsOn : List (List ℕ) → List Shown → Type 0
 PrintsOn [] out = out ≡ []
 PrintsOn (l ∷ ls) out = (nodes : List ℕ) × LineOpens l (Ok nodes) × Follows (Ok nodes) ls out
 
--- why there is no world behind these lines, where this is left: no line is left to open one, or the only line is refused
+-- why there is no world behind these lines, where this is left: no line is left to open one, or the first is refused
 abbrev pub OpensNone : List (List ℕ) → Option (List ℕ) → LineFault → Type 0
 OpensNone [] rest f = HasNoLine rest × (f ≡ BadLine)
 OpensNone (l ∷ []) rest f = LineOpens l (Err f)
@@ -158,8 +158,7 @@ OpensNone _ rest f = ⊥
 abbrev pub PrintsNoWorld : List (List ℕ) → Option (List ℕ) → List ℕ → List Shown → Type 0
 PrintsNoWorld ls rest part out = (f : LineFault) × OpensNone ls rest f × (part ≡ []) × (out ≡ Refuses f ∷ [])
 
--- A script of this input ended between two lines, the first of which it lost, and a part of the next: all is written that is
--- printed for those before
+-- A script ended between two lines; its input lost the first ones and a part of the next: all they print is written
 pub record StoppedBetween (input rest old new : Option (List ℕ)) : Type 0 where
   pub first : List (List ℕ)
   pub part : List ℕ
@@ -168,7 +167,7 @@ pub record StoppedBetween (input rest old new : Option (List ℕ)) : Type 0 wher
   pub prints : PrintsOn (spoken first) out
   pub wrote : Appends old new (shown_text out)
 
--- A script of this input ended within a line, behind lines that it lost: a part is written of what is printed for these
+-- A script ended within a line; its input lost the first ones and a part of the next: a part they print is written
 pub record StoppedWithin (input rest old new : Option (List ℕ)) : Type 0 where
   pub first : List (List ℕ)
   pub part : List ℕ
@@ -179,14 +178,16 @@ pub record StoppedWithin (input rest old new : Option (List ℕ)) : Type 0 where
 
 -- A script of this input ended with a fault: with too many lines, where the next one takes the count past the most
 abbrev pub Stopped : Option (List ℕ) → Option (List ℕ) → Option (List ℕ) → Option (List ℕ) → ScriptFault → Type 0
-Stopped input rest old new TooManyLines = (s : StoppedBetween input rest old new) × IsWithinLine s.part × GoesPast input most_lines s.first
+Stopped input rest old new TooManyLines = (s : StoppedBetween input rest old new) × IsWithinLine s.part
+    × GoesPast input most_lines s.first
 Stopped input rest old new Read = (s : StoppedBetween input rest old new) × HasNoFeed s.part
 Stopped input rest old new Write = (s : StoppedWithin input rest old new) × HasNoFeed s.part
 Stopped input rest old new Memory = (s : StoppedWithin input rest old new) × IsWithinLine s.part
 
 -- where a script of known bytes is played to its end, it has no line that takes the count past the most
 abbrev pub EndsOneWay : Type 0
-EndsOneWay = (input : List ℕ) (r s a b c d : Option (List ℕ)) (fine : Bool) → Ran (Some input) r a b fine → Stopped (Some input) s c d TooManyLines → ⊥
+EndsOneWay = (input : List ℕ) (r s a b c d : Option (List ℕ)) (fine : Bool) → Ran (Some input) r a b fine
+    → Stopped (Some input) s c d TooManyLines → ⊥
 
 -- the fault of a script of which a text wasn't written
 abbrev pub stop_of : WriteFault → ScriptFault

@@ -82,7 +82,8 @@ fn next_byte<R: Read, W: Write>(
     reader: &mut BufReader<R, Global>,
     writer: &mut W,
 ) -> Result<Option<u8>, ScriptFault>
-    ensures read { MatchResult result (TakesByte (reader_remaining R.remaining reader.old) (reader_remaining R.remaining reader.new))
+    ensures read { MatchResult result
+        (TakesByte (reader_remaining R.remaining reader.old) (reader_remaining R.remaining reader.new))
         (StopsAtByte (reader_remaining R.remaining reader.old) (reader_remaining R.remaining reader.new)) }
     ensures kept { Keeps (W.contents writer.old) (W.contents writer.new) }
 {
@@ -179,7 +180,8 @@ pub(crate) fn read_line<R: Read, W: Write>(
 ) -> Result<Option<Line>, ScriptFault>
     requires { left.old ≤ most_lines }
     ensures read { MatchResult result
-        (TakesLine (reader_remaining R.remaining reader.old) (reader_remaining R.remaining reader.new) left.old left.new)
+        (TakesLine (reader_remaining R.remaining reader.old) (reader_remaining R.remaining reader.new)
+        left.old left.new)
         (StopsAtLine (reader_remaining R.remaining reader.old) (reader_remaining R.remaining reader.new) left.old) }
     ensures kept { Keeps (W.contents writer.old) (W.contents writer.new) }
 {

@@ -150,8 +150,8 @@ fn play_task<W: Write>(
     }
 }
 
-/// Reads on to the next line that isn't empty. `left` says how many more lines may come. What was written is handed on before the
-/// reader waits.
+/// Reads on to the next line that isn't empty. `left` says how many more lines may come. What was written is handed on
+/// before the reader waits.
 fn next_line<R: Read, W: Write>(
     alloc: Global,
     reader: &mut BufReader<R, Global>,
@@ -190,8 +190,8 @@ fn play_lines<R: Read, W: Write>(
     left: &mut u32,
 ) -> Result<bool, ScriptFault>
     requires { left.old ≤ most_lines }
-    ensures { PlaysAll (reader_remaining R.remaining reader.old) (reader_remaining R.remaining reader.new) left.old left.new
-        world.old world.new (W.contents writer.old) (W.contents writer.new) result }
+    ensures { PlaysAll (reader_remaining R.remaining reader.old) (reader_remaining R.remaining reader.new)
+        left.old left.new world.old world.new (W.contents writer.old) (W.contents writer.new) result }
 {
     let mut is_fine = true;
     while let Some(line) = next_line(alloc, reader, writer, left)? {
@@ -205,21 +205,23 @@ fn play_lines<R: Read, W: Write>(
 /// Plays a script, and writes what it prints: whether no refusal is printed.
 ///
 /// Its first line that isn't empty names the nodes of the cluster; each other line asks for an event, or for deliveries until no
-/// letter waits. A line that is refused prints the word for it and changes nothing; where there is no world, the script ends, and
-/// no further byte is read. What was written is handed on before the reader waits for more.
+/// letter waits. A line that is refused prints the word for it and changes nothing; where there is no world, the script
+/// ends, and no further byte is read. What was written is handed on before the reader waits for more.
 ///
 /// `TooManyLines` is answered only where a line takes the count past 1,000,000; that line isn't played, and all is written that
-/// those before it print, as after `Read`. The contract can't say when a reader, a writer or an allocator fails, since theirs
-/// don't: so it doesn't say when `Read`, `Write` and `Memory` come. After the last two a part is written of what the lines print
-/// that were read.
+/// those before it print, as after `Read`. The contract can't say when a reader, a writer or an allocator fails, since
+/// theirs don't: so it doesn't say when `Read`, `Write` and `Memory` come. After the last two a part is written of what
+/// the lines print that were read.
 pub fn run_script<R: Read, W: Write>(
     alloc: Global,
     reader: &mut BufReader<R, Global>,
     writer: &mut W,
 ) -> Result<bool, ScriptFault>
     ensures { MatchResult result
-        (Ran (reader_remaining R.remaining reader.old) (reader_remaining R.remaining reader.new) (W.contents writer.old) (W.contents writer.new))
-        (Stopped (reader_remaining R.remaining reader.old) (reader_remaining R.remaining reader.new) (W.contents writer.old) (W.contents writer.new)) }
+        (Ran (reader_remaining R.remaining reader.old) (reader_remaining R.remaining reader.new)
+        (W.contents writer.old) (W.contents writer.new))
+        (Stopped (reader_remaining R.remaining reader.old) (reader_remaining R.remaining reader.new)
+        (W.contents writer.old) (W.contents writer.new)) }
 {
     let mut left = MOST_LINES;
     let Some(line) = next_line(alloc, reader, writer, &mut left)? else {

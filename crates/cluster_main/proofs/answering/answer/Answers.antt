@@ -15,5 +15,6 @@ returns-in-Err g c =
       new = g.W.Write.contents c.show.new.writer;
     } in
     let d = shown (refusals (map string_bytes c.in-Some.words.now)) c.in-Err.error s c.show.result c.in-Err.ensures.task
-    (Keeps-refl (reader_remaining g.R.Read.remaining c.args.reader.now)) c.show.ensures.status c.show.ensures.unprinted in
+    (Keeps-refl (reader_remaining g.R.Read.remaining c.args.reader.now)) c.show.ensures.status
+    c.show.ensures.unprinted in
     rw c.in-Some.is d

@@ -9,7 +9,8 @@ returns-in_err-command-clause-known c = known_words
 pub returns-in-Ok-clause-task : goal.returns-in-Ok-clause-task
 returns-in-Ok-clause-task c =
     let e = c.in_ok-command.ensures in
-    subst (λ (a : App). fault_of a (map string_bytes c.args.words.now) ≡ []) e (c.in-Ok.ensures.kinds (ap is_simple_and_free e ∙ is_free))
+    subst (λ (a : App). fault_of a (map string_bytes c.args.words.now) ≡ []) e (c.in-Ok.ensures.kinds (ap
+    is_simple_and_free e ∙ is_free))
 
 pub returns-in-Ok-clause-known : goal.returns-in-Ok-clause-known
 returns-in-Ok-clause-known c = known_words

@@ -17,7 +17,8 @@ returns-clause-read g c =
       | inl p ↦ omega (arith, r.1.len, p.1)
       | inr t ↦ absurd (true_false (sym t ∙ f))
     ] in
-    (line_of e r.0, k, TakesPart-line _ _ e r.0 r.2 r.3 some, LosesWithinLine-taken _ _ e r.0 r.2 r.3, omega (arith, m, c.if-count-left.false))
+    (line_of e r.0, k, TakesPart-line _ _ e r.0 r.2 r.3 some, LosesWithinLine-taken _ _ e r.0 r.2 r.3, omega (arith,
+    m, c.if-count-left.false))
 
 pub returns-then-count-left-clause-read : goal.returns-then-count-left-clause-read
 returns-then-count-left-clause-read g c =
@@ -33,5 +34,6 @@ returns-then-count-left-clause-read g c =
       w.0,
       w.1,
       w.2,
-      GoesPast-line _ _ (line_of e r.0) c.args.left.now (TakesPart-line _ _ e r.0 r.2 r.3 some) (omega (arith, m, c.if-count-left.true)),
+      GoesPast-line _ _ (line_of e r.0) c.args.left.now (TakesPart-line _ _ e r.0 r.2 r.3 some) (omega (arith, m,
+      c.if-count-left.true)),
     )

@@ -7,7 +7,8 @@ use Rattle.cluster_script.proofs.lines.read_part.Given as goal
 -- these bytes were read, and no line feed
 abbrev pub invariant-loop-byte : goal.invariant-loop-byte
 invariant-loop-byte g l = record {
-  read : (bytes : List ℕ) × IsPart bytes l.part × HasNoFeed bytes × Consumes (reader_remaining g.R.Read.remaining l.fn.reader) (reader_remaining g.R.Read.remaining l.reader) bytes;
+  read : (bytes : List ℕ) × IsPart bytes l.part × HasNoFeed bytes
+      × Consumes (reader_remaining g.R.Read.remaining l.fn.reader) (reader_remaining g.R.Read.remaining l.reader) bytes;
   short : l.part.len ≤ 1024001025;
   kept : Keeps (g.W.Write.contents l.fn.writer) (g.W.Write.contents l.writer);
 }

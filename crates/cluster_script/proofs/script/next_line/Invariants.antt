@@ -7,7 +7,9 @@ use Rattle.cluster_script.proofs.script.next_line.Given as goal
 -- empty lines were read
 abbrev pub invariant-loop-line : goal.invariant-loop-line
 invariant-loop-line g l = record {
-  read : (ls : List (List ℕ)) × (spoken ls ≡ []) × LosesLines (reader_remaining g.R.Read.remaining l.fn.reader) (reader_remaining g.R.Read.remaining l.reader) ls × (l.fn.left ≡ l.left + count_of_all ls);
+  read : (ls : List (List ℕ)) × (spoken ls ≡ [])
+      × LosesLines (reader_remaining g.R.Read.remaining l.fn.reader) (reader_remaining g.R.Read.remaining l.reader) ls
+      × (l.fn.left ≡ l.left + count_of_all ls);
   kept : Keeps (g.W.Write.contents l.fn.writer) (g.W.Write.contents l.writer);
 }
 

@@ -11,7 +11,8 @@ use Rattle.std.specs.Io.Buffered.{reader_remaining}
 use Rattle.cluster_script.proofs.script.play_lines.Goals as goal
 
 -- a line that isn't empty counts
-less : (most left : ℕ) (ls : List (List ℕ)) (line : List ℕ) → spoken ls ≡ line ∷ [] → most ≡ left + count_of_all ls → left < most
+less : (most left : ℕ) (ls : List (List ℕ)) (line : List ℕ) → spoken ls ≡ line ∷ [] → most ≡ left + count_of_all ls
+    → left < most
 less most left ls line s e =
     let n = count_of_all-some ls (λ z. cons_nil line (sym s ∙ z)) in
     omega (arith, n, e)
@@ -20,100 +21,146 @@ less most left ls line s e =
     cons_nil l h = cc
 
 pub loop-line-init : goal.loop-line-init
-loop-line-init g c = PlaysLines-start (reader_remaining g.R.Read.remaining c.args.reader.now) c.args.left.now c.args.world.now (g.W.Write.contents c.args.writer.now)
+loop-line-init g c =
+    let input = reader_remaining g.R.Read.remaining c.args.reader.now in
+    let old = g.W.Write.contents c.args.writer.now in
+    PlaysLines-start input c.args.left.now c.args.world.now old
 
 pub returns-in_err-fine : goal.returns-in_err-fine
 returns-in_err-fine g c =
-    let P = PlaysLines-kept (reader_remaining g.R.Read.remaining c.args.reader.now) (reader_remaining g.R.Read.remaining c.loop-line.reader) c.args.left.now c.loop-line.left
-    c.args.world.now c.loop-line.world (g.W.Write.contents c.args.writer.now) (g.W.Write.contents c.loop-line.writer) (g.W.Write.contents c.next_line.new.writer) c.loop-line.is_fine
+    let input = reader_remaining g.R.Read.remaining c.args.reader.now in
+    let mid = reader_remaining g.R.Read.remaining c.loop-line.reader in
+    let rest = reader_remaining g.R.Read.remaining c.next_line.new.reader in
+    let old = g.W.Write.contents c.args.writer.now in
+    let written = g.W.Write.contents c.loop-line.writer in
+    let same = g.W.Write.contents c.next_line.new.writer in
+    let new = g.W.Write.contents c.play_task.new.writer in
+    let P = PlaysLines-kept input mid c.args.left.now c.loop-line.left
+    c.args.world.now c.loop-line.world old written same c.loop-line.is_fine
     c.loop-line.invariant c.in_ok-line.ensures.kept in
     let p = err_from_is_err_and c.from_residual-in_err-fine.result c.from_residual-in_err-fine.ensures.1 in
-    let t = subst (λ (o : Option Line). ReadsOn (reader_remaining g.R.Read.remaining c.loop-line.reader) (reader_remaining g.R.Read.remaining c.next_line.new.reader) c.loop-line.left c.next_line.new.left o)
+    let t = subst (λ (o : Option Line). ReadsOn mid rest c.loop-line.left c.next_line.new.left o)
     c.in-Some.is c.in_ok-line.ensures.read in
     PlaysAll-err _ _ _ _ _ _ _ _ c.from_residual-in_err-fine.result p.0 p.1
-    (StopsPlaying-writing _ (reader_remaining g.R.Read.remaining c.next_line.new.reader) _ _ _ _ c.in_err-fine.field-0.0 p.0 p.2
-    (PlaysSome-next (reader_remaining g.R.Read.remaining c.args.reader.now) (reader_remaining g.R.Read.remaining c.loop-line.reader) c.args.left.now c.loop-line.left c.args.world.now c.loop-line.world
-    (g.W.Write.contents c.args.writer.now) (g.W.Write.contents c.next_line.new.writer) c.loop-line.is_fine P
-    (reader_remaining g.R.Read.remaining c.next_line.new.reader) t.0 t.1 (asked_by c.in_ok-task.task) t.3 t.4 (c.in_ok-task.ensures t.1 t.2)
-    (g.W.Write.contents c.play_task.new.writer) c.in_err-fine.ensures) refl)
+    (StopsPlaying-writing _ rest _ _ _ _ c.in_err-fine.field-0.0 p.0 p.2
+    (PlaysSome-next input mid c.args.left.now c.loop-line.left c.args.world.now c.loop-line.world
+    old same c.loop-line.is_fine P
+    rest t.0 t.1 (asked_by c.in_ok-task.task) t.3 t.4 (c.in_ok-task.ensures t.1 t.2)
+    new c.in_err-fine.ensures) refl)
 
 pub loop-line-smaller-in_ok-fine : goal.loop-line-smaller-in_ok-fine
 loop-line-smaller-in_ok-fine g c =
-    let t = subst (λ (o : Option Line). ReadsOn (reader_remaining g.R.Read.remaining c.loop-line.reader) (reader_remaining g.R.Read.remaining c.next_line.new.reader) c.loop-line.left c.next_line.new.left o)
+    let mid = reader_remaining g.R.Read.remaining c.loop-line.reader in
+    let rest = reader_remaining g.R.Read.remaining c.next_line.new.reader in
+    let t = subst (λ (o : Option Line). ReadsOn mid rest c.loop-line.left c.next_line.new.left o)
     c.in-Some.is c.in_ok-line.ensures.read in
     less c.loop-line.left c.next_line.new.left t.0 t.1 t.3 t.5
 
 pub loop-line-smaller : goal.loop-line-smaller
 loop-line-smaller g c =
-    let t = subst (λ (o : Option Line). ReadsOn (reader_remaining g.R.Read.remaining c.loop-line.reader) (reader_remaining g.R.Read.remaining c.next_line.new.reader) c.loop-line.left c.next_line.new.left o)
+    let mid = reader_remaining g.R.Read.remaining c.loop-line.reader in
+    let rest = reader_remaining g.R.Read.remaining c.next_line.new.reader in
+    let t = subst (λ (o : Option Line). ReadsOn mid rest c.loop-line.left c.next_line.new.left o)
     c.in-Some.is c.in_ok-line.ensures.read in
     less c.loop-line.left c.next_line.new.left t.0 t.1 t.3 t.5
 
 pub loop-line-preserved-in_ok-fine : goal.loop-line-preserved-in_ok-fine
 loop-line-preserved-in_ok-fine g c =
-    let P = PlaysLines-kept (reader_remaining g.R.Read.remaining c.args.reader.now) (reader_remaining g.R.Read.remaining c.loop-line.reader) c.args.left.now c.loop-line.left
-    c.args.world.now c.loop-line.world (g.W.Write.contents c.args.writer.now) (g.W.Write.contents c.loop-line.writer) (g.W.Write.contents c.next_line.new.writer) c.loop-line.is_fine
+    let input = reader_remaining g.R.Read.remaining c.args.reader.now in
+    let mid = reader_remaining g.R.Read.remaining c.loop-line.reader in
+    let rest = reader_remaining g.R.Read.remaining c.next_line.new.reader in
+    let old = g.W.Write.contents c.args.writer.now in
+    let written = g.W.Write.contents c.loop-line.writer in
+    let same = g.W.Write.contents c.next_line.new.writer in
+    let new = g.W.Write.contents c.play_task.new.writer in
+    let P = PlaysLines-kept input mid c.args.left.now c.loop-line.left
+    c.args.world.now c.loop-line.world old written same c.loop-line.is_fine
     c.loop-line.invariant c.in_ok-line.ensures.kept in
-    let t = subst (λ (o : Option Line). ReadsOn (reader_remaining g.R.Read.remaining c.loop-line.reader) (reader_remaining g.R.Read.remaining c.next_line.new.reader) c.loop-line.left c.next_line.new.left o)
+    let t = subst (λ (o : Option Line). ReadsOn mid rest c.loop-line.left c.next_line.new.left o)
     c.in-Some.is c.in_ok-line.ensures.read in
-    let n = PlaysLines-next (reader_remaining g.R.Read.remaining c.args.reader.now) (reader_remaining g.R.Read.remaining c.loop-line.reader) c.args.left.now c.loop-line.left c.args.world.now c.loop-line.world
-    (g.W.Write.contents c.args.writer.now) (g.W.Write.contents c.next_line.new.writer) c.loop-line.is_fine P
-    (reader_remaining g.R.Read.remaining c.next_line.new.reader) t.0 t.1 (asked_by c.in_ok-task.task) t.3 t.4 (c.in_ok-task.ensures t.1 t.2)
-    c.next_line.new.left c.play_task.new.world (g.W.Write.contents c.play_task.new.writer) c.in_ok-fine.fine t.5 c.in_ok-fine.ensures in
-    subst (λ (b : Bool). PlaysLines (reader_remaining g.R.Read.remaining c.args.reader.now) (reader_remaining g.R.Read.remaining c.next_line.new.reader) c.args.left.now c.next_line.new.left c.args.world.now
-    c.play_task.new.world (g.W.Write.contents c.args.writer.now) (g.W.Write.contents c.play_task.new.writer) b) (sym c.both-is_fine.ensures) n
+    let n = PlaysLines-next input mid c.args.left.now c.loop-line.left c.args.world.now c.loop-line.world
+    old same c.loop-line.is_fine P
+    rest t.0 t.1 (asked_by c.in_ok-task.task) t.3 t.4 (c.in_ok-task.ensures t.1 t.2)
+    c.next_line.new.left c.play_task.new.world new c.in_ok-fine.fine t.5 c.in_ok-fine.ensures in
+    subst (λ (b : Bool). PlaysLines input rest c.args.left.now c.next_line.new.left c.args.world.now
+    c.play_task.new.world old new b) (sym c.both-is_fine.ensures) n
 
 pub loop-line-preserved : goal.loop-line-preserved
 loop-line-preserved g c =
-    let P = PlaysLines-kept (reader_remaining g.R.Read.remaining c.args.reader.now) (reader_remaining g.R.Read.remaining c.loop-line.reader) c.args.left.now c.loop-line.left
-    c.args.world.now c.loop-line.world (g.W.Write.contents c.args.writer.now) (g.W.Write.contents c.loop-line.writer) (g.W.Write.contents c.next_line.new.writer) c.loop-line.is_fine
+    let input = reader_remaining g.R.Read.remaining c.args.reader.now in
+    let mid = reader_remaining g.R.Read.remaining c.loop-line.reader in
+    let rest = reader_remaining g.R.Read.remaining c.next_line.new.reader in
+    let old = g.W.Write.contents c.args.writer.now in
+    let written = g.W.Write.contents c.loop-line.writer in
+    let same = g.W.Write.contents c.next_line.new.writer in
+    let new = g.W.Write.contents c.play_task.new.writer in
+    let P = PlaysLines-kept input mid c.args.left.now c.loop-line.left
+    c.args.world.now c.loop-line.world old written same c.loop-line.is_fine
     c.loop-line.invariant c.in_ok-line.ensures.kept in
-    let t = subst (λ (o : Option Line). ReadsOn (reader_remaining g.R.Read.remaining c.loop-line.reader) (reader_remaining g.R.Read.remaining c.next_line.new.reader) c.loop-line.left c.next_line.new.left o)
+    let t = subst (λ (o : Option Line). ReadsOn mid rest c.loop-line.left c.next_line.new.left o)
     c.in-Some.is c.in_ok-line.ensures.read in
-    let n = PlaysLines-next (reader_remaining g.R.Read.remaining c.args.reader.now) (reader_remaining g.R.Read.remaining c.loop-line.reader) c.args.left.now c.loop-line.left c.args.world.now c.loop-line.world
-    (g.W.Write.contents c.args.writer.now) (g.W.Write.contents c.next_line.new.writer) c.loop-line.is_fine P
-    (reader_remaining g.R.Read.remaining c.next_line.new.reader) t.0 t.1 (asked_by c.in_ok-task.task) t.3 t.4 (c.in_ok-task.ensures t.1 t.2)
-    c.next_line.new.left c.play_task.new.world (g.W.Write.contents c.play_task.new.writer) c.in_ok-fine.fine t.5 c.in_ok-fine.ensures in
-    subst (λ (b : Bool). PlaysLines (reader_remaining g.R.Read.remaining c.args.reader.now) (reader_remaining g.R.Read.remaining c.next_line.new.reader) c.args.left.now c.next_line.new.left c.args.world.now
-    c.play_task.new.world (g.W.Write.contents c.args.writer.now) (g.W.Write.contents c.play_task.new.writer) b) (sym c.both-is_fine.ensures) n
+    let n = PlaysLines-next input mid c.args.left.now c.loop-line.left c.args.world.now c.loop-line.world
+    old same c.loop-line.is_fine P
+    rest t.0 t.1 (asked_by c.in_ok-task.task) t.3 t.4 (c.in_ok-task.ensures t.1 t.2)
+    c.next_line.new.left c.play_task.new.world new c.in_ok-fine.fine t.5 c.in_ok-fine.ensures in
+    subst (λ (b : Bool). PlaysLines input rest c.args.left.now c.next_line.new.left c.args.world.now
+    c.play_task.new.world old new b) (sym c.both-is_fine.ensures) n
 
 pub returns : goal.returns
 returns g c =
-    let P = PlaysLines-kept (reader_remaining g.R.Read.remaining c.args.reader.now) (reader_remaining g.R.Read.remaining c.loop-line.reader) c.args.left.now c.loop-line.left
-    c.args.world.now c.loop-line.world (g.W.Write.contents c.args.writer.now) (g.W.Write.contents c.loop-line.writer) (g.W.Write.contents c.next_line.new.writer) c.loop-line.is_fine
+    let input = reader_remaining g.R.Read.remaining c.args.reader.now in
+    let mid = reader_remaining g.R.Read.remaining c.loop-line.reader in
+    let rest = reader_remaining g.R.Read.remaining c.next_line.new.reader in
+    let old = g.W.Write.contents c.args.writer.now in
+    let written = g.W.Write.contents c.loop-line.writer in
+    let same = g.W.Write.contents c.next_line.new.writer in
+    let P = PlaysLines-kept input mid c.args.left.now c.loop-line.left
+    c.args.world.now c.loop-line.world old written same c.loop-line.is_fine
     c.loop-line.invariant c.in_ok-line.ensures.kept in
-    let t = subst (λ (o : Option Line). ReadsOn (reader_remaining g.R.Read.remaining c.loop-line.reader) (reader_remaining g.R.Read.remaining c.next_line.new.reader) c.loop-line.left c.next_line.new.left o)
+    let t = subst (λ (o : Option Line). ReadsOn mid rest c.loop-line.left c.next_line.new.left o)
     c.in_default.is c.in_ok-line.ensures.read in (
-      PlaysLines-blank (reader_remaining g.R.Read.remaining c.args.reader.now) (reader_remaining g.R.Read.remaining c.loop-line.reader) (reader_remaining g.R.Read.remaining c.next_line.new.reader) c.args.left.now c.loop-line.left
-          c.next_line.new.left c.args.world.now c.loop-line.world (g.W.Write.contents c.args.writer.now) (g.W.Write.contents c.next_line.new.writer) c.loop-line.is_fine
+      PlaysLines-blank input mid rest c.args.left.now c.loop-line.left
+          c.next_line.new.left c.args.world.now c.loop-line.world old same c.loop-line.is_fine
           P t.0 t.1 t.2 t.4,
       t.3,
     )
 
 pub returns-in_err-line : goal.returns-in_err-line
 returns-in_err-line g c =
-    let P = PlaysLines-kept (reader_remaining g.R.Read.remaining c.args.reader.now) (reader_remaining g.R.Read.remaining c.loop-line.reader) c.args.left.now c.loop-line.left
-    c.args.world.now c.loop-line.world (g.W.Write.contents c.args.writer.now) (g.W.Write.contents c.loop-line.writer) (g.W.Write.contents c.next_line.new.writer) c.loop-line.is_fine
+    let input = reader_remaining g.R.Read.remaining c.args.reader.now in
+    let mid = reader_remaining g.R.Read.remaining c.loop-line.reader in
+    let rest = reader_remaining g.R.Read.remaining c.next_line.new.reader in
+    let old = g.W.Write.contents c.args.writer.now in
+    let written = g.W.Write.contents c.loop-line.writer in
+    let same = g.W.Write.contents c.next_line.new.writer in
+    let P = PlaysLines-kept input mid c.args.left.now c.loop-line.left
+    c.args.world.now c.loop-line.world old written same c.loop-line.is_fine
     c.loop-line.invariant c.in_err-line.ensures.kept in
     let p = err_from_is_err_and c.from_residual.result c.from_residual.ensures.1 in
-    let s = StopsPlaying-reading (reader_remaining g.R.Read.remaining c.args.reader.now) (reader_remaining g.R.Read.remaining c.loop-line.reader) c.args.left.now c.loop-line.left c.args.world.now
-    c.loop-line.world (g.W.Write.contents c.args.writer.now) (g.W.Write.contents c.next_line.new.writer) c.loop-line.is_fine P
-    (reader_remaining g.R.Read.remaining c.next_line.new.reader) c.in_err-line.field-0.0 c.in_err-line.ensures.read in
+    let s = StopsPlaying-reading input mid c.args.left.now c.loop-line.left c.args.world.now
+    c.loop-line.world old same c.loop-line.is_fine P
+    rest c.in_err-line.field-0.0 c.in_err-line.ensures.read in
     PlaysAll-err _ _ _ _ _ _ _ _ c.from_residual.result p.0 p.1
-    (subst (λ (f : ScriptFault). StopsPlaying (reader_remaining g.R.Read.remaining c.args.reader.now) (reader_remaining g.R.Read.remaining c.next_line.new.reader) c.args.left.now c.args.world.now (g.W.Write.contents c.args.writer.now)
-    (g.W.Write.contents c.next_line.new.writer) f) (sym p.2) s)
+    (subst (λ (f : ScriptFault). StopsPlaying input rest c.args.left.now c.args.world.now old
+    same f) (sym p.2) s)
 
 pub returns-in_err-task : goal.returns-in_err-task
 returns-in_err-task g c =
+    let input = reader_remaining g.R.Read.remaining c.args.reader.now in
+    let mid = reader_remaining g.R.Read.remaining c.loop-line.reader in
+    let rest = reader_remaining g.R.Read.remaining c.next_line.new.reader in
+    let old = g.W.Write.contents c.args.writer.now in
+    let written = g.W.Write.contents c.loop-line.writer in
+    let same = g.W.Write.contents c.next_line.new.writer in
     let p = err_from_is_err_and c.from_residual-in_err-task.result c.from_residual-in_err-task.ensures.1 in
-    let t = subst (λ (o : Option Line). ReadsOn (reader_remaining g.R.Read.remaining c.loop-line.reader) (reader_remaining g.R.Read.remaining c.next_line.new.reader) c.loop-line.left c.next_line.new.left o)
+    let t = subst (λ (o : Option Line). ReadsOn mid rest c.loop-line.left c.next_line.new.left o)
     c.in-Some.is c.in_ok-line.ensures.read in
-    let P = PlaysLines-kept (reader_remaining g.R.Read.remaining c.args.reader.now) (reader_remaining g.R.Read.remaining c.loop-line.reader) c.args.left.now c.loop-line.left
-    c.args.world.now c.loop-line.world (g.W.Write.contents c.args.writer.now) (g.W.Write.contents c.loop-line.writer) (g.W.Write.contents c.next_line.new.writer) c.loop-line.is_fine
+    let P = PlaysLines-kept input mid c.args.left.now c.loop-line.left
+    c.args.world.now c.loop-line.world old written same c.loop-line.is_fine
     c.loop-line.invariant c.in_ok-line.ensures.kept in
     PlaysAll-err _ _ _ _ _ _ _ _ c.from_residual-in_err-task.result p.0 p.1
-    (subst (λ (f : ScriptFault). StopsPlaying (reader_remaining g.R.Read.remaining c.args.reader.now) (reader_remaining g.R.Read.remaining c.next_line.new.reader) c.args.left.now
-    c.args.world.now (g.W.Write.contents c.args.writer.now) (g.W.Write.contents c.next_line.new.writer) f) (sym p.2)
-    (StopsPlaying-next (reader_remaining g.R.Read.remaining c.args.reader.now) (reader_remaining g.R.Read.remaining c.loop-line.reader) c.args.left.now c.loop-line.left
-    c.args.world.now c.loop-line.world (g.W.Write.contents c.args.writer.now) (g.W.Write.contents c.next_line.new.writer) c.loop-line.is_fine P
-    (reader_remaining g.R.Read.remaining c.next_line.new.reader) t.6))
+    (subst (λ (f : ScriptFault). StopsPlaying input rest c.args.left.now
+    c.args.world.now old same f) (sym p.2)
+    (StopsPlaying-next input mid c.args.left.now c.loop-line.left
+    c.args.world.now c.loop-line.world old same c.loop-line.is_fine P
+    rest t.6))
