@@ -53,6 +53,7 @@ fn command<'a>(alloc: Global) -> Result<Command<'a>, AllocError>
 }
 
 /// Reads the words, the first of which is the program's name.
+#[tactic(auto, using(crate::proofs::Words::known_words))]
 pub fn read_arguments(alloc: Global, words: &[String]) -> Result<Task, Error>
     ensures task { FailsBy (refusals (map string_bytes words.now)) result }
     ensures known { KnownWords }

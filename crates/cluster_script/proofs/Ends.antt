@@ -72,8 +72,15 @@ module _ (exact : IsExact SpellsText RefusesText) where
       elim r.ended [
         | inl none ↦
             let they : r.taken ≡ first ++ line ∷ more = sym (append-nil r.taken) ∙ ap (λ (ls : List (List ℕ)). r.taken ++ ls) (sym none) ∙ all in
-            omega (arith, r.counted, s.2.3, count_of_all-append first (line ∷ more), count_of_all-append first (line
-            ∷ []), ap count_of_all they)
+            omega (
+              arith,
+              r.counted,
+              s.2.3,
+              count_of_all-append first (line ∷ more),
+              count_of_all-append first (line
+                  ∷ []),
+              ap count_of_all they,
+            )
         | inr h ↦
             let u = some_first r.taken r.untaken first more line all (omega (arith, r.counted, s.2.3)) in
             let p : PrintsOn (h.0 ∷ spoken u.0) s.0.out = subst (λ (ls : List (List ℕ)). PrintsOn ls s.0.out)

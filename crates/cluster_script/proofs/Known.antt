@@ -129,11 +129,6 @@ LosesLines-more None b ls ms h k = tt
 LosesLines-more (Some xs) None ls ms h k = absurd h
 LosesLines-more (Some xs) (Some ys) ls ms h k = (k.0, h ∙ ap (λ (t : List (List ℕ)). ls ++ t) k.1 ∙ sym (append_assoc ls ms k.0))
 
--- the first of some first lines
-pub BeginsWithLines-front : (a : Option (List ℕ)) (ls ms : List (List ℕ)) → BeginsWithLines a (ls ++ ms) → BeginsWithLines a ls
-BeginsWithLines-front None ls ms h = tt
-BeginsWithLines-front (Some xs) ls ms h = (ms ++ h.0, h.1 ∙ append_assoc ls ms h.0)
-
 -- the parts, where bytes without a line feed come first
 abbrev in_front : List ℕ → List (List ℕ) → List (List ℕ)
 in_front bytes [] = bytes ∷ []
@@ -226,8 +221,11 @@ LosesInto-behind a b c ls ms part t g = (g.0, LosesLines-trans a b g.0 ls ms t g
 -- bytes without a line feed are of one line at most
 pub IsWithinLine-part : (bytes : List ℕ) → HasNoFeed bytes → IsWithinLine bytes
 IsWithinLine-part [] h = omega arith
-IsWithinLine-part (b ∷ bytes) h = omega (arith, ap (λ (ls : List (List ℕ)). length ls) (lines-last (b ∷ bytes) h
-    (omega arith)))
+IsWithinLine-part (b ∷ bytes) h = omega (
+  arith,
+  ap (λ (ls : List (List ℕ)). length ls) (lines-last (b ∷ bytes) h
+      (omega arith)),
+)
 
 -- and with one
 pub IsWithinLine-ended : (bytes : List ℕ) → HasNoFeed bytes → IsWithinLine (bytes ++ 10 ∷ [])
@@ -268,7 +266,7 @@ StopsReading-behind a b c ls most left s t e f g = (
   (b, t, g.1),
   g.2,
   subst (λ (xs : List (List ℕ)). GoesPastFor f a most xs) (append-nil ls) (GoesPastFor-behind f a b ls [] most left t
-  e g.3),
+      e g.3),
 )
 
 -- the next line that isn't empty, of which one line at most is lost behind empty ones

@@ -48,8 +48,15 @@ PrintsOn-blank ls s = subst (λ (xs : List (List ℕ)). PrintsOn xs []) (sym s) 
 module _ (input rest a b : Option (List ℕ)) (kept : Keeps a b) (ls : List (List ℕ)) (part : List ℕ) (s : spoken ls ≡
     []) (t : LosesInto input rest ls part) where
   abbrev between : StoppedBetween input rest a b
-  between = record { first = ls; part = part; out = []; read = t; prints = PrintsOn-blank ls s; wrote = Appends-kept
-      a a b [] (Appends-nil a) kept }
+  between = record {
+    first = ls;
+    part = part;
+    out = [];
+    read = t;
+    prints = PrintsOn-blank ls s;
+    wrote = Appends-kept
+        a a b [] (Appends-nil a) kept;
+  }
 
   abbrev within : StoppedWithin input rest a b
   within = record {
@@ -78,11 +85,17 @@ Stopped-early input rest a b k g = (within input rest a b k g.0 g.1 g.2 g.3, g.4
 pub Stopped-writing : (input rest a b : Option (List ℕ)) (f : WriteFault) (y : ScriptFault) → y ≡ stop_of f
     → (s : StoppedWithin input rest a b) → s.part ≡ [] → Stopped input rest a b y
 Stopped-writing input rest a b write.Writer y e s n =
-    subst (λ (g : ScriptFault). Stopped input rest a b g) (sym e) (s, subst (λ (xs : List ℕ). MayEndIn fault.Write
-    xs) (sym n) (MayEndIn-none fault.Write))
+    subst (λ (g : ScriptFault). Stopped input rest a b g) (sym e) (
+      s,
+      subst (λ (xs : List ℕ). MayEndIn fault.Write
+          xs) (sym n) (MayEndIn-none fault.Write),
+    )
 Stopped-writing input rest a b write.Memory y e s n =
-    subst (λ (g : ScriptFault). Stopped input rest a b g) (sym e) (s, subst (λ (xs : List ℕ). MayEndIn fault.Memory
-    xs) (sym n) (MayEndIn-none fault.Memory))
+    subst (λ (g : ScriptFault). Stopped input rest a b g) (sym e) (
+      s,
+      subst (λ (xs : List ℕ). MayEndIn fault.Memory
+          xs) (sym n) (MayEndIn-none fault.Memory),
+    )
 
 module _ (input rest : Option (List ℕ)) (most left : ℕ) (bound : most ≤ 1000000) (a b : Option (List ℕ)) where
   -- there is no first line

@@ -193,8 +193,14 @@ pub StopsPlaying-writing : (input rest : Option (List ℕ)) (most : ℕ) (old : 
     WriteFault) (y : ScriptFault) → y ≡ stop_of f
     → (p : PlaysSome AppendsPart input rest old a b) → p.part ≡ [] → StopsPlaying input rest most old a b y
 StopsPlaying-writing input rest most old a b write.Writer y e p n =
-    subst (λ (g : ScriptFault). StopsPlaying input rest most old a b g) (sym e) (p, subst (λ (xs : List ℕ). MayEndIn
-    fault.Write xs) (sym n) (MayEndIn-none fault.Write))
+    subst (λ (g : ScriptFault). StopsPlaying input rest most old a b g) (sym e) (
+      p,
+      subst (λ (xs : List ℕ). MayEndIn
+          fault.Write xs) (sym n) (MayEndIn-none fault.Write),
+    )
 StopsPlaying-writing input rest most old a b write.Memory y e p n =
-    subst (λ (g : ScriptFault). StopsPlaying input rest most old a b g) (sym e) (p, subst (λ (xs : List ℕ). MayEndIn
-    fault.Memory xs) (sym n) (MayEndIn-none fault.Memory))
+    subst (λ (g : ScriptFault). StopsPlaying input rest most old a b g) (sym e) (
+      p,
+      subst (λ (xs : List ℕ). MayEndIn
+          fault.Memory xs) (sym n) (MayEndIn-none fault.Memory),
+    )

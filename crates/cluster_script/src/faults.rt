@@ -24,7 +24,7 @@ pub enum ScriptFault {
     #[error("too many lines")]
     TooManyLines,
     /// Memory was refused: a part is written of what the lines so far print.
-    #[error("memory")]
+    #[error("out of memory")]
     Memory,
 }
 

@@ -16,9 +16,17 @@ returns-clause-read g c =
     let some : e ≡ false → 0 < length r.0 = λ f. elim c.else-not-is_ended.either [
       | inl p ↦ omega (arith, r.1.len, p.1)
       | inr t ↦ absurd (true_false (sym t ∙ f))
-    ] in
-    (line_of e r.0, k, TakesPart-line _ _ e r.0 r.2 r.3 some, LosesWithinLine-taken _ _ e r.0 r.2 r.3, omega (arith,
-    m, c.if-count-left.false))
+    ] in (
+      line_of e r.0,
+      k,
+      TakesPart-line _ _ e r.0 r.2 r.3 some,
+      LosesWithinLine-taken _ _ e r.0 r.2 r.3,
+      omega (
+        arith,
+        m,
+        c.if-count-left.false,
+      ),
+    )
 
 pub returns-then-count-left-clause-read : goal.returns-then-count-left-clause-read
 returns-then-count-left-clause-read g c =
@@ -34,6 +42,9 @@ returns-then-count-left-clause-read g c =
       w.0,
       w.1,
       w.2,
-      GoesPast-line _ _ (line_of e r.0) c.args.left.now (TakesPart-line _ _ e r.0 r.2 r.3 some) (omega (arith, m,
-      c.if-count-left.true)),
+      GoesPast-line _ _ (line_of e r.0) c.args.left.now (TakesPart-line _ _ e r.0 r.2 r.3 some) (omega (
+        arith,
+        m,
+        c.if-count-left.true,
+      )),
     )

@@ -46,7 +46,7 @@ loop-byte-preserved g c =
       kept = Keeps-trans old written same
           c.loop-byte.invariant.kept c.in_ok-next_byte.ensures.kept;
       short = less (omega (arith, len, n, bound.1)) (omega (arith, c.count.ensures, c.if-count-most.false))
-      c.requires.most;
+          c.requires.most;
     }
 
 pub returns-then-count-most-clause-read : goal.returns-then-count-most-clause-read
@@ -63,8 +63,11 @@ returns-then-count-most-clause-read g c =
       t,
       IsWithinLine-part (r.0 ++ b ∷ []) f,
       GoesPast-begun input rest (r.0 ++ b ∷ []) c.args.most
-          f (omega (arith, length-append r.0 (b ∷ []))) t (omega (arith, c.count.ensures ∙ ap count_for n,
-          c.if-count-most.true)),
+          f (omega (arith, length-append r.0 (b ∷ []))) t (omega (
+            arith,
+            c.count.ensures ∙ ap count_for n,
+            c.if-count-most.true,
+          )),
     )
 
 pub returns-in_err-push-in-Some-clause-read : goal.returns-in_err-push-in-Some-clause-read
