@@ -1,11 +1,11 @@
 -- The place of a name in a rising table: what the search finds, and what is read and written there.
 use Rattle.std.proofs.Common.{ℕ, zero, suc, Bool, true, false, ◌==◌, ◌≡◌, ◌<◌, ◌≤◌, Option, Some, None, [], ◌∷◌, length, get_or, set, refl, sym, ap, ◌∙◌, subst, inl, inr, arith}
 use Rattle.std.specs.Prelude.{if◌then◌else◌, nat_lt, insert}
-use Rattle.std.specs.List.{slice_get}
+use Rattle.std.specs.List.{slice_get, remove as remove_at}
 use Rattle.std.proofs.lemmas.Option.{slice_get-get_or, slice_get_within, get_or_from_slice_get}
 use Rattle.std.proofs.lemmas.Bool.{cases_order, eqb-true, eq-eqb, ne_eqb, lt-ltb, le-ltb, ltb-true}
 use Rattle.registry_model.specs.Process.{Text, Process}
-use Rattle.registry_model.specs.Table.{Pair, Table, get, put, is_below, is_rising}
+use Rattle.registry_model.specs.Table.{Pair, Table, get, put, remove, is_below, is_rising}
 use Rattle.registry_model.proofs.Tables.{is_rising-parts, get-below, is_below-less}
 use Rattle.name_table.specs.Places.{place, is_name_of, stands}
 
@@ -183,3 +183,46 @@ pub put_absent : (x : Text) (p : Process) (t : Table) (i : ℕ) → i ≡ place 
 put_absent x p t i e h =
     let d : Pair = record { name = x; owner = p } in
     ap (λ (j : ℕ). insert t j d) e ∙ sym (put-there x p t d (stands_not x t (place x t) d (ap (stands x t) (sym e) ∙ h)))
+
+-- a name that stands below all names is in no pair
+pub remove-below : (x : Text) (t : Table) → is_rising t ≡ true → is_below x t ≡ true → remove x t ≡ t
+remove-below x [] r b = refl
+remove-below x (e ∷ t) r b =
+    let parts : (is_below e.name t ≡ true) × (is_rising t ≡ true) = is_rising-parts e t r in
+    let l : x < e.name = ltb-true x e.name b in
+    rw (ne_eqb e.name x (λ i. absurd (omega arith)))
+    (ap (λ (u : Table). e ∷ u) (remove-below x t parts.1 (is_below-less e.name x t l parts.0)))
+
+-- a removal as the code makes it: what stands at its place goes, or nothing does
+pub remove_stands : (x : Text) (t : Table) → is_rising t ≡ true → stands x t (place x t) ≡ true → remove_at t (place x t) ≡ remove x t
+remove_stands x [] r h = cc
+remove_stands x (e ∷ t) r h = elim (cases_order x e.name) [
+  | inl i ↦ rw (eq-eqb e.name x (sym i), le-ltb e.name x (omega arith))
+      (sym (remove-below x t parts.1 (subst (λ (y : Text). is_below y t ≡ true) (sym i) parts.0)))
+  | inr (inl k) ↦ absurd (cc (
+    ne_eqb e.name x (λ i. absurd (omega arith)),
+    subst (λ (b : Bool). stands x (e ∷ t) (if b then suc (place x t) else 0) ≡ true) (le-ltb e.name x (omega arith)) h,
+  ))
+  | inr (inr g) ↦ rw (lt-ltb e.name x g, ne_eqb e.name x (λ i. absurd (omega arith)))
+      (ap (λ (u : Table). e ∷ u) (remove_stands x t parts.1
+      (subst (λ (b : Bool). stands x (e ∷ t) (if b then suc (place x t) else 0) ≡ true) (lt-ltb e.name x g) h)))
+]
+  where
+    parts : (is_below e.name t ≡ true) × (is_rising t ≡ true)
+    parts = is_rising-parts e t r
+
+pub remove_absent : (x : Text) (t : Table) → is_rising t ≡ true → stands x t (place x t) ≡ false → remove x t ≡ t
+remove_absent x [] r h = refl
+remove_absent x (e ∷ t) r h = elim (cases_order x e.name) [
+  | inl i ↦ absurd (cc (
+    eq-eqb e.name x (sym i),
+    subst (λ (b : Bool). stands x (e ∷ t) (if b then suc (place x t) else 0) ≡ false) (le-ltb e.name x (omega arith)) h,
+  ))
+  | inr (inl k) ↦ remove-below x (e ∷ t) r (lt-ltb x e.name k)
+  | inr (inr g) ↦ rw (ne_eqb e.name x (λ i. absurd (omega arith)))
+      (ap (λ (u : Table). e ∷ u) (remove_absent x t parts.1
+      (subst (λ (b : Bool). stands x (e ∷ t) (if b then suc (place x t) else 0) ≡ false) (lt-ltb e.name x g) h)))
+]
+  where
+    parts : (is_below e.name t ≡ true) × (is_rising t ≡ true)
+    parts = is_rising-parts e t r

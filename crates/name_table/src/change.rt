@@ -40,6 +40,10 @@ impl Pair {
 pub enum Change {
     /// The process has the name, and nobody else does.
     Put(Name, Pid),
+    /// Nobody has the name.
+    Remove(Name),
+    /// The process has no name.
+    StrikeOwner(Pid),
 }
 
 impl Change {
@@ -49,6 +53,8 @@ impl Change {
     {
         match self {
             Change::Put(name, owner) => Change::Put(name.copy(), owner.copy()),
+            Change::Remove(name) => Change::Remove(name.copy()),
+            Change::StrikeOwner(owner) => Change::StrikeOwner(owner.copy()),
         }
     }
 }

@@ -1,6 +1,6 @@
 //! A table as a sorted list.
-ghost use Rattle.std.specs.Prelude.{◌≡◌, true, [], is_some, length, OnOk, OnErr, IfOk};
-ghost use Rattle.registry_model.specs.Table.{get, owns, put, is_rising};
+ghost use Rattle.std.specs.Prelude.{◌≡◌, ◌==◌, true, [], is_some, length, OnOk, OnErr, IfOk};
+ghost use Rattle.registry_model.specs.Table.{get, owns, put, remove, strike, without, names, is_rising};
 ghost use Rattle.name_table.specs.Owners.{name_of};
 ghost use Rattle.name_table.specs.Places.{place, stands};
 
@@ -8,7 +8,7 @@ use crate::change::{Change, Pair};
 use crate::names::Names;
 use std::alloc::{AllocError, Allocator};
 use std::marker::Model;
-use term::{Name, Pid};
+use term::{Name, NodeName, Pid};
 
 /// A table of names that keeps its pairs in one list, rising by name. Finding a name halves the list again and again; a
 /// change moves what stands behind it, and the least name of a process is sought from the front on.
@@ -76,6 +76,24 @@ fn put_in<A: Allocator>(pairs: &mut Vec<Pair, A>, name: Name, owner: Pid) -> Res
     Ok(())
 }
 
+/// Nobody has the name from now on.
+fn remove_from<A: Allocator>(pairs: &mut Vec<Pair, A>, name: &Name)
+    requires { is_rising pairs.old.items ≡ true }
+    ensures { pairs.new.items ≡ remove name.now pairs.old.items }
+{
+    let at = place_of(pairs.as_slice(), name);
+    if stands_at(pairs.as_slice(), at, name) {
+        pairs.remove(at);
+    }
+}
+
+/// The process has no name from now on.
+fn strike_in<A: Allocator>(pairs: &mut Vec<Pair, A>, owner: &Pid)
+    ensures { pairs.new.items ≡ strike owner.now pairs.old.items }
+{
+    pairs.retain(|pair| pair.owner != *owner);
+}
+
 /// The least name of a process.
 fn name_in(pairs: &[Pair], owner: &Pid) -> Option<Name>
     ensures least { result ≡ name_of owner.now pairs.now }
@@ -87,6 +105,13 @@ fn name_in(pairs: &[Pair], owner: &Pid) -> Option<Name>
         }
     }
     None
+}
+
+/// The names of these pairs.
+fn names_in<A: Allocator>(alloc: A, pairs: &[Pair]) -> Result<Vec<Name, A>, AllocError>
+    ensures { IfOk result (λ list. list.items ≡ names pairs.now) }
+{
+    pairs.iter().map(|pair| pair.name.copy()).collect(alloc)
 }
 
 /// A list of the same pairs.
@@ -117,15 +142,31 @@ impl<A: Allocator + Drop> Names for ListTable<A> {
 
     fn write(&mut self, change: Change) -> Result<(), AllocError> {
         match change {
-            Change::Put(name, owner) => put_in(&mut self.pairs, name, owner),
+            Change::Put(name, owner) => put_in(&mut self.pairs, name, owner)?,
+            Change::Remove(name) => remove_from(&mut self.pairs, &name),
+            Change::StrikeOwner(owner) => strike_in(&mut self.pairs, &owner),
         }
+        Ok(())
+    }
+
+    fn drop_node(&mut self, node: &NodeName) {
+        self.pairs.retain(|pair| pair.owner.node != *node);
     }
 
     fn owned_by(&self, owner: &Pid) -> Option<Name> {
         name_in(self.pairs.as_slice(), owner)
     }
 
+    fn names<B: Allocator>(&self, alloc: B) -> Result<Vec<Name, B>, AllocError> {
+        names_in(alloc, self.pairs.as_slice())
+    }
+
     fn pairs<B: Allocator>(&self, alloc: B) -> Result<Vec<Pair, B>, AllocError> {
         copied(alloc, self.pairs.as_slice())
+    }
+
+    fn copy(&self, memory: A) -> Result<Self, AllocError> {
+        let pairs = copied(memory, self.pairs.as_slice())?;
+        Ok(ListTable { pairs })
     }
 }
