@@ -1,0 +1,4 @@
+mod Owners
+mod Serials
+mod Sets
+mod Suspects

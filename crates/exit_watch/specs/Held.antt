@@ -1,0 +1,41 @@
+-- What a watch holds, and which of the dead it has to look at.
+use Rattle.std.specs.Prelude.{◌≡◌, ℕ, Bool, true, ◌==◌, nat_lt, Option, Some, None, List, [], if◌then◌else◌}
+use Rattle.std.specs.List.{list_any}
+use Rattle.registry_model.specs.Process.{Process}
+use Rattle.registry_model.specs.Table.{Table, owns}
+use Rattle.protocol_model.specs.Watch.{Watch, is_dead, next_serial}
+use Rattle.protocol_model.specs.Event.{last_u32}
+
+-- a watch, as its clauses see it
+pub record Held : Type 0 where
+  pub node : ℕ
+  pub watch : Watch  -- the protocol's
+  pub suspects : List ℕ  -- the serials of the dead that may own a name, rising
+
+-- the watch of this node: the serials up to the last are given, and nobody is dead
+abbrev pub watch_from : ℕ → ℕ → Held
+watch_from a last = record { node = a; watch = record { last_serial = last; dead = [] }; suspects = [] }
+
+-- the next serial, where it is no greater than the greatest of all
+abbrev pub serial_left : Watch → Option ℕ
+serial_left w = if nat_lt last_u32 (next_serial w) then None else Some (next_serial w)
+
+-- the process of this node that has this serial
+abbrev pub process_of : Held → ℕ → Process
+process_of h s = record { node = h.node; serial = s }
+
+-- the process of this serial is a suspect
+abbrev pub is_suspect : Held → ℕ → Bool
+is_suspect h s = list_any (λ d. d == s) h.suspects
+
+-- each dead process of this node that owns a name is a suspect
+abbrev pub AreSuspected : Held → Table → Type 0
+AreSuspected h t = (s : ℕ) → is_dead h.watch s ≡ true → owns (process_of h s) t ≡ true → is_suspect h s ≡ true
+
+-- each suspect is dead
+abbrev pub AreDead : Held → Type 0
+AreDead h = (s : ℕ) → is_suspect h s ≡ true → is_dead h.watch s ≡ true
+
+-- who is suspected with the one watch is so with the other, in every table
+abbrev pub KeepsSuspects : Held → Held → Type 0
+KeepsSuspects h k = (t : Table) → AreSuspected h t → AreSuspected k t

@@ -1,0 +1,14 @@
+//! The watch of one node over its processes: who was spawned, who is dead, and whose names are owed a strike. A step costs
+//! no more for the processes that died before it.
+#![tactic(auto)]
+
+mod faults;
+mod laws;
+mod watch;
+
+pub use faults::WatchFault;
+pub use laws::only_puts_are_noted;
+pub use watch::Watch;
+
+#[cfg(test)]
+mod tests;

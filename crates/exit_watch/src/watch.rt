@@ -1,0 +1,207 @@
+//! The watch of one node.
+ghost use Rattle.std.specs.Prelude.{◌≡◌, false, OnOk, OnErr, IfOk, IfErr};
+ghost use Rattle.std.specs.Option.{option_map};
+ghost use Rattle.registry_model.specs.Table.{Table, put};
+ghost use Rattle.registry_model.specs.Process.{Text};
+ghost use Rattle.protocol_model.specs.Watch.{is_live, is_dead, is_issued, next_serial, with_spawned, with_dead, owed};
+ghost use Rattle.protocol_model.specs.Event.{Calling, Exiting, Spawn};
+ghost use Rattle.exit_watch.specs.Faults.{Refuses, refusal_of};
+ghost use Rattle.exit_watch.specs.Held.{watch_from, process_of, serial_left, AreSuspected, KeepsSuspects};
+ghost use Rattle.exit_watch.specs.declared.faults.WatchFault.TheVariants.{SerialsSpent};
+
+use crate::faults::WatchFault;
+use indexmap::IndexSet;
+use name_table::Names;
+use std::alloc::{AllocError, Global};
+use std::collections::BTreeSet;
+use std::marker::Model;
+use term::{NodeName, Pid};
+
+/// The watch of one node over its processes.
+#[derive(Drop)]
+pub struct Watch {
+    node: NodeName,
+    /// The greatest serial given; 0 before the first.
+    last_serial: u32,
+    /// The serials of the dead, in the order of their deaths. One may be dead before it is given.
+    dead: IndexSet<u32>,
+    /// The dead that may own a name. Whoever isn't among them owns none, so nobody else is looked at.
+    suspects: BTreeSet<u32>,
+}
+
+impl Model for Watch {
+    ghost use Rattle.exit_watch.specs.Held.{Held, AreDead};
+
+    ghost Value = { Held };
+
+    ghost view = { λ w. record {
+      node = w.node;
+      watch = record { last_serial = w.last_serial; dead = w.dead.keys };
+      suspects = w.suspects.keys;
+    } };
+
+    ghost invariant = { λ w. AreDead (record {
+      node = w.node;
+      watch = record { last_serial = w.last_serial; dead = w.dead.keys };
+      suspects = w.suspects.keys;
+    }) };
+}
+
+impl Watch {
+    /// The watch of a node whose processes are all to come. It takes no memory.
+    pub fn new(alloc: Global, node: NodeName) -> Self
+        ensures { result ≡ watch_from node 0 }
+    {
+        Watch::resume(alloc, node, 0)
+    }
+
+    /// The watch of a node that has given the serials up to the last; their processes count as live. It takes no
+    /// memory.
+    pub fn resume(alloc: Global, node: NodeName, last_serial: u32) -> Self
+        ensures { result ≡ watch_from node last_serial }
+    {
+        Watch {
+            node,
+            last_serial,
+            dead: IndexSet::new(alloc),
+            suspects: BTreeSet::new(alloc),
+        }
+    }
+
+    /// The process of this node that has this serial.
+    fn process(&self, serial: u32) -> Pid
+        ensures { result ≡ process_of self.now serial }
+    {
+        Pid {
+            node: self.node.copy(),
+            serial,
+        }
+    }
+
+    /// Whether the process of this serial is dead.
+    fn is_dead(&self, serial: u32) -> bool
+        ensures { result ≡ is_dead self.now.watch serial }
+    {
+        self.dead.contains(&serial)
+    }
+
+    /// Whether the process lives here. A serial that wasn't given yet counts as live, unless it is dead already.
+    pub fn is_live(&self, process: &Pid) -> bool
+        ensures { result ≡ is_live self.now.node self.now.watch process.now }
+    {
+        process.node == self.node && process.serial != 0 && !self.is_dead(process.serial)
+    }
+
+    /// Whether it is a process of this node that was given its serial, or whose serial was passed over.
+    fn is_issued(&self, process: &Pid) -> bool
+        ensures { result ≡ is_issued self.now.node self.now.watch process.now }
+    {
+        process.node == self.node && process.serial != 0 && process.serial <= self.last_serial
+    }
+
+    /// The least serial above all given ones that isn't dead, if there is one.
+    fn next_serial(&self) -> Option<u32>
+        ensures { result ≡ serial_left self.now.watch }
+    {
+        let first = self.last_serial.checked_add(1)?;
+        for serial in first..=u32::MAX {
+            if !self.is_dead(serial) {
+                return Some(serial);
+            }
+        }
+        None
+    }
+
+    /// A new process, of the least serial above all given ones that isn't dead. It takes no memory.
+    pub fn spawn(&mut self) -> Result<Pid, WatchFault>
+        ensures refusal { Refuses (Calling Spawn) self.old (refusal_of result) }
+        ensures process { IfOk result (λ process. process ≡ process_of self.old (next_serial self.old.watch)) }
+        ensures ok { OnOk result (self.new
+            ≡ record self.old { watch = with_spawned (next_serial self.old.watch) self.old.watch }) }
+        ensures err { IfErr result (λ fault. fault ≡ SerialsSpent) }
+        ensures suspected { KeepsSuspects self.old self.new }
+        ensures unchanged { OnErr result (self.new ≡ self.old) }
+    {
+        let serial = self.next_serial().ok_or(WatchFault::SerialsSpent)?;
+        self.last_serial = serial;
+        Ok(self.process(serial))
+    }
+
+    /// The process dies, and is suspected to own a name.
+    pub fn exit(&mut self, process: &Pid) -> Result<(), WatchFault>
+        ensures refusal { Refuses (Exiting process.now) self.old (refusal_of result) }
+        ensures node { self.new.node ≡ self.old.node }
+        ensures ok { OnOk result (self.new.watch ≡ with_dead process.now.serial self.old.watch) }
+        ensures suspected { KeepsSuspects self.old self.new }
+        ensures unchanged { OnErr result (self.new ≡ self.old) }
+    {
+        if !self.is_issued(process) {
+            return Err(WatchFault::NoSuchProcess);
+        }
+        if self.is_dead(process.serial) {
+            return Err(WatchFault::AlreadyExited);
+        }
+        self.bury(process.serial).map_err(|_| WatchFault::Memory)
+    }
+
+    /// The process of this serial is dead from now on.
+    fn bury(&mut self, serial: u32) -> Result<(), AllocError>
+        requires { is_dead self.old.watch serial ≡ false }
+        ensures node { self.new.node ≡ self.old.node }
+        ensures ok { OnOk result (self.new.watch ≡ with_dead serial self.old.watch) }
+        ensures suspected { KeepsSuspects self.old self.new }
+        ensures unchanged { OnErr result (self.new ≡ self.old) }
+    {
+        self.dead.reserve(1)?;
+        self.suspects.insert(serial)?;
+        self.dead.insert(serial)?;
+        Ok(())
+    }
+
+    /// Notes that a name is about to be put for a process: the watch is to be told of each put.
+    pub fn note_owner(&mut self, owner: &Pid) -> Result<(), AllocError>
+        ensures node { self.new.node ≡ self.old.node }
+        ensures watch { self.new.watch ≡ self.old.watch }
+        ensures ok { OnOk result ((x : Text) (t : Table) → AreSuspected self.old t
+            → AreSuspected self.new (put x owner.now t)) }
+        ensures suspected { KeepsSuspects self.old self.new }
+        ensures unchanged { OnErr result (self.new ≡ self.old) }
+    {
+        if owner.node == self.node && self.is_dead(owner.serial) {
+            self.suspects.insert(owner.serial)?;
+        }
+        Ok(())
+    }
+
+    /// The process of the least dead serial that owns a name in the table, if there is one: its strike is owed. Suspects
+    /// that own none are so no more. It takes no memory.
+    pub fn owes<N: Names>(&mut self, names: &N) -> Option<Pid>
+        requires { AreSuspected self.old (N.contents names.now) }
+        ensures owed { result
+            ≡ option_map (process_of self.old) (owed self.old.node (N.contents names.now) self.old.watch) }
+        ensures node { self.new.node ≡ self.old.node }
+        ensures watch { self.new.watch ≡ self.old.watch }
+        ensures suspected { AreSuspected self.new (N.contents names.now) }
+    {
+        while let Some(serial) = self.suspects.first() {
+            let process = self.process(*serial);
+            if names.owned_by(&process).is_some() {
+                return Some(process);
+            }
+            self.suspects.pop_first();
+        }
+        None
+    }
+
+    /// The same watch, in memory of its own.
+    pub fn copy(&self) -> Result<Self, AllocError>
+        ensures { IfOk result (λ copy. copy ≡ self.now) }
+    {
+        Ok(Watch {
+            node: self.node.copy(),
+            last_serial: self.last_serial,
+            dead: self.dead.clone()?,
+            suspects: self.suspects.clone()?,
+        })
+    }
+}
