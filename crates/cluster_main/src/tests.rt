@@ -3,7 +3,7 @@ use crate::answering::answer;
 use crate::arguments::read_words;
 use std::alloc::Global;
 use std::env::{Env, FillError};
-use std::io::{self, BufReader, Cursor, Error, ErrorKind, Write};
+use std::io::{self, BufReader, Cursor, Error, ErrorKind, Read, Write};
 use std::test::Fail;
 
 /// What the program is called with.
@@ -12,22 +12,18 @@ struct Call<'a> {
     words: &'a [&'a [u8]],
 }
 
-impl<'a> Call<'a> {
-    /// Copies a text to the front of a buffer.
-    fn fill(text: &[u8], buf: &mut [u8]) -> Result<usize, FillError> {
-        if text.len() > buf.len() {
-            return Err(FillError::TooLong);
-        }
-        buf[..text.len()].copy_from_slice(text);
-        Ok(text.len())
-    }
-}
-
 impl<'a> Env for Call<'a> {
     fn arg(&self, i: usize, buf: &mut [u8]) -> Result<usize, FillError> {
-        match self.words.get(i) {
-            Some(word) => Self::fill(word, buf),
-            None => Err(FillError::NotPresent),
+        let Some(word) = self.words.get(i) else {
+            return Err(FillError::NotPresent);
+        };
+        if word.len() > buf.len() {
+            return Err(FillError::TooLong);
+        }
+        let mut rest = *word;
+        match rest.read(buf) {
+            Ok(len) => Ok(len),
+            Err(_) => Err(FillError::NotPresent),
         }
     }
 
