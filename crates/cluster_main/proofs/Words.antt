@@ -1,6 +1,6 @@
 -- The words that the program takes, computed.
-use Rattle.std.proofs.Common.{ℕ, List, [], ◌∷◌, ◌≡◌, refl, true, codes}
-use Rattle.clap.specs.Words.{App, Text, is_simple_and_free, new_app}
+use Rattle.std.proofs.Common.{[], ◌∷◌, ◌≡◌, refl, true, codes}
+use Rattle.clap.specs.Words.{Text, is_simple_and_free}
 use Rattle.clap.proofs.OnLiterals.{clap_on_literals}
 use Rattle.clap.specs.declared.error.kind.ErrorKind.TheVariants as kind
 use Rattle.cluster_main.specs.Arguments.{KnownWords, program, refusals}

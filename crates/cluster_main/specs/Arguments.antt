@@ -1,7 +1,6 @@
 -- The command line of the program, and what its words ask for.
-use Rattle.std.specs.Prelude.{ℕ, ◌≡◌, ◌⊎◌, true, codes, List, [], ◌∷◌}
-use Rattle.clap.specs.Words.{App, FailsBy, Kinds, Text, fault_of, new_app, with_subcommand}
-use Rattle.clap.specs.declared.error.kind.ErrorKind.{ErrorKind}
+use Rattle.std.specs.Prelude.{◌≡◌, true, codes, List, [], ◌∷◌}
+use Rattle.clap.specs.Words.{App, Kinds, Text, fault_of, new_app, with_subcommand}
 use Rattle.clap.specs.declared.error.kind.ErrorKind.TheVariants as kind
 
 -- a command with a version and one subcommand, `script`, which is wanted and takes no arguments

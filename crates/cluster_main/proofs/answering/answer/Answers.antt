@@ -1,4 +1,4 @@
-use Rattle.std.proofs.Common.{ℕ, List, Option, map, option_map, string_bytes, subst, sym, Some}
+use Rattle.std.proofs.Common.{map, string_bytes}
 use Rattle.std.proofs.KnownBytes.{Keeps-refl}
 use Rattle.cluster_main.specs.Arguments.{refusals}
 use Rattle.cluster_main.specs.Answering.{Streams}
