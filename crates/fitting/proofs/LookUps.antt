@@ -1,4 +1,5 @@
--- What a step answers stands under its own node; a look-up and a `spawn` are answered once, and nothing else under number 0.
+-- What a step answers stands under its own node; a look-up and a `spawn` are answered once, and nothing else under
+-- number 0.
 use Rattle.std.proofs.Common.{ℕ, Bool, true, false, ◌≡◌, ◌==◌, ◌<◌, None, inl, inr, List, [], ◌∷◌, ◌++◌, refl, sym, ap, ◌∙◌, subst, arith}
 use Rattle.std.specs.Prelude.{◌&&◌, if◌then◌else◌, filter, flat_map, map, Contains}
 use Rattle.std.specs.List.{AllByRecursion}
@@ -13,8 +14,7 @@ use Rattle.registry_model.proofs.Lists.{Contains-cases, Contains-nil}
 use Rattle.protocol_model.specs.Watch.{next_serial}
 use Rattle.protocol_model.specs.Event.{Call, Event, Answer}
 use Rattle.protocol_model.specs.Turn.{Turn}
-use Rattle.protocol_model.specs.Fit.{exit_of, left_of, told_of, accepted_at, calls_in}
-use Rattle.fitting.proofs.Events.{read_of}
+use Rattle.protocol_model.specs.Fit.{read_of, exit_of, left_of, told_of, accepted_at, calls_in}
 use Rattle.protocol_model.specs.Answers.{answer_to, is_unnumbered, IsNoLookUp, LooksUpOnce}
 use Rattle.protocol_model.specs.World.{Opening, World, WorldEvent, At, Deliver, place, turn_of, refusal, accepted}
 use Rattle.protocol_model.specs.Course.{Played, played, answers_of}
@@ -22,7 +22,7 @@ use Rattle.moves.proofs.Rules
 use Rattle.moves.proofs.Invariants.{Replicas}
 use Rattle.fitting.proofs.Accounts.{is_word, is_word_at}
 use Rattle.fitting.proofs.Rests.{Rested, looked-answers, spawned-answers, place_runs}
-use Rattle.fitting.proofs.Events.{Own, event_enters}
+use Rattle.fitting.proofs.Events.{Own, event_enters, read_of}
 use Rattle.fitting.proofs.Within.{Within}
 use Rattle.fitting.proofs.Admissions.{all_map}
 use Rattle.fitting.proofs.Chains.{Book}
@@ -43,6 +43,7 @@ filter_none {X} test (x ∷ xs) h =
 module _ (o : Opening) (w : World) (e : WorldEvent) (ps : List Played) (R : Replicas o w) (B : Book o w ps)
     (C : Book o (accepted o w e) (ps ++ played o w e ∷ [])) (X : Spares w ps) (rested : Rested w)
     (is : refusal o w e ≡ None) (W : Rules.Walked o w e) where
+  -- where the event happens, what it brings, the events with it, and its turn
   abbrev pub a : ℕ
   a = place e
 
@@ -55,6 +56,7 @@ module _ (o : Opening) (w : World) (e : WorldEvent) (ps : List Played) (R : Repl
   abbrev pub u : Turn
   u = turn_of o w e
 
+  -- the numbers of its answers that are no words
   within : Within (IsOfCall qs a) (IsOfAnswer e qs a) (of_call e qs a) a u
   within = numbers_within o w e ps R B X
 
@@ -108,11 +110,13 @@ module _ (o : Opening) (w : World) (e : WorldEvent) (ps : List Played) (R : Repl
   own_answers = all_map (λ (s : Answer). (s.node ≡ a) × (is_word s.reply ≡ false → IsOfAnswer e qs a s.number))
       (λ (s : Answer). s.node ≡ a) (λ s x. x.0) u.answers within.answers
 
+  -- the same of each that is found
   pub own_place : (s : Answer) → Contains p.answers s → s.node ≡ a
   own_place s c = All-contains (λ (s : Answer). s.node ≡ a) u.answers s
       (All-from_recursion (λ (s : Answer). s.node ≡ a) u.answers own_answers)
       (subst (λ (l : List Answer). Contains l s) (answers_given o w e is) c)
 
+  -- the look-ups among its entries are those of the event
   own : Own u.entries (exit_of p) (left_of p) (told_of p) (read_of p)
   own = event_enters o w e rested is W
 
@@ -175,9 +179,11 @@ looks_once o w (Deliver f t) ps R B C X rested is W = no_look_up o w (Deliver f 
 abbrev pub AreOwnSteps : List Played → Type 0
 AreOwnSteps ps = (p : Played) → Contains ps p → IsOwnStep p
 
+-- at first there is none
 pub own_steps_open : AreOwnSteps []
 own_steps_open p c = absurd (Contains-nil p c)
 
+-- and with each accepted event one more
 pub own_steps_keep : (o : Opening) (w : World) (e : WorldEvent) (ps : List Played) → Replicas o w → Book o w ps
     → Book o (accepted o w e) (ps ++ played o w e ∷ []) → Spares w ps → Rested w → refusal o w e ≡ None
     → Rules.Walked o w e → AreOwnSteps ps → AreOwnSteps (ps ++ played o w e ∷ [])

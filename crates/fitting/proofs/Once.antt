@@ -43,6 +43,7 @@ Paired a [] [] = Unit {0}
 Paired a (n ∷ ns) (s ∷ xs) = Decides a n s × Paired a ns xs
 Paired a _ _ = ⊥
 
+-- two such lists one behind the other
 paired_append : (a : ℕ) (ns ms : List Numbered) (xs ys : List Answer) → Paired a ns xs → Paired a ms ys
     → Paired a (ns ++ ms) (xs ++ ys)
 paired_append a [] ms [] ys p q = q
@@ -110,6 +111,7 @@ same_test a k (NameAs i call) s (reply, is, may) = ap (is_under a k) is
 same_test a k (JoinAs i m) s (reply, is, may) = ap (is_under a k) is
     ∙ ap (λ (t : Bool). t && (i == k)) (eq-eqb a a refl)
 
+-- and so those of a whole list are
 paired_filter : (a k : ℕ) (ns : List Numbered) (xs : List Answer) → Paired a ns xs
     → Paired a (filter (is_number k) ns) (filter (is_under a k) xs)
 paired_filter a k [] [] p = tt
@@ -125,17 +127,19 @@ paired_filter a k (n ∷ ns) (x ∷ xs) p = subst (λ (t : Bool). Paired a (filt
     go true more = (p.0, more)
     go false more = more
 
--- no call has a number before the first
+-- a call under one number has no other
 other_number : (i k : ℕ) (c : Call) → (i ≡ k → ⊥) → filter (is_number k) (numbered i c) ≡ []
 other_number i k (Call.OnName c) ne = ap (λ (b : Bool). if b then NameAs i c ∷ [] else []) (ne_eqb i k ne)
 other_number i k (Call.JoinBy m) ne = ap (λ (b : Bool). if b then JoinAs i m ∷ [] else []) (ne_eqb i k ne)
 other_number i k _ ne = refl
 
+-- and it has its own
 same_number : (i : ℕ) (c : Call) → filter (is_number i) (numbered i c) ≡ numbered i c
 same_number i (Call.OnName c) = ap (λ (b : Bool). if b then NameAs i c ∷ [] else []) (eq-eqb i i refl)
 same_number i (Call.JoinBy m) = ap (λ (b : Bool). if b then JoinAs i m ∷ [] else []) (eq-eqb i i refl)
 same_number i _ = refl
 
+-- no call has a number before the first
 none_before : (k i : ℕ) (cs : List Call) → i < k → filter (is_number i) (number_from k cs) ≡ []
 none_before k i [] l = refl
 none_before k i (c ∷ cs) l = filter-append (is_number i) (numbered k c) (number_from (k + 1) cs)
@@ -207,19 +211,23 @@ at_most-front a k cs zs (x ∷ xs) ys p e = go zs p e
 pub words_once : (o : Opening) (w : World) (ps : List Played) → Book o w ps → Replicas o w → (a k : ℕ) → 0 < k
     → AtMostOne (calls_at a ps) a k (filter (is_under a k) (filter (is_word_at a) (answers_of ps)))
 words_once o w ps B R a k pos = at_most-front a k (calls_at a ps)
-    (filter (is_under a k) (flat_map (entered_at a) w.history)) (filter (is_under a k) (filter (is_word_at a) (answers_of ps)))
+    (filter (is_under a k) (flat_map (entered_at a) w.history)) (filter (is_under a k) (filter (is_word_at a)
+    (answers_of ps)))
     (filter (is_under a k) (owed_by a (replies_to B.accounts.gate a) (w.node a).current))
-    (at_most a k (calls_at a ps) (slice_get (calls_at a ps) (k - 1)) (filter (is_number k) (flat_map (decided_at a) w.history))
+    (at_most a k (calls_at a ps) (slice_get (calls_at a ps) (k - 1)) (filter (is_number k) (flat_map
+    (decided_at a) w.history))
     (filter (is_number k) (own (replies_to B.accounts.gate a) (w.node a)))
     (filter (is_under a k) (flat_map (entered_at a) w.history)) refl
-    (sym (filter-append (is_number k) (flat_map (decided_at a) w.history) (own (replies_to B.accounts.gate a) (w.node a)))
+    (sym (filter-append (is_number k) (flat_map (decided_at a) w.history) (own (replies_to B.accounts.gate a)
+    (w.node a)))
     ∙ ap (filter (is_number k)) (sym (B.accounts.calls a))
     ∙ subst (λ (n : ℕ). filter (is_number n) (accepted_at a ps) ≡ numbered_if n (slice_get (calls_at a ps) (k - 1)))
     (omega (arith, pos)) (number_at 1 (k - 1) (calls_at a ps)))
     (paired_filter a k (flat_map (decided_at a) w.history) (flat_map (entered_at a) w.history)
     (paired_history a _ w.history R.legal)))
     (ap (filter (is_under a k)) (B.accounts.answers a)
-    ∙ filter-append (is_under a k) (filter (is_word_at a) (answers_of ps)) (owed_by a (replies_to B.accounts.gate a) (w.node a).current))
+    ∙ filter-append (is_under a k) (filter (is_word_at a) (answers_of ps)) (owed_by a
+    (replies_to B.accounts.gate a) (w.node a).current))
 
 -- a lock call's answer under number k
 abbrev pub is_lock_under : ℕ → ℕ → Answer → Bool
@@ -246,7 +254,8 @@ answers_once o w ps B X R locks a k pos = by_kind (is_used (accepted_at a ps) k)
     Once_of = AtMostOne (calls_at a ps) a k
 
     -- under the number of a name or join call only words are answered
-    only_words : is_used (accepted_at a ps) k ≡ true → (s : Answer) → (is_word s.reply ≡ false → Spare ps s.node s.number)
+    only_words : is_used (accepted_at a ps) k ≡ true → (s : Answer) → (is_word s.reply ≡ false
+        → Spare ps s.node s.number)
         → (is_word_at a s && is_under a k s) ≡ is_under a k s
     only_words used s spare = go (s.node == a) refl (s.number == k) refl (is_word s.reply) refl
       where
@@ -287,7 +296,8 @@ answers_once o w ps B X R locks a k pos = by_kind (is_used (accepted_at a ps) k)
         (filter_twice (is_under a k) (is_word_at a) (answers_of ps)
         ∙ filter_same (λ (s : Answer). is_word_at a s && is_under a k s) (is_under a k) (answers_of ps)
         (all_map (λ (s : Answer). is_word s.reply ≡ false → Spare ps s.node s.number)
-        (λ (s : Answer). (is_word_at a s && is_under a k s) ≡ is_under a k s) (only_words used) (answers_of ps) X.answers))
+        (λ (s : Answer). (is_word_at a s && is_under a k s) ≡ is_under a k s) (only_words used)
+        (answers_of ps) X.answers))
         (words_once o w ps B R a k pos)
     by_kind false unused = subst Once_of
         (filter_same (is_lock_under a k) (is_under a k) (answers_of ps)

@@ -73,7 +73,8 @@ looked-answers n a look reply v rested = go v.current refl
 
 -- and so has a `spawn`
 pub spawned-answers : (n a serial : ℕ) (v : Node) → IsRested v
-    → (start n a (spawned n a serial (begun v))).answers ≡ answer_to a 0 (Pid (record { node = a; serial = serial })) ∷ []
+    → (start n a (spawned n a serial (begun v))).answers ≡ answer_to a 0 (Pid
+    (record { node = a; serial = serial })) ∷ []
 spawned-answers n a serial v rested = go v.current refl
   where
     u : Turn

@@ -429,7 +429,8 @@ pub event_within : (S T : ℕ → Type 0) (weaken : (k : ℕ) → S k → T k) (
     → ((c : Call) → e ≡ At (place e) (Event.Calling c) → is_lock_call c ≡ true → S ((w.node (place e)).last_call + 1))
     → Within S T weaken (place e) (begun (w.node (place e))) → Within S T weaken (place e) (turn_of o w e)
 event_within S T weaken o w (At a (Event.Calling c)) z s W =
-    starts S T weaken a o.bound _ (makes_call S T weaken a o.bound ((w.node a).last_call + 1) c (begun (w.node a)) (z c refl) (s c refl) W)
+    starts S T weaken a o.bound _ (makes_call S T weaken a o.bound ((w.node a).last_call + 1) c (begun (w.node a))
+    (z c refl) (s c refl) W)
 event_within S T weaken o w (At a Event.Retry) z s W =
     starts S T weaken a o.bound _ (retries_locks S T weaken a o.bound
     (Registrar.retry_global o.bound a (w.node a).current (begun (w.node a)))

@@ -1,4 +1,5 @@
--- Of every course: look-ups are answered once, and each numbered call is answered at most once, by a reply that it may have.
+-- Of every course: look-ups are answered once, and each numbered call is answered at most once, by a reply that it may
+-- have.
 use Rattle.std.proofs.Common.{ℕ, Bool, false, ◌==◌, ◌≡◌, None, List, [], ◌∷◌, ◌++◌, sym, ap, ◌∙◌, subst}
 use Rattle.std.specs.Prelude.{◌&&◌, not, if◌then◌else◌, Contains}
 use Rattle.std.specs.List.{AllByRecursion}
@@ -90,6 +91,7 @@ module _ (o : Opening) where
     ledgers : Ledgers w ps
 
   module _ (es : List WorldEvent) where
+    -- it holds behind every list of events
     told : Told (world o es) (events o es)
     told = Chains.course_keeps o (Whole o) (ground o) Told
         (λ w e ps W is T. record {
@@ -103,8 +105,8 @@ module _ (o : Opening) where
     pub looks : (p : Played) → Contains (events o es) p → LooksUpOnce p
     looks = Theorem.looks o (Whole o) (ground o) (whole_opens o) es
 
-    -- each answer stands under its event's node, and each numbered call is answered at most once, by a reply that it may
-    -- have
+    -- each answer stands under its event's node, and each numbered call is answered at most once, by a reply that it
+    -- may have
     pub answered : AnswersCalls (events o es)
     answered = record {
       place = λ p s c d. (told.kept.steps p c).place s d;

@@ -102,15 +102,18 @@ JoinerTold given t (Entry.Done m) = (hold : Hold) (j k : ℕ) → hold_at t m �
     → hold.entry ≡ Entry.Join j k m Joined → (t.registry.left j ≡ true) ⊎ Contains given (answer_to j k Joined)
 JoinerTold given t _ = Unit {0}
 
+-- and so the joiner of each of these entries
 abbrev AllTold : List Answer → Standing → List Entry → Type 0
 AllTold given t [] = Unit {0}
 AllTold given t (e ∷ es) = JoinerTold given t e × AllTold given (after t e) es
 
+-- of entries one behind the other
 all_told_append : (given : List Answer) (t : Standing) (es fs : List Entry) → AllTold given t es
     → AllTold given (fold after t es) fs → AllTold given t (es ++ fs)
 all_told_append given t [] fs p q = q
 all_told_append given t (e ∷ es) fs p q = (p.0, all_told_append given (after t e) es fs p.1 q)
 
+-- of one of them
 told_at : (given : List Answer) (t : Standing) (earlier later : List Entry) (e : Entry)
     → AllTold given t (earlier ++ e ∷ later) → JoinerTold given (fold after t earlier) e
 told_at given t [] later e p = p.0
@@ -121,9 +124,11 @@ module _ (o : Opening) (a : ℕ) (before : List Answer) where
   module _ (w : World) (ss : List Answer) (calls : ℕ → List Numbered) (op : Op) (asked awaited : Nodes)
       (reply : Option Reply) (W : Whole o w) (M : Rules.May o a w (Rules.Finishes op asked awaited reply))
       (A : Accounts o w calls (before ++ ss)) (own : (s : Answer) → Contains ss s → s.node ≡ a) where
+    -- how things stand before the rule
     abbrev s : Standing
     s = standing_at o w
 
+    -- and that the replicas are those of it
     R : Replicas o w
     R = replicas o w W.kept
 
@@ -132,12 +137,14 @@ module _ (o : Opening) (a : ℕ) (before : List Answer) where
       abbrev answer : Answer
       answer = answer_to j k Joined
 
+      -- what holds was entered
       out : IsLeftOut (in_cluster o) w.history hold
       out = (old_law (in_cluster o) w.history).left_out a hold holds
 
       split : w.history ≡ out.before ++ Entry.Join j k a Joined ∷ out.later
       split = out.split ∙ ap (λ (e : Entry). out.before ++ e ∷ out.later) is
 
+      -- legally, so its joiner is another node than its contact
       legal : JoinIsLegal (standing_of (in_cluster o) out.before) j a
       legal = join_is_legal (standing_of (in_cluster o) out.before) j a
           (is_legal-at (in_cluster o) out.before out.later (Entry.Join j k a Joined)
@@ -159,6 +166,7 @@ module _ (o : Opening) (a : ℕ) (before : List Answer) where
       in_cluster_held : s.held ≡ Some hold
       in_cluster_held = sym (ap (λ (b : Bool). if b then s.held else s.lone_held a) joined) ∙ holds
 
+      -- the answer is that of an entry
       entered_here : Contains (flat_map (entered_at j) w.history) answer
       entered_here = subst (λ (h : List Entry). Contains (flat_map (entered_at j) h) answer) (sym split)
           (subst (λ (xs : List Answer). Contains xs answer)
@@ -225,10 +233,11 @@ module _ (o : Opening) (a : ℕ) (before : List Answer) where
           go true e = inl (R.departed j ∙ e)
           go false e = elim (Contains-append_cases (filter (is_word_at j) (before ++ ss)) _ answer
               (subst (λ (xs : List Answer). Contains xs answer) (A.answers j) entered_here)) [
-                | inl c ↦ elim (Contains-append_cases before ss answer (Contains-filter (is_word_at j) (before ++ ss) answer c)) [
-                  | inl d ↦ inr d
-                  | inr d ↦ absurd (apart (own answer d))
-                ]
+                | inl c ↦ elim (Contains-append_cases before ss answer (Contains-filter (is_word_at j)
+                    (before ++ ss) answer c)) [
+                      | inl d ↦ inr d
+                      | inr d ↦ absurd (apart (own answer d))
+                    ]
                 | inr c ↦ absurd (not_owed e (current o w j) (R.written j) c)
               ]
 
@@ -332,12 +341,14 @@ module _ (o : Opening) where
     kept : Theorem.Kept o w ps
     answered : EachStep ps IsAnswered
 
+  -- at first there is no step
   nothing_yet : EachStep [] IsAnswered
   nothing_yet [] p later e = cc
   nothing_yet (q ∷ before) p later e = cc
 
   -- where a step ends an admission, its joiner was answered `joined` before, or has left
-  pub joiner : (es : List WorldEvent) → EachStep (events o es) (λ before p. JoinerIsAnswered before (standing o before) p)
+  pub joiner : (es : List WorldEvent) → EachStep (events o es) (λ before p. JoinerIsAnswered before
+      (standing o before) p)
   joiner es = heard.answered
     where
       heard : Heard (world o es) (events o es)

@@ -29,7 +29,7 @@ abbrev pub is_try : LockPhase → Bool
 is_try (LockPhase.Deleting owing) = false
 is_try _ = true
 
--- a lock call may be answered `true`, and a try `false`
+-- a lock call may be answered `true`
 pub true_fits : (call : Call) (phase : LockPhase) → is_for call phase ≡ true → may_have call True ≡ true
 true_fits (Call.SetLock p r q target retries) phase h = refl
 true_fits (Call.DelLock p r q target) phase h = refl
@@ -38,6 +38,7 @@ true_fits (Call.LookUp look) phase h = cc
 true_fits (Call.OnName c) phase h = cc
 true_fits (Call.JoinBy m) phase h = cc
 
+-- a try may be answered `false`
 pub false_fits : (call : Call) (phase : LockPhase) → is_for call phase ≡ true → is_try phase ≡ true
     → may_have call False ≡ true
 false_fits (Call.SetLock p r q target retries) phase h t = refl
@@ -84,16 +85,19 @@ pub record IsCalled (calls : List Call) (k : ℕ) (phase : LockPhase) : Type 0 w
   pub positive : 0 < k
   pub suits : is_for call phase ≡ true
 
--- what is found stays found behind more
-slice_get-more : {X : Type 0} (xs ys : List X) (i : ℕ) (x : X) → slice_get xs i ≡ Some x → slice_get (xs ++ ys) i ≡ Some x
+-- what is found is found still where more comes behind
+slice_get-more : {X : Type 0} (xs ys : List X) (i : ℕ) (x : X) → slice_get xs i ≡ Some x → slice_get (xs ++ ys) i
+    ≡ Some x
 slice_get-more [] ys i x e = cc
 slice_get-more (y ∷ xs) ys zero x e = e
 slice_get-more (y ∷ xs) ys (suc i) x e = slice_get-more xs ys i x e
 
+-- and the first of more is found behind all
 pub slice_get-behind : {X : Type 0} (xs : List X) (x : X) → slice_get (xs ++ x ∷ []) (length xs) ≡ Some x
 slice_get-behind [] x = refl
 slice_get-behind (y ∷ xs) x = slice_get-behind xs x
 
+-- a call stays among the accepted ones
 called_more : (calls more : List Call) (k : ℕ) (phase : LockPhase) → IsCalled calls k phase
     → IsCalled (calls ++ more) k phase
 called_more calls more k phase I = record {
@@ -108,6 +112,7 @@ module _ (a : ℕ) where
   abbrev pub given : ℕ → List Answer → List Answer
   given k xs = filter (is_lock_under a k) xs
 
+  -- what was answered once was so among more calls
   once_more : (calls more : List Call) (k : ℕ) (xs : List Answer) → AtMostOne calls a k xs
       → AtMostOne (calls ++ more) a k xs
   once_more calls more k xs NotYet = NotYet
@@ -122,6 +127,7 @@ module _ (a : ℕ) where
         → c.number ≡ d.number → is_process p q ≡ true
     pub once : (k : ℕ) → 0 < k → AtMostOne calls a k (given k xs)
 
+  -- at first there is nothing
   pub ledger_none : Ledger [] [] []
   ledger_none = record {
     called = λ p c e. cc;
@@ -166,10 +172,12 @@ module _ (a : ℕ) where
   abbrev pub Aside : List Answer → Type 0
   Aside ys = (k : ℕ) → 0 < k → given k ys ≡ []
 
+  -- they leave the answers under a number
   given-more : (k : ℕ) (xs ys : List Answer) → given k ys ≡ [] → given k (xs ++ ys) ≡ given k xs
   given-more k xs ys none = filter-append (is_lock_under a k) xs ys
       ∙ ap (λ (l : List Answer). given k xs ++ l) none ∙ append-nil (given k xs)
 
+  -- and so the open calls
   pub ledger_aside : (calls : List Call) (cs : List LockCall) (xs ys : List Answer) → Aside ys → Ledger calls cs xs
       → Ledger calls cs (xs ++ ys)
   ledger_aside calls cs xs ys none L = record {
@@ -179,11 +187,9 @@ module _ (a : ℕ) where
     once = λ k pos. subst (AtMostOne calls a k) (sym (given-more k xs ys (none k pos))) (L.once k pos);
   }
 
+  -- no answer is one
   pub aside_none : Aside []
   aside_none k pos = refl
-
-  pub aside_append : (xs ys : List Answer) → Aside xs → Aside ys → Aside (xs ++ ys)
-  aside_append xs ys f g k pos = given-more k xs ys (g k pos) ∙ f k pos
 
   -- a word is the answer of no lock call
   pub aside_word : (i : ℕ) (reply : Reply) → is_word reply ≡ true → Aside (answer_to a i reply ∷ [])
@@ -267,13 +273,16 @@ module _ (a : ℕ) where
           absurd (S.alone p d1 e x (n ∙ sym (ap (λ (k : LockCall). k.number) same)))
       apart p q d1 d2 false x false y e f n = L.distinct p q d1 d2 e f n
 
+  -- an answer is found under its number
   given-one : (k : ℕ) (reply : Reply) → is_word reply ≡ false
       → given k (answer_to a k reply ∷ []) ≡ answer_to a k reply ∷ []
-  given-one k reply word = ap (λ (b : Bool). if (b && (k == k)) && not (is_word reply) then answer_to a k reply ∷ [] else [])
+  given-one k reply word = ap (λ (b : Bool). if (b && (k == k)) && not
+      (is_word reply) then answer_to a k reply ∷ [] else [])
       (eq-eqb a a refl)
       ∙ ap (λ (b : Bool). if b && not (is_word reply) then answer_to a k reply ∷ [] else []) (eq-eqb k k refl)
       ∙ ap (λ (b : Bool). if not b then answer_to a k reply ∷ [] else []) word
 
+  -- and under no other
   given-other : (k i : ℕ) (reply : Reply) → (i ≡ k → ⊥) → given k (answer_to a i reply ∷ []) ≡ []
   given-other k i reply ne = go (a == a) (i == k) (ne_eqb i k ne) (is_word reply)
     where

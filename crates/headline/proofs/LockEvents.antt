@@ -81,11 +81,14 @@ module _ (o : Opening) (a : ℕ) (calls : List Call) (xs : List Answer) where
           else ask_lock o.bound a c (targets u.node.replica.members c.target) u).node.calls
       go true = only_drop a c.holder u.node.calls
       go false = only_put a
-          (in_phase (LockPhase.Asking (begin o.bound (targets u.node.replica.members c.target))) c) u.node.calls home client
+          (in_phase (LockPhase.Asking (begin o.bound (targets u.node.replica.members c.target))) c) u.node.calls home
+          client
 
+  -- one call of a retry
   one_retry : (c : LockCall) (u : Turn) → (c.holder.node == a) ≡ true → nat_lt 0 c.holder.serial ≡ true
       → is_ordered a u.node.calls ≡ true → call_of c.holder u.node.calls ≡ Some c → Behind u
-      → Behind (retry_in o.bound a c.phase c u) × Only a c.holder u.node.calls (retry_in o.bound a c.phase c u).node.calls
+      → Behind (retry_in o.bound a c.phase c u) × Only a c.holder u.node.calls
+      (retry_in o.bound a c.phase c u).node.calls
   one_retry c u home client sorted e L = go c.phase refl
     where
       go : (x : LockPhase) → c.phase ≡ x
@@ -132,6 +135,7 @@ module _ (o : Opening) (a : ℕ) (calls : List Call) (xs : List Answer) where
   starts_queue (Op.Strike p ∷ ops) u L = L
   starts_queue (Op.Admission j pairs ∷ ops) u L = L
 
+  -- at the end of the step
   starts : (u : Turn) → Behind u → Behind (start o.bound a u)
   starts u L = go u.node.current
     where
@@ -146,6 +150,7 @@ module _ (o : Opening) (a : ℕ) (calls : List Call) (xs : List Answer) where
       go (Current.Writing op asked awaited reply) = L
       go (Current.Joining k m) = L
 
+  -- the whole step
   retried : (v : Node) → is_ordered a v.calls ≡ true → Ledger a calls v.calls xs
       → Behind (start o.bound a (retry_locks o.bound a (retry_global o.bound a v.current (begun v))))
   retried v sorted L = starts (retry_locks o.bound a (retry_global o.bound a v.current (begun v))) (go v.current)
@@ -155,7 +160,8 @@ module _ (o : Opening) (a : ℕ) (calls : List Call) (xs : List Answer) where
 
       go : (c : Current) → Behind (retry_locks o.bound a (retry_global o.bound a c (begun v)))
       go (Current.Waiting op) =
-          retries v.calls (retry_global o.bound a (Current.Waiting op) (begun v)) sorted sorted (all_open a v.calls sorted) begins
+          retries v.calls (retry_global o.bound a (Current.Waiting op) (begun v)) sorted sorted
+          (all_open a v.calls sorted) begins
       go Current.Free = retries v.calls (begun v) sorted sorted (all_open a v.calls sorted) begins
       go (Current.Asking op r) = retries v.calls (begun v) sorted sorted (all_open a v.calls sorted) begins
       go (Current.Writing op asked awaited reply) =
@@ -170,6 +176,7 @@ module _ (o : Opening) (a : ℕ) (w : World) (calls : List Call) (xs : List Answ
   abbrev v : World
   v = Rules.effect o a Rules.CallsLock w
 
+  -- what stands there
   V : Whole o v
   V = rule_whole o a w Rules.CallsLock W first
 
@@ -179,6 +186,7 @@ module _ (o : Opening) (a : ℕ) (w : World) (calls : List Call) (xs : List Answ
 
   -- the call that begins, in this phase
   module _ (call : Call) (c : LockCall) (number : c.number ≡ (w.node a).last_call + 1) where
+    -- the accepted calls with it
     abbrev more : List Call
     more = calls ++ call ∷ []
 
@@ -191,21 +199,26 @@ module _ (o : Opening) (a : ℕ) (w : World) (calls : List Call) (xs : List Answ
         (subst (IsSingle a (w.node a).calls xs c.holder) (sym (number ∙ ap (λ (k : ℕ). k + 1) count))
         (single_new a calls (w.node a).calls xs c.holder L))
 
+    -- it is the last of them
     abbrev is_called : (phase : LockPhase) → is_for call phase ≡ true → IsCalled more c.number phase
     is_called phase fits = record {
       call = call;
-      found = subst (λ (k : ℕ). slice_get more k ≡ Some call) (omega (arith, number, count)) (slice_get-behind calls call);
+      found = subst (λ (k : ℕ). slice_get more k ≡ Some call) (omega (arith, number, count))
+          (slice_get-behind calls call);
       positive = omega (arith, number);
       suits = fits;
     }
 
+    -- what is said behind the rule that begins it
     abbrev Next : List LockCall → List Answer → Type 0
     Next cs ys = Ledger a more cs (xs ++ ys)
 
+    -- it is open, or is answered at once
     puts : (phase : LockPhase) → is_for call phase ≡ true → c.holder.node ≡ a
         → Next (put_call (in_phase phase c) (v.node a).calls) []
     puts phase fits home = ledger_aside a more (put_call (in_phase phase c) (v.node a).calls) xs [] (aside_none a)
-        (ledger_put a more (v.node a).calls xs (in_phase phase c) home (V.ordered a) single (is_called phase fits) wider)
+        (ledger_put a more (v.node a).calls xs (in_phase phase c) home (V.ordered a) single
+        (is_called phase fits) wider)
 
     ends : (phase : LockPhase) (reply : Reply) → is_word reply ≡ false → is_for call phase ≡ true
         → may_have call reply ≡ true
@@ -224,6 +237,7 @@ module _ (o : Opening) (a : ℕ) (w : World) (calls : List Call) (xs : List Answ
         (subst (λ (n : Node). Next n.calls (Rules.turn_by o a v s).answers)
         (sym (ap (λ (f : ℕ → Node). f a) (effect-node o a s v) ∙ at_same v.node a (Rules.turn_by o a v s).node)) N))
 
+    -- a try, which asks somebody or nobody
     asks : (later : List Rule) → Rules.MayAll o a (Rules.AsksLock c ∷ later) v → list_all (suits Aside) later ≡ true
         → is_for call LockPhase.Waiting ≡ true
         → Ledger a more ((Rules.effects o a (Rules.AsksLock c ∷ later) v).node a).calls
@@ -239,7 +253,9 @@ module _ (o : Opening) (a : ℕ) (w : World) (calls : List Call) (xs : List Answ
     fails later m h f = on (Rules.FailsLock c) later m h
         (ends LockPhase.Waiting False refl f (false_fits call LockPhase.Waiting f refl))
 
-    deletes : (later : List Rule) → Rules.MayAll o a (Rules.DeletesLock c ∷ later) v → list_all (suits Aside) later ≡ true
+    -- a deletion, which asks somebody or nobody
+    deletes : (later : List Rule) → Rules.MayAll o a (Rules.DeletesLock c ∷ later) v → list_all
+        (suits Aside) later ≡ true
         → is_for call (LockPhase.Deleting (targets (v.node a).replica.members c.target)) ≡ true
         → Ledger a more ((Rules.effects o a (Rules.DeletesLock c ∷ later) v).node a).calls
         (xs ++ Rules.answers_by o a (Rules.DeletesLock c ∷ later) v)
@@ -260,7 +276,8 @@ module _ (o : Opening) (a : ℕ) (w : World) (calls : List Call) (xs : List Answ
 module _ (o : Opening) (w : World) (ps : List Played) (W : Whole o w) where
   -- where e happens at a, what is said behind it
   abbrev pub After : WorldEvent → Type 0
-  After e = Ledger (place e) (calls_at (place e) ps ++ calls_in (place e) (played o w e)) ((accepted o w e).node (place e)).calls
+  After e = Ledger (place e) (calls_at (place e) ps ++ calls_in (place e) (played o w e)) ((accepted o w e).node
+      (place e)).calls
       (answers_of ps ++ (turn_of o w e).answers)
 
   -- before it
@@ -280,6 +297,7 @@ module _ (o : Opening) (w : World) (ps : List Played) (W : Whole o w) where
       (ledger_wider (place e) (calls_at (place e) ps) (calls_in (place e) (played o w e)) (w.node (place e)).calls
       (answers_of ps) L)))
 
+  -- a `Down` is read first
   letter_hears : (f t : ℕ) (ls : List Letter) (rest : List Rule) → list_all (suits Hearing) rest ≡ true
       → list_all (suits Hearing) (Rules.first_by_letter o t f ls ++ rest) ≡ true
   letter_hears f t [] rest h = h
@@ -294,7 +312,8 @@ module _ (o : Opening) (w : World) (ps : List Played) (W : Whole o w) where
       (answers_of ps ++ Rules.answers_by o a rs (Rules.effect o a Rules.CallsLock w))
       → After (At a (Event.Calling call))
   by_call a call rs numbered world answers L =
-      subst (λ (cs : List Call). Ledger a (calls_at a ps ++ cs) ((accepted o w (At a (Event.Calling call))).node a).calls
+      subst (λ (cs : List Call). Ledger a (calls_at a ps ++ cs) ((accepted o w (At a
+      (Event.Calling call))).node a).calls
       (answers_of ps ++ (turn_of o w (At a (Event.Calling call))).answers))
       (sym (ap (λ (b : Bool). if b && is_numbered call then call ∷ [] else []) (eq-eqb a a refl)
       ∙ ap (λ (b : Bool). if b then call ∷ [] else []) numbered))
@@ -304,7 +323,8 @@ module _ (o : Opening) (w : World) (ps : List Played) (W : Whole o w) where
       ((Rules.effects o a rs (Rules.effect o a Rules.CallsLock w)).node a).calls (answers_of ps ++ ss)) answers L))
 
   -- each accepted event
-  pub event_ledger : (e : WorldEvent) → OrderedWalk o w e → (w.node (place e)).last_call ≡ length (calls_at (place e) ps)
+  pub event_ledger : (e : WorldEvent) → OrderedWalk o w e → (w.node (place e)).last_call ≡ length (calls_at
+      (place e) ps)
       → Before (place e) → After e
   event_ledger (Deliver f t) H count L = by_chain (Deliver f t) _
       (letter_hears f t (w.links.queue f t) H.walk.rest H.in_order) H.walk.may H.walk.world H.walk.answers L
@@ -313,7 +333,8 @@ module _ (o : Opening) (w : World) (ps : List Played) (W : Whole o w) where
   event_ledger (At a Event.Leave) H count L = by_chain (At a Event.Leave) (Rules.Leaves ∷ H.walk.rest)
       (all_hear H.walk.rest H.in_order) H.walk.may H.walk.world H.walk.answers L
   event_ledger (At a Event.Retry) H count L =
-      subst (λ (n : Node). Ledger a (calls_at a ps ++ []) n.calls (answers_of ps ++ (turn_of o w (At a Event.Retry)).answers))
+      subst (λ (n : Node). Ledger a (calls_at a ps ++ []) n.calls (answers_of ps ++ (turn_of o w
+      (At a Event.Retry)).answers))
       (sym (at_same w.node a (turn_of o w (At a Event.Retry)).node))
       (retried o a (calls_at a ps ++ []) (answers_of ps) (w.node a) (W.ordered a)
       (ledger_wider a (calls_at a ps) [] (w.node a).calls (answers_of ps) L))
@@ -345,7 +366,8 @@ module _ (o : Opening) (w : World) (ps : List Played) (W : Whole o w) where
 
       Goal : List Rule → Type 0
       Goal rs = Rules.MayAll o a (Rules.CallsLock ∷ rs) w
-          → Ledger a (calls_at a ps ++ call ∷ []) ((Rules.effects o a rs (Rules.effect o a Rules.CallsLock w)).node a).calls
+          → Ledger a (calls_at a ps ++ call ∷ []) ((Rules.effects o a rs
+          (Rules.effect o a Rules.CallsLock w)).node a).calls
           (answers_of ps ++ Rules.answers_by o a rs (Rules.effect o a Rules.CallsLock w))
   event_ledger (At a (Event.Calling (Call.DelLock p r q target))) H count L =
       by_call a call H.walk.rest refl H.walk.world H.walk.answers
@@ -353,7 +375,8 @@ module _ (o : Opening) (w : World) (ps : List Played) (W : Whole o w) where
         | inl e ↦ subst (λ (s : Rule). Goal (s ∷ h.1.0)) (sym e)
             (λ m. deletes o a w (calls_at a ps) (answers_of ps) W L count m.0 call new refl h.1.0 m.1 h.1.1.2 refl)
         | inr e ↦ subst (λ (s : Rule). Goal (s ∷ h.1.0)) (sym e)
-            (λ m. deletes_nothing o a w (calls_at a ps) (answers_of ps) W L count m.0 call new refl h.1.0 m.1 h.1.1.2 refl)
+            (λ m. deletes_nothing o a w (calls_at a ps) (answers_of ps) W L count m.0 call new refl h.1.0 m.1 h.1.1.2
+            refl)
       ]) H.walk.may)
     where
       call : Call
@@ -367,5 +390,6 @@ module _ (o : Opening) (w : World) (ps : List Played) (W : Whole o w) where
 
       Goal : List Rule → Type 0
       Goal rs = Rules.MayAll o a (Rules.CallsLock ∷ rs) w
-          → Ledger a (calls_at a ps ++ call ∷ []) ((Rules.effects o a rs (Rules.effect o a Rules.CallsLock w)).node a).calls
+          → Ledger a (calls_at a ps ++ call ∷ []) ((Rules.effects o a rs
+          (Rules.effect o a Rules.CallsLock w)).node a).calls
           (answers_of ps ++ Rules.answers_by o a rs (Rules.effect o a Rules.CallsLock w))

@@ -134,7 +134,8 @@ module _ (o : Opening) (a : ℕ) (w : World) (calls : List Call) (xs : List Answ
   by_rule (Rules.WinsLock c r) h m = wins c (LockPhase.Asking r) m.tested.0
   by_rule (Rules.GivesUpLock c r granted) h m = go (is_spent c.retries)
     where
-      go : (b : Bool) → Behind (if b then close_call o.bound a c false (give_lock o.bound a c granted (begun (w.node a)))
+      go : (b : Bool) → Behind (if b then close_call o.bound a c false (give_lock o.bound a c granted (begun
+          (w.node a)))
           else keep_call (in_phase LockPhase.Waiting c) (give_lock o.bound a c granted (begun (w.node a)))).node.calls
           (if b then answer_to a c.number False ∷ [] else [])
       go true = closes c (LockPhase.Asking r) False refl m.tested.0
