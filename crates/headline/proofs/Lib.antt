@@ -14,6 +14,7 @@ pub mod LockSteps
 pub mod LockEvents
 pub mod Answered
 pub mod Joiners
+pub mod Spawning
 pub mod Theorem
 pub mod Agreeing
 pub mod Entries
