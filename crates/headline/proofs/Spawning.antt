@@ -198,4 +198,5 @@ module _ (o : Opening) where
   spawns_anew es = given.anew
     where
       given : Given (world o es) (events o es)
-      given = Chains.course_keeps o (Whole o) (ground o) Given given_keeps es (opening_world o) [] (whole_opens o) given_opens
+      given = Chains.course_keeps o (Whole o) (ground o) Given given_keeps es (opening_world o) [] (whole_opens o)
+          given_opens
