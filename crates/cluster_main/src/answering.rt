@@ -23,12 +23,7 @@ fn status_of(played: &Result<bool, ScriptFault>) -> u8
 }
 
 /// Plays a script, and gives the status.
-fn play<R: Read, W: Write, E: Write>(
-    alloc: Global,
-    reader: &mut BufReader<R, Global>,
-    writer: &mut W,
-    errors: &mut E,
-) -> u8
+fn play<R: Read, W: Write>(alloc: Global, reader: &mut BufReader<R, Global>, writer: &mut W) -> u8
     ensures { PlaysScript (record {
       input = reader_remaining R.remaining reader.old;
       rest = reader_remaining R.remaining reader.new;
@@ -37,9 +32,6 @@ fn play<R: Read, W: Write, E: Write>(
     }) result }
 {
     let played = run_script(alloc, reader, writer);
-    if let Err(fault) = &played {
-        let _ = writeln!(errors, "error: {fault}");
-    }
     if writer.flush().is_err() {
         return 1;
     }
@@ -88,7 +80,7 @@ pub fn answer<R: Read, W: Write, E: Write>(
         return 2;
     };
     match read_arguments(alloc, words) {
-        Ok(Task::Script) => play(alloc, reader, writer, errors),
+        Ok(Task::Script) => play(alloc, reader, writer),
         Err(error) => show(&error, writer, errors),
     }
 }

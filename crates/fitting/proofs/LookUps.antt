@@ -14,7 +14,7 @@ use Rattle.registry_model.proofs.Lists.{Contains-cases, Contains-nil}
 use Rattle.protocol_model.specs.Watch.{next_serial}
 use Rattle.protocol_model.specs.Event.{Call, Event, Answer}
 use Rattle.protocol_model.specs.Turn.{Turn}
-use Rattle.protocol_model.specs.Fit.{read_of, exit_of, left_of, told_of, accepted_at, calls_in}
+use Rattle.protocol_model.specs.Fit.{exit_of, left_of, told_of, accepted_at, calls_in}
 use Rattle.protocol_model.specs.Answers.{answer_to, is_unnumbered, IsNoLookUp, LooksUpOnce}
 use Rattle.protocol_model.specs.World.{Opening, World, WorldEvent, At, Deliver, place, turn_of, refusal, accepted}
 use Rattle.protocol_model.specs.Course.{Played, played, answers_of}

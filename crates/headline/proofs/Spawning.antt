@@ -28,18 +28,10 @@ use Rattle.fitting.proofs.Replies.{answers_given}
 use Rattle.fitting.proofs.Theorem
 use Rattle.client_locks.proofs.Growing.{node_answer_op, same_judge, same_take_back, same_ask_rest, same_refuse}
 use Rattle.headline.specs.Clauses.{events, world}
+use Rattle.headline.specs.Laws.{IsSpawnOf, SpawnsAnew}
 use Rattle.headline.proofs.Together.{Whole, whole_opens, event_walks}
 use Rattle.headline.proofs.Story.{ground}
 use Rattle.headline.proofs.Joiners.{each_step_push}
-
--- the step is a `spawn` that gives this process
-pub record IsSpawnOf (p : Played) (q : Process) : Type 0 where
-  pub event : p.event ≡ At q.node (Event.Calling Call.Spawn)
-  pub answer : Contains p.answers (answer_to q.node 0 (Pid q))
-
--- no step before has given it
-abbrev pub SpawnsAnew : List Played → Played → Type 0
-SpawnsAnew before p = (q : Process) → IsSpawnOf p q → (s : Played) → Contains before s → IsSpawnOf s q → ⊥
 
 -- the first live serial from k on is none before k
 first_live_least : (most : ℕ) (w : Watch) (k : ℕ) → k ≤ first_live most w k

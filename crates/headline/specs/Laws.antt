@@ -4,7 +4,7 @@ use Rattle.std.specs.Prelude.{ℕ, Bool, true, false, ◌≡◌, IsTrue, Contain
 use Rattle.std.specs.List.{list_all}
 use Rattle.registry_model.specs.Process.{Text, Process, Nodes, nobody}
 use Rattle.registry_model.specs.Table.{Put, get}
-use Rattle.registry_model.specs.Call.{NameCall, Register, Yes, No, change_of}
+use Rattle.registry_model.specs.Call.{NameCall, Register, Yes, No, Pid, change_of}
 use Rattle.registry_model.specs.Registry.{in_group}
 use Rattle.registry_model.specs.History.{Entry, Name, is_free, registry_of}
 use Rattle.registry_model.specs.HistoryLaws.{HasOneOwner, IsFreeFor, Takes}
@@ -13,7 +13,8 @@ use Rattle.protocol_model.specs.Event.{Call, Event, Refusal, Answer}
 use Rattle.protocol_model.specs.World.{Opening, in_world, in_cluster, World, left, WorldEvent, At, refusal, happens, answers}
 use Rattle.protocol_model.specs.Course.{Played, course}
 use Rattle.protocol_model.specs.Fit.{NameAs, accepted_at}
-use Rattle.protocol_model.specs.Headline.{Headline}
+use Rattle.protocol_model.specs.Answers.{answer_to}
+use Rattle.protocol_model.specs.Headline.{Headline, EachStep}
 use Rattle.headline.specs.Clauses.{world, now, events, so_far}
 
 -- node a of the world hasn't left it
@@ -98,6 +99,19 @@ pub record ChangesNothing (o : Opening) (w : World) (e : WorldEvent) : Type 0 wh
 abbrev pub RefusedChangesNothing : Type 0
 RefusedChangesNothing = (o : Opening) (w : World) (e : WorldEvent) (r : Refusal) → refusal o w e ≡ Some r
     → ChangesNothing o w e
+
+-- the step is a `spawn` that gives this process
+pub record IsSpawnOf (p : Played) (q : Process) : Type 0 where
+  pub event : p.event ≡ At q.node (Event.Calling Call.Spawn)
+  pub answer : Contains p.answers (answer_to q.node 0 (Pid q))
+
+-- no step before has given a process that this step gives
+abbrev pub SpawnsAnew : List Played → Played → Type 0
+SpawnsAnew before p = (q : Process) → IsSpawnOf p q → (s : Played) → Contains before s → IsSpawnOf s q → ⊥
+
+-- No two spawns give one process
+abbrev pub SpawnsGiveNew : Type 0
+SpawnsGiveNew = (o : Opening) (es : List WorldEvent) → EachStep (events o es) SpawnsAnew
 
 -- no join and no leave
 abbrev pub is_fixed : WorldEvent → Bool

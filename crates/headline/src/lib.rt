@@ -6,7 +6,7 @@ ghost use Rattle.protocol_model.specs.ClientLocks.{Exclusion};
 ghost use Rattle.protocol_model.specs.Headline.{Agreement};
 ghost use Rattle.headline.specs.Clauses.{HistoryGrows, HistoryIsLegal, HistoryFits, AnswersAreEntries, AnswersComeInTime, EntriesAreMadeAtHome, IsDecidedUnderLock, EachLookUpOnce, CallsAreAnsweredOnce, JoinersAreAnswered, ShowsWhenFree, ShowsWhenHeld, YesIsWritten, LeaveWaits, HolderHolds};
 ghost use Rattle.headline.specs.Tie.{TestAsksTheHeadline};
-ghost use Rattle.headline.specs.Laws.{OneHolder, OneOwnerAtEach, JoinedAgree, NoToTheTaken, YesToTheFreeOnly, YesStands, YesIsFound, RefusedChangesNothing, FixedAgreement};
+ghost use Rattle.headline.specs.Laws.{OneHolder, OneOwnerAtEach, JoinedAgree, NoToTheTaken, YesToTheFreeOnly, YesStands, YesIsFound, RefusedChangesNothing, SpawnsGiveNew, FixedAgreement};
 
 /// All answers to name calls and joins are those of one sequential registry that takes the granted operations in lock order,
 /// and whenever the lock is free, the replicas are that registry's.
@@ -137,6 +137,11 @@ pub fn fixed_membership()
 /// When a call that gives a name is answered `yes`, every running node of the group finds the process at once.
 pub fn yes_is_found()
     ensures { YesIsFound }
+{}
+
+/// No two spawns give one process.
+pub fn spawns_give_new()
+    ensures { SpawnsGiveNew }
 {}
 
 /// The test that rows are checked by asks the headline and no more: a list of events that fails it refutes the headline.
