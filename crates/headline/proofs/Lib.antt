@@ -1,8 +1,12 @@
 pub mod Together
 pub mod Same
+pub mod Told
+pub mod Meant
 pub mod Asked
 pub mod AskedSteps
 pub mod Tied
+pub mod Passing
+pub mod Standing
 pub mod Courses
 pub mod Turns
 pub mod Answering

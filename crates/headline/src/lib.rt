@@ -5,7 +5,7 @@
 ghost use Rattle.protocol_model.specs.ClientLocks.{Exclusion};
 ghost use Rattle.protocol_model.specs.Headline.{Agreement};
 ghost use Rattle.headline.specs.Clauses.{HistoryGrows, HistoryIsLegal, HistoryFits, AnswersAreEntries, AnswersComeInTime, EntriesAreMadeAtHome, IsDecidedUnderLock, EachLookUpOnce, CallsAreAnsweredOnce, JoinersAreAnswered, ShowsWhenFree, ShowsWhenHeld, YesIsWritten, LeaveWaits, HolderHolds};
-ghost use Rattle.headline.specs.Tie.{TestAsksTheHeadline};
+ghost use Rattle.headline.specs.Tie.{TestAsksTheHeadline, HeadlineWhereTestPasses};
 ghost use Rattle.headline.specs.Laws.{OneHolder, OneOwnerAtEach, JoinedAgree, NoToTheTaken, YesToTheFreeOnly, YesStands, YesIsFound, RefusedChangesNothing, SpawnsGiveNew, FixedAgreement};
 
 /// All answers to name calls and joins are those of one sequential registry that takes the granted operations in lock order,
@@ -147,4 +147,9 @@ pub fn spawns_give_new()
 /// The test that rows are checked by asks the headline and no more: a list of events that fails it refutes the headline.
 pub fn test_asks_the_headline()
     ensures { TestAsksTheHeadline }
+{}
+
+/// Where the test passes, the headline stands as far as the nodes below the bound tell: so the test asks all of its clauses.
+pub fn headline_where_test_passes()
+    ensures { HeadlineWhereTestPasses }
 {}
