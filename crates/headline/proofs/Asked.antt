@@ -81,7 +81,8 @@ module _ (o : Opening) where
   -- what all running nodes of a group do
   pub group_from : (u : Standing) (a : ℕ) (passes : ℕ → Bool) →
       ((c : ℕ) → in_group u.registry a c ≡ true → IsRunning o u c → passes c ≡ true) → group_all o u a passes ≡ true
-  group_from u a passes h = is_empty_from o.bound _ (λ c l. guarded (in_group u.registry a c && is_running o u c) (passes c)
+  group_from u a passes h =
+      is_empty_from o.bound _ (λ c l. guarded (in_group u.registry a c && is_running o u c) (passes c)
       (λ e. let parts : (in_group u.registry a c ≡ true) × (is_running o u c ≡ true) = and_parts _ _ e in
       h c parts.0 (running u c parts.1)))
 

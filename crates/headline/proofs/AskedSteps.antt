@@ -37,7 +37,8 @@ looking (At a (Event.Calling (Call.LookUp look))) given es down l =
     rw (l.entered, l.answered) (and_from _ _ (and_from _ _ (Same.number a) (Same.look look))
     (Same.answer (answer_to a 0 l.reply)))
 looking (At a (Event.Calling Call.Spawn)) given es down l =
-    rw (l.entered, l.answered) (and_from _ _ (eq-eqb l.process.node a l.home) (Same.answer (answer_to a 0 (Pid l.process))))
+    rw (l.entered, l.answered)
+    (and_from _ _ (eq-eqb l.process.node a l.home) (Same.answer (answer_to a 0 (Pid l.process))))
 looking (At a (Event.Calling (Call.OnName c))) given es down l = rw (l.entered, l.answered) refl
 looking (At a (Event.Calling (Call.SetLock p r q target retries))) given es down l = rw (l.entered, l.answered) refl
 looking (At a (Event.Calling (Call.DelLock p r q target))) given es down l = rw (l.entered, l.answered) refl
@@ -48,7 +49,8 @@ looking (At a Event.Leave) given es down l = rw (l.entered, l.answered) refl
 looking (Deliver f t) given es down l = rw (l.entered, l.answered) refl
 
 -- answers under one number
-at_most_one : (calls : List Call) (a k : ℕ) (ss : List Answer) → AtMostOne calls a k ss → is_at_most_one calls k ss ≡ true
+at_most_one : (calls : List Call) (a k : ℕ) (ss : List Answer) → AtMostOne calls a k ss →
+    is_at_most_one calls k ss ≡ true
 at_most_one calls a k ss NotYet = refl
 at_most_one calls a k ss (Once call reply e m) = rw e m
 
@@ -77,13 +79,15 @@ joiner : (given : List Answer) (r : Registry) (m : ℕ) (x : Option Hold) →
     (r.left j ≡ true) ⊎ Contains given (answer_to j k Joined)) →
     is_joiner_answered given r m x ≡ true
 joiner given r m None h = refl
-joiner given r m (Some hold) h = where_so (hold.node == m) _ (λ own. of_entry (eqb-true hold.node m own) hold.entry refl)
+joiner given r m (Some hold) h =
+    where_so (hold.node == m) _ (λ own. of_entry (eqb-true hold.node m own) hold.entry refl)
   where
     answered : (j k : ℕ) → (r.left j ≡ true) ⊎ Contains given (answer_to j k Joined) →
         (r.left j || list_any (is_answer (answer_to j k Joined)) given) ≡ true
     answered j k (inl l) = or_left _ _ l
     answered j k (inr c) = or_right (r.left j) _
-        (any_from (is_answer (answer_to j k Joined)) given (answer_to j k Joined) c (Same.answer (answer_to j k Joined)))
+        (any_from (is_answer (answer_to j k Joined)) given (answer_to j k Joined) c
+        (Same.answer (answer_to j k Joined)))
 
     of_entry : hold.node ≡ m → (e : Entry) → hold.entry ≡ e → (elim e [
       | Entry.Join j k n Joined ↦ not (n == m) || (r.left j || list_any (is_answer (answer_to j k Joined)) given)
@@ -123,7 +127,8 @@ module _ (o : Opening) (before : List Played) (p : Played) (w : World)
   deciding = entries_from (decided_under_lock o w) t p.entries
       (λ earlier later e i. by earlier later e i (decided_by e) refl)
     where
-      by : (earlier later : List Entry) (e : Entry) → p.entries ≡ earlier ++ e ∷ later → (x : Option ℕ) → decided_by e ≡ x →
+      by : (earlier later : List Entry) (e : Entry) → p.entries ≡ earlier ++ e ∷ later → (x : Option ℕ) →
+          decided_by e ≡ x →
           decider_has_the_lock o w (fold after t earlier) x ≡ true
       by earlier later e i None k = refl
       by earlier later e i (Some a) k =

@@ -153,7 +153,8 @@ at_most_one calls a k [] e own = NotYet
 at_most_one calls a k (s ∷ []) e own =
     let (call, there, may) : (call : Call) × (slice_get calls (k - 1) ≡ Some call) × (may_have call s.reply ≡ true) =
     may_be (slice_get calls (k - 1)) s.reply e in
-    subst (λ (u : Answer). AtMostOne calls a k (u ∷ [])) (sym (own s (Contains-front s []))) (Once call s.reply there may)
+    subst (λ (u : Answer). AtMostOne calls a k (u ∷ [])) (sym (own s (Contains-front s [])))
+    (Once call s.reply there may)
 at_most_one calls a k (s ∷ t ∷ ss) e own = cc
 
 -- answers in time
@@ -213,7 +214,8 @@ module _ (o : Opening) where
   shown r a w e =
       let v : Replica = (w.node a).replica in
       let u : Replica = replica_of r a in
-      let one : (is_table v.table u.table && are_nodes o.bound v.members u.members && are_nodes o.bound v.told u.told ≡ true)
+      let one : (is_table v.table u.table && are_nodes o.bound v.members u.members && are_nodes o.bound v.told u.told
+      ≡ true)
       × (is_truth v.joined u.joined ≡ true) = and_parts _ _ e in
       let two : (is_table v.table u.table && are_nodes o.bound v.members u.members ≡ true)
       × (are_nodes o.bound v.told u.told ≡ true) = and_parts _ _ one.0 in

@@ -43,7 +43,8 @@ each_push P (x ∷ ps) p each one (b ∷ before) q later i =
     (λ c r l j. each (x ∷ c) r l (ap (λ (ds : List Played). x ∷ ds) j)) one before q later more)
 
 -- what stands of each step holds of each that is among them
-pub each_among : (Q : Played → Type 0) (ps : List Played) → EachStep ps (λ before p. Q p) → (p : Played) → Contains ps p →
+pub each_among : (Q : Played → Type 0) (ps : List Played) → EachStep ps (λ before p. Q p) → (p : Played) →
+    Contains ps p →
     Q p
 each_among Q ps each p c =
     let (before, later, e) : (before : List Played) × (later : List Played) × (ps ≡ before ++ p ∷ later) =
@@ -87,7 +88,8 @@ under-push a k ps p =
 under_own : (a k : ℕ) (ps : List Played) (s : Answer) → Contains (answers_under a k ps) s →
     (s.node ≡ a) × (s.number ≡ k)
 under_own a k ps s c =
-    let passes : Contains (answers_of ps) s × ((s.node == a) && (s.number == k) ≡ true) = filtered _ (answers_of ps) s c in
+    let passes : Contains (answers_of ps) s × ((s.node == a) && (s.number == k) ≡ true) =
+    filtered _ (answers_of ps) s c in
     let parts : ((s.node == a) ≡ true) × ((s.number == k) ≡ true) = and_parts _ _ passes.1 in
     (eqb-true s.node a parts.0, eqb-true s.number k parts.1)
 
@@ -104,7 +106,8 @@ once_more : (ps : List Played) (p : Played) → list_all (answers_call (ps ++ p 
 once_more ps p passes a k l before = go (filter (λ s. (s.node == a) && (s.number == k)) p.answers) refl
   where
     calls : calls_at a (ps ++ p ∷ []) ≡ calls_at a ps ++ calls_in a p
-    calls = flat_map-append (calls_in a) ps (p ∷ []) ∙ ap (λ (cs : List Call). calls_at a ps ++ cs) (append-nil (calls_in a p))
+    calls = flat_map-append (calls_in a) ps (p ∷ [])
+        ∙ ap (λ (cs : List Call). calls_at a ps ++ cs) (append-nil (calls_in a p))
 
     go : (new : List Answer) → filter (λ s. (s.node == a) && (s.number == k)) p.answers ≡ new →
         AtMostOne (calls_at a (ps ++ p ∷ [])) a k (answers_under a k (ps ++ p ∷ []))
@@ -132,7 +135,8 @@ once_more ps p passes a k l before = go (filter (λ s. (s.node == a) && (s.numbe
               | inl z ↦ let zero_is : s.number ≡ 0 = eqb-true s.number 0 z in
                   let k_is : s.number ≡ k = eqb-true s.number k own.1 in
                   absurd (omega arith)
-              | inr h ↦ subst (λ (b : ℕ). is_at_most_one (calls_at b (ps ++ p ∷ [])) k (answers_under b k (ps ++ p ∷ [])) ≡ true)
+              | inr h ↦ subst (λ (b : ℕ). is_at_most_one (calls_at b (ps ++ p ∷ [])) k
+                  (answers_under b k (ps ++ p ∷ [])) ≡ true)
                   (eqb-true s.node a own.0)
                   (subst (λ (m : ℕ). is_at_most_one (calls_at s.node (ps ++ p ∷ [])) m
                   (answers_under s.node m (ps ++ p ∷ [])) ≡ true) (eqb-true s.number k own.1) h)
@@ -249,7 +253,8 @@ module _ (o : Opening) where
   reach ps w e None r A h =
       let parts : (step_stands o ps (ps ++ played o w e ∷ []) (standing o ps) (played o w e)
       (fold after (standing o ps) (played o w e).entries) (happens o w e) ≡ true)
-      × (stands o (ps ++ played o w e ∷ []) (fold after (standing o ps) (played o w e).entries) (happens o w e) ≡ true) =
+      × (stands o (ps ++ played o w e ∷ []) (fold after (standing o ps) (played o w e).entries) (happens o w e)
+      ≡ true) =
       and_parts _ _ h in (
         ap₂ (λ (u : Standing) (b : Bool). let k : Checked = record {
           plays = ps ++ played o w e ∷ [];
@@ -278,7 +283,8 @@ module _ (o : Opening) where
     where
       more : (es : List WorldEvent) (e : WorldEvent) →
           ((fold (checked o) (opening_check o) es).keeps ≡ true →
-          Reached (course o (opening_world o) es) (run o (opening_world o) es) (fold (checked o) (opening_check o) es)) →
+          Reached (course o (opening_world o) es) (run o (opening_world o) es)
+          (fold (checked o) (opening_check o) es)) →
           (fold (checked o) (opening_check o) (es ++ e ∷ [])).keeps ≡ true →
           Reached (course o (opening_world o) (es ++ e ∷ [])) (run o (opening_world o) (es ++ e ∷ []))
           (fold (checked o) (opening_check o) (es ++ e ∷ []))
@@ -286,7 +292,8 @@ module _ (o : Opening) where
           subst (Reached (course o (opening_world o) (es ++ e ∷ [])) (run o (opening_world o) (es ++ e ∷ []))) (sym one)
           (subst (λ (v : World). Reached (course o (opening_world o) (es ++ e ∷ [])) v (checked o k e))
           (sym (run-push o (opening_world o) es e))
-          (subst (λ (qs : List Played). Reached qs (happens o w e) (checked o k e)) (sym (course-push o (opening_world o) es e))
+          (subst (λ (qs : List Played). Reached qs (happens o w e) (checked o k e))
+          (sym (course-push o (opening_world o) es e))
           (subst (λ (c : Checked). Reached (ps ++ (if is_none (refusal o w e) then played o w e ∷ [] else []))
           (happens o w e) (checked o c e)) (sym here.0)
           (reach ps w e (refusal o w e) refl here.1

@@ -73,7 +73,8 @@ module _ (o : Opening) where
       } in k) (between o [] (opening_world o) (h [] ([], refl)))
 
       more : (es : List WorldEvent) (e : WorldEvent) →
-          (AllFirst es → fold (checked o) (opening_check o) es ≡ passed (course o (opening_world o) es) (run o (opening_world o) es)) →
+          (AllFirst es → fold (checked o) (opening_check o) es
+          ≡ passed (course o (opening_world o) es) (run o (opening_world o) es)) →
           AllFirst (es ++ e ∷ []) →
           fold (checked o) (opening_check o) (es ++ e ∷ [])
           ≡ passed (course o (opening_world o) (es ++ e ∷ [])) (run o (opening_world o) (es ++ e ∷ []))

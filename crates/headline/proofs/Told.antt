@@ -92,7 +92,8 @@ answer s t e =
     let parts : ((s.node == t.node) && (s.number == t.number) ≡ true) × (is_reply s.reply t.reply ≡ true) =
     and_parts _ _ e in
     let more : ((s.node == t.node) ≡ true) × ((s.number == t.number) ≡ true) = and_parts _ _ parts.0 in
-    answer_by s t (number s.node t.node more.0) (number s.number t.number more.1) (is_reply-true s.reply t.reply parts.1)
+    answer_by s t (number s.node t.node more.0) (number s.number t.number more.1)
+    (is_reply-true s.reply t.reply parts.1)
 
 pub entry : (e f : Entry) → is_entry e f ≡ true → e ≡ f
 entry (Entry.Name a k c x) (Entry.Name b l d y) e =

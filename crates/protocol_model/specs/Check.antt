@@ -19,11 +19,12 @@ use Rattle.protocol_model.specs.Answers.{answer_to, answers_at, entered_at, is_p
 use Rattle.protocol_model.specs.Script.{Row, output, events}
 use Rattle.protocol_model.specs.Tests.{are_nodes, is_list, is_prefix, is_replica, is_numbered_call, is_look, is_answer, are_entries}
 
--- at each node the name and join calls are decided in the order in which it accepted them, and what happens at once is entered
--- in order
+-- at each node the name and join calls are decided in the order in which it accepted them, and what happens at once is
+-- entered in order
 abbrev pub fits : Opening → List Played → Bool
 fits o ps =
-    is_empty o.bound (λ a. not (is_prefix is_numbered_call (flat_map (decided_at a) (entries_of ps)) (accepted_at a ps)))
+    is_empty o.bound
+    (λ a. not (is_prefix is_numbered_call (flat_map (decided_at a) (entries_of ps)) (accepted_at a ps)))
     && are_entries (filter is_exit (entries_of ps)) (flat_map exit_of ps)
     && are_entries (filter is_left (entries_of ps)) (flat_map left_of ps)
     && are_entries (filter is_told (entries_of ps)) (flat_map told_of ps)
@@ -184,7 +185,8 @@ module _ (o : Opening) where
   -- all that stands between events
   abbrev pub stands : List Played → Standing → World → Bool
   stands ps u w =
-      keeps_history ps w && fits o ps && keeps_replies ps && keeps_free_and_held u w && keeps_leave u w && keeps_holder u w
+      keeps_history ps w && fits o ps && keeps_replies ps && keeps_free_and_held u w && keeps_leave u w
+      && keeps_holder u w
 
   -- all that stands of a step; before: the steps before it
   abbrev pub step_stands : List Played → List Played → Standing → Played → Standing → World → Bool
@@ -205,7 +207,8 @@ module _ (o : Opening) where
 
   -- what was played is checked
   abbrev pub check_played : Checked → WorldEvent → Played → Checked
-  check_played so_far e p = checked_to so_far p (so_far.plays ++ p ∷ []) (fold after so_far.standing p.entries) (happens o so_far.world e)
+  check_played so_far e p =
+      checked_to so_far p (so_far.plays ++ p ∷ []) (fold after so_far.standing p.entries) (happens o so_far.world e)
 
   -- a refused event changes nothing
   abbrev pub check_event : Checked → WorldEvent → Option Refusal → Checked

@@ -1,7 +1,7 @@
 -- What is seen of a world from outside: the events that it accepted, with what each brought, and what it shows now.
--- Here and in Fit, Answers, Headline and Check o is the opening, w a world, e an event or an entry, ps the steps so far and p one
--- of them, t and u how things stand before and behind it, s an answer, a to d, j, m and n nodes (j a joiner, m its contact, d one
--- that left), k the number of a call.
+-- Here and in Fit, Answers, Headline and Check o is the opening, w a world, e an event or an entry, ps the steps so far
+-- and p one of them, t and u how things stand before and behind it, s an answer, a to d, j, m and n nodes (j a joiner,
+-- m its contact, d one that left), k the number of a call.
 use Rattle.std.specs.Prelude.{ℕ, Bool, false, Option, is_none, flat_map, List, [], ◌∷◌, ◌++◌, if◌then◌else◌}
 use Rattle.std.specs.List.{list_any}
 use Rattle.registry_model.specs.Process.{Nodes}
@@ -19,8 +19,8 @@ pub record Played : Type 0 where
   pub entries : List Entry
   pub down : Bool
 
--- what a world shows of itself; given c a: node c has given the global lock to a; refusal e: why it would refuse e now, if
--- it would
+-- what a world shows of itself; given c a: node c has given the global lock to a; refusal e: why it would refuse e now,
+-- if it would
 pub record Seen : Type 0 where
   pub history : List Entry
   pub node : ℕ → Replica

@@ -41,7 +41,8 @@ is_table t u = is_list is_pair t u
 -- whether two replicas are one, as far as the nodes below n
 abbrev pub is_replica : ℕ → Replica → Replica → Bool
 is_replica n v u =
-    is_table v.table u.table && are_nodes n v.members u.members && are_nodes n v.told u.told && is_truth v.joined u.joined
+    is_table v.table u.table && are_nodes n v.members u.members && are_nodes n v.told u.told
+    && is_truth v.joined u.joined
 
 -- whether two name calls are one
 abbrev pub is_call : NameCall → NameCall → Bool

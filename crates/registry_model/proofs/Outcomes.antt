@@ -124,7 +124,8 @@ carried_law cluster h l before later n k call reply s =
     let said : IsReplyTo (members t.registry n) (view t.registry n) call reply =
     (reply_law (members t.registry n) (view t.registry n) call reply).1 a.answer in
     let here : IsReplyTo (members (registry_of cluster before) n) (view (registry_of cluster before) n) call reply =
-    subst (λ (r : Registry). IsReplyTo (members r n) (view r n) call reply) (registry-standing_of cluster before) said in
+    subst (λ (r : Registry). IsReplyTo (members r n) (view r n) call reply)
+    (registry-standing_of cluster before) said in
     subst (λ (r : Registry). IsDecided (registry_of cluster before) r n call reply)
     (sym (registry_of-push cluster before (Name n k call reply)))
     (decided (registry_of cluster before) n k call reply (Rises-registry_of cluster before) here)

@@ -28,8 +28,8 @@ abbrev pub YesToTheFree : Nodes → List Entry → Type 0
 YesToTheFree cluster h = (before later : List Entry) (n k : ℕ) (x : Text) (p : Process) →
     h ≡ before ++ Name n k (Register x p) Yes ∷ later → IsFreeFor (registry_of cluster before) n x p
 
--- node n decides a name call with this reply: the reply is that of n's members and view, the table of n's group is what the
--- call makes of it, and all else stays
+-- node n decides a name call with this reply: the reply is that of n's members and view, the table of n's group is what
+-- the call makes of it, and all else stays
 pub record IsDecided (before after : Registry) (n : ℕ) (call : NameCall) (reply : Reply) : Type 0 where
   pub answer : IsReplyTo (members before n) (view before n) call reply
   pub here : (a : ℕ) → in_group before a n ≡ true → IsCarriedOut (table_of before a) (table_of after a) call reply
@@ -97,7 +97,8 @@ HoldsUntilDone cluster h = (before later : List Entry) (e : Entry) (a : ℕ) →
     h ≡ before ++ e ∷ later → granted_to e ≡ Some a → (Contains later (Done a) → ⊥) →
     (hold : Hold) × (hold_at (standing_of cluster h) a ≡ Some hold) × (hold.node ≡ a) × (hold.entry ≡ e)
 
--- the operation that holds has its entry between these and isn't done, and the registry kept beside it is that of the others
+-- the operation that holds has its entry between these and isn't done, and the registry kept beside it is that of the
+-- others
 pub record IsLeftOut (cluster : Nodes) (h : List Entry) (hold : Hold) : Type 0 where
   pub before : List Entry
   pub later : List Entry

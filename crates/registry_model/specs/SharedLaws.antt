@@ -55,8 +55,8 @@ IsChanged (Put x p) = IsGiven x (Some p)
 IsChanged (Remove x) = IsGiven x None
 IsChanged (StrikeOwner p) = IsStruck p
 
--- What a name call with this reply makes of the table of its group: `yes` gives the name to the owner, `ok` to nobody, and
--- all that is refused leaves the table
+-- What a name call with this reply makes of the table of its group: `yes` gives the name to the owner, `ok` to nobody,
+-- and all that is refused leaves the table
 pub data IsCarriedOut (before after : Table) : NameCall → Reply → Type 0 where
   Registered : (x : Text) (p : Process) → IsGiven x (Some p) before after → IsCarriedOut before after (Register x p) Yes
   Reregistered : (x : Text) (p : Process) → IsGiven x (Some p) before after →
