@@ -1,8 +1,8 @@
 -- Who owns a name after a change, and the least owner among serials.
-use Rattle.std.proofs.Common.{ℕ, Bool, true, false, ◌==◌, ◌≡◌, ◌<◌, ◌≤◌, Option, Some, None, List, [], ◌∷◌, filter, refl, sym, ap, ◌∙◌, subst, inl, inr, arith}
-use Rattle.std.specs.Prelude.{if◌then◌else◌, not, ◌||◌, ◌&&◌, nat_lt}
+use Rattle.std.proofs.Common.{ℕ, Bool, true, false, ◌==◌, ◌≡◌, ◌≤◌, Option, Some, None, List, [], ◌∷◌, filter, refl, sym, ap, subst, inl, inr, arith}
+use Rattle.std.specs.Prelude.{if◌then◌else◌, not, ◌||◌, nat_lt}
 use Rattle.std.specs.List.{list_any}
-use Rattle.std.proofs.lemmas.Bool.{cases_eq, cases_lt, eq-eqb, eqb-true, ne_eqb, lt-ltb, le-ltb, ltb-true}
+use Rattle.std.proofs.lemmas.Bool.{cases_lt, eq-eqb, eqb-true, lt-ltb, ltb-true}
 use Rattle.registry_model.specs.Process.{Text, Process, is_process}
 use Rattle.registry_model.specs.Table.{Pair, Table, owns, put, Change, Put, Remove, StrikeOwner, changed}
 use Rattle.name_table.specs.Changes.{is_put}

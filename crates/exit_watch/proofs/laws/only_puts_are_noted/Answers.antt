@@ -1,4 +1,3 @@
-use Rattle.std.proofs.Common.{◌==◌}
 use Rattle.std.specs.Prelude.{not}
 use Rattle.exit_watch.specs.Held.{process_of}
 use Rattle.exit_watch.proofs.Owners.{owns-changed, owns-filter}

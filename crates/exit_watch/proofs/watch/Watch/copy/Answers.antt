@@ -1,4 +1,4 @@
-use Rattle.std.proofs.Common.{ℕ, List, ◌≡◌, ◌==◌, ◌∙◌, sym, ap}
+use Rattle.std.proofs.Common.{ℕ, List, ◌==◌, ◌∙◌, sym, ap}
 use Rattle.std.specs.List.{list_any}
 use Rattle.std.proofs.Math.Path.{ap₂}
 use Rattle.exit_watch.specs.Held.{Held}

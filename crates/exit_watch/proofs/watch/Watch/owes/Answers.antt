@@ -1,4 +1,4 @@
-use Rattle.std.proofs.Common.{ℕ, Some, None, ◌≡◌, ◌∙◌, true, sym, ap, subst}
+use Rattle.std.proofs.Common.{ℕ, Some, ◌∙◌, sym, ap}
 use Rattle.std.proofs.Math.Path.{ap₂}
 use Rattle.std.specs.Option.{option_map}
 use Rattle.registry_model.specs.Process.{Process}
