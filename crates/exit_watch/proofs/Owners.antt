@@ -65,7 +65,8 @@ is_in ss s = list_any (λ d. d == s) ss
 pub least_owner-owns : (a : ℕ) (t : Table) (ss : List ℕ) (s : ℕ) → least_owner a t ss ≡ Some s →
     (is_in ss s ≡ true) × (owns (process_at a s) t ≡ true)
 least_owner-owns a t [] s h = cc
-least_owner-owns a t (x ∷ ss) s h = go (owns (process_at a x) t) refl h (least_owner a t ss) refl (least_owner-owns a t ss)
+least_owner-owns a t (x ∷ ss) s h =
+    go (owns (process_at a x) t) refl h (least_owner a t ss) refl (least_owner-owns a t ss)
   where
     Found : ℕ → Type 0
     Found r = (is_in (x ∷ ss) r ≡ true) × (owns (process_at a r) t ≡ true)
@@ -139,4 +140,5 @@ least_owner-least a t (x ∷ ss) s l o =
         (lesser x (least_owner a t ss), refl, omega (arith, lesser-first x (least_owner a t ss), eqb-true x s i))
     go true e false i k h =
         let (r, q, m) = h k in
-        (lesser x (least_owner a t ss), refl, omega (arith, subst (λ (p : Option ℕ). lesser x p ≤ r) (sym q) (lesser-other x r)))
+        let less : lesser x (least_owner a t ss) ≤ r = subst (λ (p : Option ℕ). lesser x p ≤ r) (sym q) (lesser-other x r) in
+        (lesser x (least_owner a t ss), refl, omega arith)

@@ -35,7 +35,8 @@ pub as_many : (n k : ℕ) (ds : List ℕ) → ((j : ℕ) → k ≤ j → j < k +
 as_many zero k ds h = omega arith
 as_many (suc n) k ds h =
     let others : n ≤ length (filter (λ d. not (d == k)) ds) =
-    as_many n (k + 1) (filter (λ d. not (d == k)) ds) (λ j l u. kept j (omega arith) ∙ h j (omega arith) (omega arith)) in
+    as_many n (k + 1) (filter (λ d. not (d == k)) ds)
+    (λ j l u. kept j (omega arith) ∙ h j (omega arith) (omega arith)) in
     omega (arith, others, fewer k ds (h k (omega arith) (omega arith)))
   where
     kept : (j : ℕ) → k < j → list_any (λ d. d == j) (filter (λ d. not (d == k)) ds) ≡ list_any (λ d. d == j) ds
@@ -49,7 +50,8 @@ module _ (w : Watch) where
   AreDeadTo k s = (j : ℕ) → k ≤ j → j < s → is_dead w j ≡ true
 
   -- the first that lives is found, where it isn't too far off
-  pub first_live-is : (most k s : ℕ) → k ≤ s → s ≤ k + most → AreDeadTo k s → is_dead w s ≡ false → first_live most w k ≡ s
+  pub first_live-is : (most k s : ℕ) → k ≤ s → s ≤ k + most → AreDeadTo k s → is_dead w s ≡ false →
+      first_live most w k ≡ s
   first_live-is zero k s l u dead live = omega arith
   first_live-is (suc most) k s l u dead live = elim (cases_eq k s) [
     | inl i ↦ rw (ap (is_dead w) i ∙ live) i

@@ -19,7 +19,8 @@ at_is : (q k : ℕ) → is_at (nat_cmp q) k ≡ (k == q)
 at_is q k = elim (cases_order q k) [
   | inl i ↦ rw (le-ltb q k (omega arith), eq-eqb q k i, eq-eqb k q (sym i)) refl
   | inr (inl l) ↦ rw (lt-ltb q k l, ne_eqb k q (λ i. absurd (omega arith))) refl
-  | inr (inr g) ↦ rw (le-ltb q k (omega arith), ne_eqb q k (λ i. absurd (omega arith)), ne_eqb k q (λ i. absurd (omega arith))) refl
+  | inr (inr g) ↦ rw (le-ltb q k (omega arith))
+      (rw (ne_eqb q k (λ i. absurd (omega arith)), ne_eqb k q (λ i. absurd (omega arith))) refl)
 ]
 
 -- who isn't greater is less, or the same

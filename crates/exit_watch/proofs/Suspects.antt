@@ -37,7 +37,8 @@ pub record IsNoted (h k : Held) (s : ℕ) : Type 0 where
   pub suspects : (q : ℕ) → is_suspect k q ≡ ((q == s) || is_suspect h q)
 
 -- it is so after an insertion
-pub inserted : (h k : Held) (s : ℕ) (old new : BTreeSet ℕ) → h.suspects ≡ old.keys → k.suspects ≡ new.keys → k.node ≡ h.node →
+pub inserted : (h k : Held) (s : ℕ) (old new : BTreeSet ℕ) → h.suspects ≡ old.keys → k.suspects ≡ new.keys →
+    k.node ≡ h.node →
     ((q : ℕ) → contains nat_cmp new q ≡ cond (is_at (nat_cmp s) q) true (contains nat_cmp old q)) → IsNoted h k s
 inserted h k s old new a b e u = record {
   node = e;
@@ -76,7 +77,8 @@ module _ (h k : Held) (s : ℕ) (n : IsNoted h k s) where
       where
         go : (b : Bool) → is_dead h.watch q ≡ b → (c : Bool) → (s == q) ≡ c → (b || (c || false)) ≡ true →
             is_suspect k q ≡ true
-        go true e c i f = stays q (sus q e (subst (λ (a : ℕ). owns (record { node = a; serial = q }) t ≡ true) n.node o))
+        go true e c i f =
+            stays q (sus q e (subst (λ (a : ℕ). owns (record { node = a; serial = q }) t ≡ true) n.node o))
         go false e true i f = subst (λ (r : ℕ). is_suspect k r ≡ true) (eqb-true s q i) joins
         go false e false i f = absurd cc
 
@@ -107,11 +109,14 @@ module _ (h k : Held) (s : ℕ) (n : IsNoted h k s) where
       | inr e ↦ was q e
     ])
 
-    pub noted-put : (p : Process) → p.serial ≡ s → (x : Text) (t : Table) → AreSuspected h t → AreSuspected k (put x p t)
+    pub noted-put : (p : Process) → p.serial ≡ s → (x : Text) (t : Table) → AreSuspected h t →
+        AreSuspected k (put x p t)
     noted-put p i x t sus q dead o = go (is_process p (process_of k q)) refl
       where
         go : (b : Bool) → is_process p (process_of k q) ≡ b → is_suspect k q ≡ true
-        go true e = subst (λ (r : ℕ). is_suspect k r ≡ true) (sym i ∙ eqb-true p.serial q (and_parts (p.node == k.node) (p.serial == q) e).1) joins
+        go true e =
+            let (a, j) = and_parts (p.node == k.node) (p.serial == q) e in
+            subst (λ (r : ℕ). is_suspect k r ≡ true) (sym i ∙ eqb-true p.serial q j) joins
         go false e = noted-keeps t sus q dead (owns-put (process_of k q) x p t e o)
 
 -- a put for another process than the dead of this node makes no suspect

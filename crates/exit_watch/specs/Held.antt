@@ -36,6 +36,6 @@ AreSuspected h t = (s : ℕ) → is_dead h.watch s ≡ true → owns (process_of
 abbrev pub AreDead : Held → Type 0
 AreDead h = (s : ℕ) → is_suspect h s ≡ true → is_dead h.watch s ≡ true
 
--- who is suspected with the one watch is so with the other, in every table
+-- in each table whose dead owners are all suspects of the one watch, they are all suspects of the other
 abbrev pub KeepsSuspects : Held → Held → Type 0
 KeepsSuspects h k = (t : Table) → AreSuspected h t → AreSuspected k t

@@ -1,5 +1,5 @@
-//! The watch of one node over its processes: who was spawned, who is dead, and whose names are owed a strike. A step costs
-//! no more for the processes that died before it.
+//! The watch of one node over its processes: who was spawned, who is dead, and whose names are owed a strike. A step
+//! costs no more for the processes that died before it.
 #![tactic(auto)]
 
 mod faults;

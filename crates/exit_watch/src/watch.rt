@@ -173,8 +173,8 @@ impl Watch {
         Ok(())
     }
 
-    /// The process of the least dead serial that owns a name in the table, if there is one: its strike is owed. Suspects
-    /// that own none are so no more. It takes no memory.
+    /// The process of the least dead serial that owns a name in the table, if there is one: its strike is owed.
+    /// Suspects that own none are so no more. It takes no memory.
     pub fn owes<N: Names>(&mut self, names: &N) -> Option<Pid>
         requires { AreSuspected self.old (N.contents names.now) }
         ensures owed { result

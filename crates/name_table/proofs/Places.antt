@@ -194,7 +194,8 @@ remove-below x (e ∷ t) r b =
     (ap (λ (u : Table). e ∷ u) (remove-below x t parts.1 (is_below-less e.name x t l parts.0)))
 
 -- a removal as the code makes it: what stands at its place goes, or nothing does
-pub remove_stands : (x : Text) (t : Table) → is_rising t ≡ true → stands x t (place x t) ≡ true → remove_at t (place x t) ≡ remove x t
+pub remove_stands : (x : Text) (t : Table) → is_rising t ≡ true → stands x t (place x t) ≡ true
+    → remove_at t (place x t) ≡ remove x t
 remove_stands x [] r h = cc
 remove_stands x (e ∷ t) r h = elim (cases_order x e.name) [
   | inl i ↦ rw (eq-eqb e.name x (sym i), le-ltb e.name x (omega arith))

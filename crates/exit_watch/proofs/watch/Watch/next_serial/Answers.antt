@@ -10,15 +10,16 @@ returns-in_err-first c =
     let last = ap (λ (h : Held). h.watch.last_serial) c.self.view_is in
     let w = c.args.self.now.watch in
     let over : 4294967295 < w.last_serial + 1 = omega (arith, last, c.in_err-first.ensures) in
-    c.from_residual.ensures ∙ sym (serial_left-none w (w.last_serial + 1) (omega arith) over (λ j l u. absurd (omega arith)))
+    c.from_residual.ensures
+    ∙ sym (serial_left-none w (w.last_serial + 1) (omega arith) over (λ j l u. absurd (omega arith)))
 
 pub returns-then-not-is_dead : goal.returns-then-not-is_dead
 returns-then-not-is_dead c =
     let last = ap (λ (h : Held). h.watch.last_serial) c.self.view_is in
     let w = c.args.self.now.watch in
     sym (serial_left-some w c.loop-serial.serial
-    (omega (arith, last, c.in_ok-first.ensures, c.loop-serial.auto.serial)) c.loop-serial-test.true c.loop-serial.invariant
-    (sym c.is_dead.ensures ∙ c.if-not-is_dead.true))
+    (omega (arith, last, c.in_ok-first.ensures, c.loop-serial.auto.serial)) c.loop-serial-test.true
+    c.loop-serial.invariant (sym c.is_dead.ensures ∙ c.if-not-is_dead.true))
 
 pub returns-else-not-is_dead : goal.returns-else-not-is_dead
 returns-else-not-is_dead c =

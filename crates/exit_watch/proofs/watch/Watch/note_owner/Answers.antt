@@ -36,7 +36,8 @@ invariant_of-self-then-is_dead c =
 pub returns-else-eq-clause-ok : goal.returns-else-eq-clause-ok
 returns-else-eq-clause-ok c = put-keeps c.args.self.now c.args.owner.now other
   where
-    other : ((c.args.owner.now.node == c.args.self.now.node) && is_dead c.args.self.now.watch c.args.owner.now.serial) ≡ false
+    other : ((c.args.owner.now.node == c.args.self.now.node)
+        && is_dead c.args.self.now.watch c.args.owner.now.serial) ≡ false
     other = elim c.else-eq.branch [
       | else-eq-via-then-eq+else-is_dead w ↦ right _ _
           (ap (λ (p : Process). is_dead c.args.self.now.watch p.serial) (sym c.owner.view_is)

@@ -22,7 +22,8 @@ returns-then-is_some-clause-owed g c =
     let owner = ap (λ (p : Process). owns p t) (sym c.process-process.ensures) ∙ sym c.owned_by.ensures.some
     ∙ sym c.is_some.ensures ∙ c.if-is_some.true in
     let first = owed-first h t s at.suspected dead owner
-    (λ r e. not_greater s r (c.in-Some.ensures.least r (any-at keys r ∙ ap (λ (k : Held). is_suspect k r) c.self.view_is ∙ e))) in
+    (λ r e. not_greater s r (c.in-Some.ensures.least r
+    (any-at keys r ∙ ap (λ (k : Held). is_suspect k r) c.self.view_is ∙ e))) in
     ap Some (c.process-process.ensures ∙ ap (λ (n : ℕ). let p : Process = record { node = n; serial = s } in p) at.node)
     ∙ ap (option_map (process_of a)) (sym first ∙ ap₂ (λ (n : ℕ) (w : Watch). owed n t w) at.node at.watch)
 

@@ -9,4 +9,5 @@ invariant_of-self-in-Remove g c =
 
 pub invariant_of-self-in-StrikeOwner : goal.invariant_of-self-in-StrikeOwner
 invariant_of-self-in-StrikeOwner g c =
-    ap is_rising c.strike_in.ensures ∙ is_rising-strike c.in-StrikeOwner.owner c.self.inside.pairs.items c.self.invariant
+    ap is_rising c.strike_in.ensures
+    ∙ is_rising-strike c.in-StrikeOwner.owner c.self.inside.pairs.items c.self.invariant
