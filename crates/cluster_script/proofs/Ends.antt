@@ -3,13 +3,13 @@ use Rattle.std.proofs.Common.{ℕ, Bool, List, [], ◌∷◌, ◌++◌, ◌≡�
 use Rattle.term.specs.declared.faults.TextFault.{TextFault}
 use Rattle.term.specs.Laws.{IsExact}
 use Rattle.term.specs.Spelling.{SpellsText, RefusesText}
-use Rattle.cluster_script.specs.declared.faults.LineFault.{LineFault}
-use Rattle.cluster_script.specs.declared.faults.ScriptFault.TheVariants.{TooManyLines}
-use Rattle.cluster_script.specs.Lines.{count_of, count_of_all, spoken}
-use Rattle.cluster_script.specs.Words.{words}
-use Rattle.cluster_script.specs.Commands.{unread}
+use Rattle.command_lines.specs.declared.faults.LineFault.{LineFault}
+use Rattle.command_lines.specs.declared.faults.ScriptFault.TheVariants.{TooManyLines}
+use Rattle.command_lines.specs.Lines.{count_of, count_of_all, spoken}
+use Rattle.command_lines.specs.Words.{words}
+use Rattle.command_lines.specs.Commands.{unread}
 use Rattle.cluster_script.specs.Script.{AllSpell, ReadsTexts, OpensIn, OpensUnless, PrintsOn, Ran, Stopped, cluster_texts, started}
-use Rattle.cluster_script.proofs.Known.{spoken-append, count_of_all-append}
+use Rattle.command_lines.proofs.Known.{spoken-append, count_of_all-append}
 
 -- lines that count for less than the first ones and the next are some of the first ones
 some_first : (xs ys zs ws : List (List ℕ)) (line : List ℕ) → xs ++ ys ≡ zs ++ line ∷ ws → count_of_all xs < count_of_all (zs ++ line ∷ [])

@@ -5,13 +5,13 @@ use Rattle.std.proofs.lemmas.List.{take-append-drop}
 use Rattle.term.specs.Spelling.{SpellsText}
 use Rattle.cluster_world.specs.Starting.{start_refused}
 use Rattle.cluster_world.specs.declared.events.StartFault.{StartFault}
-use Rattle.cluster_script.specs.declared.faults.LineFault.{LineFault}
+use Rattle.command_lines.specs.declared.faults.LineFault.{LineFault}
 use Rattle.std.specs.Prelude.{bytes_eq, codes, not, if◌then◌else◌, IfOk}
 use Rattle.cluster_world.specs.Held.{Held}
-use Rattle.cluster_script.specs.declared.lines.Line.{Line}
-use Rattle.cluster_script.specs.Lines.{IsKept}
-use Rattle.cluster_script.specs.Words.{words}
-use Rattle.cluster_script.specs.Commands.{unread}
+use Rattle.command_lines.specs.declared.lines.Line.{Line}
+use Rattle.command_lines.specs.Lines.{IsKept}
+use Rattle.command_lines.specs.Words.{words}
+use Rattle.command_lines.specs.Commands.{unread}
 use Rattle.cluster_script.specs.Script.{AllSpell, started_unless, started, Opened, OpensIn, OpensUnless, LineOpens, cluster_texts}
 
 -- a world that isn't refused

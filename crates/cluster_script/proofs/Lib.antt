@@ -1,6 +1,4 @@
 mod Known
-mod Parts
-mod Texts
 mod Writing
 mod Playing
 mod Nodes

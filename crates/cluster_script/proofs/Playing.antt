@@ -18,8 +18,8 @@ use Rattle.node_core.specs.declared.events.Answer.{Answer}
 use Rattle.cluster_world.specs.declared.events.WorldEvent.{WorldEvent}
 use Rattle.cluster_world.specs.declared.events.Event.TheVariants as event
 use Rattle.cluster_world.specs.declared.events.WorldEvent.TheVariants.{At, Deliver}
-use Rattle.cluster_script.specs.declared.faults.LineFault.{LineFault}
-use Rattle.cluster_script.specs.Printing.{answers_text, output_line, shown_text, error_line, word_of, refusal_word, is_fine, Shown, Shows}
+use Rattle.command_lines.specs.declared.faults.LineFault.{LineFault}
+use Rattle.command_lines.specs.Printing.{answers_text, output_line, shown_text, error_line, word_of, refusal_word, is_fine, Shown, Shows}
 use Rattle.cluster_script.specs.Script.{shown, settle_limit}
 use Rattle.cluster_script.specs.Played.{PlaysLine, shown_on}
 

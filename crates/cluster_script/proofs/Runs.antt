@@ -7,18 +7,20 @@ use Rattle.protocol_model.specs.World.{Opening, World}
 use Rattle.protocol_model.specs.Script.{Line as ScriptLine}
 use Rattle.cluster_world.specs.Held.{Held}
 use Rattle.cluster_world.specs.Seen.{opening_of, seen}
-use Rattle.cluster_script.specs.declared.faults.LineFault.{LineFault}
-use Rattle.cluster_script.specs.declared.faults.LineFault.TheVariants.{BadLine}
-use Rattle.cluster_script.specs.declared.faults.ScriptFault.{ScriptFault}
-use Rattle.cluster_script.specs.declared.faults.ScriptFault.TheVariants as fault
-use Rattle.cluster_script.specs.declared.faults.WriteFault.{WriteFault}
-use Rattle.cluster_script.specs.declared.faults.WriteFault.TheVariants as write
-use Rattle.cluster_script.specs.Lines.{spoken, LosesLines, LosesInto, count_of_all, GoesPast, MayEndIn}
-use Rattle.cluster_script.specs.Printing.{Shown, Refuses, error_line, word_of}
-use Rattle.cluster_script.specs.Script.{AppendsPart, HasLines, AllAsk, shown_all, Prints, PrintsOn, PrintsSpoken, OpensNone, Ran, Stopped, StoppedBetween, StoppedWithin, LineOpens, Opened, opening_for, stop_of}
+use Rattle.command_lines.specs.declared.faults.LineFault.{LineFault}
+use Rattle.command_lines.specs.declared.faults.LineFault.TheVariants.{BadLine}
+use Rattle.command_lines.specs.declared.faults.ScriptFault.{ScriptFault}
+use Rattle.command_lines.specs.declared.faults.ScriptFault.TheVariants as fault
+use Rattle.command_lines.specs.declared.faults.WriteFault.{WriteFault}
+use Rattle.command_lines.specs.declared.faults.WriteFault.TheVariants as write
+use Rattle.command_lines.specs.Lines.{spoken, LosesLines, LosesInto, count_of_all, GoesPast, MayEndIn}
+use Rattle.command_lines.specs.Printing.{Shown, Refuses, error_line, word_of}
+use Rattle.command_lines.specs.Lines.{HasLines}
+use Rattle.command_lines.specs.Writing.{AppendsPart, stop_of}
+use Rattle.cluster_script.specs.Script.{AllAsk, shown_all, Prints, PrintsOn, PrintsSpoken, OpensNone, Ran, Stopped, StoppedBetween, StoppedWithin, LineOpens, Opened, opening_for}
 use Rattle.cluster_script.specs.Played.{ReadsOn, LosesNext, StopsReading, StopsPlaying, PlaysSome, PlaysAll}
 use Rattle.std.proofs.KnownBytes.{Appends-nil, Appends-trans, Appends-kept}
-use Rattle.cluster_script.proofs.Known.{GoesPast-behind, LosesInto-whole, LosesInto-behind, LosesLines-trans, LosesLines-all, MayEndIn-none, spoken-append, count_of_all-append}
+use Rattle.command_lines.proofs.Known.{GoesPast-behind, LosesInto-whole, LosesInto-behind, LosesLines-trans, LosesLines-all, MayEndIn-none, spoken-append, count_of_all-append}
 
 -- the lines of known bytes
 abbrev left_in : Option (List ℕ) → List (List ℕ)

@@ -14,9 +14,10 @@ use Rattle.node_core.specs.Seen.{answer_of}
 use Rattle.cluster_world.specs.Playing.{Played, WaitsOn}
 use Rattle.node_core.specs.declared.events.Answer.{Answer}
 use Rattle.cluster_world.specs.declared.events.WorldEvent.{WorldEvent}
-use Rattle.cluster_script.specs.declared.faults.WriteFault.{WriteFault}
-use Rattle.cluster_script.specs.Printing.{answers_text, output_line, shown_text, is_fine, is_fine_output, Shows}
-use Rattle.cluster_script.specs.Script.{AppendsPart, Writes, settle_limit}
+use Rattle.command_lines.specs.declared.faults.WriteFault.{WriteFault}
+use Rattle.command_lines.specs.Printing.{answers_text, output_line, shown_text, is_fine, is_fine_output, Shows}
+use Rattle.command_lines.specs.Writing.{AppendsPart, Writes}
+use Rattle.cluster_script.specs.Script.{settle_limit}
 use Rattle.cluster_script.specs.Played.{PlaysOrStops, Delivers, shown_on, settle_end}
 use Rattle.cluster_script.proofs.Writing.{AppendsPart-behind, AppendsPart-more}
 use Rattle.cluster_script.proofs.Playing.{opening_of-same}

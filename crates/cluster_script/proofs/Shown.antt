@@ -9,7 +9,7 @@ use Rattle.term.specs.NodeSets.{set_of, IsNodeSet}
 use Rattle.node_core.specs.Held.{IsWithin}
 use Rattle.cluster_world.specs.Held.{Held}
 use Rattle.cluster_world.specs.Seen.{opening_of, seen}
-use Rattle.cluster_script.specs.Printing.{output_line, is_fine_output}
+use Rattle.command_lines.specs.Printing.{output_line, is_fine_output}
 use Rattle.cluster_script.specs.Script.{settle_limit}
 use Rattle.cluster_script.specs.Played.{IsShown, table_of, members_of}
 use Rattle.cluster_script.proofs.Nodes.{in_world-listed, nodes_of-listed}

@@ -8,11 +8,11 @@ use Rattle.protocol_model.specs.Script.{Said, Line as ScriptLine}
 use Rattle.cluster_world.specs.Held.{Held}
 use Rattle.node_core.specs.Seen.{answer_of}
 use Rattle.node_core.specs.declared.events.Answer.{Answer}
-use Rattle.cluster_script.specs.declared.faults.LineFault.{LineFault}
-use Rattle.cluster_script.specs.declared.faults.WriteFault.{WriteFault}
-use Rattle.cluster_script.specs.Printing.{answers_text, output_line}
+use Rattle.command_lines.specs.declared.faults.LineFault.{LineFault}
+use Rattle.command_lines.specs.declared.faults.WriteFault.{WriteFault}
+use Rattle.command_lines.specs.Printing.{answers_text, output_line}
 use Rattle.cluster_script.specs.Played.{PlaysOrStops, shown_on}
-use Rattle.cluster_script.specs.Script.{AppendsPart, Writes}
+use Rattle.command_lines.specs.Writing.{AppendsPart, Writes}
 
 -- nothing of a text was written
 pub AppendsPart-none : (a : Option (List ℕ)) (text : List ℕ) → AppendsPart a a text

@@ -10,14 +10,15 @@ use Rattle.cluster_world.specs.Held.{Held}
 use Rattle.cluster_world.specs.Refusals.{refusal_of, is_memory}
 use Rattle.cluster_world.specs.Seen.{opening_of, seen}
 use Rattle.cluster_world.specs.declared.events.Refusal.{Refusal}
-use Rattle.cluster_script.specs.declared.faults.LineFault.{LineFault}
-use Rattle.cluster_script.specs.declared.faults.ScriptFault.{ScriptFault}
-use Rattle.cluster_script.specs.declared.faults.ScriptFault.TheVariants.{Read, TooManyLines}
-use Rattle.cluster_script.specs.declared.faults.WriteFault.{WriteFault}
-use Rattle.cluster_script.specs.declared.lines.Line.{Line}
-use Rattle.cluster_script.specs.Lines.{spoken, count_of_all, IsKept, LosesLines, LosesInto, HasNoLine, IsWithinLine, MayEndIn, GoesPastFor}
-use Rattle.cluster_script.specs.Printing.{answers_text, shown_text, is_fine, is_fine_output, output_line, error_line, refusal_word}
-use Rattle.cluster_script.specs.Script.{settle_limit, behind, behind_all, shown, shown_all, AllAsk, AppendsPart}
+use Rattle.command_lines.specs.declared.faults.LineFault.{LineFault}
+use Rattle.command_lines.specs.declared.faults.ScriptFault.{ScriptFault}
+use Rattle.command_lines.specs.declared.faults.ScriptFault.TheVariants.{Read, TooManyLines}
+use Rattle.command_lines.specs.declared.faults.WriteFault.{WriteFault}
+use Rattle.command_lines.specs.declared.lines.Line.{Line}
+use Rattle.command_lines.specs.Lines.{spoken, count_of_all, IsKept, LosesLines, LosesInto, HasNoLine, IsWithinLine, MayEndIn, GoesPastFor}
+use Rattle.command_lines.specs.Printing.{answers_text, shown_text, is_fine, is_fine_output, output_line, error_line, refusal_word}
+use Rattle.command_lines.specs.Writing.{AppendsPart}
+use Rattle.cluster_script.specs.Script.{settle_limit, behind, behind_all, shown, shown_all, AllAsk}
 
 -- what is printed for a line on what is held
 abbrev pub shown_on : Held → Result ScriptLine LineFault → List ℕ
@@ -34,11 +35,6 @@ pub record PlaysLine (old new : Held) (asked : Result ScriptLine LineFault) (bef
 abbrev pub PlaysOrStops : Held → Held → Result ScriptLine LineFault → Option (List ℕ) → Option (List ℕ) → Result Bool WriteFault → Type 0
 PlaysOrStops old new asked before after (Ok fine) = PlaysLine old new asked before after fine
 PlaysOrStops old new asked before after (Err f) = AppendsPart before after (shown_on old asked)
-
--- the word of a refusal, unless memory was refused
-abbrev pub IsWordOf : Refusal → Option (List ℕ) → Type 0
-IsWordOf r None = is_memory r ≡ true
-IsWordOf r (Some word) = (any : AnyRefusal) × (refusal_of r ≡ Some any) × (word ≡ refusal_word any)
 
 -- what is printed last for `settle`
 abbrev pub settle_end : Bool → Output

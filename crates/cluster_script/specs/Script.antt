@@ -10,17 +10,18 @@ use Rattle.term.specs.Spelling.{SpellsText, RefusesText}
 use Rattle.cluster_world.specs.Starting.{start_refused}
 use Rattle.cluster_world.specs.Held.{Held}
 use Rattle.cluster_world.specs.Seen.{opening_with, opening_of, seen}
-use Rattle.cluster_script.specs.declared.faults.LineFault.{LineFault}
-use Rattle.cluster_script.specs.declared.faults.LineFault.TheVariants.{BadLine, Text, Start}
-use Rattle.cluster_script.specs.declared.faults.ScriptFault.{ScriptFault}
-use Rattle.cluster_script.specs.declared.faults.ScriptFault.TheVariants.{Read, Write, TooManyLines, Memory}
-use Rattle.cluster_script.specs.declared.faults.WriteFault.{WriteFault}
-use Rattle.cluster_script.specs.declared.faults.WriteFault.TheVariants as write
+use Rattle.command_lines.specs.declared.faults.LineFault.{LineFault}
+use Rattle.command_lines.specs.declared.faults.LineFault.TheVariants.{BadLine, Text, Start}
+use Rattle.command_lines.specs.declared.faults.ScriptFault.{ScriptFault}
+use Rattle.command_lines.specs.declared.faults.ScriptFault.TheVariants.{Read, Write, TooManyLines, Memory}
+use Rattle.command_lines.specs.declared.faults.WriteFault.{WriteFault}
+use Rattle.command_lines.specs.declared.faults.WriteFault.TheVariants as write
 use Rattle.cluster_world.specs.declared.events.StartFault.{StartFault}
-use Rattle.cluster_script.specs.Lines.{spoken, count_of_all, most_lines, LosesLines, LosesInto, HasNoLine, HasNoFeed, IsWithinLine, GoesPast}
-use Rattle.cluster_script.specs.Words.{words}
-use Rattle.cluster_script.specs.Commands.{unread, LineAsks}
-use Rattle.cluster_script.specs.Printing.{Shown, Shows, Refuses, shown_text, is_fine}
+use Rattle.command_lines.specs.Lines.{HasLines, spoken, count_of_all, most_lines, LosesLines, LosesInto, HasNoLine, HasNoFeed, IsWithinLine, GoesPast}
+use Rattle.command_lines.specs.Words.{words}
+use Rattle.command_lines.specs.Writing.{AppendsPart}
+use Rattle.command_lines.specs.Commands.{unread, LineAsks}
+use Rattle.command_lines.specs.Printing.{Shown, Shows, Refuses, shown_text, is_fine}
 
 -- the most deliveries of one `settle`
 unfoldable pub settle_limit : ℕ
@@ -50,6 +51,11 @@ abbrev pub AllAsk : List (List ℕ) → List (Result Line LineFault) → Type 0
 AllAsk [] [] = Unit {0}
 AllAsk (l ∷ ls) (a ∷ asked) = LineAsks l a × AllAsk ls asked
 AllAsk _ _ = ⊥
+
+-- the fault, or else what is made of the value
+abbrev pub made_of : {A B : Type 0} → (A → B) → Result A TextFault → Result B TextFault
+made_of f (Ok a) = Ok (f a)
+made_of f (Err e) = Err e
 
 -- the texts of a `cluster` line
 abbrev pub cluster_texts : List (List ℕ) → Option (List (List ℕ))
@@ -114,19 +120,6 @@ PrintsSpoken (l ∷ ls) out = (opened : Result (List ℕ) LineFault) × LineOpen
 abbrev pub Prints : List (List ℕ) → List Shown → Type 0
 Prints ls out = PrintsSpoken (spoken ls) out
 
--- known bytes have these lines
-abbrev pub HasLines : Option (List ℕ) → List (List ℕ) → Type 0
-HasLines None ls = ⊤
-HasLines (Some xs) ls = lines xs ≡ ls
-
--- known bytes grow by a part of these
-abbrev pub AppendsPart : Option (List ℕ) → Option (List ℕ) → List ℕ → Type 0
-AppendsPart old new text = (part : List ℕ) × (rest : List ℕ) × (text ≡ part ++ rest) × Appends old new part
-
--- the text was written, or after a fault a part of it
-abbrev pub Writes : {A E : Type 0} → Option (List ℕ) → Option (List ℕ) → Result A E → List ℕ → Type 0
-Writes old new r text = MatchResult r (λ _. Appends old new text) (λ _. AppendsPart old new text)
-
 -- A script of this input was played to its end, and this is left of it
 pub record Ran (input rest : Option (List ℕ)) (old new : Option (List ℕ)) (fine : Bool) : Type 0 where
   pub all : List (List ℕ)
@@ -188,8 +181,3 @@ Stopped input rest old new Memory = (s : StoppedWithin input rest old new) × Is
 abbrev pub EndsOneWay : Type 0
 EndsOneWay = (input : List ℕ) (r s a b c d : Option (List ℕ)) (fine : Bool) → Ran (Some input) r a b fine
     → Stopped (Some input) s c d TooManyLines → ⊥
-
--- the fault of a script of which a text wasn't written
-abbrev pub stop_of : WriteFault → ScriptFault
-stop_of write.Writer = Write
-stop_of write.Memory = Memory

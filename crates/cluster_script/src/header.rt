@@ -1,14 +1,10 @@
 //! The first line of a script, which opens its world.
 ghost use Rattle.std.specs.Prelude.{◌≡◌, IfOk, map, List, ℕ, Ok};
-ghost use Rattle.cluster_script.specs.Lines.{IsKept};
-ghost use Rattle.cluster_script.specs.Commands.{made_of};
-ghost use Rattle.cluster_script.specs.Script.{ReadsTexts, OpensIn, LineOpens, Opened, cluster_texts, started};
+ghost use Rattle.command_lines.specs.Lines.{IsKept};
+ghost use Rattle.cluster_script.specs.Script.{made_of, ReadsTexts, OpensIn, LineOpens, Opened, cluster_texts, started};
 
-use crate::commands::text_of;
-use crate::faults::LineFault;
-use crate::lines::Line;
-use crate::words::words_of;
 use cluster_world::{StartFault, World};
+use command_lines::{Line, LineFault, text_of, words_of};
 use name_table::ListTable;
 use std::alloc::{AllocError, Global};
 use term::{NodeName, TextFault, parse_node};

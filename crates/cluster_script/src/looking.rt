@@ -1,12 +1,11 @@
 //! What a script shows of a node.
 ghost use Rattle.std.specs.Prelude.{◌≡◌, IfOk, Ok, is_some, option_map, string_bytes};
 ghost use Rattle.protocol_model.specs.Script.{TableAt, MembersAt};
-ghost use Rattle.cluster_script.specs.Script.{Writes};
+ghost use Rattle.command_lines.specs.Writing.{Writes};
 ghost use Rattle.cluster_script.specs.Played.{PlaysOrStops, IsShown, table_of, members_of, line_or_refusal};
 
-use crate::faults::WriteFault;
-use crate::printing::{members_line, table_line, write_error, write_text};
 use cluster_world::World;
+use command_lines::{WriteFault, members_line, table_line, write_error, write_text};
 use name_table::{ListTable, Names};
 use std::alloc::{AllocError, Global};
 use std::io::Write;

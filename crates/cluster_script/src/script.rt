@@ -6,19 +6,20 @@ ghost use Rattle.protocol_model.specs.Script as script;
 ghost use Rattle.protocol_model.specs.World.{WorldEvent as AnyEvent};
 ghost use Rattle.node_core.specs.Seen.{answer_of as any_answer};
 ghost use Rattle.cluster_world.specs.Events.{event_of as any_event};
-ghost use Rattle.cluster_script.specs.Commands.{asked_by};
-ghost use Rattle.cluster_script.specs.Lines.{most_lines};
-ghost use Rattle.cluster_script.specs.Printing as print;
-ghost use Rattle.cluster_script.specs.Script.{Writes, Ran, Stopped};
-ghost use Rattle.cluster_script.specs.Played.{PlaysOrStops, PlaysAll, ReadsOn, StopsReading, Delivers, IsWordOf, settle_end};
+ghost use Rattle.command_lines.specs.Commands.{asked_by};
+ghost use Rattle.command_lines.specs.Lines.{most_lines};
+ghost use Rattle.command_lines.specs.Printing as print;
+ghost use Rattle.command_lines.specs.Writing.{Writes};
+ghost use Rattle.cluster_script.specs.Script.{Ran, Stopped};
+ghost use Rattle.cluster_script.specs.Played.{PlaysOrStops, PlaysAll, ReadsOn, StopsReading, Delivers, settle_end};
 
-use crate::commands::{Task, read_task};
-use crate::faults::{LineFault, ScriptFault, WriteFault};
 use crate::header::open_world;
-use crate::lines::{Line, is_blank, read_line};
 use crate::looking::{show_members, show_table};
-use crate::printing::{answer_line, write_error, write_text};
-use cluster_world::{Answer, Refusal, World, WorldEvent};
+use cluster_world::{Answer, World, WorldEvent};
+use command_lines::{
+    Line, LineFault, ScriptFault, Task, WriteFault, answer_line, is_blank, read_line, read_task, refusal_word,
+    write_error, write_text,
+};
 use name_table::ListTable;
 use std::alloc::Global;
 use std::io::{BufReader, Read, Write};
@@ -43,20 +44,6 @@ fn write_answers<W: Write>(
         write_text(writer, line.as_bytes())?;
     }
     Ok(())
-}
-
-/// The word of a refusal, unless it is want of memory.
-fn refusal_word(refusal: &Refusal) -> Option<&'static str>
-    ensures { IsWordOf refusal.now (option_map (λ word. word.now) result) }
-{
-    match refusal {
-        Refusal::NoSuchNode => Some("no_such_node"),
-        Refusal::EmptyLink => Some("empty_link"),
-        Refusal::SerialsSpent => Some("serials_spent"),
-        Refusal::NothingToRetry => Some("nothing_to_retry"),
-        Refusal::CallsSpent => Some("calls_spent"),
-        Refusal::Memory => None,
-    }
 }
 
 /// Plays an event, and writes its answers, or why it is refused: whether it isn't.

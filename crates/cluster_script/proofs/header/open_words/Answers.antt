@@ -1,7 +1,7 @@
 use Rattle.std.proofs.Common.{subst, map, ℕ, List, Result, Vec, Global}
 use Rattle.term.specs.declared.faults.TextFault.{TextFault}
 use Rattle.term.specs.declared.node_name.NodeName.{NodeName}
-use Rattle.cluster_script.specs.Commands.{made_of}
+use Rattle.cluster_script.specs.Script.{made_of}
 use Rattle.cluster_script.specs.Script.{ReadsTexts}
 use Rattle.cluster_script.proofs.Headers.{now, opened_words, cluster_texts-behind}
 use Rattle.cluster_script.proofs.header.open_words.Goals as goal

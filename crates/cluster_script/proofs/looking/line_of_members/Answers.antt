@@ -1,6 +1,6 @@
 use Rattle.std.proofs.Common.{ℕ, List, ap, sym, ◌∙◌, string_bytes}
 use Rattle.protocol_model.specs.Script.{MembersAre}
-use Rattle.cluster_script.specs.Printing.{output_line}
+use Rattle.command_lines.specs.Printing.{output_line}
 use Rattle.cluster_script.specs.Played.{members_of}
 use Rattle.cluster_script.proofs.Shown.{IsShown-none, IsShown-members}
 use Rattle.cluster_script.proofs.looking.line_of_members.Goals as goal

@@ -1,7 +1,7 @@
 use Rattle.std.proofs.Common.{ap, sym, ◌∙◌, string_bytes}
 use Rattle.registry_model.specs.Table.{Table}
 use Rattle.protocol_model.specs.Script.{TableIs}
-use Rattle.cluster_script.specs.Printing.{output_line}
+use Rattle.command_lines.specs.Printing.{output_line}
 use Rattle.cluster_script.specs.Played.{table_of}
 use Rattle.cluster_script.proofs.Shown.{IsShown-none, IsShown-table}
 use Rattle.cluster_script.proofs.looking.line_of_table.Goals as goal

@@ -2,8 +2,8 @@ use Rattle.std.proofs.Common.{List, subst, map}
 use Rattle.node_core.specs.Seen.{answer_of}
 use Rattle.node_core.specs.declared.events.Answer.{Answer}
 use Rattle.cluster_world.specs.declared.events.WorldEvent.TheVariants.{Deliver}
-use Rattle.cluster_script.specs.Printing.{answers_text}
-use Rattle.cluster_script.specs.Script.{Writes}
+use Rattle.command_lines.specs.Printing.{answers_text}
+use Rattle.command_lines.specs.Writing.{Writes}
 use Rattle.cluster_script.proofs.Settling.{Delivers-played}
 use Rattle.cluster_script.proofs.script.deliver.Goals as goal
 

@@ -5,8 +5,8 @@ use Rattle.protocol_model.specs.Script.{Play}
 use Rattle.cluster_world.specs.Events.{event_of}
 use Rattle.node_core.specs.Seen.{answer_of}
 use Rattle.node_core.specs.declared.events.Answer.{Answer}
-use Rattle.cluster_script.specs.Printing.{answers_text, error_line}
-use Rattle.cluster_script.specs.Script.{AppendsPart}
+use Rattle.command_lines.specs.Printing.{answers_text, error_line}
+use Rattle.command_lines.specs.Writing.{AppendsPart}
 use Rattle.cluster_script.proofs.Writing.{PlaysOrStops-err}
 use Rattle.cluster_script.proofs.Playing.{play-accepted, play-refused, text-accepted, text-refused, not_memory}
 use Rattle.std.proofs.Common.{map}

@@ -1,11 +1,11 @@
 use Rattle.std.proofs.Common.{ℕ, List, ◌∙◌, subst, ap, sym, Ok, Result}
 use Rattle.std.proofs.lemmas.Result.{err_from_is_err_and}
-use Rattle.cluster_script.specs.declared.faults.LineFault.{LineFault}
-use Rattle.cluster_script.specs.declared.commands.Task.{Task}
-use Rattle.cluster_script.specs.Commands.{asked_by}
-use Rattle.cluster_script.specs.Printing.{error_line}
+use Rattle.command_lines.specs.declared.faults.LineFault.{LineFault}
+use Rattle.command_lines.specs.declared.grammar.Task.{Task}
+use Rattle.command_lines.specs.Commands.{asked_by}
+use Rattle.command_lines.specs.Printing.{error_line}
 use Rattle.cluster_script.specs.Played.{PlaysOrStops, shown_on}
-use Rattle.cluster_script.specs.Script.{AppendsPart}
+use Rattle.command_lines.specs.Writing.{AppendsPart}
 use Rattle.cluster_script.proofs.Writing.{PlaysOrStops-err}
 use Rattle.cluster_script.proofs.Playing.{text-fault}
 use Rattle.cluster_script.proofs.script.play_task.Goals as goal

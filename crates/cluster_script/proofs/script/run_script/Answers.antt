@@ -2,12 +2,13 @@ use Rattle.std.proofs.Common.{ℕ, List, Option, Result, subst, sym, refl, arith
 use Rattle.std.specs.Io.KnownBytes.{Appends}
 use Rattle.std.proofs.lemmas.Result.{err_from_is_err_and}
 use Rattle.cluster_world.specs.Held.{Held}
-use Rattle.cluster_script.specs.declared.lines.Line.{Line}
-use Rattle.cluster_script.specs.declared.faults.LineFault.{LineFault}
-use Rattle.cluster_script.specs.declared.faults.ScriptFault.{ScriptFault}
+use Rattle.command_lines.specs.declared.lines.Line.{Line}
+use Rattle.command_lines.specs.declared.faults.LineFault.{LineFault}
+use Rattle.command_lines.specs.declared.faults.ScriptFault.{ScriptFault}
 use Rattle.cluster_script.specs.Played.{ReadsOn}
-use Rattle.cluster_script.specs.Printing.{error_line}
-use Rattle.cluster_script.specs.Script.{AppendsPart, Opened, LineOpens, Stopped}
+use Rattle.command_lines.specs.Printing.{error_line}
+use Rattle.command_lines.specs.Writing.{AppendsPart}
+use Rattle.cluster_script.specs.Script.{Opened, LineOpens, Stopped}
 use Rattle.cluster_script.proofs.Runs.{Appends-behind, AppendsPart-kept, Ran-missing, Stopped-missing, Ran-refused, Stopped-refused, Stopped-early, Stopped-reading, Stopped-writing, Stopped-err, Ran-played}
 use Rattle.std.specs.Io.Buffered.{reader_remaining}
 use Rattle.cluster_script.proofs.script.run_script.Goals as goal

@@ -1,6 +1,6 @@
 use Rattle.std.proofs.Common.{ℕ, List, ◌∙◌, subst}
 use Rattle.std.proofs.lemmas.Result.{err_from_is_err_and}
-use Rattle.cluster_script.specs.Script.{AppendsPart}
+use Rattle.command_lines.specs.Writing.{AppendsPart}
 use Rattle.cluster_script.proofs.Writing.{Writes-err, AppendsPart-none, answers-part}
 use Rattle.cluster_script.proofs.script.write_answers.Goals as goal
 

@@ -1,7 +1,7 @@
 use Rattle.std.proofs.Common.{map, take}
 use Rattle.std.specs.Io.KnownBytes.{Appends}
 use Rattle.node_core.specs.Seen.{answer_of}
-use Rattle.cluster_script.specs.Printing.{answers_text}
+use Rattle.command_lines.specs.Printing.{answers_text}
 use Rattle.cluster_script.proofs.script.write_answers.Given as goal
 
 -- the lines of the answers so far were written

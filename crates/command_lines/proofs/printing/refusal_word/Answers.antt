@@ -1,0 +1,19 @@
+use Rattle.std.proofs.Common.{refl, ap}
+use Rattle.protocol_model.specs.Event as model
+use Rattle.cluster_world.specs.Refusals.{refusal_of}
+use Rattle.command_lines.proofs.printing.refusal_word.Goals as goal
+
+pub returns-in-NoSuchNode : goal.returns-in-NoSuchNode
+returns-in-NoSuchNode c = (model.NoSuchNode, ap refusal_of c.in-NoSuchNode.is, refl)
+
+pub returns-in-EmptyLink : goal.returns-in-EmptyLink
+returns-in-EmptyLink c = (model.EmptyLink, ap refusal_of c.in-EmptyLink.is, refl)
+
+pub returns-in-SerialsSpent : goal.returns-in-SerialsSpent
+returns-in-SerialsSpent c = (model.SerialsSpent, ap refusal_of c.in-SerialsSpent.is, refl)
+
+pub returns-in-NothingToRetry : goal.returns-in-NothingToRetry
+returns-in-NothingToRetry c = (model.NothingToRetry, ap refusal_of c.in-NothingToRetry.is, refl)
+
+pub returns-in-CallsSpent : goal.returns-in-CallsSpent
+returns-in-CallsSpent c = (model.CallsSpent, ap refusal_of c.in-CallsSpent.is, refl)

@@ -1,0 +1,40 @@
+-- What a line that isn't empty asks for.
+use Rattle.std.specs.Prelude.{ℕ, Bool, ◌≡◌, nat_lt, List, length, if◌then◌else◌, Option, Some, None, Result, Ok, Err}
+use Rattle.std.specs.List.{list_all}
+use Rattle.protocol_model.specs.Script.{Line, Play, Settle, TableAt, MembersAt}
+use Rattle.cluster_world.specs.Events.{event_of}
+use Rattle.command_lines.specs.declared.faults.LineFault.{LineFault}
+use Rattle.command_lines.specs.declared.faults.LineFault.TheVariants.{LineTooLong, NotAscii}
+use Rattle.command_lines.specs.declared.grammar.Task.{Task}
+use Rattle.command_lines.specs.Lines.{longest_line}
+use Rattle.command_lines.specs.Words.{words}
+use Rattle.command_lines.specs.Grammar.{WordsAsk}
+
+-- each byte is below 128
+abbrev pub is_ascii : List ℕ → Bool
+is_ascii line = list_all (λ b. nat_lt b 128) line
+
+-- why a line is refused before its words are looked at
+abbrev pub unread : List ℕ → Option LineFault
+unread line = if nat_lt longest_line (length line) then Some LineTooLong else (if is_ascii line then None else Some NotAscii)
+
+-- what a line asks for that can be read, or why it is refused
+abbrev pub AsksUnless : Option LineFault → List ℕ → Result Line LineFault → Type 0
+AsksUnless (Some f) line r = r ≡ Err f
+AsksUnless None line r = WordsAsk (words line) r
+
+-- what a line asks for, or why it is refused
+abbrev pub LineAsks : List ℕ → Result Line LineFault → Type 0
+LineAsks line r = AsksUnless (unread line) line r
+
+-- a task of the program, as a line of a script
+abbrev pub line_in : Task → Line
+line_in (Task.Play e) = Play (event_of e)
+line_in Task.Settle = Settle
+line_in (Task.Table a) = TableAt a
+line_in (Task.Members a) = MembersAt a
+
+-- what was read, as what a line asks for
+abbrev pub asked_by : Result Task LineFault → Result Line LineFault
+asked_by (Ok t) = Ok (line_in t)
+asked_by (Err f) = Err f

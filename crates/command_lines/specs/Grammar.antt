@@ -1,0 +1,109 @@
+-- The lines of the grammar: the word of each, the kinds of its texts, and what it asks for.
+use Rattle.std.specs.Prelude.{ℕ, Bool, true, false, bytes_eq, codes, ◌≡◌, ◌&&◌, ◌⊎◌, List, [], ◌∷◌, Option, Some, None, Result, Ok, Err}
+use Rattle.std.specs.List.{find}
+use Rattle.registry_model.specs.Process.{Process}
+use Rattle.registry_model.specs.Call.{Register, Whereis}
+use Rattle.protocol_model.specs.Event.{Event, Calling, Retry, Call, Spawn, OnName, LookUp}
+use Rattle.protocol_model.specs.World.{At, Deliver}
+use Rattle.protocol_model.specs.Script.{Line, Play, Settle, TableAt, MembersAt}
+use Rattle.term.specs.declared.faults.TextFault.{TextFault}
+use Rattle.term.specs.Spelling.{SpellsText, RefusesText, SpellsPid, RefusesPid}
+use Rattle.command_lines.specs.declared.faults.LineFault.{LineFault}
+use Rattle.command_lines.specs.declared.faults.LineFault.TheVariants.{BadLine, Text}
+
+-- what a text can stand for
+pub data Kind : Type 0 where
+  Node : Kind
+  Name : Kind
+  Pid : Kind
+
+-- the values of a kind
+abbrev pub Value : Kind → Type 0
+Value Node = ℕ
+Value Name = ℕ
+Value Pid = Process
+
+-- the text spells this value
+abbrev pub Spells : (k : Kind) → List ℕ → Value k → Type 0
+Spells Node text v = SpellsText text v
+Spells Name text v = SpellsText text v
+Spells Pid text v = SpellsPid text v
+
+-- the text spells no value, for this fault
+abbrev pub RefusedAs : Kind → List ℕ → TextFault → Type 0
+RefusedAs Node text f = RefusesText text f
+RefusedAs Name text f = RefusesText text f
+RefusedAs Pid text f = RefusesPid text f
+
+-- what is asked for, by the values of texts of these kinds
+abbrev pub Asks : List Kind → Type 0
+Asks [] = Line
+Asks (k ∷ ks) = Value k → Asks ks
+
+-- a line of the grammar
+pub record Row : Type 0 where
+  pub word : List ℕ
+  pub texts : List Kind
+  pub asks : Asks texts
+
+-- the line of this word
+abbrev pub row : List ℕ → (texts : List Kind) → Asks texts → Row
+row word texts asks = record { word = word; texts = texts; asks = asks }
+
+-- an event at a node
+abbrev pub at_node : ℕ → Event → Line
+at_node n e = Play (At n e)
+
+-- a call at a node
+abbrev pub call_at : ℕ → Call → Line
+call_at n c = at_node n (Calling c)
+
+-- all lines of the grammar
+abbrev pub grammar : List Row
+grammar =
+    row (codes "spawn") (Node ∷ []) (λ n. call_at n Spawn)
+    ∷ row (codes "register") (Node ∷ Name ∷ Pid ∷ []) (λ n x p. call_at n (OnName (Register x p)))
+    ∷ row (codes "whereis") (Node ∷ Name ∷ []) (λ n x. call_at n (LookUp (Whereis x)))
+    ∷ row (codes "deliver") (Node ∷ Node ∷ []) (λ f t. Play (Deliver f t))
+    ∷ row (codes "retry") (Node ∷ []) (λ n. at_node n Retry)
+    ∷ row (codes "settle") [] Settle
+    ∷ row (codes "members") (Node ∷ []) MembersAt
+    ∷ row (codes "table") (Node ∷ []) TableAt
+    ∷ []
+
+-- texts of these kinds spell values by which this is asked for
+abbrev pub AllSpelled : (kinds : List Kind) → Asks kinds → List (List ℕ) → Result Line LineFault → Type 0
+AllSpelled [] line [] r = r ≡ Ok line
+AllSpelled (k ∷ kinds) asks (text ∷ texts) r = (v : Value k) × Spells k text v × AllSpelled kinds (asks v) texts r
+AllSpelled _ _ _ r = ⊥
+
+-- this is the fault of the first of these texts that spells no value
+abbrev pub FirstRefused : List Kind → List (List ℕ) → TextFault → Type 0
+FirstRefused (k ∷ kinds) (text ∷ texts) f =
+    RefusedAs k text f ⊎ ((v : Value k) × Spells k text v × FirstRefused kinds texts f)
+FirstRefused _ _ f = ⊥
+
+-- what texts of these kinds ask for: they are read from left to right, and the first fault counts
+abbrev pub TextsAsk : (kinds : List Kind) → Asks kinds → List (List ℕ) → Result Line LineFault → Type 0
+TextsAsk kinds asks texts r =
+    AllSpelled kinds asks texts r ⊎ ((f : TextFault) × FirstRefused kinds texts f × (r ≡ Err (Text f)))
+
+-- there are as many texts as a line of these kinds has
+abbrev pub fits : List Kind → List (List ℕ) → Bool
+fits [] [] = true
+fits (k ∷ kinds) (text ∷ texts) = fits kinds texts
+fits _ _ = false
+
+-- the line with this word and as many texts, if there is one
+abbrev pub row_of : List ℕ → List (List ℕ) → List Row → Option Row
+row_of word texts rows = find (λ row. fits row.texts texts && bytes_eq word row.word) rows
+
+-- what texts ask for behind the word of this line
+abbrev pub AsksBy : Option Row → List (List ℕ) → Result Line LineFault → Type 0
+AsksBy None texts r = r ≡ Err BadLine
+AsksBy (Some row) texts r = TextsAsk row.texts row.asks texts r
+
+-- what words ask for: no such line, or the wrong number of texts, is a bad line
+abbrev pub WordsAsk : List (List ℕ) → Result Line LineFault → Type 0
+WordsAsk [] r = r ≡ Err BadLine
+WordsAsk (word ∷ texts) r = AsksBy (row_of word texts grammar) texts r

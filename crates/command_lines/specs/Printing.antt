@@ -1,0 +1,120 @@
+-- What is printed, as bytes.
+use Rattle.std.specs.Prelude.{ℕ, Bool, true, false, codes, ◌≡◌, ◌==◌, flat_map, List, [], ◌∷◌, ◌++◌, if◌then◌else◌, Option, Some, None}
+use Rattle.std.specs.Fmt.{decimal}
+use Rattle.registry_model.specs.Process.{Process}
+use Rattle.registry_model.specs.Call.{Reply}
+use Rattle.protocol_model.specs.Event.{Answer, Refusal}
+use Rattle.protocol_model.specs.Script.{Output, Said, Okay, Error, Settled, SettleLimit, TableIs, MembersAre}
+use Rattle.term.specs.Spelling.{bytes_of, dot}
+use Rattle.term.specs.declared.faults.TextFault.TheVariants as text
+use Rattle.cluster_world.specs.declared.events.StartFault.TheVariants as start
+use Rattle.cluster_world.specs.declared.events.Refusal.{Refusal as WorldRefusal}
+use Rattle.cluster_world.specs.Refusals.{refusal_of, is_memory}
+use Rattle.command_lines.specs.declared.faults.LineFault.{LineFault}
+use Rattle.command_lines.specs.declared.faults.LineFault.TheVariants.{BadLine, LineTooLong, NotAscii, Text, Start}
+
+-- the word for which a line is refused before it is played
+abbrev pub word_of : LineFault → List ℕ
+word_of BadLine = codes "bad_line"
+word_of LineTooLong = codes "line_too_long"
+word_of NotAscii = codes "not_ascii"
+word_of (Text text.Empty) = codes "empty"
+word_of (Text text.TooLong) = codes "too_long"
+word_of (Text (text.BadByte place)) = codes "bad_byte"
+word_of (Text text.BadSerial) = codes "bad_serial"
+word_of (Text text.TooManyNodes) = codes "too_many_nodes"
+word_of (Start start.NoNode) = codes "no_node"
+word_of (Start start.SameNode) = codes "same_node"
+word_of (Start start.TooManyNodes) = codes "too_many_nodes"
+word_of (Start start.Memory) = codes "memory"
+
+-- the word for which the world or a node refuses an event
+abbrev pub refusal_word : Refusal → List ℕ
+refusal_word Refusal.NoSuchNode = codes "no_such_node"
+refusal_word Refusal.NodeLeft = codes "node_left"
+refusal_word Refusal.EmptyLink = codes "empty_link"
+refusal_word (Refusal.NotLive p) = codes "not_live"
+refusal_word (Refusal.Busy p) = codes "busy"
+refusal_word Refusal.Reserved = codes "reserved"
+refusal_word Refusal.UnknownNode = codes "unknown_node"
+refusal_word Refusal.AlreadyJoined = codes "already_joined"
+refusal_word Refusal.NoSuchProcess = codes "no_such_process"
+refusal_word Refusal.AlreadyExited = codes "already_exited"
+refusal_word Refusal.SerialsSpent = codes "serials_spent"
+refusal_word Refusal.NothingToRetry = codes "nothing_to_retry"
+refusal_word Refusal.HoldsLock = codes "holds_lock"
+refusal_word Refusal.CallsSpent = codes "calls_spent"
+
+-- the word of a refusal, unless memory was refused
+abbrev pub IsWordOf : WorldRefusal → Option (List ℕ) → Type 0
+IsWordOf r None = is_memory r ≡ true
+IsWordOf r (Some word) = (any : Refusal) × (refusal_of r ≡ Some any) × (word ≡ refusal_word any)
+
+-- a process: the name of its node, a dot and its serial
+abbrev pub pid_text : Process → List ℕ
+pid_text p = bytes_of p.node ++ dot ∷ decimal p.serial
+
+-- a reply
+abbrev pub reply_text : Reply → List ℕ
+reply_text Reply.Yes = codes "yes"
+reply_text Reply.No = codes "no"
+reply_text Reply.Ok = codes "ok"
+reply_text Reply.UnknownNode = codes "unknown_node"
+reply_text Reply.True = codes "true"
+reply_text Reply.False = codes "false"
+reply_text Reply.Joined = codes "joined"
+reply_text Reply.NotMember = codes "not_member"
+reply_text Reply.ContactLeft = codes "contact_left"
+reply_text (Reply.Pid p) = pid_text p
+reply_text Reply.Undefined = codes "undefined"
+reply_text (Reply.Names names) = codes "names" ++ flat_map (λ x. 32 ∷ bytes_of x) names
+
+-- an answer: the reply, and before that of a numbered call the node, `#` and the number
+abbrev pub answer_text : Answer → List ℕ
+answer_text s =
+    if s.number == 0 then reply_text s.reply else bytes_of s.node ++ 35 ∷ decimal s.number ++ 32 ∷ reply_text s.reply
+
+-- a line: its text and a line feed
+abbrev pub ended : List ℕ → List ℕ
+ended text = text ++ 10 ∷ []
+
+-- a refusal
+abbrev pub error_line : List ℕ → List ℕ
+error_line word = ended (codes "error " ++ word)
+
+-- a line that is printed
+pub data Shown : Type 0 where
+  Shows : (output : Output) → Shown
+  Refuses : (fault : LineFault) → Shown  -- the line was not played
+
+-- its bytes
+abbrev pub output_line : Output → List ℕ
+output_line (Said s) = ended (answer_text s)
+output_line Okay = ended (codes "ok")
+output_line (Error r) = error_line (refusal_word r)
+output_line Settled = ended (codes "settled")
+output_line SettleLimit = error_line (codes "settle_limit")
+output_line (TableIs table) = ended (codes "table" ++ flat_map (λ e. 32 ∷ bytes_of e.name ++ 61 ∷ pid_text e.owner) table)
+output_line (MembersAre members) = ended (codes "members" ++ flat_map (λ a. 32 ∷ bytes_of a) members)
+
+abbrev pub shown_line : Shown → List ℕ
+shown_line (Shows o) = output_line o
+shown_line (Refuses f) = error_line (word_of f)
+
+-- the lines of answers
+abbrev pub answers_text : List Answer → List ℕ
+answers_text given = flat_map (λ s. output_line (Said s)) given
+
+-- all bytes that are printed
+abbrev pub shown_text : List Shown → List ℕ
+shown_text shown = flat_map shown_line shown
+
+-- it is no refusal
+abbrev pub is_fine_output : Output → Bool
+is_fine_output (Error r) = false
+is_fine_output SettleLimit = false
+is_fine_output _ = true
+
+abbrev pub is_fine : Shown → Bool
+is_fine (Shows o) = is_fine_output o
+is_fine (Refuses f) = false
