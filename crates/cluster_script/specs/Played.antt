@@ -1,15 +1,13 @@
 -- What it comes to that the program plays a line, or reads on to the next one.
-use Rattle.std.specs.Prelude.{ℕ, Bool, true, ◌≡◌, ◌+◌, List, [], ◌∷◌, Option, Some, None, is_some, Result, Ok, Err, if◌then◌else◌}
+use Rattle.std.specs.Prelude.{ℕ, Bool, ◌≡◌, ◌+◌, List, [], ◌∷◌, Option, Some, None, is_some, Result, Ok, Err, if◌then◌else◌}
 use Rattle.std.specs.List.{list_all}
 use Rattle.std.specs.Io.KnownBytes.{Appends}
 use Rattle.registry_model.specs.Process.{nodes_of}
-use Rattle.protocol_model.specs.Event.{Refusal as AnyRefusal, NoSuchNode}
+use Rattle.protocol_model.specs.Event.{NoSuchNode}
 use Rattle.protocol_model.specs.Script.{Line as ScriptLine, Output, Settled, SettleLimit, TableIs, MembersAre, shown_at}
 use Rattle.protocol_model.specs.World.{WorldEvent as AnyEvent, happens, answers}
 use Rattle.cluster_world.specs.Held.{Held}
-use Rattle.cluster_world.specs.Refusals.{refusal_of, is_memory}
 use Rattle.cluster_world.specs.Seen.{opening_of, seen}
-use Rattle.cluster_world.specs.declared.events.Refusal.{Refusal}
 use Rattle.command_lines.specs.declared.faults.LineFault.{LineFault}
 use Rattle.command_lines.specs.declared.faults.ScriptFault.{ScriptFault}
 use Rattle.command_lines.specs.declared.faults.ScriptFault.TheVariants.{Read, TooManyLines}

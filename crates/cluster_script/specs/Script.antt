@@ -1,8 +1,7 @@
 -- What a script prints: its lines are played on one world, one after the other.
-use Rattle.std.specs.Prelude.{ℕ, ◌⊎◌, Bool, ◌≡◌, ◌≤◌, ⊤, bytes_eq, codes, fold, map, List, [], ◌∷◌, ◌++◌, if◌then◌else◌, Option, Some, None, Result, Ok, Err, MatchResult}
+use Rattle.std.specs.Prelude.{ℕ, ◌⊎◌, Bool, ◌≡◌, ◌≤◌, bytes_eq, codes, fold, map, List, [], ◌∷◌, ◌++◌, if◌then◌else◌, Option, Some, None, Result, Ok, Err}
 use Rattle.std.specs.List.{list_all}
 use Rattle.std.specs.Io.KnownBytes.{Appends}
-use Rattle.std.specs.Str.Lines.{lines}
 use Rattle.protocol_model.specs.World.{Opening, World, opening_world, run}
 use Rattle.protocol_model.specs.Script.{Line, events_in, printed}
 use Rattle.term.specs.declared.faults.TextFault.{TextFault}
@@ -14,8 +13,6 @@ use Rattle.command_lines.specs.declared.faults.LineFault.{LineFault}
 use Rattle.command_lines.specs.declared.faults.LineFault.TheVariants.{BadLine, Text, Start}
 use Rattle.command_lines.specs.declared.faults.ScriptFault.{ScriptFault}
 use Rattle.command_lines.specs.declared.faults.ScriptFault.TheVariants.{Read, Write, TooManyLines, Memory}
-use Rattle.command_lines.specs.declared.faults.WriteFault.{WriteFault}
-use Rattle.command_lines.specs.declared.faults.WriteFault.TheVariants as write
 use Rattle.cluster_world.specs.declared.events.StartFault.{StartFault}
 use Rattle.command_lines.specs.Lines.{HasLines, spoken, count_of_all, most_lines, LosesLines, LosesInto, HasNoLine, HasNoFeed, IsWithinLine, GoesPast}
 use Rattle.command_lines.specs.Words.{words}

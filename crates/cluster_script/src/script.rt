@@ -17,8 +17,8 @@ use crate::header::open_world;
 use crate::looking::{show_members, show_table};
 use cluster_world::{Answer, World, WorldEvent};
 use command_lines::{
-    Line, LineFault, ScriptFault, Task, WriteFault, answer_line, is_blank, read_line, read_task, refusal_word,
-    write_error, write_text,
+    Line, LineFault, ScriptFault, Task, WriteFault, answer_line, is_blank, read_line, read_task,
+    refusal_word, write_error, write_text,
 };
 use name_table::ListTable;
 use std::alloc::Global;
