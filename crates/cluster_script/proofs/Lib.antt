@@ -1,3 +1,4 @@
+mod Agreeing
 mod Known
 mod Writing
 mod Playing

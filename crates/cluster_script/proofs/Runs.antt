@@ -17,6 +17,7 @@ use Rattle.command_lines.specs.Lines.{spoken, LosesLines, LosesInto, count_of_al
 use Rattle.command_lines.specs.Printing.{Shown, Refuses, error_line, word_of}
 use Rattle.command_lines.specs.Lines.{HasLines}
 use Rattle.command_lines.specs.Writing.{AppendsPart, stop_of}
+use Rattle.cluster_script.proofs.Agreeing.{lines_agree}
 use Rattle.cluster_script.specs.Script.{AllAsk, shown_all, Prints, PrintsOn, PrintsSpoken, OpensNone, Ran, Stopped, StoppedBetween, StoppedWithin, LineOpens, Opened, opening_for}
 use Rattle.cluster_script.specs.Played.{ReadsOn, LosesNext, StopsReading, StopsPlaying, PlaysSome, PlaysAll}
 use Rattle.std.proofs.KnownBytes.{Appends-nil, Appends-trans, Appends-kept}
@@ -167,8 +168,17 @@ module _ (input rest : Option (List ℕ)) (most left : ℕ) (bound : most ≤ 10
     module _ (world : Held) (o : Opened (LineOpens line) (Ok world)) where
       pub played-on : (ms : List (List ℕ)) (asked : List (Result ScriptLine LineFault)) → AllAsk (spoken ms) asked
           → PrintsOn (line ∷ spoken ms) (shown_all (opening_of world) (seen world) asked)
-      played-on ms asked h =
-          (o.0, o.1, (asked, h, ap (λ (p : Opening). shown_all p (seen world) asked) o.2 ∙ ap (λ (w : World). shown_all (opening_for o.0) w asked) o.3))
+      played-on ms asked h = (
+        o.0,
+        o.1,
+        (
+          asked,
+          h,
+          ap (λ (p : Opening). shown_all p (seen world) asked) o.2
+              ∙ ap (λ (w : World). shown_all (opening_for o.0) w asked) o.3,
+          lines_agree (opening_for o.0) asked,
+        ),
+      )
 
       pub played-all : (ms : List (List ℕ)) (asked : List (Result ScriptLine LineFault)) → AllAsk (spoken ms) asked
           → Prints (ls ++ ms) (shown_all (opening_of world) (seen world) asked)

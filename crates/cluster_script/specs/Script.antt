@@ -2,10 +2,11 @@
 use Rattle.std.specs.Prelude.{ℕ, ◌⊎◌, Bool, ◌≡◌, ◌≤◌, bytes_eq, codes, fold, map, List, [], ◌∷◌, ◌++◌, if◌then◌else◌, Option, Some, None, Result, Ok, Err}
 use Rattle.std.specs.List.{list_all}
 use Rattle.std.specs.Io.KnownBytes.{Appends}
-use Rattle.protocol_model.specs.World.{Opening, World, opening_world, run}
+use Rattle.protocol_model.specs.World.{Opening, World, WorldEvent, opening_world, run}
 use Rattle.protocol_model.specs.Script.{Line, events_in, printed}
 use Rattle.term.specs.declared.faults.TextFault.{TextFault}
 use Rattle.term.specs.Spelling.{SpellsText, RefusesText}
+use Rattle.cluster_world.specs.Agreeing.{HeadlineAfter}
 use Rattle.cluster_world.specs.Starting.{start_refused}
 use Rattle.cluster_world.specs.Held.{Held}
 use Rattle.cluster_world.specs.Seen.{opening_with, opening_of, seen}
@@ -37,6 +38,16 @@ shown o w (Err f) = Refuses f ∷ []
 -- the world behind these lines
 abbrev pub behind_all : Opening → World → List (Result Line LineFault) → World
 behind_all o w asked = fold (behind o) w asked
+
+-- the events of a line
+abbrev pub events_by : Opening → World → Result Line LineFault → List WorldEvent
+events_by o w (Ok l) = events_in o settle_limit w l
+events_by o w (Err f) = []
+
+-- the events of these lines
+abbrev pub events_by_all : Opening → World → List (Result Line LineFault) → List WorldEvent
+events_by_all o w [] = []
+events_by_all o w (a ∷ asked) = events_by o w a ++ events_by_all o (behind o w a) asked
 
 -- what is printed for these lines
 abbrev pub shown_all : Opening → World → List (Result Line LineFault) → List Shown
@@ -102,11 +113,16 @@ abbrev pub Opened : (Result (List ℕ) LineFault → Type 0) → Result Held Lin
 Opened Opens (Ok world) = (nodes : List ℕ) × Opens (Ok nodes) × (opening_of world ≡ opening_for nodes) × (seen world ≡ opening_world (opening_for nodes))
 Opened Opens (Err f) = Opens (Err f)
 
--- the lines behind the first are played on a world of these nodes; if there is none, nothing is
+-- the headline holds behind the events of these lines, of which the world that is left is made
+abbrev pub LinesAgree : Opening → List (Result Line LineFault) → Type 0
+LinesAgree o asked = HeadlineAfter o (events_by_all o (opening_world o) asked) (behind_all o (opening_world o) asked)
+
+-- the lines behind the first are played on a world of these nodes, behind which the headline holds; if there is none,
+-- nothing is
 abbrev pub Follows : Result (List ℕ) LineFault → List (List ℕ) → List Shown → Type 0
 Follows (Err f) ls out = out ≡ Refuses f ∷ []
 Follows (Ok nodes) ls out = (asked : List (Result Line LineFault)) × AllAsk ls asked
-    × (out ≡ shown_all (opening_for nodes) (opening_world (opening_for nodes)) asked)
+    × (out ≡ shown_all (opening_for nodes) (opening_world (opening_for nodes)) asked) × LinesAgree (opening_for nodes) asked
 
 -- what is printed for lines of which none is empty: without a first line there is none that opens a world
 abbrev pub PrintsSpoken : List (List ℕ) → List Shown → Type 0

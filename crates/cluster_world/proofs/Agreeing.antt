@@ -16,9 +16,13 @@ use Rattle.cluster_world.specs.Playing.{Keeps, Played, events_of}
 use Rattle.cluster_world.specs.Agreeing.{HeadlineAfter, IsRunOf, AgreesAfter, Agrees}
 
 -- more events behind others
-run-append : (o : Opening) (w : World) (xs ys : List AnyWorldEvent) → run o w (xs ++ ys) ≡ run o (run o w xs) ys
+pub run-append : (o : Opening) (w : World) (xs ys : List AnyWorldEvent) → run o w (xs ++ ys) ≡ run o (run o w xs) ys
 run-append o w [] ys = refl
 run-append o w (x ∷ xs) ys = run-append o (happens o w x) xs ys
+
+-- the headline holds behind every list of events
+pub headline_after : (o : Opening) (es : List AnyWorldEvent) → HeadlineAfter o es (run o (opening_world o) es)
+headline_after o es = agreement o es
 
 -- what is kept is how the world opened
 pub same_opening : (old new : Held) → Keeps old new → opening_of new ≡ opening_of old

@@ -8,5 +8,5 @@ mod Plays
 mod Holding
 mod Deliveries
 mod Starting
-mod Agreeing
+pub mod Agreeing
 mod Running
