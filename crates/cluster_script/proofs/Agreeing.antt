@@ -14,7 +14,8 @@ module _ (o : Opening) where
   behind_run w (Err f) = refl
 
   -- so is that behind lines
-  behind_all_run : (w : World) (asked : List (Result Line LineFault)) → behind_all o w asked ≡ run o w (events_by_all o w asked)
+  behind_all_run : (w : World) (asked : List (Result Line LineFault)) → behind_all o w asked
+      ≡ run o w (events_by_all o w asked)
   behind_all_run w [] = refl
   behind_all_run w (a ∷ asked) =
       behind_all_run (behind o w a) asked

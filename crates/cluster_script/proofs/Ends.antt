@@ -12,7 +12,8 @@ use Rattle.cluster_script.specs.Script.{AllSpell, ReadsTexts, OpensIn, OpensUnle
 use Rattle.command_lines.proofs.Known.{spoken-append, count_of_all-append}
 
 -- lines that count for less than the first ones and the next are some of the first ones
-some_first : (xs ys zs ws : List (List ℕ)) (line : List ℕ) → xs ++ ys ≡ zs ++ line ∷ ws → count_of_all xs < count_of_all (zs ++ line ∷ [])
+some_first : (xs ys zs ws : List (List ℕ)) (line : List ℕ) → xs ++ ys ≡ zs ++ line ∷ ws
+    → count_of_all xs < count_of_all (zs ++ line ∷ [])
     → (us : List (List ℕ)) × (zs ≡ xs ++ us)
 some_first [] ys zs ws line e l = (zs, refl)
 some_first (x ∷ xs) ys [] ws line e l =
@@ -33,10 +34,12 @@ module _ (exact : IsExact SpellsText RefusesText) where
   AllSpell-one (t ∷ ts) [] ms h k = absurd h
   AllSpell-one (t ∷ ts) (n ∷ ns) [] h k = absurd k
   AllSpell-one (t ∷ ts) (n ∷ ns) (m ∷ ms) h k =
-      ap (λ (x : ℕ). x ∷ ns) (exact.one_value t n m h.0 k.0) ∙ ap (λ (xs : List ℕ). m ∷ xs) (AllSpell-one ts ns ms h.1 k.1)
+      ap (λ (x : ℕ). x ∷ ns) (exact.one_value t n m h.0 k.0)
+      ∙ ap (λ (xs : List ℕ). m ∷ xs) (AllSpell-one ts ns ms h.1 k.1)
 
   -- where one spells nothing, they spell no nodes
-  AllSpell-none : (before : List (List ℕ)) (bad : List ℕ) (behind : List (List ℕ)) (ns : List ℕ) (f : TextFault) → AllSpell (before ++ bad ∷ behind) ns → RefusesText bad f → ⊥
+  AllSpell-none : (before : List (List ℕ)) (bad : List ℕ) (behind : List (List ℕ)) (ns : List ℕ) (f : TextFault)
+      → AllSpell (before ++ bad ∷ behind) ns → RefusesText bad f → ⊥
   AllSpell-none [] bad behind [] f h r = absurd h
   AllSpell-none [] bad behind (n ∷ ns) f h r = exact.never_both bad n f h.0 r
   AllSpell-none (b ∷ before) bad behind [] f h r = absurd h
@@ -47,9 +50,11 @@ module _ (exact : IsExact SpellsText RefusesText) where
     ok_err g h = cc
 
     -- texts don't both open a world and open none
-    texts_one : (texts : List (List ℕ)) (a b : Result (List ℕ) TextFault) → ReadsTexts texts a → ReadsTexts texts b → Ok nodes ≡ started a → Err f ≡ started b → ⊥
+    texts_one : (texts : List (List ℕ)) (a b : Result (List ℕ) TextFault) → ReadsTexts texts a → ReadsTexts texts b
+        → Ok nodes ≡ started a → Err f ≡ started b → ⊥
     texts_one texts (Err g) b r s h k = ok_err _ h
-    texts_one texts (Ok ns) (Ok ms) r s h k = ok_err f (h ∙ ap (λ (xs : List ℕ). started (Ok xs)) (AllSpell-one texts ns ms r s) ∙ sym k)
+    texts_one texts (Ok ns) (Ok ms) r s h k = ok_err f
+        (h ∙ ap (λ (xs : List ℕ). started (Ok xs)) (AllSpell-one texts ns ms r s) ∙ sym k)
     texts_one texts (Ok ns) (Err g) r s h k =
         AllSpell-none s.0 s.2 s.3 ns g (subst (λ (ts : List (List ℕ)). AllSpell ts ns) s.4 r) s.6
 
@@ -71,7 +76,8 @@ module _ (exact : IsExact SpellsText RefusesText) where
       (line ∷ []) more in
       elim r.ended [
         | inl none ↦
-            let they : r.taken ≡ first ++ line ∷ more = sym (append-nil r.taken) ∙ ap (λ (ls : List (List ℕ)). r.taken ++ ls) (sym none) ∙ all in
+            let they : r.taken ≡ first ++ line ∷ more = sym (append-nil r.taken)
+            ∙ ap (λ (ls : List (List ℕ)). r.taken ++ ls) (sym none) ∙ all in
             omega (
               arith,
               r.counted,
@@ -84,6 +90,7 @@ module _ (exact : IsExact SpellsText RefusesText) where
         | inr h ↦
             let u = some_first r.taken r.untaken first more line all (omega (arith, r.counted, s.2.3)) in
             let p : PrintsOn (h.0 ∷ spoken u.0) s.0.out = subst (λ (ls : List (List ℕ)). PrintsOn ls s.0.out)
-            (ap spoken u.1 ∙ spoken-append r.taken u.0 ∙ ap (λ (ls : List (List ℕ)). ls ++ spoken u.0) h.2) s.0.prints in
+            (ap spoken u.1 ∙ spoken-append r.taken u.0 ∙ ap (λ (ls : List (List ℕ)). ls ++ spoken u.0) h.2) s.0.prints
+            in
             unless_one p.0 h.1 h.0 (unread h.0) p.1 h.3
       ]

@@ -6,7 +6,8 @@ use Rattle.cluster_script.specs.Played.{StopsReading, LosesNext}
 use Rattle.command_lines.proofs.Known.{GoesPastFor-behind}
 
 -- the line behind empty ones isn't read
-pub StopsReading-behind : (a b c : Option (List ℕ)) (ls : List (List ℕ)) (most left : ℕ) → spoken ls ≡ [] → LosesLines a b ls → most ≡ left + count_of_all ls
+pub StopsReading-behind : (a b c : Option (List ℕ)) (ls : List (List ℕ)) (most left : ℕ) → spoken ls ≡ []
+    → LosesLines a b ls → most ≡ left + count_of_all ls
     → (f : ScriptFault) → StopsAtLine b c left f → StopsReading a c most f
 StopsReading-behind a b c ls most left s t e f g = (
   ls,
@@ -14,9 +15,11 @@ StopsReading-behind a b c ls most left s t e f g = (
   s,
   (b, t, g.1),
   g.2,
-  subst (λ (xs : List (List ℕ)). GoesPastFor f a most xs) (append-nil ls) (GoesPastFor-behind f a b ls [] most left t e g.3),
+  subst (λ (xs : List (List ℕ)). GoesPastFor f a most xs) (append-nil ls)
+      (GoesPastFor-behind f a b ls [] most left t e g.3),
 )
 
 -- the next line that isn't empty, of which one line at most is lost behind empty ones
-pub LosesNext-behind : (a b c : Option (List ℕ)) (ls : List (List ℕ)) → spoken ls ≡ [] → LosesLines a b ls → LosesWithinLine b c → LosesNext a c
+pub LosesNext-behind : (a b c : Option (List ℕ)) (ls : List (List ℕ)) → spoken ls ≡ [] → LosesLines a b ls
+    → LosesWithinLine b c → LosesNext a c
 LosesNext-behind a b c ls s t g = (ls, g.0, s, (b, t, g.1), g.2)

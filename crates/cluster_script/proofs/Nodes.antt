@@ -30,7 +30,8 @@ pub below_bound : (xs : List ℕ) (c : ℕ) → set_of xs c ≡ true → c < bou
 below_bound [] c e = cc
 below_bound (x ∷ xs) c e = go (x == c) refl e (below_bound xs c)
   where
-    go : (b : Bool) → (x == c) ≡ b → (b || set_of xs c) ≡ true → (set_of xs c ≡ true → c < bound_of xs) → c < max (x + 1) (bound_of xs)
+    go : (b : Bool) → (x == c) ≡ b → (b || set_of xs c) ≡ true → (set_of xs c ≡ true → c < bound_of xs)
+        → c < max (x + 1) (bound_of xs)
     go true is e later = let same : x ≡ c = eqb-true x c is in grind (arith, nat_tests)
     go false is e later = let more : c < bound_of xs = later e in grind (arith, nat_tests)
 
@@ -55,7 +56,8 @@ opening n s t = record { bound = n; nodes = s; cluster = t }
 -- what is held opened with the nodes that were named, in whatever order
 pub opening_of-named : (nodes : List ℕ) (h : Held) → Opens nodes [] h → opening_of h ≡ opening_for nodes
 opening_of-named nodes h o =
-    let all : (c : ℕ) → set_of h.nodes c ≡ set_of nodes c = λ c. o.nodes c ∙ ap (λ (ns : List ℕ). set_of ns c) (append-nil nodes) in
+    let all : (c : ℕ) → set_of h.nodes c ≡ set_of nodes c = λ c. o.nodes c
+    ∙ ap (λ (ns : List ℕ). set_of ns c) (append-nil nodes) in
     ap (λ (n : ℕ). opening n (set_of h.nodes) (set_of h.cluster)) (bound_of-same h.nodes nodes all)
     ∙ ap (λ (s : Nodes). opening (bound_of nodes) s (set_of h.cluster)) (fun_ext all)
     ∙ ap (λ (s : Nodes). opening (bound_of nodes) (set_of nodes) s) (fun_ext o.joined)
@@ -79,7 +81,9 @@ listed (x ∷ xs) zero d l = set_of-here x xs
 listed (x ∷ xs) (suc k) d l = set_of-there x xs (get_or xs k d) (listed xs k d (omega arith))
 
 -- a rising list of nodes of the world is the one of its set
-pub nodes_of-listed : (h : Held) (xs : List ℕ) (s : Nodes) → IsNodeSet xs → IsWithin h.nodes xs → set_of xs ≡ s → nodes_of (opening_of h).bound s ≡ xs
+pub nodes_of-listed : (h : Held) (xs : List ℕ) (s : Nodes) → IsNodeSet xs → IsWithin h.nodes xs → set_of xs ≡ s
+    → nodes_of (opening_of h).bound s ≡ xs
 nodes_of-listed h xs s set within e =
-    let below : All (λ c. c < bound_of h.nodes) xs = λ k d l. below_bound h.nodes (get_or xs k d) (within (get_or xs k d) (listed xs k d l)) in
+    let below : All (λ c. c < bound_of h.nodes) xs = λ k d l. below_bound h.nodes (get_or xs k d)
+    (within (get_or xs k d) (listed xs k d l)) in
     ap (nodes_of (bound_of h.nodes)) (sym e) ∙ nodes_of-set_of (bound_of h.nodes) xs set.rising below

@@ -24,8 +24,10 @@ use Rattle.cluster_script.specs.Script.{shown, settle_limit}
 use Rattle.cluster_script.specs.Played.{PlaysLine, shown_on}
 
 -- a world that has the same nodes, and joined the same ones at first, opened alike
-pub opening_of-same : (old new : Held) → new.nodes ≡ old.nodes → new.cluster ≡ old.cluster → opening_of new ≡ opening_of old
-opening_of-same old new n c = ap (λ (ns : List ℕ). opening_with ns new.cluster) n ∙ ap (λ (ns : List ℕ). opening_with old.nodes ns) c
+pub opening_of-same : (old new : Held) → new.nodes ≡ old.nodes → new.cluster ≡ old.cluster → opening_of new
+    ≡ opening_of old
+opening_of-same old new n c = ap (λ (ns : List ℕ). opening_with ns new.cluster) n
+    ∙ ap (λ (ns : List ℕ). opening_with old.nodes ns) c
 
 -- an event of a script has no `ok` of its own today
 pub okay-none : (o : Opening) (e : WorldEvent) → okay o settle_limit (event_of e) ≡ []
@@ -46,15 +48,18 @@ Said-fine (s ∷ given) = Said-fine given
 module _ (h : Held) (e : WorldEvent) where
   -- what is printed for an accepted event
   pub shown-accepted : refused (opening_of h) (seen h) (event_of e) ≡ None
-      → shown (opening_of h) (seen h) (Ok (Play (event_of e))) ≡ map Shows (map Said (answers (opening_of h) (seen h) (event_of e)))
+      → shown (opening_of h) (seen h) (Ok (Play (event_of e)))
+      ≡ map Shows (map Said (answers (opening_of h) (seen h) (event_of e)))
   shown-accepted r =
       ap (λ (x : Option AnyRefusal). map Shows (played (opening_of h) settle_limit (seen h) (event_of e) x)) r
-      ∙ ap (λ (x : List Output). map Shows (x ++ map Said (answers (opening_of h) (seen h) (event_of e)))) (okay-none (opening_of h) e)
+      ∙ ap (λ (x : List Output). map Shows (x ++ map Said (answers (opening_of h) (seen h) (event_of e))))
+      (okay-none (opening_of h) e)
 
   -- what is printed for a refused event
   pub shown-refused : (r : AnyRefusal) → refused (opening_of h) (seen h) (event_of e) ≡ Some r
       → shown (opening_of h) (seen h) (Ok (Play (event_of e))) ≡ Shows (Error r) ∷ []
-  shown-refused r q = ap (λ (x : Option AnyRefusal). map Shows (played (opening_of h) settle_limit (seen h) (event_of e) x)) q
+  shown-refused r q = ap (λ (x : Option AnyRefusal). map Shows
+      (played (opening_of h) settle_limit (seen h) (event_of e) x)) q
 
   -- a refused event changes nothing
   pub happens-refused : (r : AnyRefusal) → refused (opening_of h) (seen h) (event_of e) ≡ Some r
@@ -70,22 +75,26 @@ text-accepted old new e given p =
     ∙ ap shown_text (sym (shown-accepted old e p.accepted))
 
 -- an accepted event is played
-pub play-accepted : (old new : Held) (e : WorldEvent) (given : List Answer) (a b : Option (List ℕ)) → Played e old new [] given
+pub play-accepted : (old new : Held) (e : WorldEvent) (given : List Answer) (a b : Option (List ℕ))
+    → Played e old new [] given
     → Appends a b (answers_text (map answer_of given)) → PlaysLine old new (Ok (Play (event_of e))) a b true
 play-accepted old new e given a b p w = record {
   opening = opening_of-same old new p.nodes p.cluster;
   world = p.happens;
   wrote = subst (λ (t : List ℕ). Appends a b t) (text-accepted old new e given p) w;
-  fine_is = sym (ap (λ (s : List Shown). list_all is_fine s) (shown-accepted old e p.accepted) ∙ Said-fine (answers (opening_of old) (seen old) (event_of e)));
+  fine_is = sym (ap (λ (s : List Shown). list_all is_fine s) (shown-accepted old e p.accepted)
+      ∙ Said-fine (answers (opening_of old) (seen old) (event_of e)));
 }
 
 -- the text of a refused event
-pub text-refused : (old : Held) (e : WorldEvent) (r : AnyRefusal) → refused (opening_of old) (seen old) (event_of e) ≡ Some r
+pub text-refused : (old : Held) (e : WorldEvent) (r : AnyRefusal) → refused (opening_of old) (seen old) (event_of e)
+    ≡ Some r
     → error_line (refusal_word r) ≡ shown_on old (Ok (Play (event_of e)))
 text-refused old e r q = sym (append-nil (error_line (refusal_word r))) ∙ ap shown_text (sym (shown-refused old e r q))
 
 -- a refused event changes nothing
-pub play-refused : (old new : Held) (e : WorldEvent) (r : AnyRefusal) (a b : Option (List ℕ)) → refused (opening_of old) (seen old) (event_of e) ≡ Some r
+pub play-refused : (old new : Held) (e : WorldEvent) (r : AnyRefusal) (a b : Option (List ℕ))
+    → refused (opening_of old) (seen old) (event_of e) ≡ Some r
     → new ≡ old → Appends a b (error_line (refusal_word r)) → PlaysLine old new (Ok (Play (event_of e))) a b false
 play-refused old new e r a b q n w = record {
   opening = ap opening_of n;

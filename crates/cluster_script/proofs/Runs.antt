@@ -130,10 +130,13 @@ module _ (input rest : Option (List ℕ)) (most left : ℕ) (bound : most ≤ 10
     wrote = subst (λ (x : List ℕ). AppendsPart a b x) (sym (append-nil (error_line (word_of BadLine)))) w;
   }
 
-  module _ (ls : List (List ℕ)) (line : List ℕ) (s : spoken ls ≡ line ∷ []) (l : LosesLines input rest ls) (e : most ≡ left + count_of_all ls) where
+  module _ (ls : List (List ℕ)) (line : List ℕ) (s : spoken ls ≡ line ∷ []) (l : LosesLines input rest ls)
+      (e : most ≡ left + count_of_all ls) where
     -- the first line, and others
-    pub prints-by : (ms : List (List ℕ)) (out : List Shown) → PrintsSpoken (line ∷ spoken ms) out → Prints (ls ++ ms) out
-    prints-by ms out p = subst (λ (xs : List (List ℕ)). PrintsSpoken xs out) (sym (spoken-append ls ms ∙ ap (λ (xs : List (List ℕ)). xs ++ spoken ms) s)) p
+    pub prints-by : (ms : List (List ℕ)) (out : List Shown) → PrintsSpoken (line ∷ spoken ms) out
+        → Prints (ls ++ ms) out
+    prints-by ms out p = subst (λ (xs : List (List ℕ)). PrintsSpoken xs out)
+        (sym (spoken-append ls ms ∙ ap (λ (xs : List (List ℕ)). xs ++ spoken ms) s)) p
 
     -- the first line is refused
     pub Ran-refused : (f : LineFault) → LineOpens line (Err f) → Appends a b (error_line (word_of f))
@@ -182,7 +185,8 @@ module _ (input rest : Option (List ℕ)) (most left : ℕ) (bound : most ≤ 10
 
       pub played-all : (ms : List (List ℕ)) (asked : List (Result ScriptLine LineFault)) → AllAsk (spoken ms) asked
           → Prints (ls ++ ms) (shown_all (opening_of world) (seen world) asked)
-      played-all ms asked h = let p = played-on ms asked h in prints-by ms (shown_all (opening_of world) (seen world) asked) (Ok p.0, p.1, p.2)
+      played-all ms asked h = let p = played-on ms asked h in prints-by ms
+          (shown_all (opening_of world) (seen world) asked) (Ok p.0, p.1, p.2)
 
       -- the lines so far
       prints-first : (ms : List (List ℕ)) (asked : List (Result ScriptLine LineFault)) → AllAsk (spoken ms) asked

@@ -27,10 +27,12 @@ use Rattle.command_lines.proofs.Known.{GoesPast-behind, LosesLines-trans, LosesL
 pub shown_text-append : (xs ys : List Shown) → shown_text (xs ++ ys) ≡ shown_text xs ++ shown_text ys
 shown_text-append [] ys = refl
 shown_text-append (x ∷ xs) ys =
-    ap (λ (t : List ℕ). shown_line x ++ t) (shown_text-append xs ys) ∙ sym (append_assoc (shown_line x) (shown_text xs) (shown_text ys))
+    ap (λ (t : List ℕ). shown_line x ++ t) (shown_text-append xs ys)
+    ∙ sym (append_assoc (shown_line x) (shown_text xs) (shown_text ys))
 
 -- one line more
-pub AllAsk-push : (ls : List (List ℕ)) (asked : List (Result ScriptLine LineFault)) (l : List ℕ) (a : Result ScriptLine LineFault)
+pub AllAsk-push : (ls : List (List ℕ)) (asked : List (Result ScriptLine LineFault)) (l : List ℕ)
+    (a : Result ScriptLine LineFault)
     → AllAsk ls asked → LineAsks l a → AllAsk (ls ++ l ∷ []) (asked ++ a ∷ [])
 AllAsk-push [] [] l a h k = (k, tt)
 AllAsk-push [] (b ∷ bs) l a h k = absurd h
@@ -38,7 +40,8 @@ AllAsk-push (m ∷ ms) [] l a h k = absurd h
 AllAsk-push (m ∷ ms) (b ∷ bs) l a h k = (h.0, AllAsk-push ms bs l a h.1 k)
 
 module _ (o : Opening) where
-  pub behind_all-push : (w : World) (asked : List (Result ScriptLine LineFault)) (a : Result ScriptLine LineFault) → behind_all o w (asked ++ a ∷ []) ≡ behind o (behind_all o w asked) a
+  pub behind_all-push : (w : World) (asked : List (Result ScriptLine LineFault)) (a : Result ScriptLine LineFault)
+      → behind_all o w (asked ++ a ∷ []) ≡ behind o (behind_all o w asked) a
   behind_all-push w [] a = refl
   behind_all-push w (b ∷ asked) a = behind_all-push (behind o w b) asked a
 
@@ -47,10 +50,12 @@ module _ (o : Opening) where
   shown_all-push w [] a = append-nil (shown o w a)
   shown_all-push w (b ∷ asked) a =
       ap (λ (t : List Shown). shown o w b ++ t) (shown_all-push (behind o w b) asked a)
-      ∙ sym (append_assoc (shown o w b) (shown_all o (behind o w b) asked) (shown o (behind_all o (behind o w b) asked) a))
+      ∙ sym (append_assoc (shown o w b) (shown_all o (behind o w b) asked)
+      (shown o (behind_all o (behind o w b) asked) a))
 
 -- no line was played yet
-pub PlaysLines-start : (input : Option (List ℕ)) (most : ℕ) (old : Held) (a : Option (List ℕ)) → PlaysLines input input most most old old a a true
+pub PlaysLines-start : (input : Option (List ℕ)) (most : ℕ) (old : Held) (a : Option (List ℕ))
+    → PlaysLines input input most most old old a a true
 PlaysLines-start input most old a = record {
   taken = [];
   asked = [];
@@ -63,15 +68,20 @@ PlaysLines-start input most old a = record {
   fine_is = refl;
 }
 
-module _ (input mid : Option (List ℕ)) (most l1 : ℕ) (old h1 : Held) (a b : Option (List ℕ)) (fine : Bool) (P : PlaysLines input mid most l1 old h1 a b fine) where
+module _ (input mid : Option (List ℕ)) (most l1 : ℕ) (old h1 : Held) (a b : Option (List ℕ)) (fine : Bool)
+    (P : PlaysLines input mid most l1 old h1 a b fine) where
   -- what one more line prints
-  pub text-push : (asked : Result ScriptLine LineFault) → shown_text (shown_all (opening_of old) (seen old) (P.asked ++ asked ∷ []))
+  pub text-push : (asked : Result ScriptLine LineFault)
+      → shown_text (shown_all (opening_of old) (seen old) (P.asked ++ asked ∷ []))
       ≡ shown_text (shown_all (opening_of old) (seen old) P.asked) ++ shown_on h1 asked
   text-push asked =
       ap shown_text (shown_all-push (opening_of old) (seen old) P.asked asked)
-      ∙ shown_text-append (shown_all (opening_of old) (seen old) P.asked) (shown (opening_of old) (behind_all (opening_of old) (seen old) P.asked) asked)
-      ∙ ap (λ (w : World). shown_text (shown_all (opening_of old) (seen old) P.asked) ++ shown_text (shown (opening_of old) w asked)) (sym P.world)
-      ∙ ap (λ (o : Opening). shown_text (shown_all (opening_of old) (seen old) P.asked) ++ shown_text (shown o (seen h1) asked)) (sym P.opening)
+      ∙ shown_text-append (shown_all (opening_of old) (seen old) P.asked)
+      (shown (opening_of old) (behind_all (opening_of old) (seen old) P.asked) asked)
+      ∙ ap (λ (w : World). shown_text (shown_all (opening_of old) (seen old) P.asked)
+      ++ shown_text (shown (opening_of old) w asked)) (sym P.world)
+      ∙ ap (λ (o : Opening). shown_text (shown_all (opening_of old) (seen old) P.asked)
+      ++ shown_text (shown o (seen h1) asked)) (sym P.opening)
 
   -- what was played so far, where a fault comes behind empty lines
   module _ (rest : Option (List ℕ)) (ls : List (List ℕ)) (part : List ℕ) (s : spoken ls ≡ []) (t : LosesInto mid rest
@@ -115,11 +125,13 @@ module _ (input mid : Option (List ℕ)) (most l1 : ℕ) (old h1 : Held) (a b : 
       → StopsPlaying input rest most old a b fault.Memory
   StopsPlaying-next rest g = (PlaysSome-part rest g.0 g.1 g.2 g.3, g.4)
 
-  module _ (rest : Option (List ℕ)) (ls : List (List ℕ)) (line : List ℕ) (asked : Result ScriptLine LineFault) (s : spoken ls ≡ line ∷ []) (t : LosesLines mid rest ls)
+  module _ (rest : Option (List ℕ)) (ls : List (List ℕ)) (line : List ℕ) (asked : Result ScriptLine LineFault)
+      (s : spoken ls ≡ line ∷ []) (t : LosesLines mid rest ls)
       (q : LineAsks line asked) where
     pub each-push : AllAsk (spoken (P.taken ++ ls)) (P.asked ++ asked ∷ [])
     each-push = subst (λ (xs : List (List ℕ)). AllAsk xs (P.asked ++ asked ∷ []))
-        (sym (spoken-append P.taken ls ∙ ap (λ (xs : List (List ℕ)). spoken P.taken ++ xs) s)) (AllAsk-push (spoken P.taken) P.asked line asked P.each q)
+        (sym (spoken-append P.taken ls ∙ ap (λ (xs : List (List ℕ)). spoken P.taken ++ xs) s))
+        (AllAsk-push (spoken P.taken) P.asked line asked P.each q)
 
     -- a fault comes while a line is played
     abbrev pub PlaysSome-next : (c : Option (List ℕ)) → AppendsPart b c (shown_on h1 asked)
@@ -130,11 +142,13 @@ module _ (input mid : Option (List ℕ)) (most l1 : ℕ) (old h1 : Held) (a b : 
       asked = P.asked ++ asked ∷ [];
       read = LosesInto-whole input rest (P.taken ++ ls) (LosesLines-trans input mid rest P.taken ls P.read t);
       each = each-push;
-      wrote = subst (λ (x : List ℕ). AppendsPart a c x) (sym (text-push asked)) (AppendsPart-behind a b c _ (shown_on h1 asked) P.wrote p);
+      wrote = subst (λ (x : List ℕ). AppendsPart a c x) (sym (text-push asked))
+          (AppendsPart-behind a b c _ (shown_on h1 asked) P.wrote p);
     }
 
     -- a line is played
-    pub PlaysLines-next : (l2 : ℕ) (h2 : Held) (c : Option (List ℕ)) (fine2 : Bool) → l1 ≡ l2 + count_of_all ls → PlaysLine h1 h2 asked b c fine2
+    pub PlaysLines-next : (l2 : ℕ) (h2 : Held) (c : Option (List ℕ)) (fine2 : Bool) → l1 ≡ l2 + count_of_all ls
+        → PlaysLine h1 h2 asked b c fine2
         → PlaysLines input rest most l2 old h2 a c (fine && fine2)
     PlaysLines-next l2 h2 c fine2 e p = record {
       taken = P.taken ++ ls;
@@ -143,18 +157,24 @@ module _ (input mid : Option (List ℕ)) (most l1 : ℕ) (old h1 : Held) (a b : 
       counted = omega (arith, P.counted, e, count_of_all-append P.taken ls);
       each = each-push;
       opening = p.opening ∙ P.opening;
-      world = p.world ∙ ap (λ (o : Opening). behind o (seen h1) asked) P.opening ∙ ap (λ (w : World). behind (opening_of old) w asked) P.world
+      world = p.world ∙ ap (λ (o : Opening). behind o (seen h1) asked) P.opening
+          ∙ ap (λ (w : World). behind (opening_of old) w asked) P.world
           ∙ sym (behind_all-push (opening_of old) (seen old) P.asked asked);
-      wrote = subst (λ (x : List ℕ). Appends a c x) (sym (text-push asked)) (Appends-trans a b c _ (shown_on h1 asked) P.wrote p.wrote);
+      wrote = subst (λ (x : List ℕ). Appends a c x) (sym (text-push asked))
+          (Appends-trans a b c _ (shown_on h1 asked) P.wrote p.wrote);
       fine_is = ap (λ (x : Bool). x && fine2) P.fine_is
           ∙ ap (λ (x : Bool). list_all is_fine (shown_all (opening_of old) (seen old) P.asked) && x)
-          (p.fine_is ∙ ap (λ (o : Opening). list_all is_fine (shown o (seen h1) asked)) P.opening ∙ ap (λ (w : World). list_all is_fine (shown (opening_of old) w asked)) P.world)
-          ∙ sym (list_all-append is_fine (shown_all (opening_of old) (seen old) P.asked) (shown (opening_of old) (behind_all (opening_of old) (seen old) P.asked) asked))
-          ∙ ap (λ (xs : List Shown). list_all is_fine xs) (sym (shown_all-push (opening_of old) (seen old) P.asked asked));
+          (p.fine_is ∙ ap (λ (o : Opening). list_all is_fine (shown o (seen h1) asked)) P.opening
+          ∙ ap (λ (w : World). list_all is_fine (shown (opening_of old) w asked)) P.world)
+          ∙ sym (list_all-append is_fine (shown_all (opening_of old) (seen old) P.asked)
+          (shown (opening_of old) (behind_all (opening_of old) (seen old) P.asked) asked))
+          ∙ ap (λ (xs : List Shown). list_all is_fine xs)
+          (sym (shown_all-push (opening_of old) (seen old) P.asked asked));
     }
 
 -- what the exit of a `?` says of lines
-pub PlaysAll-err : (input rest : Option (List ℕ)) (most left : ℕ) (old new : Held) (a b : Option (List ℕ)) (r : Result Bool ScriptFault) (y : ScriptFault)
+pub PlaysAll-err : (input rest : Option (List ℕ)) (most left : ℕ) (old new : Held) (a b : Option (List ℕ))
+    (r : Result Bool ScriptFault) (y : ScriptFault)
     → r ≡ Err y → StopsPlaying input rest most old a b y → PlaysAll input rest most left old new a b r
 PlaysAll-err input rest most left old new a b r y e p = rw e p
 
@@ -175,8 +195,10 @@ PlaysLines-kept input rest most left old new a b c fine p k = record {
 }
 
 -- empty lines are read
-pub PlaysLines-blank : (input mid rest : Option (List ℕ)) (most l1 l2 : ℕ) (old h1 : Held) (a b : Option (List ℕ)) (fine : Bool) (P : PlaysLines input mid most l1 old h1 a b fine)
-    (ls : List (List ℕ)) → spoken ls ≡ [] → LosesLines mid rest ls → l1 ≡ l2 + count_of_all ls → PlaysLines input rest most l2 old h1 a b fine
+pub PlaysLines-blank : (input mid rest : Option (List ℕ)) (most l1 l2 : ℕ) (old h1 : Held) (a b : Option (List ℕ))
+    (fine : Bool) (P : PlaysLines input mid most l1 old h1 a b fine)
+    (ls : List (List ℕ)) → spoken ls ≡ [] → LosesLines mid rest ls → l1 ≡ l2 + count_of_all ls
+    → PlaysLines input rest most l2 old h1 a b fine
 PlaysLines-blank input mid rest most l1 l2 old h1 a b fine P ls s t e = record {
   taken = P.taken ++ ls;
   asked = P.asked;

@@ -17,31 +17,42 @@ use Rattle.cluster_script.proofs.Nodes.{in_world-listed, nodes_of-listed}
 module _ (h : Held) (a : ℕ) (x : Output) where
   -- what is shown where there is no such node
   shown_none : set_of h.nodes a ≡ false → Error NoSuchNode ≡ shown_at (opening_of h) settle_limit (seen h) a x
-  shown_none e = ap (λ (b : Bool). if not b then Error NoSuchNode else (if left (seen h) a then Error NodeLeft else x)) (sym (in_world-listed h a ∙ e))
+  shown_none e = ap (λ (b : Bool). if not b then Error NoSuchNode else (if left (seen h) a then Error NodeLeft else x))
+      (sym (in_world-listed h a ∙ e))
 
   -- and where there is
   shown_some : set_of h.nodes a ≡ true → left (seen h) a ≡ false → x ≡ shown_at (opening_of h) settle_limit (seen h) a x
   shown_some e r =
       ap (λ (b : Bool). if b then Error NodeLeft else x) (sym r)
-      ∙ ap (λ (b : Bool). if not b then Error NoSuchNode else (if left (seen h) a then Error NodeLeft else x)) (sym (in_world-listed h a ∙ e))
+      ∙ ap (λ (b : Bool). if not b then Error NoSuchNode else (if left (seen h) a then Error NodeLeft else x))
+      (sym (in_world-listed h a ∙ e))
 
   -- there is no such node
   pub IsShown-none : set_of h.nodes a ≡ false → IsShown h a x None
   IsShown-none e = record { text = ap output_line (shown_none e); fine = ap is_fine_output (shown_none e) }
 
   -- a node of the world is shown
-  pub IsShown-some : (line : List ℕ) → set_of h.nodes a ≡ true → left (seen h) a ≡ false → is_fine_output x ≡ true → line ≡ output_line x → IsShown h a x (Some line)
-  IsShown-some line e r f l = record { text = l ∙ ap output_line (shown_some e r); fine = sym f ∙ ap is_fine_output (shown_some e r) }
+  pub IsShown-some : (line : List ℕ) → set_of h.nodes a ≡ true → left (seen h) a ≡ false → is_fine_output x ≡ true
+      → line ≡ output_line x → IsShown h a x (Some line)
+  IsShown-some line e r f l = record {
+    text = l ∙ ap output_line (shown_some e r);
+    fine = sym f
+        ∙ ap is_fine_output (shown_some e r);
+  }
 
 -- its table is shown
 pub IsShown-table : (h : Held) (a : ℕ) (t : Table) (line : List ℕ) → set_of h.nodes a ≡ true → left (seen h) a ≡ false
     → t ≡ ((seen h).node a).replica.table → line ≡ output_line (TableIs t) → IsShown h a (table_of h a) (Some line)
-IsShown-table h a t line e r q l = IsShown-some h a (table_of h a) line e r refl (l ∙ ap (λ (u : Table). output_line (TableIs u)) q)
+IsShown-table h a t line e r q l = IsShown-some h a (table_of h a) line e r refl
+    (l ∙ ap (λ (u : Table). output_line (TableIs u)) q)
 
 -- its members are shown
-pub IsShown-members : (h : Held) (a : ℕ) (xs : List ℕ) (line : List ℕ) → set_of h.nodes a ≡ true → left (seen h) a ≡ false
-    → IsNodeSet xs → IsWithin h.nodes xs → set_of xs ≡ ((seen h).node a).replica.members → line ≡ output_line (MembersAre xs)
+pub IsShown-members : (h : Held) (a : ℕ) (xs : List ℕ) (line : List ℕ) → set_of h.nodes a ≡ true → left (seen h) a
+    ≡ false
+    → IsNodeSet xs → IsWithin h.nodes xs → set_of xs ≡ ((seen h).node a).replica.members → line
+    ≡ output_line (MembersAre xs)
     → IsShown h a (members_of h a) (Some line)
 IsShown-members h a xs line e r set within q l =
     IsShown-some h a (members_of h a) line e r refl
-    (l ∙ ap (λ (cs : List ℕ). output_line (MembersAre cs)) (sym (nodes_of-listed h xs ((seen h).node a).replica.members set within q)))
+    (l ∙ ap (λ (cs : List ℕ). output_line (MembersAre cs))
+    (sym (nodes_of-listed h xs ((seen h).node a).replica.members set within q)))

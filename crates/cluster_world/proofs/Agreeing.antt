@@ -93,5 +93,8 @@ agrees_played e old new now P = agrees (e ∷ []) now old new (record { nodes = 
 -- nothing was played
 pub agrees_unchanged : (old new : Held) → new ≡ old → Agrees [] [] old new
 agrees_unchanged old new same =
-    agrees [] [] old new (record { nodes = ap (λ (h : Held). h.nodes) same; cluster = ap (λ (h : Held). h.cluster) same })
+    agrees [] [] old new (record {
+      nodes = ap (λ (h : Held). h.nodes) same;
+      cluster = ap (λ (h : Held). h.cluster) same;
+    })
     (ap seen same) refl

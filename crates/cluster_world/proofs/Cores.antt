@@ -20,24 +20,29 @@ module _ {C : Type 0} (name : C → ℕ) where
   name_at (d ∷ cs) zero c l = refl
   name_at (d ∷ cs) (suc i) c l = name_at cs i c (omega arith)
 
-  pub names-set : (cs : List C) (i : ℕ) (v : C) → i < length cs → name v ≡ get_or (map name cs) i 0 → map name (set cs i v) ≡ map name cs
+  pub names-set : (cs : List C) (i : ℕ) (v : C) → i < length cs → name v ≡ get_or (map name cs) i 0
+      → map name (set cs i v) ≡ map name cs
   names-set [] i v l e = refl
   names-set (d ∷ cs) zero v l e = ap (λ (x : ℕ). x ∷ map name cs) e
   names-set (d ∷ cs) (suc i) v l e = ap (λ (xs : List ℕ). name d ∷ xs) (names-set cs i v (omega arith) e)
 
   -- the first that has a name stands at the first place of the name
-  found_first : (cs : List C) (i : ℕ) (v : C) (a : ℕ) → i < length cs → ((k : ℕ) → k < i → (name (get_or cs k v) == a) ≡ false)
+  found_first : (cs : List C) (i : ℕ) (v : C) (a : ℕ) → i < length cs
+      → ((k : ℕ) → k < i → (name (get_or cs k v) == a) ≡ false)
       → (name (get_or cs i v) == a) ≡ true → core_of a cs ≡ Some (get_or cs i v)
   found_first [] i v a l before here = absurd (omega arith)
   found_first (d ∷ cs) zero v a l before here = ap (λ (b : Bool). if b then Some d else core_of a cs) here
-  found_first (d ∷ cs) (suc i) v a l before here = ap (λ (b : Bool). if b then Some d else core_of a cs) (before 0 (omega arith))
+  found_first (d ∷ cs) (suc i) v a l before here = ap (λ (b : Bool). if b then Some d else core_of a cs)
+      (before 0 (omega arith))
       ∙ found_first cs i v a (omega arith) (λ k m. before (suc k) (omega arith)) here
 
-  wrote_first : (cs : List C) (i : ℕ) (v : C) (a : ℕ) → i < length cs → ((k : ℕ) → k < i → (name (get_or cs k v) == a) ≡ false)
+  wrote_first : (cs : List C) (i : ℕ) (v : C) (a : ℕ) → i < length cs
+      → ((k : ℕ) → k < i → (name (get_or cs k v) == a) ≡ false)
       → (name v == a) ≡ true → core_of a (set cs i v) ≡ Some v
   wrote_first [] i v a l before here = absurd (omega arith)
   wrote_first (d ∷ cs) zero v a l before here = ap (λ (b : Bool). if b then Some v else core_of a cs) here
-  wrote_first (d ∷ cs) (suc i) v a l before here = ap (λ (b : Bool). if b then Some d else core_of a (set cs i v)) (before 0 (omega arith))
+  wrote_first (d ∷ cs) (suc i) v a l before here = ap (λ (b : Bool). if b then Some d else core_of a (set cs i v))
+      (before 0 (omega arith))
       ∙ wrote_first cs i v a (omega arith) (λ k m. before (suc k) (omega arith)) here
 
   -- no core stands before the place that has its name
@@ -47,7 +52,8 @@ module _ {C : Type 0} (name : C → ℕ) where
       ∙ (position-Some (λ x. x == a) (map name cs) i 0 e).2 k m
 
   -- the core of a node at its place
-  pub core_here : (cs : List C) (i : ℕ) (c : C) (a : ℕ) → i < length cs → place a (map name cs) ≡ Some i → core_of a cs ≡ Some (get_or cs i c)
+  pub core_here : (cs : List C) (i : ℕ) (c : C) (a : ℕ) → i < length cs → place a (map name cs) ≡ Some i → core_of a cs
+      ≡ Some (get_or cs i c)
   core_here cs i c a l e = found_first cs i c a l (not_before cs i c a l e)
       (ap (λ (x : ℕ). x == a) (name_at cs i c l) ∙ (position-Some (λ x. x == a) (map name cs) i 0 e).1)
 
@@ -57,7 +63,8 @@ module _ {C : Type 0} (name : C → ℕ) where
   core_wrote cs i v a l e is = by_test a (λ x t. core_of x (set cs i v) ≡ (if t then Some v else core_of x cs))
       (wrote_first cs i v a l (not_before cs i v a l e) (ap (λ (x : ℕ). x == a) is ∙ eq-eqb a a refl))
       (λ x ne. find_past (λ c. name c == x) cs i v v
-      (ap (λ (y : ℕ). y == x) (name_at cs i v l) ∙ ap (λ (y : ℕ). y == x) (place-Some a (map name cs) i e).1 ∙ ne_eqb a x (λ same. ne (sym same)))
+      (ap (λ (y : ℕ). y == x) (name_at cs i v l) ∙ ap (λ (y : ℕ). y == x) (place-Some a (map name cs) i e).1
+      ∙ ne_eqb a x (λ same. ne (sym same)))
       (ap (λ (y : ℕ). y == x) is ∙ ne_eqb a x (λ same. ne (sym same))))
 
   -- no core has the name of a node that has no place
@@ -66,6 +73,7 @@ module _ {C : Type 0} (name : C → ℕ) where
   no_core (d ∷ cs) a e = go (name d == a) e (no_core cs a)
     where
       go : (b : Bool) → (b || list_any (λ m. m == a) (map name cs)) ≡ false
-          → (list_any (λ m. m == a) (map name cs) ≡ false → core_of a cs ≡ None) → (if b then Some d else core_of a cs) ≡ None
+          → (list_any (λ m. m == a) (map name cs) ≡ false → core_of a cs ≡ None) → (if b then Some d else core_of a cs)
+          ≡ None
       go true e more = cc
       go false e more = more e

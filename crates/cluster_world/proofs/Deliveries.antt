@@ -29,7 +29,8 @@ module _ (h : Held) (whole : IsWhole h) where
   ends f t e = go (joins f t h.links) refl ∙ refl
     where
       both : (set_of h.nodes f && set_of h.nodes t) ≡ joins f t h.links
-      both = sym (ap (λ (c : Bool). c && set_of h.nodes t) (is_some-place h.nodes f)) ∙ sym (ap (λ (c : Bool). is_some (place f h.nodes) && c) (is_some-place h.nodes t))
+      both = sym (ap (λ (c : Bool). c && set_of h.nodes t) (is_some-place h.nodes f))
+          ∙ sym (ap (λ (c : Bool). is_some (place f h.nodes) && c) (is_some-place h.nodes t))
           ∙ ap (λ (ns : List ℕ). is_some (place f ns) && is_some (place t ns)) (sym whole.links)
 
       go : (b : Bool) → joins f t h.links ≡ b → (set_of h.nodes f && set_of h.nodes t) ≡ true
@@ -45,8 +46,10 @@ module _ (h : Held) (whole : IsWhole h) where
   second false d e = cc
 
   pub waits : (o : Option (ℕ × ℕ)) → WaitsFirst o h.links → WaitsOn o h
-  waits None none = next_none (opening_of h) (seen h) h.nodes (nodes_are h.nodes h.cluster whole.set) (λ x y. nothing x y (none x y))
-  waits (Some (f, t)) w = next_first (opening_of h) (seen h) h.nodes (nodes_are h.nodes h.cluster whole.set) f t whole.set.rising sender receiver
+  waits None none = next_none (opening_of h) (seen h) h.nodes (nodes_are h.nodes h.cluster whole.set)
+      (λ x y. nothing x y (none x y))
+  waits (Some (f, t)) w = next_first (opening_of h) (seen h) h.nodes (nodes_are h.nodes h.cluster whole.set) f t
+      whole.set.rising sender receiver
       (accepted_waiting (opening_of h) (seen h) f t (inside f sender) (inside t receiver)
       (ap (λ (s : Nodes). s t) whole.running) (empty ((links_of h.links).queue f t) ∙ w.0))
       (λ x y before. nothing x y (w.1 x y before))

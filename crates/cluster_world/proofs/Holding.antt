@@ -25,14 +25,17 @@ abbrev pub NobodyBefore : ℕ → List Core → Type 0
 NobodyBefore i cs = (k : ℕ) (d : Core) → k < i → is_holding (get_or cs k d) ≡ false
 
 -- a search for a name is a search for its core
-found_by_name : (p : ℕ → Bool) (cs : List Core) → ((k : ℕ) (d : Core) → k < length cs → p (get_or cs k d).name ≡ is_holding (get_or cs k d))
+found_by_name : (p : ℕ → Bool) (cs : List Core) → ((k : ℕ) (d : Core) → k < length cs → p (get_or cs k d).name
+    ≡ is_holding (get_or cs k d))
     → find p (map name_of cs) ≡ option_map name_of (find is_holding cs)
 found_by_name p [] same = refl
-found_by_name p (c ∷ cs) same = ap (λ (b : Bool). if b then Some c.name else find p (map name_of cs)) (same 0 c (omega arith))
+found_by_name p (c ∷ cs) same = ap (λ (b : Bool). if b then Some c.name else find p (map name_of cs))
+    (same 0 c (omega arith))
     ∙ go (is_holding c) (found_by_name p cs (λ k d l. same (suc k) d (omega arith)))
   where
     go : (b : Bool) → find p (map name_of cs) ≡ option_map name_of (find is_holding cs)
-        → (if b then Some c.name else find p (map name_of cs)) ≡ option_map name_of (if b then Some c else find is_holding cs)
+        → (if b then Some c.name else find p (map name_of cs))
+        ≡ option_map name_of (if b then Some c else find is_holding cs)
     go true e = refl
     go false e = e
 
@@ -45,7 +48,8 @@ found_some : (cs : List Core) (i : ℕ) (c : Core) → i < length cs → NobodyB
     → find is_holding cs ≡ Some (get_or cs i c)
 found_some [] i c l none here = absurd (omega arith)
 found_some (d ∷ cs) zero c l none here = ap (λ (b : Bool). if b then Some d else find is_holding cs) here
-found_some (d ∷ cs) (suc i) c l none here = ap (λ (b : Bool). if b then Some d else find is_holding cs) (none 0 c (omega arith))
+found_some (d ∷ cs) (suc i) c l none here = ap (λ (b : Bool). if b then Some d else find is_holding cs)
+    (none 0 c (omega arith))
     ∙ found_some cs i c (omega arith) (λ k e m. none (suc k) e (omega arith)) here
 
 module _ (h : Held) (whole : IsWhole h) where
@@ -56,11 +60,14 @@ module _ (h : Held) (whole : IsWhole h) where
   stays true c e = ap not e
   stays false c e = refl
 
-  node_is : (k : ℕ) (d : Core) → k < length h.cores → (seen h).node (get_or h.cores k d).name ≡ node_of (get_or h.cores k d)
+  node_is : (k : ℕ) (d : Core) → k < length h.cores → (seen h).node (get_or h.cores k d).name
+      ≡ node_of (get_or h.cores k d)
   node_is k d l = ap (node_with (opening_of h) (get_or h.cores k d).name)
       (core_here name_of h.cores k d (get_or h.cores k d).name l
-      (ap (λ (a : ℕ). place a (map name_of h.cores)) (name_at name_of h.cores k d l) ∙ ap (λ (ns : List ℕ). place (get_or ns k 0) ns) whole.names
-      ∙ place-get_or h.nodes k whole.set.rising (omega (arith, ap (λ (ns : List ℕ). length ns) whole.names, length-map h.cores name_of))))
+      (ap (λ (a : ℕ). place a (map name_of h.cores)) (name_at name_of h.cores k d l)
+      ∙ ap (λ (ns : List ℕ). place (get_or ns k 0) ns) whole.names
+      ∙ place-get_or h.nodes k whole.set.rising (omega
+      (arith, ap (λ (ns : List ℕ). length ns) whole.names, length-map h.cores name_of))))
 
   same : (k : ℕ) (d : Core) → k < length h.cores → holds (get_or h.cores k d).name ≡ is_holding (get_or h.cores k d)
   unfolding holds
@@ -69,7 +76,8 @@ module _ (h : Held) (whole : IsWhole h) where
 
   holder_is : holder (opening_of h) (seen h) ≡ option_map name_of (find is_holding h.cores)
   unfolding holds
-  holder_is = ap (find holds) (nodes_are h.nodes h.cluster whole.set ∙ sym whole.names) ∙ found_by_name holds h.cores same
+  holder_is = ap (find holds) (nodes_are h.nodes h.cluster whole.set ∙ sym whole.names)
+      ∙ found_by_name holds h.cores same
 
   nobody_holds : NobodyBefore (length h.cores) h.cores → None ≡ holder (opening_of h) (seen h)
   nobody_holds none = sym (holder_is ∙ ap (option_map name_of) (found_none h.cores none))
@@ -79,17 +87,20 @@ module _ (h : Held) (whole : IsWhole h) where
   this_holds i c l none here = sym (holder_is ∙ ap (option_map name_of) (found_some h.cores i c l none here))
 
 -- one core more was looked at
-pub nobody_more : (cs : List Core) (i : ℕ) (c : Core) → i < length cs → c ≡ get_or cs i c → NobodyBefore i cs → is_holding c ≡ false → NobodyBefore (i + 1) cs
+pub nobody_more : (cs : List Core) (i : ℕ) (c : Core) → i < length cs → c ≡ get_or cs i c → NobodyBefore i cs
+    → is_holding c ≡ false → NobodyBefore (i + 1) cs
 nobody_more cs i c l is before here k d m = elim (cases_lt k i) [
   | inl less ↦ before k d less
-  | inr more ↦ ap (λ (j : ℕ). is_holding (get_or cs j d)) (same_place k i m more) ∙ ap is_holding (get_or_default cs i d c l ∙ sym is) ∙ here
+  | inr more ↦ ap (λ (j : ℕ). is_holding (get_or cs j d)) (same_place k i m more)
+      ∙ ap is_holding (get_or_default cs i d c l ∙ sym is) ∙ here
 ]
   where
     same_place : (k i : ℕ) → k < i + 1 → i ≤ k → k ≡ i
     same_place k i m n = omega arith
 
 -- this core holds, and none before it
-pub this_core : (h : Held) (cs : List Core) (i : ℕ) (c : Core) (x : ℕ) → IsWhole h → cs ≡ h.cores → i < length cs → c ≡ get_or cs i c → NobodyBefore i cs
+pub this_core : (h : Held) (cs : List Core) (i : ℕ) (c : Core) (x : ℕ) → IsWhole h → cs ≡ h.cores → i < length cs → c
+    ≡ get_or cs i c → NobodyBefore i cs
     → is_holding c ≡ true → x ≡ c.name → Some x ≡ holder (opening_of h) (seen h)
 this_core h cs i c x whole are l is before here named =
     ap Some (named ∙ ap name_of here_is) ∙ this_holds h whole i c (subst (λ (ds : List Core). i < length ds) are l)
@@ -117,4 +128,5 @@ not_global c e = ap (λ (b : Bool). c.joined && b) e ∙ and_false c.joined
 pub no_core_holds : (h : Held) (cs : List Core) (i : ℕ) → IsWhole h → cs ≡ h.cores → length cs ≤ i → NobodyBefore i cs
     → None ≡ holder (opening_of h) (seen h)
 no_core_holds h cs i whole are le before =
-    nobody_holds h whole (λ k d l. subst (λ (ds : List Core). is_holding (get_or ds k d) ≡ false) are (before k d (omega (arith, l, le, ap (λ (ds : List Core). length ds) are))))
+    nobody_holds h whole (λ k d l. subst (λ (ds : List Core). is_holding (get_or ds k d) ≡ false) are
+    (before k d (omega (arith, l, le, ap (λ (ds : List Core). length ds) are))))

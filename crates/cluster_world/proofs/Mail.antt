@@ -18,13 +18,15 @@ use Rattle.cluster_world.specs.Links.{mapped, letters_to}
 abbrev with_queue : {L : Type 0} → Links L → (ℕ → ℕ → List L) → Links L
 with_queue w q = record w { queue = q }
 
-queues_agree : {L : Type 0} (w : Links L) (p q : ℕ → ℕ → List L) → ((x y : ℕ) → p x y ≡ q x y) → with_queue w p ≡ with_queue w q
+queues_agree : {L : Type 0} (w : Links L) (p q : ℕ → ℕ → List L) → ((x y : ℕ) → p x y ≡ q x y) → with_queue w p
+    ≡ with_queue w q
 queues_agree w p q same = ap (with_queue w) (fun_ext (λ x. fun_ext (λ y. same x y)))
 
 -- posted where letters are seen as f sees them
 pub mapped-posted : {L M : Type 0} (f : L → M) (a : ℕ) (ls : ℕ → List L) (w : Links L)
     → mapped f (posted a ls w) ≡ posted a (λ t. map f (ls t)) (mapped f w)
-mapped-posted f a ls w = queues_agree (mapped f w) (mapped f (posted a ls w)).queue (posted a (λ t. map f (ls t)) (mapped f w)).queue
+mapped-posted f a ls w = queues_agree (mapped f w) (mapped f (posted a ls w)).queue
+    (posted a (λ t. map f (ls t)) (mapped f w)).queue
     (λ x y. go x y ((x == a) && not (w.closed y)))
   where
     go : (x y : ℕ) (b : Bool) → map f (if b then w.queue x y ++ ls y else w.queue x y)
@@ -60,13 +62,15 @@ pub posted-posted : {L : Type 0} (a : ℕ) (ls ms : ℕ → List L) (w : Links L
 posted-posted a ls ms w = queues_agree w (posted a ms (posted a ls w)).queue (posted a (λ t. ls t ++ ms t) w).queue
     (λ x y. go x y ((x == a) && not (w.closed y)))
   where
-    go : (x y : ℕ) (b : Bool) → (if b then (if b then w.queue x y ++ ls y else w.queue x y) ++ ms y else (if b then w.queue x y ++ ls y else w.queue x y))
+    go : (x y : ℕ) (b : Bool) → (if b then (if b then w.queue x y ++ ls y else w.queue x y)
+        ++ ms y else (if b then w.queue x y ++ ls y else w.queue x y))
         ≡ (if b then w.queue x y ++ (ls y ++ ms y) else w.queue x y)
     go x y true = append_assoc (w.queue x y) (ls y) (ms y)
     go x y false = refl
 
 -- the letters of one more
-letters_to-push : {L : Type 0} (t : ℕ) (ss : List (ℕ × L)) (s : ℕ × L) → letters_to t (ss ++ s ∷ []) ≡ letters_to t ss ++ only_to s.0 s.1 t
+letters_to-push : {L : Type 0} (t : ℕ) (ss : List (ℕ × L)) (s : ℕ × L) → letters_to t (ss ++ s ∷ []) ≡ letters_to t ss
+    ++ only_to s.0 s.1 t
 letters_to-push t [] s = elim (cases_eq s.0 t) [
   | inl e ↦ rw (eq-eqb s.0 t e, eq-eqb t s.0 (sym e)) refl
   | inr ne ↦ rw (ne_eqb s.0 t ne, ne_eqb t s.0 (λ e. ne (sym e))) refl
@@ -74,7 +78,8 @@ letters_to-push t [] s = elim (cases_eq s.0 t) [
 letters_to-push t (r ∷ ss) s = go (r.0 == t) (letters_to-push t ss s)
   where
     go : (b : Bool) → letters_to t (ss ++ s ∷ []) ≡ letters_to t ss ++ only_to s.0 s.1 t
-        → map (λ s. s.1) (if b then r ∷ filter (λ s. s.0 == t) (ss ++ s ∷ []) else filter (λ s. s.0 == t) (ss ++ s ∷ []))
+        → map (λ s. s.1) (if b then r ∷ filter (λ s. s.0 == t) (ss ++ s ∷ []) else filter (λ s. s.0 == t)
+        (ss ++ s ∷ []))
         ≡ map (λ s. s.1) (if b then r ∷ filter (λ s. s.0 == t) ss else filter (λ s. s.0 == t) ss) ++ only_to s.0 s.1 t
     go true e = ap (λ (ls : List _). r.1 ∷ ls) e
     go false e = e

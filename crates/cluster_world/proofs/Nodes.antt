@@ -23,7 +23,8 @@ pub below_bound : (xs : List ℕ) (c : ℕ) → set_of xs c ≡ true → c < bou
 below_bound [] c e = cc
 below_bound (x ∷ xs) c e = go (x == c) refl e (below_bound xs c)
   where
-    go : (b : Bool) → (x == c) ≡ b → (b || set_of xs c) ≡ true → (set_of xs c ≡ true → c < bound_of xs) → c < max (x + 1) (bound_of xs)
+    go : (b : Bool) → (x == c) ≡ b → (b || set_of xs c) ≡ true → (set_of xs c ≡ true → c < bound_of xs)
+        → c < max (x + 1) (bound_of xs)
     go true is e later = let same : x ≡ c = eqb-true x c is in grind (arith, nat_tests)
     go false is e later = let more : c < bound_of xs = later e in grind (arith, nat_tests)
 
@@ -31,7 +32,8 @@ below_bound (x ∷ xs) c e = go (x == c) refl e (below_bound xs c)
 pub listed : (xs : List ℕ) (k d : ℕ) → k < length xs → set_of xs (get_or xs k d) ≡ true
 listed [] k d l = absurd (omega arith)
 listed (x ∷ xs) zero d l = ap (λ (b : Bool). b || set_of xs x) (eq-eqb x x refl)
-listed (x ∷ xs) (suc k) d l = ap (λ (b : Bool). (x == get_or xs k d) || b) (listed xs k d (omega arith)) ∙ or_true (x == get_or xs k d)
+listed (x ∷ xs) (suc k) d l = ap (λ (b : Bool). (x == get_or xs k d) || b) (listed xs k d (omega arith))
+    ∙ or_true (x == get_or xs k d)
   where
     or_true : (b : Bool) → (b || true) ≡ true
     or_true true = refl
@@ -74,4 +76,5 @@ module _ (nodes cluster : List ℕ) where
           and_false false = refl
 
   pub nodes_are : IsNodeSet nodes → nodes_of (bound_of nodes) (in_world (opening_with nodes cluster)) ≡ nodes
-  nodes_are set = ap (nodes_of (bound_of nodes)) world_is ∙ nodes_of-set_of (bound_of nodes) nodes set.rising (all_below nodes)
+  nodes_are set = ap (nodes_of (bound_of nodes)) world_is
+      ∙ nodes_of-set_of (bound_of nodes) nodes set.rising (all_below nodes)

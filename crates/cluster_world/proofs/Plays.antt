@@ -58,7 +58,8 @@ module _ (h : Held) where
   refused_stranger : (a : ℕ) (e : AnyEvent) → set_of h.nodes a ≡ false
       → refusal (opening_of h) (seen h) (AnyWorldEvent.At a e) ≡ Some AnyRefusal.NoSuchNode
   refused_stranger a e stranger =
-      ap (λ (b : Bool). if not b || not (in_world (opening_of h) (other (AnyWorldEvent.At a e))) then Some AnyRefusal.NoSuchNode
+      ap (λ (b : Bool). if not b || not (in_world (opening_of h) (other (AnyWorldEvent.At a e))) then Some
+      AnyRefusal.NoSuchNode
       else (if left (seen h) a then Some AnyRefusal.NodeLeft else first_cause (causes a ((seen h).node a) e)))
       (inside a false stranger)
 
@@ -70,11 +71,14 @@ module _ (h : Held) where
     refused_by_node : (e : AnyEvent) → other (AnyWorldEvent.At a e) ≡ a
         → refusal (opening_of h) (seen h) (AnyWorldEvent.At a e) ≡ first_cause (causes core.name (node_of core) e)
     refused_by_node e own =
-        ap (λ (c : ℕ). if not (in_world (opening_of h) a) || not (in_world (opening_of h) c) then Some AnyRefusal.NoSuchNode
+        ap (λ (c : ℕ). if not (in_world (opening_of h) a) || not (in_world (opening_of h) c) then Some
+        AnyRefusal.NoSuchNode
         else (if left (seen h) a then Some AnyRefusal.NodeLeft else first_cause (causes a ((seen h).node a) e))) own
         ∙ ap (λ (b : Bool). if not b || not b then Some AnyRefusal.NoSuchNode
-        else (if left (seen h) a then Some AnyRefusal.NodeLeft else first_cause (causes a ((seen h).node a) e))) (inside a true S.known)
-        ∙ ap (λ (b : Bool). if b then Some AnyRefusal.NodeLeft else first_cause (causes a ((seen h).node a) e)) (running whole a)
+        else (if left (seen h) a then Some AnyRefusal.NodeLeft else first_cause (causes a ((seen h).node a) e)))
+        (inside a true S.known)
+        ∙ ap (λ (b : Bool). if b then Some AnyRefusal.NodeLeft else first_cause (causes a ((seen h).node a) e))
+        (running whole a)
         ∙ ap (λ (v : Node). first_cause (causes a v e)) node_is
         ∙ ap (λ (n : ℕ). first_cause (causes n (node_of core) e)) (sym S.name)
 
@@ -91,7 +95,8 @@ module _ (h : Held) where
         ∙ ap (λ (s : Nodes). event (bound_of h.nodes) a s e (begun (node_of core))) (sym (world_is h.nodes h.cluster))
         ∙ ap (λ (v : Node). event (bound_of h.nodes) a (in_world (opening_of h)) e (begun v)) (sym node_is)
 
-    own_turn : (e : Event) (u : Turn) → IsTurn (node_event e) core u → u ≡ turn_of (opening_of h) (seen h) (event_of (At a e))
+    own_turn : (e : Event) (u : Turn) → IsTurn (node_event e) core u → u
+        ≡ turn_of (opening_of h) (seen h) (event_of (At a e))
     own_turn (Call c) u is = is ∙ event_is (own_event_of (Call c))
     own_turn Retry u is = is ∙ event_is (own_event_of Retry)
 
@@ -107,7 +112,8 @@ own_hears nodes (Call c) = tt
 own_hears nodes Retry = tt
 
 -- the node's own event is refused
-pub refuses_own : (h : Held) (a : ℕ) (e : Event) (r : Refusal) → IsWhole h → FailsAt r a (node_event e) h → RefusedWith r (At a e) h
+pub refuses_own : (h : Held) (a : ℕ) (e : Event) (r : Refusal) → IsWhole h → FailsAt r a (node_event e) h
+    → RefusedWith r (At a e) h
 refuses_own h a e NoSuchNode whole F = refused_stranger h a (own_event_of e) F
 refuses_own h a e EmptyLink whole (c, S, q) = refused_own h whole a c S e ∙ q
 refuses_own h a e SerialsSpent whole (c, S, q) = refused_own h whole a c S e ∙ q
@@ -118,14 +124,17 @@ refuses_own h a e Memory whole (c, S, q) = refused_own h whole a c S e ∙ q
 -- an event that is accepted, with what it makes
 happens_by : (h : Held) (e : AnyWorldEvent) (w : World) (u : Turn) → refusal (opening_of h) (seen h) e ≡ None
     → w ≡ accepted (opening_of h) (seen h) e → w ≡ happens (opening_of h) (seen h) e
-happens_by h e w u free is = is ∙ sym (ap (λ (r : Option AnyRefusal). if is_none r then accepted (opening_of h) (seen h) e else seen h) free)
+happens_by h e w u free is = is ∙ sym (ap (λ (r : Option AnyRefusal). if is_none r then accepted (opening_of h) (seen h)
+    e else seen h) free)
 
 answers_by : (h : Held) (e : AnyWorldEvent) (given : List AnyAnswer) → refusal (opening_of h) (seen h) e ≡ None
     → given ≡ (turn_of (opening_of h) (seen h) e).answers → given ≡ answers (opening_of h) (seen h) e
-answers_by h e given free is = is ∙ sym (ap (λ (r : Option AnyRefusal). if is_none r then (turn_of (opening_of h) (seen h) e).answers else []) free)
+answers_by h e given free is = is ∙ sym (ap (λ (r : Option AnyRefusal). if is_none r then
+    (turn_of (opening_of h) (seen h) e).answers else []) free)
 
 -- the node's own event is played
-pub plays_own : (old new : Held) (a : ℕ) (e : Event) (given : List Answer) → IsWhole old → Moves a (node_event e) old new given
+pub plays_own : (old new : Held) (a : ℕ) (e : Event) (given : List Answer) → IsWhole old
+    → Moves a (node_event e) old new given
     → Played (At a e) old new [] given
 plays_own old new a e given whole M = record {
   nodes = M.nodes;
@@ -133,7 +142,8 @@ plays_own old new a e given whole M = record {
   accepted = free;
   happens = happens_by old (event_of (At a e)) (seen new) M.turn free
       (M.world ∙ ap (λ (u : Turn). apply a u (seen old)) turn ∙ sym (stays old a e));
-  answers = answers_by old (event_of (At a e)) (map answer_of given) free (M.answers ∙ ap (λ (u : Turn). u.answers) turn);
+  answers = answers_by old (event_of (At a e)) (map answer_of given) free
+      (M.answers ∙ ap (λ (u : Turn). u.answers) turn);
 }
   where
     free : refusal (opening_of old) (seen old) (event_of (At a e)) ≡ None
@@ -150,7 +160,8 @@ front (x ∷ ls) l e = cc
 module _ (h : Held) (whole : IsWhole h) (f t : ℕ) where
   -- whether both ends of a link are nodes of the world
   ends : (b : Bool) → joins f t h.links ≡ b → (set_of h.nodes f && set_of h.nodes t) ≡ b
-  ends b e = sym (ap (λ (c : Bool). c && set_of h.nodes t) (is_some-place h.nodes f)) ∙ sym (ap (λ (c : Bool). is_some (place f h.nodes) && c) (is_some-place h.nodes t))
+  ends b e = sym (ap (λ (c : Bool). c && set_of h.nodes t) (is_some-place h.nodes f))
+      ∙ sym (ap (λ (c : Bool). is_some (place f h.nodes) && c) (is_some-place h.nodes t))
       ∙ ap (λ (ns : List ℕ). is_some (place f ns) && is_some (place t ns)) (sym whole.links) ∙ e
 
   -- the sender of a letter that is taken is of the world
@@ -164,37 +175,50 @@ module _ (h : Held) (whole : IsWhole h) (f t : ℕ) where
   -- a delivery, by whether its ends are nodes of the world
   refused_by : (b d : Bool) → set_of h.nodes f ≡ b → set_of h.nodes t ≡ d
       → refusal (opening_of h) (seen h) (AnyWorldEvent.Deliver f t)
-      ≡ (if not d || not b then Some AnyRefusal.NoSuchNode else (if is_nil (map letter_of ((links_of h.links).queue f t)) then Some AnyRefusal.EmptyLink else None))
+      ≡ (if not d || not b then Some AnyRefusal.NoSuchNode else
+      (if is_nil (map letter_of ((links_of h.links).queue f t)) then Some AnyRefusal.EmptyLink else None))
   refused_by b d e g =
       ap (λ (c : Bool). if not c || not (in_world (opening_of h) f) then Some AnyRefusal.NoSuchNode
-      else (if left (seen h) t then Some AnyRefusal.NodeLeft else (if is_nil ((seen h).links.queue f t) then Some AnyRefusal.EmptyLink else None))) (inside h t d g)
+      else (if left (seen h) t then Some AnyRefusal.NodeLeft else
+      (if is_nil ((seen h).links.queue f t) then Some AnyRefusal.EmptyLink else None))) (inside h t d g)
       ∙ ap (λ (c : Bool). if not d || not c then Some AnyRefusal.NoSuchNode
-      else (if left (seen h) t then Some AnyRefusal.NodeLeft else (if is_nil ((seen h).links.queue f t) then Some AnyRefusal.EmptyLink else None))) (inside h f b e)
+      else (if left (seen h) t then Some AnyRefusal.NodeLeft else
+      (if is_nil ((seen h).links.queue f t) then Some AnyRefusal.EmptyLink else None))) (inside h f b e)
       ∙ ap (λ (c : Bool). if not d || not b then Some AnyRefusal.NoSuchNode
-      else (if c then Some AnyRefusal.NodeLeft else (if is_nil ((seen h).links.queue f t) then Some AnyRefusal.EmptyLink else None))) (running h whole t)
+      else (if c then Some AnyRefusal.NodeLeft else
+      (if is_nil ((seen h).links.queue f t) then Some AnyRefusal.EmptyLink else None))) (running h whole t)
 
   -- the link refuses
-  pub refuses_on : (fault : LinkFault) → IsUndelivered fault f t h.links → RefusedWith (refusal_on fault) (Deliver f t) h
-  refuses_on on_link.NoSuchNode e = refused_by (set_of h.nodes f) (set_of h.nodes t) refl refl ∙ go (set_of h.nodes f) (set_of h.nodes t) (ends false e)
+  pub refuses_on : (fault : LinkFault) → IsUndelivered fault f t h.links
+      → RefusedWith (refusal_on fault) (Deliver f t) h
+  refuses_on on_link.NoSuchNode e = refused_by (set_of h.nodes f) (set_of h.nodes t) refl refl
+      ∙ go (set_of h.nodes f) (set_of h.nodes t) (ends false e)
     where
       go : (b d : Bool) → (b && d) ≡ false
-          → (if not d || not b then Some AnyRefusal.NoSuchNode else (if is_nil (map letter_of ((links_of h.links).queue f t)) then Some AnyRefusal.EmptyLink else None)) ≡ Some AnyRefusal.NoSuchNode
+          → (if not d || not b then Some AnyRefusal.NoSuchNode else
+          (if is_nil (map letter_of ((links_of h.links).queue f t)) then Some AnyRefusal.EmptyLink else None))
+          ≡ Some AnyRefusal.NoSuchNode
       go true true e = cc
       go true false e = refl
       go false true e = refl
       go false false e = refl
-  refuses_on on_link.EmptyLink (e, q) = refused_by (set_of h.nodes f) (set_of h.nodes t) refl refl ∙ go (set_of h.nodes f) (set_of h.nodes t) (ends true e)
+  refuses_on on_link.EmptyLink (e, q) = refused_by (set_of h.nodes f) (set_of h.nodes t) refl refl
+      ∙ go (set_of h.nodes f) (set_of h.nodes t) (ends true e)
     where
       go : (b d : Bool) → (b && d) ≡ true
-          → (if not d || not b then Some AnyRefusal.NoSuchNode else (if is_nil (map letter_of ((links_of h.links).queue f t)) then Some AnyRefusal.EmptyLink else None)) ≡ Some AnyRefusal.EmptyLink
-      go true true e = ap (λ (ls : List Letter). if is_nil (map letter_of ls) then Some AnyRefusal.EmptyLink else None) q
+          → (if not d || not b then Some AnyRefusal.NoSuchNode else
+          (if is_nil (map letter_of ((links_of h.links).queue f t)) then Some AnyRefusal.EmptyLink else None))
+          ≡ Some AnyRefusal.EmptyLink
+      go true true e = ap (λ (ls : List Letter). if is_nil (map letter_of ls) then Some AnyRefusal.EmptyLink else None)
+          q
       go true false e = cc
       go false true e = cc
       go false false e = cc
   refuses_on on_link.Memory e = absurd e
 
   module _ (letter : Letter) (links : Mesh Letter) (known : joins f t h.links ≡ true)
-      (oldest : slice_get ((links_of h.links).queue f t) 0 ≡ Some letter) (off : links_of links ≡ taken f t (links_of h.links))
+      (oldest : slice_get ((links_of h.links).queue f t) 0 ≡ Some letter)
+      (off : links_of links ≡ taken f t (links_of h.links))
       (same : links.nodes ≡ h.links.nodes) where
     -- what is held when the letter is off its link
     abbrev pub off_link : Held
@@ -241,7 +265,8 @@ module _ (h : Held) (whole : IsWhole h) (f t : ℕ) where
     refuses_delivery r F = subst (λ (x : Refusal). RefusedWith x (Deliver f t) h) (sym (only_memory r F)) free
 
     opened_is : seen off_link ≡ opened (AnyWorldEvent.Deliver f t) (seen h)
-    opened_is = ap (λ (w : Links AnyLetter). record (seen h) { links = w }) (ap (mapped letter_of) off ∙ mapped-taken letter_of f t (links_of h.links))
+    opened_is = ap (λ (w : Links AnyLetter). record (seen h) { links = w })
+        (ap (mapped letter_of) off ∙ mapped-taken letter_of f t (links_of h.links))
 
     module _ (new : Held) (given : List Answer) (M : Moves t (FromPeer f letter) off_link new given) where
       core : Core
@@ -249,9 +274,12 @@ module _ (h : Held) (whole : IsWhole h) (f t : ℕ) where
 
       turn : M.turn ≡ turn_of (opening_of h) (seen h) (AnyWorldEvent.Deliver f t)
       turn = M.makes (join_number (seen h))
-          ∙ ap (λ (ns : List ℕ). receive (bound_of ns) M.core.name (join_number (seen h)) f (letter_of letter) (begun (node_of M.core))) M.stands.world
-          ∙ ap (λ (n : ℕ). receive (bound_of h.nodes) n (join_number (seen h)) f (letter_of letter) (begun (node_of M.core))) M.stands.name
-          ∙ ap (λ (v : Node). receive (bound_of h.nodes) t (join_number (seen h)) f (letter_of letter) (begun v)) (sym (ap (node_with (opening_of h) t) M.stands.is))
+          ∙ ap (λ (ns : List ℕ). receive (bound_of ns) M.core.name (join_number (seen h)) f (letter_of letter)
+          (begun (node_of M.core))) M.stands.world
+          ∙ ap (λ (n : ℕ). receive (bound_of h.nodes) n (join_number (seen h)) f (letter_of letter)
+          (begun (node_of M.core))) M.stands.name
+          ∙ ap (λ (v : Node). receive (bound_of h.nodes) t (join_number (seen h)) f (letter_of letter) (begun v))
+          (sym (ap (node_with (opening_of h) t) M.stands.is))
           ∙ sym (ap (heard (bound_of h.nodes) t (seen h) f) queue_is)
 
       pub plays_delivery : Played (Deliver f t) h new [] given
@@ -260,6 +288,8 @@ module _ (h : Held) (whole : IsWhole h) (f t : ℕ) where
         cluster = M.cluster;
         accepted = free;
         happens = happens_by h (AnyWorldEvent.Deliver f t) (seen new) M.turn free
-            (M.world ∙ ap (apply t M.turn) opened_is ∙ ap (λ (u : Turn). apply t u (opened (AnyWorldEvent.Deliver f t) (seen h))) turn);
-        answers = answers_by h (AnyWorldEvent.Deliver f t) (map answer_of given) free (M.answers ∙ ap (λ (u : Turn). u.answers) turn);
+            (M.world ∙ ap (apply t M.turn) opened_is
+            ∙ ap (λ (u : Turn). apply t u (opened (AnyWorldEvent.Deliver f t) (seen h))) turn);
+        answers = answers_by h (AnyWorldEvent.Deliver f t) (map answer_of given) free
+            (M.answers ∙ ap (λ (u : Turn). u.answers) turn);
       }

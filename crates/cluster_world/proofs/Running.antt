@@ -17,7 +17,8 @@ use Rattle.cluster_world.specs.Playing.{Keeps, Played, RefusedWith, IsSoFar, Ran
 use Rattle.cluster_world.proofs.Agreeing.{same_opening}
 
 -- one event more is one more that happens
-run-push : (o : Opening) (w : World) (es : List AnyWorldEvent) (e : AnyWorldEvent) → run o w (es ++ e ∷ []) ≡ happens o (run o w es) e
+run-push : (o : Opening) (w : World) (es : List AnyWorldEvent) (e : AnyWorldEvent) → run o w (es ++ e ∷ [])
+    ≡ happens o (run o w es) e
 run-push o w [] e = refl
 run-push o w (d ∷ es) e = run-push o (happens o w d) es e
 
@@ -31,7 +32,8 @@ answers-push o w (d ∷ es) e = ap (λ (l : List AnyAnswer). answers o w d ++ l)
 accepts_all-push : (o : Opening) (w : World) (es : List AnyWorldEvent) (e : AnyWorldEvent)
     → accepts_all o w es ≡ true → refusal o (run o w es) e ≡ None → accepts_all o w (es ++ e ∷ []) ≡ true
 accepts_all-push o w [] e all free = ap (λ (r : Option AnyRefusal). is_none r && true) free
-accepts_all-push o w (d ∷ es) e all free = go (is_none (refusal o w d)) all (λ h. accepts_all-push o (happens o w d) es e h free)
+accepts_all-push o w (d ∷ es) e all free = go (is_none (refusal o w d)) all
+    (λ h. accepts_all-push o (happens o w d) es e h free)
   where
     go : (b : Bool) → (b && accepts_all o (happens o w d) es) ≡ true
         → (accepts_all o (happens o w d) es ≡ true → accepts_all o (happens o w d) (es ++ e ∷ []) ≡ true)
@@ -40,7 +42,8 @@ accepts_all-push o w (d ∷ es) e all free = go (is_none (refusal o w d)) all (�
     go false h more = h
 
 -- the first k events and the next
-events-push : (es : List WorldEvent) (k : ℕ) (e : WorldEvent) → slice_get es k ≡ Some e → events_of (take (suc k) es) ≡ events_of (take k es) ++ event_of e ∷ []
+events-push : (es : List WorldEvent) (k : ℕ) (e : WorldEvent) → slice_get es k ≡ Some e → events_of (take (suc k) es)
+    ≡ events_of (take k es) ++ event_of e ∷ []
 events-push [] k e h = cc
 events-push (d ∷ es) zero e h = ap (λ (o : WorldEvent). event_of o ∷ []) (cc h)
 events-push (d ∷ es) (suc k) e h = ap (λ (l : List AnyWorldEvent). event_of d ∷ l) (events-push es k e h)
@@ -52,8 +55,10 @@ so_far_more es old mid new k given now e S at P = record {
   cluster = P.cluster ∙ S.cluster;
   accepted = ap (accepts_all o (seen old)) (sym next)
       ∙ accepts_all-push o (seen old) (events_of (take k es)) (event_of e) S.accepted
-      (ap (λ (w : World). refusal o w (event_of e)) (sym S.world) ∙ ap (λ (p : Opening). refusal p (seen mid) (event_of e)) (sym same) ∙ P.accepted);
-  world = P.happens ∙ ap (λ (p : Opening). happens p (seen mid) (event_of e)) same ∙ ap (λ (w : World). happens o w (event_of e)) S.world
+      (ap (λ (w : World). refusal o w (event_of e)) (sym S.world)
+      ∙ ap (λ (p : Opening). refusal p (seen mid) (event_of e)) (sym same) ∙ P.accepted);
+  world = P.happens ∙ ap (λ (p : Opening). happens p (seen mid) (event_of e)) same
+      ∙ ap (λ (w : World). happens o w (event_of e)) S.world
       ∙ sym (run-push o (seen old) (events_of (take k es)) (event_of e)) ∙ ap (run o (seen old)) next;
   answers = P.answers ∙ ap (λ (l : List AnyAnswer). l ++ answers (opening_of mid) (seen mid) (event_of e)) S.answers
       ∙ ap (λ (p : Opening). all_answers o (seen old) (events_of (take k es)) ++ answers p (seen mid) (event_of e)) same
@@ -74,7 +79,8 @@ so_far_more es old mid new k given now e S at P = record {
     next = sym (events-push es k e at) ∙ ap (λ (n : ℕ). events_of (take n es)) one_more
 
 -- the next event is refused, which changes nothing but where memory was refused
-pub ran_stopped : (es : List WorldEvent) (old mid new : Held) (k : ℕ) (given now : List Answer) (e : WorldEvent) (r : Refusal)
+pub ran_stopped : (es : List WorldEvent) (old mid new : Held) (k : ℕ) (given now : List Answer) (e : WorldEvent)
+    (r : Refusal)
     → IsSoFar es old mid k given → k < length es → slice_get es k ≡ Some e → RefusedWith r e mid → Keeps mid new
     → (is_memory r ≡ false → new ≡ mid) → now ≡ given → Ran es old new k now (Some r)
 ran_stopped es old mid new k given now e r S within at refused K same kept = record {

@@ -35,8 +35,10 @@ or_assoc true b c = refl
 or_assoc false b c = refl
 
 -- one node more was taken
-pub took : (xs : List ℕ) (i n c : ℕ) → i < length xs → n ≡ get_or xs i n → set_of (take (i + 1) xs) c ≡ (set_of (take i xs) c || (n == c))
-took xs i n c l is = ap (λ (ns : List ℕ). set_of ns c) (take_at_read xs i n l).1 ∙ set_of-append (take i xs) (get_or xs i n ∷ []) c
+pub took : (xs : List ℕ) (i n c : ℕ) → i < length xs → n ≡ get_or xs i n → set_of (take (i + 1) xs) c
+    ≡ (set_of (take i xs) c || (n == c))
+took xs i n c l is = ap (λ (ns : List ℕ). set_of ns c) (take_at_read xs i n l).1
+    ∙ set_of-append (take i xs) (get_or xs i n ∷ []) c
     ∙ ap (λ (b : Bool). set_of (take i xs) c || b) (or_false (get_or xs i n == c) ∙ ap (λ (m : ℕ). m == c) (sym is))
 
 -- a node of the list, alone
@@ -54,8 +56,10 @@ grown : (xs : List ℕ) (c : ℕ) → length (filter (λ m. nat_lt m c) xs) + le
 grown [] c = omega arith
 grown (x ∷ xs) c = go (nat_lt x c) (nat_lt c x) refl refl (grown xs c)
   where
-    go : (a b : Bool) → nat_lt x c ≡ a → nat_lt c x ≡ b → length (filter (λ m. nat_lt m c) xs) + length (filter (λ m. nat_lt c m) xs) ≤ length xs
-        → length (if a then x ∷ filter (λ m. nat_lt m c) xs else filter (λ m. nat_lt m c) xs) + length (if b then x ∷ filter (λ m. nat_lt c m) xs else filter (λ m. nat_lt c m) xs) ≤ suc (length xs)
+    go : (a b : Bool) → nat_lt x c ≡ a → nat_lt c x ≡ b
+        → length (filter (λ m. nat_lt m c) xs) + length (filter (λ m. nat_lt c m) xs) ≤ length xs
+        → length (if a then x ∷ filter (λ m. nat_lt m c) xs else filter (λ m. nat_lt m c) xs) + length
+        (if b then x ∷ filter (λ m. nat_lt c m) xs else filter (λ m. nat_lt c m) xs) ≤ suc (length xs)
     go true true e f h = absurd (never x c e f)
       where
         never : (x c : ℕ) → nat_lt x c ≡ true → nat_lt c x ≡ true → ⊥
@@ -65,10 +69,16 @@ grown (x ∷ xs) c = go (nat_lt x c) (nat_lt c x) refl refl (grown xs c)
     go false false e f h = omega arith
 
 pub length-with_node : (xs : List ℕ) (c : ℕ) → length (with_node xs c) ≤ length xs + 1
-length-with_node xs c = omega (arith, grown xs c, length-append (filter (λ m. nat_lt m c) xs) (c ∷ filter (λ m. nat_lt c m) xs))
+length-with_node xs c = omega (
+  arith,
+  grown xs c,
+  length-append (filter (λ m. nat_lt m c) xs)
+      (c ∷ filter (λ m. nat_lt c m) xs),
+)
 
 -- what stands on success
-pub matched_ok : {T E : Type 0} (P : T → Type 0) (Q : E → Type 0) (r : Result T E) → is_ok r ≡ true → MatchResult r P Q → (x : T) × P x
+pub matched_ok : {T E : Type 0} (P : T → Type 0) (Q : E → Type 0) (r : Result T E) → is_ok r ≡ true → MatchResult r P Q
+    → (x : T) × P x
 matched_ok P Q (Ok x) e p = (x, p)
 matched_ok P Q (Err y) e p = cc
 
@@ -97,14 +107,18 @@ module _ (nodes cluster : List ℕ) where
 
   names_are : (xs : List ℕ) → map name_of (map (opening_core nodes cluster) xs) ≡ xs
   names_are [] = refl
-  names_are (x ∷ xs) = ap (λ (y : ℕ). y ∷ map name_of (map (opening_core nodes cluster) xs)) (opens_name x) ∙ ap (λ (ys : List ℕ). x ∷ ys) (names_are xs)
+  names_are (x ∷ xs) = ap (λ (y : ℕ). y ∷ map name_of (map (opening_core nodes cluster) xs)) (opens_name x)
+      ∙ ap (λ (ys : List ℕ). x ∷ ys) (names_are xs)
 
-  found : (a : ℕ) (xs : List ℕ) → core_of a (map (opening_core nodes cluster) xs) ≡ (if set_of xs a then Some (opening_core nodes cluster a) else None)
+  found : (a : ℕ) (xs : List ℕ) → core_of a (map (opening_core nodes cluster) xs)
+      ≡ (if set_of xs a then Some (opening_core nodes cluster a) else None)
   found a [] = refl
-  found a (x ∷ xs) = ap (λ (y : ℕ). if y == a then Some (opening_core nodes cluster x) else core_of a (map (opening_core nodes cluster) xs)) (opens_name x)
+  found a (x ∷ xs) = ap (λ (y : ℕ). if y == a then Some (opening_core nodes cluster x) else core_of a
+      (map (opening_core nodes cluster) xs)) (opens_name x)
       ∙ go (x == a) refl (found a xs)
     where
-      go : (b : Bool) → (x == a) ≡ b → core_of a (map (opening_core nodes cluster) xs) ≡ (if set_of xs a then Some (opening_core nodes cluster a) else None)
+      go : (b : Bool) → (x == a) ≡ b → core_of a (map (opening_core nodes cluster) xs)
+          ≡ (if set_of xs a then Some (opening_core nodes cluster a) else None)
           → (if b then Some (opening_core nodes cluster x) else core_of a (map (opening_core nodes cluster) xs))
           ≡ (if b || set_of xs a then Some (opening_core nodes cluster a) else None)
       go true e later = ap (λ (y : ℕ). Some (opening_core nodes cluster y)) (eqb-true x a e)
@@ -143,21 +157,26 @@ module _ (nodes cluster : List ℕ) where
               joined = b;
             };
           }
-      go true = ap (λ (s : Nodes). record (node_of (fresh a nodes cluster true)) { replica = record { table = []; members = s; told = nobody; joined = true } })
+      go true = ap (λ (s : Nodes). record (node_of (fresh a nodes cluster true))
+          { replica = record { table = []; members = s; told = nobody; joined = true } })
           (fun_ext (λ c. sym (and_true (set_of cluster c))))
-      go false = ap (λ (s : Nodes). record (node_of (fresh a nodes (a ∷ []) false)) { replica = record { table = []; members = s; told = nobody; joined = false } })
+      go false = ap (λ (s : Nodes). record (node_of (fresh a nodes (a ∷ []) false))
+          { replica = record { table = []; members = s; told = nobody; joined = false } })
           (fun_ext (turned a))
 
-  node_is : IsWithin nodes cluster → (a : ℕ) → node_with (opening_with nodes cluster) a (core_of a (map (opening_core nodes cluster) nodes))
+  node_is : IsWithin nodes cluster → (a : ℕ) → node_with (opening_with nodes cluster) a
+      (core_of a (map (opening_core nodes cluster) nodes))
       ≡ opening_node (in_cluster (opening_with nodes cluster)) a
   node_is within a = ap (node_with (opening_with nodes cluster) a) (found a nodes) ∙ go (set_of nodes a)
     where
-      go : (b : Bool) → node_with (opening_with nodes cluster) a (if b then Some (opening_core nodes cluster a) else None)
+      go : (b : Bool) → node_with (opening_with nodes cluster) a
+          (if b then Some (opening_core nodes cluster a) else None)
           ≡ opening_node (in_cluster (opening_with nodes cluster)) a
       go true = core_is a ∙ ap (λ (s : Nodes). opening_node s a) (sym (cluster_is within))
       go false = refl
 
-  module _ (cores : List Core) (links : Mesh Letter) (history : List Entry) (made : cores ≡ map (opening_core nodes cluster) nodes)
+  module _ (cores : List Core) (links : Mesh Letter) (history : List Entry)
+      (made : cores ≡ map (opening_core nodes cluster) nodes)
       (empty : links_of links ≡ no_letters) where
     pub opens_whole : IsNodeSet nodes → links.nodes ≡ nodes
         → IsWhole (record { nodes = nodes; cluster = cluster; cores = cores; links = links; history = history })
@@ -165,18 +184,38 @@ module _ (nodes cluster : List ℕ) where
       set = set;
       names = ap (map name_of) made ∙ names_are nodes;
       worlds = subst (λ (cs : List Core). All (λ c. c.world ≡ nodes) cs) (sym made)
-          (All-map (λ (c : Core). c.world ≡ nodes) (opening_core nodes cluster) nodes (λ k d l. opens_world (get_or nodes k d)));
+          (All-map (λ (c : Core). c.world ≡ nodes) (opening_core nodes cluster) nodes
+          (λ k d l. opens_world (get_or nodes k d)));
       links = same;
       running = ap (λ (w : Links Letter). w.closed) empty;
     }
 
     pub opens_seen : IsWithin nodes cluster → history ≡ []
-        → seen (record { nodes = nodes; cluster = cluster; cores = cores; links = links; history = history }) ≡ opening_world (opening_with nodes cluster)
+        → seen (record { nodes = nodes; cluster = cluster; cores = cores; links = links; history = history })
+        ≡ opening_world (opening_with nodes cluster)
     opens_seen within none =
-        ap (λ (cs : List Core). seen (record { nodes = nodes; cluster = cluster; cores = cs; links = links; history = history })) made
-        ∙ ap (λ (f : ℕ → Node). record { node = f; links = mapped letter_of (links_of links); history = map entry_of history }) (fun_ext (node_is within))
-        ∙ ap (λ (w : Links Letter). record { node = opening_node (in_cluster (opening_with nodes cluster)); links = mapped letter_of w; history = map entry_of history }) empty
-        ∙ ap (λ (es : List Entry). record (opening_world (opening_with nodes cluster)) { history = map entry_of es }) none
+        ap (λ (cs : List Core). seen (record {
+          nodes = nodes;
+          cluster = cluster;
+          cores = cs;
+          links = links;
+          history =
+              history;
+        })) made
+        ∙ ap (λ (f : ℕ → Node). record {
+          node = f;
+          links = mapped letter_of (links_of links);
+          history = map entry_of
+              history;
+        }) (fun_ext (node_is within))
+        ∙ ap (λ (w : Links Letter). record {
+          node = opening_node (in_cluster (opening_with nodes cluster));
+          links =
+              mapped letter_of w;
+          history = map entry_of history;
+        }) empty
+        ∙ ap (λ (es : List Entry). record (opening_world (opening_with nodes cluster)) { history = map entry_of es })
+        none
 
 -- the nodes that were gathered are those that were named
 module _ (cluster lone joined nodes : List ℕ) (first : (c : ℕ) → set_of joined c ≡ set_of cluster c)

@@ -44,11 +44,13 @@ sent_to-map t (s ∷ ss) = go (s.0 == t) (sent_to-map t ss)
   where
     go : (b : Bool) → map letter_of (letters_to t ss) ≡ sent_to t (map send_of ss)
         → map letter_of (map (λ s. s.1) (if b then s ∷ filter (λ s. s.0 == t) ss else filter (λ s. s.0 == t) ss))
-        ≡ map (λ s. s.letter) (if b then send_of s ∷ filter (λ s. s.to == t) (map send_of ss) else filter (λ s. s.to == t) (map send_of ss))
+        ≡ map (λ s. s.letter) (if b then send_of s ∷ filter (λ s. s.to == t) (map send_of ss) else filter
+        (λ s. s.to == t) (map send_of ss))
     go true e = ap (λ (ls : List AnyLetter). letter_of s.1 ∷ ls) e
     go false e = e
 
-module _ (h : Held) (whole : IsWhole h) (a i : ℕ) (core : Core) (there : place a h.nodes ≡ Some i) (is : core ≡ get_or h.cores i core) where
+module _ (h : Held) (whole : IsWhole h) (a i : ℕ) (core : Core) (there : place a h.nodes ≡ Some i)
+    (is : core ≡ get_or h.cores i core) where
   there_too : place a (map name_of h.cores) ≡ Some i
   there_too = ap (place a) whole.names ∙ there
 
@@ -65,7 +67,8 @@ module _ (h : Held) (whole : IsWhole h) (a i : ℕ) (core : Core) (there : place
   }
 
   -- the node fails
-  pub fails : (e : NodeEvent) (fault : StepFault) → node_refusal e core ≡ fault_of fault → FailsAt (refusal_by fault) a e h
+  pub fails : (e : NodeEvent) (fault : StepFault) → node_refusal e core ≡ fault_of fault
+      → FailsAt (refusal_by fault) a e h
   fails e SerialsSpent q = (core, stands, q)
   fails e NothingToRetry q = (core, stands, q)
   fails e CallsSpent q = (core, stands, q)
@@ -92,32 +95,52 @@ module _ (h : Held) (whole : IsWhole h) (a i : ℕ) (core : Core) (there : place
 
   -- the core stayed as it was
   pub unchanged : (new : Core) → new ≡ core → record h { cores = set h.cores i new } ≡ h
-  unchanged new same = ap (λ (cs : List Core). record h { cores = cs }) (ap (set h.cores i) (same ∙ is) ∙ set-get_or h.cores i core)
+  unchanged new same = ap (λ (cs : List Core). record h { cores = cs })
+      (ap (set h.cores i) (same ∙ is) ∙ set-get_or h.cores i core)
 
   -- with another core of this name the world is whole
-  pub whole_with : (new : Core) (links : Mesh Letter) (history : List Entry) → new.name ≡ core.name → new.world ≡ core.world
+  pub whole_with : (new : Core) (links : Mesh Letter) (history : List Entry) → new.name ≡ core.name → new.world
+      ≡ core.world
       → links.nodes ≡ h.links.nodes → (links_of links).closed ≡ (links_of h.links).closed
-      → IsWhole (record { nodes = h.nodes; cluster = h.cluster; cores = set h.cores i new; links = links; history = history })
+      → IsWhole (record {
+        nodes = h.nodes;
+        cluster = h.cluster;
+        cores = set h.cores i new;
+        links = links;
+        history =
+            history;
+      })
   whole_with new links history named placed same closed = record {
     set = whole.set;
-    names = names-set name_of h.cores i new within (named ∙ stands.name ∙ sym (place-Some a (map name_of h.cores) i there_too).1) ∙ whole.names;
+    names = names-set name_of h.cores i new within (named ∙ stands.name
+        ∙ sym (place-Some a (map name_of h.cores) i there_too).1) ∙ whole.names;
     worlds = All-set (λ (c : Core). c.world ≡ h.nodes) h.cores i new (placed ∙ stands.world) whole.worlds;
     links = same ∙ whole.links;
     running = closed ∙ whole.running;
   }
 
-  module _ (e : NodeEvent) (new : Core) (before sends : List (ℕ × Letter)) (given : List Answer) (links : Mesh Letter) (history : List Entry)
+  module _ (e : NodeEvent) (new : Core) (before sends : List (ℕ × Letter)) (given : List Answer) (links : Mesh Letter)
+      (history : List Entry)
       (none : before ≡ []) (S : Steps e core new before sends given)
-      (post : links_of links ≡ posted a (λ t. letters_to t sends) (links_of h.links)) (enter : history ≡ h.history ++ new.entered) where
+      (post : links_of links ≡ posted a (λ t. letters_to t sends) (links_of h.links))
+      (enter : history ≡ h.history ++ new.entered) where
     -- what is held behind the step
     abbrev behind : Held
-    behind = record { nodes = h.nodes; cluster = h.cluster; cores = set h.cores i new; links = links; history = history }
+    behind = record {
+      nodes = h.nodes;
+      cluster = h.cluster;
+      cores = set h.cores i new;
+      links = links;
+      history = history;
+    }
 
     abbrev turn : Turn
     turn = turn_of new (record { letters = S.sent; entries = new.entered; answers = given })
 
-    nodes_are : (x : ℕ) → node_with (opening_of h) x (core_of x (set h.cores i new)) ≡ at (seen h).node a (node_of new) x
-    nodes_are x = ap (node_with (opening_of h) x) (core_wrote name_of h.cores i new a within there_too (S.name ∙ stands.name) x) ∙ go (x == a)
+    nodes_are : (x : ℕ) → node_with (opening_of h) x (core_of x (set h.cores i new))
+        ≡ at (seen h).node a (node_of new) x
+    nodes_are x = ap (node_with (opening_of h) x) (core_wrote name_of h.cores i new a within there_too
+        (S.name ∙ stands.name) x) ∙ go (x == a)
       where
         go : (b : Bool) → node_with (opening_of h) x (if b then Some new else core_of x h.cores)
             ≡ (if b then node_of new else node_with (opening_of h) x (core_of x h.cores))
@@ -127,7 +150,8 @@ module _ (h : Held) (whole : IsWhole h) (a i : ℕ) (core : Core) (there : place
     sent : sends ≡ S.sent
     sent = S.letters ∙ ap (λ (ss : List (ℕ × Letter)). ss ++ S.sent) none
 
-    links_are : mapped letter_of (links_of links) ≡ posted a (λ t. sent_to t (map send_of S.sent)) (mapped letter_of (links_of h.links))
+    links_are : mapped letter_of (links_of links) ≡ posted a (λ t. sent_to t (map send_of S.sent))
+        (mapped letter_of (links_of h.links))
     links_are = ap (mapped letter_of) post ∙ mapped-posted letter_of a (λ t. letters_to t sends) (links_of h.links)
         ∙ ap (λ (ls : ℕ → List AnyLetter). posted a ls (mapped letter_of (links_of h.links)))
         (fun_ext (λ t. sent_to-map t sends ∙ ap (λ (ss : List (ℕ × Letter)). sent_to t (map send_of ss)) sent))
@@ -135,8 +159,14 @@ module _ (h : Held) (whole : IsWhole h) (a i : ℕ) (core : Core) (there : place
     world_is : seen behind ≡ apply a turn (seen h)
     world_is =
         ap (λ (f : ℕ → Node). record (seen behind) { node = f }) (fun_ext nodes_are)
-        ∙ ap (λ (w : Links AnyLetter). record { node = at (seen h).node a (node_of new); links = w; history = map entry_of history }) links_are
-        ∙ ap (λ (es : List AnyEntry). record (apply a turn (seen h)) { history = es }) (ap (map entry_of) enter ∙ map-append entry_of h.history new.entered)
+        ∙ ap (λ (w : Links AnyLetter). record {
+          node = at (seen h).node a (node_of new);
+          links = w;
+          history = map
+              entry_of history;
+        }) links_are
+        ∙ ap (λ (es : List AnyEntry). record (apply a turn (seen h)) { history = es })
+        (ap (map entry_of) enter ∙ map-append entry_of h.history new.entered)
 
     pub moves : Moves a e h behind given
     moves = record {
@@ -160,4 +190,5 @@ same_memory Memory e = cc
 
 -- a node that has no place has no core
 pub core_missing : (h : Held) → IsWhole h → (a : ℕ) → place a h.nodes ≡ None → core_of a h.cores ≡ None
-core_missing h whole a e = no_core name_of h.cores a (ap (λ (ns : List ℕ). set_of ns a) whole.names ∙ no_place h.nodes a e)
+core_missing h whole a e = no_core name_of h.cores a
+    (ap (λ (ns : List ℕ). set_of ns a) whole.names ∙ no_place h.nodes a e)

@@ -23,7 +23,8 @@ more : (x f : ℕ) (xs : List ℕ) → AllByRecursion (λ y. x < y) xs → list_
 more x f [] all e = cc
 more x f (y ∷ ys) all e = go (y == f) refl e (more x f ys all.1)
   where
-    go : (b : Bool) → (y == f) ≡ b → (b || list_any (λ m. m == f) ys) ≡ true → (list_any (λ m. m == f) ys ≡ true → x < f) → x < f
+    go : (b : Bool) → (y == f) ≡ b → (b || list_any (λ m. m == f) ys) ≡ true
+        → (list_any (λ m. m == f) ys ≡ true → x < f) → x < f
     go true is e later = subst (λ (z : ℕ). x < z) (eqb-true y f is) all.0
     go false is e later = later e
 
@@ -33,7 +34,11 @@ each x (y ∷ ys) all = (all 0 (omega arith), each x ys (λ k l. all (suc k) (om
 
 rises_by : (xs : List ℕ) → AllPairs (λ x y. x < y) xs → Rises xs
 rises_by [] r = tt
-rises_by (x ∷ xs) r = (each x xs (λ k l. r 0 (suc k) 0 (omega arith) (omega arith)), rises_by xs (λ i j d l m. r (suc i) (suc j) d (omega arith) (omega arith)))
+rises_by (x ∷ xs) r = (
+  each x xs (λ k l. r 0 (suc k) 0 (omega arith) (omega arith)),
+  rises_by xs
+      (λ i j d l m. r (suc i) (suc j) d (omega arith) (omega arith)),
+)
 
 module _ {E : Type 0} (p : E → Bool) (rows : ℕ → List E) where
   -- no row has what passes
@@ -67,23 +72,28 @@ module _ (o : Opening) (w : World) where
   pub refused_empty : (f t : ℕ) → w.links.queue f t ≡ [] → accepts (Deliver f t) ≡ false
   refused_empty f t e = go (not (in_world o t) || not (in_world o f)) (left w t)
     where
-      go : (a b : Bool) → is_none (if a then Some Refusal.NoSuchNode else (if b then Some Refusal.NodeLeft else (if is_nil (w.links.queue f t) then Some Refusal.EmptyLink else None))) ≡ false
+      go : (a b : Bool) → is_none (if a then Some Refusal.NoSuchNode else
+          (if b then Some Refusal.NodeLeft else (if is_nil (w.links.queue f t) then Some Refusal.EmptyLink else None)))
+          ≡ false
       go true b = refl
       go false true = refl
       go false false = ap (λ ls. is_none (if is_nil ls then Some Refusal.EmptyLink else None)) e
 
   -- one between nodes of the world is, where a letter waits
-  pub accepted_waiting : (f t : ℕ) → in_world o f ≡ true → in_world o t ≡ true → left w t ≡ false → is_nil (w.links.queue f t) ≡ false
+  pub accepted_waiting : (f t : ℕ) → in_world o f ≡ true → in_world o t ≡ true → left w t ≡ false
+      → is_nil (w.links.queue f t) ≡ false
       → accepts (Deliver f t) ≡ true
   accepted_waiting f t sender receiver running waits = rw (sender, receiver, running, waits) refl
 
   row : (x : ℕ) (ts : List ℕ) → map (λ t. Deliver x t) ts ≡ flat_map (λ t. Deliver x t ∷ []) ts
   row x ts = sym (flat_map_single (λ t. Deliver x t) ts)
 
-  row_found : (x t : ℕ) (b : Bool) → accepts (Deliver x t) ≡ b → find accepts (Deliver x t ∷ []) ≡ (if b then Some (Deliver x t) else None)
+  row_found : (x t : ℕ) (b : Bool) → accepts (Deliver x t) ≡ b → find accepts (Deliver x t ∷ [])
+      ≡ (if b then Some (Deliver x t) else None)
   row_found x t b e = ap (λ (c : Bool). if c then Some (Deliver x t) else None) e
 
-  empty_row : (x : ℕ) (ts : List ℕ) → ((y : ℕ) → w.links.queue x y ≡ []) → find accepts (map (λ t. Deliver x t) ts) ≡ None
+  empty_row : (x : ℕ) (ts : List ℕ) → ((y : ℕ) → w.links.queue x y ≡ []) → find accepts (map (λ t. Deliver x t) ts)
+      ≡ None
   empty_row x ts empty = ap (find accepts) (row x ts)
       ∙ none_found accepts (λ t. Deliver x t ∷ []) ts (λ t. row_found x t false (refused_empty x t (empty t)))
 
@@ -97,7 +107,8 @@ module _ (o : Opening) (w : World) where
         ∙ none_found accepts (λ f. map (λ t. Deliver f t) ns) ns (λ x. empty_row x ns (empty x))
 
     -- the first letter waits from f to t
-    pub next_first : (f t : ℕ) → IsStrictlyIncreasing ns → list_any (λ m. m == f) ns ≡ true → list_any (λ m. m == t) ns ≡ true
+    pub next_first : (f t : ℕ) → IsStrictlyIncreasing ns → list_any (λ m. m == f) ns ≡ true → list_any (λ m. m == t) ns
+        ≡ true
         → accepts (Deliver f t) ≡ true
         → ((x y : ℕ) → (x < f) ⊎ ((x ≡ f) × (y < t)) → w.links.queue x y ≡ []) → next_delivery o w ≡ Some (Deliver f t)
     next_first f t rising sender receiver free before = ap (find accepts) deliveries_are

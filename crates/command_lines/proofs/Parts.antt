@@ -6,7 +6,8 @@ use Rattle.std.proofs.Math.Seq.{get_or-append_seam}
 use Rattle.command_lines.specs.Lines.{line_of}
 
 -- as many bytes as are kept are all, where they fit
-pub take-push_all : (bytes : List ℕ) (b : ℕ) → length bytes ≤ 1024 → take 1025 (bytes ++ b ∷ []) ≡ take 1025 bytes ++ b ∷ []
+pub take-push_all : (bytes : List ℕ) (b : ℕ) → length bytes ≤ 1024 → take 1025 (bytes ++ b ∷ []) ≡ take 1025 bytes ++ b
+    ∷ []
 take-push_all bytes b l =
     let n : length (bytes ++ b ∷ []) ≤ 1025 = omega (arith, length-append bytes (b ∷ [])) in
     take_all 1025 (bytes ++ b ∷ []) n ∙ ap (λ (xs : List ℕ). xs ++ b ∷ []) (sym (take_all 1025 bytes (omega arith)))
@@ -29,21 +30,27 @@ pub line_of-take : (e : Bool) (bytes : List ℕ) → line_of e bytes ≡ take (l
 line_of-take false bytes = sym (take_all (length bytes) bytes (omega arith))
 line_of-take true bytes = stripped (slice_index bytes (length bytes - 1) == 13)
   where
-    stripped : (t : Bool) → (if t then take (length bytes - 1) bytes else bytes) ≡ take (length (if t then take (length bytes - 1) bytes else bytes)) bytes
+    stripped : (t : Bool) → (if t then take (length bytes - 1) bytes else bytes)
+        ≡ take (length (if t then take (length bytes - 1) bytes else bytes)) bytes
     stripped true = sym (ap (λ (n : ℕ). take n bytes) (length-take-le (length bytes - 1) bytes (omega arith)))
     stripped false = sym (take_all (length bytes) bytes (omega arith))
 
 -- it has at most one byte less
-pub length-line_of : (e : Bool) (bytes : List ℕ) → (length (line_of e bytes) ≤ length bytes) × (length bytes ≤ length (line_of e bytes) + 1)
+pub length-line_of : (e : Bool) (bytes : List ℕ) → (length (line_of e bytes) ≤ length bytes)
+    × (length bytes ≤ length (line_of e bytes) + 1)
 length-line_of false bytes = (omega arith, omega arith)
 length-line_of true bytes = stripped (slice_index bytes (length bytes - 1) == 13)
   where
-    stripped : (t : Bool) → (length (if t then take (length bytes - 1) bytes else bytes) ≤ length bytes) × (length bytes ≤ length (if t then take (length bytes - 1) bytes else bytes) + 1)
-    stripped true = let n : length (take (length bytes - 1) bytes) ≡ length bytes - 1 = length-take-le (length bytes - 1) bytes (omega arith) in (omega arith, omega arith)
+    stripped : (t : Bool) → (length (if t then take (length bytes - 1) bytes else bytes) ≤ length bytes)
+        × (length bytes ≤ length (if t then take (length bytes - 1) bytes else bytes) + 1)
+    stripped true = let n : length (take (length bytes - 1) bytes)
+        ≡ length bytes - 1 = length-take-le (length bytes - 1) bytes (omega arith) in (omega arith, omega arith)
     stripped false = (omega arith, omega arith)
 
 -- a short line is the first of what was kept
-pub take-kept : (e : Bool) (bytes : List ℕ) (n : ℕ) → n ≡ length (line_of e bytes) → n ≤ 1024 → take n (take 1025 bytes) ≡ line_of e bytes
+pub take-kept : (e : Bool) (bytes : List ℕ) (n : ℕ) → n ≡ length (line_of e bytes) → n ≤ 1024 → take n (take 1025 bytes)
+    ≡ line_of e bytes
 take-kept e bytes n h l =
     let b = length-line_of e bytes in
-    ap (λ (xs : List ℕ). take n xs) (take_all 1025 bytes (omega (arith, b.1))) ∙ ap (λ (k : ℕ). take k bytes) h ∙ sym (line_of-take e bytes)
+    ap (λ (xs : List ℕ). take n xs) (take_all 1025 bytes (omega (arith, b.1))) ∙ ap (λ (k : ℕ). take k bytes) h
+    ∙ sym (line_of-take e bytes)

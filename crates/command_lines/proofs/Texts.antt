@@ -21,19 +21,24 @@ is_ascii-utf8 bytes h =
     IsUtf8-from_ascii bytes (IsAscii-from_reads bytes (length bytes) (omega arith) (λ k l. ltb-true _ _ (each k 0 l)))
 
 -- the line of an answer to a numbered call
-pub numbered_line : (s : Answer) → (s.number ≡ 0 → ⊥) → output_line (Said s) ≡ bytes_of s.node ++ (35 ∷ (decimal s.number ++ (32 ∷ (reply_text s.reply ++ 10 ∷ []))))
+pub numbered_line : (s : Answer) → (s.number ≡ 0 → ⊥) → output_line (Said s) ≡ bytes_of s.node
+    ++ (35 ∷ (decimal s.number ++ (32 ∷ (reply_text s.reply ++ 10 ∷ []))))
 numbered_line s h =
-    ap (λ (t : Bool). (if t then reply_text s.reply else bytes_of s.node ++ 35 ∷ decimal s.number ++ 32 ∷ reply_text s.reply) ++ 10 ∷ []) (ne_eqb s.number 0 h)
+    ap (λ (t : Bool). (if t then reply_text s.reply else bytes_of s.node ++ 35 ∷ decimal s.number ++ 32
+    ∷ reply_text s.reply) ++ 10 ∷ []) (ne_eqb s.number 0 h)
     ∙ simp append_assoc
 
 -- the same, where the reply was printed already
-pub numbered_text : {Z E : Type 0} (r : Result (String Z) E) (s : Answer) (reply : List ℕ) → (s.number ≡ 0 → ⊥) → reply ≡ reply_text s.reply
+pub numbered_text : {Z E : Type 0} (r : Result (String Z) E) (s : Answer) (reply : List ℕ) → (s.number ≡ 0 → ⊥) → reply
+    ≡ reply_text s.reply
     → IfOk r (λ text. string_bytes text ≡ bytes_of s.node ++ (35 ∷ (decimal s.number ++ (32 ∷ (reply ++ 10 ∷ [])))))
     → IfOk r (λ text. string_bytes text ≡ output_line (Said s))
 numbered_text r s reply h e k =
     subst (λ (t : List ℕ). IfOk r (λ text. string_bytes text ≡ t))
-    (ap (λ (t : List ℕ). bytes_of s.node ++ (35 ∷ (decimal s.number ++ (32 ∷ (t ++ 10 ∷ []))))) e ∙ sym (numbered_line s h)) k
+    (ap (λ (t : List ℕ). bytes_of s.node ++ (35 ∷ (decimal s.number ++ (32 ∷ (t ++ 10 ∷ []))))) e
+    ∙ sym (numbered_line s h)) k
 
 -- some more of a text is written
-pub written-more : (text part rest : List ℕ) (n : ℕ) → n ≤ length rest → text ≡ part ++ rest → text ≡ (part ++ take n rest) ++ take (length rest - n) (drop n rest)
+pub written-more : (text part rest : List ℕ) (n : ℕ) → n ≤ length rest → text ≡ part ++ rest → text
+    ≡ (part ++ take n rest) ++ take (length rest - n) (drop n rest)
 written-more text part rest n l e = grind (arith, common_steps)

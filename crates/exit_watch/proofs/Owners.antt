@@ -140,5 +140,6 @@ least_owner-least a t (x ∷ ss) s l o =
         (lesser x (least_owner a t ss), refl, omega (arith, lesser-first x (least_owner a t ss), eqb-true x s i))
     go true e false i k h =
         let (r, q, m) = h k in
-        let less : lesser x (least_owner a t ss) ≤ r = subst (λ (p : Option ℕ). lesser x p ≤ r) (sym q) (lesser-other x r) in
+        let less : lesser x (least_owner a t ss) ≤ r = subst (λ (p : Option ℕ). lesser x p ≤ r) (sym q)
+        (lesser-other x r) in
         (lesser x (least_owner a t ss), refl, omega arith)

@@ -156,7 +156,8 @@ module _ (o : Opening) (Good : World → Type 0) (K : Ground o Good) (a : ℕ) w
 
   -- an answer `joined` of a chain: the admission holds before and behind it
   pub joined_along : (rs : List Rules.Rule) (w : World) → Good w → Rules.MayAll o a rs w
-      → AllByRecursion (TellsJoin a (standing_at o w) (standing_at o (Rules.effects o a rs w))) (Rules.answers_by o a rs w)
+      → AllByRecursion (TellsJoin a (standing_at o w) (standing_at o (Rules.effects o a rs w)))
+      (Rules.answers_by o a rs w)
   joined_along [] w G M = tt
   joined_along (r ∷ rs) w G M = all_append (TellsJoin a (standing_at o w) (standing_at o (Rules.effects o a rs v)))
       (Rules.turn_by o a w r).answers (Rules.answers_by o a rs v)

@@ -19,7 +19,11 @@ use Rattle.join_gates.proofs.Made.{entered, entries_made}
 
 -- the entry of an accepted look-up, with the reply that it was given
 abbrev pub read_of : Played → List Entry
-read_of p = elim p.event [ At a (Event.Calling (Call.LookUp look)) ↦ map (λ s. Entry.Read a look s.reply) p.answers | _ ↦ [] ]
+read_of p = elim p.event [
+  | At a (Event.Calling (Call.LookUp look)) ↦ map (λ s. Entry.Read a look s.reply)
+      p.answers
+  | _ ↦ []
+]
 
 -- the exits, departures, notices and look-ups among these entries are those
 pub record Own (es xs ds ts rs : List Entry) : Type 0 where

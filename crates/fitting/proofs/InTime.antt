@@ -25,7 +25,8 @@ module _ (o : Opening) (Good : World → Type 0) (K : Ground o Good) where
   event_in_time w e G is = record {
     prompt = ap (filter is_prompt) given ∙ prompt_along o Good K a rs w G W.may ∙ ap (due (standing_at o w)) W.entries;
     joined = λ s in_answers e. told s
-        (All-contains (TellsJoin a (standing_at o w) (standing_at o (Rules.effects o a rs w))) (Rules.answers_by o a rs w) s
+        (All-contains (TellsJoin a (standing_at o w) (standing_at o (Rules.effects o a rs w)))
+        (Rules.answers_by o a rs w) s
         (All-from_recursion (TellsJoin a (standing_at o w) (standing_at o (Rules.effects o a rs w)))
         (Rules.answers_by o a rs w) (joined_along o Good K a rs w G W.may))
         (subst (λ (l : List Answer). Contains l s) given in_answers) e);

@@ -112,4 +112,5 @@ prompt_along o Good K a (r ∷ rs) w G M =
     ∙ ap (λ (l : List Answer). due (standing_at o w) (Rules.turn_by o a w r).entries ++ l)
     (prompt_along o Good K a rs (Rules.effect o a r w) (K.keeps a w r G M.0) M.1
     ∙ ap (λ (t : Standing). due t (Rules.entries_by o a rs (Rules.effect o a r w))) (effect-standing o a w r))
-    ∙ sym (due-append (standing_at o w) (Rules.turn_by o a w r).entries (Rules.entries_by o a rs (Rules.effect o a r w)))
+    ∙ sym (due-append (standing_at o w) (Rules.turn_by o a w r).entries
+    (Rules.entries_by o a rs (Rules.effect o a r w)))

@@ -37,7 +37,13 @@ module _ (o : Opening) (Good : World → Type 0) (K : Chains.Ground o Good) (G :
   -- the world and the course of these events
   pub kept_run : Kept o (run o (opening_world o) es) (course o (opening_world o) es)
   kept_run = Chains.course_keeps o Good K (Kept o) kept_on es (opening_world o) [] G
-      (record { book = Chains.book_opens o; spares = Replies.spares_open o; apart = Courses.apart_opens o; steps = LookUps.own_steps_open })
+      (record {
+        book = Chains.book_opens o;
+        spares = Replies.spares_open o;
+        apart = Courses.apart_opens o;
+        steps =
+            LookUps.own_steps_open;
+      })
 
   -- the history is what the events added
   pub history : (run o (opening_world o) es).history ≡ entries_of (course o (opening_world o) es)

@@ -49,7 +49,8 @@ module _ (o : Opening) (w : World) (R : Replicas o w) where
           late false j = j
 
   -- a joined node that writes is the node of what holds in the cluster
-  writer_holds : (a : ℕ) → now.registry.joined a ≡ true → is_writing (current o w a) ≡ true → is_hold_of a now.held ≡ true
+  writer_holds : (a : ℕ) → now.registry.joined a ≡ true → is_writing (current o w a) ≡ true → is_hold_of a now.held
+      ≡ true
   writer_holds a joined writes = ap (is_hold_of a) (sym (hold_at-joined now a joined)) ∙ R.holds a ∙ writes
 
   -- so two such nodes are one
@@ -64,7 +65,8 @@ module _ (o : Opening) (w : World) (R : Replicas o w) where
 
   -- the registry, with what holds or without it, is that of a history
   rises_now : Rises now.registry
-  rises_now = subst Rises (sym (registry-standing_of (in_cluster o) w.history)) (Rises-registry_of (in_cluster o) w.history)
+  rises_now = subst Rises (sym (registry-standing_of (in_cluster o) w.history))
+      (Rises-registry_of (in_cluster o) w.history)
 
   rises_old : (a : ℕ) → Rises (old now a)
   rises_old a = go (hold_at now a) refl

@@ -24,7 +24,8 @@ module _ (o : Opening) (ps : List Played) (w : World) (W : Whole o w) (S : Writt
 
   pub free : (a : ℕ) → IsRunning o (standing o ps) a → IsTrue (is_free (standing o ps) a)
       → Shows (standing o ps).registry a (seen o w)
-  free = subst (λ (t : Standing). (a : ℕ) → IsRunning o t a → IsTrue (is_free t a) → Shows t.registry a (seen o w)) past_now
+  free = subst (λ (t : Standing). (a : ℕ) → IsRunning o t a → IsTrue (is_free t a) → Shows t.registry a (seen o w))
+      past_now
       (States.free o w (replicas o w W.kept))
 
   pub held : (a : ℕ) → IsRunning o (standing o ps) a → Shows (standing o ps).registry a (seen o w)

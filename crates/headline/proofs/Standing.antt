@@ -45,7 +45,14 @@ module _ (o : Opening) (ps : List Played) (w : World) (A : Along o ps w) where
       let three : (a && b && c ≡ true) × (d ≡ true) = and_parts _ _ two.0 in
       let four : (a && b ≡ true) × (c ≡ true) = and_parts _ _ three.0 in
       let five : (a ≡ true) × (b ≡ true) = and_parts _ _ four.0 in
-      record { history = five.0; fits = five.1; replies = four.1; free_and_held = three.1; leave = two.1; holder = one.1 }
+      record {
+        history = five.0;
+        fits = five.1;
+        replies = four.1;
+        free_and_held = three.1;
+        leave = two.1;
+        holder = one.1;
+      }
 
   -- the history
   history : w.history ≡ entries_of ps
@@ -61,7 +68,8 @@ module _ (o : Opening) (ps : List Played) (w : World) (A : Along o ps w) where
   fitting : Fitting
   fitting =
       let h : List Entry = entries_of ps in
-      let one : (_ ≡ true) × (are_entries (filter is_told h) (flat_map told_of ps) ≡ true) = and_parts _ _ between.fits in
+      let one : (_ ≡ true) × (are_entries (filter is_told h) (flat_map told_of ps) ≡ true) = and_parts _ _ between.fits
+      in
       let two : (_ ≡ true) × (are_entries (filter is_left h) (flat_map left_of ps) ≡ true) = and_parts _ _ one.0 in
       let three : (_ ≡ true) × (are_entries (filter is_exit h) (flat_map exit_of ps) ≡ true) = and_parts _ _ two.0 in
       record {
@@ -83,7 +91,8 @@ module _ (o : Opening) (ps : List Played) (w : World) (A : Along o ps w) where
       ShowsBelow o (standing o ps).registry a (seen o w)
   free a r f = Meant.shown o (standing o ps).registry a w
       (only (shows o (standing o ps).registry a w) (shows o (old (standing o ps) a) a w)
-      (subst (λ (b : Bool). (shows o (standing o ps).registry a w || not b && shows o (old (standing o ps) a) a w) ≡ true) f
+      (subst (λ (b : Bool). (shows o (standing o ps).registry a w || not b && shows o (old (standing o ps) a) a w)
+      ≡ true) f
       (shown_at a r)))
     where
       only : (a b : Bool) → (a || not true && b) ≡ true → a ≡ true
@@ -108,7 +117,8 @@ module _ (o : Opening) (ps : List Played) (w : World) (A : Along o ps w) where
   last_part before p i = parts_of o before p w (A.last before p i)
 
   -- where a step answers `yes`
-  written : (before : List Played) (p : Played) (s : Answer) → ps ≡ before ++ p ∷ [] → Contains p.answers s → s.reply ≡ Yes →
+  written : (before : List Played) (p : Played) (s : Answer) → ps ≡ before ++ p ∷ [] → Contains p.answers s → s.reply
+      ≡ Yes →
       (c : ℕ) → in_group (standing o ps).registry s.node c ≡ true → IsRunning o (standing o ps) c →
       ShowsBelow o (standing o ps).registry c (seen o w)
   written before p s i c y a g r = Meant.shown o (standing o ps).registry a w
@@ -120,7 +130,8 @@ module _ (o : Opening) (ps : List Played) (w : World) (A : Along o ps w) where
       group : group_shows o (standing o ps) s.node w ≡ true
       group = subst (λ (u : Standing). group_shows o u s.node w ≡ true) (sym now)
           (Meant.so_or (is_reply s.reply Yes) _
-          (Meant.all_at (λ t. not (is_reply t.reply Yes) || group_shows o (fold after (standing o before) p.entries) t.node w)
+          (Meant.all_at (λ t. not (is_reply t.reply Yes) || group_shows o (fold after (standing o before) p.entries)
+          t.node w)
           p.answers (last_part before p i).written s c)
           (subst (λ (r : Reply). is_reply r Yes ≡ true) (sym y) refl))
 
@@ -128,7 +139,8 @@ module _ (o : Opening) (ps : List Played) (w : World) (A : Along o ps w) where
   decided : (before : List Played) (p : Played) (earlier later : List Entry) (e : Entry) (a : ℕ) →
       ps ≡ before ++ p ∷ [] → p.entries ≡ earlier ++ e ∷ later → decided_by e ≡ Some a →
       (let t = fold after (standing o before) earlier in
-      (c b : ℕ) → b < o.bound → in_group t.registry a c ≡ true → IsRunning o t c → global_given (w.node c).locks b ≡ (b == a))
+      (c b : ℕ) → b < o.bound → in_group t.registry a c ≡ true → IsRunning o t c → global_given (w.node c).locks b
+      ≡ (b == a))
   decided before p earlier later e a i j k c b l g r =
       Told.nodes o.bound (global_given (w.node c).locks) (λ b. b == a)
       (Meant.group_at o t a (λ c. are_nodes o.bound (global_given (w.node c).locks) (λ b. b == a)) lock c g r) b l
@@ -146,7 +158,8 @@ module _ (o : Opening) (ps : List Played) (w : World) (A : Along o ps w) where
   placed p s c = each_among (λ p. Contains p.answers s → s.node ≡ place p.event) ps
       (λ before p later i d. let (v, h) : (v : World) × Parts o before p v = part before p later i in
       eqb-true s.node (place p.event)
-      (and_parts (s.node == place p.event) _ (Meant.all_at (answers_call (before ++ p ∷ []) p) p.answers h.answered s d)).0)
+      (and_parts (s.node == place p.event) _ (Meant.all_at (answers_call (before ++ p ∷ []) p) p.answers h.answered s
+      d)).0)
       p c
 
   -- joiners are answered before their admissions end
@@ -155,7 +168,8 @@ module _ (o : Opening) (ps : List Played) (w : World) (A : Along o ps w) where
       let (v, h) : (v : World) × Parts o before p v = part before p rest i in
       Meant.joiner (answers_of before) (fold after (standing o before) earlier).registry m
       (hold_at (fold after (standing o before) earlier) m) hold j k
-      (Meant.entries_at (joiner_is_answered (answers_of before)) (standing o before) p.entries earlier later (Entry.Done m)
+      (Meant.entries_at (joiner_is_answered (answers_of before)) (standing o before) p.entries earlier later
+      (Entry.Done m)
       h.joiner e) there own entry
 
   -- all clauses
@@ -176,7 +190,8 @@ module _ (o : Opening) (ps : List Played) (w : World) (A : Along o ps w) where
     written = written;
     leave = λ a r. Meant.leave (is_holding (standing o ps) a) (refusal o w (At a Event.Leave))
         (Meant.so (is_running o (standing o ps) a) _
-        (empty_at o.bound _ between.leave a (Meant.bounded o (standing o ps) a r)) (Meant.running o (standing o ps) a r));
+        (empty_at o.bound _ between.leave a (Meant.bounded o (standing o ps) a r))
+        (Meant.running o (standing o ps) a r));
     holder = Meant.holding _ _ between.holder;
     made = λ p e c d. each_among (λ p. Contains p.entries e → IsMadeIn p e) ps
         (λ before p later i d. let (v, h) : (v : World) × Parts o before p v = part before p later i in

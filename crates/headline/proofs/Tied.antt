@@ -96,8 +96,10 @@ module _ (o : Opening) where
           whole : Headline o (events o (es ++ e ∷ [])) (now o (es ++ e ∷ []))
           whole = h (es ++ e ∷ []) ([], sym (append-nil (es ++ e ∷ [])))
 
-          now_stands : Headline o (ps ++ (if is_none (refusal o w e) then played o w e ∷ [] else [])) (seen o (happens o w e))
-          now_stands = subst (λ (qs : List Played). Headline o qs (seen o (happens o w e))) (course-push (opening_world o) es e)
+          now_stands : Headline o (ps ++ (if is_none (refusal o w e) then played o w e ∷ [] else []))
+              (seen o (happens o w e))
+          now_stands = subst (λ (qs : List Played). Headline o qs (seen o (happens o w e)))
+              (course-push (opening_world o) es e)
               (subst (λ (v : World). Headline o (course o (opening_world o) (es ++ e ∷ [])) (seen o v))
               (run-push (opening_world o) es e) whole)
 

@@ -123,7 +123,8 @@ pub kept : (o : Opening) (w v : World) (j m : ℕ) (g : Gate) → Facts o w j m 
     → (left v j ≡ false → left w j ≡ false)
     → (is_turned g ≡ true → left v j ≡ false → (replica o w j).told m ≡ false → (replica o v j).told m ≡ false)
     → ((k : ℕ) → current o w j ≡ Current.Joining k m → (standing_at o w).registry.joined j ≡ false
-    → ((standing_at o v).registry.joined j ≡ false) × ((standing_at o v).registry.lone j ≡ (standing_at o w).registry.lone j))
+    → ((standing_at o v).registry.joined j ≡ false)
+    × ((standing_at o v).registry.lone j ≡ (standing_at o w).registry.lone j))
     → (is_entering g ≡ true → left v j ≡ false → (k : ℕ) → current o w j ≡ Current.Joining k m
     → Admitted (standing_at o w) j k m → Admitted (standing_at o v) j k m)
     → Facts o v j m g
@@ -132,7 +133,8 @@ kept o w v j m g F contact joined runs told lone admitted = record {
   host = λ e. joined (F.host e);
   heard = λ e l. told e l (F.heard e (runs l));
   tokens = λ p e.
-      let now : ((standing_at o w).registry.joined j ≡ false) × ((standing_at o w).registry.lone j ≡ p) = F.tokens p e in
+      let now : ((standing_at o w).registry.joined j ≡ false)
+      × ((standing_at o w).registry.lone j ≡ p) = F.tokens p e in
       let here : (k : ℕ) × (current o w j ≡ Current.Joining k m) = F.fit (busy g p e) in
       let after : ((standing_at o v).registry.joined j ≡ false)
       × ((standing_at o v).registry.lone j ≡ (standing_at o w).registry.lone j) = lone here.0 here.1 now.0 in

@@ -355,7 +355,8 @@ joined_same (Entry.Join i k m Joined) r x none = cc
 joined_same (Entry.Join i k m _) r x none = refl
 joined_same _ r x none = refl
 
-back_pushed : (s : Standing) (e : Entry) (j k m : ℕ) → lets_in e ≡ false → Admitted (with_effect e s) j k m → Admitted s j k m
+back_pushed : (s : Standing) (e : Entry) (j k m : ℕ) → lets_in e ≡ false → Admitted (with_effect e s) j k m
+    → Admitted s j k m
 back_pushed s e j k m none A = go s.held refl
   where
     hold_of : Option Hold → Hold

@@ -23,11 +23,13 @@ LoneOwners o w = (n : ℕ) → (standing_at o w).registry.joined n ≡ false
     → list_all (λ (e : Pair). e.owner.node == n) ((standing_at o w).registry.lone n) ≡ true
 
 -- the same, from any test that goes over the names so
-pub owners_from : (n : ℕ) (test : Table → Bool) → ((e : Pair) (t : Table) → test (e ∷ t) ≡ ((e.owner.node == n) && test t))
+pub owners_from : (n : ℕ) (test : Table → Bool) → ((e : Pair) (t : Table) → test (e ∷ t)
+    ≡ ((e.owner.node == n) && test t))
     → (t : Table) → test t ≡ true → list_all (λ (e : Pair). e.owner.node == n) t ≡ true
 owners_from n test step [] h = refl
 owners_from n test step (e ∷ t) h =
-    let parts : ((e.owner.node == n) ≡ true) × (test t ≡ true) = both (e.owner.node == n) (test t) (sym (step e t) ∙ h) in
+    let parts : ((e.owner.node == n) ≡ true) × (test t ≡ true) = both (e.owner.node == n) (test t) (sym (step e t) ∙ h)
+    in
     ap (λ (b : Bool). b && list_all (λ (e : Pair). e.owner.node == n) t) parts.0 ∙ owners_from n test step t parts.1
 
 -- a table of one node's names, seen by one that wasn't told that this node left

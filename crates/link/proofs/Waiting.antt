@@ -17,7 +17,8 @@ is_nil-true (l ∷ ls) e = cc
 
 -- no link between two places has a letter
 pub waits_nowhere : {L : Type 0} (h : Held L)
-    → ((i k : ℕ) → i < length h.nodes → k < length h.nodes → get_or h.links (i * MOST_NODES + k) [] ≡ []) → WaitsFirst None h
+    → ((i k : ℕ) → i < length h.nodes → k < length h.nodes → get_or h.links (i * MOST_NODES + k) [] ≡ [])
+    → WaitsFirst None h
 waits_nowhere h nothing x y = go (place x h.nodes) (place y h.nodes) refl refl
   where
     go : (p q : Option ℕ) → place x h.nodes ≡ p → place y h.nodes ≡ q → link_at p q h.links ≡ []
@@ -26,9 +27,16 @@ waits_nowhere h nothing x y = go (place x h.nodes) (place y h.nodes) refl refl
     go (Some i) (Some k) e f = nothing i k (place-Some x h.nodes i e).0 (place-Some y h.nodes k f).0
 
 -- of rising nodes the lesser stands before
-stands_before : {L : Type 0} (h : Held L) → IsWhole h → (x y i k : ℕ) → place x h.nodes ≡ Some i → place y h.nodes ≡ Some k → x < y → i < k
+stands_before : {L : Type 0} (h : Held L) → IsWhole h → (x y i k : ℕ) → place x h.nodes ≡ Some i → place y h.nodes
+    ≡ Some k → x < y → i < k
 stands_before h whole x y i k e f less = elim (cases_order i k) [
-  | inl same ↦ absurd (omega (arith, (place-Some x h.nodes i e).1, (place-Some y h.nodes k f).1, ap (λ (j : ℕ). get_or h.nodes j 0) same))
+  | inl same ↦ absurd (omega (
+    arith,
+    (place-Some x h.nodes i e).1,
+    (place-Some y h.nodes k f).1,
+    ap
+        (λ (j : ℕ). get_or h.nodes j 0) same,
+  ))
   | inr (inl l) ↦ l
   | inr (inr more) ↦ absurd (omega (
     arith,
@@ -42,7 +50,11 @@ stands_before h whole x y i k e f less = elim (cases_order i k) [
 pub waits_here : {L : Type 0} (h : Held L) (i j : ℕ) → IsWhole h → i < length h.nodes
     → ((x k : ℕ) → x < i → k < length h.nodes → get_or h.links (x * MOST_NODES + k) [] ≡ []) → WaitsFrom i (Some j) h
     → WaitsFirst (Some (get_or h.nodes i 0, get_or h.nodes j 0)) h
-waits_here h i j whole within before here = (ap is_nil (link_at-Some (place f h.nodes) (place t h.nodes) i j h.links e g) ∙ here.1, first)
+waits_here h i j whole within before here = (
+  ap is_nil
+      (link_at-Some (place f h.nodes) (place t h.nodes) i j h.links e g) ∙ here.1,
+  first,
+)
   where
     f : ℕ
     f = get_or h.nodes i 0
@@ -56,10 +68,12 @@ waits_here h i j whole within before here = (ap is_nil (link_at-Some (place f h.
     g : place t h.nodes ≡ Some j
     g = place-get_or h.nodes j whole.rising here.0
 
-    go : (x y : ℕ) → (x < f) ⊎ ((x ≡ f) × (y < t)) → (p q : Option ℕ) → place x h.nodes ≡ p → place y h.nodes ≡ q → link_at p q h.links ≡ []
+    go : (x y : ℕ) → (x < f) ⊎ ((x ≡ f) × (y < t)) → (p q : Option ℕ) → place x h.nodes ≡ p → place y h.nodes ≡ q
+        → link_at p q h.links ≡ []
     go x y less None q a b = refl
     go x y less (Some k) None a b = refl
-    go x y (inl less) (Some k) (Some l) a b = before k l (stands_before h whole x f k i a e less) (place-Some y h.nodes l b).0
+    go x y (inl less) (Some k) (Some l) a b = before k l (stands_before h whole x f k i a e less)
+        (place-Some y h.nodes l b).0
     go x y (inr both) (Some k) (Some l) a b =
         ap (λ (n : ℕ). get_or h.links (n * MOST_NODES + l) []) same_place
         ∙ here.2 l (stands_before h whole y t l j b g both.1)

@@ -17,7 +17,8 @@ abbrev pub at_pair : {A : Type 0} → (ℕ → ℕ → A) → ℕ → ℕ → A 
 at_pair f a c v x y = if x == a then (if y == c then v else f x y) else f x y
 
 -- what holds at (a, c), and at each pair
-pub by_pair : {A : Type 0} (f : ℕ → ℕ → A) (a c : ℕ) (v : A) (P : ℕ → ℕ → A → Type 0) → P a c v → ((x y : ℕ) → P x y (f x y))
+pub by_pair : {A : Type 0} (f : ℕ → ℕ → A) (a c : ℕ) (v : A) (P : ℕ → ℕ → A → Type 0) → P a c v
+    → ((x y : ℕ) → P x y (f x y))
     → (x y : ℕ) → P x y (at_pair f a c v x y)
 by_pair f a c v P here there = by_test a (λ x t. (y : ℕ) → P x y (if t then (if y == c then v else f x y) else f x y))
     (by_test c (λ y t. P a y (if t then v else f a y)) here (λ y ne. there a y))

@@ -1,4 +1,5 @@
--- What the invariants of the protocol say to each other. Each family of invariants is proved in a crate of its own and may use
+-- What the invariants of the protocol say to each other. Each family of invariants is proved in a crate of its own and
+-- may use
 -- of the others what stands here.
 use Rattle.std.proofs.Common.{ℕ, Bool, true, false, ◌≡◌, Option, Some, None, List, [], ◌∷◌}
 use Rattle.std.specs.Prelude.{not, ◌&&◌, ◌||◌, if◌then◌else◌}
@@ -53,7 +54,8 @@ module _ (o : Opening) (w : World) where
   IsProper f n Letter.Down = (left w f ≡ true) × (f ≡ n → ⊥)
   IsProper f n (Letter.Admit j puts kills) = in_world o j ≡ true
   IsProper f n (Letter.Welcome members pairs told kills) =
-      (members n ≡ true) × ((c : ℕ) → members c ≡ true → in_world o c ≡ true) × ((d : ℕ) → told d ≡ true → left w d ≡ true)
+      (members n ≡ true) × ((c : ℕ) → members c ≡ true → in_world o c ≡ true)
+      × ((d : ℕ) → told d ≡ true → left w d ≡ true)
   IsProper f n _ = Unit {0}
 
   -- an operation of the registrar names nodes of the world
@@ -73,7 +75,8 @@ module _ (o : Opening) (w : World) where
   IsProperCurrent (Current.Joining k m) = in_world o m ≡ true
   IsProperCurrent Current.Free = Unit {0}
 
-  -- departures, members and letters by themselves; nothing is said of a node that has left but that its `Down` is its last letter
+  -- departures, members and letters by themselves; nothing is said of a node that has left but that its `Down` is its
+  -- last letter
   pub record Proper : Type 0 where
     pub last : (d n : ℕ) → is_down_last (w.links.queue d n) ≡ true
     pub letters : (f n : ℕ) → left w n ≡ false → Each (IsProper f n) (w.links.queue f n)
@@ -143,17 +146,21 @@ module _ (o : Opening) (w : World) where
     pub writers : (a : ℕ) → is_writing (current a) ≡ true → IsUp a
     pub written : (a : ℕ) → IsWritten a (current a)
     -- a node shows the registry with the operation that holds, or without it where it still has to carry it out
-    pub facts : (c : ℕ) → IsUp c → replica c ≡ replica_of (if is_pending c then old standing_at c else standing_at.registry) c
+    pub facts : (c : ℕ) → IsUp c → replica c ≡ replica_of
+        (if is_pending c then old standing_at c else standing_at.registry) c
     pub notes : (f c : ℕ) → left w c ≡ false → Each (IsOnItsWay f c) (w.links.queue f c)
     -- who dies by a letter, who is dead at home and who is to be struck is dead
     pub kills : (f c : ℕ) → left w c ≡ false → Each (λ l. AllDead (kills_in l)) (w.links.queue f c)
-    pub dead : (a s : ℕ) → is_dead (w.node a).watch s ≡ true → standing_at.registry.dead (record { node = a; serial = s }) ≡ true
+    pub dead : (a s : ℕ) → is_dead (w.node a).watch s ≡ true
+        → standing_at.registry.dead (record { node = a; serial = s }) ≡ true
 
   -- what the replicas ask of the joins
   pub record JoinsKnown : Type 0 where
     -- the joiner of an admission that is asked for waits for it, lone, with the names that it sent
-    pub admission : (m j : ℕ) (pairs : Table) (r : Round) → IsUp m → current m ≡ Current.Asking (Op.Admission j pairs) r →
+    pub admission : (m j : ℕ) (pairs : Table) (r : Round) → IsUp m → current m
+        ≡ Current.Asking (Op.Admission j pairs) r →
         (standing_at.registry.joined j ≡ false) × (standing_at.registry.lone j ≡ pairs) × ((replica m).joined ≡ true)
         × ((k : ℕ) × (current j ≡ Current.Joining k m))
     -- a node with a welcome on its way waits for it
-    pub welcome : (f n : ℕ) → IsUp n → Each (λ l. is_welcome l ≡ true → (k : ℕ) × (current n ≡ Current.Joining k f)) (w.links.queue f n)
+    pub welcome : (f n : ℕ) → IsUp n → Each (λ l. is_welcome l ≡ true → (k : ℕ) × (current n ≡ Current.Joining k f))
+        (w.links.queue f n)

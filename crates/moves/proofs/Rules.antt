@@ -1,4 +1,5 @@
--- The single rules that steps are made of, with what was tested before each. An invariant that each of them keeps is kept
+-- The single rules that steps are made of, with what was tested before each. An invariant that each of them keeps is
+-- kept
 -- by every event. A rule that reads a letter takes it off its link in the same move.
 use mathlib.Core.Logic.{◌⊎◌}
 use Rattle.std.proofs.Common.{ℕ, Bool, true, false, ◌==◌, ◌≡◌, ◌+◌, Option, Some, None, List, [], ◌∷◌, ◌++◌}
@@ -92,7 +93,8 @@ taking f l = Some (record { sender = f; letter = l })
 
 -- p dies, and these are to drop its grants
 abbrev pub die_to : ℕ → Nodes → Process → Turn → Turn
-die_to n receivers p u = send_all n receivers (Letter.ReleaseOf p) (with_calls (drop_call p) (with_watch (with_dead p.serial) u))
+die_to n receivers p u = send_all n receivers (Letter.ReleaseOf p)
+    (with_calls (drop_call p) (with_watch (with_dead p.serial) u))
 
 -- who dies by a letter
 abbrev pub kills_in : Letter → List Process
@@ -184,7 +186,8 @@ module _ (o : Opening) (a : ℕ) where
   made number (AsksJoin k m ops) u = ask_join o.bound a k m (with_queue ops u)
   made number (SkipsJoin k m ops) u = contact_left o.bound a k m (with_queue ops u)
   made number (HearsAnswer f id granted op r) u =
-      at_work (Current.Asking op (answer f granted r)) (ask_rest o.bound a f granted (Letter.SetLock (Global a) (registrar a)) r u)
+      at_work (Current.Asking op (answer f granted r))
+      (ask_rest o.bound a f granted (Letter.SetLock (Global a) (registrar a)) r u)
   made number (MarksDown d op r) u = at_work (Current.Asking op (down d r)) u
   made number (GivesUp op r granted) u = give_up o.bound a op granted u
   made number (Grants k call r) u =
@@ -196,7 +199,8 @@ module _ (o : Opening) (a : ℕ) where
   made number (Strikes p r) u = write o.bound a (Op.Strike p) (asked r) None (StrikeOwner p) (enter (Entry.Strike p) u)
   made number (Admits j pairs r) u = admit o.bound a number j pairs (asked r) (settle u.node.replica.table pairs) u
   made number (Passes j pairs r) u = finish o.bound a (Op.Admission j pairs) (asked r) None u
-  made number (CountsApplied f op asked awaited reply) u = at_work (Current.Writing op asked (at awaited f false) reply) u
+  made number (CountsApplied f op asked awaited reply) u = at_work (Current.Writing op asked (at awaited f false) reply)
+      u
   made number (CountsDown d op asked awaited reply) u = at_work (Current.Writing op asked (at awaited d false) reply) u
   made number (Finishes op asked awaited reply) u = done o.bound a op asked reply u
   made number (Judges f id p) u = judge o.bound a number f id p (is_free_for id p u.node.locks) u
@@ -209,7 +213,8 @@ module _ (o : Opening) (a : ℕ) where
   made number (Kills f l p receivers) u = die_to o.bound receivers p u
   made number (IsAdmitted f j puts kills) u = send f Letter.Applied (with_replica (admitted j puts) u)
   made number (IsWelcomed f k members pairs told kills) u =
-      send f Letter.Applied (reply_with a k Joined (at_work Current.Free (with_replica (welcomed members pairs told) u)))
+      send f Letter.Applied (reply_with a k Joined (at_work Current.Free
+      (with_replica (welcomed members pairs told) u)))
   made number (IsTold f) u = told_of o.bound a number f u
   made number (LosesContact k m) u = contact_left o.bound a k m (at_work Current.Free u)
   made number (Ignores f l) u = u
@@ -266,12 +271,16 @@ module _ (o : Opening) (a : ℕ) where
   Tested w v (Begins op ops) = (v.current ≡ Current.Free) × (v.queue ≡ op ∷ ops) × (is_join op ≡ false)
   Tested w v (BeginsStrike serial) = (v.current ≡ Current.Free) × (owed a v.replica.table v.watch ≡ Some serial)
   Tested w v (Retries op) = v.current ≡ Current.Waiting op
-  Tested w v (AsksJoin k m ops) = (v.current ≡ Current.Free) × (v.queue ≡ Op.Join k m ∷ ops) × (v.replica.told m ≡ false)
-  Tested w v (SkipsJoin k m ops) = (v.current ≡ Current.Free) × (v.queue ≡ Op.Join k m ∷ ops) × (v.replica.told m ≡ true)
-  Tested w v (HearsAnswer f id granted op r) = (v.replica.told f ≡ false) × (v.current ≡ Current.Asking op r) × (owes r f ≡ true)
+  Tested w v (AsksJoin k m ops) = (v.current ≡ Current.Free) × (v.queue ≡ Op.Join k m ∷ ops)
+      × (v.replica.told m ≡ false)
+  Tested w v (SkipsJoin k m ops) = (v.current ≡ Current.Free) × (v.queue ≡ Op.Join k m ∷ ops)
+      × (v.replica.told m ≡ true)
+  Tested w v (HearsAnswer f id granted op r) = (v.replica.told f ≡ false) × (v.current ≡ Current.Asking op r)
+      × (owes r f ≡ true)
   Tested w v (MarksDown d op r) = (v.replica.told d ≡ true) × (v.current ≡ Current.Asking op r)
   Tested w v (GivesUp op r granted) =
-      (v.current ≡ Current.Asking op r) × (is_over o.bound r ≡ true) × (ending o.bound v.replica.members r ≡ GiveBack granted)
+      (v.current ≡ Current.Asking op r) × (is_over o.bound r ≡ true)
+      × (ending o.bound v.replica.members r ≡ GiveBack granted)
   Tested w v (Grants k call r) =
       IsHeld o.bound v (Op.Name k call) r × (is_grant (reply_to v.replica.members v.replica.table call) ≡ true)
   Tested w v (Denies k call r) =
@@ -293,7 +302,8 @@ module _ (o : Opening) (a : ℕ) where
   Tested w v (RefusesJoin f pairs) = (v.replica.told f ≡ false) × (v.replica.joined ≡ false)
   Tested w v (EndsJoin f k) = (v.replica.told f ≡ false) × (v.current ≡ Current.Joining k f)
   Tested w v (Kills f l p receivers) =
-      (v.replica.told f ≡ false) × (in_world o f ≡ true) × IsFront w f l × Contains (kills_in l) p × (is_live a v.watch p ≡ true)
+      (v.replica.told f ≡ false) × (in_world o f ≡ true) × IsFront w f l × Contains (kills_in l) p
+      × (is_live a v.watch p ≡ true)
       × (awaits a v f l ≡ true) × ((c : ℕ) → v.replica.members c ≡ true → receivers c ≡ true)
   Tested w v (IsAdmitted f j puts kills) = v.replica.told f ≡ false
   Tested w v (IsWelcomed f k members pairs told kills) = (v.replica.told f ≡ false) × (v.current ≡ Current.Joining k f)
@@ -305,7 +315,8 @@ module _ (o : Opening) (a : ℕ) where
   Tested w v (FailsLock c) =
       (IsNew a v c ⊎ IsRetried v c) × (is_empty o.bound (targets v.replica.members c.target) ≡ true)
   Tested w v (HearsLock f id granted c r) =
-      (v.replica.told f ≡ false) × (is_process c.holder (registrar a) ≡ false) × IsOpen v c (LockPhase.Asking r) × (owes r f ≡ true)
+      (v.replica.told f ≡ false) × (is_process c.holder (registrar a) ≡ false) × IsOpen v c (LockPhase.Asking r)
+      × (owes r f ≡ true)
   Tested w v (MarksLockDown d c r) = (v.replica.told d ≡ true) × IsOpen v c (LockPhase.Asking r)
   Tested w v (WinsLock c r) =
       IsOpen v c (LockPhase.Asking r) × (is_over o.bound r ≡ true) × (ending o.bound (asked r) r ≡ Held)
@@ -314,13 +325,17 @@ module _ (o : Opening) (a : ℕ) where
   Tested w v (DeletesLock c) = IsNew a v c × (is_empty o.bound (targets v.replica.members c.target) ≡ false)
   Tested w v (DeletesNothing c) = IsNew a v c × (is_empty o.bound (targets v.replica.members c.target) ≡ true)
   Tested w v (CountsGivenBack f c owing) =
-      (v.replica.told f ≡ false) × IsOpen v c (LockPhase.Deleting owing) × (owing f ≡ true) × (is_empty o.bound (at owing f false) ≡ false)
+      (v.replica.told f ≡ false) × IsOpen v c (LockPhase.Deleting owing) × (owing f ≡ true)
+      × (is_empty o.bound (at owing f false) ≡ false)
   Tested w v (EndsDeletion f c owing) =
-      (v.replica.told f ≡ false) × IsOpen v c (LockPhase.Deleting owing) × (owing f ≡ true) × (is_empty o.bound (at owing f false) ≡ true)
+      (v.replica.told f ≡ false) × IsOpen v c (LockPhase.Deleting owing) × (owing f ≡ true)
+      × (is_empty o.bound (at owing f false) ≡ true)
   Tested w v (CountsLockDown d c owing) =
-      (v.replica.told d ≡ true) × IsOpen v c (LockPhase.Deleting owing) × (owing d ≡ true) × (is_empty o.bound (at owing d false) ≡ false)
+      (v.replica.told d ≡ true) × IsOpen v c (LockPhase.Deleting owing) × (owing d ≡ true)
+      × (is_empty o.bound (at owing d false) ≡ false)
   Tested w v (EndsDeletionDown d c owing) =
-      (v.replica.told d ≡ true) × IsOpen v c (LockPhase.Deleting owing) × (owing d ≡ true) × (is_empty o.bound (at owing d false) ≡ true)
+      (v.replica.told d ≡ true) × IsOpen v c (LockPhase.Deleting owing) × (owing d ≡ true)
+      × (is_empty o.bound (at owing d false) ≡ true)
   Tested w v Leaves = holds_global v ≡ false
   Tested w v _ = Unit {0}
 
@@ -406,7 +421,8 @@ is_after s (c ∷ cs) = nat_lt s c.holder.serial
 
 abbrev pub is_ordered : ℕ → List LockCall → Bool
 is_ordered a [] = true
-is_ordered a (c ∷ cs) = (c.holder.node == a) && nat_lt 0 c.holder.serial && is_after c.holder.serial cs && is_ordered a cs
+is_ordered a (c ∷ cs) = (c.holder.node == a) && nat_lt 0 c.holder.serial && is_after c.holder.serial cs && is_ordered a
+    cs
 
 -- the lock calls of each node are so
 abbrev pub Ordered : World → Type 0

@@ -19,10 +19,12 @@ sent_to-append c (s ∷ xs) ys = go (s.to == c) (sent_to-append c xs ys)
     go false e = e
 
 -- one letter
-pub sent_to-one : (c d : ℕ) (l : Letter) → sent_to c (record { to = d; letter = l } ∷ []) ≡ (if d == c then l ∷ [] else [])
+pub sent_to-one : (c d : ℕ) (l : Letter) → sent_to c (record { to = d; letter = l } ∷ [])
+    ≡ (if d == c then l ∷ [] else [])
 sent_to-one c d l = go (d == c)
   where
-    go : (t : Bool) → map (λ (x : Send). x.letter) (if t then record { to = d; letter = l } ∷ [] else []) ≡ (if t then l ∷ [] else [])
+    go : (t : Bool) → map (λ (x : Send). x.letter) (if t then record { to = d; letter = l } ∷ [] else [])
+        ≡ (if t then l ∷ [] else [])
     go true = refl
     go false = refl
 
@@ -43,7 +45,9 @@ sent_to-all (suc n) s l c =
     ∙ sent_to-append c (to_each (nodes_of n s) l) (to_each (if s n then n ∷ [] else []) l)
     ∙ ap (λ (ls : List Letter). ls ++ sent_to c (to_each (if s n then n ∷ [] else []) l)) (sent_to-all n s l c)
     ∙ elim (cases_eq c n) [
-      | inl e ↦ subst (λ (y : ℕ). (if nat_lt y n && s y then l ∷ [] else []) ++ sent_to y (to_each (if s n then n ∷ [] else []) l) ≡ (if nat_lt y (suc n) && s y then l ∷ [] else [])) (sym e) here
+      | inl e ↦ subst (λ (y : ℕ). (if nat_lt y n && s y then l ∷ [] else [])
+          ++ sent_to y (to_each (if s n then n ∷ [] else []) l) ≡ (if nat_lt y (suc n) && s y then l ∷ [] else []))
+          (sym e) here
       | inr ne ↦ there ne
     ]
   where
@@ -51,15 +55,18 @@ sent_to-all (suc n) s l c =
     last true = rw (eq-eqb n n refl)
     last false = refl
 
-    here : (if nat_lt n n && s n then l ∷ [] else []) ++ sent_to n (to_each (if s n then n ∷ [] else []) l) ≡ (if nat_lt n (suc n) && s n then l ∷ [] else [])
+    here : (if nat_lt n n && s n then l ∷ [] else []) ++ sent_to n (to_each (if s n then n ∷ [] else []) l)
+        ≡ (if nat_lt n (suc n) && s n then l ∷ [] else [])
     here = rw (le-ltb n n (omega arith), lt-ltb n (suc n) (omega arith)) (last (s n))
 
     other : (c ≡ n → ⊥) → (t : Bool) → sent_to c (to_each (if t then n ∷ [] else []) l) ≡ []
     other ne true = rw (ne_eqb n c (λ e. ne (sym e)))
     other ne false = refl
 
-    there : (c ≡ n → ⊥) → (if nat_lt c n && s c then l ∷ [] else []) ++ sent_to c (to_each (if s n then n ∷ [] else []) l) ≡ (if nat_lt c (suc n) && s c then l ∷ [] else [])
-    there ne = ap (λ (ls : List Letter). (if nat_lt c n && s c then l ∷ [] else []) ++ ls) (other ne (s n)) ∙ append-nil _ ∙ ap (λ (t : Bool). if t && s c then l ∷ [] else []) same
+    there : (c ≡ n → ⊥) → (if nat_lt c n && s c then l ∷ [] else [])
+        ++ sent_to c (to_each (if s n then n ∷ [] else []) l) ≡ (if nat_lt c (suc n) && s c then l ∷ [] else [])
+    there ne = ap (λ (ls : List Letter). (if nat_lt c n && s c then l ∷ [] else []) ++ ls) (other ne (s n))
+        ∙ append-nil _ ∙ ap (λ (t : Bool). if t && s c then l ∷ [] else []) same
       where
         same : nat_lt c n ≡ nat_lt c (suc n)
         same = grind (arith, nat_tests)

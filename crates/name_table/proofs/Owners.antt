@@ -9,6 +9,7 @@ pub is_some-name_of : (p : Process) (t : Table) → is_some (name_of p t) ≡ ow
 is_some-name_of p [] = refl
 is_some-name_of p (e ∷ t) = go (is_process e.owner p) (is_some-name_of p t)
   where
-    go : (b : Bool) → is_some (name_of p t) ≡ owns p t → is_some (if b then Some e.name else name_of p t) ≡ (b || owns p t)
+    go : (b : Bool) → is_some (name_of p t) ≡ owns p t → is_some (if b then Some e.name else name_of p t)
+        ≡ (b || owns p t)
     go true h = refl
     go false h = h

@@ -14,18 +14,21 @@ pub less_before : (x : Text) (t : Table) (i : ℕ) (d : Pair) → i < place x t 
 less_before x [] i d l = absurd (omega arith)
 less_before x (e ∷ t) i d l = go (nat_lt e.name x) refl i l (λ j. less_before x t j d)
   where
-    go : (b : Bool) → nat_lt e.name x ≡ b → (i : ℕ) → i < (if b then suc (place x t) else 0) → ((j : ℕ) → j < place x t → nat_lt (get_or t j d).name x ≡ true)
+    go : (b : Bool) → nat_lt e.name x ≡ b → (i : ℕ) → i < (if b then suc (place x t) else 0)
+        → ((j : ℕ) → j < place x t → nat_lt (get_or t j d).name x ≡ true)
         → nat_lt (get_or (e ∷ t) i d).name x ≡ true
     go true q zero l h = q
     go true q (suc i) l h = h i (omega arith)
     go false q i l h = absurd (omega arith)
 
 -- at its place the name isn't less
-pub not_less_at : (x : Text) (t : Table) (d : Pair) → place x t < length t → nat_lt (get_or t (place x t) d).name x ≡ false
+pub not_less_at : (x : Text) (t : Table) (d : Pair) → place x t < length t → nat_lt (get_or t (place x t) d).name x
+    ≡ false
 not_less_at x [] d l = absurd (omega arith)
 not_less_at x (e ∷ t) d l = go (nat_lt e.name x) refl l (not_less_at x t d)
   where
-    go : (b : Bool) → nat_lt e.name x ≡ b → (if b then suc (place x t) else 0) < suc (length t) → (place x t < length t → nat_lt (get_or t (place x t) d).name x ≡ false)
+    go : (b : Bool) → nat_lt e.name x ≡ b → (if b then suc (place x t) else 0) < suc (length t)
+        → (place x t < length t → nat_lt (get_or t (place x t) d).name x ≡ false)
         → nat_lt (get_or (e ∷ t) (if b then suc (place x t) else 0) d).name x ≡ false
     go true q l h = h (omega arith)
     go false q l h = q
@@ -52,7 +55,8 @@ get-place x (e ∷ t) r = go (nat_lt e.name x) refl (get-place x t (is_rising-pa
     go true q h = rw (ne_eqb e.name x (λ i. absurd (omega (arith, ltb-true e.name x q)))) h
     go false q h = same (e.name == x) refl
       where
-        same : (b : Bool) → (e.name == x) ≡ b → (if b then Some e.owner else get x t) ≡ (if b then Some e.owner else None)
+        same : (b : Bool) → (e.name == x) ≡ b → (if b then Some e.owner else get x t)
+            ≡ (if b then Some e.owner else None)
         same true i = refl
         same false i = get-below x t (is_rising-parts e t r).1 (below i)
           where
@@ -64,34 +68,50 @@ get-place x (e ∷ t) r = go (nat_lt e.name x) refl (get-place x t (is_rising-pa
             ]
 
 -- where the name stands it gets the new owner
-pub put-here : (x : Text) (p : Process) (t : Table) (d : Pair) → place x t < length t → (get_or t (place x t) d).name ≡ x
+pub put-here : (x : Text) (p : Process) (t : Table) (d : Pair) → place x t < length t → (get_or t (place x t) d).name
+    ≡ x
     → put x p t ≡ set t (place x t) (record { name = x; owner = p })
 put-here x p [] d l e = absurd (omega arith)
 put-here x p (f ∷ t) d l e = elim (cases_order x f.name) [
   | inl j ↦ rw (eq-eqb f.name x (sym j), le-ltb f.name x (omega arith)) refl
   | inr (inl k) ↦ absurd (less (le-ltb f.name x (omega arith)) l e (omega arith))
-  | inr (inr g) ↦ later (lt-ltb f.name x g) l e (ne_eqb f.name x (λ i. absurd (omega arith))) (le-ltb x f.name (omega arith)) (put-here x p t d)
+  | inr (inr g) ↦ later (lt-ltb f.name x g) l e (ne_eqb f.name x (λ i. absurd (omega arith)))
+      (le-ltb x f.name (omega arith)) (put-here x p t d)
 ]
   where
-    less : nat_lt f.name x ≡ false → place x (f ∷ t) < suc (length t) → (get_or (f ∷ t) (place x (f ∷ t)) d).name ≡ x → x < f.name → ⊥
-    less q l e k = omega (arith, sym (ap (λ (b : Bool). (get_or (f ∷ t) (if b then suc (place x t) else 0) d).name) q) ∙ e)
+    less : nat_lt f.name x ≡ false → place x (f ∷ t) < suc (length t) → (get_or (f ∷ t) (place x (f ∷ t)) d).name ≡ x
+        → x < f.name → ⊥
+    less q l e k = omega (
+      arith,
+      sym (ap (λ (b : Bool). (get_or (f ∷ t) (if b then suc (place x t) else 0) d).name) q)
+          ∙ e,
+    )
 
     later : nat_lt f.name x ≡ true → place x (f ∷ t) < suc (length t) → (get_or (f ∷ t) (place x (f ∷ t)) d).name ≡ x
         → (f.name == x) ≡ false → nat_lt x f.name ≡ false
-        → (place x t < length t → (get_or t (place x t) d).name ≡ x → put x p t ≡ set t (place x t) (record { name = x; owner = p }))
+        → (place x t < length t → (get_or t (place x t) d).name ≡ x → put x p t
+        ≡ set t (place x t) (record { name = x; owner = p }))
         → put x p (f ∷ t) ≡ set (f ∷ t) (place x (f ∷ t)) (record { name = x; owner = p })
     later q l e n m h =
-        let within : place x t < length t = omega (arith, subst (λ (b : Bool). (if b then suc (place x t) else 0) < suc (length t)) q l) in
-        rw (n, m, q) (ap (λ (u : Table). f ∷ u) (h within (subst (λ (b : Bool). (get_or (f ∷ t) (if b then suc (place x t) else 0) d).name ≡ x) q e)))
+        let within : place x t < length t = omega (
+          arith,
+          subst
+              (λ (b : Bool). (if b then suc (place x t) else 0) < suc (length t)) q l,
+        ) in
+        rw (n, m, q) (ap (λ (u : Table). f ∷ u) (h within (subst
+        (λ (b : Bool). (get_or (f ∷ t) (if b then suc (place x t) else 0) d).name ≡ x) q e)))
 
 -- and else it is inserted there
-pub put-there : (x : Text) (p : Process) (t : Table) (d : Pair) → (place x t < length t → (get_or t (place x t) d).name ≡ x → ⊥)
+pub put-there : (x : Text) (p : Process) (t : Table) (d : Pair)
+    → (place x t < length t → (get_or t (place x t) d).name ≡ x → ⊥)
     → put x p t ≡ insert t (place x t) (record { name = x; owner = p })
 put-there x p [] d ne = refl
 put-there x p (f ∷ t) d ne = elim (cases_order x f.name) [
   | inl j ↦ absurd (here (le-ltb f.name x (omega arith)) j)
-  | inr (inl k) ↦ rw (ne_eqb f.name x (λ i. absurd (omega arith)), lt-ltb x f.name k, le-ltb f.name x (omega arith)) refl
-  | inr (inr g) ↦ later (lt-ltb f.name x g) (ne_eqb f.name x (λ i. absurd (omega arith))) (le-ltb x f.name (omega arith)) (put-there x p t d)
+  | inr (inl k) ↦ rw (ne_eqb f.name x (λ i. absurd (omega arith)), lt-ltb x f.name k, le-ltb f.name x (omega arith))
+      refl
+  | inr (inr g) ↦ later (lt-ltb f.name x g) (ne_eqb f.name x (λ i. absurd (omega arith)))
+      (le-ltb x f.name (omega arith)) (put-there x p t d)
 ]
   where
     here : nat_lt f.name x ≡ false → x ≡ f.name → ⊥
@@ -99,22 +119,29 @@ put-there x p (f ∷ t) d ne = elim (cases_order x f.name) [
         (subst (λ (b : Bool). (get_or (f ∷ t) (if b then suc (place x t) else 0) d).name ≡ x) (sym q) (sym j))
 
     later : nat_lt f.name x ≡ true → (f.name == x) ≡ false → nat_lt x f.name ≡ false
-        → ((place x t < length t → (get_or t (place x t) d).name ≡ x → ⊥) → put x p t ≡ insert t (place x t) (record { name = x; owner = p }))
+        → ((place x t < length t → (get_or t (place x t) d).name ≡ x → ⊥) → put x p t
+        ≡ insert t (place x t) (record { name = x; owner = p }))
         → put x p (f ∷ t) ≡ insert (f ∷ t) (place x (f ∷ t)) (record { name = x; owner = p })
     later q n m h = rw (n, m, q) (ap (λ (u : Table). f ∷ u) (h (λ l e. ne
         (subst (λ (b : Bool). (if b then suc (place x t) else 0) < suc (length t)) (sym q) (omega arith))
         (subst (λ (b : Bool). (get_or (f ∷ t) (if b then suc (place x t) else 0) d).name ≡ x) (sym q) e))))
 
 -- where a name stands there is a pair of this name
-pub stands_within : (x : Text) (t : Table) (i : ℕ) (d : Pair) → stands x t i ≡ true → (i < length t) × ((get_or t i d).name ≡ x)
+pub stands_within : (x : Text) (t : Table) (i : ℕ) (d : Pair) → stands x t i ≡ true → (i < length t)
+    × ((get_or t i d).name ≡ x)
 stands_within x t i d h = go (slice_get t i) refl h
   where
     go : (o : Option Pair) → slice_get t i ≡ o → is_name_of x o ≡ true → (i < length t) × ((get_or t i d).name ≡ x)
     go None q h = cc
-    go (Some e) q h = (slice_get_within t i e q, ap (λ (f : Pair). f.name) (get_or_from_slice_get t i e d q) ∙ eqb-true e.name x h)
+    go (Some e) q h = (
+      slice_get_within t i e q,
+      ap (λ (f : Pair). f.name) (get_or_from_slice_get t i e d q)
+          ∙ eqb-true e.name x h,
+    )
 
 -- and where it doesn't, there is none
-pub stands_not : (x : Text) (t : Table) (i : ℕ) (d : Pair) → stands x t i ≡ false → i < length t → (get_or t i d).name ≡ x → ⊥
+pub stands_not : (x : Text) (t : Table) (i : ℕ) (d : Pair) → stands x t i ≡ false → i < length t → (get_or t i d).name
+    ≡ x → ⊥
 stands_not x t i d h l e =
     cc (sym (ap (is_name_of x) (slice_get-get_or t i d l)) ∙ h, eq-eqb (get_or t i d).name x e)
 
@@ -124,7 +151,8 @@ pub get-stands : (x : Text) (t : Table) (d : Pair) → is_rising t ≡ true → 
 get-stands x t d r h = get-place x t r ∙ go (slice_get t (place x t)) refl h
   where
     go : (o : Option Pair) → slice_get t (place x t) ≡ o → is_name_of x o ≡ true
-        → (elim o [ None ↦ None | Some e ↦ if e.name == x then Some e.owner else None ]) ≡ Some (get_or t (place x t) d).owner
+        → (elim o [ None ↦ None | Some e ↦ if e.name == x then Some e.owner else None ])
+        ≡ Some (get_or t (place x t) d).owner
     go None q h = cc
     go (Some e) q h = rw h (ap (λ (f : Pair). Some f.owner) (sym (get_or_from_slice_get t (place x t) e d q)))
 
@@ -139,12 +167,17 @@ get-absent x t r h = get-place x t r ∙ go (slice_get t (place x t)) h
     go (Some e) h = rw h refl
 
 -- a search that divides the names at i has found the place
-pub place_at : (x : Text) (t : Table) (i : ℕ) → i ≤ length t → ((k : ℕ) (d : Pair) → k < i → nat_lt (get_or t k d).name x ≡ true)
+pub place_at : (x : Text) (t : Table) (i : ℕ) → i ≤ length t
+    → ((k : ℕ) (d : Pair) → k < i → nat_lt (get_or t k d).name x ≡ true)
     → ((k : ℕ) (d : Pair) → i ≤ k → k < length t → nat_lt (get_or t k d).name x ≡ false) → i ≡ place x t
 place_at x t i l before behind = elim (cases_order i (place x t)) [
   | inl e ↦ e
   | inr (inl less) ↦
-      absurd (cc (less_before x t i nothing less, behind i nothing (omega arith) (omega (arith, place_within x t, less))))
+      absurd (cc (
+        less_before x t i nothing less,
+        behind i nothing (omega arith)
+            (omega (arith, place_within x t, less)),
+      ))
   | inr (inr more) ↦
       absurd (cc (before (place x t) nothing more, not_less_at x t nothing (omega (arith, more, l))))
 ]
@@ -153,7 +186,8 @@ place_at x t i l before behind = elim (cases_order i (place x t)) [
     nothing = record { name = 0; owner = record { node = 0; serial = 0 } }
 
 -- who stands below all names of a rising table is less than each
-all_above : (y : Text) (t : Table) → is_rising t ≡ true → is_below y t ≡ true → (j : ℕ) (d : Pair) → j < length t → y < (get_or t j d).name
+all_above : (y : Text) (t : Table) → is_rising t ≡ true → is_below y t ≡ true → (j : ℕ) (d : Pair) → j < length t
+    → y < (get_or t j d).name
 all_above y [] r b j d l = absurd (omega arith)
 all_above y (e ∷ t) r b zero d l = ltb-true y e.name b
 all_above y (e ∷ t) r b (suc j) d l =
@@ -166,23 +200,31 @@ pub rising_parted : (x : Text) (t : Table) → is_rising t ≡ true → (i j : �
 rising_parted x [] r i j d le l h = absurd (omega arith)
 rising_parted x (e ∷ t) r zero zero d le l h = h
 rising_parted x (e ∷ t) r zero (suc j) d le l h =
-    lt-ltb e.name x (omega (arith, ltb-true (get_or t j d).name x h, all_above e.name t (is_rising-parts e t r).1 (is_rising-parts e t r).0 j d (omega arith)))
+    lt-ltb e.name x (omega (
+      arith,
+      ltb-true (get_or t j d).name x h,
+      all_above e.name t (is_rising-parts e t r).1
+          (is_rising-parts e t r).0 j d (omega arith),
+    ))
 rising_parted x (e ∷ t) r (suc i) zero d le l h = absurd (omega arith)
-rising_parted x (e ∷ t) r (suc i) (suc j) d le l h = rising_parted x t (is_rising-parts e t r).1 i j d (omega arith) (omega arith) h
+rising_parted x (e ∷ t) r (suc i) (suc j) d le l h = rising_parted x t (is_rising-parts e t r).1 i j d (omega arith)
+    (omega arith) h
 
 -- a put as the code makes it: over what stands at its place, or as a new pair there
 pub put_stands : (x : Text) (p : Process) (t : Table) (i : ℕ) → i ≡ place x t → stands x t i ≡ true
     → set t i (record { name = x; owner = p }) ≡ put x p t
 put_stands x p t i e h =
     let d : Pair = record { name = x; owner = p } in
-    let there : (place x t < length t) × ((get_or t (place x t) d).name ≡ x) = stands_within x t (place x t) d (ap (stands x t) (sym e) ∙ h) in
+    let there : (place x t < length t) × ((get_or t (place x t) d).name ≡ x) = stands_within x t (place x t) d
+    (ap (stands x t) (sym e) ∙ h) in
     ap (λ (j : ℕ). set t j d) e ∙ sym (put-here x p t d there.0 there.1)
 
 pub put_absent : (x : Text) (p : Process) (t : Table) (i : ℕ) → i ≡ place x t → stands x t i ≡ false
     → insert t i (record { name = x; owner = p }) ≡ put x p t
 put_absent x p t i e h =
     let d : Pair = record { name = x; owner = p } in
-    ap (λ (j : ℕ). insert t j d) e ∙ sym (put-there x p t d (stands_not x t (place x t) d (ap (stands x t) (sym e) ∙ h)))
+    ap (λ (j : ℕ). insert t j d) e ∙ sym (put-there x p t d
+    (stands_not x t (place x t) d (ap (stands x t) (sym e) ∙ h)))
 
 -- a name that stands below all names is in no pair
 pub remove-below : (x : Text) (t : Table) → is_rising t ≡ true → is_below x t ≡ true → remove x t ≡ t

@@ -26,7 +26,8 @@ opens a world members joined own is =
     and_true false = refl
 
     with_members : Nodes → Node
-    with_members s = record (node_of (fresh a world members true)) { replica = record { table = []; members = s; told = nobody; joined = true } }
+    with_members s = record (node_of (fresh a world members true))
+        { replica = record { table = []; members = s; told = nobody; joined = true } }
 
     with_own : Bool → Node
     with_own b = record (node_of (fresh a world members true)) {
@@ -39,11 +40,25 @@ opens a world members joined own is =
     }
 
 -- the same of what is made for it
-pub opened : (h : Held) (a : ℕ) (world members w m : List ℕ) (joined : Bool) (t : Table) (locks : Locks) (r : Work) (es : List Entry)
+pub opened : (h : Held) (a : ℕ) (world members w m : List ℕ) (joined : Bool) (t : Table) (locks : Locks) (r : Work)
+    (es : List Entry)
     → w ≡ world → m ≡ members → t ≡ [] → locks ≡ [] → r ≡ idle → es ≡ []
-    → h ≡ record { name = a; world = w; members = m; joined = joined; table = t; locks = locks; last_serial = 0; registrar = r; phase = Waiting; last_call = 0; entered = es }
+    → h ≡ record {
+      name = a;
+      world = w;
+      members = m;
+      joined = joined;
+      table = t;
+      locks = locks;
+      last_serial = 0;
+      registrar = r;
+      phase = Waiting;
+      last_call = 0;
+      entered = es;
+    }
     → set_of members a ≡ true → joined ≡ true → node_of h ≡ opening_node (set_of members) a
-opened h a world members w m joined t locks r es e1 e2 e3 e4 e5 e6 e own is = ap node_of same ∙ opens a world members joined own is
+opened h a world members w m joined t locks r es e1 e2 e3 e4 e5 e6 e own is = ap node_of same
+    ∙ opens a world members joined own is
   where
     same : h ≡ fresh a world members joined
     same = cc

@@ -15,12 +15,15 @@ use Rattle.node_core.specs.Steps.{Makes, Takes, Steps, refusal_of}
 use Rattle.node_core.proofs.Receivers.{sends_within}
 
 -- an answer to the registrar goes to its round
-pub hears_own : (h k : Held) (t u : Made) (f : ℕ) (p q : Process) (g : Bool) → q ≡ registrar h.name → false ≡ not (is_process p q) → (number : ℕ → ℕ)
-    → Makes (λ n a w. hear_answer n a number f g w.node.current w) h t k u → Makes (λ n a. hear n a number f p g) h t k u
+pub hears_own : (h k : Held) (t u : Made) (f : ℕ) (p q : Process) (g : Bool) → q ≡ registrar h.name → false
+    ≡ not (is_process p q) → (number : ℕ → ℕ)
+    → Makes (λ n a w. hear_answer n a number f g w.node.current w) h t k u
+    → Makes (λ n a. hear n a number f p g) h t k u
 hears_own h k t u f p q g is own number m = record {
   name = m.name;
   world = m.world;
-  turn = m.turn ∙ ap (λ (b : Bool). if b then hear_answer n h.name number f g (turn_of h t).node.current (turn_of h t) else turn_of h t)
+  turn = m.turn ∙ ap (λ (b : Bool). if b then hear_answer n h.name number f g (turn_of h t).node.current (turn_of h t)
+      else turn_of h t)
       (sym (passes (is_process p q) own) ∙ ap (is_process p) is);
 }
   where
@@ -34,7 +37,8 @@ hears_own h k t u f p q g is own number m = record {
 -- what is read is this letter
 pub reads : (h k : Held) (t u : Made) (f : ℕ) (l m : Letter) → l ≡ m → (number : ℕ → ℕ)
     → Makes (λ n a. read n a number f (letter_of m)) h t k u → Makes (λ n a. read n a number f (letter_of l)) h t k u
-reads h k t u f l m is number made = subst (λ (x : Letter). Makes (λ n a. read n a number f (letter_of x)) h t k u) (sym is) made
+reads h k t u f l m is number made = subst (λ (x : Letter). Makes (λ n a. read n a number f (letter_of x)) h t k u)
+    (sym is) made
 
 -- what is so of a success for each index, is so for all of them at once
 at_once : {T E I : Type 0} (P : I → Type 0) (r : Result T E) → ((i : I) → OnOk r (P i)) → OnOk r ((i : I) → P i)
@@ -42,13 +46,15 @@ at_once P (Ok x) each = each
 at_once P (Err e) each = tt
 
 -- a letter's event is taken
-pub takes_letter : {T E : Type 0} (r : Result T E) (e : Event) (f : ℕ) (l : Letter) (h k : Held) (t u : Made) → e ≡ FromPeer f l
+pub takes_letter : {T E : Type 0} (r : Result T E) (e : Event) (f : ℕ) (l : Letter) (h k : Held) (t u : Made) → e
+    ≡ FromPeer f l
     → ((number : ℕ → ℕ) → OnOk r (Makes (λ n a. receive n a number f (letter_of l)) h t k u)) → OnOk r (Takes e h t k u)
 takes_letter r e f l h k t u is each = subst (λ (x : Event). OnOk r (Takes x h t k u)) (sym is)
     (at_once (λ (number : ℕ → ℕ). Makes (λ n a. receive n a number f (letter_of l)) h t k u) r each)
 
 -- the step of an event that was taken
-steps : (e : Event) (h k : Held) (u : Made) (before after : List (ℕ × Letter)) → refusal_of e h ≡ None → Takes e h nothing k u → after ≡ before ++ u.letters
+steps : (e : Event) (h k : Held) (u : Made) (before after : List (ℕ × Letter)) → refusal_of e h ≡ None
+    → Takes e h nothing k u → after ≡ before ++ u.letters
     → IsWhole h → Steps e h (record k { entered = u.entries }) before after u.answers
 steps (Call c) h k u before after accepted made letters whole = record {
   name = made.name;
@@ -79,7 +85,8 @@ steps (FromPeer f l) h k u before after accepted made letters whole = record {
 }
 
 -- the same, where these are what the step began with, and what it came to
-pub steps_from : (e : Event) (h k k0 : Held) (t u u0 : Made) (before after : List (ℕ × Letter)) → t ≡ nothing → k ≡ k0 → u ≡ u0 → refusal_of e h ≡ None
+pub steps_from : (e : Event) (h k k0 : Held) (t u u0 : Made) (before after : List (ℕ × Letter)) → t ≡ nothing → k ≡ k0
+    → u ≡ u0 → refusal_of e h ≡ None
     → Takes e h t k0 u0 → after ≡ before ++ u.letters → IsWhole h
     → Steps e h (record k { entered = u.entries }) before after u.answers
 steps_from e h k k0 t u u0 before after begun same_node same_turn accepted made letters whole =

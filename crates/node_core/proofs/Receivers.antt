@@ -114,7 +114,8 @@ nodes-within (suc n) s = go (s n) refl (nodes-within n s)
 begun_of : (n : ℕ) (s : Nodes) (c : ℕ) → asked (begin n s) c ≡ true → s c ≡ true
 begun_of n s c e = go (s c) (c == greatest n s) e
   where
-    go : (b d : Bool) → not (is_out (if b then (if d then round.Owes else round.Later) else round.Out)) ≡ true → b ≡ true
+    go : (b d : Bool) → not (is_out (if b then (if d then round.Owes else round.Later) else round.Out)) ≡ true → b
+        ≡ true
     go true d f = refl
     go false d f = f
 

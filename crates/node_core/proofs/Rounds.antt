@@ -30,19 +30,22 @@ use Rattle.node_core.specs.Steps.{Makes, Works}
 use Rattle.node_core.proofs.Sends.{sent_is, sent_all_is, all_below}
 
 -- the boss is asked
-pub asks_global : (h0 h : Held) (t u : Made) (b : ℕ) (l : Letter) (r : HeldRound) → h0 ≡ h → IsWithin h0.world h0.members
+pub asks_global : (h0 h : Held) (t u : Made) (b : ℕ) (l : Letter) (r : HeldRound) → h0 ≡ h
+    → IsWithin h0.world h0.members
     → ((n : ℕ) → All (λ c. c < n) h0.members → b ≡ greatest n (set_of h0.members))
     → letter_of l ≡ AnyLetter.SetLock (Global h0.name) (registrar h0.name)
     → ((n : ℕ) → All (λ c. c < n) h0.members → seen r ≡ begin n (set_of h0.members))
     → u ≡ sent b l t → Works (λ op n a. ask_global n a op) h t (record h0 { phase = Asking r }) u
 asks_global h0 h t u b l r same within boss is begun made =
-    subst (λ (x : Held). Works (λ op n a. ask_global n a op) x t (record h0 { phase = Asking r }) u) same (λ op cur. record {
+    subst (λ (x : Held). Works (λ op n a. ask_global n a op) x t (record h0 { phase = Asking r }) u) same
+    (λ op cur. record {
       name = refl;
       world = refl;
       turn = ap (turn_of k) made ∙ sent_is k t b l
           ∙ ap (λ (c : ℕ). send c (letter_of l) (turn_of k t)) (boss n below)
           ∙ ap (λ (x : AnyLetter). send (greatest n (set_of h0.members)) x (turn_of k t)) is
-          ∙ ap (λ (x : Turn). send (greatest n (set_of h0.members)) (AnyLetter.SetLock (Global h0.name) (registrar h0.name)) x)
+          ∙ ap (λ (x : Turn). send (greatest n (set_of h0.members))
+          (AnyLetter.SetLock (Global h0.name) (registrar h0.name)) x)
           (ap (λ (o : Option Op). at_work (current_of o h0.registrar.awaited (Asking r)) (turn_of h0 t)) cur
           ∙ ap (λ (x : Round). at_work (Current.Asking (op_of op) x) (turn_of h0 t)) (begun n below));
     })
@@ -62,7 +65,8 @@ within_first zero xs c e = cc
 within_first (suc k) [] c e = e
 within_first (suc k) (x ∷ xs) c e = go (x == c) e (within_first k xs c)
   where
-    go : (b : Bool) → (b || set_of (take k xs) c) ≡ true → (set_of (take k xs) c ≡ true → set_of xs c ≡ true) → (b || set_of xs c) ≡ true
+    go : (b : Bool) → (b || set_of (take k xs) c) ≡ true → (set_of (take k xs) c ≡ true → set_of xs c ≡ true)
+        → (b || set_of xs c) ≡ true
     go true f more = refl
     go false f more = more f
 
@@ -71,24 +75,31 @@ and_true true = refl
 and_true false = refl
 
 -- the rest are asked
-pub asks_rest : (h : Held) (t u : Made) (r : HeldRound) (f : ℕ) (g : Bool) (xs : List ℕ) (l : Letter) → IsNodeSet xs → IsWithin h.world r.nodes
-    → xs ≡ others_of r.nodes → set_of xs ≡ rest (seen r) → letter_of l ≡ AnyLetter.SetLock (Global h.name) (registrar h.name)
+pub asks_rest : (h : Held) (t u : Made) (r : HeldRound) (f : ℕ) (g : Bool) (xs : List ℕ) (l : Letter) → IsNodeSet xs
+    → IsWithin h.world r.nodes
+    → xs ≡ others_of r.nodes → set_of xs ≡ rest (seen r) → letter_of l
+    ≡ AnyLetter.SetLock (Global h.name) (registrar h.name)
     → opens f g (seen r) ≡ true → u ≡ sent_all xs l t
     → Makes (λ n a. ask_rest n a f g (AnyLetter.SetLock (Global a) (registrar a)) (seen r)) h t h u
 asks_rest h t u r f g xs l set within others is asks first made = record {
   name = refl;
   world = refl;
-  turn = ap (turn_of h) made ∙ sent_all_is h t xs l set (λ c e. within c (within_first (length r.nodes - 1) r.nodes c (subst (λ (ys : List ℕ). set_of ys c ≡ true) others e)))
+  turn = ap (turn_of h) made ∙ sent_all_is h t xs l set
+      (λ c e. within c (within_first (length r.nodes - 1) r.nodes c
+      (subst (λ (ys : List ℕ). set_of ys c ≡ true) others e)))
       ∙ ap (λ (x : AnyLetter). send_all (bound_of h.world) (set_of xs) x (turn_of h t)) asks
-      ∙ ap (λ (s : Nodes). send_all (bound_of h.world) s letter (turn_of h t)) (is ∙ fun_ext (λ x. and_true (rest (seen r) x)))
-      ∙ ap (λ (b : Bool). if b then send_all (bound_of h.world) (λ x. rest (seen r) x && true) letter (turn_of h t) else turn_of h t) (sym first);
+      ∙ ap (λ (s : Nodes). send_all (bound_of h.world) s letter (turn_of h t))
+      (is ∙ fun_ext (λ x. and_true (rest (seen r) x)))
+      ∙ ap (λ (b : Bool). if b then send_all (bound_of h.world) (λ x. rest (seen r) x && true) letter (turn_of h t) else
+      turn_of h t) (sym first);
 }
   where
     letter : AnyLetter
     letter = AnyLetter.SetLock (Global h.name) (registrar h.name)
 
 -- the next operation begins
-pub starts_next : (h0 h k : Held) (t u : Made) (w : Work) (b : Bool) → h0 ≡ h → w ≡ started h0.registrar → b ≡ starts h0.registrar → b ≡ true
+pub starts_next : (h0 h k : Held) (t u : Made) (w : Work) (b : Bool) → h0 ≡ h → w ≡ started h0.registrar → b
+    ≡ starts h0.registrar → b ≡ true
     → Works (λ op n a. ask_global n a op) (record h0 { registrar = w }) t k u → Makes start h t k u
 starts_next h0 h k t u w b same begun first began W =
     subst (λ (x : Held). Makes start x t k u) same
@@ -96,7 +107,8 @@ starts_next h0 h k t u w b same begun first began W =
     (subst (λ (v : Work). Works (λ op n a. ask_global n a op) (record h0 { registrar = v }) t k u) begun W))
   where
     go : (cur : Option Op) (ops : List Op) → starts (record h0.registrar { current = cur; queue = ops }) ≡ true
-        → Works (λ op n a. ask_global n a op) (record h0 { registrar = started (record h0.registrar { current = cur; queue = ops }) }) t k u
+        → Works (λ op n a. ask_global n a op) (record h0
+        { registrar = started (record h0.registrar { current = cur; queue = ops }) }) t k u
         → Makes start (record h0 { registrar = record h0.registrar { current = cur; queue = ops } }) t k u
     go None (NameOp i c ∷ ops) yes_ V = record {
       name = (V (NameOp i c) refl).name;
@@ -122,7 +134,8 @@ first_passes true b e = refl
 first_passes false b e = e
 
 -- who gets it back was asked
-pub granted_within : (world members xs : List ℕ) (r : HeldRound) (e : Ending) → IsWithin world r.nodes → e ≡ end_of members r → e ≡ GiveBack xs → IsWithin world xs
+pub granted_within : (world members xs : List ℕ) (r : HeldRound) (e : Ending) → IsWithin world r.nodes → e
+    ≡ end_of members r → e ≡ GiveBack xs → IsWithin world xs
 granted_within world members xs r e within value is = go (is_won members r) (sym is ∙ value)
   where
     go : (b : Bool) → GiveBack xs ≡ (if b then Holds else GiveBack (granted_by r)) → IsWithin world xs
@@ -134,14 +147,16 @@ granted_within world members xs r e within value is = go (is_won members r) (sym
         same g = cc
 
 -- the round of a phase is of the world
-pub round_within : (world : List ℕ) (p : Phase) (r : HeldRound) → p ≡ Asking r → IsPhaseWithin world p → IsWithin world r.nodes
+pub round_within : (world : List ℕ) (p : Phase) (r : HeldRound) → p ≡ Asking r → IsPhaseWithin world p
+    → IsWithin world r.nodes
 round_within world p r is within = subst (λ (q : Phase). IsPhaseWithin world q) is within
 
 -- a phase has one round
 pub one_round : (p : Phase) (r s : HeldRound) → p ≡ Asking r → p ≡ Asking s → r ≡ s
 one_round p r s e f = cc
 
-module _ (h0 h : Held) (t : Made) (r : HeldRound) (over : Bool) (same : h0 ≡ h) (asking : h0.phase ≡ Asking r) (phase : IsPhaseWithin h0.world h0.phase)
+module _ (h0 h : Held) (t : Made) (r : HeldRound) (over : Bool) (same : h0 ≡ h) (asking : h0.phase ≡ Asking r)
+    (phase : IsPhaseWithin h0.world h0.phase)
     (ends : (n : ℕ) → All (λ c. c < n) r.nodes → over ≡ is_over n (seen r)) where
   abbrev n0 : ℕ
   n0 = bound_of h0.world
@@ -153,7 +168,8 @@ module _ (h0 h : Held) (t : Made) (r : HeldRound) (over : Bool) (same : h0 ≡ h
   named : (rule : HeldRound → AnyOp → ℕ → ℕ → Turn → Turn) (k : Held) (u : Made) → Works (rule r) h0 t k u
       → (round : HeldRound) → h.phase ≡ Asking round → Works (rule round) h t k u
   named rule k u W round is = subst (λ (x : Held). Works (rule round) x t k u) same
-      (subst (λ (x : HeldRound). Works (rule x) h0 t k u) (one_round h0.phase r round asking (ap (λ (x : Held). x.phase) same ∙ is)) W)
+      (subst (λ (x : HeldRound). Works (rule x) h0 t k u)
+      (one_round h0.phase r round asking (ap (λ (x : Held). x.phase) same ∙ is)) W)
 
   -- the round goes on
   pub goes_on : over ≡ false → (number : ℕ → ℕ) (round : HeldRound) → h.phase ≡ Asking round
@@ -162,53 +178,65 @@ module _ (h0 h : Held) (t : Made) (r : HeldRound) (over : Bool) (same : h0 ≡ h
     name = refl;
     world = refl;
     turn = ap (λ (b : Bool). if b
-        then end_by n0 h0.name number (ending n0 (set_of h0.members) (seen r)) (op_of op) (asked_by (seen r)) (turn_of h0 t)
+        then end_by n0 h0.name number (ending n0 (set_of h0.members) (seen r)) (op_of op) (asked_by (seen r))
+        (turn_of h0 t)
         else turn_of h0 t) (sym not_over ∙ ends n0 nodes_below);
   })
 
   module _ (members : IsWithin h0.world h0.members) (e : Ending)
-      (is_end : (n : ℕ) → All (λ c. c < n) r.nodes → All (λ c. c < n) h0.members → EndsAs e (ending n (set_of h0.members) (seen r))) where
+      (is_end : (n : ℕ) → All (λ c. c < n) r.nodes → All (λ c. c < n) h0.members
+      → EndsAs e (ending n (set_of h0.members) (seen r))) where
     end_here : EndsAs e (ending n0 (set_of h0.members) (seen r))
     end_here = is_end n0 nodes_below (all_below h0.world h0.members members)
 
     -- the round ends so
     ends_so : (number : ℕ → ℕ) (op : Op) (x : AnyEnding) → over ≡ true → ending n0 (set_of h0.members) (seen r) ≡ x
-        → end_by n0 h0.name number x (op_of op) (asked_by (seen r)) (turn_of h0 t) ≡ end_round n0 h0.name number (op_of op) (seen r) (turn_of h0 t)
+        → end_by n0 h0.name number x (op_of op) (asked_by (seen r)) (turn_of h0 t)
+        ≡ end_round n0 h0.name number (op_of op) (seen r) (turn_of h0 t)
     ends_so number op x is_over_ f =
         ap (λ (y : AnyEnding). end_by n0 h0.name number y (op_of op) (asked_by (seen r)) (turn_of h0 t)) (sym f)
         ∙ ap (λ (b : Bool). if b
-        then end_by n0 h0.name number (ending n0 (set_of h0.members) (seen r)) (op_of op) (asked_by (seen r)) (turn_of h0 t)
+        then end_by n0 h0.name number (ending n0 (set_of h0.members) (seen r)) (op_of op) (asked_by (seen r))
+        (turn_of h0 t)
         else turn_of h0 t) (sym is_over_ ∙ ends n0 nodes_below)
 
     -- it is held
     pub ends_held : (k : Held) (u : Made) (xs : List ℕ) → over ≡ true → e ≡ Holds → set_of xs ≡ asked_by (seen r)
         → (number : ℕ → ℕ) → Works (λ op n a. held n a number op (set_of xs)) h0 t k u
         → (round : HeldRound) → h.phase ≡ Asking round → Works (λ op n a. end_round n a number op (seen round)) h t k u
-    ends_held k u xs is_over_ is asked number W = named (λ s op n a. end_round n a number op (seen s)) k u (λ op cur. record {
-      name = (W op cur).name;
-      world = (W op cur).world;
-      turn = (W op cur).turn ∙ ap (λ (s : Nodes). held n0 h0.name number (op_of op) s (turn_of h0 t)) asked
-          ∙ ends_so number op IsHeld is_over_ (held_end _ (subst (λ (x : Ending). EndsAs x (ending n0 (set_of h0.members) (seen r))) is end_here));
-    })
+    ends_held k u xs is_over_ is asked number W = named (λ s op n a. end_round n a number op (seen s)) k u
+        (λ op cur. record {
+          name = (W op cur).name;
+          world = (W op cur).world;
+          turn = (W op cur).turn ∙ ap (λ (s : Nodes). held n0 h0.name number (op_of op) s (turn_of h0 t)) asked
+              ∙ ends_so number op IsHeld is_over_ (held_end _
+              (subst (λ (x : Ending). EndsAs x (ending n0 (set_of h0.members) (seen r))) is end_here));
+        })
 
     -- it failed
     pub ends_failed : (k : Held) (u : Made) (xs : List ℕ) → over ≡ true → e ≡ GiveBack xs
         → (number : ℕ → ℕ) → Works (λ op n a. give_up n a op (set_of xs)) h0 t k u
         → (round : HeldRound) → h.phase ≡ Asking round → Works (λ op n a. end_round n a number op (seen round)) h t k u
-    ends_failed k u xs is_over_ is number W = named (λ s op n a. end_round n a number op (seen s)) k u (λ op cur. record {
-      name = (W op cur).name;
-      world = (W op cur).world;
-      turn = (W op cur).turn
-          ∙ ends_so number op (GiveBackTo (set_of xs)) is_over_ (failed_end xs _ (subst (λ (x : Ending). EndsAs x (ending n0 (set_of h0.members) (seen r))) is end_here));
-    })
+    ends_failed k u xs is_over_ is number W = named (λ s op n a. end_round n a number op (seen s)) k u
+        (λ op cur. record {
+          name = (W op cur).name;
+          world = (W op cur).world;
+          turn = (W op cur).turn
+              ∙ ends_so number op (GiveBackTo (set_of xs)) is_over_
+              (failed_end xs _ (subst (λ (x : Ending). EndsAs x (ending n0 (set_of h0.members) (seen r))) is end_here));
+        })
 
 -- an answer that is owed is taken in
-pub hears : (h h2 k : Held) (t u v : Made) (r r2 : HeldRound) (f : ℕ) (g : Bool) (number : ℕ → ℕ) → h.phase ≡ Asking r → owes (seen r) f ≡ true
-    → is_some h.registrar.current ≡ true → Makes (λ n a. ask_rest n a f g (AnyLetter.SetLock (Global a) (registrar a)) (seen r)) h t h u
+pub hears : (h h2 k : Held) (t u v : Made) (r r2 : HeldRound) (f : ℕ) (g : Bool) (number : ℕ → ℕ) → h.phase ≡ Asking r
+    → owes (seen r) f ≡ true
+    → is_some h.registrar.current ≡ true → Makes (λ n a. ask_rest n a f g (AnyLetter.SetLock (Global a) (registrar a))
+    (seen r)) h t h u
     → seen r2 ≡ answer f g (seen r) → h2 ≡ record h { phase = Asking r2 }
-    → Works (λ op n a. end_round n a number op (seen r2)) h2 u k v → Makes (λ n a w. hear_answer n a number f g w.node.current w) h t k v
+    → Works (λ op n a. end_round n a number op (seen r2)) h2 u k v
+    → Makes (λ n a w. hear_answer n a number f g w.node.current w) h t k v
 hears h h2 k t u v r r2 f g number asking owed busy rest answered is W =
-    go h.registrar.current refl busy (subst (λ (x : Held). Works (λ op n a. end_round n a number op (seen r2)) x u k v) is W)
+    go h.registrar.current refl busy (subst (λ (x : Held). Works (λ op n a. end_round n a number op (seen r2)) x u k v)
+    is W)
   where
     n : ℕ
     n = bound_of h.world
@@ -227,10 +255,14 @@ hears h h2 k t u v r r2 f g number asking owed busy rest answered is W =
           ∙ ap (end_round n h.name number (op_of op) (seen r2))
           (ap (λ (o : Option Op). at_work (current_of o h.registrar.awaited (Asking r2)) (turn_of h u)) e
           ∙ ap (at_work (Current.Asking (op_of op) (seen r2))) rest.turn)
-          ∙ ap (λ (x : Round). end_round n h.name number (op_of op) x (at_work (Current.Asking (op_of op) x) (ask_rest n h.name f g letter (seen r) (turn_of h t)))) answered
+          ∙ ap (λ (x : Round). end_round n h.name number (op_of op) x
+          (at_work (Current.Asking (op_of op) x) (ask_rest n h.name f g letter (seen r) (turn_of h t)))) answered
           ∙ ap (λ (b : Bool). if b
-          then end_round n h.name number (op_of op) (answer f g (seen r)) (at_work (Current.Asking (op_of op) (answer f g (seen r))) (ask_rest n h.name f g letter (seen r) (turn_of h t)))
+          then end_round n h.name number (op_of op) (answer f g (seen r))
+          (at_work (Current.Asking (op_of op) (answer f g (seen r)))
+          (ask_rest n h.name f g letter (seen r) (turn_of h t)))
           else turn_of h t) (sym owed)
           ∙ ap (λ (x : Current). hear_answer n h.name number f g x (turn_of h t))
-          (sym (ap (λ (x : Option Op). current_of x h.registrar.awaited h.phase) e ∙ ap (phase_of op h.registrar.awaited) asking));
+          (sym (ap (λ (x : Option Op). current_of x h.registrar.awaited h.phase) e
+          ∙ ap (phase_of op h.registrar.awaited) asking));
     }

@@ -38,11 +38,13 @@ use Rattle.node_core.specs.Steps.{Makes, Works}
 use Rattle.node_core.proofs.Sends.{sent_all_is, all_below}
 
 -- one rule behind another
-pub followed : {f g : ℕ → ℕ → Turn → Turn} {h k m : Held} {t u v : Made} → Makes f h t k u → Makes g k u m v → Makes (λ n a x. g n a (f n a x)) h t m v
+pub followed : {f g : ℕ → ℕ → Turn → Turn} {h k m : Held} {t u v : Made} → Makes f h t k u → Makes g k u m v
+    → Makes (λ n a x. g n a (f n a x)) h t m v
 followed {f} {g} {h} {k} {m} {t} {u} {v} p q = record {
   name = q.name ∙ p.name;
   world = q.world ∙ p.world;
-  turn = q.turn ∙ ap (λ (w : List ℕ). g (bound_of w) k.name (turn_of k u)) p.world ∙ ap (λ (a : ℕ). g (bound_of h.world) a (turn_of k u)) p.name
+  turn = q.turn ∙ ap (λ (w : List ℕ). g (bound_of w) k.name (turn_of k u)) p.world
+      ∙ ap (λ (a : ℕ). g (bound_of h.world) a (turn_of k u)) p.name
       ∙ ap (g (bound_of h.world) h.name) p.turn;
 }
 
@@ -59,7 +61,8 @@ gives_global h t u cs l set within is made = record {
 
 -- an entry more
 pub entered_is : (h : Held) (t : Made) (e : Entry) → turn_of h (entered e t) ≡ enter (entry_of e) (turn_of h t)
-entered_is h t e = ap (λ (es : List AnyEntry). record (turn_of h t) { entries = es }) (map-append entry_of t.entries (e ∷ []))
+entered_is h t e = ap (λ (es : List AnyEntry). record (turn_of h t) { entries = es })
+    (map-append entry_of t.entries (e ∷ []))
 
 -- the phase of a current operation
 pub phased : (h : Held) (t : Made) (op : Op) (p : Phase) → h.registrar.current ≡ Some op
@@ -67,24 +70,29 @@ pub phased : (h : Held) (t : Made) (op : Op) (p : Phase) → h.registrar.current
 phased h t op p is = ap (λ (o : Option Op). at_work (current_of o h.registrar.awaited p) (turn_of h t)) is
 
 -- done: the entry, and then the end
-pub does : (h0 h k : Held) (t u v : Made) (a : ℕ) (asked : Nodes) (reply : Option AnyReply) → h0 ≡ h → a ≡ h0.name → u ≡ entered (Done a) t
+pub does : (h0 h k : Held) (t u v : Made) (a : ℕ) (asked : Nodes) (reply : Option AnyReply) → h0 ≡ h → a ≡ h0.name → u
+    ≡ entered (Done a) t
     → Works (λ op n a. finish n a op asked reply) h0 u k v → Works (λ op n a. done n a op asked reply) h t k v
 does h0 h k t u v a asked reply same here made W =
     subst (λ (x : Held). Works (λ op n a. done n a op asked reply) x t k v) same (λ op is. record {
       name = (W op is).name;
       world = (W op is).world;
       turn = (W op is).turn
-          ∙ ap (finish (bound_of h0.world) h0.name (op_of op) asked reply) (ap (turn_of h0) made ∙ entered_is h0 t (Done a)
+          ∙ ap (finish (bound_of h0.world) h0.name (op_of op) asked reply)
+          (ap (turn_of h0) made ∙ entered_is h0 t (Done a)
           ∙ ap (λ (b : ℕ). enter (AnyEntry.Done b) (turn_of h0 t)) here);
     })
 
 -- the change goes to every member
-pub writes : (h0 h : Held) (t u : Made) (w : Work) (asked : List ℕ) (reply : Reply) (change : Change) → h0 ≡ h → IsNodeSet h0.members → IsWithin h0.world h0.members
+pub writes : (h0 h : Held) (t u : Made) (w : Work) (asked : List ℕ) (reply : Reply) (change : Change) → h0 ≡ h
+    → IsNodeSet h0.members → IsWithin h0.world h0.members
     → w ≡ record h0.registrar { awaited = h0.members } → u ≡ sent_all h0.members (Apply change) t
-    → Works (λ op n a. write n a op (set_of asked) (Some (reply_of reply)) (change_of change)) h t (record h0 { registrar = w; phase = Writing asked reply }) u
+    → Works (λ op n a. write n a op (set_of asked) (Some (reply_of reply)) (change_of change)) h t
+    (record h0 { registrar = w; phase = Writing asked reply }) u
 writes h0 h t u w asked reply change same set within awaits made =
     subst (λ (x : Held). Works rule x t (record h0 { registrar = w; phase = Writing asked reply }) u) same
-    (subst (λ (y : Work). Works rule h0 t (record h0 { registrar = y; phase = Writing asked reply }) u) (sym awaits) (λ op is. record {
+    (subst (λ (y : Work). Works rule h0 t (record h0 { registrar = y; phase = Writing asked reply }) u) (sym awaits)
+    (λ op is. record {
       name = refl;
       world = refl;
       turn = ap (turn_of k) made ∙ sent_all_is k t h0.members (Apply change) set within
@@ -103,7 +111,8 @@ current_is : (h : Held) (op other : Op) → h.registrar.current ≡ Some op → 
 current_is h op other e f = cc
 
 -- a granted call is written
-pub grants : (h0 h k : Held) (t u v : Made) (asked : List ℕ) (i : ℕ) (c : NameCall) (r : Reply) (change : Change) → h0 ≡ h
+pub grants : (h0 h k : Held) (t u v : Made) (asked : List ℕ) (i : ℕ) (c : NameCall) (r : Reply) (change : Change) → h0
+    ≡ h
     → h0.registrar.current ≡ Some (NameOp i c)
     → reply_of r ≡ reply_to (set_of h0.members) h0.table (name_call_of c) → is_grant (reply_of r) ≡ true
     → change_of change ≡ change_of_call (name_call_of c) → u ≡ entered (Name h0.name i c r) t
@@ -111,14 +120,17 @@ pub grants : (h0 h k : Held) (t u v : Made) (asked : List ℕ) (i : ℕ) (c : Na
     → (number : ℕ → ℕ) → Works (λ op n a. held n a number op (set_of asked)) h t k v
 grants h0 h k t u v asked i c r change same cur reply yes_ changes made W number =
     subst (λ (x : Held). Works (λ op n a. held n a number op (set_of asked)) x t k v) same
-    (λ op is. subst (λ (o : Op). Makes (λ n a. held n a number (op_of o) (set_of asked)) h0 t k v) (sym (current_is h0 (NameOp i c) op cur is)) (record {
+    (λ op is. subst (λ (o : Op). Makes (λ n a. held n a number (op_of o) (set_of asked)) h0 t k v)
+    (sym (current_is h0 (NameOp i c) op cur is)) (record {
       name = (W (NameOp i c) cur).name;
       world = (W (NameOp i c) cur).world;
       turn = (W (NameOp i c) cur).turn
           ∙ ap (λ (x : AnyChange). write n a call (set_of asked) (Some (reply_of r)) x (turn_of h0 u)) changes
-          ∙ ap (write n a call (set_of asked) (Some (reply_of r)) (change_of_call (name_call_of c))) (ap (turn_of h0) made ∙ entered_is h0 t (Name h0.name i c r))
+          ∙ ap (write n a call (set_of asked) (Some (reply_of r)) (change_of_call (name_call_of c)))
+          (ap (turn_of h0) made ∙ entered_is h0 t (Name h0.name i c r))
           ∙ ap (λ (b : Bool). if b
-          then write n a call (set_of asked) (Some (reply_of r)) (change_of_call (name_call_of c)) (enter entry (turn_of h0 t))
+          then write n a call (set_of asked) (Some (reply_of r)) (change_of_call (name_call_of c))
+          (enter entry (turn_of h0 t))
           else finish n a call (set_of asked) (Some (reply_of r)) (enter entry (turn_of h0 t))) (sym yes_)
           ∙ ap (λ (x : AnyReply). decide n a i (name_call_of c) (set_of asked) x (turn_of h0 t)) reply;
     }))
@@ -144,13 +156,16 @@ pub denies : (h0 h k : Held) (t u v : Made) (asked : List ℕ) (i : ℕ) (c : Na
     → (number : ℕ → ℕ) → Works (λ op n a. held n a number op (set_of asked)) h t k v
 denies h0 h k t u v asked i c r same cur reply none made W number =
     subst (λ (x : Held). Works (λ op n a. held n a number op (set_of asked)) x t k v) same
-    (λ op is. subst (λ (o : Op). Makes (λ n a. held n a number (op_of o) (set_of asked)) h0 t k v) (sym (current_is h0 (NameOp i c) op cur is)) (record {
+    (λ op is. subst (λ (o : Op). Makes (λ n a. held n a number (op_of o) (set_of asked)) h0 t k v)
+    (sym (current_is h0 (NameOp i c) op cur is)) (record {
       name = (W (NameOp i c) cur).name;
       world = (W (NameOp i c) cur).world;
       turn = (W (NameOp i c) cur).turn
-          ∙ ap (finish n a call (set_of asked) (Some (reply_of r))) (ap (turn_of h0) made ∙ entered_is h0 t (Name h0.name i c r))
+          ∙ ap (finish n a call (set_of asked) (Some (reply_of r)))
+          (ap (turn_of h0) made ∙ entered_is h0 t (Name h0.name i c r))
           ∙ ap (λ (b : Bool). if b
-          then write n a call (set_of asked) (Some (reply_of r)) (change_of_call (name_call_of c)) (enter entry (turn_of h0 t))
+          then write n a call (set_of asked) (Some (reply_of r)) (change_of_call (name_call_of c))
+          (enter entry (turn_of h0 t))
           else finish n a call (set_of asked) (Some (reply_of r)) (enter entry (turn_of h0 t))) (sym none)
           ∙ ap (λ (x : AnyReply). decide n a i (name_call_of c) (set_of asked) x (turn_of h0 t)) reply;
     }))
@@ -206,26 +221,31 @@ somebody_left (suc n) s c l e = elim (cases_eq c n) [
 nobody_is : (n : ℕ) (xs : List ℕ) → All (λ c. c < n) xs → is_empty n (set_of xs) ≡ is_nobody xs
 nobody_is n [] below = nobody_left n
 nobody_is n (x ∷ xs) below =
-    somebody_left n (set_of (x ∷ xs)) x (below 0 0 (omega arith)) (ap (λ (b : Bool). b || set_of xs x) (eq-eqb x x refl))
+    somebody_left n (set_of (x ∷ xs)) x (below 0 0 (omega arith))
+    (ap (λ (b : Bool). b || set_of xs x) (eq-eqb x x refl))
 
 -- one node less
 pub less_within : (world xs : List ℕ) (f : ℕ) → IsWithin world xs → IsWithin world (without_node xs f)
-less_within world xs f within = λ c e. within c (passes (set_of xs c) (not (c == f)) (sym (set_of-filter (λ m. not (m == f)) xs c) ∙ e))
+less_within world xs f within = λ c e. within c (passes (set_of xs c) (not (c == f))
+    (sym (set_of-filter (λ m. not (m == f)) xs c) ∙ e))
   where
     passes : (a b : Bool) → (a && b) ≡ true → a ≡ true
     passes true b e = refl
     passes false b e = e
 
 -- one node less is awaited
-pub whole_less : (h : Held) (w : Work) (f : ℕ) → IsWhole h → w ≡ record h.registrar { awaited = without_node h.registrar.awaited f } → IsWhole (record h { registrar = w })
+pub whole_less : (h : Held) (w : Work) (f : ℕ) → IsWhole h → w
+    ≡ record h.registrar { awaited = without_node h.registrar.awaited f } → IsWhole (record h { registrar = w })
 whole_less h w f whole is = record {
   self = whole.self;
   members = whole.members;
-  awaited = subst (λ (v : Work). IsWithin h.world v.awaited) (sym is) (less_within h.world h.registrar.awaited f whole.awaited);
+  awaited = subst (λ (v : Work). IsWithin h.world v.awaited) (sym is)
+      (less_within h.world h.registrar.awaited f whole.awaited);
   phase = whole.phase;
 }
 
-module _ (h0 h : Held) (t : Made) (w : Work) (f : ℕ) (asked : List ℕ) (reply : Reply) (same : h0 ≡ h) (whole : IsWhole h0)
+module _ (h0 h : Held) (t : Made) (w : Work) (f : ℕ) (asked : List ℕ) (reply : Reply) (same : h0 ≡ h)
+    (whole : IsWhole h0)
     (writing : h0.phase ≡ Writing asked reply) (was : set_of h0.registrar.awaited f ≡ true)
     (less : w ≡ record h0.registrar { awaited = without_node h0.registrar.awaited f }) where
   abbrev rule : ℕ → ℕ → Turn → Turn
@@ -233,18 +253,22 @@ module _ (h0 h : Held) (t : Made) (w : Work) (f : ℕ) (asked : List ℕ) (reply
 
   -- the same, of a node that is known to write, and awaits f
   at_it : (op : Op) (u : Turn) → (b : Bool) → is_nobody (without_node h0.registrar.awaited f) ≡ b
-      → await_less (bound_of h0.world) h0.name f (Current.Writing (op_of op) (set_of asked) (set_of h0.registrar.awaited) (Some (reply_of reply))) u
+      → await_less (bound_of h0.world) h0.name f (Current.Writing (op_of op) (set_of asked)
+      (set_of h0.registrar.awaited) (Some (reply_of reply))) u
       ≡ (if b
       then done (bound_of h0.world) h0.name (op_of op) (set_of asked) (Some (reply_of reply)) u
-      else at_work (Current.Writing (op_of op) (set_of asked) (set_of (without_node h0.registrar.awaited f)) (Some (reply_of reply))) u)
+      else at_work (Current.Writing (op_of op) (set_of asked) (set_of (without_node h0.registrar.awaited f))
+      (Some (reply_of reply))) u)
   at_it op u b left =
       ap (λ (x : Bool). if x then inner (at (set_of h0.registrar.awaited) f false) else u) was
       ∙ ap inner (sym (without_is h0.registrar.awaited f))
       ∙ ap (λ (x : Bool). if x
       then done (bound_of h0.world) h0.name (op_of op) (set_of asked) (Some (reply_of reply)) u
-      else at_work (Current.Writing (op_of op) (set_of asked) (set_of (without_node h0.registrar.awaited f)) (Some (reply_of reply))) u)
+      else at_work (Current.Writing (op_of op) (set_of asked) (set_of (without_node h0.registrar.awaited f))
+      (Some (reply_of reply))) u)
       (nobody_is (bound_of h0.world) (without_node h0.registrar.awaited f)
-      (all_below h0.world (without_node h0.registrar.awaited f) (less_within h0.world h0.registrar.awaited f whole.awaited)) ∙ left)
+      (all_below h0.world (without_node h0.registrar.awaited f)
+      (less_within h0.world h0.registrar.awaited f whole.awaited)) ∙ left)
     where
       inner : Nodes → Turn
       inner s = if is_empty (bound_of h0.world) s
@@ -256,10 +280,12 @@ module _ (h0 h : Held) (t : Made) (w : Work) (f : ℕ) (asked : List ℕ) (reply
       → Works (λ op n a. done n a op (set_of asked) (Some (reply_of reply))) (record h0 { registrar = w }) t k u
       → Makes rule h t k u
   last_awaited k u cur left W = subst (λ (x : Held). Makes rule x t k u) same
-      (go h0.registrar.current refl cur (subst (λ (v : Work). Works (λ op n a. done n a op (set_of asked) (Some (reply_of reply))) (record h0 { registrar = v }) t k u) less W))
+      (go h0.registrar.current refl cur (subst (λ (v : Work). Works
+      (λ op n a. done n a op (set_of asked) (Some (reply_of reply))) (record h0 { registrar = v }) t k u) less W))
     where
       go : (o : Option Op) → h0.registrar.current ≡ o → is_some o ≡ true
-          → Works (λ op n a. done n a op (set_of asked) (Some (reply_of reply))) (record h0 { registrar = record h0.registrar { awaited = without_node h0.registrar.awaited f } }) t k u
+          → Works (λ op n a. done n a op (set_of asked) (Some (reply_of reply)))
+          (record h0 { registrar = record h0.registrar { awaited = without_node h0.registrar.awaited f } }) t k u
           → Makes rule h0 t k u
       go None e some V = cc
       go (Some (NameOp i c)) e some V = record {
@@ -268,23 +294,31 @@ module _ (h0 h : Held) (t : Made) (w : Work) (f : ℕ) (asked : List ℕ) (reply
         turn = (V (NameOp i c) e).turn
             ∙ sym (at_it (NameOp i c) (turn_of h0 t) true (ap (λ (v : Work). is_nobody v.awaited) (sym less) ∙ left))
             ∙ ap (λ (x : Current). await_less (bound_of h0.world) h0.name f x (turn_of h0 t))
-            (sym (ap (λ (x : Option Op). current_of x h0.registrar.awaited h0.phase) e ∙ ap (phase_of (NameOp i c) h0.registrar.awaited) writing));
+            (sym (ap (λ (x : Option Op). current_of x h0.registrar.awaited h0.phase) e
+            ∙ ap (phase_of (NameOp i c) h0.registrar.awaited) writing));
       }
 
   -- others are awaited still
-  pub more_awaited : is_some h0.registrar.current ≡ true → is_nobody w.awaited ≡ false → Makes rule h t (record h0 { registrar = w }) t
+  pub more_awaited : is_some h0.registrar.current ≡ true → is_nobody w.awaited ≡ false
+      → Makes rule h t (record h0 { registrar = w }) t
   more_awaited cur left = subst (λ (x : Held). Makes rule x t (record h0 { registrar = w }) t) same
-      (subst (λ (v : Work). Makes rule h0 t (record h0 { registrar = v }) t) (sym less) (go h0.registrar.current refl cur))
+      (subst (λ (v : Work). Makes rule h0 t (record h0 { registrar = v }) t) (sym less)
+      (go h0.registrar.current refl cur))
     where
       go : (o : Option Op) → h0.registrar.current ≡ o → is_some o ≡ true
-          → Makes rule h0 t (record h0 { registrar = record h0.registrar { awaited = without_node h0.registrar.awaited f } }) t
+          → Makes rule h0 t (record h0 {
+            registrar = record h0.registrar
+                { awaited = without_node h0.registrar.awaited f };
+          }) t
       go None e some = cc
       go (Some op) e some = record {
         name = refl;
         world = refl;
-        turn = ap (λ (x : Option Op). at_work (current_of x (without_node h0.registrar.awaited f) h0.phase) (turn_of h0 t)) e
+        turn = ap (λ (x : Option Op). at_work (current_of x (without_node h0.registrar.awaited f) h0.phase)
+            (turn_of h0 t)) e
             ∙ ap (λ (p : Phase). at_work (phase_of op (without_node h0.registrar.awaited f) p) (turn_of h0 t)) writing
             ∙ sym (at_it op (turn_of h0 t) false (ap (λ (v : Work). is_nobody v.awaited) (sym less) ∙ left))
             ∙ ap (λ (x : Current). await_less (bound_of h0.world) h0.name f x (turn_of h0 t))
-            (sym (ap (λ (x : Option Op). current_of x h0.registrar.awaited h0.phase) e ∙ ap (phase_of op h0.registrar.awaited) writing));
+            (sym (ap (λ (x : Option Op). current_of x h0.registrar.awaited h0.phase) e
+            ∙ ap (phase_of op h0.registrar.awaited) writing));
       }

@@ -35,10 +35,12 @@ all_below world xs within = λ k d l. below_bound world (get_or xs k d) (within 
 
 -- a letter more
 pub sent_is : (h : Held) (t : Made) (c : ℕ) (l : Letter) → turn_of h (sent c l t) ≡ send c (letter_of l) (turn_of h t)
-sent_is h t c l = ap (λ (ss : List Send). record (turn_of h t) { sends = ss }) (map-append send_of t.letters ((c, l) ∷ []))
+sent_is h t c l = ap (λ (ss : List Send). record (turn_of h t) { sends = ss })
+    (map-append send_of t.letters ((c, l) ∷ []))
 
 -- a letter to each of these
-sends_each : (cs : List ℕ) (l : Letter) → map send_of (each cs l) ≡ map (λ c. record { to = c; letter = letter_of l }) cs
+sends_each : (cs : List ℕ) (l : Letter) → map send_of (each cs l)
+    ≡ map (λ c. record { to = c; letter = letter_of l }) cs
 sends_each [] l = refl
 sends_each (c ∷ cs) l = ap (λ (ss : List Send). record { to = c; letter = letter_of l } ∷ ss) (sends_each cs l)
 

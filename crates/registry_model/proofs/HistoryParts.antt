@@ -53,7 +53,8 @@ registry-after s (Done n) = go (is_holding s n)
 registry-after s (Name n k call reply) =
     registry-begin_hold (Name n k call reply) s.registry (granted_to (Name n k call reply))
     (with_effect (Name n k call reply) s)
-registry-after s (Strike p) = registry-begin_hold (Strike p) s.registry (granted_to (Strike p)) (with_effect (Strike p) s)
+registry-after s (Strike p) = registry-begin_hold (Strike p) s.registry (granted_to (Strike p))
+    (with_effect (Strike p) s)
 registry-after s (Join j k m reply) =
     registry-begin_hold (Join j k m reply) s.registry (granted_to (Join j k m reply)) (with_effect (Join j k m reply) s)
 registry-after s (Exit p) = refl
@@ -87,7 +88,8 @@ is_legal-at cluster before later e l =
     let rest : (all_legal (nothing_yet cluster) before ≡ true)
     × (all_legal (standing_of cluster before) (e ∷ later) ≡ true) =
     all_legal-append (nothing_yet cluster) before (e ∷ later) l in
-    (and_parts (is_legal (standing_of cluster before) e) (all_legal (after (standing_of cluster before) e) later) rest.1).0
+    (and_parts (is_legal (standing_of cluster before) e) (all_legal (after (standing_of cluster before) e) later)
+    rest.1).0
 
 -- the front of a legal history is legal
 pub IsLegal-front : (cluster : Nodes) (h later : List Entry) → IsLegal cluster (h ++ later) → IsLegal cluster h

@@ -358,7 +358,8 @@ IsHeld-after s e f a (k, i, n, w) l ne = go (cases_done f)
       where
         by : (c : Bool) → in_group s.registry a b ≡ c → c ≡ false
         by true g =
-            let h : is_hold_of b (Some k) ≡ true = ap (is_hold_of b) (sym (hold_at-group s a b g ∙ i)) ∙ ap (is_legal s) (sym j)
+            let h : is_hold_of b (Some k) ≡ true = ap (is_hold_of b) (sym (hold_at-group s a b g ∙ i))
+            ∙ ap (is_legal s) (sym j)
             ∙ l in
             let m : b ≡ a = sym (eqb-true k.node b h) ∙ n in
             absurd (ne (j ∙ ap (λ (x : ℕ). Done x) m))
@@ -368,7 +369,8 @@ IsHeld-after s e f a (k, i, n, w) l ne = go (cases_done f)
     next = record k { old = effect f k.old }
 
     pushed_at : hold_at (with_effect f s) a ≡ Some next
-    pushed_at = ap (λ (b : Bool). if b then with_effect_on f s.held else with_effect_on f (s.lone_held a)) (joined-alone s f a alone)
+    pushed_at = ap (λ (b : Bool). if b then with_effect_on f s.held else with_effect_on f (s.lone_held a))
+        (joined-alone s f a alone)
         ∙ by (s.registry.joined a) refl i
       where
         by : (b : Bool) → s.registry.joined a ≡ b → (if b then s.held else s.lone_held a) ≡ Some k →
@@ -436,7 +438,8 @@ IsHeld-standing_of cluster before later e a l i nd =
     all_legal-append (nothing_yet cluster) before (e ∷ later) l in
     let behind : (is_legal (standing_of cluster before) e ≡ true)
     × (all_legal (after (standing_of cluster before) e) later ≡ true) =
-    and_parts (is_legal (standing_of cluster before) e) (all_legal (after (standing_of cluster before) e) later) rest.1 in
+    and_parts (is_legal (standing_of cluster before) e) (all_legal (after (standing_of cluster before) e) later) rest.1
+    in
     subst (λ (s : Standing). IsHeld s a e) (sym (standing_of-append cluster before (e ∷ later)))
     (IsHeld-later (after (standing_of cluster before) e) e a later
     (IsHeld-begun (standing_of cluster before) e a i) behind.1 nd)
@@ -453,7 +456,8 @@ overlap_law cluster h l before middle later e f a s i nd =
     let legal : IsLegal cluster (before ++ e ∷ middle ++ f ∷ later) =
     subst (λ (h : List Entry). IsLegal cluster h) s l in
     let (k, j, n, w) : IsHeld (standing_of cluster (before ++ e ∷ middle)) a e =
-    IsHeld-standing_of cluster before middle e a (IsLegal-front cluster (before ++ e ∷ middle) (f ∷ later) legal) i nd in
+    IsHeld-standing_of cluster before middle e a (IsLegal-front cluster (before ++ e ∷ middle) (f ∷ later) legal) i nd
+    in
     subst (λ (r : Registry). LeavesAlone r a f) (registry-standing_of cluster (before ++ e ∷ middle))
     (alone_while_held (standing_of cluster (before ++ e ∷ middle)) f a k j
     (is_legal-at cluster (before ++ e ∷ middle) later f legal))

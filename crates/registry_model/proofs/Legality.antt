@@ -78,7 +78,8 @@ join_is_legal s j m l =
     }
 
 -- where an operation is decided, none holds
-pub decider_is_free : (s : Standing) (f : Entry) (b : ℕ) → is_legal s f ≡ true → decided_by f ≡ Some b → is_free s b ≡ true
+pub decider_is_free : (s : Standing) (f : Entry) (b : ℕ) → is_legal s f ≡ true → decided_by f ≡ Some b → is_free s b
+    ≡ true
 decider_is_free s (Name n k call reply) b l d = let e : n ≡ b = cc in
     subst (λ (x : ℕ). is_free s x ≡ true) e (name_is_legal s n call reply l).free
 decider_is_free s (Strike p) b l d =

@@ -117,7 +117,8 @@ pub record IsGood (r : Registry) : Type 0 where
   pub owners : LoneOwners r
 
 -- what each legal history comes to
-pub IsGood-standing_of : (cluster : Nodes) (h : List Entry) → IsLegal cluster h → IsGood (standing_of cluster h).registry
+pub IsGood-standing_of : (cluster : Nodes) (h : List Entry) → IsLegal cluster h
+    → IsGood (standing_of cluster h).registry
 IsGood-standing_of cluster h l = legal_keeps cluster (λ s. IsGood s.registry)
     (record {
       rises = record { table = refl; lone = λ n. refl };

@@ -113,7 +113,8 @@ module _ (o : Opening) (S : Scene) (a : ℕ) (q : Registry) (group : Nodes) (e :
       where
         still : (h : Option Hold) → group c ≡ false → S.hold c ≡ h
             → S.replica c ≡ replica_of (if is_late o S c h then old_or S.registry h else S.registry) c
-            → S.replica c ≡ replica_of (if is_late o T c (with_effect_on e h) then old_or q (with_effect_on e h) else q) c
+            → S.replica c ≡ replica_of (if is_late o T c (with_effect_on e h) then old_or q (with_effect_on e h) else q)
+            c
         still None g k f = f ∙ sym (B.apart c g)
         still (Some h) g k f = each (list_any carries (S.mail h.node c)) f
             ∙ ap (λ (b : Bool). replica_of (if b then effect e h.old else q) c)

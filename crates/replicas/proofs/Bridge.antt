@@ -53,7 +53,8 @@ module _ (o : Opening) (w : World) (P : Proper o w) (X : Exclusive o w) (J : Joi
     -- the node of what holds in the group is a member
     holder_member : (h : Hold) → hold_at standing a ≡ Some h → standing.registry.joined a ≡ true
         → (w.node a).replica.members h.node ≡ true
-    holder_member h e j = ap (λ (v : Replica). v.members h.node) shown ∙ go (is_late o scene a (hold_at standing a)) refl
+    holder_member h e j = ap (λ (v : Replica). v.members h.node) shown
+        ∙ go (is_late o scene a (hold_at standing a)) refl
       where
         shown : (w.node a).replica ≡ replica_of (if is_late o scene a
             (hold_at standing a) then before o scene a else standing.registry) a

@@ -21,7 +21,8 @@ all_legal-append s (x ∷ h) es l k =
     and_from _ _ parts.0 (all_legal-append (after s x) h es parts.1 k)
 
 -- a legal history with legal entries more is legal
-pub IsLegal-more : (cluster : Nodes) (h es : List Entry) → IsLegal cluster h → all_legal (standing_of cluster h) es ≡ true
+pub IsLegal-more : (cluster : Nodes) (h es : List Entry) → IsLegal cluster h → all_legal (standing_of cluster h) es
+    ≡ true
     → IsLegal cluster (h ++ es)
 IsLegal-more cluster h es l k = all_legal-append (nothing_yet cluster) h es l k
 
@@ -31,14 +32,16 @@ pub IsLegal-append : (cluster : Nodes) (h : List Entry) (e : Entry) → IsLegal 
 IsLegal-append cluster h e l k = IsLegal-more cluster h (e ∷ []) l (and_from _ _ k refl)
 
 -- an operation is one of node n, whatever came after it
-pub is_hold_of-with_effect_on : (n : ℕ) (e : Entry) (h : Option Hold) → is_hold_of n (with_effect_on e h) ≡ is_hold_of n h
+pub is_hold_of-with_effect_on : (n : ℕ) (e : Entry) (h : Option Hold) → is_hold_of n (with_effect_on e h)
+    ≡ is_hold_of n h
 is_hold_of-with_effect_on n e None = refl
 is_hold_of-with_effect_on n e (Some h) = refl
 
 -- what holds at a node stays, where the entry leaves open who is joined
 pub hold_at-with_effect : (e : Entry) (s : Standing) (c : ℕ) → (effect e s.registry).joined c ≡ s.registry.joined c
     → hold_at (with_effect e s) c ≡ with_effect_on e (hold_at s c)
-hold_at-with_effect e s c j = ap (λ (b : Bool). if b then with_effect_on e s.held else with_effect_on e (s.lone_held c)) j
+hold_at-with_effect e s c j = ap (λ (b : Bool). if b then with_effect_on e s.held else with_effect_on e (s.lone_held c))
+    j
     ∙ go (s.registry.joined c)
   where
     go : (b : Bool) → (if b then with_effect_on e s.held else with_effect_on e (s.lone_held c))

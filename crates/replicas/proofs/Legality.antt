@@ -31,7 +31,8 @@ pub hold_at-joined : (s : Standing) (n : ℕ) → s.registry.joined n ≡ true �
 hold_at-joined s n j = ap (λ (b : Bool). if b then s.held else s.lone_held n) j
 
 -- an entry that has no node join in whose group something holds
-Grouped-with_effect : (s : Standing) (e : Entry) → Grouped s → ((n : ℕ) (h : Hold) → s.lone_held n ≡ Some h → IsJoinOf n e → ⊥)
+Grouped-with_effect : (s : Standing) (e : Entry) → Grouped s
+    → ((n : ℕ) (h : Hold) → s.lone_held n ≡ Some h → IsJoinOf n e → ⊥)
     → Grouped (with_effect e s)
 Grouped-with_effect s e G apart = record {
   cluster = λ g k.

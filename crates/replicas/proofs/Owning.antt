@@ -78,7 +78,8 @@ own_after a s (Left d) i own = own_pushed a (Left d) s refl own
 own_after a s (Told n d) i own = own_pushed a (Told n d) s refl own
 own_after a s (Read n look reply) i own = subst (IsOwn a) (sym (after-read s n look reply)) own
 
-own_fold : (a : ℕ) (es : List Entry) (s : Standing) → list_all (is_by a) es ≡ true → IsOwn a s → IsOwn a (fold after s es)
+own_fold : (a : ℕ) (es : List Entry) (s : Standing) → list_all (is_by a) es ≡ true → IsOwn a s
+    → IsOwn a (fold after s es)
 own_fold a [] s i own = own
 own_fold a (e ∷ es) s i own =
     let parts : (is_by a e ≡ true) × (list_all (is_by a) es ≡ true) =

@@ -69,7 +69,8 @@ module _ (o : Opening) (S : Scene) (e : Entry) (turns : ℕ → Replica → Repl
       where
         go : (h : Option Hold) → S.replica c ≡ replica_of
             (if is_late o S c h then old_or S.registry h else S.registry) c
-            → turns c (S.replica c) ≡ replica_of (if is_late o T c (with_effect_on e h) then old_or (effect e S.registry)
+            → turns c (S.replica c) ≡ replica_of (if is_late o T c (with_effect_on e h) then old_or
+            (effect e S.registry)
             (with_effect_on e h) else effect e S.registry) c
         go None f = ap (turns c) f ∙ sym (P.shows S.registry c)
         go (Some h) f = each (list_any carries (S.mail h.node c)) f

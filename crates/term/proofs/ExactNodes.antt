@@ -25,7 +25,8 @@ use Rattle.term.proofs.Texts.{bytes_of-spells}
 above_first : (x : ℕ) (xs : List ℕ) (c : ℕ) → IsStrictlyIncreasing (x ∷ xs) → set_of xs c ≡ true → x < c
 above_first x xs c up held =
     let found = Any-from_list_any (λ m. m == c) xs held in
-    let at : get_or xs found.0 0 ≡ c = get_or_default xs found.0 0 found.1 found.2 ∙ (found.3 ∙ eqb-true found.1 c found.4) in
+    let at : get_or xs found.0 0 ≡ c = get_or_default xs found.0 0 found.1 found.2
+    ∙ (found.3 ∙ eqb-true found.1 c found.4) in
     omega (arith, rises (x ∷ xs) 0 (suc found.0) up (omega arith) (omega (arith, found.2)), at)
 
 first_least : (x : ℕ) (xs : List ℕ) (c : ℕ) → IsStrictlyIncreasing (x ∷ xs) → set_of (x ∷ xs) c ≡ true → x ≤ c
@@ -45,7 +46,8 @@ not_true true h = absurd (h refl)
 not_true false h = refl
 
 -- rising lists that hold the same are the same
-rising-unique : (xs ys : List ℕ) → IsStrictlyIncreasing xs → IsStrictlyIncreasing ys → ((c : ℕ) → set_of xs c ≡ set_of ys c) → xs ≡ ys
+rising-unique : (xs ys : List ℕ) → IsStrictlyIncreasing xs → IsStrictlyIncreasing ys
+    → ((c : ℕ) → set_of xs c ≡ set_of ys c) → xs ≡ ys
 rising-unique [] [] up rise same = refl
 rising-unique [] (y ∷ ys) up rise same = absurd (cc (same y, holds_first y ys))
 rising-unique (x ∷ xs) [] up rise same = absurd (cc (same x, holds_first x xs))
@@ -71,7 +73,8 @@ rising-unique (x ∷ xs) (y ∷ ys) up rise same =
             rw (e, elsewhere) at (same c)
 
 -- the names that parts spell are one list
-names-unique : (parts : List (List ℕ)) (xs ys : List ℕ) → AllZip SpellsText parts xs → AllZip SpellsText parts ys → xs ≡ ys
+names-unique : (parts : List (List ℕ)) (xs ys : List ℕ) → AllZip SpellsText parts xs → AllZip SpellsText parts ys → xs
+    ≡ ys
 names-unique [] [] [] s u = refl
 names-unique [] [] (y ∷ ys) s u = absurd u
 names-unique [] (x ∷ xs) ys s u = absurd s
@@ -103,7 +106,8 @@ never_refused bytes nodes f s r =
     (spelled-at (parts_of bytes) s.names r.place s.spelled r.inside) r.refused
 
 -- a text is refused for its first part that is no name, or for too many nodes
-node-refused : (bytes : List ℕ) (f : TextFault) → RefusesNodes bytes f → (ListsTooMany bytes × (f ≡ TooManyNodes)) ⊎ RefusesPart bytes f
+node-refused : (bytes : List ℕ) (f : TextFault) → RefusesNodes bytes f → (ListsTooMany bytes × (f ≡ TooManyNodes))
+    ⊎ RefusesPart bytes f
 node-refused bytes TooManyNodes r = inl (r, refl)
 node-refused bytes Empty r = inr r
 node-refused bytes TooLong r = inr r
@@ -119,10 +123,13 @@ never_both bytes nodes f s r =
     ]
 
 -- no part before the first that is no name is refused
-refused-below : (bytes : List ℕ) (f g : TextFault) (r : RefusesPart bytes f) (t : RefusesPart bytes g) → r.place < t.place → ⊥
+refused-below : (bytes : List ℕ) (f g : TextFault) (r : RefusesPart bytes f) (t : RefusesPart bytes g)
+    → r.place < t.place → ⊥
 refused-below bytes f g r t below =
-    let long : length (take t.place (parts_of bytes)) ≡ t.place = length-take-le t.place (parts_of bytes) (omega (arith, t.inside)) in
-    let text : IsText (get_or (take t.place (parts_of bytes)) r.place []) = t.before r.place [] (omega (arith, below, long)) in
+    let long : length (take t.place (parts_of bytes))
+    ≡ t.place = length-take-le t.place (parts_of bytes) (omega (arith, t.inside)) in
+    let text : IsText (get_or (take t.place (parts_of bytes)) r.place []) = t.before r.place []
+    (omega (arith, below, long)) in
     texts.text-refused (get_or (parts_of bytes) r.place []) f
     (subst IsText (get_or-take t.place (parts_of bytes) r.place [] below) text) r.refused
 
@@ -186,7 +193,8 @@ names-search (p ∷ ps) =
     ]
 
 -- the rising list of the names
-sorted-names : (names : List ℕ) → (nodes : List ℕ) × IsStrictlyIncreasing nodes × ((c : ℕ) → set_of nodes c ≡ set_of names c)
+sorted-names : (names : List ℕ) → (nodes : List ℕ) × IsStrictlyIncreasing nodes
+    × ((c : ℕ) → set_of nodes c ≡ set_of names c)
 sorted-names [] = ([], (λ k h. absurd (omega arith)), λ c. refl)
 sorted-names (x ∷ xs) =
     let rest = sorted-names xs in (
@@ -196,12 +204,18 @@ sorted-names (x ∷ xs) =
     )
 
 -- a text spells a set or is refused
-always_either : (bytes : List ℕ) → ((nodes : List ℕ) × SpellsNodes bytes nodes) ⊎ ((f : TextFault) × RefusesNodes bytes f)
+always_either : (bytes : List ℕ) → ((nodes : List ℕ) × SpellsNodes bytes nodes)
+    ⊎ ((f : TextFault) × RefusesNodes bytes f)
 always_either bytes =
     elim (names-search (parts_of bytes)) [
       | inr r ↦ inr (
         r.fault,
-        refused-nodes bytes r.fault (record { place = r.place; inside = r.inside; before = r.before; refused = r.refused }),
+        refused-nodes bytes r.fault (record {
+          place = r.place;
+          inside = r.inside;
+          before = r.before;
+          refused = r.refused;
+        }),
       )
       | inl names ↦ listed names.0 names.1 (sorted-names names.0)
     ]
@@ -227,7 +241,8 @@ decided_nodes = record {
 }
 
 -- the nodes of a spelled set are names
-spelled-name : (parts : List (List ℕ)) (names : List ℕ) (c : ℕ) → AllZip SpellsText parts names → set_of names c ≡ true → IsName c
+spelled-name : (parts : List (List ℕ)) (names : List ℕ) (c : ℕ) → AllZip SpellsText parts names → set_of names c ≡ true
+    → IsName c
 spelled-name parts names c s held =
     let found = Any-from_list_any (λ m. m == c) names held in
     let at : get_or names found.0 0 ≡ c =

@@ -25,7 +25,8 @@ node_part-spells : (bytes : List ℕ) (p : Process) → SpellsPid bytes p → Sp
 node_part-spells bytes p s = rw (node-is bytes p s) (s.node_spelled)
 
 -- the part behind the first dot spells the serial
-after_first-spells : (bytes : List ℕ) (p : Process) → SpellsPid bytes p → SpellsSerial (after_first is_dot bytes) p.serial
+after_first-spells : (bytes : List ℕ) (p : Process) → SpellsPid bytes p
+    → SpellsSerial (after_first is_dot bytes) p.serial
 after_first-spells bytes p s = rw (digits-is bytes p s) (s.serial_spelled)
 
 -- two processes of one node and one serial are one
@@ -36,8 +37,10 @@ same_process p q e f = λ i. record { node = e i; serial = f i }
 one_value : (bytes : List ℕ) (p q : Process) → SpellsPid bytes p → SpellsPid bytes q → p ≡ q
 one_value bytes p q s t =
     same_process p q
-    (texts.exact_texts.one_value (node_part bytes) p.node q.node (node_part-spells bytes p s) (node_part-spells bytes q t))
-    (serial-unique (after_first is_dot bytes) p.serial q.serial (after_first-spells bytes p s) (after_first-spells bytes q t))
+    (texts.exact_texts.one_value (node_part bytes) p.node q.node (node_part-spells bytes p s)
+    (node_part-spells bytes q t))
+    (serial-unique (after_first is_dot bytes) p.serial q.serial (after_first-spells bytes p s)
+    (after_first-spells bytes q t))
 
 -- a process has one text
 one_text : (bytes others : List ℕ) (p : Process) → SpellsPid bytes p → SpellsPid others p → bytes ≡ others
@@ -52,7 +55,8 @@ never_both bytes p BadSerial s r = r.1 p s
 never_both bytes p TooManyNodes s r = r
 never_both bytes p Empty s r = texts.never_both (node_part bytes) p.node Empty (node_part-spells bytes p s) r
 never_both bytes p TooLong s r = texts.never_both (node_part bytes) p.node TooLong (node_part-spells bytes p s) r
-never_both bytes p (BadByte k) s r = texts.never_both (node_part bytes) p.node (BadByte k) (node_part-spells bytes p s) r
+never_both bytes p (BadByte k) s r = texts.never_both (node_part bytes) p.node (BadByte k) (node_part-spells bytes p s)
+    r
 
 -- a refused text has a bad serial behind the name of a node, or its first part is refused as a name
 part-refused : (bytes : List ℕ) (f : TextFault) → RefusesPid bytes f
@@ -89,7 +93,8 @@ refused-part bytes TooManyNodes r = r
 parts-split : (bytes : List ℕ) → position_or_len is_dot bytes < length bytes
     → bytes ≡ node_part bytes ++ dot ∷ after_first is_dot bytes
 parts-split bytes inside =
-    let at : get_or bytes (position_or_len is_dot bytes) 0 ≡ dot = eqb-true _ _ (passes_at_first is_dot bytes 0 inside) in
+    let at : get_or bytes (position_or_len is_dot bytes) 0
+    ≡ dot = eqb-true _ _ (passes_at_first is_dot bytes 0 inside) in
     split_at_first is_dot bytes 0 inside ∙ ap (λ (b : ℕ). node_part bytes ++ b ∷ after_first is_dot bytes) at
 
 -- each text spells a process or is refused

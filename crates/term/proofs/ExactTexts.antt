@@ -95,7 +95,8 @@ first_bad-search bytes =
               let below : k < position_or_len is_bad bytes = omega (arith, long, h) in
               ap is_allowed (get_or-take (position_or_len is_bad bytes) bytes k d below)
               ∙ good (is_allowed (get_or bytes k d)) (fails_before_first is_bad bytes k d below);
-          bad = bad (is_allowed (get_or bytes (position_or_len is_bad bytes) 0)) (passes_at_first is_bad bytes 0 inside);
+          bad = bad (is_allowed (get_or bytes (position_or_len is_bad bytes) 0))
+              (passes_at_first is_bad bytes 0 inside);
         },
       )
       | inr outside ↦ inl (λ k d h.

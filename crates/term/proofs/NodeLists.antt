@@ -82,7 +82,8 @@ long-with_node xs c up =
       | inr fits ↦ omega (arith, ap length (with_node-fits xs fits.0 c fits.1), length-insert xs fits.0 c fits.1.inside)
     ]
 
-longer-with_node : (xs : List ℕ) (c : ℕ) → IsStrictlyIncreasing xs → set_of xs c ≡ false → length xs < length (with_node xs c)
+longer-with_node : (xs : List ℕ) (c : ℕ) → IsStrictlyIncreasing xs → set_of xs c ≡ false
+    → length xs < length (with_node xs c)
 longer-with_node xs c up none =
     elim (placed xs c up) [
       | inl there ↦ absurd (cc (set_of-there xs there.0 c there.1, none))
@@ -110,7 +111,8 @@ empty_set nodes e =
     subst IsNodeSet (sym e) (record { rising = λ k h. absurd (omega arith); fits = omega arith })
 
 -- at first nothing is read
-pub read_none : {S A : Type 0} (steps : S → Option A → S → Type 0) (v : A → List ℕ) (bytes : List ℕ) (s : S) (nodes : List ℕ)
+pub read_none : {S A : Type 0} (steps : S → Option A → S → Type 0) (v : A → List ℕ) (bytes : List ℕ) (s : S)
+    (nodes : List ℕ)
     → YieldsList steps v s (parts_of bytes) → nodes ≡ [] → HasRead steps v bytes s nodes false
 read_none steps v bytes s nodes yields none = record {
   done = [];
@@ -151,7 +153,8 @@ kept_up all nodes after c false (Err f) up same step =
     omega (arith, longer, step.full, ap length same)
 
 -- one more part is read
-pub read_more : {S A : Type 0} (steps : S → Option A → S → Type 0) (v : A → List ℕ) (bytes : List ℕ) (s t : S) (x : A) (c : ℕ)
+pub read_more : {S A : Type 0} (steps : S → Option A → S → Type 0) (v : A → List ℕ) (bytes : List ℕ) (s t : S) (x : A)
+    (c : ℕ)
     (nodes after : List ℕ) (is_over : Bool) (r : Result Bool TextFault) → HasRead steps v bytes s nodes is_over
     → steps s (Some x) t → SpellsText (v x) c
     → MatchResult r (λ is_new. (after ≡ with_node nodes c) × (is_new ≡ not (set_of nodes c))) (HasNoRoom nodes c)
@@ -160,7 +163,8 @@ read_more steps v bytes s t x c nodes after is_over r read step spelled inserted
     let next = next_part steps v s t x read.left read.yields step in record {
       done = read.done ++ v x ∷ [];
       left = next.0;
-      parts = read.parts ∙ (ap (λ (ps : List (List ℕ)). read.done ++ ps) next.1 ∙ sym (append_assoc read.done (v x ∷ []) next.0));
+      parts = read.parts ∙ (ap (λ (ps : List (List ℕ)). read.done ++ ps) next.1
+          ∙ sym (append_assoc read.done (v x ∷ []) next.0));
       yields = next.2;
       names = read.names ++ c ∷ [];
       spelled = all_zipped_more SpellsText read.done read.names (v x) c read.spelled spelled;
@@ -175,7 +179,8 @@ read_more steps v bytes s t x c nodes after is_over r read step spelled inserted
     }
 
 -- at the end all is read
-all_read : {S A : Type 0} (steps : S → Option A → S → Type 0) (v : A → List ℕ) (bytes : List ℕ) (s t : S) (nodes : List ℕ)
+all_read : {S A : Type 0} (steps : S → Option A → S → Type 0) (v : A → List ℕ) (bytes : List ℕ) (s t : S)
+    (nodes : List ℕ)
     (is_over : Bool) → (read : HasRead steps v bytes s nodes is_over) → steps s None t → ListsNodes bytes read.all
 all_read steps v bytes s t nodes is_over read step = record {
   names = read.names;
@@ -188,15 +193,18 @@ all_read steps v bytes s t nodes is_over read step = record {
   named = read.named;
 }
 
-pub read_set : {S A : Type 0} (steps : S → Option A → S → Type 0) (v : A → List ℕ) (bytes : List ℕ) (s t : S) (nodes : List ℕ)
-    (is_over : Bool) → is_over ≡ false → HasRead steps v bytes s nodes is_over → steps s None t → SpellsNodes bytes nodes
+pub read_set : {S A : Type 0} (steps : S → Option A → S → Type 0) (v : A → List ℕ) (bytes : List ℕ) (s t : S)
+    (nodes : List ℕ)
+    (is_over : Bool) → is_over ≡ false → HasRead steps v bytes s nodes is_over → steps s None t
+    → SpellsNodes bytes nodes
 read_set steps v bytes s t nodes true e read step = cc
 read_set steps v bytes s t nodes false e read step = record {
   listed = subst (ListsNodes bytes) (sym read.kept) (all_read steps v bytes s t nodes false read step);
   fits = read.set.fits;
 }
 
-pub read_too_many : {S A : Type 0} (steps : S → Option A → S → Type 0) (v : A → List ℕ) (bytes : List ℕ) (s t : S) (nodes : List ℕ)
+pub read_too_many : {S A : Type 0} (steps : S → Option A → S → Type 0) (v : A → List ℕ) (bytes : List ℕ) (s t : S)
+    (nodes : List ℕ)
     (is_over : Bool) → is_over ≡ true → HasRead steps v bytes s nodes is_over → steps s None t → ListsTooMany bytes
 read_too_many steps v bytes s t nodes false e read step = cc
 read_too_many steps v bytes s t nodes true e read step = record {
@@ -233,10 +241,12 @@ read_fault steps v bytes s t x nodes is_over f read step refused =
       inside = omega (arith, ap length parts, length-append read.done (v x ∷ next.0));
       before =
           subst (All IsText)
-          (sym (ap (λ (ps : List (List ℕ)). take (length read.done) ps) parts ∙ take-append_seam read.done (v x ∷ next.0)))
+          (sym (ap (λ (ps : List (List ℕ)). take (length read.done) ps) parts
+          ∙ take-append_seam read.done (v x ∷ next.0)))
           (spelled-texts read.done read.names read.spelled);
       refused =
           subst (λ (part : List ℕ). RefusesText part f)
-          (sym (ap (λ (ps : List (List ℕ)). get_or ps (length read.done) []) parts ∙ get_or-append_seam read.done (v x) next.0 []))
+          (sym (ap (λ (ps : List (List ℕ)). get_or ps (length read.done) []) parts
+          ∙ get_or-append_seam read.done (v x) next.0 []))
           refused;
     })

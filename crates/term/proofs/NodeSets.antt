@@ -19,7 +19,8 @@ pub rises : (xs : List ℕ) (i j : ℕ) → IsStrictlyIncreasing xs → i < j �
 rises xs i j up below inside = AllPairs-from_increasing xs up i j 0 below inside
 
 -- and not above those from it on
-pub never_falls : (xs : List ℕ) → IsStrictlyIncreasing xs → (i j : ℕ) → i ≤ j → j < length xs → get_or xs i 0 ≤ get_or xs j 0
+pub never_falls : (xs : List ℕ) → IsStrictlyIncreasing xs → (i j : ℕ) → i ≤ j → j < length xs
+    → get_or xs i 0 ≤ get_or xs j 0
 never_falls xs up i j le inside =
     elim (cases_lt i j) [
       | inl below ↦ omega (arith, rises xs i j up below inside)
@@ -37,7 +38,8 @@ filter_front p (x ∷ xs) zero front back =
 filter_front p (x ∷ xs) (suc i) front back =
     rw (front 0 (omega arith) (omega arith))
     (ap (λ (ys : List ℕ). x ∷ ys)
-    (filter_front p xs i (λ k h l. front (suc k) (omega arith) (omega arith)) (λ k h l. back (suc k) (omega arith) (omega arith))))
+    (filter_front p xs i (λ k h l. front (suc k) (omega arith) (omega arith))
+    (λ k h l. back (suc k) (omega arith) (omega arith))))
 
 -- what passes is what stands behind, where the rest does not pass
 filter_back : (p : ℕ → Bool) (xs : List ℕ) (i : ℕ) → ((k : ℕ) → k < i → k < length xs → p (get_or xs k 0) ≡ false)
@@ -50,14 +52,16 @@ filter_back p (x ∷ xs) zero front back =
     (filter_back p xs 0 (λ k h _. absurd (omega arith)) (λ k h l. back (suc k) (omega arith) (omega arith))))
 filter_back p (x ∷ xs) (suc i) front back =
     rw (front 0 (omega arith) (omega arith))
-    (filter_back p xs i (λ k h l. front (suc k) (omega arith) (omega arith)) (λ k h l. back (suc k) (omega arith) (omega arith)))
+    (filter_back p xs i (λ k h l. front (suc k) (omega arith) (omega arith))
+    (λ k h l. back (suc k) (omega arith) (omega arith)))
 
 -- all but one stay where all others pass
 filter_other : (p : ℕ → Bool) (xs : List ℕ) (i : ℕ) → i < length xs → p (get_or xs i 0) ≡ false
     → ((k : ℕ) → (k ≡ i → ⊥) → k < length xs → p (get_or xs k 0) ≡ true) → filter p xs ≡ remove xs i
 filter_other p [] i inside at others = absurd (omega arith)
 filter_other p (x ∷ xs) zero inside at others =
-    rw at (filter_back p xs 0 (λ k h _. absurd (omega arith)) (λ k h l. others (suc k) (λ e. omega (arith, e)) (omega arith)))
+    rw at (filter_back p xs 0 (λ k h _. absurd (omega arith))
+    (λ k h l. others (suc k) (λ e. omega (arith, e)) (omega arith)))
 filter_other p (x ∷ xs) (suc i) inside at others =
     rw (others 0 (λ e. omega (arith, e)) (omega arith))
     (ap (λ (ys : List ℕ). x ∷ ys)
@@ -75,7 +79,8 @@ pub record FitsAt (xs : List ℕ) (i c : ℕ) : Type 0 where
   pub behind : (k : ℕ) → i ≤ k → k < length xs → c < get_or xs k 0
 
 -- a search among rising nodes finds where the node stands, or would
-pub found : (xs : List ℕ) (c : ℕ) (r : Result ℕ ℕ) → IsBinarySearchResult (λ y. nat_cmp y c) xs r → IsStrictlyIncreasing xs
+pub found : (xs : List ℕ) (c : ℕ) (r : Result ℕ ℕ) → IsBinarySearchResult (λ y. nat_cmp y c) xs r
+    → IsStrictlyIncreasing xs
     → MatchResult r (λ i. StandsAt xs i c) (λ i. FitsAt xs i c)
 found xs c (Ok i) s up =
     let e = searched xs c (Ok i) s (never_falls xs up) in record { inside = e.0; is = e.1 }
@@ -151,7 +156,8 @@ set_of-fits xs i c fits = list_any_none (λ m. m == c) xs (λ k d h.
     rw (get_or_default xs k d 0 h) (ne_eqb _ _ (apart xs i c k fits h)))
 
 -- a list with a node in its place rises
-pub rising-insert : (xs : List ℕ) (i c : ℕ) → IsStrictlyIncreasing xs → FitsAt xs i c → IsStrictlyIncreasing (insert xs i c)
+pub rising-insert : (xs : List ℕ) (i c : ℕ) → IsStrictlyIncreasing xs → FitsAt xs i c
+    → IsStrictlyIncreasing (insert xs i c)
 rising-insert xs i c up fits k inside = at (cases_lt k i) (cases_lt (suc k) i)
   where
     within : i ≤ length xs
@@ -183,14 +189,16 @@ rising-insert xs i c up fits k inside = at (cases_lt k i) (cases_lt (suc k) i)
             (rises xs (k - 1) k up (omega arith) (omega (arith, long, inside)))))
 
 -- where there is room, it is a set
-pub insert-set : (xs : List ℕ) (i c : ℕ) → IsNodeSet xs → FitsAt xs i c → length xs < most_nodes → IsNodeSet (insert xs i c)
+pub insert-set : (xs : List ℕ) (i c : ℕ) → IsNodeSet xs → FitsAt xs i c → length xs < most_nodes
+    → IsNodeSet (insert xs i c)
 insert-set xs i c s fits room = record {
   rising = rising-insert xs i c s.rising fits;
   fits = omega (arith, room, length-insert xs i c fits.inside);
 }
 
 -- the set without a node
-pub without_node-there : (xs : List ℕ) (i c : ℕ) → IsStrictlyIncreasing xs → StandsAt xs i c → remove xs i ≡ without_node xs c
+pub without_node-there : (xs : List ℕ) (i c : ℕ) → IsStrictlyIncreasing xs → StandsAt xs i c → remove xs i
+    ≡ without_node xs c
 without_node-there xs i c up at =
     sym (filter_other (λ m. not (m == c)) xs i at.inside (ap not (eq-eqb _ _ at.is))
     (λ k ne l. ap not (ne_eqb _ _ (differs k ne l))))
@@ -222,7 +230,8 @@ without_node-set xs c s = record {
 }
 
 -- the place of a node
-pub position-there : (xs : List ℕ) (i c : ℕ) → IsStrictlyIncreasing xs → StandsAt xs i c → position (λ m. m == c) xs ≡ Some i
+pub position-there : (xs : List ℕ) (i c : ℕ) → IsStrictlyIncreasing xs → StandsAt xs i c → position (λ m. m == c) xs
+    ≡ Some i
 position-there xs i c up at = rw (first, lt-ltb _ _ at.inside) refl
   where
     first : position_or_len (λ m. m == c) xs ≡ i
@@ -260,7 +269,8 @@ next_same false true above all h = refl
 
 -- the nodes below, the node and those above are the nodes and the node
 parted : (xs : List ℕ) (c d : ℕ)
-    → (set_of (filter (λ m. nat_lt m c) xs) d || ((c == d) || set_of (filter (λ m. nat_lt c m) xs) d)) ≡ (set_of xs d || (c == d))
+    → (set_of (filter (λ m. nat_lt m c) xs) d || ((c == d) || set_of (filter (λ m. nat_lt c m) xs) d))
+    ≡ (set_of xs d || (c == d))
 parted [] c d = or-false (c == d)
 parted (x ∷ xs) c d =
     elim (cases_lt x c) [

@@ -70,13 +70,15 @@ spelled-names [] names = tt
 spelled-names (x ∷ xs) names = (All-head IsName x xs names, spelled-names xs (All-tail IsName x xs names))
 
 -- a printed set is spelled
-pub list_of-spells : (nodes : List ℕ) → 0 < length nodes → IsNodeSet nodes → All IsName nodes → SpellsNodes (list_of nodes) nodes
+pub list_of-spells : (nodes : List ℕ) → 0 < length nodes → IsNodeSet nodes → All IsName nodes
+    → SpellsNodes (list_of nodes) nodes
 list_of-spells [] some set names = absurd (omega arith)
 list_of-spells (x ∷ xs) some set names = record {
   listed = record {
     names = x ∷ xs;
     spelled =
-        subst (λ (ps : List (List ℕ)). AllZip SpellsText ps (x ∷ xs)) (sym (parts_of-list_of x xs names)) (spelled-names (x ∷ xs) names);
+        subst (λ (ps : List (List ℕ)). AllZip SpellsText ps (x ∷ xs)) (sym (parts_of-list_of x xs names))
+        (spelled-names (x ∷ xs) names);
     rising = set.rising;
     named = λ c. refl;
   };

@@ -44,7 +44,8 @@ after_first-parts node digits t =
     ∙ drop-append-add node (dot ∷ digits) 1
 
 -- digits behind the first dot that spell no serial refuse the whole
-pub bad_serial-split : (bytes node digits : List ℕ) → node ≡ before_first is_dot bytes → digits ≡ after_first is_dot bytes
+pub bad_serial-split : (bytes node digits : List ℕ) → node ≡ before_first is_dot bytes → digits
+    ≡ after_first is_dot bytes
     → IsText node → ((n : ℕ) → SpellsSerial digits n → ⊥) → RefusesPid bytes BadSerial
 bad_serial-split bytes node digits node_is digits_is t none = (rw (← node_is) t, refused)
   where

@@ -34,7 +34,8 @@ place_in-below k [] fits d = one-le-pow k 256 (omega arith)
 place_in-below zero (b ∷ bs) fits d = absurd (omega arith)
 place_in-below (suc k) (b ∷ bs) fits d =
     let rest : place_in k bs < 256 ^ k = place_in-below k bs (omega arith) d.2 in
-    let below : b * 256 ^ k + place_in k bs < 256 * 256 ^ k + 0 = lesser_digit (256 ^ k) b 256 (place_in k bs) 0 d.1 rest in
+    let below : b * 256 ^ k + place_in k bs < 256 * 256 ^ k + 0 = lesser_digit (256 ^ k) b 256 (place_in k bs) 0 d.1
+    rest in
     let unit : 256 ^ suc k ≡ 256 * 256 ^ k = pow-succ' 256 k in
     omega (arith, place_in-suc k b bs, below, unit)
 
@@ -71,7 +72,12 @@ slice_cmp-place_in (suc k) [] (y ∷ ys) xs_fit ys_fit xs_digits ys_digits =
 slice_cmp-place_in (suc k) (x ∷ xs) [] xs_fit ys_fit xs_digits ys_digits =
     nat_cmp_is (place_in (suc k) (x ∷ xs)) 0 Greater (place_in-above k x xs xs_digits.0)
 slice_cmp-place_in (suc k) (x ∷ xs) (y ∷ ys) xs_fit ys_fit xs_digits ys_digits =
-    rw (place_in-suc k x xs, place_in-suc k y ys, slice_cmp-place_in k xs ys (omega arith) (omega arith) xs_digits.2 ys_digits.2)
+    rw (
+      place_in-suc k x xs,
+      place_in-suc k y ys,
+      slice_cmp-place_in k xs ys (omega arith) (omega arith) xs_digits.2
+          ys_digits.2,
+    )
     (digits_decide (256 ^ k) x y (place_in k xs) (place_in k ys) (place_in-below k xs (omega arith) xs_digits.2)
     (place_in-below k ys (omega arith) ys_digits.2) (nat_cmp x y) refl)
 

@@ -61,7 +61,8 @@ serial-digits ds all some first fits =
     record { written = written; low = serial-low (digits_value 10 ds) ds written first; high = fits }
 
 -- what spells a serial is all digits, and the serial is their value
-serial-value : (ds : List ℕ) (n : ℕ) → SpellsSerial ds n → AllDigits 10 ds × (0 < length ds) × (digits_value 10 ds < 2 ^ 32)
+serial-value : (ds : List ℕ) (n : ℕ) → SpellsSerial ds n → AllDigits 10 ds × (0 < length ds)
+    × (digits_value 10 ds < 2 ^ 32)
 serial-value ds n s =
     let small : n < 2 ^ 64 = serial-small ds n s in
     let value : digits_value 10 (decimal n) < 2 ^ 32 = rw (digits_value-decimal digits_model n small) (s.high) in

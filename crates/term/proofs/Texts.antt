@@ -39,7 +39,8 @@ AllDigits-text : (bs : List ℕ) → IsText bs → AllDigits bs
 AllDigits-text bs t = AllDigits-allowed bs (list_all-from_AllPass is_allowed bs t.allowed)
 
 -- the order of the numbers is the byte order of the texts
-pub nat_cmp-text_of : (xs ys : List ℕ) → IsText xs → IsText ys → nat_cmp (text_of xs) (text_of ys) ≡ slice_cmp nat_cmp xs ys
+pub nat_cmp-text_of : (xs ys : List ℕ) → IsText xs → IsText ys → nat_cmp (text_of xs) (text_of ys)
+    ≡ slice_cmp nat_cmp xs ys
 nat_cmp-text_of xs ys t u =
     sym (slice_cmp-place_in longest xs ys t.fits u.fits (AllDigits-text xs t) (AllDigits-text ys u))
 

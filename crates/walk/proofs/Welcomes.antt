@@ -21,9 +21,11 @@ LoneAlone o w = (a c : ℕ) → IsUp o w a → (w.node a).replica.joined ≡ fal
 pub lone_alone : (o : Opening) (w : World) → Replicas o w → LoneAlone o w
 lone_alone o w h a c up lone member =
     let fact : (w.node a).replica ≡ replica_of
-    (if Invariants.is_pending o w a then old (Invariants.standing_at o w) a else (Invariants.standing_at o w).registry) a =
+    (if Invariants.is_pending o w a then old (Invariants.standing_at o w) a else (Invariants.standing_at o w).registry)
+    a =
     h.facts a up in
-    alone (if Invariants.is_pending o w a then old (Invariants.standing_at o w) a else (Invariants.standing_at o w).registry)
+    alone (if Invariants.is_pending o w a then old (Invariants.standing_at o w) a else
+    (Invariants.standing_at o w).registry)
     (ap (λ (v : Replica). v.joined) (sym fact) ∙ lone) (ap (λ (v : Replica). v.members c) (sym fact) ∙ member)
   where
     alone : (r : Registry) → r.joined a ≡ false → (replica_of r a).members c ≡ true → c ≡ a

@@ -17,7 +17,8 @@ left xs ys zs b set same last is =
 
 left_there : (c : goal.After-remove) → (0 < length c.args.nodes.now) × (c.remove.new.self ≡ others_of c.args.nodes.now)
 left_there c =
-    left c.args.nodes.now c.copy-rest.result c.remove.new.self c.in-Some.boss.now c.as_slice.ensures.set c.copy-rest.ensures
+    left c.args.nodes.now c.copy-rest.result c.remove.new.self c.in-Some.boss.now c.as_slice.ensures.set
+    c.copy-rest.ensures
     (rw c.as_slice.ensures.nodes at c.in-Some.ensures.value) c.remove.ensures.others
 
 none_there : (c : goal.In_default) → c.args.nodes.now ≡ []

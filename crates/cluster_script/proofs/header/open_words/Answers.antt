@@ -11,7 +11,10 @@ items nodes = nodes.items
 
 pub returns-in-Ok : goal.returns-in-Ok
 returns-in-Ok c =
-    opened_words c.start.result (map now c.args.words.now) (map now c.in-Some.texts.now) c.in-Ok.nodes.items c.deref.result.now
-    (cluster_texts-behind c.args.words.now c.in-Some.word.now c.in-Some.texts.now c.ne.result c.in-Some.ensures.cases.0 c.ne.ensures c.if-ne.false)
-    (subst (λ (f : Result (Vec NodeName Global) TextFault). ReadsTexts (map now c.in-Some.texts.now) (made_of items f)) c.in-Ok.is c.in_ok-nodes.ensures)
+    opened_words c.start.result (map now c.args.words.now) (map now c.in-Some.texts.now) c.in-Ok.nodes.items
+    c.deref.result.now
+    (cluster_texts-behind c.args.words.now c.in-Some.word.now c.in-Some.texts.now c.ne.result c.in-Some.ensures.cases.0
+    c.ne.ensures c.if-ne.false)
+    (subst (λ (f : Result (Vec NodeName Global) TextFault). ReadsTexts (map now c.in-Some.texts.now) (made_of items f))
+    c.in-Ok.is c.in_ok-nodes.ensures)
     c.deref.ensures.value c.start.ensures

@@ -16,5 +16,6 @@ returns-in-Err c =
 
 pub loop-text-preserved : goal.loop-text-preserved
 loop-text-preserved c =
-    AllSpell-more c.args.texts.now c.loop-text.text-index _ c.loop-text.nodes.items c.push.new.self.items c.in-Ok.node c.loop-text-test.true c.loop-text.invariant c.in-Ok.ensures
+    AllSpell-more c.args.texts.now c.loop-text.text-index _ c.loop-text.nodes.items c.push.new.self.items c.in-Ok.node
+    c.loop-text-test.true c.loop-text.invariant c.in-Ok.ensures
     c.in_ok-push-in-Ok.ensures.items

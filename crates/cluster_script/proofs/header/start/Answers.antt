@@ -6,5 +6,10 @@ use Rattle.cluster_script.proofs.header.start.Goals as goal
 
 pub returns-in-Ok : goal.returns-in-Ok
 returns-in-Ok c =
-    let e = opening_of-named c.args.nodes.now c.in-Ok.world c.in-Ok.ensures.nodes in
-    (c.args.nodes.now, sym (started_Ok c.args.nodes.now c.in-Ok.ensures.ok), e, c.in-Ok.ensures.world ∙ ap opening_world e)
+    let e = opening_of-named c.args.nodes.now c.in-Ok.world c.in-Ok.ensures.nodes in (
+      c.args.nodes.now,
+      sym (started_Ok c.args.nodes.now c.in-Ok.ensures.ok),
+      e,
+      c.in-Ok.ensures.world
+          ∙ ap opening_world e,
+    )

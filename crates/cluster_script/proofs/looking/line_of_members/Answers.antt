@@ -7,10 +7,12 @@ use Rattle.cluster_script.proofs.looking.line_of_members.Goals as goal
 
 pub returns-in_default : goal.returns-in_default
 returns-in_default c =
-    IsShown-none c.args.world.now c.args.node.now (members_of c.args.world.now c.args.node.now) (sym c.in_default.ensures.here)
+    IsShown-none c.args.world.now c.args.node.now (members_of c.args.world.now c.args.node.now)
+    (sym c.in_default.ensures.here)
 
 pub returns : goal.returns
 returns c =
-    IsShown-members c.args.world.now c.args.node.now c.in-Some.members.now (string_bytes c.in_ok-members_line.field-0) (sym c.in-Some.ensures.here)
+    IsShown-members c.args.world.now c.args.node.now c.in-Some.members.now (string_bytes c.in_ok-members_line.field-0)
+    (sym c.in-Some.ensures.here)
     c.in-Some.ensures.running c.as_slice.ensures.set c.in-Some.ensures.within c.in-Some.ensures.members
     (c.in_ok-members_line.ensures ∙ ap (λ (xs : List ℕ). output_line (MembersAre xs)) c.as_slice.ensures.nodes)

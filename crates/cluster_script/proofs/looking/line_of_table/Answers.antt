@@ -8,10 +8,12 @@ use Rattle.cluster_script.proofs.looking.line_of_table.Goals as goal
 
 pub returns-in_default : goal.returns-in_default
 returns-in_default c =
-    IsShown-none c.args.world.now c.args.node.now (table_of c.args.world.now c.args.node.now) (sym c.in_default.ensures.here)
+    IsShown-none c.args.world.now c.args.node.now (table_of c.args.world.now c.args.node.now)
+    (sym c.in_default.ensures.here)
 
 pub returns : goal.returns
 returns c =
-    IsShown-table c.args.world.now c.args.node.now c.in_ok-pairs.pairs.items (string_bytes c.in_ok-table_line.field-0) (sym c.in-Some.ensures.here) c.in-Some.ensures.running
+    IsShown-table c.args.world.now c.args.node.now c.in_ok-pairs.pairs.items (string_bytes c.in_ok-table_line.field-0)
+    (sym c.in-Some.ensures.here) c.in-Some.ensures.running
     (c.in_ok-pairs.ensures.all ∙ c.in-Some.ensures.table)
     (c.in_ok-table_line.ensures ∙ ap (λ (t : Table). output_line (TableIs t)) c.deref.ensures.value)

@@ -17,32 +17,41 @@ returns-in_err-write_answers-in-Ok g c =
     let p = err_from_is_err_and c.from_residual.result c.from_residual.ensures.1 in
     let e = ap (λ (xs : List Answer). answers_text (map answer_of xs)) c.deref.ensures.value
     ∙ text-accepted c.args.world.now c.play.new.self c.args.event.now c.in-Ok.answers.items c.in-Ok.ensures.ok in
-    PlaysOrStops-err c.args.world.now c.play.new.self (Ok (Play (event_of c.args.event.now))) (g.W.Write.contents c.args.writer.now)
+    PlaysOrStops-err c.args.world.now c.play.new.self (Ok (Play (event_of c.args.event.now)))
+    (g.W.Write.contents c.args.writer.now)
     (g.W.Write.contents c.write_answers.new.writer) c.from_residual.result p.0 p.1
-    (subst (λ (t : List ℕ). AppendsPart (g.W.Write.contents c.args.writer.now) (g.W.Write.contents c.write_answers.new.writer) t) e
+    (subst (λ (t : List ℕ). AppendsPart (g.W.Write.contents c.args.writer.now)
+    (g.W.Write.contents c.write_answers.new.writer) t) e
     c.in_err-write_answers-in-Ok.ensures)
 
 pub returns-in_ok-write_answers-in-Ok : goal.returns-in_ok-write_answers-in-Ok
 returns-in_ok-write_answers-in-Ok g c =
-    play-accepted c.args.world.now c.play.new.self c.args.event.now c.in-Ok.answers.items (g.W.Write.contents c.args.writer.now)
+    play-accepted c.args.world.now c.play.new.self c.args.event.now c.in-Ok.answers.items
+    (g.W.Write.contents c.args.writer.now)
     (g.W.Write.contents c.write_answers.new.writer) c.in-Ok.ensures.ok
-    (subst (λ (xs : List Answer). Appends (g.W.Write.contents c.args.writer.now) (g.W.Write.contents c.write_answers.new.writer) (answers_text (map answer_of xs)))
+    (subst (λ (xs : List Answer). Appends (g.W.Write.contents c.args.writer.now)
+    (g.W.Write.contents c.write_answers.new.writer) (answers_text (map answer_of xs)))
     c.deref.ensures.value c.in_ok-write_answers-in-Ok.ensures)
 
 pub returns-in_err-write_error-in-Err : goal.returns-in_err-write_error-in-Err
 returns-in_err-write_error-in-Err g c =
-    let p = err_from_is_err_and c.from_residual-in_err-write_error-in-Err.result c.from_residual-in_err-write_error-in-Err.ensures.1 in
+    let p = err_from_is_err_and c.from_residual-in_err-write_error-in-Err.result
+    c.from_residual-in_err-write_error-in-Err.ensures.1 in
     let w = c.in-Some.ensures in
     let e = ap error_line w.2 ∙ text-refused c.args.world.now c.args.event.now w.0 (c.in-Err.ensures.refused ∙ w.1) in
-    PlaysOrStops-err c.args.world.now c.play.new.self (Ok (Play (event_of c.args.event.now))) (g.W.Write.contents c.args.writer.now)
+    PlaysOrStops-err c.args.world.now c.play.new.self (Ok (Play (event_of c.args.event.now)))
+    (g.W.Write.contents c.args.writer.now)
     (g.W.Write.contents c.write_error.new.writer) c.from_residual-in_err-write_error-in-Err.result p.0 p.1
-    (subst (λ (t : List ℕ). AppendsPart (g.W.Write.contents c.args.writer.now) (g.W.Write.contents c.write_error.new.writer) t) e
+    (subst (λ (t : List ℕ). AppendsPart (g.W.Write.contents c.args.writer.now)
+    (g.W.Write.contents c.write_error.new.writer) t) e
     c.in_err-write_error-in-Err.ensures)
 
 pub returns-in_ok-write_error-in-Err : goal.returns-in_ok-write_error-in-Err
 returns-in_ok-write_error-in-Err g c =
     let w = c.in-Some.ensures in
     play-refused c.args.world.now c.play.new.self c.args.event.now w.0 (g.W.Write.contents c.args.writer.now)
-    (g.W.Write.contents c.write_error.new.writer) (c.in-Err.ensures.refused ∙ w.1) (c.in-Err.ensures.unchanged (not_memory c.in-Err.refusal w.0 w.1))
-    (subst (λ (t : List ℕ). Appends (g.W.Write.contents c.args.writer.now) (g.W.Write.contents c.write_error.new.writer) t) (ap error_line w.2)
+    (g.W.Write.contents c.write_error.new.writer) (c.in-Err.ensures.refused ∙ w.1)
+    (c.in-Err.ensures.unchanged (not_memory c.in-Err.refusal w.0 w.1))
+    (subst (λ (t : List ℕ). Appends (g.W.Write.contents c.args.writer.now) (g.W.Write.contents c.write_error.new.writer)
+    t) (ap error_line w.2)
     c.in_ok-write_error-in-Err.ensures)

@@ -13,14 +13,17 @@ use Rattle.cluster_script.proofs.script.play_task.Goals as goal
 pub returns-in_err-write_error-in-Err : goal.returns-in_err-write_error-in-Err
 returns-in_err-write_error-in-Err g c =
     let p = err_from_is_err_and c.from_residual.result c.from_residual.ensures.1 in
-    PlaysOrStops-err c.args.world.now c.args.world.now (asked_by c.args.task) (g.W.Write.contents c.args.writer.now) (g.W.Write.contents c.write_error.new.writer)
+    PlaysOrStops-err c.args.world.now c.args.world.now (asked_by c.args.task) (g.W.Write.contents c.args.writer.now)
+    (g.W.Write.contents c.write_error.new.writer)
     c.from_residual.result p.0 p.1
-    (subst (λ (t : List ℕ). AppendsPart (g.W.Write.contents c.args.writer.now) (g.W.Write.contents c.write_error.new.writer) t)
+    (subst (λ (t : List ℕ). AppendsPart (g.W.Write.contents c.args.writer.now)
+    (g.W.Write.contents c.write_error.new.writer) t)
     (ap error_line c.word.ensures ∙ text-fault c.args.world.now c.in-Err.fault
     ∙ ap (λ (t : Result Task LineFault). shown_on c.args.world.now (asked_by t)) (sym c.in-Err.is))
     c.in_err-write_error-in-Err.ensures)
 
 pub returns-in-Ok-Settle : goal.returns-in-Ok-Settle
 returns-in-Ok-Settle g c =
-    subst (λ (t : Result Task LineFault). PlaysOrStops c.args.world.now c.settle.new.world (asked_by t) (g.W.Write.contents c.args.writer.now) (g.W.Write.contents c.settle.new.writer) c.settle.result)
+    subst (λ (t : Result Task LineFault). PlaysOrStops c.args.world.now c.settle.new.world (asked_by t)
+    (g.W.Write.contents c.args.writer.now) (g.W.Write.contents c.settle.new.writer) c.settle.result)
     (sym (c.in-Ok-Settle.is ∙ ap (λ (t : Task). Ok t) c.in-Ok-Settle.field-0-is)) c.settle.ensures

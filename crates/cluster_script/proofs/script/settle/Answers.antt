@@ -11,8 +11,10 @@ loop-init g c = Settles-start c.args.world.now (g.W.Write.contents c.args.writer
 
 pub returns-in_default : goal.returns-in_default
 returns-in_default g c =
-    settle-ended c.loop.counter c.args.world.now c.loop.world (g.W.Write.contents c.args.writer.now) (g.W.Write.contents c.loop.writer) c.loop.invariant
-    (none_waits c.loop.counter c.args.world.now c.loop.world (g.W.Write.contents c.args.writer.now) (g.W.Write.contents c.loop.writer) c.loop.invariant c.in_default.ensures)
+    settle-ended c.loop.counter c.args.world.now c.loop.world (g.W.Write.contents c.args.writer.now)
+    (g.W.Write.contents c.loop.writer) c.loop.invariant
+    (none_waits c.loop.counter c.args.world.now c.loop.world (g.W.Write.contents c.args.writer.now)
+    (g.W.Write.contents c.loop.writer) c.loop.invariant c.in_default.ensures)
     true (settled-waits None c.loop.world c.in_default.ensures)
     (g.W.Write.contents c.end_settle.new.writer) c.end_settle.result c.end_settle.ensures.text c.end_settle.ensures.fine
 
@@ -21,19 +23,25 @@ returns-in_err-deliver g c =
     let p = err_from_is_err_and c.from_residual.result c.from_residual.ensures.1 in
     PlaysOrStops-err c.args.world.now c.deliver.new.world (Ok Settle) (g.W.Write.contents c.args.writer.now)
     (g.W.Write.contents c.deliver.new.writer) c.from_residual.result p.0 p.1
-    (settle-stopped c.loop.counter c.args.world.now c.loop.world (g.W.Write.contents c.args.writer.now) (g.W.Write.contents c.loop.writer) c.loop.invariant
+    (settle-stopped c.loop.counter c.args.world.now c.loop.world (g.W.Write.contents c.args.writer.now)
+    (g.W.Write.contents c.loop.writer) c.loop.invariant
     _ c.in-Some.ensures c.loop-test.true (g.W.Write.contents c.deliver.new.writer) c.in_err-deliver.ensures)
 
 pub loop-preserved : goal.loop-preserved
 loop-preserved g c =
     let d = c.in_ok-deliver.ensures in
-    Settles-next c.loop.counter c.args.world.now c.loop.world (g.W.Write.contents c.args.writer.now) (g.W.Write.contents c.loop.writer) c.loop.invariant
+    Settles-next c.loop.counter c.args.world.now c.loop.world (g.W.Write.contents c.args.writer.now)
+    (g.W.Write.contents c.loop.writer) c.loop.invariant
     _ c.in-Some.ensures c.loop-test.true c.deliver.new.world (g.W.Write.contents c.deliver.new.writer) d.0 d.1 d.2
 
 pub returns : goal.returns
 returns g c =
-    settle-ended c.loop.counter c.args.world.now c.loop.world (g.W.Write.contents c.args.writer.now) (g.W.Write.contents c.loop.writer) c.loop.invariant
-    (none_left c.loop.counter c.args.world.now c.loop.world (g.W.Write.contents c.args.writer.now) (g.W.Write.contents c.loop.writer) c.loop.invariant c.loop-test.false)
+    settle-ended c.loop.counter c.args.world.now c.loop.world (g.W.Write.contents c.args.writer.now)
+    (g.W.Write.contents c.loop.writer) c.loop.invariant
+    (none_left c.loop.counter c.args.world.now c.loop.world (g.W.Write.contents c.args.writer.now)
+    (g.W.Write.contents c.loop.writer) c.loop.invariant c.loop-test.false)
     c.is_none.result
-    (settled-waits c.waiting-2.result c.loop.world c.waiting-2.ensures ∙ ap settle_end (is_none-by c.waiting-2.result c.is_none.result c.is_none.ensures))
-    (g.W.Write.contents c.end_settle-2.new.writer) c.end_settle-2.result c.end_settle-2.ensures.text c.end_settle-2.ensures.fine
+    (settled-waits c.waiting-2.result c.loop.world c.waiting-2.ensures
+    ∙ ap settle_end (is_none-by c.waiting-2.result c.is_none.result c.is_none.ensures))
+    (g.W.Write.contents c.end_settle-2.new.writer) c.end_settle-2.result c.end_settle-2.ensures.text
+    c.end_settle-2.ensures.fine

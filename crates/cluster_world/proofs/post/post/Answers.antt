@@ -10,16 +10,20 @@ pub loop-receiver-preserved : goal.loop-receiver-preserved
 loop-receiver-preserved c = record {
   nodes = c.send.ensures.nodes ∙ c.loop-receiver.invariant.nodes;
   posted = c.in_default.ensures.ok
-      ∙ ap (λ (w : Links Letter). posted c.args.sender.now (only_to c.in-Some.receiver c.in-Some.letter) w) c.loop-receiver.invariant.posted
-      ∙ sym (posted-push c.args.sender.now c.loop-receiver.yielded (c.in-Some.receiver, c.in-Some.letter) (seen c.args.links.now));
-  left = others_joined c.args.sender.now c.args.links.now (c.in-Some.receiver, c.in-Some.letter) _ c.next.new.self.rest.items
+      ∙ ap (λ (w : Links Letter). posted c.args.sender.now (only_to c.in-Some.receiver c.in-Some.letter) w)
+      c.loop-receiver.invariant.posted
+      ∙ sym (posted-push c.args.sender.now c.loop-receiver.yielded (c.in-Some.receiver, c.in-Some.letter)
+      (seen c.args.links.now));
+  left = others_joined c.args.sender.now c.args.links.now (c.in-Some.receiver, c.in-Some.letter) _
+      c.next.new.self.rest.items
       c.in-Some.ensures.steps.0 c.loop-receiver.invariant.left;
 }
 
 pub returns-in-Err-clause-err : goal.returns-in-Err-clause-err
 returns-in-Err-clause-err c =
     c.from.ensures
-    ∙ only_memory c.in-Err.unsent.fault c.args.sender.now c.in-Some.receiver c.args.links.now c.loop-receiver.links c.loop-receiver.invariant.nodes
+    ∙ only_memory c.in-Err.unsent.fault c.args.sender.now c.in-Some.receiver c.args.links.now c.loop-receiver.links
+    c.loop-receiver.invariant.nodes
     (first_joined c.args.sender.now c.args.links.now (c.in-Some.receiver, c.in-Some.letter) _ c.next.new.self.rest.items
     c.in-Some.ensures.steps.0 c.loop-receiver.invariant.left) c.in-Err.ensures.err
 

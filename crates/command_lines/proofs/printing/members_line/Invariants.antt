@@ -5,4 +5,5 @@ use Rattle.command_lines.proofs.printing.members_line.Given as goal
 
 -- the line has the members so far
 abbrev pub invariant-loop-member : goal.invariant-loop-member
-invariant-loop-member l = string_bytes l.line ≡ codes "members" ++ flat_map (λ a. 32 ∷ bytes_of a) (take l.member-index l.members)
+invariant-loop-member l = string_bytes l.line ≡ codes "members"
+    ++ flat_map (λ a. 32 ∷ bytes_of a) (take l.member-index l.members)

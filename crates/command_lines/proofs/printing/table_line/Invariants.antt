@@ -6,4 +6,5 @@ use Rattle.command_lines.proofs.printing.table_line.Given as goal
 
 -- the line has the pairs so far
 abbrev pub invariant-loop-pair : goal.invariant-loop-pair
-invariant-loop-pair l = string_bytes l.line ≡ codes "table" ++ flat_map (λ e. 32 ∷ bytes_of e.name ++ 61 ∷ pid_text e.owner) (take l.pair-index l.table)
+invariant-loop-pair l = string_bytes l.line ≡ codes "table"
+    ++ flat_map (λ e. 32 ∷ bytes_of e.name ++ 61 ∷ pid_text e.owner) (take l.pair-index l.table)

@@ -7,5 +7,9 @@ pub loop-preserved : goal.loop-preserved
 loop-preserved g c =
     let i = c.loop.invariant in
     let e = c.in_ok-count.ensures in
-    let n : ℕ = c.in_ok-count.count in
-    (i.0 ++ take n c.loop.rest.now, written-more c.args.text.now i.0 c.loop.rest.now n e.0 i.1, Appends-trans _ _ _ i.0 _ i.2 e.1)
+    let n : ℕ = c.in_ok-count.count in (
+      i.0 ++ take n c.loop.rest.now,
+      written-more c.args.text.now i.0 c.loop.rest.now n e.0 i.1,
+      Appends-trans _ _ _ i.0
+          _ i.2 e.1,
+    )

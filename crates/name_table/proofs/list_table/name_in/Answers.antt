@@ -9,6 +9,7 @@ use Rattle.name_table.proofs.list_table.name_in.Goals as goal
 
 pub returns-clause-some : goal.returns-clause-some
 returns-clause-some c =
-    let nothing = ap (λ (t : Table). name_of c.args.owner.now t) (sym (drop_all c.loop-pair.pair-index c.args.pairs.now c.loop-pair-test.false))
+    let nothing = ap (λ (t : Table). name_of c.args.owner.now t)
+    (sym (drop_all c.loop-pair.pair-index c.args.pairs.now c.loop-pair-test.false))
     ∙ c.loop-pair.invariant in
     ap (λ (o : Option Text). is_some o) nothing ∙ is_some-name_of c.args.owner.now c.args.pairs.now

@@ -16,24 +16,29 @@ pub returns-then-stands_at-clause-ok : goal.returns-then-stands_at-clause-ok
 returns-then-stands_at-clause-ok g c =
     put_stands c.args.name c.args.owner c.args.pairs.now.items c.place_of-at.result
     (c.place_of-at.ensures ∙ ap (place c.args.name) c.as_slice.ensures.value)
-    (ap (λ (t : Table). stands c.args.name t c.place_of-at.result) (sym c.as_slice-2.ensures.value) ∙ sym c.stands_at.ensures ∙ c.if-stands_at.true)
+    (ap (λ (t : Table). stands c.args.name t c.place_of-at.result) (sym c.as_slice-2.ensures.value)
+    ∙ sym c.stands_at.ensures ∙ c.if-stands_at.true)
 
 pub returns-then-stands_at-clause-rising : goal.returns-then-stands_at-clause-rising
 returns-then-stands_at-clause-rising g c =
     ap is_rising (put_stands c.args.name c.args.owner c.args.pairs.now.items c.place_of-at.result
     (c.place_of-at.ensures ∙ ap (place c.args.name) c.as_slice.ensures.value)
-    (ap (λ (t : Table). stands c.args.name t c.place_of-at.result) (sym c.as_slice-2.ensures.value) ∙ sym c.stands_at.ensures ∙ c.if-stands_at.true))
+    (ap (λ (t : Table). stands c.args.name t c.place_of-at.result) (sym c.as_slice-2.ensures.value)
+    ∙ sym c.stands_at.ensures ∙ c.if-stands_at.true))
     ∙ is_rising-put c.args.name c.args.owner c.args.pairs.now.items c.requires
 
 pub returns-in_ok-insert-clause-ok : goal.returns-in_ok-insert-clause-ok
 returns-in_ok-insert-clause-ok g c =
     c.in_ok-insert.ensures.items ∙ put_absent c.args.name c.args.owner c.args.pairs.now.items c.place_of-at.result
     (c.place_of-at.ensures ∙ ap (place c.args.name) c.as_slice.ensures.value)
-    (ap (λ (t : Table). stands c.args.name t c.place_of-at.result) (sym c.as_slice-2.ensures.value) ∙ sym c.stands_at.ensures ∙ c.if-stands_at.false)
+    (ap (λ (t : Table). stands c.args.name t c.place_of-at.result) (sym c.as_slice-2.ensures.value)
+    ∙ sym c.stands_at.ensures ∙ c.if-stands_at.false)
 
 pub returns-in_ok-insert-clause-rising : goal.returns-in_ok-insert-clause-rising
 returns-in_ok-insert-clause-rising g c =
-    ap is_rising (c.in_ok-insert.ensures.items ∙ put_absent c.args.name c.args.owner c.args.pairs.now.items c.place_of-at.result
+    ap is_rising (c.in_ok-insert.ensures.items ∙ put_absent c.args.name c.args.owner c.args.pairs.now.items
+    c.place_of-at.result
     (c.place_of-at.ensures ∙ ap (place c.args.name) c.as_slice.ensures.value)
-    (ap (λ (t : Table). stands c.args.name t c.place_of-at.result) (sym c.as_slice-2.ensures.value) ∙ sym c.stands_at.ensures ∙ c.if-stands_at.false))
+    (ap (λ (t : Table). stands c.args.name t c.place_of-at.result) (sym c.as_slice-2.ensures.value)
+    ∙ sym c.stands_at.ensures ∙ c.if-stands_at.false))
     ∙ is_rising-put c.args.name c.args.owner c.args.pairs.now.items c.requires

@@ -8,7 +8,8 @@ pub loop-part-init : goal.loop-part-init
 loop-part-init c =
     rw (c.into_iter-part-iterator.ensures.into_iter_gives)
     (read_none _ _ c.args.text.now c.split-part-items.result _
-    (YieldsList-from_str_split 44 c.args.text.now (omega arith) c.split-part-items.ensures.text c.split-part-items.ensures.has_more
+    (YieldsList-from_str_split 44 c.args.text.now (omega arith) c.split-part-items.ensures.text
+    c.split-part-items.ensures.has_more
     c.split-part-items.ensures.pattern)
     c.empty-nodes.ensures)
 
@@ -16,12 +17,14 @@ pub returns-in_err-node : goal.returns-in_err-node
 returns-in_err-node c =
     let p = err_from_is_err_and c.from_residual.result c.from_residual.ensures.1 in
     rw (p.1, p.2)
-    (read_fault _ _ c.args.text.now _ c.next.new.self c.in-Some.part _ _ _ c.loop-part.invariant c.in-Some.ensures.steps c.in_err-node.ensures)
+    (read_fault _ _ c.args.text.now _ c.next.new.self c.in-Some.part _ _ _ c.loop-part.invariant c.in-Some.ensures.steps
+    c.in_err-node.ensures)
 
 pub loop-part-preserved : goal.loop-part-preserved
 loop-part-preserved c =
     rw (c.is_err-is_over.ensures.value)
-    (read_more _ _ c.args.text.now _ _ c.in-Some.part c.in_ok-node.node _ _ _ c.insert.result c.loop-part.invariant c.in-Some.ensures.steps
+    (read_more _ _ c.args.text.now _ _ c.in-Some.part c.in_ok-node.node _ _ _ c.insert.result c.loop-part.invariant
+    c.in-Some.ensures.steps
     c.in_ok-node.ensures c.insert.ensures.inserted c.insert.ensures.set)
 
 pub returns-then-is_over : goal.returns-then-is_over

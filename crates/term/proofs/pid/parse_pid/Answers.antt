@@ -8,7 +8,8 @@ returns-in_default c =
     let whole : position_or_len is_dot c.args.text.now ≡ length c.args.text.now =
     c.in_default.ensures.byte (omega arith) (λ w o h. h) in
     let no_dot : length c.args.text.now ≤ position_or_len is_dot c.args.text.now = omega (arith, whole) in
-    bad_serial-whole c.args.text.now no_dot (rw (node_part-whole c.args.text.now no_dot) (c.in_ok-parse_node.ensures.text))
+    bad_serial-whole c.args.text.now no_dot (rw (node_part-whole c.args.text.now no_dot)
+    (c.in_ok-parse_node.ensures.text))
 
 pub returns-in-None : goal.returns-in-None
 returns-in-None c =

@@ -24,4 +24,5 @@ returns-clause-here g c =
 pub returns-clause-core : goal.returns-clause-core
 returns-clause-core g c =
     sym (ap (λ (k : Held). core_of c.args.node.now k.cores) (sym c.self.view_is)
-    ∙ (stands _ c.self.invariant c.args.node.now c.in_ok-place.place c.index.result.now (sym c.position.ensures ∙ c.in_ok-place.was) c.index.ensures).is)
+    ∙ (stands _ c.self.invariant c.args.node.now c.in_ok-place.place c.index.result.now
+    (sym c.position.ensures ∙ c.in_ok-place.was) c.index.ensures).is)

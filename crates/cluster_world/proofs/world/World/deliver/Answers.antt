@@ -13,34 +13,66 @@ use Rattle.cluster_world.proofs.world.World.deliver.Goals as goal
 pub returns-in_err-letter-clause-refused : goal.returns-in_err-letter-clause-refused
 returns-in_err-letter-clause-refused g c =
     let p = err_from_is_err_and c.from_residual.result c.from_residual.ensures.1 in
-    let refused : RefusedWith (refusal_on c.in_err-letter.field-0.0) (Deliver c.args.sender.now c.args.receiver.now) c.args.self.now =
-    subst (λ (k : Held). RefusedWith (refusal_on c.in_err-letter.field-0.0) (Deliver c.args.sender.now c.args.receiver.now) k) c.self.view_is
-    (refuses_on _ c.self.invariant c.args.sender.now c.args.receiver.now c.in_err-letter.field-0.0 c.in_err-letter.ensures.err) in
+    let refused : RefusedWith (refusal_on c.in_err-letter.field-0.0) (Deliver c.args.sender.now c.args.receiver.now)
+    c.args.self.now =
+    subst (λ (k : Held). RefusedWith (refusal_on c.in_err-letter.field-0.0)
+    (Deliver c.args.sender.now c.args.receiver.now) k) c.self.view_is
+    (refuses_on _ c.self.invariant c.args.sender.now c.args.receiver.now c.in_err-letter.field-0.0
+    c.in_err-letter.ensures.err) in
     rw (p.1, p.2) refused
 
 pub returns-clause-ok : goal.returns-clause-ok
 returns-clause-ok g c =
-    let off : Held = record { nodes = c.self.inside.nodes; cluster = c.self.inside.cluster; cores = c.self.inside.cores.items; links = c.deliver.new.self; history = c.self.inside.history.items } in
-    IfOk-weaker c.step.result _ _ (λ answers M. subst (λ (k : Held). Played (Deliver c.args.sender.now c.args.receiver.now) k c.step.new.self [] answers.items) c.self.view_is
+    let off : Held = record {
+      nodes = c.self.inside.nodes;
+      cluster = c.self.inside.cluster;
+      cores =
+          c.self.inside.cores.items;
+      links = c.deliver.new.self;
+      history = c.self.inside.history.items;
+    } in
+    IfOk-weaker c.step.result _ _ (λ answers M. subst
+    (λ (k : Held). Played (Deliver c.args.sender.now c.args.receiver.now) k c.step.new.self [] answers.items)
+    c.self.view_is
     (plays_delivery _ c.self.invariant c.args.sender.now c.args.receiver.now c.in_ok-letter.letter c.deliver.new.self
     c.in_ok-letter.ensures.known c.in_ok-letter.ensures.oldest c.in_ok-letter.ensures.ok c.in_ok-letter.ensures.nodes
     c.step.new.self answers.items
-    (subst (λ (f : ℕ). Moves c.args.receiver.now (FromPeer f c.in_ok-letter.letter) off c.step.new.self answers.items) c.copy.ensures M))) c.step.ensures.ok
+    (subst (λ (f : ℕ). Moves c.args.receiver.now (FromPeer f c.in_ok-letter.letter) off c.step.new.self answers.items)
+    c.copy.ensures M))) c.step.ensures.ok
 
 pub returns-clause-refused : goal.returns-clause-refused
 returns-clause-refused g c =
-    let off : Held = record { nodes = c.self.inside.nodes; cluster = c.self.inside.cluster; cores = c.self.inside.cores.items; links = c.deliver.new.self; history = c.self.inside.history.items } in
-    IfErr-weaker c.step.result _ _ (λ r F. subst (λ (k : Held). RefusedWith r (Deliver c.args.sender.now c.args.receiver.now) k) c.self.view_is
+    let off : Held = record {
+      nodes = c.self.inside.nodes;
+      cluster = c.self.inside.cluster;
+      cores =
+          c.self.inside.cores.items;
+      links = c.deliver.new.self;
+      history = c.self.inside.history.items;
+    } in
+    IfErr-weaker c.step.result _ _ (λ r F. subst (λ (k : Held). RefusedWith r
+    (Deliver c.args.sender.now c.args.receiver.now) k) c.self.view_is
     (refuses_delivery _ c.self.invariant c.args.sender.now c.args.receiver.now c.in_ok-letter.letter c.deliver.new.self
     c.in_ok-letter.ensures.known c.in_ok-letter.ensures.oldest c.in_ok-letter.ensures.ok c.in_ok-letter.ensures.nodes r
-    (subst (λ (f : ℕ). FailsAt r c.args.receiver.now (FromPeer f c.in_ok-letter.letter) off) c.copy.ensures F))) c.step.ensures.refused
+    (subst (λ (f : ℕ). FailsAt r c.args.receiver.now (FromPeer f c.in_ok-letter.letter) off) c.copy.ensures F)))
+    c.step.ensures.refused
 
 pub returns-clause-unchanged : goal.returns-clause-unchanged
 returns-clause-unchanged g c =
-    let off : Held = record { nodes = c.self.inside.nodes; cluster = c.self.inside.cluster; cores = c.self.inside.cores.items; links = c.deliver.new.self; history = c.self.inside.history.items } in
-    IfErr-weaker c.step.result _ _ (λ r F kept. absurd (never_kept _ c.self.invariant c.args.sender.now c.args.receiver.now c.in_ok-letter.letter
-    c.deliver.new.self c.in_ok-letter.ensures.known c.in_ok-letter.ensures.oldest c.in_ok-letter.ensures.ok c.in_ok-letter.ensures.nodes r
-    (subst (λ (f : ℕ). FailsAt r c.args.receiver.now (FromPeer f c.in_ok-letter.letter) off) c.copy.ensures F) kept)) c.step.ensures.refused
+    let off : Held = record {
+      nodes = c.self.inside.nodes;
+      cluster = c.self.inside.cluster;
+      cores =
+          c.self.inside.cores.items;
+      links = c.deliver.new.self;
+      history = c.self.inside.history.items;
+    } in
+    IfErr-weaker c.step.result _ _ (λ r F kept. absurd
+    (never_kept _ c.self.invariant c.args.sender.now c.args.receiver.now c.in_ok-letter.letter
+    c.deliver.new.self c.in_ok-letter.ensures.known c.in_ok-letter.ensures.oldest c.in_ok-letter.ensures.ok
+    c.in_ok-letter.ensures.nodes r
+    (subst (λ (f : ℕ). FailsAt r c.args.receiver.now (FromPeer f c.in_ok-letter.letter) off) c.copy.ensures F) kept))
+    c.step.ensures.refused
 
 pub step-requires : goal.step-requires
 step-requires g c =

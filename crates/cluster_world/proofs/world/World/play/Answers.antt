@@ -10,9 +10,11 @@ use Rattle.cluster_world.proofs.world.World.play.Goals as goal
 
 pub returns-in-At-clause-ok : goal.returns-in-At-clause-ok
 returns-in-At-clause-ok g c =
-    IfOk-weaker c.step.result _ _ (λ answers M. subst (λ (e : WorldEvent). Played e c.args.self.now c.step.new.self [] answers.items) (sym c.in-At.is)
+    IfOk-weaker c.step.result _ _ (λ answers M. subst
+    (λ (e : WorldEvent). Played e c.args.self.now c.step.new.self [] answers.items) (sym c.in-At.is)
     (plays_own c.args.self.now c.step.new.self c.in-At.node c.in-At.event answers.items c.step.ensures.whole
-    (subst (λ (e : NodeEvent). Moves c.in-At.node e c.args.self.now c.step.new.self answers.items) c.at_node.ensures M))) c.step.ensures.ok
+    (subst (λ (e : NodeEvent). Moves c.in-At.node e c.args.self.now c.step.new.self answers.items) c.at_node.ensures
+    M))) c.step.ensures.ok
 
 pub returns-in-At-clause-refused : goal.returns-in-At-clause-refused
 returns-in-At-clause-refused g c =
@@ -22,18 +24,23 @@ returns-in-At-clause-refused g c =
 
 pub returns-in-At-clause-agrees : goal.returns-in-At-clause-agrees
 returns-in-At-clause-agrees g c =
-    IfOk-weaker c.step.result _ _ (λ answers P. agrees_played c.args.event.now c.args.self.now c.step.new.self answers.items P)
+    IfOk-weaker c.step.result _ _ (λ answers P. agrees_played c.args.event.now c.args.self.now c.step.new.self
+    answers.items P)
     (returns-in-At-clause-ok g c)
 
 pub returns-in-At-clause-still_agrees : goal.returns-in-At-clause-still_agrees
 returns-in-At-clause-still_agrees g c =
-    IfErr-weaker c.step.result _ _ (λ r same kept. agrees_unchanged c.args.self.now c.step.new.self (same kept)) c.step.ensures.unchanged
+    IfErr-weaker c.step.result _ _ (λ r same kept. agrees_unchanged c.args.self.now c.step.new.self (same kept))
+    c.step.ensures.unchanged
 
 pub returns-in-Deliver-clause-agrees : goal.returns-in-Deliver-clause-agrees
 returns-in-Deliver-clause-agrees g c =
-    IfOk-weaker c.deliver.result _ _ (λ answers P. agrees_played c.args.event.now c.args.self.now c.deliver.new.self answers.items
-    (subst (λ (e : WorldEvent). Played e c.args.self.now c.deliver.new.self [] answers.items) (sym c.in-Deliver.is) P)) c.deliver.ensures.ok
+    IfOk-weaker c.deliver.result _ _ (λ answers P. agrees_played c.args.event.now c.args.self.now c.deliver.new.self
+    answers.items
+    (subst (λ (e : WorldEvent). Played e c.args.self.now c.deliver.new.self [] answers.items) (sym c.in-Deliver.is) P))
+    c.deliver.ensures.ok
 
 pub returns-in-Deliver-clause-still_agrees : goal.returns-in-Deliver-clause-still_agrees
 returns-in-Deliver-clause-still_agrees g c =
-    IfErr-weaker c.deliver.result _ _ (λ r same kept. agrees_unchanged c.args.self.now c.deliver.new.self (same kept)) c.deliver.ensures.unchanged
+    IfErr-weaker c.deliver.result _ _ (λ r same kept. agrees_unchanged c.args.self.now c.deliver.new.self (same kept))
+    c.deliver.ensures.unchanged

@@ -4,5 +4,7 @@ use Rattle.cluster_world.proofs.world.World.run.Goals as goal
 
 pub returns-clause-agrees : goal.returns-clause-agrees
 returns-clause-agrees g c = λ kept.
-    agrees (take c.play_all.result.played c.args.events.now) c.play_all.result.answers.items c.args.self.now c.play_all.new.self
-    (record { nodes = c.play_all.ensures.nodes; cluster = c.play_all.ensures.cluster }) (c.play_all.ensures.world kept) c.play_all.ensures.answers
+    agrees (take c.play_all.result.played c.args.events.now) c.play_all.result.answers.items c.args.self.now
+    c.play_all.new.self
+    (record { nodes = c.play_all.ensures.nodes; cluster = c.play_all.ensures.cluster }) (c.play_all.ensures.world kept)
+    c.play_all.ensures.answers

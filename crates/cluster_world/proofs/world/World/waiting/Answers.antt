@@ -6,4 +6,5 @@ use Rattle.cluster_world.proofs.world.World.waiting.Goals as goal
 
 pub returns : goal.returns
 returns g c =
-    subst (λ (k : Held). WaitsOn c.first_waiting.result k) c.self.view_is (waits _ c.self.invariant c.first_waiting.result c.first_waiting.ensures)
+    subst (λ (k : Held). WaitsOn c.first_waiting.result k) c.self.view_is
+    (waits _ c.self.invariant c.first_waiting.result c.first_waiting.ensures)

@@ -14,7 +14,8 @@ returns c bytes h =
           let l : length bytes ≤ 1024 = omega (arith, h.len, w.if-self-le-LONGEST_LINE.true) in
           record {
             text = ap (λ (p : Part). p.text.items) w.self-is
-                ∙ (w.in_ok-push.ensures.items ∙ (ap (λ (xs : List ℕ). xs ++ b ∷ []) h.text ∙ sym (take-push_all bytes b l)));
+                ∙ (w.in_ok-push.ensures.items ∙ (ap (λ (xs : List ℕ). xs ++ b ∷ []) h.text
+                ∙ sym (take-push_all bytes b l)));
             len = ap (λ (p : Part). p.len + 1) w.self-is ∙ (ap (λ (k : ℕ). k + 1) h.len ∙ sym n);
             ends_in_return = sym (ap (λ (k : ℕ). k == 13) last);
           }

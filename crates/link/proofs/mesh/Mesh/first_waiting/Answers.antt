@@ -16,4 +16,5 @@ returns-in-Some g c =
     subst (λ (o : Option ℕ). WaitsFrom c.loop-sender.sender o h) c.in-Some.is c.first_receiver.ensures in
     waits_at h c.loop-sender.sender c.in-Some.receiver c.copy.result c.copy-in-Some.result whole
     (omega (arith, c.loop-sender-test.true, c.len-sender-end.ensures, ap length nodes)) c.loop-sender.invariant here
-    (read c.loop-sender.sender nodes c.copy.ensures c.index.ensures) (read c.in-Some.receiver nodes c.copy-in-Some.ensures c.index-in-Some.ensures)
+    (read c.loop-sender.sender nodes c.copy.ensures c.index.ensures)
+    (read c.in-Some.receiver nodes c.copy-in-Some.ensures c.index-in-Some.ensures)

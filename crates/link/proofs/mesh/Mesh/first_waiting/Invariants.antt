@@ -4,4 +4,5 @@ use Rattle.link.specs.declared.mesh.TheConstants.{MOST_NODES}
 use Rattle.link.proofs.mesh.Mesh.first_waiting.Given as goal
 
 abbrev pub invariant-loop-sender : goal.invariant-loop-sender
-invariant-loop-sender g l = (i k : ℕ) → i < l.sender → k < length l.self.nodes → slice_index_or l.self.links (i * MOST_NODES + k) [] ≡ []
+invariant-loop-sender g l = (i k : ℕ) → i < l.sender → k < length l.self.nodes
+    → slice_index_or l.self.links (i * MOST_NODES + k) [] ≡ []

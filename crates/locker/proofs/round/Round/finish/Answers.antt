@@ -13,11 +13,13 @@ pub returns-then-is_won-clause-protocol : goal.returns-then-is_won-clause-protoc
 returns-then-is_won-clause-protocol c = λ n below members_below. subst
     (λ (e : Ending). EndsAs e (protocol.ending n (set_of c.args.members.now) (seen c.args.self.now)))
     (ap (λ (b : Bool). if b then Held else GiveBack (granted_by c.args.self.now)) (sym c.if-is_won.ensures.value))
-    (EndsAs-end_of c.args.self.now c.args.members.now n c.is_won.ensures.round c.is_won.ensures.members below members_below)
+    (EndsAs-end_of c.args.self.now c.args.members.now n c.is_won.ensures.round c.is_won.ensures.members below
+    members_below)
 
 pub returns-else-is_won-clause-protocol : goal.returns-else-is_won-clause-protocol
 returns-else-is_won-clause-protocol c = λ n below members_below. subst
     (λ (e : Ending). EndsAs e (protocol.ending n (set_of c.args.members.now) (seen c.args.self.now)))
     (ap (λ (b : Bool). if b then Held else GiveBack (granted_by c.args.self.now)) (sym c.if-is_won.ensures.value)
     ∙ ap GiveBack (sym c.granted.ensures))
-    (EndsAs-end_of c.args.self.now c.args.members.now n c.is_won.ensures.round c.is_won.ensures.members below members_below)
+    (EndsAs-end_of c.args.self.now c.args.members.now n c.is_won.ensures.round c.is_won.ensures.members below
+    members_below)

@@ -9,6 +9,8 @@ use Rattle.node_core.proofs.node.NodeCore.done.Goals as goal
 pub returns-clause-turn : goal.returns-clause-turn
 returns-clause-turn g c =
     on_ok_weaker c.finish.result
-    (λ w. does c.args.self.now c.args.self.now c.finish.new.self c.args.turn.now c.enter.new.self c.finish.new.turn c.copy.result (set_of c.args.asked.now)
-    (Some (reply_of c.args.reply)) refl (c.copy.ensures ∙ ap (λ (h : Held). h.name) c.self.view_is) c.in_ok-enter.ensures w)
+    (λ w. does c.args.self.now c.args.self.now c.finish.new.self c.args.turn.now c.enter.new.self c.finish.new.turn
+    c.copy.result (set_of c.args.asked.now)
+    (Some (reply_of c.args.reply)) refl (c.copy.ensures ∙ ap (λ (h : Held). h.name) c.self.view_is)
+    c.in_ok-enter.ensures w)
     c.finish.ensures.turn

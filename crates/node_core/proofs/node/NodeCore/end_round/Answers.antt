@@ -13,14 +13,17 @@ pub returns-then-not-is_over-clause-turn : goal.returns-then-not-is_over-clause-
 returns-then-not-is_over-clause-turn g c =
     let whole : IsWhole c.args.self.now = subst (λ (h : Held). IsWhole h) c.self.view_is c.self.invariant in
     goes_on c.args.self.now c.args.self.now c.args.turn.now c.in-Asking.round c.is_over.result refl
-    (ap (λ (h : Held). h.phase) (sym c.self.view_is) ∙ c.in-Asking.is) whole.phase c.is_over.ensures.protocol c.if-not-is_over.true
+    (ap (λ (h : Held). h.phase) (sym c.self.view_is) ∙ c.in-Asking.is) whole.phase c.is_over.ensures.protocol
+    c.if-not-is_over.true
 
 pub give_up-requires : goal.give_up-requires
 give_up-requires g c =
     let whole : IsWhole c.args.self.now = subst (λ (h : Held). IsWhole h) c.self.view_is c.self.invariant in
     record {
-      within = granted_within c.args.self.now.world c.self.inside.members c.in-GiveBack.granted c.in-Asking.round c.finish.result
-          (round_within c.args.self.now.world c.args.self.now.phase c.in-Asking.round (ap (λ (h : Held). h.phase) (sym c.self.view_is) ∙ c.in-Asking.is) whole.phase)
+      within = granted_within c.args.self.now.world c.self.inside.members c.in-GiveBack.granted c.in-Asking.round
+          c.finish.result
+          (round_within c.args.self.now.world c.args.self.now.phase c.in-Asking.round
+          (ap (λ (h : Held). h.phase) (sym c.self.view_is) ∙ c.in-Asking.is) whole.phase)
           c.finish.ensures.value c.in-GiveBack.is;
     }
 
@@ -29,10 +32,13 @@ returns-in-Held-clause-turn g c = λ number round is.
     let whole : IsWhole c.args.self.now = subst (λ (h : Held). IsWhole h) c.self.view_is c.self.invariant in
     on_ok_weaker c.held.result
     (λ w. ends_held c.args.self.now c.args.self.now c.args.turn.now c.in-Asking.round c.is_over.result refl
-    (ap (λ (h : Held). h.phase) (sym c.self.view_is) ∙ c.in-Asking.is) whole.phase c.is_over.ensures.protocol whole.members c.finish.result
+    (ap (λ (h : Held). h.phase) (sym c.self.view_is) ∙ c.in-Asking.is) whole.phase c.is_over.ensures.protocol
+    whole.members c.finish.result
     (subst (λ (h : Held). (n : ℕ) → All (λ d. d < n) c.in-Asking.round.nodes → All (λ d. d < n) h.members
-    → EndsAs c.finish.result (ending n (set_of h.members) (seen c.in-Asking.round))) c.self.view_is c.finish.ensures.protocol)
-    c.held.new.self c.held.new.turn c.asked-asked.result c.if-not-is_over.false c.in-Held.is c.asked-asked.ensures.protocol number w round is)
+    → EndsAs c.finish.result (ending n (set_of h.members) (seen c.in-Asking.round))) c.self.view_is
+    c.finish.ensures.protocol)
+    c.held.new.self c.held.new.turn c.asked-asked.result c.if-not-is_over.false c.in-Held.is
+    c.asked-asked.ensures.protocol number w round is)
     (c.held.ensures.turn number)
 
 pub returns-in-GiveBack-clause-turn : goal.returns-in-GiveBack-clause-turn
@@ -40,8 +46,11 @@ returns-in-GiveBack-clause-turn g c = λ number round is.
     let whole : IsWhole c.args.self.now = subst (λ (h : Held). IsWhole h) c.self.view_is c.self.invariant in
     on_ok_weaker c.give_up.result
     (λ w. ends_failed c.args.self.now c.args.self.now c.args.turn.now c.in-Asking.round c.is_over.result refl
-    (ap (λ (h : Held). h.phase) (sym c.self.view_is) ∙ c.in-Asking.is) whole.phase c.is_over.ensures.protocol whole.members c.finish.result
+    (ap (λ (h : Held). h.phase) (sym c.self.view_is) ∙ c.in-Asking.is) whole.phase c.is_over.ensures.protocol
+    whole.members c.finish.result
     (subst (λ (h : Held). (n : ℕ) → All (λ d. d < n) c.in-Asking.round.nodes → All (λ d. d < n) h.members
-    → EndsAs c.finish.result (ending n (set_of h.members) (seen c.in-Asking.round))) c.self.view_is c.finish.ensures.protocol)
-    c.give_up.new.self c.give_up.new.turn c.in-GiveBack.granted c.if-not-is_over.false c.in-GiveBack.is number w round is)
+    → EndsAs c.finish.result (ending n (set_of h.members) (seen c.in-Asking.round))) c.self.view_is
+    c.finish.ensures.protocol)
+    c.give_up.new.self c.give_up.new.turn c.in-GiveBack.granted c.if-not-is_over.false c.in-GiveBack.is number w round
+    is)
     c.give_up.ensures.turn

@@ -10,8 +10,10 @@ use Rattle.node_core.proofs.node.NodeCore.hear_answer.Goals as goal
 pub returns-clause-turn : goal.returns-clause-turn
 returns-clause-turn g c = λ number.
     on_ok_weaker c.end_round.result
-    (λ w. hears c.args.self.now _ c.end_round.new.self c.args.turn.now c.ask_rest.new.turn c.end_round.new.turn c.in-Asking.round c.answer.new.self c.args.from.now
-    c.args.granted number (ap (λ (h : Held). h.phase) (sym c.self.view_is) ∙ c.in-Asking.is) (sym c.owes.ensures ∙ c.if-not-owes.false)
+    (λ w. hears c.args.self.now _ c.end_round.new.self c.args.turn.now c.ask_rest.new.turn c.end_round.new.turn
+    c.in-Asking.round c.answer.new.self c.args.from.now
+    c.args.granted number (ap (λ (h : Held). h.phase) (sym c.self.view_is) ∙ c.in-Asking.is)
+    (sym c.owes.ensures ∙ c.if-not-owes.false)
     (sym c.is_at_work.ensures ∙ c.if-not-is_at_work.false) c.in_ok-ask_rest.ensures
     (c.answer.ensures.protocol ∙ ap (λ (r : HeldRound). answer c.args.from.now c.args.granted (seen r))
     (one_round c.self.inside.phase c.in-Asking-phase.round c.in-Asking.round c.in-Asking-phase.is c.in-Asking.is))

@@ -4,5 +4,7 @@ use Rattle.node_core.proofs.node.NodeCore.new.Goals as goal
 
 pub returns-clause-opening : goal.returns-clause-opening
 returns-clause-opening g c =
-    opened _ c.args.name c.args.world.now c.args.members.now c.copy.result c.copy-2.result c.args.joined _ c.new.result c.new-2.result c.new-3.result.items
-    c.copy.ensures c.copy-2.ensures c.empty.ensures c.new.ensures c.new-2.ensures c.new-3.ensures.items refl c.requires.own
+    opened _ c.args.name c.args.world.now c.args.members.now c.copy.result c.copy-2.result c.args.joined _ c.new.result
+    c.new-2.result c.new-3.result.items
+    c.copy.ensures c.copy-2.ensures c.empty.ensures c.new.ensures c.new-2.ensures c.new-3.ensures.items refl
+    c.requires.own

@@ -34,8 +34,11 @@ invariant_of-self c =
 pub returns-clause-inserted : goal.returns-clause-inserted
 returns-clause-inserted c =
     elim c.match-try_insert.branch [
-      | in-Ok-try_insert w ↦ rw (w.result-is, ← c.self.view_is)
-          (w.in-Ok-try_insert.ensures.ok ∙ with_node-fits _ _ _ (missing c), sym (ap not (set_of-fits _ _ _ (missing c))))
+      | in-Ok-try_insert w ↦ rw (w.result-is, ← c.self.view_is) (
+        w.in-Ok-try_insert.ensures.ok ∙ with_node-fits _ _ _ (missing c),
+        sym
+            (ap not (set_of-fits _ _ _ (missing c))),
+      )
       | in-Err-try_insert w ↦ rw (w.result-is, ← c.self.view_is)
           (record {
             is = refl;

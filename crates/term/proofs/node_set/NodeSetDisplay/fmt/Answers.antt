@@ -15,7 +15,8 @@ loop-node-preserved g c =
       search rules,
       separator_of-more i,
       λ plain.
-          let parted : HasWritten g.W.Write.write_str_gives c.args.f.now (list_of (take i xs) ++ c.loop-node.separator.now)
+          let parted : HasWritten g.W.Write.write_str_gives c.args.f.now
+          (list_of (take i xs) ++ c.loop-node.separator.now)
           c.write_str.new.self =
           has_written_append _ _ _ _ _ _ (c.loop-node.invariant.2 plain) (search rules) in
           has_written_of_eq _ _ _ _ _ grown (has_written_append _ _ _ _ _ _ parted (search rules)),
