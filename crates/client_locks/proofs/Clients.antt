@@ -12,7 +12,8 @@ use Rattle.protocol_model.specs.Turn.{Turn, sent_to}
 use Rattle.protocol_model.specs.World.{Opening, in_world, World, left}
 use Rattle.moves.proofs.Rules.{Taken, FrontTaken}
 use Rattle.moves.proofs.Invariants.{IsUp}
-use Rattle.moves.proofs.Indices.{by_test, both, not_true}
+use Rattle.registry_model.proofs.Updates.{by_test}
+use Rattle.moves.proofs.Indices.{both, not_true}
 use Rattle.client_locks.proofs.LockTables.{Sound}
 use Rattle.client_locks.proofs.Rounds.{Rounded}
 use Rattle.client_locks.proofs.Sessions.{view, Live}

@@ -22,7 +22,7 @@ use Rattle.protocol_model.specs.ClientLocks.{is_gone}
 use Rattle.protocol_model.specs.World.{Opening, World, left, opening_world, join_number}
 use Rattle.moves.proofs.Rules.{Rule, Taken, May, effect, turn_by, takes}
 use Rattle.moves.proofs.Rules.Rule.{CallsName, CallsJoin, CallsLock, Exits, Begins, BeginsStrike, Retries, AsksJoin, HearsAnswer, MarksDown, GivesUp, Grants, Denies, Strikes, Admits, Passes, CountsApplied, CountsDown, Finishes, Judges, TakesBack, EndsJoin, Kills, IsWelcomed, LosesContact, HearsLock, GivesUpLock, Leaves}
-use Rattle.moves.proofs.Indices.{by_test}
+use Rattle.registry_model.proofs.Updates.{by_test}
 use Rattle.client_locks.proofs.Mail.{turned}
 
 -- a turn that leaves these parts of its node alone, and answers nothing

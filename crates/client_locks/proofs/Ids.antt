@@ -2,7 +2,7 @@
 use Rattle.std.proofs.Common.{ℕ, Bool, true, false, ◌==◌, ◌≡◌, refl, sym, ap, ◌∙◌, subst}
 use Rattle.std.proofs.lemmas.Bool.{eqb-true, eq-eqb}
 use Rattle.registry_model.specs.Process.{Process, is_process}
-use Rattle.protocol_model.specs.Letter.{Id, Global, Client, is_id, is_resource}
+use Rattle.protocol_model.specs.Letter.{Id, Global, Client, is_id}
 use Rattle.moves.proofs.Indices.{both}
 
 pub is_process_same : (p q : Process) → is_process p q ≡ true → p ≡ q
@@ -33,13 +33,3 @@ is_id_same (Client r q) (Client s z) e =
     ap (λ (x : ℕ). Client x q) (eqb-true r s parts.0) ∙ ap (Client s) (eqb-true q z parts.1)
 is_id_same (Global a) (Client s z) e = cc
 is_id_same (Client r q) (Global b) e = cc
-
-pub is_id_self : (i : Id) → is_id i i ≡ true
-is_id_self (Global a) = eq-eqb a a refl
-is_id_self (Client r q) = rw (eq-eqb r r refl, eq-eqb q q refl) refl
-
-pub is_resource_swap : (i j : Id) → is_resource i j ≡ true → is_resource j i ≡ true
-is_resource_swap (Global a) (Global b) e = refl
-is_resource_swap (Client r q) (Client s z) e = eq-eqb s r (sym (eqb-true r s e))
-is_resource_swap (Global a) (Client s z) e = cc
-is_resource_swap (Client r q) (Global b) e = cc

@@ -7,7 +7,8 @@ use Rattle.registry_model.specs.Process.{Process, is_process}
 use Rattle.protocol_model.specs.Letter.{Id, is_id, is_resource}
 use Rattle.protocol_model.specs.LockTable.{Grant, Locks, is_grant_of, count, is_in_the_way, refused_by, is_free_for, grant, give_back, drop_holder, drop_node}
 use Rattle.moves.proofs.Indices.{both}
-use Rattle.client_locks.proofs.Ids.{is_process_same, is_process_self, is_id_same, is_id_self, is_resource_swap}
+use Rattle.protocol_model.proofs.Ids.{is_id_self, is_resource_swap}
+use Rattle.client_locks.proofs.Ids.{is_process_same, is_process_self, is_id_same}
 
 -- no later grant is another requester's of the same resource
 abbrev pub Clear : Grant → Locks → Type 0

@@ -12,7 +12,8 @@ use Rattle.protocol_model.specs.Client.{in_phase}
 use Rattle.protocol_model.specs.World.{Opening, World, opening_world}
 use Rattle.moves.proofs.Rules.{Rule, May, MayAll, Ordered, IsNew, IsRetried, effect, effects, turn_by}
 use Rattle.moves.proofs.Rules.Rule.{AsksLock, FailsLock, DeletesLock, DeletesNothing, Leaves}
-use Rattle.moves.proofs.Indices.{by_test, both}
+use Rattle.registry_model.proofs.Updates.{by_test}
+use Rattle.moves.proofs.Indices.{both}
 use Rattle.walk.proofs.ChainKinds.{Aside, Again, Hearing, suits, is_number_of}
 use Rattle.client_locks.proofs.Ids.{is_process_same}
 use Rattle.client_locks.proofs.Calls.{call_of-drop, home_of_call}

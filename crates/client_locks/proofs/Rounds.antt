@@ -5,7 +5,8 @@ use Rattle.std.specs.Prelude.{not, ◌&&◌, ◌||◌, if◌then◌else◌}
 use Rattle.std.proofs.lemmas.Bool.{cases_eq, eqb-true, eq-eqb, ne_eqb}
 use Rattle.registry_model.specs.Process.{Nodes, at}
 use Rattle.protocol_model.specs.Round.{Mark, Out, Later, Owes, Granted, Refused, Lost, Gone, Round, is_empty, greatest, is_owes, is_refused, has_granted, is_gone, begin, owes, asked_too, opens, answer, mark_down, down, is_over, Held, GiveBack, ending, is_held, granted, asked_all}
-use Rattle.moves.proofs.Indices.{by_test, both, empty_at}
+use Rattle.registry_model.proofs.Updates.{by_test}
+use Rattle.moves.proofs.Indices.{both, empty_at}
 
 -- before the boss has granted: isn't asked, is asked later, or has gone down
 abbrev pub is_unasked : Mark → Bool

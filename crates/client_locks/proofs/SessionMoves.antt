@@ -3,7 +3,8 @@ use Rattle.std.proofs.Common.{ℕ, Bool, true, false, ◌≡◌, ◌+◌, ◌-�
 use Rattle.std.specs.Prelude.{if◌then◌else◌}
 use Rattle.protocol_model.specs.Letter.{Id, is_id}
 use Rattle.moves.proofs.Indices.{both}
-use Rattle.client_locks.proofs.Ids.{is_id_same, is_id_self}
+use Rattle.protocol_model.proofs.Ids.{is_id_self}
+use Rattle.client_locks.proofs.Ids.{is_id_same}
 use Rattle.client_locks.proofs.Rounds.{mark_by}
 use Rattle.client_locks.proofs.Sessions.{Ask, Takes, Backs, Acks, Frees, Echo, Answers, Backed, View, Idle, Owed, Won, Denied, Due, Down, view_of, settled, none_left, only_backs, fits, one_if, due, Live, settled-append, backs-take, backs-back, backs-ack, none_left_nil}
 

@@ -4,7 +4,7 @@ use Rattle.std.specs.Prelude.{◌&&◌, if◌then◌else◌}
 use Rattle.protocol_model.specs.Round.{Mark, Out, Later, Owes, Granted, Refused, Lost, Gone}
 use Rattle.protocol_model.specs.Letter.{Id, is_id}
 use Rattle.protocol_model.specs.Node.{LockPhase, LockCall}
-use Rattle.client_locks.proofs.Ids.{is_id_self}
+use Rattle.protocol_model.proofs.Ids.{is_id_self}
 
 -- what a process asks of a lock table; an `Acks` is to be answered
 pub data Ask : Type 0 where

@@ -11,7 +11,7 @@ use Rattle.protocol_model.specs.Fit.{Numbered, is_numbered, numbered, calls_in, 
 use Rattle.protocol_model.specs.World.{Opening, World, WorldEvent, At, Deliver, place}
 use Rattle.protocol_model.specs.Course.{played}
 use Rattle.moves.proofs.Rules
-use Rattle.moves.proofs.Indices.{by_test}
+use Rattle.registry_model.proofs.Updates.{by_test}
 use Rattle.fitting.proofs.Working.{accepted_by}
 use Rattle.fitting.proofs.Numbers.{takes_number, accepted_along, quiet_along, quiet_last, last_call_by}
 

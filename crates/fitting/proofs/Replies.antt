@@ -16,7 +16,7 @@ use Rattle.protocol_model.specs.Fit.{Numbered, NameAs, JoinAs, is_numbered, numb
 use Rattle.protocol_model.specs.Answers.{answer_to, number_of, is_answer_at, answers_at, entered_at}
 use Rattle.protocol_model.specs.World.{Opening, World, WorldEvent, At, Deliver, place, opening_world, turn_of, refusal, accepted}
 use Rattle.protocol_model.specs.Course.{Played, played, entries_of, answers_of}
-use Rattle.moves.proofs.Indices.{by_test}
+use Rattle.registry_model.proofs.Updates.{by_test}
 use Rattle.moves.proofs.Invariants.{Replicas, IsWritten}
 use Rattle.fitting.proofs.Accounts.{own, owed_by, is_word, is_word_at, replies_to}
 use Rattle.fitting.proofs.Settling.{grant_word}

@@ -15,7 +15,7 @@ use Rattle.protocol_model.specs.Reading.{read}
 use Rattle.registry_model.specs.History.{Entry}
 use Rattle.protocol_model.specs.Answers.{answer_to}
 use Rattle.protocol_model.specs.World.{Opening, World, left, in_world, WorldEvent, At, Deliver, join_number, place, other, heard, turn_of, refusal, local_causes, accepted, happens, opening_world}
-use Rattle.moves.proofs.Indices.{by_test, at_same}
+use Rattle.registry_model.proofs.Updates.{by_test, at_same}
 
 -- a free registrar has nothing in its queue
 abbrev pub IsRested : Node → Type 0

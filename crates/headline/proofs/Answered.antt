@@ -13,7 +13,7 @@ use Rattle.protocol_model.specs.Fit.{calls_in}
 use Rattle.protocol_model.specs.Answers.{calls_at, LooksUpOnce, AnswersCalls}
 use Rattle.protocol_model.specs.World.{Opening, World, WorldEvent, place, turn_of, refusal, accepted, opening_world}
 use Rattle.protocol_model.specs.Course.{Played, played, answers_of}
-use Rattle.moves.proofs.Indices.{by_test, at_same}
+use Rattle.registry_model.proofs.Updates.{by_test, at_same}
 use Rattle.walk.proofs.Walk.{walked_in_order}
 use Rattle.fitting.proofs.Accounts.{is_word}
 use Rattle.fitting.proofs.Admissions.{all_map}

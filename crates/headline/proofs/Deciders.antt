@@ -19,7 +19,7 @@ use Rattle.protocol_model.specs.Registrar.{answer_op}
 use Rattle.protocol_model.specs.World.{Opening, in_cluster, World, WorldEvent, place, join_number, opening_world, refusal, turn_of, accepted, run}
 use Rattle.protocol_model.specs.Course.{Played, Seen, played, entries_of, course, global_given, seen}
 use Rattle.protocol_model.specs.Headline.{standing, HasTheLock, DecidedUnderLock}
-use Rattle.moves.proofs.Indices.{by_test}
+use Rattle.registry_model.proofs.Updates.{by_test}
 use Rattle.moves.proofs.Rules
 use Rattle.moves.proofs.Rules.{Rule, Walked, IsHeld}
 use Rattle.moves.proofs.Invariants.{IsUp, standing_at}

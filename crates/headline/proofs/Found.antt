@@ -28,7 +28,8 @@ use Rattle.protocol_model.specs.Course.{entries_of}
 use Rattle.protocol_model.specs.Fit.{Numbered, NameAs, JoinAs, numbered, calls_in, number_from, accepted_at, decided_at}
 use Rattle.protocol_model.specs.Answers.{answer_to, is_prompt, due_when_done, due_of, due, AnswersInTime}
 use Rattle.protocol_model.specs.Headline.{standing}
-use Rattle.moves.proofs.Indices.{both, neither, at_other}
+use Rattle.registry_model.proofs.Updates.{at_other}
+use Rattle.moves.proofs.Indices.{both, neither}
 use Rattle.headline.specs.Clauses.{world, events, so_far}
 use Rattle.headline.specs.Laws.{YesIsFound}
 use Rattle.headline.proofs.Turns.{begins}

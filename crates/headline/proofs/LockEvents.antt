@@ -19,7 +19,8 @@ use Rattle.protocol_model.specs.World.{Opening, World, WorldEvent, At, Deliver, 
 use Rattle.protocol_model.specs.Course.{Played, played, answers_of}
 use Rattle.moves.proofs.Rules
 use Rattle.moves.proofs.Rules.{Rule, is_ordered}
-use Rattle.moves.proofs.Indices.{both, at_same}
+use Rattle.registry_model.proofs.Updates.{at_same}
+use Rattle.moves.proofs.Indices.{both}
 use Rattle.walk.proofs.Calls.{Only, only_none, only_drop, only_put, AllOpen, all_open, all_open-only, all_after, OrderedParts, ordered_parts}
 use Rattle.walk.proofs.ChainKinds.{Aside, Hearing, suits}
 use Rattle.walk.proofs.Orders.{effect-node}

@@ -19,7 +19,8 @@ use Rattle.protocol_model.specs.World.{Opening, World, join_number}
 use Rattle.moves.proofs.Rules
 use Rattle.moves.proofs.Rules.{Rule, IsOpen, is_ordered}
 use Rattle.moves.proofs.Invariants.{Replicas, IsWritten}
-use Rattle.moves.proofs.Indices.{both, at_same}
+use Rattle.registry_model.proofs.Updates.{at_same}
+use Rattle.moves.proofs.Indices.{both}
 use Rattle.walk.proofs.ChainKinds.{Hearing, suits}
 use Rattle.walk.proofs.Orders.{effect-node}
 use Rattle.join_gates.proofs.Made.{answered, answer_of, answers_made}

@@ -19,7 +19,7 @@ use Rattle.protocol_model.specs.Course.{Played, played}
 use Rattle.protocol_model.specs.Headline.{EachStep}
 use Rattle.moves.proofs.Rules
 use Rattle.moves.proofs.Rules.{Rule}
-use Rattle.moves.proofs.Indices.{by_test, at_same}
+use Rattle.registry_model.proofs.Updates.{by_test, at_same}
 use Rattle.walk.proofs.Orders.{effect-node}
 use Rattle.walk.proofs.Runs.{rules_of}
 use Rattle.fitting.proofs.Chains

@@ -21,7 +21,8 @@ use Rattle.protocol_model.specs.Course.{seen}
 use Rattle.protocol_model.specs.Headline.{GroupShows}
 use Rattle.moves.proofs.Rules
 use Rattle.moves.proofs.Rules.{Rule, Walked}
-use Rattle.moves.proofs.Indices.{neither, at_same}
+use Rattle.registry_model.proofs.Updates.{at_same}
+use Rattle.moves.proofs.Indices.{neither}
 use Rattle.moves.proofs.Invariants.{standing_at}
 use Rattle.replicas.proofs.Owning.{IsOwn, own_keeps, own_writes}
 use Rattle.replicas.proofs.States.{group_shows}

@@ -7,7 +7,8 @@ use Rattle.protocol_model.specs.Node.{Current}
 use Rattle.protocol_model.specs.Turn.{Turn}
 use Rattle.protocol_model.specs.World.{Opening, World, left, Deliver, join_number, apply, opened}
 use Rattle.moves.proofs.Rules
-use Rattle.moves.proofs.Indices.{by_test, at_pair}
+use Rattle.registry_model.proofs.Updates.{by_test}
+use Rattle.moves.proofs.Indices.{at_pair}
 use Rattle.moves.proofs.Invariants.{is_down_last, current, Proper, Replicas}
 use Rattle.join_gates.proofs.Tokens.{Gate, Away, Knock, Turned, Entering, is_away, is_turned, are_plain, plain_knocks, plain_returns, knocks, returns, returns_of, queued_of, knocks-append, returns-append, admissions, jobs}
 use Rattle.join_gates.proofs.Links.{sent_none, taken_none, taken_one}

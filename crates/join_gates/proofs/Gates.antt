@@ -6,7 +6,8 @@ use Rattle.registry_model.specs.Table.{Table}
 use Rattle.protocol_model.specs.Node.{Node, Op, Current}
 use Rattle.protocol_model.specs.Event.{is_join, is_joining}
 use Rattle.protocol_model.specs.World.{Opening, World, left}
-use Rattle.moves.proofs.Indices.{by_test, at_pair}
+use Rattle.registry_model.proofs.Updates.{by_test}
+use Rattle.moves.proofs.Indices.{at_pair}
 use Rattle.moves.proofs.Invariants.{replica, current, standing_at}
 use Rattle.join_gates.proofs.Tokens.{Gate, Away, is_away, is_wait, is_turned, is_entering, hopes, knocks, returns, admissions, jobs, knocks_of, returns_of, queued_of, knocks-append, returns-append}
 use Rattle.join_gates.proofs.Links.{on_links}

@@ -6,7 +6,8 @@ use Rattle.protocol_model.specs.Node.{Node, Op, Current}
 use Rattle.protocol_model.specs.Event.{is_joining}
 use Rattle.protocol_model.specs.World.{Opening, World, opening_world}
 use Rattle.moves.proofs.Rules
-use Rattle.moves.proofs.Indices.{by_test, at_pair, not_true}
+use Rattle.registry_model.proofs.Updates.{by_test}
+use Rattle.moves.proofs.Indices.{at_pair, not_true}
 use Rattle.moves.proofs.Invariants.{Each, is_welcome, replica, current, Proper, Replicas, JoinsKnown}
 use Rattle.join_gates.proofs.Tokens.{Gate, Away, Knock, Wait, Turned, Entering, returns}
 use Rattle.join_gates.proofs.Gates.{Facts, Gates, Once, OnceIn, has_join, has_one, Joins, shut}

@@ -6,7 +6,8 @@ use Rattle.std.proofs.lemmas.List.{append-nil}
 use Rattle.protocol_model.specs.Letter.{Letter}
 use Rattle.protocol_model.specs.Turn.{Turn, sent_to}
 use Rattle.protocol_model.specs.World.{World, left, Deliver, apply, opened}
-use Rattle.moves.proofs.Indices.{by_test, at_pair}
+use Rattle.registry_model.proofs.Updates.{by_test}
+use Rattle.moves.proofs.Indices.{at_pair}
 
 -- the letters of one kind on each link
 module _ {X : Type 0} (F : List Letter → List X) (split : (xs ys : List Letter) → F (xs ++ ys) ≡ F xs ++ F ys) where

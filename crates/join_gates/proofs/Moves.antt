@@ -16,7 +16,8 @@ use Rattle.protocol_model.specs.Turn.{Turn, Send, sent_to}
 use Rattle.protocol_model.specs.World.{Opening, World, left, Deliver, join_number, number_in, opened}
 use Rattle.moves.proofs.Rules
 use Rattle.moves.proofs.Sends.{sent_to-append, to_each}
-use Rattle.moves.proofs.Indices.{by_test, at_pair, at_same, both}
+use Rattle.registry_model.proofs.Updates.{by_test, at_same}
+use Rattle.moves.proofs.Indices.{at_pair, both}
 use Rattle.moves.proofs.Invariants.{replica, current, standing_at, Proper, Replicas}
 use Rattle.join_gates.proofs.Tokens.{Gate, Away, Knock, Wait, Turned, Entering, is_away, is_turned, are_plain, are_plain-each, plain_knocks, plain_returns, knocks, returns, knocks_of, returns_of, queued_of, admissions, admissions-append, asked_for, jobs, knocks-append, returns-append}
 use Rattle.join_gates.proofs.Links.{on_links, sent_none, sent_one, taken_none, taken_one}

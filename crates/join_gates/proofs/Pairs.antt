@@ -9,7 +9,8 @@ use Rattle.protocol_model.specs.Node.{Node, Current}
 use Rattle.protocol_model.specs.Turn.{sent_to}
 use Rattle.protocol_model.specs.World.{Opening, World}
 use Rattle.moves.proofs.Sends.{sent_to-one}
-use Rattle.moves.proofs.Indices.{by_test, at_pair}
+use Rattle.registry_model.proofs.Updates.{by_test}
+use Rattle.moves.proofs.Indices.{at_pair}
 use Rattle.moves.proofs.Invariants.{current}
 use Rattle.join_gates.proofs.Tokens.{Gate, Away, Knock, Wait, Turned, Entering, is_away, is_turned, is_entering, knocks_of, returns_of, queued_of, admissions, jobs}
 use Rattle.join_gates.proofs.Gates.{Facts}

@@ -9,7 +9,8 @@ use Rattle.registry_model.specs.Call.{Joined, is_grant, change_of}
 use Rattle.registry_model.specs.Registry.{Registry, with_table}
 use Rattle.registry_model.specs.History.{Entry, Hold, Standing, effect, granted_to, hold_at, is_free, is_hold_of, is_holding, set_hold, with_effect_on, with_effect, begin_hold, after, nothing_yet, standing_of}
 use Rattle.registry_model.specs.Legal.{may_decide, is_legal, all_legal, IsLegal}
-use Rattle.moves.proofs.Indices.{by_test, at_same, both, neither}
+use Rattle.registry_model.proofs.Updates.{by_test, at_same}
+use Rattle.moves.proofs.Indices.{both, neither}
 
 -- what a history comes to with these entries more
 pub standing_of-append : (c : Nodes) (h es : List Entry) → standing_of c (h ++ es) ≡ fold after (standing_of c h) es

@@ -9,7 +9,7 @@ use Rattle.protocol_model.specs.Letter.{Letter}
 use Rattle.protocol_model.specs.Node.{Node, Op, Current}
 use Rattle.protocol_model.specs.World.{Opening, World, in_cluster, left, join_number}
 use Rattle.moves.proofs.Rules
-use Rattle.moves.proofs.Indices.{at_same}
+use Rattle.registry_model.proofs.Updates.{at_same}
 use Rattle.moves.proofs.Invariants.{Each, is_welcome, current, standing_at, IsWritten, is_write, IsOnItsWay, Replicas}
 use Rattle.join_gates.proofs.Made.{entered, entries_made}
 use Rattle.join_gates.proofs.Tokens.{Gate, Entering, is_entering, returns, returns_of, returns-append, plain_returns}

@@ -12,7 +12,7 @@ use Rattle.protocol_model.specs.Event.{is_joining}
 use Rattle.protocol_model.specs.Turn.{Turn}
 use Rattle.protocol_model.specs.World.{Opening, World, in_cluster, left, apply}
 use Rattle.moves.proofs.Rules.{Taken, FrontTaken, without_letter}
-use Rattle.moves.proofs.Indices.{by_test}
+use Rattle.registry_model.proofs.Updates.{by_test}
 use Rattle.moves.proofs.Invariants.{replica, current, standing_at}
 use Rattle.join_gates.proofs.Tokens.{Gate, is_turned, is_entering, is_plain, are_plain, plain_knocks, plain_returns, knocks-plain, returns-plain, knocks, returns, admissions, admissions-append, asked_for, jobs, knocks-append, returns-append}
 use Rattle.join_gates.proofs.Links.{sent_none, taken_none}

@@ -18,7 +18,8 @@ use Rattle.protocol_model.specs.Client.{is_spent, in_phase, close_call, give_loc
 use Rattle.protocol_model.specs.Reading.{with_member, welcomed, bereft, judge, take_back}
 use Rattle.protocol_model.specs.World.{Opening, in_world, in_cluster, World, left, join_number, opening_world}
 use Rattle.moves.proofs.Rules.{Rule, Taken, takes, turn_by, May, effect}
-use Rattle.moves.proofs.Indices.{by_test, both, at_same, at_other}
+use Rattle.registry_model.proofs.Updates.{by_test, at_same, at_other}
+use Rattle.moves.proofs.Indices.{both}
 use Rattle.moves.proofs.Sends.{to_each, sent_to-append, sent_to-all}
 use Rattle.moves.proofs.Invariants.{Each, is_down_last, IsUp, IsProper, IsProperOp, AreProperOps, IsProperCurrent, Proper}
 use Rattle.lock_sessions.proofs.Base.{not_both, is_leave, popped_queue, popped, after_turn, posted-here, posted-other, each-append, each-map, each-popped, each-posted, each-one, each-all, down_last-append, down_last-none, down_last-popped}

@@ -17,7 +17,8 @@ use Rattle.protocol_model.specs.Registrar.{registrar, done}
 use Rattle.protocol_model.specs.Client.{is_spent, in_phase, close_call, give_lock}
 use Rattle.protocol_model.specs.World.{Opening, in_world, World, left, opening_world}
 use Rattle.moves.proofs.Rules.{Rule, Taken, taking, takes, turn_by, awaits, is_heard, is_heard_in, some_call, IsNew, IsRetried, May, effect}
-use Rattle.moves.proofs.Indices.{by_test, both, not_true, at_same, at_other}
+use Rattle.registry_model.proofs.Updates.{by_test, at_same, at_other}
+use Rattle.moves.proofs.Indices.{both, not_true}
 use Rattle.moves.proofs.Sends.{to_each, sent_to-append}
 use Rattle.moves.proofs.Invariants.{Each, IsUp, IsProper, Proper}
 use Rattle.lock_sessions.proofs.Base.{not_both, is_leave, letters_from, each-append, each-posted, each-all}

@@ -13,7 +13,8 @@ use Rattle.protocol_model.specs.Turn.{Turn, Send, begun, at_work, with_queue, se
 use Rattle.protocol_model.specs.Registrar.{registrar, ask_global, give_up}
 use Rattle.protocol_model.specs.World.{Opening, World, left}
 use Rattle.moves.proofs.Rules.{Taken, taking, FrontTaken, IsHeld}
-use Rattle.moves.proofs.Indices.{both, at_same, at_other, greatest_in}
+use Rattle.registry_model.proofs.Updates.{at_same, at_other}
+use Rattle.moves.proofs.Indices.{both, greatest_in}
 use Rattle.moves.proofs.Sends.{to_each, sent_to-one}
 use Rattle.moves.proofs.Invariants.{Each, IsUp, Proper}
 use Rattle.lock_sessions.proofs.Base.{not_both, after_turn, letters_from, each-one, each-all}

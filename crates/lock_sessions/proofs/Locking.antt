@@ -11,7 +11,7 @@ use Rattle.protocol_model.specs.Turn.{Turn, sent_to}
 use Rattle.protocol_model.specs.Registrar.{registrar}
 use Rattle.protocol_model.specs.World.{Opening, World, left}
 use Rattle.moves.proofs.Rules.{Taken}
-use Rattle.moves.proofs.Indices.{by_test}
+use Rattle.registry_model.proofs.Updates.{by_test}
 use Rattle.moves.proofs.Invariants.{Each, IsUp}
 use Rattle.lock_sessions.proofs.Base.{popped, after_turn, each-popped, each-posted}
 use Rattle.lock_sessions.proofs.LockTables.{Row, grants_of, globals, is_global}

@@ -4,7 +4,8 @@ use Rattle.std.specs.Prelude.{not, ◌&&◌, ◌||◌, if◌then◌else◌}
 use Rattle.std.proofs.lemmas.Bool.{cases_eq, eq-eqb, ne_eqb, eqb-true}
 use Rattle.registry_model.specs.Process.{Nodes, at}
 use Rattle.protocol_model.specs.Round.{Round, Mark, is_empty, greatest, begin, is_out, is_owes, is_granted, is_refused, is_gone, has_granted, asked, asked_too, marked, owes, opens, answer, mark_down, down, is_over, Ending, Held, GiveBack, granted, asked_all, is_held, ending}
-use Rattle.moves.proofs.Indices.{by_test, both, at_same, at_other, empty_at}
+use Rattle.registry_model.proofs.Updates.{by_test, at_same, at_other}
+use Rattle.moves.proofs.Indices.{both, empty_at}
 use Rattle.lock_sessions.proofs.Base.{not_both}
 use Rattle.lock_sessions.proofs.LockTables.{once}
 use Rattle.lock_sessions.proofs.Sessions.{Request, Asks, Returns, Stage, Free, Returning, AskedAgain, Asked, GrantComing, RefusalComing, HasGrant, HasRefusal, fits, requests_at, answers_at, share_at}

@@ -12,7 +12,7 @@ use Rattle.protocol_model.specs.Node.{Node, Current}
 use Rattle.protocol_model.specs.Turn.{Turn, sent_to}
 use Rattle.protocol_model.specs.World.{Opening, World, left}
 use Rattle.moves.proofs.Rules.{Taken, FrontTaken}
-use Rattle.moves.proofs.Indices.{by_test, at_same, at_other}
+use Rattle.registry_model.proofs.Updates.{by_test, at_same, at_other}
 use Rattle.moves.proofs.Sends.{to_each, sent_to-one, sent_to-all}
 use Rattle.moves.proofs.Invariants.{IsUp}
 use Rattle.lock_sessions.proofs.Base.{popped_queue, popped, after_turn, letters_from, taken_first, popped-other, posted-here, posted-other}

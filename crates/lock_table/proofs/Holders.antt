@@ -4,6 +4,7 @@ use Rattle.std.specs.Prelude.{◌&&◌, ◌≤◌, Contains}
 use Rattle.std.proofs.lemmas.Bool.{cases_order, eqb-true, eq-eqb}
 use Rattle.std.proofs.lemmas.List.{get_or_default}
 use Rattle.protocol_model.specs.Letter.{Id, Global, Client, is_id, is_resource}
+use Rattle.protocol_model.proofs.Ids.{is_id_self, is_resource_swap}
 use Rattle.protocol_model.specs.LockTable.{Grant, Locks, is_grant_of, count, last_count}
 use Rattle.lock_table.specs.Ids.{requester_of}
 use Rattle.lock_table.specs.Sound.{IsSound}
@@ -21,21 +22,10 @@ same_requester (Client r q) (Client s z) e = eqb-true q z (second (r == s) (q ==
 same_requester (Global a) (Client s z) e = cc
 same_requester (Client r q) (Global b) e = cc
 
--- of one resource, said the other way round
-resource_turned : (i j : Id) → is_resource i j ≡ true → is_resource j i ≡ true
-resource_turned (Global a) (Global b) e = refl
-resource_turned (Client r q) (Client s z) e = eq-eqb s r (sym (eqb-true r s e))
-resource_turned (Global a) (Client s z) e = cc
-resource_turned (Client r q) (Global b) e = cc
-
 -- a grant is of its own id and holder
-own_id : (i : Id) → is_id i i ≡ true
-own_id (Global a) = eq-eqb a a refl
-own_id (Client r q) = rw (eq-eqb r r refl, eq-eqb q q refl) refl
-
 of_its_own : (g : Grant) → is_grant_of g.id g.holder g ≡ true
 of_its_own g = rw
-    (own_id g.id, eq-eqb g.holder.node g.holder.node refl, eq-eqb g.holder.serial g.holder.serial refl) refl
+    (is_id_self g.id, eq-eqb g.holder.node g.holder.node refl, eq-eqb g.holder.serial g.holder.serial refl) refl
 
 -- two grants of one resource are one requester's
 pub one_requester : (t : Locks) (g h : Grant) → IsSound t → Contains t g → Contains t h → is_resource g.id h.id ≡ true
@@ -45,7 +35,7 @@ one_requester t g h s at_g at_h e = elim (cases_order at_g.0 at_h.0) [
       ap (λ (x : Grant). requester_of x.id)
       (sym at_g.2 ∙ ap (λ (k : ℕ). get_or t k g) same ∙ get_or_default t at_h.0 g h at_h.1 ∙ at_h.2)
   | inr (inl less) ↦ same_requester g.id h.id (before g h at_g at_h less e)
-  | inr (inr more) ↦ sym (same_requester h.id g.id (before h g at_h at_g more (resource_turned g.id h.id e)))
+  | inr (inr more) ↦ sym (same_requester h.id g.id (before h g at_h at_g more (is_resource_swap g.id h.id e)))
 ]
   where
     before : (x y : Grant) (at_x : Contains t x) (at_y : Contains t y) → at_x.0 < at_y.0

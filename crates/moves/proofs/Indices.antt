@@ -1,16 +1,10 @@
 -- Cases on an index and on tests, and what is known of all nodes of a set.
 use Rattle.std.proofs.Common.{ℕ, zero, suc, Bool, true, false, ◌==◌, ◌≡◌, ◌<◌, refl, sym, subst, ap, ◌∙◌, inl, inr, arith}
 use Rattle.std.specs.Prelude.{not, ◌&&◌, ◌||◌, if◌then◌else◌}
-use Rattle.std.proofs.lemmas.Bool.{cases_eq, eq-eqb, ne_eqb}
-use Rattle.registry_model.specs.Process.{Nodes, at}
+use Rattle.std.proofs.lemmas.Bool.{cases_eq, eq-eqb}
+use Rattle.registry_model.specs.Process.{Nodes}
+use Rattle.registry_model.proofs.Updates.{by_test}
 use Rattle.protocol_model.specs.Round.{is_empty, greatest}
-
--- what holds at a, and at each other index
-pub by_test : (a : ℕ) (P : ℕ → Bool → Type 0) → P a true → ((x : ℕ) → (x ≡ a → ⊥) → P x false) → (x : ℕ) → P x (x == a)
-by_test a P here there x = elim (cases_eq x a) [
-  | inl e ↦ rw (eq-eqb x a e) (subst (λ (y : ℕ). P y true) (sym e) here)
-  | inr ne ↦ rw (ne_eqb x a ne) (there x ne)
-]
 
 -- f, but v at (a, c)
 abbrev pub at_pair : {A : Type 0} → (ℕ → ℕ → A) → ℕ → ℕ → A → ℕ → ℕ → A
@@ -26,12 +20,6 @@ by_pair f a c v P here there = by_test a (λ x t. (y : ℕ) → P x y (if t then
 
 pub pair_here : {A : Type 0} (f : ℕ → ℕ → A) (a c : ℕ) (v : A) → at_pair f a c v a c ≡ v
 pair_here f a c v = rw (eq-eqb a a refl, eq-eqb c c refl)
-
-pub at_same : {A : Type 0} (f : ℕ → A) (a : ℕ) (v : A) → at f a v a ≡ v
-at_same f a v = rw (eq-eqb a a refl)
-
-pub at_other : {A : Type 0} (f : ℕ → A) (a : ℕ) (v : A) (x : ℕ) → (x ≡ a → ⊥) → at f a v x ≡ f x
-at_other f a v x ne = rw (ne_eqb x a ne)
 
 -- both of an `and`
 pub both : (b c : Bool) → (b && c) ≡ true → (b ≡ true) × (c ≡ true)

@@ -11,7 +11,7 @@ use Rattle.registry_model.proofs.Rising.{Rises}
 use Rattle.registry_model.proofs.Tables.{without-without, without_agree, is_rising-put, is_rising-without}
 use Rattle.protocol_model.specs.Node.{unless_told, wrote}
 use Rattle.protocol_model.specs.Reading.{admitted, joined_with, welcomed}
-use Rattle.moves.proofs.Indices.{at_same, at_other}
+use Rattle.registry_model.proofs.Updates.{at_same, at_other}
 use Rattle.replicas.proofs.Writes.{without-changed}
 
 -- tables that are one without some nodes stay so while names are put

@@ -17,7 +17,7 @@ use Rattle.protocol_model.specs.Node.{Op, Current}
 use Rattle.protocol_model.specs.Reading.{admitted, welcomed}
 use Rattle.protocol_model.specs.Turn.{sent_to}
 use Rattle.protocol_model.specs.World.{Opening, in_world, in_cluster, World, join_number}
-use Rattle.moves.proofs.Indices.{by_test, at_other}
+use Rattle.registry_model.proofs.Updates.{by_test, at_other}
 use Rattle.moves.proofs.Sends.{sent_to-append, sent_to-one, sent_to-all, to_each}
 use Rattle.moves.proofs.Rules.{Admits, IsHeld, May, turn_by, effect}
 use Rattle.moves.proofs.Invariants.{IsUp, IsProperCurrent, Proper, Exclusive, JoinsKnown}

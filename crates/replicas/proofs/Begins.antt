@@ -10,7 +10,7 @@ use Rattle.registry_model.specs.History.{Entry, effect, Hold, is_hold_of, old_or
 use Rattle.protocol_model.specs.Letter.{Letter}
 use Rattle.protocol_model.specs.Node.{Op}
 use Rattle.protocol_model.specs.World.{Opening, in_world}
-use Rattle.moves.proofs.Indices.{by_test, at_other}
+use Rattle.registry_model.proofs.Updates.{by_test, at_other}
 use Rattle.moves.proofs.Rules.{kills_in}
 use Rattle.moves.proofs.Invariants.{Each}
 use Rattle.replicas.proofs.Mail.{carries, is_applied, carried}

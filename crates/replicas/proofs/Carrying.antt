@@ -8,7 +8,7 @@ use Rattle.registry_model.specs.Registry.{replica_of}
 use Rattle.registry_model.specs.History.{Hold, is_hold_of}
 use Rattle.protocol_model.specs.Letter.{Letter}
 use Rattle.protocol_model.specs.World.{Opening}
-use Rattle.moves.proofs.Indices.{by_test}
+use Rattle.registry_model.proofs.Updates.{by_test}
 use Rattle.moves.proofs.Rules.{kills_in}
 use Rattle.moves.proofs.Invariants.{Each}
 use Rattle.replicas.proofs.Mail.{carries, is_applied, carried}

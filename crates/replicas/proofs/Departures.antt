@@ -7,7 +7,7 @@ use Rattle.registry_model.specs.Table.{Table, without}
 use Rattle.registry_model.specs.Registry.{Registry, in_group, table_of, Replica, replica_of}
 use Rattle.registry_model.specs.History.{Told, effect}
 use Rattle.protocol_model.specs.Reading.{bereft}
-use Rattle.moves.proofs.Indices.{at_same, at_other}
+use Rattle.registry_model.proofs.Updates.{at_same, at_other}
 use Rattle.replicas.proofs.Mail.{members-at}
 use Rattle.registry_model.proofs.Tables.{without-at}
 

@@ -16,7 +16,8 @@ use Rattle.protocol_model.specs.Reading.{bereft}
 use Rattle.protocol_model.specs.Turn.{Turn, sent_to}
 use Rattle.protocol_model.specs.World.{Opening, in_world, in_cluster, World, At, apply, closed}
 use Rattle.protocol_model.specs.Event.{Event}
-use Rattle.moves.proofs.Indices.{by_test, both}
+use Rattle.registry_model.proofs.Updates.{by_test}
+use Rattle.moves.proofs.Indices.{both}
 use Rattle.moves.proofs.Rules.{IsTold, Exits, Leaves, Kills, BeginsStrike, kills_in, May, turn_by, effect}
 use Rattle.moves.proofs.Invariants.{Each, IsProper, Proper, Exclusive, JoinsKnown}
 use Rattle.replicas.proofs.Mail.{carried, carried-bereft}

@@ -13,7 +13,7 @@ use Rattle.registry_model.proofs.Legality.{JoinIsLegal, join_is_legal}
 use Rattle.registry_model.proofs.Rising.{Rises, Rises-effect}
 use Rattle.registry_model.proofs.Deaths.{IsJoinOf, joined-effect, joined_stays}
 use Rattle.registry_model.proofs.LoneOwners.{IsGood, IsGood-standing_of}
-use Rattle.moves.proofs.Indices.{by_test}
+use Rattle.registry_model.proofs.Updates.{by_test}
 use Rattle.replicas.proofs.Histories.{after-denied, after-granted, after-read, after-not_member, after-contact_left}
 use Rattle.replicas.proofs.Soundness.{are_on-own, Within-behind, Within-begun, WithinCluster, WithinLone, Grouped, Sound, the_hold, behind}
 

@@ -13,7 +13,7 @@ use Rattle.registry_model.specs.History.{Entry, effect, Hold, old_or, with_effec
 use Rattle.protocol_model.specs.Letter.{Letter}
 use Rattle.protocol_model.specs.Watch.{lesser, least_owner}
 use Rattle.protocol_model.specs.World.{Opening}
-use Rattle.moves.proofs.Indices.{by_test}
+use Rattle.registry_model.proofs.Updates.{by_test}
 use Rattle.moves.proofs.Rules.{kills_in}
 use Rattle.moves.proofs.Invariants.{Each}
 use Rattle.registry_model.proofs.Deaths.{dead_stays}

@@ -15,7 +15,7 @@ use Rattle.registry_model.proofs.Groups.{told-with_table}
 use Rattle.registry_model.proofs.Rising.{Rises, Rises-effect}
 use Rattle.registry_model.proofs.Deaths.{joined-effect, joined_stays}
 use Rattle.registry_model.proofs.LoneOwners.{IsOwn}
-use Rattle.moves.proofs.Indices.{by_test, at_same}
+use Rattle.registry_model.proofs.Updates.{by_test, at_same}
 
 -- all owners are of node n
 abbrev pub are_on : ℕ → Table → Bool

@@ -11,7 +11,7 @@ use Rattle.protocol_model.specs.Letter.{Letter}
 use Rattle.protocol_model.specs.Node.{Node}
 use Rattle.protocol_model.specs.Turn.{Turn, sent_to}
 use Rattle.protocol_model.specs.World.{Opening, in_cluster, World, apply}
-use Rattle.moves.proofs.Indices.{by_test}
+use Rattle.registry_model.proofs.Updates.{by_test}
 use Rattle.moves.proofs.Rules.{Rule, Leaves, Taken, FrontTaken, takes, without_letter, turn_by, effect, closed_by}
 use Rattle.registry_model.proofs.HistoryParts.{standing_of-append}
 use Rattle.replicas.proofs.Scenes.{Doing, doing_of, struck_by, struck_of, is_mine, mine, Scene, scene_of}

@@ -10,7 +10,7 @@ use Rattle.protocol_model.specs.Event.{Answer}
 use Rattle.protocol_model.specs.Node.{Node}
 use Rattle.protocol_model.specs.Turn.{Turn, begun}
 use Rattle.protocol_model.specs.World.{Opening, in_world, World, left, Deliver, join_number, apply, opened}
-use Rattle.moves.proofs.Indices.{at_same}
+use Rattle.registry_model.proofs.Updates.{at_same}
 use Rattle.moves.proofs.Rules
 use Rattle.moves.proofs.Rules.{Rule, Taken, taking, is_quiet}
 use Rattle.walk.proofs.Worlds.{onto, apply-onto, apply-begun, opened-apply, stays_front}

@@ -15,7 +15,7 @@ use Rattle.protocol_model.specs.Registrar.{registrar}
 use Rattle.protocol_model.specs.Client.{in_phase, close_call, give_lock, is_spent}
 use Rattle.protocol_model.specs.Reading.{with_member, admitted}
 use Rattle.protocol_model.specs.World.{Opening, World, in_cluster, join_number, opening_world}
-use Rattle.moves.proofs.Indices.{by_test}
+use Rattle.registry_model.proofs.Updates.{by_test}
 use Rattle.moves.proofs.Rules
 use Rattle.moves.proofs.Rules.{Rule}
 use Rattle.walk.proofs.Orders.{effect-node}

@@ -14,7 +14,7 @@ use Rattle.protocol_model.specs.Turn.{Turn, with_replica}
 use Rattle.protocol_model.specs.Calling.{die, kill}
 use Rattle.protocol_model.specs.Reading.{with_member, admitted}
 use Rattle.protocol_model.specs.World.{Opening, in_world, World, left}
-use Rattle.moves.proofs.Indices.{by_test}
+use Rattle.registry_model.proofs.Updates.{by_test}
 use Rattle.moves.proofs.Rules
 use Rattle.moves.proofs.Rules.{Rule, die_to, kills_in, awaits}
 use Rattle.walk.proofs.Worlds.{stays_front}

@@ -11,7 +11,7 @@ use Rattle.protocol_model.specs.Turn.{begun, with_locks, keep_call, send_all}
 use Rattle.protocol_model.specs.Registrar.{registrar}
 use Rattle.protocol_model.specs.Client.{in_phase, close_call, give_lock, is_spent}
 use Rattle.protocol_model.specs.World.{Opening, World, join_number, opening_world, apply}
-use Rattle.moves.proofs.Indices.{by_test}
+use Rattle.registry_model.proofs.Updates.{by_test}
 use Rattle.moves.proofs.Rules
 use Rattle.moves.proofs.Rules.{Rule, Taken, IsNew, IsRetried, IsOpen, is_ordered, Ordered}
 use Rattle.walk.proofs.Calls.{is_ordered-drop_call, is_ordered-put_call, ordered_found}

@@ -12,7 +12,7 @@ use Rattle.protocol_model.specs.Deciding.{hear_answer, lose}
 use Rattle.protocol_model.specs.Client.{hear_lock}
 use Rattle.protocol_model.specs.Reading.{welcomed, read, receive, told_of, bereave, lose_join, lose_current}
 use Rattle.protocol_model.specs.World.{Opening, in_world, World, left, Deliver, number_in, join_number, opened}
-use Rattle.moves.proofs.Indices.{at_same}
+use Rattle.registry_model.proofs.Updates.{at_same}
 use Rattle.moves.proofs.Rules
 use Rattle.moves.proofs.Rules.{Rule, is_ordered}
 use Rattle.walk.proofs.ChainKinds.{Hearing}

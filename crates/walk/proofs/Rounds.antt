@@ -13,7 +13,7 @@ use Rattle.protocol_model.specs.Turn.{Turn, at_work, enter}
 use Rattle.protocol_model.specs.Registrar.{finish, done, write, contact_left, lose_contact}
 use Rattle.protocol_model.specs.Deciding.{admit, held, end_by, end_round, lose}
 use Rattle.protocol_model.specs.World.{Opening, in_world, World, left, number_in, join_number, apply}
-use Rattle.moves.proofs.Indices.{by_test}
+use Rattle.registry_model.proofs.Updates.{by_test}
 use Rattle.moves.proofs.Rules
 use Rattle.moves.proofs.Rules.{Rule, IsHeld}
 use Rattle.walk.proofs.ChainKinds.{Hearing}

@@ -11,7 +11,7 @@ use Rattle.protocol_model.specs.Event.{Answer}
 use Rattle.protocol_model.specs.Node.{Node}
 use Rattle.protocol_model.specs.Turn.{Send, Turn, begun, sent_to}
 use Rattle.protocol_model.specs.World.{World, Deliver, apply, opened}
-use Rattle.moves.proofs.Indices.{by_test}
+use Rattle.registry_model.proofs.Updates.{by_test}
 use Rattle.moves.proofs.Sends.{sent_to-append}
 
 -- a turn, and then one more from its node
