@@ -25,5 +25,6 @@ returns-clause-round_goes_on_without_a_departed_node start = record { prints = r
 pub returns-clause-boss_leaves_after_its_grant : goal.returns-clause-boss_leaves_after_its_grant
 returns-clause-boss_leaves_after_its_grant start = record { prints = refl; keeps = refl }
 
-pub returns-clause-deletion_goes_on_without_a_departed_node : goal.returns-clause-deletion_goes_on_without_a_departed_node
+pub returns-clause-deletion_goes_on_without_a_departed_node :
+    goal.returns-clause-deletion_goes_on_without_a_departed_node
 returns-clause-deletion_goes_on_without_a_departed_node start = record { prints = refl; keeps = refl }
