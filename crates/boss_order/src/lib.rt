@@ -1,9 +1,9 @@
-//! The boss of a set of nodes: the greatest, which is asked first.
+//! The boss of a set of nodes: the greatest, which is asked first. And what two sets have in common.
 #![tactic(auto)]
 
 mod order;
 
-pub use order::{boss, rest};
+pub use order::{boss, common, rest};
 
 #[cfg(test)]
 mod tests;

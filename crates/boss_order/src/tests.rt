@@ -1,5 +1,5 @@
 //! Sets of a few nodes.
-use crate::{boss, rest};
+use crate::{boss, common, rest};
 use std::test::Fail;
 use term::{NodeSet, parse_node};
 
@@ -13,6 +13,8 @@ fn greatest_is_boss(rt: HostRuntime) -> Result<(), Fail> {
     }
     assert!(rt; !nodes.is_empty());
     assert_eq!(rt; boss(&nodes), c);
+    assert_eq!(rt; common(&nodes, &rest(&nodes)), rest(&nodes));
+    assert!(rt; common(&nodes, &NodeSet::empty()).is_empty());
     assert_eq!(rt; rest(&nodes).as_slice(), [a, b].as_slice());
     Ok(())
 }

@@ -1,4 +1,5 @@
-mod Owners
+pub mod Owners
 mod Serials
 mod Sets
 mod Suspects
+mod Exits

@@ -18,6 +18,11 @@ abbrev pub refusal_of : {A : Type 0} → Result A WatchFault → Option Refusal
 refusal_of (Ok x) = None
 refusal_of (Err fault) = fault_of fault
 
+-- the refusal that a fault stands for, if there is a fault
+abbrev pub cause_of : Option WatchFault → Option Refusal
+cause_of None = None
+cause_of (Some fault) = fault_of fault
+
 -- a node with this watch refuses the event so, or accepts it where that is none
 abbrev pub Refuses : Event → Held → Option Refusal → Type 0
 Refuses e h refusal = (v : Node) → v.watch ≡ h.watch → first_cause (causes h.node v e) ≡ refusal

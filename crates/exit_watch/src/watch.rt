@@ -1,13 +1,13 @@
 //! The watch of one node.
-ghost use Rattle.std.specs.Prelude.{◌≡◌, false, OnOk, OnErr, IfOk, IfErr};
+ghost use Rattle.std.specs.Prelude.{◌≡◌, false, nat_lt, Some, OnOk, OnErr, IfOk, IfErr};
 ghost use Rattle.std.specs.Option.{option_map};
 ghost use Rattle.registry_model.specs.Table.{Table, put};
 ghost use Rattle.registry_model.specs.Process.{Text};
 ghost use Rattle.protocol_model.specs.Watch.{is_live, is_dead, is_issued, next_serial, with_spawned, with_dead, owed};
-ghost use Rattle.protocol_model.specs.Event.{Calling, Exiting, Spawn};
-ghost use Rattle.exit_watch.specs.Faults.{Refuses, refusal_of};
+ghost use Rattle.protocol_model.specs.Event.{Calling, Exiting, Spawn, last_u32};
+ghost use Rattle.exit_watch.specs.Faults.{Refuses, refusal_of, cause_of};
 ghost use Rattle.exit_watch.specs.Held.{watch_from, process_of, serial_left, AreSuspected, KeepsSuspects};
-ghost use Rattle.exit_watch.specs.declared.faults.WatchFault.TheVariants.{SerialsSpent};
+ghost use Rattle.exit_watch.specs.declared.faults.WatchFault.TheVariants.{SerialsSpent, Memory};
 
 use crate::faults::WatchFault;
 use indexmap::IndexSet;
@@ -112,6 +112,27 @@ impl Watch {
         None
     }
 
+    /// Whether no serial is left for a further process.
+    pub fn is_spent(&self) -> bool
+        ensures { result ≡ nat_lt last_u32 (next_serial self.now.watch) }
+    {
+        self.next_serial().is_none()
+    }
+
+    /// Why an exit of this process would be refused, if it would: it needs memory beside.
+    pub fn exit_refusal(&self, process: &Pid) -> Option<WatchFault>
+        ensures cause { Refuses (Exiting process.now) self.now (cause_of result) }
+        ensures never_memory { result ≡ Some Memory → ⊥ }
+    {
+        if !self.is_issued(process) {
+            return Some(WatchFault::NoSuchProcess);
+        }
+        if self.is_dead(process.serial) {
+            return Some(WatchFault::AlreadyExited);
+        }
+        None
+    }
+
     /// A new process, of the least serial above all given ones that isn't dead. It takes no memory.
     pub fn spawn(&mut self) -> Result<Pid, WatchFault>
         ensures refusal { Refuses (Calling Spawn) self.old (refusal_of result) }
@@ -135,13 +156,10 @@ impl Watch {
         ensures suspected { KeepsSuspects self.old self.new }
         ensures unchanged { OnErr result (self.new ≡ self.old) }
     {
-        if !self.is_issued(process) {
-            return Err(WatchFault::NoSuchProcess);
+        match self.exit_refusal(process) {
+            Some(fault) => Err(fault),
+            None => self.bury(process.serial).map_err(|_| WatchFault::Memory),
         }
-        if self.is_dead(process.serial) {
-            return Err(WatchFault::AlreadyExited);
-        }
-        self.bury(process.serial).map_err(|_| WatchFault::Memory)
     }
 
     /// The process of this serial is dead from now on.

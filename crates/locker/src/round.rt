@@ -59,6 +59,16 @@ impl Round {
         }
     }
 
+    /// The same round.
+    pub fn copy(&self) -> Round
+        ensures { result ≡ self.now }
+    {
+        Round {
+            nodes: self.nodes.copy(),
+            marks: self.marks,
+        }
+    }
+
     /// The place of a node among those that are asked.
     fn place(&self, node: &NodeName) -> Option<usize>
         ensures value { result ≡ place node.now self.now.nodes }

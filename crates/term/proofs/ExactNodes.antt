@@ -257,14 +257,9 @@ some_node : (nodes : List ℕ) (c : ℕ) → set_of nodes c ≡ true → 0 < len
 some_node [] c h = cc
 some_node (x ∷ xs) c h = omega arith
 
--- a set that a text spells is spelled by the text that it is printed as
-pub printed_nodes : (bytes nodes : List ℕ) → SpellsNodes bytes nodes → SpellsNodes (list_of nodes) nodes
-printed_nodes bytes nodes s =
-    list_of-spells nodes (some_node nodes first held) (record { rising = s.listed.rising; fits = s.fits })
-    (λ k d inside.
-    spelled-name (parts_of bytes) s.listed.names (get_or nodes k d) s.listed.spelled
-    (sym (s.listed.named (get_or nodes k d))
-    ∙ list_any_at (λ m. m == get_or nodes k d) nodes k d inside (eq-eqb (get_or nodes k d) (get_or nodes k d) refl)))
+-- a text that spells a set names a node
+pub spelled_some : (bytes nodes : List ℕ) → SpellsNodes bytes nodes → 0 < length nodes
+spelled_some bytes nodes s = some_node nodes first held
   where
     first : ℕ
     first = get_or s.listed.names 0 0
@@ -278,3 +273,12 @@ printed_nodes bytes nodes s =
           AllZip-long SpellsText (parts_of bytes) s.listed.names s.listed.spelled,
         ) in
         s.listed.named first ∙ list_any_at (λ m. m == first) s.listed.names 0 0 some (eq-eqb first first refl)
+
+-- a set that a text spells is spelled by the text that it is printed as
+pub printed_nodes : (bytes nodes : List ℕ) → SpellsNodes bytes nodes → SpellsNodes (list_of nodes) nodes
+printed_nodes bytes nodes s =
+    list_of-spells nodes (spelled_some bytes nodes s) (record { rising = s.listed.rising; fits = s.fits })
+    (λ k d inside.
+    spelled-name (parts_of bytes) s.listed.names (get_or nodes k d) s.listed.spelled
+    (sym (s.listed.named (get_or nodes k d))
+    ∙ list_any_at (λ m. m == get_or nodes k d) nodes k d inside (eq-eqb (get_or nodes k d) (get_or nodes k d) refl)))

@@ -1,4 +1,4 @@
-mod ExactNodes
+pub mod ExactNodes
 mod ExactPids
 mod ExactTexts
 pub mod NodeLists
@@ -7,5 +7,5 @@ pub mod NodeSets
 mod NodeTexts
 mod Parts
 mod Places
-mod Serials
+pub mod Serials
 pub mod Texts
