@@ -1,1 +1,2 @@
 mod Awaited
+mod Counted

@@ -2,12 +2,15 @@
 use Rattle.registry_model.specs.Call.{NameCall as AnyNameCall}
 use Rattle.protocol_model.specs.Node.{Op as AnyOp}
 use Rattle.transaction.specs.declared.op.NameCall.{NameCall}
-use Rattle.transaction.specs.declared.op.NameCall.TheVariants.{Register}
+use Rattle.transaction.specs.declared.op.NameCall.TheVariants.{Register, ReRegister, Unregister}
 use Rattle.transaction.specs.declared.op.Op.{Op}
-use Rattle.transaction.specs.declared.op.Op.TheVariants.{Name}
+use Rattle.transaction.specs.declared.op.Op.TheVariants.{Name, Strike}
 
 abbrev pub name_call_of : NameCall → AnyNameCall
 name_call_of (Register x p) = AnyNameCall.Register x p
+name_call_of (ReRegister x p) = AnyNameCall.ReRegister x p
+name_call_of (Unregister x) = AnyNameCall.Unregister x
 
 abbrev pub op_of : Op → AnyOp
 op_of (Name k c) = AnyOp.Name k (name_call_of c)
+op_of (Strike p) = AnyOp.Strike p

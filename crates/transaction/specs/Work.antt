@@ -1,6 +1,8 @@
 -- The work of a registrar.
-use Rattle.std.specs.Prelude.{ℕ, Bool, true, false, Option, Some, None, List, [], ◌∷◌, ◌++◌}
+use Rattle.std.specs.Prelude.{ℕ, Bool, true, false, Option, Some, None, is_some, List, [], ◌∷◌, ◌++◌}
+use Rattle.registry_model.specs.Process.{Process}
 use Rattle.transaction.specs.declared.op.Op.{Op}
+use Rattle.transaction.specs.declared.op.Op.TheVariants.{Strike}
 
 -- the operations that wait, the oldest first; the current one; and whom it awaits
 pub record Work : Type 0 where
@@ -16,21 +18,33 @@ idle = record { queue = []; current = None; awaited = [] }
 abbrev pub enqueued : Op → Work → Work
 enqueued op w = record w { queue = w.queue ++ op ∷ [] }
 
--- the front of the queue becomes current, where none is
-abbrev pub started_from : Option Op → List Op → Work → Work
-started_from None (op ∷ ops) w = record w { queue = ops; current = Some op }
-started_from _ _ w = w
+-- what becomes current of a registrar without a current operation: the strike that is owed, else the front of the queue
+abbrev pub next_op : Option Process → List Op → Option Op
+next_op (Some p) ops = Some (Strike p)
+next_op None [] = None
+next_op None (op ∷ ops) = Some op
 
-abbrev pub started : Work → Work
-started w = started_from w.current w.queue w
+-- what waits then
+abbrev pub left_of : Option Process → List Op → List Op
+left_of (Some p) ops = ops
+left_of None [] = []
+left_of None (op ∷ ops) = ops
 
--- whether one becomes current
-abbrev pub starts_from : Option Op → List Op → Bool
-starts_from None (op ∷ ops) = true
-starts_from _ _ = false
+-- the next operation becomes current, where none is
+abbrev pub started_from : Option Process → Option Op → Work → Work
+started_from owed None w = record w { queue = left_of owed w.queue; current = next_op owed w.queue }
+started_from owed (Some op) w = w
 
-abbrev pub starts : Work → Bool
-starts w = starts_from w.current w.queue
+abbrev pub started : Option Process → Work → Work
+started owed w = started_from owed w.current w
+
+-- whether an operation becomes current
+abbrev pub starts_from : Option Process → Option Op → Work → Bool
+starts_from owed None w = is_some (next_op owed w.queue)
+starts_from owed (Some op) w = false
+
+abbrev pub starts : Option Process → Work → Bool
+starts owed w = starts_from owed w.current w
 
 -- nobody is left
 abbrev pub is_nobody : List ℕ → Bool

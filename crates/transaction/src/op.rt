@@ -10,8 +10,12 @@ use term::{Name, Pid};
 /// A call that goes through the registry.
 #[derive(Debug, PartialEq, Eq, Drop)]
 pub enum NameCall {
-    /// The process is to own the name.
+    /// The process is to own the name, where nobody owns it and the process owns none.
     Register(Name, Pid),
+    /// The process is to own the name, whoever owns it, and whatever else the process owns.
+    ReRegister(Name, Pid),
+    /// Nobody is to own the name.
+    Unregister(Name),
 }
 
 impl NameCall {
@@ -21,6 +25,8 @@ impl NameCall {
     {
         match self {
             NameCall::Register(name, owner) => NameCall::Register(name.copy(), owner.copy()),
+            NameCall::ReRegister(name, owner) => NameCall::ReRegister(name.copy(), owner.copy()),
+            NameCall::Unregister(name) => NameCall::Unregister(name.copy()),
         }
     }
 
@@ -29,7 +35,10 @@ impl NameCall {
         ensures { change_of result ≡ change_of_call (name_call_of self.now) }
     {
         match self {
-            NameCall::Register(name, owner) => Change::Put(name.copy(), owner.copy()),
+            NameCall::Register(name, owner) | NameCall::ReRegister(name, owner) => {
+                Change::Put(name.copy(), owner.copy())
+            }
+            NameCall::Unregister(name) => Change::Remove(name.copy()),
         }
     }
 }
@@ -39,4 +48,6 @@ impl NameCall {
 pub enum Op {
     /// A name call, under its number at the node.
     Name(u32, NameCall),
+    /// A dead process of this node loses all its names.
+    Strike(Pid),
 }

@@ -5,7 +5,7 @@ use crate::op::Op;
 use std::alloc::{AllocError, Global};
 use std::collections::VecDeque;
 use std::marker::Model;
-use term::{NodeName, NodeSet};
+use term::{NodeName, NodeSet, Pid};
 
 /// The operations of one node: those that wait, the oldest first, the current one, and the nodes that haven't yet said that
 /// they carried it out.
@@ -28,7 +28,7 @@ impl Registrar {
     ghost use Rattle.std.specs.Prelude.{false, is_some, None, IsTrue, [], OnOk, OnErr};
     ghost use Rattle.std.specs.Option.{option_copied};
     ghost use Rattle.term.specs.NodeSets.{set_of, without_node};
-    ghost use Rattle.transaction.specs.Work.{idle, enqueued, starts, started, is_nobody};
+    ghost use Rattle.transaction.specs.Work.{idle, enqueued, started, starts, is_nobody};
 
     /// A registrar without operations. It takes no memory.
     pub fn new(alloc: Global) -> Self
@@ -57,15 +57,19 @@ impl Registrar {
         self.current.as_ref()
     }
 
-    /// Makes the front of the queue the current operation, where none is current, and tells whether it did.
-    pub fn start(&mut self) -> bool
-        ensures state { self.new ≡ started self.old }
-        ensures began { result ≡ starts self.old }
+    /// Where no operation is current, the strike of this process becomes current, if one is owed, and else the front of the
+    /// queue. Tells whether one became current.
+    pub fn start(&mut self, owed: Option<Pid>) -> bool
+        ensures state { self.new ≡ started owed self.old }
+        ensures began { result ≡ starts owed self.old }
     {
         if self.current.is_some() {
             return false;
         }
-        self.current = self.queue.pop_front();
+        self.current = match owed {
+            Some(process) => Some(Op::Strike(process)),
+            None => self.queue.pop_front(),
+        };
         self.current.is_some()
     }
 

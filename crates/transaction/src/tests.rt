@@ -22,13 +22,13 @@ fn carries_out_what_waits(rt: HostRuntime) -> Result<(), Fail> {
     let alloc: Global = rt.alloc();
     let (a, b): (NodeName, NodeName) = (parse_node("a")?, parse_node("b")?);
     let mut registrar = Registrar::new(alloc);
-    assert!(rt; !registrar.start());
+    assert!(rt; !registrar.start(None));
     registrar.enqueue(Op::Name(1, register("x")?))?;
     registrar.enqueue(Op::Name(2, register("y")?))?;
     assert!(rt; registrar.current().is_none());
-    assert!(rt; registrar.start());
+    assert!(rt; registrar.start(None));
     // The second waits until the first is finished.
-    assert!(rt; !registrar.start());
+    assert!(rt; !registrar.start(None));
     let first = Op::Name(1, register("x")?);
     assert!(rt; registrar.current() == Some(&first));
 
@@ -40,7 +40,7 @@ fn carries_out_what_waits(rt: HostRuntime) -> Result<(), Fail> {
     assert!(rt; registrar.is_done());
     registrar.finish();
     assert!(rt; registrar.current().is_none());
-    assert!(rt; registrar.start());
+    assert!(rt; registrar.start(None));
     let second = Op::Name(2, register("y")?);
     assert!(rt; registrar.current() == Some(&second));
     Ok(())

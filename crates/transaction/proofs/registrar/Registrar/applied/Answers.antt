@@ -1,4 +1,4 @@
-use Rattle.std.proofs.Common.{ℕ, Option, List, ap, sym, ◌∙◌}
+use Rattle.std.proofs.Common.{ℕ, List, ap, sym, ◌∙◌}
 use Rattle.term.specs.NodeSets.{without_node}
 use Rattle.transaction.specs.Work.{Work}
 use Rattle.transaction.proofs.Awaited.{without_node-other}

@@ -1,0 +1,14 @@
+-- Lock calls, as the protocol has them.
+use Rattle.protocol_model.specs.Node.{Target, Retries as AnyRetries}
+use Rattle.transaction.specs.declared.nodes.Nodes.{Nodes}
+use Rattle.transaction.specs.declared.nodes.Nodes.TheVariants.{All, Named}
+use Rattle.transaction.specs.declared.nodes.Retries.{Retries}
+use Rattle.transaction.specs.declared.nodes.Retries.TheVariants.{Times, Endless}
+
+abbrev pub target_of : Nodes → Target
+target_of All = Target.All
+target_of (Named ns) = Target.Named ns
+
+abbrev pub retries_of : Retries → AnyRetries
+retries_of (Times n) = AnyRetries.Times n
+retries_of Endless = AnyRetries.Endless
