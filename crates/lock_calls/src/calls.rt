@@ -1,0 +1,103 @@
+//! The calls of one node.
+ghost use Rattle.std.specs.Prelude.{◌≡◌, ◌<◌, ◌⊎◌, None, map, All, IfOk, IfSome, OnOk, OnErr};
+ghost use Rattle.std.specs.List.{list_any, IsAmong};
+ghost use Rattle.std.specs.Option.{option_map, option_copied};
+ghost use Rattle.protocol_model.specs.Node.{call_of, put_call, drop_call};
+ghost use Rattle.protocol_model.specs.Event.{is_waiting_call};
+ghost use Rattle.lock_calls.specs.Calls.{as_call};
+ghost use Rattle.lock_calls.specs.Held.{none_at, seen, AreOrdered};
+
+use crate::call::LockCall;
+use std::alloc::{AllocError, Global};
+use std::collections::BTreeMap;
+use std::marker::Model;
+use term::{NodeName, Pid};
+
+/// The unanswered lock calls of one node, by the serials of the processes that made them.
+#[derive(Drop)]
+pub struct LockCalls {
+    node: NodeName,
+    calls: BTreeMap<u32, LockCall>,
+}
+
+impl Model for LockCalls {
+    ghost use Rattle.std.specs.BTreeMap.{values};
+    ghost use Rattle.lock_calls.specs.Held.{Held, IsFiled};
+
+    ghost Value = { Held };
+
+    ghost view = { λ l. record { node = l.node; calls = values l.calls } };
+
+    ghost invariant = { λ l. IsFiled l.node l.calls };
+}
+
+impl LockCalls {
+    /// No call of this node. It takes no memory yet.
+    pub fn new(alloc: Global, node: NodeName) -> Self
+        ensures { result ≡ none_at node }
+    {
+        LockCalls {
+            node,
+            calls: BTreeMap::new(alloc),
+        }
+    }
+
+    /// The call of a process, if it has one.
+    pub fn get(&self, holder: &Pid) -> Option<&LockCall>
+        ensures call { option_map as_call (option_copied result) ≡ call_of holder.now (seen self.now) }
+        ensures member { IfSome result (λ call. IsAmong self.now.calls call.now) }
+        ensures ordered { AreOrdered self.now.node (seen self.now) }
+    {
+        if holder.node != self.node {
+            return None;
+        }
+        self.calls.get(&holder.serial)
+    }
+
+    /// Puts a call of a process of the node, in place of the one that the process has. `AllocError`: there is no memory
+    /// for the first call of the process, and nothing changes.
+    pub fn put(&mut self, call: LockCall) -> Result<(), AllocError>
+        requires own { call.holder.node ≡ self.old.node }
+        requires live { 0 < call.holder.serial }
+        ensures node { self.new.node ≡ self.old.node }
+        ensures ok { OnOk result (seen self.new ≡ put_call (as_call call) (seen self.old)) }
+        ensures only_new { OnOk result (All (λ c. (c ≡ call) ⊎ IsAmong self.old.calls c) self.new.calls) }
+        ensures unchanged { OnErr result (self.new ≡ self.old) }
+        ensures err { OnErr result (call_of call.holder (seen self.old) ≡ None) }
+    {
+        self.calls.insert(call.holder.serial, call)?;
+        Ok(())
+    }
+
+    /// Takes the call of a process out, if it has one.
+    pub fn take(&mut self, holder: &Pid) -> Option<LockCall>
+        ensures node { self.new.node ≡ self.old.node }
+        ensures calls { seen self.new ≡ drop_call holder.now (seen self.old) }
+        ensures call { option_map as_call result ≡ call_of holder.now (seen self.old) }
+        ensures member { IfSome result (IsAmong self.old.calls) }
+        ensures none_new { All (IsAmong self.old.calls) self.new.calls }
+    {
+        if holder.node != self.node {
+            return None;
+        }
+        self.calls.remove(&holder.serial)
+    }
+
+    /// Whether some call waits for a retry. It looks at one call after another.
+    pub fn has_waiting(&self) -> bool
+        ensures { result ≡ list_any (λ c. is_waiting_call c.phase) (seen self.now) }
+    {
+        self.calls.values().any(|call| call.phase.is_waiting())
+    }
+
+    /// The processes that have a call, rising by serial.
+    pub fn holders(&self, alloc: Global) -> Result<Vec<Pid>, AllocError>
+        ensures holders { IfOk result (λ holders. holders.items ≡ map (λ c. c.holder) self.now.calls) }
+        ensures ordered { AreOrdered self.now.node (seen self.now) }
+    {
+        self.calls
+            .values()
+            .map(|call| call.holder.copy())
+            .collect(alloc)
+    }
+}
