@@ -3,6 +3,9 @@ mod Receivers
 mod Rules
 mod Rounds
 mod Reading
+mod Refusals
+mod Exits
+mod Noting
 mod Calls
 mod Judging
 mod Opening

@@ -7,6 +7,7 @@ use Rattle.registry_model.specs.Table.{Table, without}
 use Rattle.protocol_model.specs.LockTable.{Locks}
 use Rattle.protocol_model.specs.Node.{Node, opening_node}
 use Rattle.term.specs.NodeSets.{set_of}
+use Rattle.exit_watch.specs.Held.{Held as Watch, watch_from}
 use Rattle.transaction.specs.Work.{Work, idle}
 use Rattle.node_core.specs.declared.events.Entry.{Entry}
 use Rattle.node_core.specs.declared.node.Phase.TheVariants.{Waiting}
@@ -40,9 +41,9 @@ opens a world members joined own is =
     }
 
 -- the same of what is made for it
-pub opened : (h : Held) (a : ℕ) (world members w m : List ℕ) (joined : Bool) (t : Table) (locks : Locks) (r : Work)
-    (es : List Entry)
-    → w ≡ world → m ≡ members → t ≡ [] → locks ≡ [] → r ≡ idle → es ≡ []
+pub opened : (h : Held) (a : ℕ) (world members w m : List ℕ) (joined : Bool) (t : Table) (locks : Locks) (v : Watch)
+    (r : Work) (es : List Entry)
+    → w ≡ world → m ≡ members → t ≡ [] → locks ≡ [] → v ≡ watch_from a 0 → r ≡ idle → es ≡ []
     → h ≡ record {
       name = a;
       world = w;
@@ -50,14 +51,14 @@ pub opened : (h : Held) (a : ℕ) (world members w m : List ℕ) (joined : Bool)
       joined = joined;
       table = t;
       locks = locks;
-      last_serial = 0;
+      watch = v;
       registrar = r;
       phase = Waiting;
       last_call = 0;
       entered = es;
     }
     → set_of members a ≡ true → joined ≡ true → node_of h ≡ opening_node (set_of members) a
-opened h a world members w m joined t locks r es e1 e2 e3 e4 e5 e6 e own is = ap node_of same
+opened h a world members w m joined t locks v r es e1 e2 e3 e4 e5 e6 e7 e own is = ap node_of same
     ∙ opens a world members joined own is
   where
     same : h ≡ fresh a world members joined

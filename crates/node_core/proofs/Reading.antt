@@ -1,17 +1,17 @@
 -- The rules of letters and calls, one by one.
-use Rattle.std.proofs.Common.{ℕ, Bool, true, false, ◌≡◌, None, List, ◌++◌, refl, sym, ap, ◌∙◌, subst, Ok, Err}
-use Rattle.std.specs.Prelude.{not, if◌then◌else◌, OnOk, Result}
+use Rattle.std.proofs.Common.{ℕ, Bool, true, false, ◌≡◌, None, List, ◌++◌, refl, sym, ap, ◌∙◌, subst}
+use Rattle.std.specs.Prelude.{not, if◌then◌else◌}
 use Rattle.registry_model.specs.Process.{Process, is_process}
 use Rattle.protocol_model.specs.Registrar.{registrar}
 use Rattle.protocol_model.specs.Deciding.{hear_answer}
 use Rattle.protocol_model.specs.Reading.{hear, read, receive}
 use Rattle.node_core.specs.declared.events.Letter.{Letter}
 use Rattle.node_core.specs.declared.events.Event.{Event}
-use Rattle.node_core.specs.declared.events.Event.TheVariants.{Call, FromPeer, Retry}
+use Rattle.node_core.specs.declared.events.Event.TheVariants.{Call, FromPeer, Retry, Exit}
 use Rattle.node_core.specs.Made.{Made, nothing}
 use Rattle.node_core.specs.Held.{Held, IsWhole, bound_of}
 use Rattle.node_core.specs.Seen.{turn_of, letter_of}
-use Rattle.node_core.specs.Steps.{Makes, Takes, Steps, refusal_of}
+use Rattle.node_core.specs.Steps.{Makes, Takes, Steps, IsTurn, refusal_of}
 use Rattle.node_core.proofs.Receivers.{sends_within}
 
 -- an answer to the registrar goes to its round
@@ -40,49 +40,38 @@ pub reads : (h k : Held) (t u : Made) (f : ℕ) (l m : Letter) → l ≡ m → (
 reads h k t u f l m is number made = subst (λ (x : Letter). Makes (λ n a. read n a number f (letter_of x)) h t k u)
     (sym is) made
 
--- what is so of a success for each index, is so for all of them at once
-at_once : {T E I : Type 0} (P : I → Type 0) (r : Result T E) → ((i : I) → OnOk r (P i)) → OnOk r ((i : I) → P i)
-at_once P (Ok x) each = each
-at_once P (Err e) each = tt
-
 -- a letter's event is taken
-pub takes_letter : {T E : Type 0} (r : Result T E) (e : Event) (f : ℕ) (l : Letter) (h k : Held) (t u : Made) → e
-    ≡ FromPeer f l
-    → ((number : ℕ → ℕ) → OnOk r (Makes (λ n a. receive n a number f (letter_of l)) h t k u)) → OnOk r (Takes e h t k u)
-takes_letter r e f l h k t u is each = subst (λ (x : Event). OnOk r (Takes x h t k u)) (sym is)
-    (at_once (λ (number : ℕ → ℕ). Makes (λ n a. receive n a number f (letter_of l)) h t k u) r each)
+pub takes_letter : (e : Event) (f : ℕ) (l : Letter) (h k : Held) (t u : Made) → e ≡ FromPeer f l
+    → ((number : ℕ → ℕ) → Makes (λ n a. receive n a number f (letter_of l)) h t k u) → Takes e h t k u
+takes_letter e f l h k t u is each = subst (λ (x : Event). Takes x h t k u) (sym is) each
+
+-- the step of an event, of the turn that it made
+stepped : (e : Event) (h k : Held) (u : Made) (before after : List (ℕ × Letter)) → refusal_of e h ≡ None
+    → after ≡ before ++ u.letters → IsWhole h → k.name ≡ h.name → k.world ≡ h.world → IsTurn e h (turn_of k u)
+    → Steps e h (record k { entered = u.entries }) before after u.answers
+stepped e h k u before after accepted letters whole name world turn = record {
+  name = name;
+  world = world;
+  accepted = accepted;
+  sent = u.letters;
+  letters = letters;
+  within = λ heard. sends_within h whole e k u heard turn;
+  turn = turn;
+}
 
 -- the step of an event that was taken
 steps : (e : Event) (h k : Held) (u : Made) (before after : List (ℕ × Letter)) → refusal_of e h ≡ None
     → Takes e h nothing k u → after ≡ before ++ u.letters
     → IsWhole h → Steps e h (record k { entered = u.entries }) before after u.answers
-steps (Call c) h k u before after accepted made letters whole = record {
-  name = made.name;
-  world = made.world;
-  accepted = accepted;
-  sent = u.letters;
-  letters = letters;
-  within = λ heard. sends_within h whole (Call c) k u heard made.turn;
-  turn = made.turn;
-}
-steps Retry h k u before after accepted made letters whole = record {
-  name = made.name;
-  world = made.world;
-  accepted = accepted;
-  sent = u.letters;
-  letters = letters;
-  within = λ heard. sends_within h whole Retry k u heard made.turn;
-  turn = made.turn;
-}
-steps (FromPeer f l) h k u before after accepted made letters whole = record {
-  name = (made (λ j. 0)).name;
-  world = (made (λ j. 0)).world;
-  accepted = accepted;
-  sent = u.letters;
-  letters = letters;
-  within = λ heard. sends_within h whole (FromPeer f l) k u heard (λ number. (made number).turn);
-  turn = λ number. (made number).turn;
-}
+steps (Call c) h k u before after accepted made letters whole =
+    stepped (Call c) h k u before after accepted letters whole made.name made.world made.turn
+steps Retry h k u before after accepted made letters whole =
+    stepped Retry h k u before after accepted letters whole made.name made.world made.turn
+steps (Exit p) h k u before after accepted made letters whole =
+    stepped (Exit p) h k u before after accepted letters whole made.name made.world made.turn
+steps (FromPeer f l) h k u before after accepted made letters whole =
+    stepped (FromPeer f l) h k u before after accepted letters whole (made (λ j. 0)).name (made (λ j. 0)).world
+    (λ number. (made number).turn)
 
 -- the same, where these are what the step began with, and what it came to
 pub steps_from : (e : Event) (h k k0 : Held) (t u u0 : Made) (before after : List (ℕ × Letter)) → t ≡ nothing → k ≡ k0

@@ -5,34 +5,34 @@ use Rattle.std.proofs.lemmas.Bool.{cases_lt, eqb-true}
 use Rattle.std.proofs.lemmas.List.{get_or-map, length-map}
 use Rattle.std.proofs.lemmas.List.Elements.{All-nil, All-append, All-push, All-map}
 use Rattle.registry_model.specs.Process.{Process, is_process, Nodes, nodes_of}
-use Rattle.registry_model.specs.Table.{Change as AnyChange}
-use Rattle.registry_model.specs.Call.{Register as Registers, Reply as AnyReply, is_grant, change_of as change_of_call, reply_to}
+use Rattle.registry_model.specs.Table.{Change as AnyChange, StrikeOwner}
+use Rattle.registry_model.specs.Call.{NameCall, Reply as AnyReply, is_grant, change_of as change_of_call, reply_to}
 use Rattle.registry_model.specs.History.{Entry as AnyEntry}
 use Rattle.protocol_model.specs.Letter.{Letter as AnyLetter, Id, Global, is_down}
 use Rattle.protocol_model.specs.LockTable.{is_free_for}
-use Rattle.protocol_model.specs.Event.{Event as AnyEvent}
-use Rattle.protocol_model.specs.Node.{Op as AnyOp, Current, LockCall, call_of as call_of_holder}
+use Rattle.protocol_model.specs.Event.{Call as AnyCall, Event as AnyEvent}
+use Rattle.protocol_model.specs.Node.{Op as AnyOp, Current, LockCall, call_of as call_of_holder, drop_call}
 use Rattle.protocol_model.specs.Round as round
 use Rattle.protocol_model.specs.Round.{Round, Mark, begin, greatest, asked, granted, owes, opens, answer, is_out, is_over, is_empty, Ending, is_held}
 use Rattle.protocol_model.specs.Turn.{Turn, Send, begun, at_work, with_queue, send_all, enter}
 use Rattle.protocol_model.specs.Registrar.{registrar, answer_op, finish, done, write, ask_global, ask_rest, await_less, start, start_next, start_queue, start_free, retry_global}
-use Rattle.protocol_model.specs.Watch.{least_owner}
+use Rattle.protocol_model.specs.Watch.{owed}
 use Rattle.protocol_model.specs.Client.{hear_lock, owe_less, retry_in, retry_locks}
 use Rattle.protocol_model.specs.Deciding.{held, end_by, end_round, go_on, hear_answer}
 use Rattle.protocol_model.specs.Reading.{judge, hear, take_back, read, receive}
-use Rattle.protocol_model.specs.Calling.{event, call}
+use Rattle.protocol_model.specs.Calling.{event, call, die}
 use Rattle.term.specs.NodeSets.{set_of}
 use Rattle.lock_table.specs.Ids.{id_of}
 use Rattle.locker.proofs.Marks.{asked-seen}
 use Rattle.transaction.specs.declared.op.Op.{Op}
-use Rattle.transaction.specs.declared.op.Op.TheVariants.{Name as NameOp}
+use Rattle.transaction.specs.declared.op.Op.TheVariants.{Name as NameOp, Strike}
 use Rattle.transaction.specs.Ops.{op_of}
 use Rattle.node_core.specs.declared.events.Call.{Call}
-use Rattle.node_core.specs.declared.events.Call.TheVariants.{Spawn, Whereis, Register}
+use Rattle.node_core.specs.declared.events.Call.TheVariants.{Spawn, Whereis, RegisteredNames, Register, ReRegister, Unregister}
 use Rattle.node_core.specs.declared.events.Event.{Event}
-use Rattle.node_core.specs.declared.events.Event.TheVariants.{Call as Calls, FromPeer, Retry}
+use Rattle.node_core.specs.declared.events.Event.TheVariants.{Call as Calls, FromPeer, Retry, Exit}
 use Rattle.node_core.specs.declared.events.Letter.{Letter}
-use Rattle.node_core.specs.declared.events.Letter.TheVariants.{SetLock, LockAnswer, GiveBack, GivenBack, Apply, Applied}
+use Rattle.node_core.specs.declared.events.Letter.TheVariants.{SetLock, LockAnswer, GiveBack, GivenBack, ReleaseOf, Apply, Applied}
 use Rattle.node_core.specs.declared.node.Phase.{Phase}
 use Rattle.node_core.specs.declared.node.Phase.TheVariants.{Asking, Waiting, Writing}
 use Rattle.node_core.specs.Made.{Made}
@@ -49,29 +49,29 @@ AreOf world s = (c : ℕ) → s c ≡ true → world c ≡ true
 abbrev GoTo : Nodes → List Send → Type 0
 GoTo world ss = All (λ s. world s.to ≡ true) ss
 
--- the operation is a name call
-abbrev IsName : AnyOp → Type 0
-IsName (AnyOp.Name k c) = Unit {0}
-IsName _ = ⊥
+-- the operation is a name call or a strike, and lets nobody in
+abbrev IsPlain : AnyOp → Type 0
+IsPlain (AnyOp.Name k c) = Unit {0}
+IsPlain (AnyOp.Strike p) = Unit {0}
+IsPlain _ = ⊥
 
-abbrev AreNames : List AnyOp → Type 0
-AreNames [] = Unit {0}
-AreNames (op ∷ ops) = IsName op × AreNames ops
+abbrev ArePlain : List AnyOp → Type 0
+ArePlain [] = Unit {0}
+ArePlain (op ∷ ops) = IsPlain op × ArePlain ops
 
--- the current operation is a name call, and who is asked is of the world
+-- the current operation lets nobody in, and who is asked is of the world
 abbrev IsCurrentOf : Nodes → Current → Type 0
-IsCurrentOf world (Current.Asking op r) = IsName op × AreOf world (asked r)
-IsCurrentOf world (Current.Waiting op) = IsName op
+IsCurrentOf world (Current.Asking op r) = IsPlain op × AreOf world (asked r)
+IsCurrentOf world (Current.Waiting op) = IsPlain op
 IsCurrentOf world (Current.Writing op s awaited reply) = AreOf world s
 IsCurrentOf world _ = Unit {0}
 
--- whom a node knows of and sends to is of the world; it has neither dead processes nor lock calls
-record Knows (n : ℕ) (world known : Nodes) (deads : List ℕ) (ops : List AnyOp) (cur : Current) (locks : List LockCall)
+-- whom a node knows of and sends to is of the world; it has no lock calls
+record Knows (n : ℕ) (world known : Nodes) (ops : List AnyOp) (cur : Current) (locks : List LockCall)
     (ss : List Send) : Type 0 where
   pub members : AreOf world known
   pub boss : world (greatest n known) ≡ true
-  pub dead : deads ≡ []
-  pub queue : AreNames ops
+  pub queue : ArePlain ops
   pub current : IsCurrentOf world cur
   pub calls : locks ≡ []
   pub sends : GoTo world ss
@@ -79,11 +79,11 @@ record Knows (n : ℕ) (world known : Nodes) (deads : List ℕ) (ops : List AnyO
 -- the same of a turn
 abbrev IsWithin : ℕ → Nodes → Turn → Type 0
 IsWithin n world u =
-    Knows n world u.node.replica.members u.node.watch.dead u.node.queue u.node.current u.node.calls u.sends
+    Knows n world u.node.replica.members u.node.queue u.node.current u.node.calls u.sends
 
-names-push : (ops : List AnyOp) (op : AnyOp) → AreNames ops → IsName op → AreNames (ops ++ op ∷ [])
-names-push [] op all one = (one, tt)
-names-push (o ∷ ops) op all one = (all.0, names-push ops op all.1 one)
+plain-push : (ops : List AnyOp) (op : AnyOp) → ArePlain ops → IsPlain op → ArePlain (ops ++ op ∷ [])
+plain-push [] op all one = (one, tt)
+plain-push (o ∷ ops) op all one = (all.0, plain-push ops op all.1 one)
 
 -- the greatest of a set is of the set
 greatest-within : (n : ℕ) (s : Nodes) (a : ℕ) → a < n → s a ≡ true → s (greatest n s) ≡ true
@@ -157,14 +157,13 @@ answered_of r c g owed x = go (opens c g r) (owes r c)
     go false false f = f
 
 module _ (n a : ℕ) (number : ℕ → ℕ) (world : Nodes) where
-  module _ {known : Nodes} {deads : List ℕ} {ops : List AnyOp} {cur : Current} {locks : List LockCall} {ss : List Send}
-      (W : Knows n world known deads ops cur locks ss) where
+  module _ {known : Nodes} {ops : List AnyOp} {cur : Current} {locks : List LockCall} {ss : List Send}
+      (W : Knows n world known ops cur locks ss) where
     -- the registrar is at this
-    works : (c : Current) → IsCurrentOf world c → Knows n world known deads ops c locks ss
+    works : (c : Current) → IsCurrentOf world c → Knows n world known ops c locks ss
     works c of = record {
       members = W.members;
       boss = W.boss;
-      dead = W.dead;
       queue = W.queue;
       current = of;
       calls = W.calls;
@@ -172,23 +171,32 @@ module _ (n a : ℕ) (number : ℕ → ℕ) (world : Nodes) where
     }
 
     -- these wait
-    queues : (more : List AnyOp) → AreNames more → Knows n world known deads more cur locks ss
-    queues more names = record {
+    queues : (more : List AnyOp) → ArePlain more → Knows n world known more cur locks ss
+    queues more plain = record {
       members = W.members;
       boss = W.boss;
-      dead = W.dead;
-      queue = names;
+      queue = plain;
       current = W.current;
       calls = W.calls;
       sends = W.sends;
     }
 
+    -- these lock calls are unanswered
+    keeps : (cs : List LockCall) → cs ≡ [] → Knows n world known ops cur cs ss
+    keeps cs none = record {
+      members = W.members;
+      boss = W.boss;
+      queue = W.queue;
+      current = W.current;
+      calls = none;
+      sends = W.sends;
+    }
+
     -- these letters are sent
-    posts : (more : List Send) → GoTo world more → Knows n world known deads ops cur locks (ss ++ more)
+    posts : (more : List Send) → GoTo world more → Knows n world known ops cur locks (ss ++ more)
     posts more go = record {
       members = W.members;
       boss = W.boss;
-      dead = W.dead;
       queue = W.queue;
       current = W.current;
       calls = W.calls;
@@ -197,14 +205,14 @@ module _ (n a : ℕ) (number : ℕ → ℕ) (world : Nodes) where
 
     -- one to a node
     sends : (c : ℕ) (l : AnyLetter) → world c ≡ true
-        → Knows n world known deads ops cur locks (ss ++ record { to = c; letter = l } ∷ [])
+        → Knows n world known ops cur locks (ss ++ record { to = c; letter = l } ∷ [])
     sends c l e = posts (record { to = c; letter = l } ∷ [])
         (All-push (λ (s : Send). world s.to ≡ true) [] (record { to = c; letter = l })
         (All-nil (λ (s : Send). world s.to ≡ true)) e)
 
     -- one to each node of a set
     sends_all : (s : Nodes) (l : AnyLetter) → AreOf world s
-        → Knows n world known deads ops cur locks (ss ++ map (λ c. record { to = c; letter = l }) (nodes_of n s))
+        → Knows n world known ops cur locks (ss ++ map (λ c. record { to = c; letter = l }) (nodes_of n s))
     sends_all s l of = posts (map (λ c. record { to = c; letter = l }) (nodes_of n s))
         (All-map (λ (x : Send). world x.to ≡ true) (λ c. record { to = c; letter = l }) (nodes_of n s)
         (λ k d m. of (get_or (nodes_of n s) k d) (nodes-within n s k d m)))
@@ -232,9 +240,9 @@ module _ (n a : ℕ) (number : ℕ → ℕ) (world : Nodes) where
       sends_all (works W (Current.Writing op s u.node.replica.members reply) of) u.node.replica.members
       (AnyLetter.Apply change) W.members
 
-  decides : (op : AnyOp) (s : Nodes) (u : Turn) → IsName op → AreOf world s → IsWithin n world u
+  decides : (op : AnyOp) (s : Nodes) (u : Turn) → IsPlain op → AreOf world s → IsWithin n world u
       → IsWithin n world (held n a number op s u)
-  decides (AnyOp.Name k c) s u name of W = go (is_grant reply)
+  decides (AnyOp.Name k c) s u plain of W = go (is_grant reply)
     where
       reply : AnyReply
       reply = reply_to u.node.replica.members u.node.replica.table c
@@ -247,16 +255,18 @@ module _ (n a : ℕ) (number : ℕ → ℕ) (world : Nodes) where
           else finish n a (AnyOp.Name k c) s (Some reply) v)
       go true = writes (AnyOp.Name k c) s (Some reply) (change_of_call c) v of W
       go false = finishes (AnyOp.Name k c) s (Some reply) v of W
-  decides _ s u name of W = absurd name
+  decides (AnyOp.Strike p) s u plain of W =
+      writes (AnyOp.Strike p) s None (StrikeOwner p) (enter (AnyEntry.Strike p) u) of W
+  decides _ s u plain of W = absurd plain
 
-  ends : (op : AnyOp) (r : Round) (u : Turn) → IsName op → AreOf world (asked r) → IsWithin n world u
+  ends : (op : AnyOp) (r : Round) (u : Turn) → IsPlain op → AreOf world (asked r) → IsWithin n world u
       → IsWithin n world (end_round n a number op r u)
-  ends op r u name of W = go (is_over n r) (is_held n u.node.replica.members r)
+  ends op r u plain of W = go (is_over n r) (is_held n u.node.replica.members r)
     where
       go : (b d : Bool) → IsWithin n world (if b
           then end_by n a number (if d then Ending.Held else Ending.GiveBack (granted r)) op (asked r) u else u)
-      go true true = decides op (asked r) u name of W
-      go true false = sends_all (works W (Current.Waiting op) name) (granted r)
+      go true true = decides op (asked r) u plain of W
+      go true false = sends_all (works W (Current.Waiting op) plain) (granted r)
           (AnyLetter.GiveBack (Global a) (registrar a) false) (λ c e. of c (granted_of r c e))
       go false d = W
 
@@ -308,26 +318,29 @@ module _ (n a : ℕ) (number : ℕ → ℕ) (world : Nodes) where
       go false d = W
   awaits c _ u of W = W
 
-  asks : (op : AnyOp) (u : Turn) → IsName op → IsWithin n world u → IsWithin n world (ask_global n a op u)
-  asks op u name W =
+  asks : (op : AnyOp) (u : Turn) → IsPlain op → IsWithin n world u → IsWithin n world (ask_global n a op u)
+  asks op u plain W =
       sends (works W (Current.Asking op (begin n u.node.replica.members))
-      (name, λ c e. W.members c (begun_of n u.node.replica.members c e)))
+      (plain, λ c e. W.members c (begun_of n u.node.replica.members c e)))
       (greatest n u.node.replica.members) (AnyLetter.SetLock (Global a) (registrar a)) W.boss
 
-  starts_queue : (ops : List AnyOp) (u : Turn) → AreNames ops → IsWithin n world u
+  starts_queue : (ops : List AnyOp) (u : Turn) → ArePlain ops → IsWithin n world u
       → IsWithin n world (start_queue n a ops u)
-  starts_queue [] u names W = queues W [] tt
-  starts_queue (AnyOp.Name k c ∷ ops) u names W = asks (AnyOp.Name k c) (with_queue ops u) tt (queues W ops names.1)
-  starts_queue (_ ∷ ops) u names W = absurd names.0
+  starts_queue [] u plain W = queues W [] tt
+  starts_queue (AnyOp.Name k c ∷ ops) u plain W = asks (AnyOp.Name k c) (with_queue ops u) tt (queues W ops plain.1)
+  starts_queue (AnyOp.Strike p ∷ ops) u plain W = asks (AnyOp.Strike p) (with_queue ops u) tt (queues W ops plain.1)
+  starts_queue (_ ∷ ops) u plain W = absurd plain.0
+
+  starts_next : (owed : Option ℕ) (u : Turn) → IsWithin n world u → IsWithin n world (start_next n a owed u)
+  starts_next (Some s) u W = asks (AnyOp.Strike (record { node = a; serial = s })) u tt W
+  starts_next None u W = starts_queue u.node.queue u W.queue W
 
   -- a free registrar begins the next operation
   starts : (u : Turn) → IsWithin n world u → IsWithin n world (start n a u)
   starts u W = go u.node.current
     where
       go : (cur : Current) → IsWithin n world (start_free n a cur u)
-      go Current.Free =
-          subst (λ (ds : List ℕ). IsWithin n world (start_next n a (least_owner a u.node.replica.table ds) u))
-          (sym W.dead) (starts_queue u.node.queue u W.queue W)
+      go Current.Free = starts_next (owed a u.node.replica.table u.node.watch) u W
       go _ = W
 
   judges : (f : ℕ) (id : Id) (p : Process) (b : Bool) (u : Turn) → world f ≡ true → IsWithin n world u
@@ -358,6 +371,7 @@ module _ (n a : ℕ) (number : ℕ → ℕ) (world : Nodes) where
   reads_letter f (GiveBack id p ack) u e W = takes_back f (id_of id) p ack u e W
   reads_letter f (GivenBack p) u e W =
       subst (λ (cs : List LockCall). IsWithin n world (owe_less n a f (call_of_holder p cs) u)) (sym W.calls) W
+  reads_letter f (ReleaseOf p) u e W = W
   reads_letter f (Apply change) u e W = sends W f AnyLetter.Applied e
   reads_letter f Applied u e W = awaits f u.node.current u W.current W
 
@@ -376,11 +390,24 @@ module _ (n a : ℕ) (number : ℕ → ℕ) (world : Nodes) where
       go false = reads_letter f l u e W
 
   -- what a call does
+  numbers : (k : ℕ) (c : NameCall) (u : Turn) → IsWithin n world u
+      → IsWithin n world (call n a k (AnyCall.OnName c) u)
+  numbers k c u W = queues W (u.node.queue ++ AnyOp.Name k c ∷ [])
+      (plain-push u.node.queue (AnyOp.Name k c) W.queue tt)
+
   calls_for : (k : ℕ) (c : Call) (u : Turn) → IsWithin n world u → IsWithin n world (call n a k (call_of c) u)
   calls_for k Spawn u W = W
   calls_for k (Whereis x) u W = W
-  calls_for k (Register x p) u W = queues W (u.node.queue ++ AnyOp.Name k (Registers x p) ∷ [])
-      (names-push u.node.queue (AnyOp.Name k (Registers x p)) W.queue tt)
+  calls_for k RegisteredNames u W = W
+  calls_for k (Register x p) u W = numbers k (NameCall.Register x p) u W
+  calls_for k (ReRegister x p) u W = numbers k (NameCall.ReRegister x p) u W
+  calls_for k (Unregister x) u W = numbers k (NameCall.Unregister x) u W
+
+  -- what an exit does
+  exits : (p : Process) (u : Turn) → IsWithin n world u → IsWithin n world (event n a world (AnyEvent.Exiting p) u)
+  exits p u W = starts (die n a p (enter (AnyEntry.Exit p) u))
+      (sends_all (keeps W (drop_call p u.node.calls) (ap (drop_call p) W.calls)) u.node.replica.members
+      (AnyLetter.ReleaseOf p) W.members)
 
   retries : (u : Turn) → IsWithin n world u → IsWithin n world (event n a world AnyEvent.Retry u)
   retries u W = starts (retry_locks n a v) (again v (go u.node.current W.current))
@@ -410,16 +437,16 @@ module _ (h : Held) (whole : IsWhole h) where
     boss = whole.members (greatest n (set_of h.members))
         (greatest-within n (set_of h.members) h.name (below_bound h.world h.name
         (whole.members h.name whole.self)) whole.self);
-    dead = refl;
-    queue = names h.registrar.queue;
+    queue = plain h.registrar.queue;
     current = current h.registrar.current h.phase whole.phase;
     calls = refl;
     sends = All-nil (λ (s : Send). world s.to ≡ true);
   }
     where
-      names : (ops : List Op) → AreNames (map op_of ops)
-      names [] = tt
-      names (NameOp k c ∷ ops) = (tt, names ops)
+      plain : (ops : List Op) → ArePlain (map op_of ops)
+      plain [] = tt
+      plain (NameOp k c ∷ ops) = (tt, plain ops)
+      plain (Strike p ∷ ops) = (tt, plain ops)
 
       current : (o : Option Op) (p : Phase) → IsPhaseWithin h.world p
           → IsCurrentOf world (current_of o h.registrar.awaited p)
@@ -427,6 +454,9 @@ module _ (h : Held) (whole : IsWhole h) where
       current (Some (NameOp k c)) (Asking r) within = (tt, λ x e. within x (ap (λ (s : Nodes). s x) (asked-seen r) ∙ e))
       current (Some (NameOp k c)) Waiting within = tt
       current (Some (NameOp k c)) (Writing s reply) within = within
+      current (Some (Strike p)) (Asking r) within = (tt, λ x e. within x (ap (λ (s : Nodes). s x) (asked-seen r) ∙ e))
+      current (Some (Strike p)) Waiting within = tt
+      current (Some (Strike p)) (Writing s reply) within = within
 
   -- an event's turn sends to nodes of the world
   turn_within : (e : Event) (u : Turn) → IsHeardWithin h.world e → IsTurn e h u → GoTo world u.sends
@@ -435,6 +465,8 @@ module _ (h : Held) (whole : IsWhole h) where
       (calls_for n h.name (λ j. 0) world (h.last_call + 1) c (begun (node_of h)) opens_within)).sends
   turn_within Retry u heard is = subst (λ (v : Turn). GoTo world v.sends) (sym is)
       (retries n h.name (λ j. 0) world (begun (node_of h)) opens_within).sends
+  turn_within (Exit p) u heard is = subst (λ (v : Turn). GoTo world v.sends) (sym is)
+      (exits n h.name (λ j. 0) world p (begun (node_of h)) opens_within).sends
   turn_within (FromPeer f l) u heard is = subst (λ (v : Turn). GoTo world v.sends) (sym (is (λ j. 0)))
       (receives n h.name (λ j. 0) world f l (begun (node_of h)) heard opens_within).sends
 

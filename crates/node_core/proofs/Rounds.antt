@@ -1,14 +1,17 @@
 -- The rules of the registrar's rounds, one by one.
 use Rattle.std.proofs.Common.{ℕ, Bool, true, false, zero, suc, ◌==◌, ◌≡◌, ◌<◌, ◌-◌, Option, Some, None, List, [], ◌∷◌, take, length, refl, sym, ap, ◌∙◌, subst}
+use Rattle.std.specs.Option.{option_map}
 use Rattle.std.specs.Prelude.{◌&&◌, ◌||◌, if◌then◌else◌, All, is_some}
 use Rattle.std.proofs.Math.Path.{fun_ext}
-use Rattle.registry_model.specs.Process.{Nodes}
+use Rattle.registry_model.specs.Process.{Process, Nodes}
 use Rattle.protocol_model.specs.Letter.{Letter as AnyLetter, Global}
 use Rattle.protocol_model.specs.Node.{Op as AnyOp, Current}
 use Rattle.protocol_model.specs.Round.{Round, begin, greatest, rest, opens, owes, answer, is_over, asked as asked_by, granted as granted_of, ending, Ending as AnyEnding, Held as IsHeld, GiveBack as GiveBackTo}
 use Rattle.protocol_model.specs.Turn.{Turn, at_work, send, send_all}
-use Rattle.protocol_model.specs.Registrar.{registrar, ask_global, ask_rest, start, give_up}
+use Rattle.protocol_model.specs.Registrar.{registrar, ask_global, ask_rest, start_next, start, give_up}
 use Rattle.protocol_model.specs.Deciding.{held, end_by, end_round, hear_answer}
+use Rattle.protocol_model.specs.Watch.{Watch as AnyWatch, owed}
+use Rattle.exit_watch.specs.Held.{Held as Watch, process_of}
 use Rattle.term.specs.NodeSets.{IsNodeSet, set_of}
 use Rattle.boss_order.specs.Boss.{others_of}
 use Rattle.boss_order.proofs.Sets.{set_of-filter}
@@ -17,7 +20,7 @@ use Rattle.locker.specs.declared.ending.Ending.TheVariants.{Held as Holds, GiveB
 use Rattle.locker.specs.Held.{Held as HeldRound, seen}
 use Rattle.locker.specs.Ends.{EndsAs, end_of, granted_by, is_won}
 use Rattle.transaction.specs.declared.op.Op.{Op}
-use Rattle.transaction.specs.declared.op.Op.TheVariants.{Name as NameOp}
+use Rattle.transaction.specs.declared.op.Op.TheVariants.{Name as NameOp, Strike as StrikeOp}
 use Rattle.transaction.specs.Ops.{op_of}
 use Rattle.transaction.specs.Work.{Work, started, starts}
 use Rattle.node_core.specs.declared.events.Letter.{Letter}
@@ -97,26 +100,65 @@ asks_rest h t u r f g xs l set within others is asks first made = record {
     letter : AnyLetter
     letter = AnyLetter.SetLock (Global h.name) (registrar h.name)
 
--- the next operation begins
-pub starts_next : (h0 h k : Held) (t u : Made) (w : Work) (b : Bool) → h0 ≡ h → w ≡ started h0.registrar → b
-    ≡ starts h0.registrar → b ≡ true
-    → Works (λ op n a. ask_global n a op) (record h0 { registrar = w }) t k u → Makes start h t k u
-starts_next h0 h k t u w b same begun first began W =
-    subst (λ (x : Held). Makes start x t k u) same
-    (go h0.registrar.current h0.registrar.queue (sym first ∙ began)
-    (subst (λ (v : Work). Works (λ op n a. ask_global n a op) (record h0 { registrar = v }) t k u) begun W))
-  where
-    go : (cur : Option Op) (ops : List Op) → starts (record h0.registrar { current = cur; queue = ops }) ≡ true
-        → Works (λ op n a. ask_global n a op) (record h0
-        { registrar = started (record h0.registrar { current = cur; queue = ops }) }) t k u
-        → Makes start (record h0 { registrar = record h0.registrar { current = cur; queue = ops } }) t k u
-    go None (NameOp i c ∷ ops) yes_ V = record {
-      name = (V (NameOp i c) refl).name;
-      world = (V (NameOp i c) refl).world;
-      turn = (V (NameOp i c) refl).turn;
-    }
-    go None [] yes_ V = cc
-    go (Some op) ops yes_ V = cc
+-- the watch was asked for an owed strike, and then the registrar began
+module _ (h0 h : Held) (t : Made) (w : Work) (v : Watch) (strike : Option Process) (same : h0 ≡ h)
+    (watch : v.watch ≡ h0.watch.watch)
+    (owes_it : strike ≡ option_map (process_of h0.watch) (owed h0.watch.node h0.table h0.watch.watch))
+    (own : h0.watch.node ≡ h0.name) (begun : w ≡ started strike h0.registrar) where
+  -- the serial of the strike that is owed
+  abbrev owed_serial : Option ℕ
+  owed_serial = owed h0.name h0.table h0.watch.watch
+
+  -- the process that it strikes
+  abbrev struck : Option ℕ → Option Process
+  struck o = option_map (λ s. record { node = h0.name; serial = s }) o
+
+  -- the registrar, where this is current and these wait
+  abbrev at_ops : Option Op → List Op → Work
+  at_ops cur ops = record h0.registrar { current = cur; queue = ops }
+
+  -- the node, with this registrar, once its watch was asked
+  abbrev once_asked : Work → Held
+  once_asked x = record h0 { registrar = x; watch = record v { watch = h0.watch.watch } }
+
+  -- the strike is the protocol's
+  strike_is : strike ≡ struck owed_serial
+  strike_is = owes_it ∙ ap (λ (a : ℕ). option_map (λ s. record { node = a; serial = s })
+      (owed a h0.table h0.watch.watch)) own
+
+  -- the registrar began as the protocol has it
+  begun_is : w ≡ started (struck owed_serial) h0.registrar
+  begun_is = begun ∙ ap (λ (o : Option Process). started o h0.registrar) strike_is
+
+  -- the next operation begins
+  pub starts_next : (k : Held) (u : Made) (b : Bool) → b ≡ starts strike h0.registrar → b ≡ true
+      → Works (λ op n a. ask_global n a op) (record h0 { registrar = w; watch = v }) t k u → Makes start h t k u
+  starts_next k u b first began W =
+      subst (λ (x : Held). Makes start x t k u) same
+      (go h0.registrar.current h0.registrar.queue
+      (ap (λ (o : Option Process). starts o h0.registrar) (sym strike_is) ∙ sym first ∙ began)
+      (subst (λ (x : Work). Works (λ op n a. ask_global n a op) (once_asked x) t k u) begun_is
+      (subst (λ (x : AnyWatch). Works (λ op n a. ask_global n a op)
+      (record h0 { registrar = w; watch = record v { watch = x } }) t k u) watch W)))
+    where
+      next : (o : Option ℕ) (ops : List Op) → starts (struck o) (at_ops None ops) ≡ true
+          → Works (λ op n a. ask_global n a op) (once_asked (started (struck o) (at_ops None ops))) t k u
+          → Makes (λ n a. start_next n a o) (record h0 { registrar = at_ops None ops }) t k u
+      next (Some s) ops yes_ V =
+          let M = V (StrikeOp (record { node = h0.name; serial = s })) refl in
+          record { name = M.name; world = M.world; turn = M.turn }
+      next None (NameOp i c ∷ ops) yes_ V =
+          let M = V (NameOp i c) refl in record { name = M.name; world = M.world; turn = M.turn }
+      next None (StrikeOp p ∷ ops) yes_ V =
+          let M = V (StrikeOp p) refl in record { name = M.name; world = M.world; turn = M.turn }
+      next None [] yes_ V = cc
+
+      go : (cur : Option Op) (ops : List Op) → starts (struck owed_serial) (at_ops cur ops) ≡ true
+          → Works (λ op n a. ask_global n a op) (once_asked (started (struck owed_serial) (at_ops cur ops))) t k u
+          → Makes start (record h0 { registrar = at_ops cur ops }) t k u
+      go None ops yes_ V =
+          let M = next owed_serial ops yes_ V in record { name = M.name; world = M.world; turn = M.turn }
+      go (Some op) ops yes_ V = cc
 
 -- the end is that the lock is held
 held_end : (x : AnyEnding) → EndsAs Holds x → x ≡ IsHeld

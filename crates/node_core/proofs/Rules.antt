@@ -1,5 +1,7 @@
 -- The rules of the registrar, one by one.
+use mathlib.Core.Logic.{◌⊎◌}
 use Rattle.std.proofs.Common.{ℕ, zero, suc, Bool, true, false, ◌==◌, ◌≡◌, ◌<◌, inl, inr, arith, Option, Some, None, List, [], ◌∷◌, refl, sym, ap, ◌∙◌, subst}
+use Rattle.std.specs.Option.{option_map}
 use Rattle.std.specs.Prelude.{not, ◌&&◌, ◌||◌, if◌then◌else◌, All, is_some}
 use Rattle.std.proofs.lemmas.Bool.{cases_eq, eq-eqb}
 use Rattle.std.proofs.Math.Path.{fun_ext}
@@ -28,7 +30,7 @@ use Rattle.node_core.specs.declared.events.Entry.TheVariants.{Name, Done}
 use Rattle.node_core.specs.declared.events.Letter.{Letter}
 use Rattle.node_core.specs.declared.events.Letter.TheVariants.{Apply}
 use Rattle.node_core.specs.declared.events.Reply.{Reply}
-use Rattle.node_core.specs.declared.events.Reply.TheVariants.{Yes, No, UnknownNode, Pid, Undefined}
+use Rattle.node_core.specs.declared.events.Reply.TheVariants.{Yes, Ok}
 use Rattle.node_core.specs.declared.node.Phase.{Phase}
 use Rattle.node_core.specs.declared.node.Phase.TheVariants.{Writing}
 use Rattle.node_core.specs.Made.{Made, sent_all, entered}
@@ -84,10 +86,10 @@ does h0 h k t u v a asked reply same here made W =
     })
 
 -- the change goes to every member
-pub writes : (h0 h : Held) (t u : Made) (w : Work) (asked : List ℕ) (reply : Reply) (change : Change) → h0 ≡ h
+pub writes : (h0 h : Held) (t u : Made) (w : Work) (asked : List ℕ) (reply : Option Reply) (change : Change) → h0 ≡ h
     → IsNodeSet h0.members → IsWithin h0.world h0.members
     → w ≡ record h0.registrar { awaited = h0.members } → u ≡ sent_all h0.members (Apply change) t
-    → Works (λ op n a. write n a op (set_of asked) (Some (reply_of reply)) (change_of change)) h t
+    → Works (λ op n a. write n a op (set_of asked) (option_map reply_of reply) (change_of change)) h t
     (record h0 { registrar = w; phase = Writing asked reply }) u
 writes h0 h t u w asked reply change same set within awaits made =
     subst (λ (x : Held). Works rule x t (record h0 { registrar = w; phase = Writing asked reply }) u) same
@@ -101,7 +103,7 @@ writes h0 h t u w asked reply change same set within awaits made =
     }))
   where
     rule : AnyOp → ℕ → ℕ → Turn → Turn
-    rule op n a = write n a op (set_of asked) (Some (reply_of reply)) (change_of change)
+    rule op n a = write n a op (set_of asked) (option_map reply_of reply) (change_of change)
 
     k : Held
     k = record h0 { registrar = record h0.registrar { awaited = h0.members }; phase = Writing asked reply }
@@ -110,15 +112,16 @@ writes h0 h t u w asked reply change same set within awaits made =
 current_is : (h : Held) (op other : Op) → h.registrar.current ≡ Some op → h.registrar.current ≡ Some other → other ≡ op
 current_is h op other e f = cc
 
--- a granted call is written
-pub grants : (h0 h k : Held) (t u v : Made) (asked : List ℕ) (i : ℕ) (c : NameCall) (r : Reply) (change : Change) → h0
-    ≡ h
+-- a granted call is written; its entry has a copy of the reply
+pub grants : (h0 h k : Held) (t u v : Made) (asked : List ℕ) (i : ℕ) (c : NameCall) (r s : Reply) (change : Change)
+    → h0 ≡ h
     → h0.registrar.current ≡ Some (NameOp i c)
     → reply_of r ≡ reply_to (set_of h0.members) h0.table (name_call_of c) → is_grant (reply_of r) ≡ true
-    → change_of change ≡ change_of_call (name_call_of c) → u ≡ entered (Name h0.name i c r) t
+    → change_of change ≡ change_of_call (name_call_of c) → reply_of s ≡ reply_of r
+    → u ≡ entered (Name h0.name i c s) t
     → Works (λ op n a. write n a op (set_of asked) (Some (reply_of r)) (change_of change)) h0 u k v
     → (number : ℕ → ℕ) → Works (λ op n a. held n a number op (set_of asked)) h t k v
-grants h0 h k t u v asked i c r change same cur reply yes_ changes made W number =
+grants h0 h k t u v asked i c r s change same cur reply yes_ changes copied made W number =
     subst (λ (x : Held). Works (λ op n a. held n a number op (set_of asked)) x t k v) same
     (λ op is. subst (λ (o : Op). Makes (λ n a. held n a number (op_of o) (set_of asked)) h0 t k v)
     (sym (current_is h0 (NameOp i c) op cur is)) (record {
@@ -127,7 +130,8 @@ grants h0 h k t u v asked i c r change same cur reply yes_ changes made W number
       turn = (W (NameOp i c) cur).turn
           ∙ ap (λ (x : AnyChange). write n a call (set_of asked) (Some (reply_of r)) x (turn_of h0 u)) changes
           ∙ ap (write n a call (set_of asked) (Some (reply_of r)) (change_of_call (name_call_of c)))
-          (ap (turn_of h0) made ∙ entered_is h0 t (Name h0.name i c r))
+          (ap (turn_of h0) made ∙ entered_is h0 t (Name h0.name i c s)
+          ∙ ap (λ (x : AnyReply). enter (AnyEntry.Name h0.name i (name_call_of c) x) (turn_of h0 t)) copied)
           ∙ ap (λ (b : Bool). if b
           then write n a call (set_of asked) (Some (reply_of r)) (change_of_call (name_call_of c))
           (enter entry (turn_of h0 t))
@@ -147,48 +151,10 @@ grants h0 h k t u v asked i c r change same cur reply yes_ changes made W number
     entry : AnyEntry
     entry = AnyEntry.Name h0.name i (name_call_of c) (reply_of r)
 
--- a refused call ends at once
-pub denies : (h0 h k : Held) (t u v : Made) (asked : List ℕ) (i : ℕ) (c : NameCall) (r : Reply) → h0 ≡ h
-    → h0.registrar.current ≡ Some (NameOp i c)
-    → reply_of r ≡ reply_to (set_of h0.members) h0.table (name_call_of c) → is_grant (reply_of r) ≡ false
-    → u ≡ entered (Name h0.name i c r) t
-    → Works (λ op n a. finish n a op (set_of asked) (Some (reply_of r))) h0 u k v
-    → (number : ℕ → ℕ) → Works (λ op n a. held n a number op (set_of asked)) h t k v
-denies h0 h k t u v asked i c r same cur reply none made W number =
-    subst (λ (x : Held). Works (λ op n a. held n a number op (set_of asked)) x t k v) same
-    (λ op is. subst (λ (o : Op). Makes (λ n a. held n a number (op_of o) (set_of asked)) h0 t k v)
-    (sym (current_is h0 (NameOp i c) op cur is)) (record {
-      name = (W (NameOp i c) cur).name;
-      world = (W (NameOp i c) cur).world;
-      turn = (W (NameOp i c) cur).turn
-          ∙ ap (finish n a call (set_of asked) (Some (reply_of r)))
-          (ap (turn_of h0) made ∙ entered_is h0 t (Name h0.name i c r))
-          ∙ ap (λ (b : Bool). if b
-          then write n a call (set_of asked) (Some (reply_of r)) (change_of_call (name_call_of c))
-          (enter entry (turn_of h0 t))
-          else finish n a call (set_of asked) (Some (reply_of r)) (enter entry (turn_of h0 t))) (sym none)
-          ∙ ap (λ (x : AnyReply). decide n a i (name_call_of c) (set_of asked) x (turn_of h0 t)) reply;
-    }))
-  where
-    n : ℕ
-    n = bound_of h0.world
-
-    a : ℕ
-    a = h0.name
-
-    call : AnyOp
-    call = AnyOp.Name i (name_call_of c)
-
-    entry : AnyEntry
-    entry = AnyEntry.Name h0.name i (name_call_of c) (reply_of r)
-
--- a reply other than `yes` grants nothing
-pub denied_by : (r : Reply) → (r ≡ Yes → ⊥) → is_grant (reply_of r) ≡ false
-denied_by Yes not_yes = absurd (not_yes refl)
-denied_by No not_yes = refl
-denied_by UnknownNode not_yes = refl
-denied_by (Pid p) not_yes = refl
-denied_by Undefined not_yes = refl
+-- it is `yes` or `ok` that grants
+pub granted_by : (r : Reply) → (r ≡ Yes) ⊎ (r ≡ Ok) → is_grant (reply_of r) ≡ true
+granted_by r (inl e) = ap (λ (x : Reply). is_grant (reply_of x)) e
+granted_by r (inr e) = ap (λ (x : Reply). is_grant (reply_of x)) e
 
 -- whether one of many nodes is another
 without_is : (xs : List ℕ) (f : ℕ) → set_of (without_node xs f) ≡ at (set_of xs) f false
@@ -242,9 +208,20 @@ whole_less h w f whole is = record {
   awaited = subst (λ (v : Work). IsWithin h.world v.awaited) (sym is)
       (less_within h.world h.registrar.awaited f whole.awaited);
   phase = whole.phase;
+  watch = whole.watch;
+  suspected = whole.suspected;
 }
 
-module _ (h0 h : Held) (t : Made) (w : Work) (f : ℕ) (asked : List ℕ) (reply : Reply) (same : h0 ≡ h)
+-- the end of an operation is one, wherever it stood
+ends_anywhere : (n a : ℕ) (op : AnyOp) (asked : Nodes) (reply : Option AnyReply) (x : Current) (u : Turn)
+    → done n a op asked reply (at_work x u) ≡ done n a op asked reply u
+ends_anywhere n a (AnyOp.Name k c) asked (Some r) x u = refl
+ends_anywhere n a (AnyOp.Name k c) asked None x u = refl
+ends_anywhere n a (AnyOp.Strike p) asked reply x u = refl
+ends_anywhere n a (AnyOp.Admission j ps) asked reply x u = refl
+ends_anywhere n a (AnyOp.Join k m) asked reply x u = refl
+
+module _ (h0 h : Held) (t : Made) (w : Work) (f : ℕ) (asked : List ℕ) (reply : Option Reply) (same : h0 ≡ h)
     (whole : IsWhole h0)
     (writing : h0.phase ≡ Writing asked reply) (was : set_of h0.registrar.awaited f ≡ true)
     (less : w ≡ record h0.registrar { awaited = without_node h0.registrar.awaited f }) where
@@ -254,48 +231,55 @@ module _ (h0 h : Held) (t : Made) (w : Work) (f : ℕ) (asked : List ℕ) (reply
   -- the same, of a node that is known to write, and awaits f
   at_it : (op : Op) (u : Turn) → (b : Bool) → is_nobody (without_node h0.registrar.awaited f) ≡ b
       → await_less (bound_of h0.world) h0.name f (Current.Writing (op_of op) (set_of asked)
-      (set_of h0.registrar.awaited) (Some (reply_of reply))) u
+      (set_of h0.registrar.awaited) (option_map reply_of reply)) u
       ≡ (if b
-      then done (bound_of h0.world) h0.name (op_of op) (set_of asked) (Some (reply_of reply)) u
+      then done (bound_of h0.world) h0.name (op_of op) (set_of asked) (option_map reply_of reply) u
       else at_work (Current.Writing (op_of op) (set_of asked) (set_of (without_node h0.registrar.awaited f))
-      (Some (reply_of reply))) u)
+      (option_map reply_of reply)) u)
   at_it op u b left =
       ap (λ (x : Bool). if x then inner (at (set_of h0.registrar.awaited) f false) else u) was
       ∙ ap inner (sym (without_is h0.registrar.awaited f))
       ∙ ap (λ (x : Bool). if x
-      then done (bound_of h0.world) h0.name (op_of op) (set_of asked) (Some (reply_of reply)) u
+      then done (bound_of h0.world) h0.name (op_of op) (set_of asked) (option_map reply_of reply) u
       else at_work (Current.Writing (op_of op) (set_of asked) (set_of (without_node h0.registrar.awaited f))
-      (Some (reply_of reply))) u)
+      (option_map reply_of reply)) u)
       (nobody_is (bound_of h0.world) (without_node h0.registrar.awaited f)
       (all_below h0.world (without_node h0.registrar.awaited f)
       (less_within h0.world h0.registrar.awaited f whole.awaited)) ∙ left)
     where
       inner : Nodes → Turn
       inner s = if is_empty (bound_of h0.world) s
-          then done (bound_of h0.world) h0.name (op_of op) (set_of asked) (Some (reply_of reply)) u
-          else at_work (Current.Writing (op_of op) (set_of asked) s (Some (reply_of reply))) u
+          then done (bound_of h0.world) h0.name (op_of op) (set_of asked) (option_map reply_of reply) u
+          else at_work (Current.Writing (op_of op) (set_of asked) s (option_map reply_of reply)) u
 
-  -- the operation is done
-  pub last_awaited : (k : Held) (u : Made) → is_some h0.registrar.current ≡ true → is_nobody w.awaited ≡ true
-      → Works (λ op n a. done n a op (set_of asked) (Some (reply_of reply))) (record h0 { registrar = w }) t k u
+  -- the operation is done; another phase may stand there by then
+  pub last_awaited : (k : Held) (u : Made) (p : Phase) → is_some h0.registrar.current ≡ true
+      → is_nobody w.awaited ≡ true → Works (λ op n a. done n a op (set_of asked) (option_map reply_of reply))
+      (record h0 { registrar = w; phase = p }) t k u
       → Makes rule h t k u
-  last_awaited k u cur left W = subst (λ (x : Held). Makes rule x t k u) same
+  last_awaited k u p cur left W = subst (λ (x : Held). Makes rule x t k u) same
       (go h0.registrar.current refl cur (subst (λ (v : Work). Works
-      (λ op n a. done n a op (set_of asked) (Some (reply_of reply))) (record h0 { registrar = v }) t k u) less W))
+      (λ op n a. done n a op (set_of asked) (option_map reply_of reply))
+      (record h0 { registrar = v; phase = p }) t k u) less W))
     where
       go : (o : Option Op) → h0.registrar.current ≡ o → is_some o ≡ true
-          → Works (λ op n a. done n a op (set_of asked) (Some (reply_of reply)))
-          (record h0 { registrar = record h0.registrar { awaited = without_node h0.registrar.awaited f } }) t k u
+          → Works (λ op n a. done n a op (set_of asked) (option_map reply_of reply))
+          (record h0 {
+            registrar = record h0.registrar { awaited = without_node h0.registrar.awaited f };
+            phase = p;
+          }) t k u
           → Makes rule h0 t k u
       go None e some V = cc
-      go (Some (NameOp i c)) e some V = record {
-        name = (V (NameOp i c) e).name;
-        world = (V (NameOp i c) e).world;
-        turn = (V (NameOp i c) e).turn
-            ∙ sym (at_it (NameOp i c) (turn_of h0 t) true (ap (λ (v : Work). is_nobody v.awaited) (sym less) ∙ left))
+      go (Some op) e some V = record {
+        name = (V op e).name;
+        world = (V op e).world;
+        turn = (V op e).turn
+            ∙ ends_anywhere (bound_of h0.world) h0.name (op_of op) (set_of asked) (option_map reply_of reply)
+            (current_of h0.registrar.current (without_node h0.registrar.awaited f) p) (turn_of h0 t)
+            ∙ sym (at_it op (turn_of h0 t) true (ap (λ (v : Work). is_nobody v.awaited) (sym less) ∙ left))
             ∙ ap (λ (x : Current). await_less (bound_of h0.world) h0.name f x (turn_of h0 t))
             (sym (ap (λ (x : Option Op). current_of x h0.registrar.awaited h0.phase) e
-            ∙ ap (phase_of (NameOp i c) h0.registrar.awaited) writing));
+            ∙ ap (phase_of op h0.registrar.awaited) writing));
       }
 
   -- others are awaited still

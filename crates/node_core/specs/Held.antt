@@ -3,6 +3,7 @@ use Rattle.std.specs.Prelude.{ℕ, Bool, true, ◌+◌, ◌≡◌, max, List, []
 use Rattle.registry_model.specs.Table.{Table}
 use Rattle.protocol_model.specs.LockTable.{Locks}
 use Rattle.term.specs.NodeSets.{set_of}
+use Rattle.exit_watch.specs.Held.{Held as Watch, watch_from, AreSuspected}
 use Rattle.transaction.specs.Work.{Work, idle}
 use Rattle.node_core.specs.declared.events.Entry.{Entry}
 use Rattle.node_core.specs.declared.node.Phase.{Phase}
@@ -15,7 +16,7 @@ pub record Held : Type 0 where
   pub joined : Bool
   pub table : Table
   pub locks : Locks
-  pub last_serial : ℕ
+  pub watch : Watch
   pub registrar : Work
   pub phase : Phase  -- where the current operation stands
   pub last_call : ℕ
@@ -36,12 +37,15 @@ IsPhaseWithin world (Asking r) = IsWithin world r.nodes
 IsPhaseWithin world Waiting = Unit {0}
 IsPhaseWithin world (Writing asked reply) = IsWithin world asked
 
--- the node is one of its members, and all nodes that it knows of are of the world
+-- The node is one of its members, all nodes that it knows of are of the world, and its watch is its own, and suspects each
+-- dead process of the node that owns a name
 pub record IsWhole (h : Held) : Type 0 where
   pub self : set_of h.members h.name ≡ true
   pub members : IsWithin h.world h.members
   pub awaited : IsWithin h.world h.registrar.awaited
   pub phase : IsPhaseWithin h.world h.phase
+  pub watch : h.watch.node ≡ h.name
+  pub suspected : AreSuspected h.watch h.table
 
 -- a node at its beginning
 abbrev pub fresh : ℕ → List ℕ → List ℕ → Bool → Held
@@ -52,7 +56,7 @@ fresh a world members joined = record {
   joined = joined;
   table = [];
   locks = [];
-  last_serial = 0;
+  watch = watch_from a 0;
   registrar = idle;
   phase = Waiting;
   last_call = 0;

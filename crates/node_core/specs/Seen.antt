@@ -1,5 +1,6 @@
 -- What a node holds and makes, seen as the protocol's node and turn.
 use Rattle.std.specs.Prelude.{ℕ, Bool, true, false, Option, Some, None, List, [], map}
+use Rattle.std.specs.Option.{option_map}
 use Rattle.registry_model.specs.Process.{nobody}
 use Rattle.registry_model.specs.Call.{NameCall as AnyNameCall, Look as AnyLook, Reply as AnyReply}
 use Rattle.registry_model.specs.History.{Entry as AnyEntry}
@@ -9,6 +10,8 @@ use Rattle.protocol_model.specs.Event.{Call as AnyCall, Answer as AnyAnswer, Ref
 use Rattle.protocol_model.specs.Turn.{Turn, Send}
 use Rattle.name_table.specs.Changes.{change_of}
 use Rattle.term.specs.NodeSets.{set_of}
+use Rattle.exit_watch.specs.declared.faults.WatchFault.{WatchFault}
+use Rattle.exit_watch.specs.declared.faults.WatchFault.TheVariants as fault
 use Rattle.lock_table.specs.declared.verdict.Verdict.{Verdict}
 use Rattle.lock_table.specs.declared.verdict.Verdict.TheVariants.{Grant}
 use Rattle.lock_table.specs.Ids.{id_of}
@@ -17,17 +20,17 @@ use Rattle.transaction.specs.declared.op.Op.{Op}
 use Rattle.transaction.specs.Ops.{name_call_of, op_of}
 use Rattle.node_core.specs.declared.events.Answer.{Answer}
 use Rattle.node_core.specs.declared.events.Call.{Call}
-use Rattle.node_core.specs.declared.events.Call.TheVariants.{Spawn, Whereis, Register}
+use Rattle.node_core.specs.declared.events.Call.TheVariants.{Spawn, Whereis, RegisteredNames, Register, ReRegister, Unregister}
 use Rattle.node_core.specs.declared.events.Entry.{Entry}
-use Rattle.node_core.specs.declared.events.Entry.TheVariants.{Name, Done, Read}
+use Rattle.node_core.specs.declared.events.Entry.TheVariants.{Name, Strike, Exit, Done, Read}
 use Rattle.node_core.specs.declared.events.Letter.{Letter}
-use Rattle.node_core.specs.declared.events.Letter.TheVariants.{SetLock, LockAnswer, GiveBack, GivenBack, Apply, Applied}
+use Rattle.node_core.specs.declared.events.Letter.TheVariants.{SetLock, LockAnswer, GiveBack, GivenBack, ReleaseOf, Apply, Applied}
 use Rattle.node_core.specs.declared.events.Look.{Look}
-use Rattle.node_core.specs.declared.events.Look.TheVariants.{Whereis as LooksUp}
+use Rattle.node_core.specs.declared.events.Look.TheVariants.{Whereis as LooksUp, RegisteredNames as LooksAtAll}
 use Rattle.node_core.specs.declared.events.Reply.{Reply}
-use Rattle.node_core.specs.declared.events.Reply.TheVariants.{Yes, No, UnknownNode, Pid, Undefined}
+use Rattle.node_core.specs.declared.events.Reply.TheVariants.{Yes, No, Ok, UnknownNode, Pid, Undefined, Names}
 use Rattle.node_core.specs.declared.events.StepFault.{StepFault}
-use Rattle.node_core.specs.declared.events.StepFault.TheVariants.{SerialsSpent, NothingToRetry, CallsSpent, Memory}
+use Rattle.node_core.specs.declared.events.StepFault.TheVariants.{NoSuchProcess, AlreadyExited, SerialsSpent, NothingToRetry, CallsSpent, Memory}
 use Rattle.node_core.specs.declared.node.Phase.{Phase}
 use Rattle.node_core.specs.declared.node.Phase.TheVariants.{Asking, Waiting, Writing}
 use Rattle.node_core.specs.Made.{Made}
@@ -36,18 +39,23 @@ use Rattle.node_core.specs.Held.{Held}
 abbrev pub reply_of : Reply → AnyReply
 reply_of Yes = AnyReply.Yes
 reply_of No = AnyReply.No
+reply_of Ok = AnyReply.Ok
 reply_of UnknownNode = AnyReply.UnknownNode
 reply_of (Pid p) = AnyReply.Pid p
 reply_of Undefined = AnyReply.Undefined
+reply_of (Names list) = AnyReply.Names list.names.items
 
 abbrev pub look_of : Look → AnyLook
 look_of (LooksUp x) = AnyLook.Whereis x
+look_of LooksAtAll = AnyLook.RegisteredNames
 
 abbrev pub answer_of : Answer → AnyAnswer
 answer_of s = record { node = s.node; number = s.call; reply = reply_of s.reply }
 
 abbrev pub entry_of : Entry → AnyEntry
 entry_of (Name a k c r) = AnyEntry.Name a k (name_call_of c) (reply_of r)
+entry_of (Strike p) = AnyEntry.Strike p
+entry_of (Exit p) = AnyEntry.Exit p
 entry_of (Done a) = AnyEntry.Done a
 entry_of (Read a l r) = AnyEntry.Read a (look_of l) (reply_of r)
 
@@ -56,6 +64,7 @@ letter_of (SetLock id p) = AnyLetter.SetLock (id_of id) p
 letter_of (LockAnswer id p granted) = AnyLetter.LockAnswer (id_of id) p granted
 letter_of (GiveBack id p ack) = AnyLetter.GiveBack (id_of id) p ack
 letter_of (GivenBack p) = AnyLetter.GivenBack p
+letter_of (ReleaseOf p) = AnyLetter.ReleaseOf p
 letter_of (Apply change) = AnyLetter.Apply (change_of change)
 letter_of Applied = AnyLetter.Applied
 
@@ -68,18 +77,18 @@ abbrev pub phase_of : Op → List ℕ → Phase → Current
 phase_of op awaited (Asking r) = Current.Asking (op_of op) (seen r)
 phase_of op awaited Waiting = Current.Waiting (op_of op)
 phase_of op awaited (Writing asked reply) =
-    Current.Writing (op_of op) (set_of asked) (set_of awaited) (Some (reply_of reply))
+    Current.Writing (op_of op) (set_of asked) (set_of awaited) (option_map reply_of reply)
 
 abbrev pub current_of : Option Op → List ℕ → Phase → Current
 current_of None awaited p = Current.Free
 current_of (Some op) awaited p = phase_of op awaited p
 
--- the node: nobody has left it, no client waits for a lock, and none of its processes is dead
+-- the node: nobody has left it, and no client waits for a lock
 abbrev pub node_of : Held → Node
 node_of h = record {
   replica = record { table = h.table; members = set_of h.members; told = nobody; joined = h.joined };
   locks = h.locks;
-  watch = record { last_serial = h.last_serial; dead = [] };
+  watch = h.watch.watch;
   queue = map op_of h.registrar.queue;
   current = current_of h.registrar.current h.registrar.awaited h.phase;
   calls = [];
@@ -98,14 +107,26 @@ turn_of h m = record {
 abbrev pub call_of : Call → AnyCall
 call_of Spawn = AnyCall.Spawn
 call_of (Whereis x) = AnyCall.LookUp (AnyLook.Whereis x)
+call_of RegisteredNames = AnyCall.LookUp AnyLook.RegisteredNames
 call_of (Register x p) = AnyCall.OnName (AnyNameCall.Register x p)
+call_of (ReRegister x p) = AnyCall.OnName (AnyNameCall.ReRegister x p)
+call_of (Unregister x) = AnyCall.OnName (AnyNameCall.Unregister x)
 
 -- the protocol's refusal; want of memory is none of its
 abbrev pub fault_of : StepFault → Option AnyRefusal
+fault_of NoSuchProcess = Some AnyRefusal.NoSuchProcess
+fault_of AlreadyExited = Some AnyRefusal.AlreadyExited
 fault_of SerialsSpent = Some AnyRefusal.SerialsSpent
 fault_of NothingToRetry = Some AnyRefusal.NothingToRetry
 fault_of CallsSpent = Some AnyRefusal.CallsSpent
 fault_of Memory = None
+
+-- the fault of a step for the watch's
+abbrev pub step_fault_of : WatchFault → StepFault
+step_fault_of fault.SerialsSpent = SerialsSpent
+step_fault_of fault.NoSuchProcess = NoSuchProcess
+step_fault_of fault.AlreadyExited = AlreadyExited
+step_fault_of fault.Memory = Memory
 
 -- memory was refused
 abbrev pub is_memory : StepFault → Bool

@@ -10,7 +10,7 @@ use Rattle.transaction.specs.declared.op.Op.{Op}
 use Rattle.transaction.specs.Ops.{op_of}
 use Rattle.node_core.specs.declared.events.Answer.{Answer}
 use Rattle.node_core.specs.declared.events.Event.{Event}
-use Rattle.node_core.specs.declared.events.Event.TheVariants.{Call, FromPeer, Retry}
+use Rattle.node_core.specs.declared.events.Event.TheVariants.{Call, FromPeer, Retry, Exit}
 use Rattle.node_core.specs.declared.events.Letter.{Letter}
 use Rattle.node_core.specs.declared.events.StepFault.{StepFault}
 use Rattle.node_core.specs.Held.{Held, bound_of}
@@ -36,18 +36,21 @@ Works rule h t k u = (op : Op) → h.registrar.current ≡ Some op → Makes (ru
 abbrev pub Takes : Event → Held → Made → Held → Made → Type 0
 Takes (Call c) h t k u = Makes (λ n a. event n a (set_of h.world) (AnyEvent.Calling (call_of c))) h t k u
 Takes Retry h t k u = Makes (λ n a. event n a (set_of h.world) AnyEvent.Retry) h t k u
+Takes (Exit p) h t k u = Makes (λ n a. event n a (set_of h.world) (AnyEvent.Exiting p)) h t k u
 Takes (FromPeer f l) h t k u = (number : ℕ → ℕ) → Makes (λ n a. receive n a number f (letter_of l)) h t k u
 
 -- the turn that the protocol has for an event
 abbrev pub IsTurn : Event → Held → Turn → Type 0
 IsTurn (Call c) h u = u ≡ event (bound_of h.world) h.name (set_of h.world) (AnyEvent.Calling (call_of c)) (begun (node_of h))
 IsTurn Retry h u = u ≡ event (bound_of h.world) h.name (set_of h.world) AnyEvent.Retry (begun (node_of h))
+IsTurn (Exit p) h u = u ≡ event (bound_of h.world) h.name (set_of h.world) (AnyEvent.Exiting p) (begun (node_of h))
 IsTurn (FromPeer f l) h u = (number : ℕ → ℕ) → u ≡ receive (bound_of h.world) h.name number f (letter_of l) (begun (node_of h))
 
 -- why an event is refused, if it is; a letter never is
 abbrev pub refusal_of : Event → Held → Option AnyRefusal
 refusal_of (Call c) h = first_cause (causes h.name (node_of h) (AnyEvent.Calling (call_of c)))
 refusal_of Retry h = first_cause (causes h.name (node_of h) AnyEvent.Retry)
+refusal_of (Exit p) h = first_cause (causes h.name (node_of h) (AnyEvent.Exiting p))
 refusal_of (FromPeer f l) h = None
 
 -- the refusal that a fault stands for, if there is a fault

@@ -1,6 +1,8 @@
 //! What may happen at a node, what it says to other nodes, and what it answers.
 ghost use Rattle.std.specs.Prelude.{◌≡◌};
 
+use crate::name_list::NameList;
+use exit_watch::WatchFault;
 use name_table::Change;
 use std::alloc::AllocError;
 use term::{LockId, Name, NodeName, Pid};
@@ -18,6 +20,8 @@ pub enum Letter {
     GiveBack(LockId, Pid, bool),
     /// Answers that.
     GivenBack(Pid),
+    /// Takes all grants of a process back, which is dead.
+    ReleaseOf(Pid),
     /// Write this.
     Apply(Change),
     /// It was written.
@@ -36,6 +40,7 @@ impl Letter {
             }
             Letter::GiveBack(id, holder, ack) => Letter::GiveBack(id.copy(), holder.copy(), *ack),
             Letter::GivenBack(holder) => Letter::GivenBack(holder.copy()),
+            Letter::ReleaseOf(holder) => Letter::ReleaseOf(holder.copy()),
             Letter::Apply(change) => Letter::Apply(change.copy()),
             Letter::Applied => Letter::Applied,
         }
@@ -47,6 +52,8 @@ impl Letter {
 pub enum Look {
     /// Who owns this name?
     Whereis(Name),
+    /// Which names are there?
+    RegisteredNames,
 }
 
 /// What a client may call at a node.
@@ -56,9 +63,16 @@ pub enum Call {
     Spawn,
     /// The owner of a name, by the node's own table: answered at once by `Pid` or `Undefined`.
     Whereis(Name),
+    /// All names, by the node's own table: answered at once by `Names`.
+    RegisteredNames,
     /// The process is to own the name. The call is numbered at its node, from 1 on, and answered by `Yes` when it was written
     /// at every member, or by `No` or `UnknownNode` when it was decided.
     Register(Name, Pid),
+    /// The process is to own the name, whoever owns it now. Numbered as `Register` is, and answered by `Yes` or
+    /// `UnknownNode`.
+    ReRegister(Name, Pid),
+    /// Nobody is to own the name. Numbered as `Register` is, and answered by `Ok`, whether it was owned or not.
+    Unregister(Name),
 }
 
 /// What may happen at a node.
@@ -70,6 +84,8 @@ pub enum Event {
     FromPeer(NodeName, Letter),
     /// The operation whose round was refused asks again.
     Retry,
+    /// A process of the node dies: its locks are released at once, and its names are struck under the global lock.
+    Exit(Pid),
 }
 
 /// What a call is answered.
@@ -79,26 +95,35 @@ pub enum Reply {
     Yes,
     /// The name is in use, or the process has a name already.
     No,
+    /// Nobody owns the name any more.
+    Ok,
     /// The owner's node is no member.
     UnknownNode,
     /// A process: the one that was spawned, or the owner of a name.
     Pid(Pid),
     /// Nobody owns the name.
     Undefined,
+    /// All names.
+    Names(NameList),
 }
 
 impl Reply {
-    /// The same reply. It takes no memory.
-    pub fn copy(&self) -> Self
-        ensures { result ≡ self.now }
+    ghost use Rattle.std.specs.Prelude.{IfOk};
+    ghost use Rattle.node_core.specs.Seen.{reply_of};
+
+    /// The same reply. Only a list of names takes memory.
+    pub fn copy(&self) -> Result<Self, AllocError>
+        ensures { IfOk result (λ copy. reply_of copy ≡ reply_of self.now) }
     {
-        match self {
+        Ok(match self {
             Reply::Yes => Reply::Yes,
             Reply::No => Reply::No,
+            Reply::Ok => Reply::Ok,
             Reply::UnknownNode => Reply::UnknownNode,
             Reply::Pid(process) => Reply::Pid(process.copy()),
             Reply::Undefined => Reply::Undefined,
-        }
+            Reply::Names(names) => Reply::Names(names.copy()?),
+        })
     }
 }
 
@@ -118,6 +143,10 @@ pub struct Answer {
 pub enum Entry {
     /// A name call was decided: its node, its number there, the call and the reply.
     Name(NodeName, u32, NameCall, Reply),
+    /// A dead process was granted the strike of its names.
+    Strike(Pid),
+    /// A process died.
+    Exit(Pid),
     /// The operation of the node that was written is done.
     Done(NodeName),
     /// A look-up was answered.
@@ -127,6 +156,12 @@ pub enum Entry {
 /// Why a node doesn't take a step.
 #[derive(Clone, Copy, Debug, PartialEq, Eq, Error)]
 pub enum StepFault {
+    /// The process is another node's, or its serial wasn't given.
+    #[error("no_such_process")]
+    NoSuchProcess,
+    /// The process is dead already.
+    #[error("already_exited")]
+    AlreadyExited,
     /// The node has given its last serial, 4,294,967,295.
     #[error("serials_spent")]
     SerialsSpent,
@@ -148,5 +183,20 @@ impl From<AllocError> for StepFault {
 
     fn from(_: AllocError) -> StepFault {
         StepFault::Memory
+    }
+}
+
+impl From<WatchFault> for StepFault {
+    ghost use Rattle.node_core.specs.Seen.{step_fault_of};
+
+    ghost from_gives = { λ cause fault. fault ≡ step_fault_of cause };
+
+    fn from(fault: WatchFault) -> StepFault {
+        match fault {
+            WatchFault::SerialsSpent => StepFault::SerialsSpent,
+            WatchFault::NoSuchProcess => StepFault::NoSuchProcess,
+            WatchFault::AlreadyExited => StepFault::AlreadyExited,
+            WatchFault::Memory => StepFault::Memory,
+        }
     }
 }

@@ -6,8 +6,9 @@ mod reading;
 mod registrar;
 mod rounds;
 
-use crate::events::{Answer, Call, Entry, Event, Letter, Reply, StepFault};
+use crate::events::{Answer, Entry, Event, Letter, Reply, StepFault};
 use crate::turn::Turn;
+use exit_watch::Watch;
 use lock_table::LockTable;
 use locker::Round;
 use name_table::Names;
@@ -23,11 +24,12 @@ pub(crate) enum Phase {
     Asking(Round),
     /// Its round was refused, and a retry is waited for.
     Waiting,
-    /// It holds the lock at the nodes that were asked, and waits until the members have written it; the reply comes then.
-    Writing(NodeSet, Reply),
+    /// It holds the lock at the nodes that were asked, and waits until the members have written it; the reply, if it
+    /// has one, comes then.
+    Writing(NodeSet, Option<Reply>),
 }
 
-/// One node: its table, its locks, its registrar, and the numbers that it has given. It takes steps, and knows nothing of links:
+/// One node: its table, its locks, its processes, its registrar, and the numbers that it has given. It takes steps, and knows nothing of links:
 /// each step says what is to be sent to whom.
 #[derive(Drop)]
 pub struct NodeCore<N: Names> {
@@ -37,8 +39,7 @@ pub struct NodeCore<N: Names> {
     joined: bool,
     table: N,
     locks: LockTable,
-    /// The serial that the last process was given; 0 before the first.
-    last_serial: u32,
+    watch: Watch,
     registrar: Registrar,
     phase: Phase,
     /// The number that the last name call was given; 0 before the first.
@@ -59,7 +60,7 @@ impl<N: Names> Model for NodeCore<N> {
       joined = c.joined;
       table = N.contents c.table;
       locks = c.locks;
-      last_serial = c.last_serial;
+      watch = c.watch;
       registrar = c.registrar;
       phase = c.phase;
       last_call = c.last_call;
@@ -73,7 +74,7 @@ impl<N: Names> Model for NodeCore<N> {
       joined = c.joined;
       table = N.contents c.table;
       locks = c.locks;
-      last_serial = c.last_serial;
+      watch = c.watch;
       registrar = c.registrar;
       phase = c.phase;
       last_call = c.last_call;
@@ -87,6 +88,7 @@ impl<N: Names> NodeCore<N> {
     ghost use Rattle.protocol_model.specs.Node.{holds_global};
     ghost use Rattle.node_core.specs.Held.{IsWhole};
     ghost use Rattle.node_core.specs.Seen.{node_of, fault_of, is_memory};
+    ghost use Rattle.node_core.specs.declared.events.StepFault.TheVariants.{Memory};
     ghost use Rattle.node_core.specs.Steps.{Steps, Keeps, Takes, refusal_of, cause_of};
     ghost use Rattle.protocol_model.specs.Event.{can_retry};
 
@@ -121,17 +123,20 @@ impl<N: Names> NodeCore<N> {
     }
 
     /// What an event does that isn't refused.
-    fn take(&mut self, turn: &mut Turn, event: &Event) -> Result<(), AllocError>
+    fn take(&mut self, turn: &mut Turn, event: &Event) -> Result<(), StepFault>
         requires { refusal_of event.now self.old ≡ None }
         ensures turn { OnOk result (Takes event.now self.old turn.old self.new turn.new) }
+        ensures memory { IfErr result (λ fault. fault ≡ Memory) }
         ensures kept { Keeps self.old self.new }
     {
         match event {
             Event::Call(call) => self.call(turn, call)?,
             Event::Retry => self.retry(turn)?,
-            Event::FromPeer(from, letter) => return self.receive(turn, from, letter),
+            Event::Exit(process) => self.exit(turn, process)?,
+            Event::FromPeer(from, letter) => return Ok(self.receive(turn, from, letter)?),
         }
-        self.start(turn)
+        self.start(turn)?;
+        Ok(())
     }
 
     /// Whether an operation is current.
@@ -153,14 +158,10 @@ impl<N: Names> NodeCore<N> {
         ensures { refusal_of event.now self.now ≡ cause_of result }
     {
         match event {
-            Event::Call(Call::Spawn) if self.last_serial == u32::MAX => {
-                Some(StepFault::SerialsSpent)
-            }
-            Event::Call(Call::Register(..)) if self.last_call == u32::MAX => {
-                Some(StepFault::CallsSpent)
-            }
+            Event::Call(call) => self.call_refusal(call),
             Event::Retry if !self.can_retry() => Some(StepFault::NothingToRetry),
-            Event::Call(_) | Event::Retry | Event::FromPeer(..) => None,
+            Event::Exit(process) => self.watch.exit_refusal(process).map(StepFault::from),
+            Event::Retry | Event::FromPeer(..) => None,
         }
     }
 
@@ -237,6 +238,7 @@ impl<N: Names<Memory = Global>> NodeCore<N> {
         ensures fresh { result ≡ fresh name world.now members.now joined }
         ensures opening { joined ≡ true → node_of result ≡ opening_node (set_of members.now) name }
     {
+        let watch = Watch::new(alloc, name.copy());
         NodeCore {
             name,
             world: world.copy(),
@@ -244,7 +246,7 @@ impl<N: Names<Memory = Global>> NodeCore<N> {
             joined,
             table: N::empty(alloc),
             locks: LockTable::new(alloc),
-            last_serial: 0,
+            watch,
             registrar: Registrar::new(alloc),
             phase: Phase::Waiting,
             last_call: 0,

@@ -1,4 +1,5 @@
-//! Steps of one node, whose letters are read to it by hand.
+//! Steps of one node. Each test is a script: a line has events, and what the node makes of them, or `state`, and what the
+//! node is like.
 use crate::{Answer, Call, Entry, Event, Letter, NodeCore, Reply, StepFault};
 use name_table::{ListTable, Names};
 use std::alloc::Global;
@@ -7,6 +8,9 @@ use std::test::Fail;
 use term::{LockId, NodeName, NodeSet, Pid, parse_name, parse_node, parse_pid};
 
 type Core = NodeCore<ListTable<Global>>;
+
+/// How often the letters of a node that is alone are read to it, until it sends no more.
+const ALONE: u32 = 16;
 
 /// The joined core of the node `a`, whose other member, if there is one, is `b`.
 fn core(alloc: Global, with_b: bool) -> Result<Core, Fail> {
@@ -21,198 +25,334 @@ fn core(alloc: Global, with_b: bool) -> Result<Core, Fail> {
     Ok(NodeCore::new(alloc, a, &members, &members, true))
 }
 
-/// The answer of a node to the registrar of `a`.
-fn answer(granted: bool) -> Result<Letter, Fail> {
+/// A letter to the node `a`, about the lock of its registrar.
+fn letter(kind: &str) -> Result<Letter, Fail> {
     let a = parse_node("a")?;
     let id = LockId::global(&a);
-    Ok(Letter::LockAnswer(id, Pid { node: a, serial: 0 }, granted))
+    let registrar = Pid { node: a, serial: 0 };
+    Ok(match kind {
+        "granted" => Letter::LockAnswer(id, registrar, true),
+        "refused" => Letter::LockAnswer(id, registrar, false),
+        "give_back" => Letter::GiveBack(id, registrar, true),
+        "applied" => Letter::Applied,
+        _ => return Err(Fail::from("no letter")),
+    })
 }
 
-/// The registrar of `a` gives its lock back, which is to be acknowledged.
-fn give_back() -> Result<Letter, Fail> {
-    let a = parse_node("a")?;
-    let id = LockId::global(&a);
-    Ok(Letter::GiveBack(id, Pid { node: a, serial: 0 }, true))
+/// The call that gives a name to a process.
+fn put(kind: &str, name_and_owner: &str) -> Result<Call, Fail> {
+    let Some((name, owner)) = name_and_owner.split_once(' ') else {
+        return Err(Fail::from("no owner"));
+    };
+    let name = parse_name(name)?;
+    let owner = parse_pid(owner)?;
+    Ok(if kind == "register" {
+        Call::Register(name, owner)
+    } else {
+        Call::ReRegister(name, owner)
+    })
 }
 
-/// A letter from a node.
-fn letter(words: &[&str]) -> Result<Event, Fail> {
-    Ok(match words {
-        ["granted", from] => Event::FromPeer(parse_node(from)?, answer(true)?),
-        ["refused", from] => Event::FromPeer(parse_node(from)?, answer(false)?),
-        ["give_back", from] => Event::FromPeer(parse_node(from)?, give_back()?),
-        ["applied", from] => Event::FromPeer(parse_node(from)?, Letter::Applied),
+/// An event of one word.
+fn plain_event(word: &str) -> Result<Event, Fail> {
+    Ok(match word {
+        "spawn" => Event::Call(Call::Spawn),
+        "names" => Event::Call(Call::RegisteredNames),
+        "retry" => Event::Retry,
         _ => return Err(Fail::from("no event")),
     })
 }
 
-/// A call, a retry, or a letter from a node.
-fn event(words: &[&str]) -> Result<Event, Fail> {
-    Ok(match words {
-        ["spawn"] => Event::Call(Call::Spawn),
-        ["whereis", name] => Event::Call(Call::Whereis(parse_name(name)?)),
-        ["register", name, owner] => {
-            Event::Call(Call::Register(parse_name(name)?, parse_pid(owner)?))
-        }
-        ["retry"] => Event::Retry,
-        _ => letter(words)?,
+/// The event that a text names: a call, an exit, a retry, or the kind of a letter and who sends it.
+fn event(text: &str) -> Result<Event, Fail> {
+    let Some((kind, rest)) = text.split_once(' ') else {
+        return plain_event(text);
+    };
+    Ok(match kind {
+        "whereis" => Event::Call(Call::Whereis(parse_name(rest)?)),
+        "unregister" => Event::Call(Call::Unregister(parse_name(rest)?)),
+        "register" | "re_register" => Event::Call(put(kind, rest)?),
+        "exit" => Event::Exit(parse_pid(rest)?),
+        _ => Event::FromPeer(parse_node(rest)?, letter(kind)?),
     })
 }
 
-/// The event that a text names.
-fn read(alloc: Global, text: &str) -> Result<Event, Fail> {
-    let mut words = Vec::new(alloc);
-    for word in text.split(' ') {
-        words.push(word)?;
+/// A reply that is a word.
+fn plain_reply(reply: &Reply) -> &'static str {
+    match reply {
+        Reply::Yes => "yes",
+        Reply::No => "no",
+        Reply::Ok => "ok",
+        Reply::UnknownNode => "unknown_node",
+        _ => "undefined",
     }
-    event(words.as_slice())
 }
 
-/// An answer, as the number of its call and its reply.
+/// An answer, as the number of its call and its reply; of names their number.
 fn show_answer(text: &mut String, answer: &Answer) -> Result<(), Fail> {
     let call = answer.call;
     match &answer.reply {
-        Reply::Yes => write!(text, "{call} yes;")?,
-        Reply::No => write!(text, "{call} no;")?,
-        Reply::UnknownNode => write!(text, "{call} unknown_node;")?,
-        Reply::Undefined => write!(text, "{call} undefined;")?,
-        Reply::Pid(process) => write!(text, "{call} {process};")?,
+        Reply::Pid(process) => write!(text, " {call} {process};")?,
+        Reply::Names(names) => write!(text, " {call} {} names;", names.as_slice().len())?,
+        reply => write!(text, " {call} {};", plain_reply(reply))?,
     }
     Ok(())
 }
 
-/// A letter, as its kind and its receiver.
-fn show_letter(text: &mut String, to: &NodeName, letter: &Letter) -> Result<(), Fail> {
-    let kind = match letter {
+/// The kind of a letter.
+fn kind(letter: &Letter) -> &'static str {
+    match letter {
         Letter::SetLock(..) => "set_lock",
         Letter::LockAnswer(_, _, true) => "granted",
         Letter::LockAnswer(_, _, false) => "refused",
         Letter::GiveBack(..) => "give_back",
         Letter::GivenBack(_) => "given_back",
+        Letter::ReleaseOf(_) => "release_of",
         Letter::Apply(_) => "apply",
         Letter::Applied => "applied",
-    };
-    write!(text, "{kind} {to};")?;
-    Ok(())
+    }
 }
 
-/// What a core makes of an event: its answers, or why it is refused, and then its letters.
-fn step(
-    alloc: Global,
+/// What a core makes of an event: its answers, or why it is refused.
+fn take(
+    text: &mut String,
     core: &mut Core,
     event: &Event,
     sent: &mut Vec<(NodeName, Letter)>,
-) -> Result<String, Fail> {
-    let mut text = String::new(alloc);
+) -> Result<(), Fail> {
     match core.step(event, sent) {
         Ok(answers) => {
             for answer in answers.as_slice() {
-                show_answer(&mut text, answer)?;
+                show_answer(text, answer)?;
             }
         }
-        Err(fault) => write!(text, "{fault};")?,
+        Err(fault) => write!(text, " {fault};")?,
     }
-    for (to, letter) in sent.as_slice() {
-        show_letter(&mut text, to, letter)?;
+    Ok(())
+}
+
+/// What a core makes of an event: its answers, or why it is refused, then its letters, each as its kind and its receiver,
+/// and whether it holds the global lock.
+fn step(
+    text: &mut String,
+    core: &mut Core,
+    event: &Event,
+    sent: &mut Vec<(NodeName, Letter)>,
+) -> Result<(), Fail> {
+    let before = sent.len();
+    take(text, core, event, sent)?;
+    for (to, letter) in sent.iter().skip(before) {
+        write!(text, " {} {to};", kind(letter))?;
+    }
+    if core.holds_global() {
+        text.push_str(" holds;")?;
+    }
+    Ok(())
+}
+
+/// What a core makes of its letters to itself, of which these wait.
+fn deliver(
+    text: &mut String,
+    core: &mut Core,
+    waiting: Vec<(NodeName, Letter)>,
+    sent: &mut Vec<(NodeName, Letter)>,
+) -> Result<(), Fail> {
+    for (to, letter) in waiting {
+        step(text, core, &Event::FromPeer(to, letter), sent)?;
+    }
+    Ok(())
+}
+
+/// What a core makes of events, and then so many times of its letters to itself.
+fn settle(text: &mut String, core: &mut Core, events: &str, times: u32) -> Result<(), Fail> {
+    let alloc: Global = *text.allocator();
+    let mut waiting = Vec::new(alloc);
+    for word in events.split(", ") {
+        step(text, core, &event(word)?, &mut waiting)?;
+    }
+    for _ in 0..times {
+        let mut sent = Vec::new(alloc);
+        deliver(text, core, waiting, &mut sent)?;
+        waiting = sent;
+    }
+    Ok(())
+}
+
+/// The kind of an entry of the history.
+fn entry_kind(entry: &Entry) -> &'static str {
+    match entry {
+        Entry::Name(..) => "name",
+        Entry::Strike(_) => "strike",
+        Entry::Exit(_) => "exit",
+        Entry::Done(_) => "done",
+        Entry::Read(..) => "read",
+    }
+}
+
+/// What a core is like: its name, how many members and names it has, and what its last step entered.
+fn show_state(text: &mut String, core: &Core) -> Result<(), Fail> {
+    let names = core.table().pairs(*text.allocator())?.len();
+    let members = core.members().len();
+    write!(text, " {}; {members} members; {names} names;", core.name())?;
+    for entry in core.entered() {
+        write!(text, " {};", entry_kind(entry))?;
+    }
+    Ok(())
+}
+
+/// Whether a core is joined, and whether it is at work.
+fn show_flags(text: &mut String, core: &Core) -> Result<(), Fail> {
+    if core.is_joined() {
+        text.push_str(" joined;")?;
+    }
+    if core.current().is_some() {
+        text.push_str(" at work;")?;
+    }
+    Ok(())
+}
+
+/// What a core makes of the events of a line, or what it is like.
+fn play_line(text: &mut String, core: &mut Core, times: u32, line: &str) -> Result<(), Fail> {
+    let Some((events, _)) = line.split_once(':') else {
+        return Err(Fail::from("no line of a script"));
+    };
+    write!(text, "{events}:")?;
+    if events == "state" {
+        show_flags(text, core)?;
+        return show_state(text, core);
+    }
+    settle(text, core, events, times)
+}
+
+/// The script that a core makes of the events of a script: the same one, where the core does what it says.
+fn play_lines(alloc: Global, core: &mut Core, times: u32, script: &str) -> Result<String, Fail> {
+    let mut text = String::new(alloc);
+    for line in script.lines() {
+        play_line(&mut text, core, times, line)?;
+        text.push('\n')?;
     }
     Ok(text)
 }
 
-/// What a core that is alone makes of an event, and then of its letters to itself.
-fn settle(alloc: Global, core: &mut Core, event: Event) -> Result<String, Fail> {
-    let mut waiting = Vec::new(alloc);
-    let mut text = step(alloc, core, &event, &mut waiting)?;
-    for _ in 0..8 {
-        let mut next = Vec::new(alloc);
-        for (to, letter) in waiting {
-            let said = step(alloc, core, &Event::FromPeer(to, letter), &mut next)?;
-            text.push_str(said.as_str())?;
-        }
-        waiting = next;
-    }
-    Ok(text)
+/// The script that a node makes of the events of a script: the letters of one that is alone are read to it by itself.
+fn play(alloc: Global, script: &str, with_b: bool) -> Result<String, Fail> {
+    let times = if with_b { 0 } else { ALONE };
+    let mut core = core(alloc, with_b)?;
+    play_lines(alloc, &mut core, times, script)
 }
+
+/// Names are registered, and those that are refused leave no trace.
+const REGISTERS: &str = "\
+spawn: 0 a.1;
+register x a.1: set_lock a; granted a; apply a; holds; applied a; holds; 1 yes; give_back a;
+whereis x: 0 a.1;
+state: joined; a; 1 members; 1 names; read;
+whereis y: 0 undefined;
+register y a.1: set_lock a; granted a; 2 no; give_back a;
+register y b.1: set_lock a; granted a; 3 unknown_node; give_back a;
+spawn: 0 a.2;
+state: joined; a; 1 members; 1 names;
+";
 
 #[test]
 fn registers_names_alone(rt: HostRuntime) -> Result<(), Fail> {
-    let alloc = rt.alloc();
-    let mut core = core(alloc, false)?;
-    for (event, said) in [
-        ("spawn", "0 a.1;"),
-        (
-            "register x a.1",
-            "set_lock a;granted a;apply a;applied a;1 yes;give_back a;",
-        ),
-        ("whereis x", "0 a.1;"),
-        ("whereis y", "0 undefined;"),
-        ("register y a.1", "set_lock a;granted a;2 no;give_back a;"),
-        (
-            "register y b.1",
-            "set_lock a;granted a;3 unknown_node;give_back a;",
-        ),
-    ] {
-        let text = settle(alloc, &mut core, read(alloc, event)?)?;
-        assert_eq!(rt; text.as_str(), said, "{event}");
-    }
-    assert_eq!(rt; core.table().pairs(alloc)?.len(), 1);
-    assert_eq!(rt; core.members().len(), 1);
-    assert!(rt; core.is_joined());
+    let script = REGISTERS;
+    let text = play(rt.alloc(), script, false)?;
+    assert_eq!(rt; text.as_str(), script);
     Ok(())
 }
+
+/// The names of a process go with it, and a name that is given to a dead process is struck again.
+const STRIKES: &str = "\
+spawn: 0 a.1;
+re_register x a.1: set_lock a; granted a; apply a; holds; applied a; holds; 1 yes; give_back a;
+re_register y a.1: set_lock a; granted a; apply a; holds; applied a; holds; 2 yes; give_back a;
+names: 0 2 names;
+unregister x: set_lock a; granted a; apply a; holds; applied a; holds; 3 ok; give_back a;
+exit a.1: release_of a; set_lock a; granted a; apply a; holds; applied a; holds; give_back a;
+names: 0 0 names;
+exit a.1: already_exited;
+exit a.2: no_such_process;
+re_register x a.1, names: set_lock a; 0 0 names; granted a; apply a; holds; applied a; holds; 4 yes; give_back a; \
+set_lock a; granted a; apply a; holds; applied a; holds; give_back a;
+names: 0 0 names;
+";
+
+#[test]
+fn strikes_the_dead(rt: HostRuntime) -> Result<(), Fail> {
+    let script = STRIKES;
+    let text = play(rt.alloc(), script, false)?;
+    assert_eq!(rt; text.as_str(), script);
+    Ok(())
+}
+
+/// A strike comes before the calls that wait.
+const STRIKES_FIRST: &str = "\
+spawn: 0 a.1;
+register x a.1: set_lock a; granted a; apply a; holds; applied a; holds; 1 yes; give_back a;
+register y a.2, register z a.3, exit a.1: set_lock a; release_of a; granted a; apply a; holds; applied a; holds; \
+2 yes; give_back a; set_lock a; granted a; apply a; holds; applied a; holds; \
+give_back a; set_lock a; granted a; apply a; holds; applied a; holds; 3 yes; give_back a;
+";
+
+#[test]
+fn strikes_before_what_waits(rt: HostRuntime) -> Result<(), Fail> {
+    let script = STRIKES_FIRST;
+    let text = play(rt.alloc(), script, false)?;
+    assert_eq!(rt; text.as_str(), script);
+    Ok(())
+}
+
+/// A refused round gives back what was granted, and waits for a retry. The call is answered once both have written it.
+const ASKS: &str = "\
+retry: nothing_to_retry;
+register x a.1: set_lock b;
+refused b:
+state: joined; at work; a; 2 members; 0 names;
+retry: set_lock b;
+granted b: set_lock a;
+refused a: give_back b;
+retry: set_lock b;
+granted b: set_lock a;
+granted b:
+granted a: apply a; apply b; holds;
+state: joined; at work; a; 2 members; 0 names; name;
+applied b: holds;
+applied b: holds;
+applied a: 1 yes; give_back a; give_back b;
+state: joined; a; 2 members; 0 names; done;
+applied a:
+give_back b: given_back b;
+";
 
 #[test]
 fn asks_the_boss_first(rt: HostRuntime) -> Result<(), Fail> {
-    let alloc = rt.alloc();
-    let mut core = core(alloc, true)?;
-    // A refused round gives back what was granted, and waits for a retry. The call is answered once both have written it.
-    for (event, said, holds) in [
-        ("retry", "nothing_to_retry;", false),
-        ("register x a.1", "set_lock b;", false),
-        ("refused b", "", false),
-        ("retry", "set_lock b;", false),
-        ("granted b", "set_lock a;", false),
-        ("refused a", "give_back b;", false),
-        ("retry", "set_lock b;", false),
-        ("granted b", "set_lock a;", false),
-        ("granted b", "", false),
-        ("granted a", "apply a;apply b;", true),
-        ("applied b", "", true),
-        ("applied b", "", true),
-        ("applied a", "1 yes;give_back a;give_back b;", false),
-        ("applied a", "", false),
-        ("give_back b", "given_back b;", false),
-    ] {
-        let mut sent = Vec::new(alloc);
-        let text = step(alloc, &mut core, &read(alloc, event)?, &mut sent)?;
-        assert_eq!(rt; text.as_str(), said, "{event}");
-        assert_eq!(rt; core.holds_global(), holds, "{event}");
-    }
-    assert!(rt; core.current().is_none());
+    let script = ASKS;
+    let text = play(rt.alloc(), script, true)?;
+    assert_eq!(rt; text.as_str(), script);
     Ok(())
 }
 
-#[test]
-fn enters_what_it_read(rt: HostRuntime) -> Result<(), Fail> {
-    let alloc = rt.alloc();
-    let mut core = core(alloc, false)?;
-    settle(alloc, &mut core, read(alloc, "whereis x")?)?;
-    assert!(rt; matches!(core.entered(), [Entry::Read(_, _, Reply::Undefined)]));
-    settle(alloc, &mut core, read(alloc, "spawn")?)?;
-    assert!(rt; core.entered().is_empty());
-    assert_eq!(rt; *core.name(), parse_node("a")?);
-    Ok(())
+/// Each fault, by its text.
+fn show_faults(alloc: Global) -> Result<String, Fail> {
+    let mut text = String::new(alloc);
+    for fault in [
+        StepFault::NoSuchProcess,
+        StepFault::AlreadyExited,
+        StepFault::SerialsSpent,
+        StepFault::NothingToRetry,
+        StepFault::CallsSpent,
+        StepFault::Memory,
+    ] {
+        write!(text, "{fault} ")?;
+    }
+    Ok(text)
 }
 
 #[test]
 fn names_its_faults(rt: HostRuntime) -> Result<(), Fail> {
-    let alloc = rt.alloc();
-    for (fault, text) in [
-        (StepFault::SerialsSpent, "serials_spent"),
-        (StepFault::NothingToRetry, "nothing_to_retry"),
-        (StepFault::CallsSpent, "calls_spent"),
-        (StepFault::Memory, "memory"),
-    ] {
-        assert_eq!(rt; format!(in alloc; "{fault}")?.as_str(), text);
-    }
+    let text = show_faults(rt.alloc())?;
+    let said = "no_such_process already_exited serials_spent nothing_to_retry calls_spent memory ";
+    assert_eq!(rt; text.as_str(), said);
     Ok(())
 }

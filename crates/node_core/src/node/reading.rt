@@ -1,10 +1,14 @@
 //! What a node does with a letter.
-ghost use Rattle.std.specs.Prelude.{◌≡◌};
+ghost use Rattle.std.specs.Prelude.{◌≡◌, OnOk};
+ghost use Rattle.registry_model.specs.Table.{Table, changed};
+ghost use Rattle.name_table.specs.Changes.{change_of};
+ghost use Rattle.exit_watch.specs.Held.{AreSuspected, KeepsSuspects};
 ghost use Rattle.node_core.specs.Seen.{is_granted};
 
 use crate::events::Letter;
 use crate::node::NodeCore;
 use crate::turn::Turn;
+use exit_watch::Watch;
 use lock_table::Verdict;
 use name_table::{Change, Names};
 use std::alloc::AllocError;
@@ -17,15 +21,27 @@ fn is_grant(verdict: &Verdict) -> bool
     matches!(verdict, Verdict::Grant)
 }
 
+/// The watch is told of a change that is about to be written: only a put concerns it.
+fn note_change(watch: &mut Watch, change: &Change) -> Result<(), AllocError>
+    ensures node { watch.new.node ≡ watch.old.node }
+    ensures watch { watch.new.watch ≡ watch.old.watch }
+    ensures ok { OnOk result ((t : Table) → AreSuspected watch.old t → AreSuspected watch.new (changed (change_of change.now) t)) }
+    ensures suspected { KeepsSuspects watch.old watch.new }
+{
+    if let Change::Put(_, owner) = change {
+        watch.note_owner(owner)?;
+    }
+    Ok(())
+}
+
 impl<N: Names> NodeCore<N> {
-    ghost use Rattle.std.specs.Prelude.{◌≡◌, ℕ, OnOk};
+    ghost use Rattle.std.specs.Prelude.{ℕ};
     ghost use Rattle.protocol_model.specs.LockTable.{is_free_for};
     ghost use Rattle.protocol_model.specs.Letter.{Letter as AnyLetter};
     ghost use Rattle.protocol_model.specs.Node.{wrote};
     ghost use Rattle.protocol_model.specs.Turn.{send, with_replica};
     ghost use Rattle.protocol_model.specs.Reading.{judge, hear, take_back, read, receive};
     ghost use Rattle.lock_table.specs.Ids.{id_of};
-    ghost use Rattle.name_table.specs.Changes.{change_of};
     ghost use Rattle.node_core.specs.Seen.{letter_of};
     ghost use Rattle.node_core.specs.Steps.{Keeps, Makes};
 
@@ -90,6 +106,7 @@ impl<N: Names> NodeCore<N> {
         ensures turn { OnOk result (Makes (λ n a u. send from.now AnyLetter.Applied (with_replica (wrote (change_of change)) u)) self.old turn.old self.new turn.new) }
         ensures kept { Keeps self.old self.new }
     {
+        note_change(&mut self.watch, &change)?;
         self.table.write(change)?;
         turn.send(from.copy(), Letter::Applied)
     }
@@ -104,6 +121,10 @@ impl<N: Names> NodeCore<N> {
             Letter::LockAnswer(_, holder, granted) => self.hear(turn, from, holder, *granted),
             Letter::GiveBack(id, holder, ack) => self.take_back(turn, from, id, holder, *ack),
             Letter::GivenBack(_) => Ok(()),
+            Letter::ReleaseOf(holder) => {
+                self.locks.drop_holder(holder);
+                Ok(())
+            }
             Letter::Apply(change) => self.apply(turn, from, change.copy()),
             Letter::Applied => self.await_less(turn, from),
         }

@@ -4,18 +4,20 @@ use crate::node::{NodeCore, Phase};
 use crate::turn::Turn;
 use name_table::{Change, Names};
 use std::alloc::AllocError;
+use std::mem;
 use term::{LockId, NodeName, NodeSet, Pid};
 use transaction::{NameCall, Op};
 
 impl<N: Names> NodeCore<N> {
     ghost use Rattle.std.specs.Prelude.{◌≡◌, ℕ, false, Some, OnOk, is_some, IsTrue};
-    ghost use Rattle.registry_model.specs.Call.{reply_to, is_grant};
+    ghost use Rattle.std.specs.Option.{option_map};
+    ghost use Rattle.registry_model.specs.Call.{reply_to};
     ghost use Rattle.protocol_model.specs.Letter.{Global, Letter as AnyLetter};
     ghost use Rattle.protocol_model.specs.Registrar.{registrar, give_global, finish, done, write, give_up, await_less};
     ghost use Rattle.protocol_model.specs.Deciding.{held};
     ghost use Rattle.term.specs.NodeSets.{set_of};
     ghost use Rattle.name_table.specs.Changes.{change_of};
-    ghost use Rattle.transaction.specs.declared.op.Op.TheVariants.{Name as NameOp};
+    ghost use Rattle.transaction.specs.declared.op.Op.TheVariants.{Name as NameOp, Strike};
     ghost use Rattle.transaction.specs.Ops.{name_call_of, op_of};
     ghost use Rattle.node_core.specs.Held.{IsWithin};
     ghost use Rattle.node_core.specs.Seen.{letter_of, reply_of};
@@ -65,13 +67,18 @@ impl<N: Names> NodeCore<N> {
     }
 
     /// The current operation is answered, who was asked gets the lock back, and the registrar is free.
-    fn finish(&mut self, turn: &mut Turn, asked: &NodeSet, reply: Reply) -> Result<(), AllocError>
+    fn finish(
+        &mut self,
+        turn: &mut Turn,
+        asked: &NodeSet,
+        reply: Option<Reply>,
+    ) -> Result<(), AllocError>
         requires current { IsTrue (is_some self.old.registrar.current) }
         requires within { IsWithin self.old.world asked.now }
-        ensures turn { OnOk result (Works (λ op n a. finish n a op (set_of asked.now) (Some (reply_of reply))) self.old turn.old self.new turn.new) }
+        ensures turn { OnOk result (Works (λ op n a. finish n a op (set_of asked.now) (option_map reply_of reply)) self.old turn.old self.new turn.new) }
         ensures kept { Keeps self.old self.new }
     {
-        if let Some(Op::Name(call, _)) = self.registrar.current() {
+        if let (Some(Op::Name(call, _)), Some(reply)) = (self.registrar.current(), reply) {
             turn.answer(self.answer(*call, reply))?;
         }
         self.give_global(turn, asked)?;
@@ -80,10 +87,15 @@ impl<N: Names> NodeCore<N> {
     }
 
     /// The current operation was carried out everywhere, and is done.
-    fn done(&mut self, turn: &mut Turn, asked: &NodeSet, reply: Reply) -> Result<(), AllocError>
+    fn done(
+        &mut self,
+        turn: &mut Turn,
+        asked: &NodeSet,
+        reply: Option<Reply>,
+    ) -> Result<(), AllocError>
         requires current { IsTrue (is_some self.old.registrar.current) }
         requires within { IsWithin self.old.world asked.now }
-        ensures turn { OnOk result (Works (λ op n a. done n a op (set_of asked.now) (Some (reply_of reply))) self.old turn.old self.new turn.new) }
+        ensures turn { OnOk result (Works (λ op n a. done n a op (set_of asked.now) (option_map reply_of reply)) self.old turn.old self.new turn.new) }
         ensures kept { Keeps self.old self.new }
     {
         turn.enter(Entry::Done(self.name.copy()))?;
@@ -95,12 +107,12 @@ impl<N: Names> NodeCore<N> {
         &mut self,
         turn: &mut Turn,
         asked: NodeSet,
-        reply: Reply,
+        reply: Option<Reply>,
         change: Change,
     ) -> Result<(), AllocError>
         requires current { IsTrue (is_some self.old.registrar.current) }
         requires within { IsWithin self.old.world asked }
-        ensures turn { OnOk result (Works (λ op n a. write n a op (set_of asked) (Some (reply_of reply)) (change_of change)) self.old turn.old self.new turn.new) }
+        ensures turn { OnOk result (Works (λ op n a. write n a op (set_of asked) (option_map reply_of reply) (change_of change)) self.old turn.old self.new turn.new) }
         ensures kept { Keeps self.old self.new }
     {
         self.registrar.await_from(&self.members);
@@ -122,6 +134,11 @@ impl<N: Names> NodeCore<N> {
                     Reply::Yes
                 }
             }
+            NameCall::ReRegister(_, owner) if !self.members.contains(&owner.node) => {
+                Reply::UnknownNode
+            }
+            NameCall::ReRegister(..) => Reply::Yes,
+            NameCall::Unregister(_) => Reply::Ok,
         }
     }
 
@@ -141,13 +158,23 @@ impl<N: Names> NodeCore<N> {
     {
         let reply = self.reply_to(&name_call);
         let change = name_call.change();
-        let entry = Entry::Name(self.name.copy(), call, name_call, reply.copy());
+        let entry = Entry::Name(self.name.copy(), call, name_call, reply.copy()?);
         turn.enter(entry)?;
-        if let Reply::Yes = reply {
-            self.write(turn, asked, reply, change)
-        } else {
-            self.finish(turn, &asked, reply)
+        match reply {
+            Reply::Yes | Reply::Ok => self.write(turn, asked, Some(reply), change),
+            _ => self.finish(turn, &asked, Some(reply)),
         }
+    }
+
+    /// The lock is held: a dead process loses all its names.
+    fn strike(&mut self, turn: &mut Turn, asked: NodeSet, process: Pid) -> Result<(), AllocError>
+        requires current { self.old.registrar.current ≡ Some (Strike process) }
+        requires within { IsWithin self.old.world asked }
+        ensures turn { (number : ℕ → ℕ) → OnOk result (Works (λ op n a. held n a number op (set_of asked)) self.old turn.old self.new turn.new) }
+        ensures kept { Keeps self.old self.new }
+    {
+        turn.enter(Entry::Strike(process.copy()))?;
+        self.write(turn, asked, None, Change::StrikeOwner(process))
     }
 
     /// The lock is held: the current operation is decided.
@@ -160,6 +187,10 @@ impl<N: Names> NodeCore<N> {
             Some(Op::Name(call, name_call)) => {
                 let (call, name_call) = (*call, name_call.copy());
                 self.decide(turn, asked, call, name_call)
+            }
+            Some(Op::Strike(process)) => {
+                let process = process.copy();
+                self.strike(turn, asked, process)
             }
             None => Ok(()),
         }
@@ -183,16 +214,15 @@ impl<N: Names> NodeCore<N> {
         if !self.is_at_work() {
             return Ok(());
         }
-        let Phase::Writing(asked, reply) = &self.phase else {
-            return Ok(());
-        };
-        let (asked, reply) = (asked.copy(), reply.copy());
-        if !self.registrar.applied(from) {
+        if !matches!(self.phase, Phase::Writing(..)) || !self.registrar.applied(from) {
             return Ok(());
         }
-        if self.registrar.is_done() {
-            return self.done(turn, &asked, reply);
+        if !self.registrar.is_done() {
+            return Ok(());
         }
-        Ok(())
+        match mem::replace(&mut self.phase, Phase::Waiting) {
+            Phase::Writing(asked, reply) => self.done(turn, &asked, reply),
+            _ => Ok(()),
+        }
     }
 }

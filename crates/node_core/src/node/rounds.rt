@@ -27,12 +27,16 @@ impl<N: Names> NodeCore<N> {
         Ok(())
     }
 
-    /// A free registrar begins the next operation.
+    /// A free registrar begins the next operation: an owed strike comes before all that waits.
     pub(super) fn start(&mut self, turn: &mut Turn) -> Result<(), AllocError>
         ensures turn { OnOk result (Makes start self.old turn.old self.new turn.new) }
         ensures kept { Keeps self.old self.new }
     {
-        if self.registrar.start() {
+        if self.is_at_work() {
+            return Ok(());
+        }
+        let owed = self.watch.owes(&self.table);
+        if self.registrar.start(owed) {
             self.ask_global(turn)?;
         }
         Ok(())

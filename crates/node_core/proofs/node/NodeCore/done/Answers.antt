@@ -1,4 +1,5 @@
-use Rattle.std.proofs.Common.{Some, refl, ap, ◌∙◌}
+use Rattle.std.proofs.Common.{refl, ap, ◌∙◌}
+use Rattle.std.specs.Option.{option_map}
 use Rattle.std.proofs.lemmas.Result.{on_ok_weaker}
 use Rattle.term.specs.NodeSets.{set_of}
 use Rattle.node_core.specs.Held.{Held}
@@ -11,6 +12,6 @@ returns-clause-turn g c =
     on_ok_weaker c.finish.result
     (λ w. does c.args.self.now c.args.self.now c.finish.new.self c.args.turn.now c.enter.new.self c.finish.new.turn
     c.copy.result (set_of c.args.asked.now)
-    (Some (reply_of c.args.reply)) refl (c.copy.ensures ∙ ap (λ (h : Held). h.name) c.self.view_is)
+    (option_map reply_of c.args.reply) refl (c.copy.ensures ∙ ap (λ (h : Held). h.name) c.self.view_is)
     c.in_ok-enter.ensures w)
     c.finish.ensures.turn

@@ -2,5 +2,5 @@ use Rattle.node_core.proofs.Reading.{takes_letter}
 use Rattle.node_core.proofs.node.NodeCore.take.Goals as goal
 
 pub returns-in-FromPeer-clause-turn : goal.returns-in-FromPeer-clause-turn
-returns-in-FromPeer-clause-turn g c = takes_letter c.receive.result _ _ _ _ _ _ _ c.in-FromPeer.is
-    c.receive.ensures.turn
+returns-in-FromPeer-clause-turn g c = takes_letter _ _ _ _ _ _ _ c.in-FromPeer.is
+    c.in_ok-receive-in-FromPeer.ensures.turn
