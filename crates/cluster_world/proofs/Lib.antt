@@ -9,4 +9,5 @@ mod Holding
 mod Deliveries
 mod Starting
 pub mod Agreeing
+pub mod Excluding
 mod Running

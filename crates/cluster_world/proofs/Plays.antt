@@ -17,16 +17,16 @@ use Rattle.link.specs.Held.{Held as Mesh, place, seen as links_of}
 use Rattle.link.specs.declared.faults.LinkFault.{LinkFault}
 use Rattle.link.specs.declared.faults.LinkFault.TheVariants as on_link
 use Rattle.node_core.specs.declared.events.Answer.{Answer}
-use Rattle.node_core.specs.declared.events.Call.TheVariants.{Spawn, Whereis, Register}
+use Rattle.node_core.specs.declared.events.Call.TheVariants.{Spawn, Whereis, RegisteredNames, Register, ReRegister, Unregister}
 use Rattle.node_core.specs.declared.events.Event.TheVariants.{FromPeer}
 use Rattle.node_core.specs.declared.events.Letter.{Letter}
 use Rattle.node_core.specs.Held.{Held as Core, bound_of}
 use Rattle.node_core.specs.Seen.{node_of, letter_of, answer_of}
 use Rattle.node_core.specs.Steps.{IsTurn, IsHeardWithin, refusal_of as node_refusal}
 use Rattle.cluster_world.specs.declared.events.Event.{Event}
-use Rattle.cluster_world.specs.declared.events.Event.TheVariants.{Call, Retry}
+use Rattle.cluster_world.specs.declared.events.Event.TheVariants.{Call, Retry, Exit}
 use Rattle.cluster_world.specs.declared.events.Refusal.{Refusal}
-use Rattle.cluster_world.specs.declared.events.Refusal.TheVariants.{NoSuchNode, EmptyLink, SerialsSpent, NothingToRetry, CallsSpent, Memory}
+use Rattle.cluster_world.specs.declared.events.Refusal.TheVariants.{NoSuchNode, EmptyLink, NoSuchProcess, AlreadyExited, SerialsSpent, NothingToRetry, CallsSpent, Memory}
 use Rattle.cluster_world.specs.declared.events.WorldEvent.TheVariants.{At, Deliver}
 use Rattle.cluster_world.specs.Events.{node_event, own_event_of, event_of}
 use Rattle.cluster_world.specs.Held.{Held, IsWhole}
@@ -51,8 +51,12 @@ module _ (h : Held) where
   own_alone : (a : ℕ) (e : Event) → other (AnyWorldEvent.At a (own_event_of e)) ≡ a
   own_alone a (Call Spawn) = refl
   own_alone a (Call (Whereis x)) = refl
+  own_alone a (Call RegisteredNames) = refl
   own_alone a (Call (Register x p)) = refl
+  own_alone a (Call (ReRegister x p)) = refl
+  own_alone a (Call (Unregister x)) = refl
   own_alone a Retry = refl
+  own_alone a (Exit p) = refl
 
   -- a node that isn't of the world
   refused_stranger : (a : ℕ) (e : AnyEvent) → set_of h.nodes a ≡ false
@@ -85,6 +89,7 @@ module _ (h : Held) where
     refused_own : (e : Event) → refusal (opening_of h) (seen h) (event_of (At a e)) ≡ node_refusal (node_event e) core
     refused_own (Call c) = refused_by_node (own_event_of (Call c)) (own_alone a (Call c))
     refused_own Retry = refused_by_node (own_event_of Retry) (own_alone a Retry)
+    refused_own (Exit p) = refused_by_node (own_event_of (Exit p)) (own_alone a (Exit p))
 
     -- what the node makes
     event_is : (e : AnyEvent) → event (bound_of core.world) core.name (set_of core.world) e (begun (node_of core))
@@ -99,23 +104,28 @@ module _ (h : Held) where
         ≡ turn_of (opening_of h) (seen h) (event_of (At a e))
     own_turn (Call c) u is = is ∙ event_is (own_event_of (Call c))
     own_turn Retry u is = is ∙ event_is (own_event_of Retry)
+    own_turn (Exit p) u is = is ∙ event_is (own_event_of (Exit p))
 
   -- nobody leaves by such an event
   stays : (a : ℕ) (e : Event) → accepted (opening_of h) (seen h) (event_of (At a e))
       ≡ apply a (turn_of (opening_of h) (seen h) (event_of (At a e))) (seen h)
   stays a (Call c) = refl
   stays a Retry = refl
+  stays a (Exit p) = refl
 
 -- it hears nobody
 pub own_hears : (nodes : List ℕ) (e : Event) → IsHeardWithin nodes (node_event e)
 own_hears nodes (Call c) = tt
 own_hears nodes Retry = tt
+own_hears nodes (Exit p) = tt
 
 -- the node's own event is refused
 pub refuses_own : (h : Held) (a : ℕ) (e : Event) (r : Refusal) → IsWhole h → FailsAt r a (node_event e) h
     → RefusedWith r (At a e) h
 refuses_own h a e NoSuchNode whole F = refused_stranger h a (own_event_of e) F
 refuses_own h a e EmptyLink whole (c, S, q) = refused_own h whole a c S e ∙ q
+refuses_own h a e NoSuchProcess whole (c, S, q) = refused_own h whole a c S e ∙ q
+refuses_own h a e AlreadyExited whole (c, S, q) = refused_own h whole a c S e ∙ q
 refuses_own h a e SerialsSpent whole (c, S, q) = refused_own h whole a c S e ∙ q
 refuses_own h a e NothingToRetry whole (c, S, q) = refused_own h whole a c S e ∙ q
 refuses_own h a e CallsSpent whole (c, S, q) = refused_own h whole a c S e ∙ q
@@ -253,6 +263,8 @@ module _ (h : Held) (whole : IsWhole h) (f t : ℕ) where
     only_memory : (r : Refusal) → FailsAt r t (FromPeer f letter) off_link → r ≡ Memory
     only_memory NoSuchNode F = cc (F, ends_known.1)
     only_memory EmptyLink (c, S, q) = cc
+    only_memory NoSuchProcess (c, S, q) = cc
+    only_memory AlreadyExited (c, S, q) = cc
     only_memory SerialsSpent (c, S, q) = cc
     only_memory NothingToRetry (c, S, q) = cc
     only_memory CallsSpent (c, S, q) = cc

@@ -2,7 +2,7 @@
 use Rattle.std.proofs.Common.{ℕ, Bool, true, false, ◌==◌, ◌≡◌, ◌<◌, Option, Some, None, List, [], ◌∷◌, ◌++◌, length, get_or, set, map, filter, refl, sym, ap, subst, ◌∙◌, arith}
 use Rattle.std.specs.Prelude.{if◌then◌else◌, ◌&&◌, is_some, All}
 use Rattle.std.proofs.Math.Path.{fun_ext}
-use Rattle.std.proofs.lemmas.List.{map-append, length-map, set-get_or}
+use Rattle.std.proofs.lemmas.List.{length-map, set-get_or}
 use Rattle.std.proofs.lemmas.List.Elements.{All-set}
 use Rattle.registry_model.specs.Process.{at}
 use Rattle.registry_model.specs.History.{Entry as AnyEntry}
@@ -20,7 +20,7 @@ use Rattle.node_core.specs.declared.events.Entry.{Entry}
 use Rattle.node_core.specs.declared.events.Event.{Event as NodeEvent}
 use Rattle.node_core.specs.declared.events.Letter.{Letter}
 use Rattle.node_core.specs.declared.events.StepFault.{StepFault}
-use Rattle.node_core.specs.declared.events.StepFault.TheVariants.{SerialsSpent, NothingToRetry, CallsSpent, Memory}
+use Rattle.node_core.specs.declared.events.StepFault.TheVariants.{NoSuchProcess, AlreadyExited, SerialsSpent, NothingToRetry, CallsSpent, Memory}
 use Rattle.node_core.specs.Held.{Held as Core}
 use Rattle.node_core.specs.Seen.{node_of, turn_of, send_of, letter_of, entry_of, fault_of, is_memory as node_memory}
 use Rattle.node_core.specs.Steps.{Steps, IsHeardWithin, refusal_of as node_refusal}
@@ -69,6 +69,8 @@ module _ (h : Held) (whole : IsWhole h) (a i : ℕ) (core : Core) (there : place
   -- the node fails
   pub fails : (e : NodeEvent) (fault : StepFault) → node_refusal e core ≡ fault_of fault
       → FailsAt (refusal_by fault) a e h
+  fails e NoSuchProcess q = (core, stands, q)
+  fails e AlreadyExited q = (core, stands, q)
   fails e SerialsSpent q = (core, stands, q)
   fails e NothingToRetry q = (core, stands, q)
   fails e CallsSpent q = (core, stands, q)
@@ -123,7 +125,7 @@ module _ (h : Held) (whole : IsWhole h) (a i : ℕ) (core : Core) (there : place
       (history : List Entry)
       (none : before ≡ []) (S : Steps e core new before sends given)
       (post : links_of links ≡ posted a (λ t. letters_to t sends) (links_of h.links))
-      (enter : history ≡ h.history ++ new.entered) where
+      (enter : map entry_of history ≡ map entry_of h.history ++ map entry_of new.entered) where
     -- what is held behind the step
     abbrev behind : Held
     behind = record {
@@ -165,8 +167,7 @@ module _ (h : Held) (whole : IsWhole h) (a i : ℕ) (core : Core) (there : place
           history = map
               entry_of history;
         }) links_are
-        ∙ ap (λ (es : List AnyEntry). record (apply a turn (seen h)) { history = es })
-        (ap (map entry_of) enter ∙ map-append entry_of h.history new.entered)
+        ∙ ap (λ (es : List AnyEntry). record (apply a turn (seen h)) { history = es }) enter
 
     pub moves : Moves a e h behind given
     moves = record {
@@ -183,6 +184,8 @@ module _ (h : Held) (whole : IsWhole h) (a i : ℕ) (core : Core) (there : place
 
 -- the world runs out of memory where its node does
 pub same_memory : (fault : StepFault) → is_memory (refusal_by fault) ≡ false → node_memory fault ≡ false
+same_memory NoSuchProcess e = refl
+same_memory AlreadyExited e = refl
 same_memory SerialsSpent e = refl
 same_memory NothingToRetry e = refl
 same_memory CallsSpent e = refl

@@ -7,3 +7,4 @@ pub mod Steps
 pub mod Starting
 pub mod Playing
 pub mod Agreeing
+pub mod Excluding

@@ -6,12 +6,14 @@ use Rattle.link.specs.declared.faults.LinkFault.TheVariants as on_link
 use Rattle.node_core.specs.declared.events.StepFault.{StepFault}
 use Rattle.node_core.specs.declared.events.StepFault.TheVariants as by_node
 use Rattle.cluster_world.specs.declared.events.Refusal.{Refusal}
-use Rattle.cluster_world.specs.declared.events.Refusal.TheVariants.{NoSuchNode, EmptyLink, SerialsSpent, NothingToRetry, CallsSpent, Memory}
+use Rattle.cluster_world.specs.declared.events.Refusal.TheVariants.{NoSuchNode, EmptyLink, NoSuchProcess, AlreadyExited, SerialsSpent, NothingToRetry, CallsSpent, Memory}
 
 -- the protocol's refusal; want of memory is none of its
 abbrev pub refusal_of : Refusal → Option AnyRefusal
 refusal_of NoSuchNode = Some AnyRefusal.NoSuchNode
 refusal_of EmptyLink = Some AnyRefusal.EmptyLink
+refusal_of NoSuchProcess = Some AnyRefusal.NoSuchProcess
+refusal_of AlreadyExited = Some AnyRefusal.AlreadyExited
 refusal_of SerialsSpent = Some AnyRefusal.SerialsSpent
 refusal_of NothingToRetry = Some AnyRefusal.NothingToRetry
 refusal_of CallsSpent = Some AnyRefusal.CallsSpent
@@ -19,6 +21,8 @@ refusal_of Memory = None
 
 -- where the node refuses
 abbrev pub refusal_by : StepFault → Refusal
+refusal_by by_node.NoSuchProcess = NoSuchProcess
+refusal_by by_node.AlreadyExited = AlreadyExited
 refusal_by by_node.SerialsSpent = SerialsSpent
 refusal_by by_node.NothingToRetry = NothingToRetry
 refusal_by by_node.CallsSpent = CallsSpent

@@ -5,7 +5,7 @@ ghost use Rattle.cluster_world.specs.Events.{node_event};
 use link::LinkFault;
 use node_core::{Answer, Call, StepFault};
 use std::alloc::AllocError;
-use term::NodeName;
+use term::{NodeName, Pid};
 use thiserror::Error;
 
 /// What may happen at a node, beside the delivery of a letter.
@@ -15,6 +15,22 @@ pub enum Event {
     Call(Call),
     /// The operation whose round was refused asks again.
     Retry,
+    /// A process of the node dies: its locks are released at once, and its names are struck under the global lock.
+    Exit(Pid),
+}
+
+/// The same call. It takes no memory.
+fn call_copy(call: &Call) -> Call
+    ensures { result ≡ call.now }
+{
+    match call {
+        Call::Spawn => Call::Spawn,
+        Call::Whereis(name) => Call::Whereis(name.copy()),
+        Call::RegisteredNames => Call::RegisteredNames,
+        Call::Register(name, owner) => Call::Register(name.copy(), owner.copy()),
+        Call::ReRegister(name, owner) => Call::ReRegister(name.copy(), owner.copy()),
+        Call::Unregister(name) => Call::Unregister(name.copy()),
+    }
 }
 
 impl Event {
@@ -23,12 +39,9 @@ impl Event {
         ensures { result ≡ node_event self.now }
     {
         match self {
-            Event::Call(Call::Spawn) => node_core::Event::Call(Call::Spawn),
-            Event::Call(Call::Whereis(name)) => node_core::Event::Call(Call::Whereis(name.copy())),
-            Event::Call(Call::Register(name, owner)) => {
-                node_core::Event::Call(Call::Register(name.copy(), owner.copy()))
-            }
+            Event::Call(call) => node_core::Event::Call(call_copy(call)),
             Event::Retry => node_core::Event::Retry,
+            Event::Exit(process) => node_core::Event::Exit(process.copy()),
         }
     }
 }
@@ -51,6 +64,12 @@ pub enum Refusal {
     /// Nothing is on the link.
     #[error("empty_link")]
     EmptyLink,
+    /// The process is another node's, or its serial wasn't given.
+    #[error("no_such_process")]
+    NoSuchProcess,
+    /// The process is dead already.
+    #[error("already_exited")]
+    AlreadyExited,
     /// The node has given its last serial, 4,294,967,295.
     #[error("serials_spent")]
     SerialsSpent,
@@ -82,6 +101,8 @@ impl From<StepFault> for Refusal {
 
     fn from(fault: StepFault) -> Refusal {
         match fault {
+            StepFault::NoSuchProcess => Refusal::NoSuchProcess,
+            StepFault::AlreadyExited => Refusal::AlreadyExited,
             StepFault::SerialsSpent => Refusal::SerialsSpent,
             StepFault::NothingToRetry => Refusal::NothingToRetry,
             StepFault::CallsSpent => Refusal::CallsSpent,

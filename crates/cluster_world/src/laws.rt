@@ -1,8 +1,21 @@
 //! What holds of every world, whatever is played on it.
 ghost use Rattle.cluster_world.specs.Agreeing.{EveryWorldAgrees};
+ghost use Rattle.cluster_world.specs.Excluding.{EveryWorldExcludes, NeverBothHold};
 
 /// The headline, of every world and of every list of events: all answers to name calls are those of one sequential registry that
 /// takes the granted operations in lock order, and whenever the lock is free, the tables are that registry's.
 pub fn headline_of_every_world()
     ensures { EveryWorldAgrees }
+{}
+
+/// Clients' locks, of every world and of every list of events: at a running node no resource is held under two requesters, where a
+/// process holds a lock at a node as often as its `set_lock`s that asked it were answered `true`, less its `del_lock`s that went
+/// there, and not at all once it is dead or its node has left.
+pub fn exclusion_of_every_world()
+    ensures { EveryWorldExcludes }
+{}
+
+/// Two requesters whose granted locks on one resource asked a common running node never both hold it there.
+pub fn requesters_exclude_each_other()
+    ensures { NeverBothHold }
 {}

@@ -1,8 +1,9 @@
 //! What one step of a node brings to the world.
-ghost use Rattle.std.specs.Prelude.{◌≡◌, ◌++◌, true, All, OnOk, IfErr};
+ghost use Rattle.std.specs.Prelude.{◌≡◌, ◌++◌, true, All, map, OnOk, IfOk, IfErr};
 ghost use Rattle.protocol_model.specs.Links.{posted};
 ghost use Rattle.link.specs.Faults.{joins};
 ghost use Rattle.link.specs.Held.{seen as links_of};
+ghost use Rattle.node_core.specs.Seen.{entry_of};
 ghost use Rattle.cluster_world.specs.Links.{letters_to};
 
 use crate::events::Refusal;
@@ -37,28 +38,31 @@ fn look_copy(look: &Look) -> Look
 {
     match look {
         Look::Whereis(name) => Look::Whereis(name.copy()),
+        Look::RegisteredNames => Look::RegisteredNames,
     }
 }
 
-/// The same entry. It takes no memory.
-fn entry_copy(entry: &Entry) -> Entry
-    ensures { result ≡ entry.now }
+/// The same entry. Only a list of names takes memory.
+fn entry_copy(entry: &Entry) -> Result<Entry, AllocError>
+    ensures { IfOk result (λ copy. entry_of copy ≡ entry_of entry.now) }
 {
-    match entry {
+    Ok(match entry {
         Entry::Name(node, call, name_call, reply) => {
-            Entry::Name(node.copy(), *call, name_call.copy(), reply.copy())
+            Entry::Name(node.copy(), *call, name_call.copy(), reply.copy()?)
         }
+        Entry::Strike(process) => Entry::Strike(process.copy()),
+        Entry::Exit(process) => Entry::Exit(process.copy()),
         Entry::Done(node) => Entry::Done(node.copy()),
-        Entry::Read(node, look, reply) => Entry::Read(node.copy(), look_copy(look), reply.copy()),
-    }
+        Entry::Read(node, look, reply) => Entry::Read(node.copy(), look_copy(look), reply.copy()?),
+    })
 }
 
 /// Puts the same entries at the end of the history.
 pub(crate) fn enter(history: &mut Vec<Entry>, entries: &[Entry]) -> Result<(), AllocError>
-    ensures { OnOk result (history.new.items ≡ history.old.items ++ entries.now) }
+    ensures { OnOk result (map entry_of history.new.items ≡ map entry_of history.old.items ++ map entry_of entries.now) }
 {
     for entry in entries {
-        history.push(entry_copy(entry))?;
+        history.push(entry_copy(entry)?)?;
     }
     Ok(())
 }

@@ -22,7 +22,7 @@ fn start(alloc: Global, text: &str) -> Result<Cluster, Fail> {
     Ok(World::start(alloc, nodes(alloc, text)?.as_slice(), &[])?)
 }
 
-/// What happens at a node: `spawn`, `whereis NAME`, `register NAME PID`, or `retry`.
+/// What happens at a node: `spawn`, `whereis NAME`, `register NAME PID`, `retry`, or `exit PID`.
 fn own_event(words: &[&str]) -> Result<Option<Event>, Fail> {
     Ok(match words {
         ["spawn"] => Some(Event::Call(Call::Spawn)),
@@ -32,6 +32,7 @@ fn own_event(words: &[&str]) -> Result<Option<Event>, Fail> {
             Some(Event::Call(call))
         }
         ["retry"] => Some(Event::Retry),
+        ["exit", process] => Some(Event::Exit(parse_pid(process)?)),
         _ => None,
     })
 }
@@ -63,9 +64,13 @@ fn shown(alloc: Global, answers: &[Answer]) -> Result<String, Fail> {
         match &answer.reply {
             Reply::Yes => write!(text, "{node}#{call} yes;")?,
             Reply::No => write!(text, "{node}#{call} no;")?,
+            Reply::Ok => write!(text, "{node}#{call} ok;")?,
             Reply::UnknownNode => write!(text, "{node}#{call} unknown_node;")?,
             Reply::Undefined => write!(text, "{node}#{call} undefined;")?,
             Reply::Pid(process) => write!(text, "{node}#{call} {process};")?,
+            Reply::Names(names) => {
+                write!(text, "{node}#{call} {} names;", names.as_slice().len())?
+            }
         }
     }
     Ok(text)
@@ -209,6 +214,27 @@ fn retries_a_refused_round(rt: HostRuntime) -> Result<(), Fail> {
         ("c whereis x", "c#0 b.1;"),
     ] {
         assert_eq!(rt; say(alloc, &mut world, event)?.as_str(), said, "{event}");
+    }
+    Ok(())
+}
+
+#[test]
+fn strikes_names_of_the_dead(rt: HostRuntime) -> Result<(), Fail> {
+    let alloc = rt.alloc();
+    let mut world = start(alloc, "a b")?;
+    for (event, said, names) in [
+        ("a spawn", "a#0 a.1;", 0),
+        ("a register x a.1", "", 0),
+        ("settle", "a#1 yes;", 1),
+        ("a exit a.2", "no_such_process", 1),
+        ("b exit a.1", "no_such_process", 1),
+        ("a exit a.1", "", 1),
+        ("a exit a.1", "already_exited", 1),
+        ("settle", "", 0),
+    ] {
+        assert_eq!(rt; say(alloc, &mut world, event)?.as_str(), said, "{event}");
+        let table = world.table(&parse_node("b")?).ok_or("b has a table")?;
+        assert_eq!(rt; table.pairs(alloc)?.len(), names, "{event}");
     }
     Ok(())
 }

@@ -1,10 +1,11 @@
-use Rattle.std.proofs.Common.{[], sym, subst}
+use Rattle.std.proofs.Common.{[], ◌∷◌, sym, subst}
 use Rattle.std.proofs.lemmas.Result.{IfOk-weaker, IfErr-weaker}
 use Rattle.node_core.specs.declared.events.Event.{Event as NodeEvent}
 use Rattle.cluster_world.specs.declared.events.WorldEvent.{WorldEvent}
 use Rattle.cluster_world.specs.Playing.{Played, RefusedWith}
 use Rattle.cluster_world.specs.Steps.{Moves, FailsAt}
 use Rattle.cluster_world.proofs.Agreeing.{agrees_played, agrees_unchanged}
+use Rattle.cluster_world.proofs.Excluding.{excludes}
 use Rattle.cluster_world.proofs.Plays.{plays_own, refuses_own}
 use Rattle.cluster_world.proofs.world.World.play.Goals as goal
 
@@ -44,3 +45,23 @@ pub returns-in-Deliver-clause-still_agrees : goal.returns-in-Deliver-clause-stil
 returns-in-Deliver-clause-still_agrees g c =
     IfErr-weaker c.deliver.result _ _ (λ r same kept. agrees_unchanged c.args.self.now c.deliver.new.self (same kept))
     c.deliver.ensures.unchanged
+
+pub returns-in-At-clause-excludes : goal.returns-in-At-clause-excludes
+returns-in-At-clause-excludes g c =
+    IfOk-weaker c.step.result _ _ (λ answers A. excludes (c.args.event.now ∷ []) answers.items c.args.self.now
+    c.step.new.self A) (returns-in-At-clause-agrees g c)
+
+pub returns-in-At-clause-still_excludes : goal.returns-in-At-clause-still_excludes
+returns-in-At-clause-still_excludes g c =
+    IfErr-weaker c.step.result _ _ (λ r A kept. excludes [] [] c.args.self.now c.step.new.self (A kept))
+    (returns-in-At-clause-still_agrees g c)
+
+pub returns-in-Deliver-clause-excludes : goal.returns-in-Deliver-clause-excludes
+returns-in-Deliver-clause-excludes g c =
+    IfOk-weaker c.deliver.result _ _ (λ answers A. excludes (c.args.event.now ∷ []) answers.items c.args.self.now
+    c.deliver.new.self A) (returns-in-Deliver-clause-agrees g c)
+
+pub returns-in-Deliver-clause-still_excludes : goal.returns-in-Deliver-clause-still_excludes
+returns-in-Deliver-clause-still_excludes g c =
+    IfErr-weaker c.deliver.result _ _ (λ r A kept. excludes [] [] c.args.self.now c.deliver.new.self (A kept))
+    (returns-in-Deliver-clause-still_agrees g c)

@@ -1,5 +1,6 @@
 use Rattle.std.proofs.Common.{take}
 use Rattle.cluster_world.proofs.Agreeing.{agrees}
+use Rattle.cluster_world.proofs.Excluding.{excludes}
 use Rattle.cluster_world.proofs.world.World.run.Goals as goal
 
 pub returns-clause-agrees : goal.returns-clause-agrees
@@ -8,3 +9,8 @@ returns-clause-agrees g c = λ kept.
     c.play_all.new.self
     (record { nodes = c.play_all.ensures.nodes; cluster = c.play_all.ensures.cluster }) (c.play_all.ensures.world kept)
     c.play_all.ensures.answers
+
+pub returns-clause-excludes : goal.returns-clause-excludes
+returns-clause-excludes g c = λ kept.
+    excludes (take c.play_all.result.played c.args.events.now) c.play_all.result.answers.items c.args.self.now
+    c.play_all.new.self (returns-clause-agrees g c kept)

@@ -2,6 +2,7 @@ use Rattle.std.proofs.Common.{ℕ, ◌∙◌, List, [], ap}
 use Rattle.std.specs.Prelude.{◌||◌}
 use Rattle.term.specs.NodeSets.{set_of}
 use Rattle.cluster_world.proofs.Agreeing.{agreed}
+use Rattle.cluster_world.proofs.Excluding.{excluded}
 use Rattle.cluster_world.proofs.Starting.{opens_whole, opens_seen, joined_within, opens}
 use Rattle.cluster_world.proofs.world.World.start.Goals as goal
 
@@ -33,3 +34,6 @@ returns-clause-world g c =
 
 pub returns-clause-agrees : goal.returns-clause-agrees
 returns-clause-agrees g c = agreed [] _ (returns-clause-world g c)
+
+pub returns-clause-excludes : goal.returns-clause-excludes
+returns-clause-excludes g c = excluded [] _ (returns-clause-agrees g c)

@@ -1,7 +1,8 @@
-use Rattle.std.proofs.Common.{◌∙◌, ◌++◌, List, set, ap, sym, subst, refl}
+use Rattle.std.proofs.Common.{◌∙◌, ◌++◌, List, map, set, ap, sym, subst, refl}
 use Rattle.std.proofs.lemmas.Result.{err_from_is_err_and}
 use Rattle.term.specs.NodeSets.{set_of}
 use Rattle.node_core.specs.declared.events.Entry.{Entry}
+use Rattle.node_core.specs.Seen.{entry_of}
 use Rattle.node_core.specs.Steps.{IsHeardWithin}
 use Rattle.cluster_world.specs.declared.events.Refusal.TheVariants.{Memory}
 use Rattle.cluster_world.specs.Held.{Held}
@@ -106,7 +107,8 @@ returns-clause-ok g c =
     c.in_ok-answers.answers.items
     c.post.new.links c.enter.new.history.items c.new-letters.ensures.items c.in_ok-answers.ensures.ok
     c.in_ok-post.ensures.ok
-    (c.in_ok-enter.ensures ∙ ap (λ (es : List Entry). c.self.inside.history.items ++ es) c.entered.ensures))
+    (c.in_ok-enter.ensures ∙ ap (λ (es : List Entry). map entry_of c.self.inside.history.items ++ map entry_of es)
+    c.entered.ensures))
 
 pub post-requires : goal.post-requires
 post-requires g c =

@@ -1,0 +1,5 @@
+use Rattle.cluster_world.proofs.Excluding.{never_both}
+use Rattle.cluster_world.proofs.laws.requesters_exclude_each_other.Goals as goal
+
+pub returns : goal.returns
+returns c = never_both
