@@ -2,8 +2,8 @@
 use Rattle.std.specs.Prelude.{ℕ, Bool, true, false, bytes_eq, codes, ◌≡◌, ◌&&◌, ◌⊎◌, List, [], ◌∷◌, Option, Some, None, Result, Ok, Err}
 use Rattle.std.specs.List.{find}
 use Rattle.registry_model.specs.Process.{Process}
-use Rattle.registry_model.specs.Call.{Register, Whereis}
-use Rattle.protocol_model.specs.Event.{Event, Calling, Retry, Call, Spawn, OnName, LookUp}
+use Rattle.registry_model.specs.Call.{Register, ReRegister, Unregister, Whereis, RegisteredNames}
+use Rattle.protocol_model.specs.Event.{Event, Calling, Retry, Exiting, Call, Spawn, OnName, LookUp}
 use Rattle.protocol_model.specs.World.{At, Deliver}
 use Rattle.protocol_model.specs.Script.{Line, Play, Settle, TableAt, MembersAt}
 use Rattle.term.specs.declared.faults.TextFault.{TextFault}
@@ -62,8 +62,12 @@ call_at n c = at_node n (Calling c)
 abbrev pub grammar : List Row
 grammar =
     row (codes "spawn") (Node ∷ []) (λ n. call_at n Spawn)
+    ∷ row (codes "exit") (Pid ∷ []) (λ p. at_node p.node (Exiting p))
     ∷ row (codes "register") (Node ∷ Name ∷ Pid ∷ []) (λ n x p. call_at n (OnName (Register x p)))
+    ∷ row (codes "re_register") (Node ∷ Name ∷ Pid ∷ []) (λ n x p. call_at n (OnName (ReRegister x p)))
+    ∷ row (codes "unregister") (Node ∷ Name ∷ []) (λ n x. call_at n (OnName (Unregister x)))
     ∷ row (codes "whereis") (Node ∷ Name ∷ []) (λ n x. call_at n (LookUp (Whereis x)))
+    ∷ row (codes "names") (Node ∷ []) (λ n. call_at n (LookUp RegisteredNames))
     ∷ row (codes "deliver") (Node ∷ Node ∷ []) (λ f t. Play (Deliver f t))
     ∷ row (codes "retry") (Node ∷ []) (λ n. at_node n Retry)
     ∷ row (codes "settle") [] Settle

@@ -4,3 +4,4 @@ pub mod Grammar
 pub mod Commands
 pub mod Printing
 pub mod Writing
+pub mod LockTexts

@@ -54,6 +54,10 @@ IsWordOf r (Some word) = (any : Refusal) × (refusal_of r ≡ Some any) × (word
 abbrev pub pid_text : Process → List ℕ
 pid_text p = bytes_of p.node ++ dot ∷ decimal p.serial
 
+-- names, in their order
+abbrev pub names_text : List ℕ → List ℕ
+names_text names = codes "names" ++ flat_map (λ x. 32 ∷ bytes_of x) names
+
 -- a reply
 abbrev pub reply_text : Reply → List ℕ
 reply_text Reply.Yes = codes "yes"
@@ -67,7 +71,7 @@ reply_text Reply.NotMember = codes "not_member"
 reply_text Reply.ContactLeft = codes "contact_left"
 reply_text (Reply.Pid p) = pid_text p
 reply_text Reply.Undefined = codes "undefined"
-reply_text (Reply.Names names) = codes "names" ++ flat_map (λ x. 32 ∷ bytes_of x) names
+reply_text (Reply.Names names) = names_text names
 
 -- an answer: the reply, and before that of a numbered call the node, `#` and the number
 abbrev pub answer_text : Answer → List ℕ

@@ -1,9 +1,10 @@
 //! The lines that are read: an arm for each. They stand by the number of their texts.
 ghost use Rattle.std.specs.Prelude.{◌≡◌, map, ◌∷◌, [], MatchResult};
+ghost use Rattle.protocol_model.specs.Event.{Exiting};
 ghost use Rattle.term.specs.Spelling.{SpellsText, SpellsPid};
 ghost use Rattle.node_core.specs.Seen.{call_of};
 ghost use Rattle.command_lines.specs.Commands.{asked_by, line_in};
-ghost use Rattle.command_lines.specs.Grammar.{WordsAsk, FirstRefused, call_at, Node as ANode, Name as AName, Pid as APid};
+ghost use Rattle.command_lines.specs.Grammar.{WordsAsk, FirstRefused, at_node, call_at, Node as ANode, Name as AName, Pid as APid};
 
 use crate::faults::LineFault;
 use cluster_world::{Call, Event, WorldEvent};
@@ -27,6 +28,13 @@ fn call(node: NodeName, call: Call) -> Task
     ensures { line_in result ≡ call_at node (call_of call) }
 {
     Task::Play(WorldEvent::At(node, Event::Call(call)))
+}
+
+/// The exit of a process, at its node.
+fn exit(process: Pid) -> Task
+    ensures { line_in result ≡ at_node process.node (Exiting process) }
+{
+    Task::Play(WorldEvent::At(process.node.copy(), Event::Exit(process)))
 }
 
 /// The values of three texts, or the fault of the first that spells none.
@@ -53,6 +61,8 @@ fn with_one(word: &str, text: &str) -> Result<Task, LineFault>
 {
     match word {
         "spawn" => Ok(call(parse_node(text)?, Call::Spawn)),
+        "exit" => Ok(exit(parse_pid(text)?)),
+        "names" => Ok(call(parse_node(text)?, Call::RegisteredNames)),
         "retry" => Ok(Task::Play(WorldEvent::At(parse_node(text)?, Event::Retry))),
         "members" => Ok(Task::Members(parse_node(text)?)),
         "table" => Ok(Task::Table(parse_node(text)?)),
@@ -65,6 +75,7 @@ fn with_two(word: &str, text: &str, next: &str) -> Result<Task, LineFault>
     ensures { WordsAsk (word.now ∷ text.now ∷ next.now ∷ []) (asked_by result) }
 {
     match word {
+        "unregister" => Ok(call(parse_node(text)?, Call::Unregister(parse_name(next)?))),
         "whereis" => Ok(call(parse_node(text)?, Call::Whereis(parse_name(next)?))),
         "deliver" => Ok(Task::Play(WorldEvent::Deliver(parse_node(text)?, parse_node(next)?))),
         _ => Err(LineFault::BadLine),
@@ -79,6 +90,10 @@ fn with_three(word: &str, text: &str, next: &str, last: &str) -> Result<Task, Li
         "register" => {
             let (node, name, owner) = node_name_and_pid(text, next, last)?;
             Ok(call(node, Call::Register(name, owner)))
+        }
+        "re_register" => {
+            let (node, name, owner) = node_name_and_pid(text, next, last)?;
+            Ok(call(node, Call::ReRegister(name, owner)))
         }
         _ => Err(LineFault::BadLine),
     }

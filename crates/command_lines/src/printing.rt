@@ -13,7 +13,19 @@ use cluster_world::{Answer, Refusal, Reply};
 use name_table::Pair;
 use std::alloc::{AllocError, Global};
 use std::io::{ErrorKind, Write};
-use term::NodeName;
+use term::{Name, NodeName};
+
+/// The text of names, in their order.
+fn names_text(alloc: Global, names: &[Name]) -> Result<String, AllocError>
+    ensures { IfOk result (λ text. string_bytes text ≡ print.names_text names.now) }
+{
+    let mut text = String::from_str(alloc, "names")?;
+    for name in names {
+        text.push(' ')?;
+        text.push_str(name.as_str())?;
+    }
+    Ok(text)
+}
 
 /// The text of a reply.
 fn reply_text(alloc: Global, reply: &Reply) -> Result<String, AllocError>
@@ -22,9 +34,11 @@ fn reply_text(alloc: Global, reply: &Reply) -> Result<String, AllocError>
     match reply {
         Reply::Yes => String::from_str(alloc, "yes"),
         Reply::No => String::from_str(alloc, "no"),
+        Reply::Ok => String::from_str(alloc, "ok"),
         Reply::UnknownNode => String::from_str(alloc, "unknown_node"),
         Reply::Pid(process) => format!(in alloc; "{process}"),
         Reply::Undefined => String::from_str(alloc, "undefined"),
+        Reply::Names(names) => names_text(alloc, names.as_slice()),
     }
 }
 
@@ -93,6 +107,8 @@ pub fn refusal_word(refusal: &Refusal) -> Option<&'static str>
     match refusal {
         Refusal::NoSuchNode => Some("no_such_node"),
         Refusal::EmptyLink => Some("empty_link"),
+        Refusal::NoSuchProcess => Some("no_such_process"),
+        Refusal::AlreadyExited => Some("already_exited"),
         Refusal::SerialsSpent => Some("serials_spent"),
         Refusal::NothingToRetry => Some("nothing_to_retry"),
         Refusal::CallsSpent => Some("calls_spent"),

@@ -9,6 +9,12 @@ returns-in-NoSuchNode c = (model.NoSuchNode, ap refusal_of c.in-NoSuchNode.is, r
 pub returns-in-EmptyLink : goal.returns-in-EmptyLink
 returns-in-EmptyLink c = (model.EmptyLink, ap refusal_of c.in-EmptyLink.is, refl)
 
+pub returns-in-NoSuchProcess : goal.returns-in-NoSuchProcess
+returns-in-NoSuchProcess c = (model.NoSuchProcess, ap refusal_of c.in-NoSuchProcess.is, refl)
+
+pub returns-in-AlreadyExited : goal.returns-in-AlreadyExited
+returns-in-AlreadyExited c = (model.AlreadyExited, ap refusal_of c.in-AlreadyExited.is, refl)
+
 pub returns-in-SerialsSpent : goal.returns-in-SerialsSpent
 returns-in-SerialsSpent c = (model.SerialsSpent, ap refusal_of c.in-SerialsSpent.is, refl)
 
