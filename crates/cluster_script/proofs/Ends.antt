@@ -8,7 +8,12 @@ use Rattle.command_lines.specs.declared.faults.ScriptFault.TheVariants.{TooManyL
 use Rattle.command_lines.specs.Lines.{count_of, count_of_all, spoken}
 use Rattle.command_lines.specs.Words.{words}
 use Rattle.command_lines.specs.Commands.{unread}
-use Rattle.cluster_script.specs.Script.{AllSpell, ReadsTexts, OpensIn, OpensUnless, PrintsOn, Ran, Stopped, cluster_texts, started}
+use Rattle.std.specs.Prelude.{codes}
+use Rattle.cluster_world.specs.Starting.{start_refused}
+use Rattle.cluster_world.specs.declared.events.StartFault.{StartFault}
+use Rattle.command_lines.specs.declared.faults.LineFault.TheVariants.{BadLine, Text, Start}
+use Rattle.command_lines.specs.Printing.{Shown}
+use Rattle.cluster_script.specs.Script.{AllSpell, ReadsTexts, Names, judged, unless_refused, made_of, texts_behind, lone_texts, OpensIn, OpensUnless, LineOpens, LoneOpens, OpensBehind, EndsRefused, PrintsOn, Ran, Stopped, opening_for}
 use Rattle.command_lines.proofs.Known.{spoken-append, count_of_all-append}
 
 -- lines that count for less than the first ones and the next are some of the first ones
@@ -45,26 +50,88 @@ module _ (exact : IsExact SpellsText RefusesText) where
   AllSpell-none (b ∷ before) bad behind [] f h r = absurd h
   AllSpell-none (b ∷ before) bad behind (n ∷ ns) f h r = AllSpell-none before bad behind ns f h.1 r
 
-  module _ (nodes : List ℕ) (f : LineFault) where
-    ok_err : (g : LineFault) → Ok nodes ≡ Err g → ⊥
-    ok_err g h = cc
+  ok_err : {A : Type 0} (a : A) (f : LineFault) → Ok a ≡ Err f → ⊥
+  ok_err a f h = cc
 
-    -- texts don't both open a world and open none
-    texts_one : (texts : List (List ℕ)) (a b : Result (List ℕ) TextFault) → ReadsTexts texts a → ReadsTexts texts b
-        → Ok nodes ≡ started a → Err f ≡ started b → ⊥
-    texts_one texts (Err g) b r s h k = ok_err _ h
-    texts_one texts (Ok ns) (Ok ms) r s h k = ok_err f
-        (h ∙ ap (λ (xs : List ℕ). started (Ok xs)) (AllSpell-one texts ns ms r s) ∙ sym k)
-    texts_one texts (Ok ns) (Err g) r s h k =
-        AllSpell-none s.0 s.2 s.3 ns g (subst (λ (ts : List (List ℕ)). AllSpell ts ns) s.4 r) s.6
+  -- nodes that aren't refused are those that were read
+  judged_Ok : (refused : List ℕ → Option StartFault) (ns nodes : List ℕ) → Ok nodes ≡ judged refused (Ok ns) → nodes ≡ ns
+  judged_Ok refused ns nodes h = go (refused ns) h
+    where
+      go : (o : Option StartFault) → Ok nodes ≡ unless_refused ns o → nodes ≡ ns
+      go None h = cc
+      go (Some g) h = absurd (ok_err nodes (Start g) h)
 
-    words_one : (texts : Option (List (List ℕ))) → OpensIn texts (Ok nodes) → OpensIn texts (Err f) → ⊥
-    words_one None h k = ok_err _ h
-    words_one (Some texts) h k = texts_one texts h.0 k.0 h.1 k.1 h.2 k.2
+  module _ (refused : List ℕ → Option StartFault) (texts : List (List ℕ)) where
+    -- texts name one list of nodes
+    Names-one : (ns ms : List ℕ) → Names refused texts (Ok ns) → Names refused texts (Ok ms) → ns ≡ ms
+    Names-one ns ms h k = go h.0 k.0 h.1 k.1 h.2 k.2
+      where
+        go : (a b : Result (List ℕ) TextFault) → ReadsTexts texts a → ReadsTexts texts b → Ok ns ≡ judged refused a
+            → Ok ms ≡ judged refused b → ns ≡ ms
+        go (Err f) b r s h k = absurd (ok_err ns (Text f) h)
+        go (Ok xs) (Err f) r s h k = absurd (ok_err ms (Text f) k)
+        go (Ok xs) (Ok ys) r s h k =
+            judged_Ok refused xs ns h ∙ AllSpell-one texts xs ys r s ∙ sym (judged_Ok refused ys ms k)
 
-    unless_one : (line : List ℕ) (u : Option LineFault) → OpensUnless u line (Ok nodes) → OpensUnless u line (Err f) → ⊥
-    unless_one line (Some g) h k = ok_err g h
-    unless_one line None h k = words_one (cluster_texts (words line)) h k
+    -- they don't both name nodes and name none
+    Names-never : (nodes : List ℕ) (f : LineFault) → Names refused texts (Ok nodes) → Names refused texts (Err f) → ⊥
+    Names-never nodes f h k = go h.0 k.0 h.1 k.1 h.2 k.2
+      where
+        go : (a b : Result (List ℕ) TextFault) → ReadsTexts texts a → ReadsTexts texts b → Ok nodes ≡ judged refused a
+            → Err f ≡ judged refused b → ⊥
+        go (Err g) b r s h k = ok_err nodes (Text g) h
+        go (Ok ns) (Ok ms) r s h k = ok_err nodes f
+            (h ∙ ap (λ (xs : List ℕ). judged refused (Ok xs)) (AllSpell-one texts ns ms r s) ∙ sym k)
+        go (Ok ns) (Err g) r s h k =
+            AllSpell-none s.0 s.2 s.3 ns g (subst (λ (ts : List (List ℕ)). AllSpell ts ns) s.4 r) s.6
+
+  -- a line opens one cluster
+  LineOpens-one : (line : List ℕ) (ns ms : List ℕ) → LineOpens line (Ok ns) → LineOpens line (Ok ms) → ns ≡ ms
+  LineOpens-one line ns ms h k = go (unread line) h k
+    where
+      words_one : (texts : Option (List (List ℕ))) → OpensIn texts (Ok ns) → OpensIn texts (Ok ms) → ns ≡ ms
+      words_one None h k = absurd (ok_err ns BadLine h)
+      words_one (Some texts) h k = Names-one (λ cluster. start_refused cluster []) texts ns ms h k
+
+      go : (u : Option LineFault) → OpensUnless u line (Ok ns) → OpensUnless u line (Ok ms) → ns ≡ ms
+      go (Some g) h k = absurd (ok_err ns g h)
+      go None h k = words_one (texts_behind (codes "cluster") (words line)) h k
+
+  -- and doesn't both open one and open none
+  LineOpens-never : (line : List ℕ) (nodes : List ℕ) (f : LineFault) → LineOpens line (Ok nodes)
+      → LineOpens line (Err f) → ⊥
+  LineOpens-never line nodes f h k = go (unread line) h k
+    where
+      words_one : (texts : Option (List (List ℕ))) → OpensIn texts (Ok nodes) → OpensIn texts (Err f) → ⊥
+      words_one None h k = ok_err nodes BadLine h
+      words_one (Some texts) h k = Names-never (λ cluster. start_refused cluster []) texts nodes f h k
+
+      go : (u : Option LineFault) → OpensUnless u line (Ok nodes) → OpensUnless u line (Err f) → ⊥
+      go (Some g) h k = ok_err nodes g h
+      go None h k = words_one (texts_behind (codes "cluster") (words line)) h k
+
+  -- a header that is refused doesn't open a world, whatever stands behind it
+  refused_never : (ls more : List (List ℕ)) (f : LineFault) (out : List Shown) → EndsRefused ls f
+      → PrintsOn (ls ++ more) out → ⊥
+  refused_never [] more f out e p = absurd e
+  refused_never (l ∷ []) more f out e p = go p.1.0 p.1.1 p.1.2
+    where
+      go : (c : Result (List ℕ) LineFault) → LineOpens l c → OpensBehind c more (Ok p.0) → ⊥
+      go (Ok nodes) o b = LineOpens-never l nodes f o e
+      go (Err g) o b = ok_err p.0 g b
+  refused_never (l ∷ m ∷ []) more f out e p = go p.1.0 p.1.1 p.1.2
+    where
+      behind : (c : List ℕ) (r : Result (List ℕ) LineFault) → e.0 ≡ c → LoneOpens c (m ∷ []) r
+          → Ok p.0 ≡ made_of (opening_for c) r → ⊥
+      behind c (Err g) same o h = ok_err p.0 g h
+      behind c (Ok nodes) same o h =
+          Names-never (λ lone. start_refused c lone) (lone_texts (m ∷ [])) nodes f o
+          (subst (λ (xs : List ℕ). LoneOpens xs (m ∷ []) (Err f)) same e.2)
+
+      go : (c : Result (List ℕ) LineFault) → LineOpens l c → OpensBehind c (m ∷ more) (Ok p.0) → ⊥
+      go (Ok nodes) o b = behind nodes b.0 (LineOpens-one l e.0 nodes e.1 o) b.1 b.2
+      go (Err g) o b = ok_err p.0 g b
+  refused_never (l ∷ m ∷ k ∷ ls) more f out e p = absurd e
 
   pub never_both : (input : List ℕ) (x y a b c d : Option (List ℕ)) (fine : Bool) → Ran (Some input) x a b fine
       → Stopped (Some input) y c d TooManyLines → ⊥
@@ -89,8 +156,7 @@ module _ (exact : IsExact SpellsText RefusesText) where
             )
         | inr h ↦
             let u = some_first r.taken r.untaken first more line all (omega (arith, r.counted, s.2.3)) in
-            let p : PrintsOn (h.0 ∷ spoken u.0) s.0.out = subst (λ (ls : List (List ℕ)). PrintsOn ls s.0.out)
-            (ap spoken u.1 ∙ spoken-append r.taken u.0 ∙ ap (λ (ls : List (List ℕ)). ls ++ spoken u.0) h.2) s.0.prints
-            in
-            unless_one p.0 h.1 h.0 (unread h.0) p.1 h.3
+            let p : PrintsOn (spoken r.taken ++ spoken u.0) s.0.out = subst (λ (ls : List (List ℕ)). PrintsOn ls s.0.out)
+            (ap spoken u.1 ∙ spoken-append r.taken u.0) s.0.prints in
+            refused_never (spoken r.taken) (spoken u.0) h.0 s.0.out h.1 p
       ]

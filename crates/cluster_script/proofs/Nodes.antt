@@ -1,5 +1,5 @@
 -- The nodes of a world, by their lists.
-use Rattle.std.proofs.Common.{ℕ, zero, suc, Bool, true, false, List, [], ◌∷◌, ◌≡◌, ◌==◌, ◌<◌, ◌≤◌, ◌+◌, length, get_or, refl, sym, ap, ◌∙◌, append-nil, arith, nat_lt}
+use Rattle.std.proofs.Common.{ℕ, zero, suc, Bool, true, false, List, [], ◌∷◌, ◌++◌, ◌≡◌, ◌==◌, ◌<◌, ◌≤◌, ◌+◌, length, get_or, refl, sym, ap, ◌∙◌, arith, nat_lt}
 use Rattle.std.specs.Prelude.{◌&&◌, ◌||◌, max, All}
 use Rattle.std.proofs.Math.Path.{fun_ext}
 use Rattle.std.proofs.lemmas.Bool.{eq-eqb, eqb-true, lt-ltb}
@@ -54,13 +54,12 @@ abbrev opening : ℕ → Nodes → Nodes → Opening
 opening n s t = record { bound = n; nodes = s; cluster = t }
 
 -- what is held opened with the nodes that were named, in whatever order
-pub opening_of-named : (nodes : List ℕ) (h : Held) → Opens nodes [] h → opening_of h ≡ opening_for nodes
-opening_of-named nodes h o =
-    let all : (c : ℕ) → set_of h.nodes c ≡ set_of nodes c = λ c. o.nodes c
-    ∙ ap (λ (ns : List ℕ). set_of ns c) (append-nil nodes) in
-    ap (λ (n : ℕ). opening n (set_of h.nodes) (set_of h.cluster)) (bound_of-same h.nodes nodes all)
-    ∙ ap (λ (s : Nodes). opening (bound_of nodes) s (set_of h.cluster)) (fun_ext all)
-    ∙ ap (λ (s : Nodes). opening (bound_of nodes) (set_of nodes) s) (fun_ext o.joined)
+pub opening_of-named : (cluster lone : List ℕ) (h : Held) → Opens cluster lone h → opening_of h
+    ≡ opening_for cluster lone
+opening_of-named cluster lone h o =
+    ap (λ (n : ℕ). opening n (set_of h.nodes) (set_of h.cluster)) (bound_of-same h.nodes (cluster ++ lone) o.nodes)
+    ∙ ap (λ (s : Nodes). opening (bound_of (cluster ++ lone)) s (set_of h.cluster)) (fun_ext o.nodes)
+    ∙ ap (λ (s : Nodes). opening (bound_of (cluster ++ lone)) (set_of (cluster ++ lone)) s) (fun_ext o.joined)
 
 -- the nodes of the world are those that are listed
 pub in_world-listed : (h : Held) (a : ℕ) → in_world (opening_of h) a ≡ set_of h.nodes a

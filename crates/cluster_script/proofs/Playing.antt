@@ -1,5 +1,5 @@
 -- Events that are played.
-use Rattle.std.proofs.Common.{ℕ, true, false, List, [], ◌∷◌, ◌++◌, ◌≡◌, Option, Some, None, refl, sym, ap, subst, ◌∙◌, append-nil, Ok, Err, map}
+use Rattle.std.proofs.Common.{ℕ, true, false, List, [], ◌∷◌, ◌++◌, ◌≡◌, Option, Some, None, refl, sym, ap, subst, ◌∙◌, append-nil, append_assoc, Ok, Err, map}
 use Rattle.std.specs.Prelude.{is_none, if◌then◌else◌}
 use Rattle.std.specs.List.{list_all}
 use Rattle.std.specs.Io.KnownBytes.{Appends}
@@ -21,19 +21,13 @@ use Rattle.cluster_world.specs.declared.events.WorldEvent.TheVariants.{At, Deliv
 use Rattle.command_lines.specs.declared.faults.LineFault.{LineFault}
 use Rattle.command_lines.specs.Printing.{answers_text, output_line, shown_text, error_line, word_of, refusal_word, is_fine, Shown, Shows}
 use Rattle.cluster_script.specs.Script.{shown, settle_limit}
-use Rattle.cluster_script.specs.Played.{PlaysLine, shown_on}
+use Rattle.cluster_script.specs.Played.{PlaysLine, okay_text, shown_on}
 
 -- a world that has the same nodes, and joined the same ones at first, opened alike
 pub opening_of-same : (old new : Held) → new.nodes ≡ old.nodes → new.cluster ≡ old.cluster → opening_of new
     ≡ opening_of old
 opening_of-same old new n c = ap (λ (ns : List ℕ). opening_with ns new.cluster) n
     ∙ ap (λ (ns : List ℕ). opening_with old.nodes ns) c
-
--- an event of a script has no `ok` of its own today
-pub okay-none : (o : Opening) (e : WorldEvent) → okay o settle_limit (event_of e) ≡ []
-okay-none o (At a (event.Call c)) = refl
-okay-none o (At a event.Retry) = refl
-okay-none o (Deliver f t) = refl
 
 -- the outputs of answers
 pub Said-text : (given : List AnyAnswer) → shown_text (map Shows (map Said given)) ≡ answers_text given
@@ -45,15 +39,29 @@ pub Said-fine : (given : List AnyAnswer) → list_all is_fine (map Shows (map Sa
 Said-fine [] = refl
 Said-fine (s ∷ given) = Said-fine given
 
+-- what stands before answers is printed before them
+pub behind-text : (front : List Output) (given : List AnyAnswer) → shown_text (map Shows (front ++ map Said given))
+    ≡ shown_text (map Shows front) ++ answers_text given
+behind-text [] given = Said-text given
+behind-text (x ∷ front) given = ap (λ (t : List ℕ). output_line x ++ t) (behind-text front given)
+    ∙ sym (append_assoc (output_line x) (shown_text (map Shows front)) (answers_text given))
+
+-- the outputs of an accepted event are no refusals
+pub okay-fine : (o : Opening) (e : WorldEvent) (given : List AnyAnswer)
+    → list_all is_fine (map Shows (okay o settle_limit (event_of e) ++ map Said given)) ≡ true
+okay-fine o (At a (event.Call c)) given = Said-fine given
+okay-fine o (At a event.Retry) given = Said-fine given
+okay-fine o (At a (event.Exit p)) given = Said-fine given
+okay-fine o (Deliver f t) given = Said-fine given
+
 module _ (h : Held) (e : WorldEvent) where
   -- what is printed for an accepted event
   pub shown-accepted : refused (opening_of h) (seen h) (event_of e) ≡ None
       → shown (opening_of h) (seen h) (Ok (Play (event_of e)))
-      ≡ map Shows (map Said (answers (opening_of h) (seen h) (event_of e)))
+      ≡ map Shows (okay (opening_of h) settle_limit (event_of e)
+      ++ map Said (answers (opening_of h) (seen h) (event_of e)))
   shown-accepted r =
       ap (λ (x : Option AnyRefusal). map Shows (played (opening_of h) settle_limit (seen h) (event_of e) x)) r
-      ∙ ap (λ (x : List Output). map Shows (x ++ map Said (answers (opening_of h) (seen h) (event_of e))))
-      (okay-none (opening_of h) e)
 
   -- what is printed for a refused event
   pub shown-refused : (r : AnyRefusal) → refused (opening_of h) (seen h) (event_of e) ≡ Some r
@@ -69,21 +77,24 @@ module _ (h : Held) (e : WorldEvent) where
 
 -- the text of an accepted event
 pub text-accepted : (old new : Held) (e : WorldEvent) (given : List Answer) → Played e old new [] given
-    → answers_text (map answer_of given) ≡ shown_on old (Ok (Play (event_of e)))
+    → okay_text (opening_of old) e ++ answers_text (map answer_of given) ≡ shown_on old (Ok (Play (event_of e)))
 text-accepted old new e given p =
-    ap answers_text p.answers ∙ sym (Said-text (answers (opening_of old) (seen old) (event_of e)))
+    ap (λ (ss : List AnyAnswer). okay_text (opening_of old) e ++ answers_text ss) p.answers
+    ∙ sym (behind-text (okay (opening_of old) settle_limit (event_of e))
+    (answers (opening_of old) (seen old) (event_of e)))
     ∙ ap shown_text (sym (shown-accepted old e p.accepted))
 
 -- an accepted event is played
 pub play-accepted : (old new : Held) (e : WorldEvent) (given : List Answer) (a b : Option (List ℕ))
     → Played e old new [] given
-    → Appends a b (answers_text (map answer_of given)) → PlaysLine old new (Ok (Play (event_of e))) a b true
+    → Appends a b (okay_text (opening_of old) e ++ answers_text (map answer_of given))
+    → PlaysLine old new (Ok (Play (event_of e))) a b true
 play-accepted old new e given a b p w = record {
   opening = opening_of-same old new p.nodes p.cluster;
   world = p.happens;
   wrote = subst (λ (t : List ℕ). Appends a b t) (text-accepted old new e given p) w;
   fine_is = sym (ap (λ (s : List Shown). list_all is_fine s) (shown-accepted old e p.accepted)
-      ∙ Said-fine (answers (opening_of old) (seen old) (event_of e)));
+      ∙ okay-fine (opening_of old) e (answers (opening_of old) (seen old) (event_of e)));
 }
 
 -- the text of a refused event
@@ -107,6 +118,8 @@ play-refused old new e r a b q n w = record {
 pub not_memory : (r : Refusal) (any : AnyRefusal) → refusal_of r ≡ Some any → is_memory r ≡ false
 not_memory refusal.NoSuchNode any e = refl
 not_memory refusal.EmptyLink any e = refl
+not_memory refusal.NoSuchProcess any e = refl
+not_memory refusal.AlreadyExited any e = refl
 not_memory refusal.SerialsSpent any e = refl
 not_memory refusal.NothingToRetry any e = refl
 not_memory refusal.CallsSpent any e = refl

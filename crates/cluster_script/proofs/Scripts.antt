@@ -55,7 +55,7 @@ module _ (o : Opening) where
 
 -- no line was played yet
 pub PlaysLines-start : (input : Option (List ℕ)) (most : ℕ) (old : Held) (a : Option (List ℕ))
-    → PlaysLines input input most most old old a a true
+    → PlaysLines [] input input most most old old a a true
 PlaysLines-start input most old a = record {
   taken = [];
   asked = [];
@@ -69,7 +69,7 @@ PlaysLines-start input most old a = record {
 }
 
 module _ (input mid : Option (List ℕ)) (most l1 : ℕ) (old h1 : Held) (a b : Option (List ℕ)) (fine : Bool)
-    (P : PlaysLines input mid most l1 old h1 a b fine) where
+    (P : PlaysLines [] input mid most l1 old h1 a b fine) where
   -- what one more line prints
   pub text-push : (asked : Result ScriptLine LineFault)
       → shown_text (shown_all (opening_of old) (seen old) (P.asked ++ asked ∷ []))
@@ -91,7 +91,7 @@ module _ (input mid : Option (List ℕ)) (most l1 : ℕ) (old h1 : Held) (a b : 
         (sym (spoken-append P.taken ls ∙ ap (λ (xs : List (List ℕ)). spoken P.taken ++ xs) s ∙ append-nil (spoken
         P.taken))) P.each
 
-    abbrev pub PlaysSome-so_far : PlaysSome Appends input rest old a b
+    abbrev pub PlaysSome-so_far : PlaysSome Appends [] input rest old a b
     PlaysSome-so_far = record {
       taken = P.taken ++ ls;
       part = part;
@@ -101,7 +101,7 @@ module _ (input mid : Option (List ℕ)) (most l1 : ℕ) (old h1 : Held) (a b : 
       wrote = P.wrote;
     }
 
-    abbrev pub PlaysSome-part : PlaysSome AppendsPart input rest old a b
+    abbrev pub PlaysSome-part : PlaysSome AppendsPart [] input rest old a b
     PlaysSome-part = record {
       taken = P.taken ++ ls;
       part = part;
@@ -113,7 +113,7 @@ module _ (input mid : Option (List ℕ)) (most l1 : ℕ) (old h1 : Held) (a b : 
 
   -- the next line isn't read
   pub StopsPlaying-reading : (rest : Option (List ℕ)) (f : ScriptFault) → StopsReading mid rest l1 f
-      → StopsPlaying input rest most old a b f
+      → StopsPlaying [] input rest most old a b f
   StopsPlaying-reading rest fault.TooManyLines g =
       (PlaysSome-so_far rest g.0 g.1 g.2 g.3, g.4, GoesPast-behind input mid P.taken g.0 most l1 P.read P.counted g.5)
   StopsPlaying-reading rest fault.Read g = (PlaysSome-so_far rest g.0 g.1 g.2 g.3, g.4)
@@ -122,7 +122,7 @@ module _ (input mid : Option (List ℕ)) (most l1 : ℕ) (old h1 : Held) (a b : 
 
   -- memory is refused for what the next line asks
   pub StopsPlaying-next : (rest : Option (List ℕ)) → LosesNext mid rest
-      → StopsPlaying input rest most old a b fault.Memory
+      → StopsPlaying [] input rest most old a b fault.Memory
   StopsPlaying-next rest g = (PlaysSome-part rest g.0 g.1 g.2 g.3, g.4)
 
   module _ (rest : Option (List ℕ)) (ls : List (List ℕ)) (line : List ℕ) (asked : Result ScriptLine LineFault)
@@ -135,7 +135,7 @@ module _ (input mid : Option (List ℕ)) (most l1 : ℕ) (old h1 : Held) (a b : 
 
     -- a fault comes while a line is played
     abbrev pub PlaysSome-next : (c : Option (List ℕ)) → AppendsPart b c (shown_on h1 asked)
-        → PlaysSome AppendsPart input rest old a c
+        → PlaysSome AppendsPart [] input rest old a c
     PlaysSome-next c p = record {
       taken = P.taken ++ ls;
       part = [];
@@ -149,7 +149,7 @@ module _ (input mid : Option (List ℕ)) (most l1 : ℕ) (old h1 : Held) (a b : 
     -- a line is played
     pub PlaysLines-next : (l2 : ℕ) (h2 : Held) (c : Option (List ℕ)) (fine2 : Bool) → l1 ≡ l2 + count_of_all ls
         → PlaysLine h1 h2 asked b c fine2
-        → PlaysLines input rest most l2 old h2 a c (fine && fine2)
+        → PlaysLines [] input rest most l2 old h2 a c (fine && fine2)
     PlaysLines-next l2 h2 c fine2 e p = record {
       taken = P.taken ++ ls;
       asked = P.asked ++ asked ∷ [];
@@ -173,15 +173,15 @@ module _ (input mid : Option (List ℕ)) (most l1 : ℕ) (old h1 : Held) (a b : 
     }
 
 -- what the exit of a `?` says of lines
-pub PlaysAll-err : (input rest : Option (List ℕ)) (most left : ℕ) (old new : Held) (a b : Option (List ℕ))
-    (r : Result Bool ScriptFault) (y : ScriptFault)
-    → r ≡ Err y → StopsPlaying input rest most old a b y → PlaysAll input rest most left old new a b r
-PlaysAll-err input rest most left old new a b r y e p = rw e p
+pub PlaysAll-err : (first : List (Result ScriptLine LineFault)) (input rest : Option (List ℕ)) (most left : ℕ) (old new
+    : Held) (a b : Option (List ℕ)) (r : Result Bool ScriptFault) (y : ScriptFault)
+    → r ≡ Err y → StopsPlaying first input rest most old a b y → PlaysAll first input rest most left old new a b r
+PlaysAll-err first input rest most left old new a b r y e p = rw e p
 
 -- what was written stays
 pub PlaysLines-kept : (input rest : Option (List ℕ)) (most left : ℕ) (old new : Held) (a b c : Option (List ℕ)) (fine
-    : Bool) → PlaysLines input rest most left old new a b fine → Keeps b c
-    → PlaysLines input rest most left old new a c fine
+    : Bool) → PlaysLines [] input rest most left old new a b fine → Keeps b c
+    → PlaysLines [] input rest most left old new a c fine
 PlaysLines-kept input rest most left old new a b c fine p k = record {
   taken = p.taken;
   asked = p.asked;
@@ -196,9 +196,9 @@ PlaysLines-kept input rest most left old new a b c fine p k = record {
 
 -- empty lines are read
 pub PlaysLines-blank : (input mid rest : Option (List ℕ)) (most l1 l2 : ℕ) (old h1 : Held) (a b : Option (List ℕ))
-    (fine : Bool) (P : PlaysLines input mid most l1 old h1 a b fine)
+    (fine : Bool) (P : PlaysLines [] input mid most l1 old h1 a b fine)
     (ls : List (List ℕ)) → spoken ls ≡ [] → LosesLines mid rest ls → l1 ≡ l2 + count_of_all ls
-    → PlaysLines input rest most l2 old h1 a b fine
+    → PlaysLines [] input rest most l2 old h1 a b fine
 PlaysLines-blank input mid rest most l1 l2 old h1 a b fine P ls s t e = record {
   taken = P.taken ++ ls;
   asked = P.asked;
@@ -212,18 +212,104 @@ PlaysLines-blank input mid rest most l1 l2 old h1 a b fine P ls s t e = record {
 }
 
 -- a text wasn't written, or memory was refused
-pub StopsPlaying-writing : (input rest : Option (List ℕ)) (most : ℕ) (old : Held) (a b : Option (List ℕ)) (f :
-    WriteFault) (y : ScriptFault) → y ≡ stop_of f
-    → (p : PlaysSome AppendsPart input rest old a b) → p.part ≡ [] → StopsPlaying input rest most old a b y
-StopsPlaying-writing input rest most old a b write.Writer y e p n =
-    subst (λ (g : ScriptFault). StopsPlaying input rest most old a b g) (sym e) (
+pub StopsPlaying-writing : (first : List (Result ScriptLine LineFault)) (input rest : Option (List ℕ)) (most : ℕ) (old :
+    Held) (a b : Option (List ℕ)) (f : WriteFault) (y : ScriptFault) → y ≡ stop_of f
+    → (p : PlaysSome AppendsPart first input rest old a b) → p.part ≡ [] → StopsPlaying first input rest most old a b y
+StopsPlaying-writing first input rest most old a b write.Writer y e p n =
+    subst (λ (g : ScriptFault). StopsPlaying first input rest most old a b g) (sym e) (
       p,
       subst (λ (xs : List ℕ). MayEndIn
           fault.Write xs) (sym n) (MayEndIn-none fault.Write),
     )
-StopsPlaying-writing input rest most old a b write.Memory y e p n =
-    subst (λ (g : ScriptFault). StopsPlaying input rest most old a b g) (sym e) (
+StopsPlaying-writing first input rest most old a b write.Memory y e p n =
+    subst (λ (g : ScriptFault). StopsPlaying first input rest most old a b g) (sym e) (
       p,
       subst (λ (xs : List ℕ). MayEndIn
           fault.Memory xs) (sym n) (MayEndIn-none fault.Memory),
     )
+
+-- a fault comes while the line is played that was read already
+abbrev pub PlaysSome-first : (input : Option (List ℕ)) (old : Held) (asked : Result ScriptLine LineFault)
+    (a b : Option (List ℕ)) → AppendsPart a b (shown_on old asked)
+    → PlaysSome AppendsPart (asked ∷ []) input input old a b
+PlaysSome-first input old asked a b p = record {
+  taken = [];
+  part = [];
+  asked = [];
+  read = LosesInto-whole input input [] (LosesLines-nil input);
+  each = tt;
+  wrote = subst (λ (t : List ℕ). AppendsPart a b t)
+      (ap shown_text (sym (append-nil (shown (opening_of old) (seen old) asked)))) p;
+}
+
+-- the line that was read already is played, and others behind it
+module _ (input rest : Option (List ℕ)) (old mid : Held) (asked : Result ScriptLine LineFault) (a b c : Option (List ℕ))
+    (fine : Bool) (L : PlaysLine old mid asked a b fine) where
+  -- what they print
+  text-behind : (others : List (Result ScriptLine LineFault))
+      → shown_on old asked ++ shown_text (shown_all (opening_of mid) (seen mid) others)
+      ≡ shown_text (shown_all (opening_of old) (seen old) (asked ∷ others))
+  text-behind others =
+      ap (λ (o : Opening). shown_on old asked ++ shown_text (shown_all o (seen mid) others)) L.opening
+      ∙ ap (λ (w : World). shown_on old asked ++ shown_text (shown_all (opening_of old) w others)) L.world
+      ∙ sym (shown_text-append (shown (opening_of old) (seen old) asked)
+      (shown_all (opening_of old) (behind (opening_of old) (seen old) asked) others))
+
+  -- all is written that they print
+  abbrev PlaysSome-all : PlaysSome Appends [] input rest mid b c → PlaysSome Appends (asked ∷ []) input rest old a c
+  PlaysSome-all p = record {
+    taken = p.taken;
+    part = p.part;
+    asked = p.asked;
+    read = p.read;
+    each = p.each;
+    wrote = subst (λ (t : List ℕ). Appends a c t) (text-behind p.asked)
+        (Appends-trans a b c (shown_on old asked) (shown_text (shown_all (opening_of mid) (seen mid) p.asked))
+        L.wrote p.wrote);
+  }
+
+  -- a part is written
+  abbrev PlaysSome-less : PlaysSome AppendsPart [] input rest mid b c
+      → PlaysSome AppendsPart (asked ∷ []) input rest old a c
+  PlaysSome-less p = record {
+    taken = p.taken;
+    part = p.part;
+    asked = p.asked;
+    read = p.read;
+    each = p.each;
+    wrote = subst (λ (t : List ℕ). AppendsPart a c t) (text-behind p.asked)
+        (AppendsPart-behind a b c (shown_on old asked)
+        (shown_text (shown_all (opening_of mid) (seen mid) p.asked)) L.wrote p.wrote);
+  }
+
+  -- the others end with a fault
+  pub StopsPlaying-behind : (most : ℕ) (f : ScriptFault) → StopsPlaying [] input rest most mid b c f
+      → StopsPlaying (asked ∷ []) input rest most old a c f
+  StopsPlaying-behind most fault.TooManyLines p = (PlaysSome-all p.0, p.1, p.2)
+  StopsPlaying-behind most fault.Read p = (PlaysSome-all p.0, p.1)
+  StopsPlaying-behind most fault.Write p = (PlaysSome-less p.0, p.1)
+  StopsPlaying-behind most fault.Memory p = (PlaysSome-less p.0, p.1)
+
+  -- the others are played
+  pub PlaysLines-behind : (most left : ℕ) (new : Held) (fine2 : Bool)
+      → PlaysLines [] input rest most left mid new b c fine2
+      → PlaysLines (asked ∷ []) input rest most left old new a c (fine && fine2)
+  PlaysLines-behind most left new fine2 p = record {
+    taken = p.taken;
+    asked = p.asked;
+    read = p.read;
+    counted = p.counted;
+    each = p.each;
+    opening = p.opening ∙ L.opening;
+    world = p.world ∙ ap (λ (o : Opening). behind_all o (seen mid) p.asked) L.opening
+        ∙ ap (λ (w : World). behind_all (opening_of old) w p.asked) L.world;
+    wrote = subst (λ (t : List ℕ). Appends a c t) (text-behind p.asked)
+        (Appends-trans a b c (shown_on old asked) (shown_text (shown_all (opening_of mid) (seen mid) p.asked))
+        L.wrote p.wrote);
+    fine_is = ap (λ (x : Bool). x && fine2) L.fine_is
+        ∙ ap (λ (x : Bool). list_all is_fine (shown (opening_of old) (seen old) asked) && x)
+        (p.fine_is ∙ ap (λ (o : Opening). list_all is_fine (shown_all o (seen mid) p.asked)) L.opening
+        ∙ ap (λ (w : World). list_all is_fine (shown_all (opening_of old) w p.asked)) L.world)
+        ∙ sym (list_all-append is_fine (shown (opening_of old) (seen old) asked)
+        (shown_all (opening_of old) (behind (opening_of old) (seen old) asked) p.asked));
+  }

@@ -1,11 +1,13 @@
 -- What it comes to that the program plays a line, or reads on to the next one.
-use Rattle.std.specs.Prelude.{ℕ, Bool, ◌≡◌, ◌+◌, List, [], ◌∷◌, Option, Some, None, is_some, Result, Ok, Err, if◌then◌else◌}
+use Rattle.std.specs.Prelude.{ℕ, Bool, ◌≡◌, ◌+◌, List, [], ◌∷◌, ◌++◌, Option, Some, None, is_some, map, MatchResult, Result, Ok, Err, if◌then◌else◌}
 use Rattle.std.specs.List.{list_all}
 use Rattle.std.specs.Io.KnownBytes.{Appends}
 use Rattle.registry_model.specs.Process.{nodes_of}
 use Rattle.protocol_model.specs.Event.{NoSuchNode}
-use Rattle.protocol_model.specs.Script.{Line as ScriptLine, Output, Settled, SettleLimit, TableIs, MembersAre, shown_at}
-use Rattle.protocol_model.specs.World.{WorldEvent as AnyEvent, happens, answers}
+use Rattle.protocol_model.specs.Script.{Line as ScriptLine, Output, Settled, SettleLimit, TableIs, MembersAre, okay, shown_at}
+use Rattle.protocol_model.specs.World.{Opening, WorldEvent as AnyEvent, happens, answers}
+use Rattle.cluster_world.specs.declared.events.WorldEvent.{WorldEvent}
+use Rattle.cluster_world.specs.Events.{event_of}
 use Rattle.cluster_world.specs.Held.{Held}
 use Rattle.cluster_world.specs.Seen.{opening_of, seen}
 use Rattle.command_lines.specs.declared.faults.LineFault.{LineFault}
@@ -14,7 +16,7 @@ use Rattle.command_lines.specs.declared.faults.ScriptFault.TheVariants.{Read, To
 use Rattle.command_lines.specs.declared.faults.WriteFault.{WriteFault}
 use Rattle.command_lines.specs.declared.lines.Line.{Line}
 use Rattle.command_lines.specs.Lines.{spoken, count_of_all, IsKept, LosesLines, LosesInto, HasNoLine, IsWithinLine, MayEndIn, GoesPastFor}
-use Rattle.command_lines.specs.Printing.{answers_text, shown_text, is_fine, is_fine_output, output_line, error_line, refusal_word}
+use Rattle.command_lines.specs.Printing.{Shows, answers_text, shown_text, is_fine, is_fine_output, output_line, error_line, refusal_word}
 use Rattle.command_lines.specs.Writing.{AppendsPart}
 use Rattle.cluster_script.specs.Script.{settle_limit, behind, behind_all, shown, shown_all, AllAsk}
 
@@ -33,6 +35,15 @@ pub record PlaysLine (old new : Held) (asked : Result ScriptLine LineFault) (bef
 abbrev pub PlaysOrStops : Held → Held → Result ScriptLine LineFault → Option (List ℕ) → Option (List ℕ) → Result Bool WriteFault → Type 0
 PlaysOrStops old new asked before after (Ok fine) = PlaysLine old new asked before after fine
 PlaysOrStops old new asked before after (Err f) = AppendsPart before after (shown_on old asked)
+
+-- what an accepted event prints before its answers
+abbrev pub okay_text : Opening → WorldEvent → List ℕ
+okay_text o e = shown_text (map Shows (okay o settle_limit (event_of e)))
+
+-- it was written, or after a fault a part of it
+abbrev pub WritesOkay : {A E : Type 0} → Option (List ℕ) → Option (List ℕ) → Result A E → WorldEvent → Type 0
+WritesOkay old new r e = MatchResult r (λ _. (o : Opening) → Appends old new (okay_text o e))
+    (λ _. (o : Opening) → AppendsPart old new (okay_text o e))
 
 -- what is printed last for `settle`
 abbrev pub settle_end : Bool → Output
@@ -72,17 +83,18 @@ abbrev pub StopsReading : Option (List ℕ) → Option (List ℕ) → ℕ → Sc
 StopsReading input rest most f = (ls : List (List ℕ)) × (part : List ℕ) × (spoken ls ≡ [])
     × LosesInto input rest ls part × MayEndIn f part × GoesPastFor f input most ls
 
--- lines were read and played
-pub record PlaysLines (input rest : Option (List ℕ)) (most left : ℕ) (old new : Held) (before after : Option (List ℕ)) (fine : Bool) : Type 0 where
+-- what was read already is played, and then lines were read and played
+pub record PlaysLines (first : List (Result ScriptLine LineFault)) (input rest : Option (List ℕ)) (most left : ℕ) (old new : Held)
+    (before after : Option (List ℕ)) (fine : Bool) : Type 0 where
   pub taken : List (List ℕ)
   pub asked : List (Result ScriptLine LineFault)
   pub read : LosesLines input rest taken
   pub counted : most ≡ left + count_of_all taken
   pub each : AllAsk (spoken taken) asked
   pub opening : opening_of new ≡ opening_of old
-  pub world : seen new ≡ behind_all (opening_of old) (seen old) asked
-  pub wrote : Appends before after (shown_text (shown_all (opening_of old) (seen old) asked))
-  pub fine_is : fine ≡ list_all is_fine (shown_all (opening_of old) (seen old) asked)
+  pub world : seen new ≡ behind_all (opening_of old) (seen old) (first ++ asked)
+  pub wrote : Appends before after (shown_text (shown_all (opening_of old) (seen old) (first ++ asked)))
+  pub fine_is : fine ≡ list_all is_fine (shown_all (opening_of old) (seen old) (first ++ asked))
 
 -- a letter was delivered, and its answers were written, or after a fault a part of them
 abbrev pub Delivers : {A : Type 0} → Held → Held → AnyEvent → Option (List ℕ) → Option (List ℕ) → Result A WriteFault → Type 0
@@ -94,28 +106,31 @@ Delivers old new e before after (Err f) = AppendsPart before after (answers_text
 abbrev pub Growth : Type 1
 Growth = Option (List ℕ) → Option (List ℕ) → List ℕ → Type 0
 
--- Some first lines were lost and played, and what they print was written, or a part of it; of the next a part was lost
-pub record PlaysSome (Grows : Growth) (input rest : Option (List ℕ)) (old : Held) (before after : Option (List ℕ))
-    : Type 0 where
+-- What was read already is played, and some first lines were lost and played; what they print was written, or a part of
+-- it; of the next line a part was lost
+pub record PlaysSome (Grows : Growth) (first : List (Result ScriptLine LineFault)) (input rest : Option (List ℕ)) (old : Held)
+    (before after : Option (List ℕ)) : Type 0 where
   pub taken : List (List ℕ)
   pub part : List ℕ
   pub asked : List (Result ScriptLine LineFault)
   pub read : LosesInto input rest taken part
   pub each : AllAsk (spoken taken) asked
-  pub wrote : Grows before after (shown_text (shown_all (opening_of old) (seen old) asked))
+  pub wrote : Grows before after (shown_text (shown_all (opening_of old) (seen old) (first ++ asked)))
 
 -- only some first lines were played: all is written that they print, unless it is the writer or memory that failed
-abbrev pub StopsPlaying : Option (List ℕ) → Option (List ℕ) → ℕ → Held → Option (List ℕ) → Option (List ℕ)
-    → ScriptFault → Type 0
-StopsPlaying input rest most old before after TooManyLines =
-    (s : PlaysSome Appends input rest old before after) × MayEndIn TooManyLines s.part
+abbrev pub StopsPlaying : List (Result ScriptLine LineFault) → Option (List ℕ) → Option (List ℕ) → ℕ → Held → Option (List ℕ)
+    → Option (List ℕ) → ScriptFault → Type 0
+StopsPlaying first input rest most old before after TooManyLines =
+    (s : PlaysSome Appends first input rest old before after) × MayEndIn TooManyLines s.part
     × GoesPastFor TooManyLines input most s.taken
-StopsPlaying input rest most old before after Read =
-    (s : PlaysSome Appends input rest old before after) × MayEndIn Read s.part
-StopsPlaying input rest most old before after f =
-    (s : PlaysSome AppendsPart input rest old before after) × MayEndIn f s.part
+StopsPlaying first input rest most old before after Read =
+    (s : PlaysSome Appends first input rest old before after) × MayEndIn Read s.part
+StopsPlaying first input rest most old before after f =
+    (s : PlaysSome AppendsPart first input rest old before after) × MayEndIn f s.part
 
 -- lines were played, and what they print was written; or after a fault some first lines were
-abbrev pub PlaysAll : Option (List ℕ) → Option (List ℕ) → ℕ → ℕ → Held → Held → Option (List ℕ) → Option (List ℕ) → Result Bool ScriptFault → Type 0
-PlaysAll input rest most left old new before after (Ok fine) = PlaysLines input rest most left old new before after fine × HasNoLine rest
-PlaysAll input rest most left old new before after (Err f) = StopsPlaying input rest most old before after f
+abbrev pub PlaysAll : List (Result ScriptLine LineFault) → Option (List ℕ) → Option (List ℕ) → ℕ → ℕ → Held → Held
+    → Option (List ℕ) → Option (List ℕ) → Result Bool ScriptFault → Type 0
+PlaysAll first input rest most left old new before after (Ok fine) =
+    PlaysLines first input rest most left old new before after fine × HasNoLine rest
+PlaysAll first input rest most left old new before after (Err f) = StopsPlaying first input rest most old before after f

@@ -1,5 +1,5 @@
 -- What a script prints: its lines are played on one world, one after the other.
-use Rattle.std.specs.Prelude.{ℕ, ◌⊎◌, Bool, ◌≡◌, ◌≤◌, bytes_eq, codes, fold, map, List, [], ◌∷◌, ◌++◌, if◌then◌else◌, Option, Some, None, Result, Ok, Err}
+use Rattle.std.specs.Prelude.{ℕ, ◌⊎◌, Bool, is_some, is_none, unwrap_or, ◌≡◌, ◌≤◌, bytes_eq, codes, fold, map, List, [], ◌∷◌, ◌++◌, if◌then◌else◌, Option, Some, None, Result, Ok, Err}
 use Rattle.std.specs.List.{list_all}
 use Rattle.std.specs.Io.KnownBytes.{Appends}
 use Rattle.protocol_model.specs.World.{Opening, World, WorldEvent, opening_world, run}
@@ -8,8 +8,7 @@ use Rattle.term.specs.declared.faults.TextFault.{TextFault}
 use Rattle.term.specs.Spelling.{SpellsText, RefusesText}
 use Rattle.cluster_world.specs.Agreeing.{HeadlineAfter}
 use Rattle.cluster_world.specs.Starting.{start_refused}
-use Rattle.cluster_world.specs.Held.{Held}
-use Rattle.cluster_world.specs.Seen.{opening_with, opening_of, seen}
+use Rattle.cluster_world.specs.Seen.{opening_with}
 use Rattle.command_lines.specs.declared.faults.LineFault.{LineFault}
 use Rattle.command_lines.specs.declared.faults.LineFault.TheVariants.{BadLine, Text, Start}
 use Rattle.command_lines.specs.declared.faults.ScriptFault.{ScriptFault}
@@ -61,14 +60,14 @@ AllAsk (l ∷ ls) (a ∷ asked) = LineAsks l a × AllAsk ls asked
 AllAsk _ _ = ⊥
 
 -- the fault, or else what is made of the value
-abbrev pub made_of : {A B : Type 0} → (A → B) → Result A TextFault → Result B TextFault
+abbrev pub made_of : {A B E : Type 0} → (A → B) → Result A E → Result B E
 made_of f (Ok a) = Ok (f a)
 made_of f (Err e) = Err e
 
--- the texts of a `cluster` line
-abbrev pub cluster_texts : List (List ℕ) → Option (List (List ℕ))
-cluster_texts [] = None
-cluster_texts (w ∷ texts) = if bytes_eq w (codes "cluster") then Some texts else None
+-- the texts behind this word, where words begin with it
+abbrev pub texts_behind : List ℕ → List (List ℕ) → Option (List (List ℕ))
+texts_behind word [] = None
+texts_behind word (w ∷ texts) = if bytes_eq w word then Some texts else None
 
 -- these texts spell these nodes
 abbrev pub AllSpell : List (List ℕ) → List ℕ → Type 0
@@ -82,56 +81,90 @@ ReadsTexts texts (Ok nodes) = AllSpell texts nodes
 ReadsTexts texts (Err f) = (before : List (List ℕ)) × (nodes : List ℕ) × (bad : List ℕ) × (after : List (List ℕ))
     × (texts ≡ before ++ bad ∷ after) × AllSpell before nodes × RefusesText bad f
 
--- a world of these nodes is started, or why it isn't
-abbrev pub started_unless : List ℕ → Option StartFault → Result (List ℕ) LineFault
-started_unless nodes None = Ok nodes
-started_unless nodes (Some f) = Err (Start f)
+-- these nodes, or why no world has them
+abbrev pub unless_refused : List ℕ → Option StartFault → Result (List ℕ) LineFault
+unless_refused nodes None = Ok nodes
+unless_refused nodes (Some f) = Err (Start f)
 
-abbrev pub started : Result (List ℕ) TextFault → Result (List ℕ) LineFault
-started (Ok nodes) = started_unless nodes (start_refused nodes [])
-started (Err f) = Err (Text f)
+-- the nodes of a header: a text that spells none is refused before nodes that no world has
+abbrev pub judged : (List ℕ → Option StartFault) → Result (List ℕ) TextFault → Result (List ℕ) LineFault
+judged refused (Ok nodes) = unless_refused nodes (refused nodes)
+judged refused (Err f) = Err (Text f)
 
--- what the words of the first line open
+-- the nodes that the texts of a header name, or why it is refused
+abbrev pub Names : (List ℕ → Option StartFault) → List (List ℕ) → Result (List ℕ) LineFault → Type 0
+Names refused texts r = (nodes : Result (List ℕ) TextFault) × ReadsTexts texts nodes × (r ≡ judged refused nodes)
+
+-- the nodes that the texts of the `cluster` line name; no node is lone yet
 abbrev pub OpensIn : Option (List (List ℕ)) → Result (List ℕ) LineFault → Type 0
 OpensIn None r = r ≡ Err BadLine
-OpensIn (Some texts) r = (nodes : Result (List ℕ) TextFault) × ReadsTexts texts nodes × (r ≡ started nodes)
+OpensIn (Some texts) r = Names (λ cluster. start_refused cluster []) texts r
 
 abbrev pub OpensUnless : Option LineFault → List ℕ → Result (List ℕ) LineFault → Type 0
 OpensUnless (Some f) line r = r ≡ Err f
-OpensUnless None line r = OpensIn (cluster_texts (words line)) r
+OpensUnless None line r = OpensIn (texts_behind (codes "cluster") (words line)) r
 
--- the nodes of the world that the first line opens, or why it is refused
+-- the nodes of the cluster that the first line opens, or why it is refused
 abbrev pub LineOpens : List ℕ → Result (List ℕ) LineFault → Type 0
 LineOpens line r = OpensUnless (unread line) line r
 
--- a world of these nodes, which are all joined with each other
-abbrev pub opening_for : List ℕ → Opening
-opening_for nodes = opening_with nodes nodes
+-- the texts of a `lone` line, where this is one; a line that can't be read is none
+abbrev pub lone_line : List ℕ → Option (List (List ℕ))
+lone_line line = if is_none (unread line) then texts_behind (codes "lone") (words line) else None
 
--- what was made of the first line: a world of its nodes that stands as at its opening, or why there is none
-abbrev pub Opened : (Result (List ℕ) LineFault → Type 0) → Result Held LineFault → Type 0
-Opened Opens (Ok world) = (nodes : List ℕ) × Opens (Ok nodes) × (opening_of world ≡ opening_for nodes) × (seen world ≡ opening_world (opening_for nodes))
-Opened Opens (Err f) = Opens (Err f)
+-- the first line behind the `cluster` line may be a `lone` line, with these texts
+abbrev pub lone_texts : List (List ℕ) → List (List ℕ)
+lone_texts [] = []
+lone_texts (l ∷ ls) = unwrap_or (lone_line l) []
+
+-- the lines that are played
+abbrev pub played : List (List ℕ) → List (List ℕ)
+played [] = []
+played (l ∷ ls) = if is_some (lone_line l) then ls else l ∷ ls
+
+-- the lone nodes that the lines behind the `cluster` line name, or why they are refused beside this cluster
+abbrev pub LoneOpens : List ℕ → List (List ℕ) → Result (List ℕ) LineFault → Type 0
+LoneOpens cluster ls r = Names (λ lone. start_refused cluster lone) (lone_texts ls) r
+
+-- a world of a cluster, whose nodes are all joined with each other, and of lone nodes, each joined with no other
+abbrev pub opening_for : List ℕ → List ℕ → Opening
+opening_for cluster lone = opening_with (cluster ++ lone) cluster
+
+-- how the world opens of this cluster and the lone nodes that these lines name, or why there is none
+abbrev pub OpensBehind : Result (List ℕ) LineFault → List (List ℕ) → Result Opening LineFault → Type 0
+OpensBehind (Err f) ls r = r ≡ Err f
+OpensBehind (Ok cluster) ls r = (lone : Result (List ℕ) LineFault) × LoneOpens cluster ls lone
+    × (r ≡ made_of (opening_for cluster) lone)
+
+-- how the world opens of a `cluster` line and of what the lines behind it name, or why there is none
+abbrev pub Opens : List ℕ → List (List ℕ) → Result Opening LineFault → Type 0
+Opens l ls r = (cluster : Result (List ℕ) LineFault) × LineOpens l cluster × OpensBehind cluster ls r
 
 -- the headline holds behind the events of these lines, of which the world that is left is made
 abbrev pub LinesAgree : Opening → List (Result Line LineFault) → Type 0
 LinesAgree o asked = HeadlineAfter o (events_by_all o (opening_world o) asked) (behind_all o (opening_world o) asked)
 
--- the lines behind the first are played on a world of these nodes, behind which the headline holds; if there is none,
+-- the lines behind the headers are played on a world that opened so, behind which the headline holds; if there is none,
 -- nothing is
-abbrev pub Follows : Result (List ℕ) LineFault → List (List ℕ) → List Shown → Type 0
+abbrev pub Follows : Result Opening LineFault → List (List ℕ) → List Shown → Type 0
 Follows (Err f) ls out = out ≡ Refuses f ∷ []
-Follows (Ok nodes) ls out = (asked : List (Result Line LineFault)) × AllAsk ls asked
-    × (out ≡ shown_all (opening_for nodes) (opening_world (opening_for nodes)) asked) × LinesAgree (opening_for nodes) asked
+Follows (Ok o) ls out = (asked : List (Result Line LineFault)) × AllAsk ls asked
+    × (out ≡ shown_all o (opening_world o) asked) × LinesAgree o asked
 
 -- what is printed for lines of which none is empty: without a first line there is none that opens a world
 abbrev pub PrintsSpoken : List (List ℕ) → List Shown → Type 0
 PrintsSpoken [] out = out ≡ Refuses BadLine ∷ []
-PrintsSpoken (l ∷ ls) out = (opened : Result (List ℕ) LineFault) × LineOpens l opened × Follows opened ls out
+PrintsSpoken (l ∷ ls) out = (opened : Result Opening LineFault) × Opens l ls opened × Follows opened (played ls) out
 
 -- what is printed for lines
 abbrev pub Prints : List (List ℕ) → List Shown → Type 0
 Prints ls out = PrintsSpoken (spoken ls) out
+
+-- the last of these lines is the first header that is refused
+abbrev pub EndsRefused : List (List ℕ) → LineFault → Type 0
+EndsRefused (l ∷ []) f = LineOpens l (Err f)
+EndsRefused (l ∷ m ∷ []) f = (cluster : List ℕ) × LineOpens l (Ok cluster) × LoneOpens cluster (m ∷ []) (Err f)
+EndsRefused _ f = ⊥
 
 -- A script of this input was played to its end, and this is left of it
 pub record Ran (input rest : Option (List ℕ)) (old new : Option (List ℕ)) (fine : Bool) : Type 0 where
@@ -139,26 +172,25 @@ pub record Ran (input rest : Option (List ℕ)) (old new : Option (List ℕ)) (f
   pub out : List Shown
   pub read : HasLines input all
   pub prints : Prints all out
-  -- the lines that the input lost, which count for no more than there may be: all, or up to the one that opens no world
+  -- the lines that the input lost, which count for no more than there may be: all, or up to a header that is refused
   pub taken : List (List ℕ)
   pub untaken : List (List ℕ)
   pub parts : all ≡ taken ++ untaken
   pub lost : LosesLines input rest taken
   pub counted : count_of_all taken ≤ most_lines
-  pub ended : (untaken ≡ []) ⊎ ((line : List ℕ) × (f : LineFault) × (spoken taken ≡ line ∷ []) × LineOpens line (Err f))
+  pub ended : (untaken ≡ []) ⊎ ((f : LineFault) × EndsRefused (spoken taken) f)
   pub wrote : Appends old new (shown_text out)
   pub fine_is : fine ≡ list_all is_fine out
 
 -- what is printed for lines, where others are played behind them: nothing before the one that opens a world
 abbrev pub PrintsOn : List (List ℕ) → List Shown → Type 0
 PrintsOn [] out = out ≡ []
-PrintsOn (l ∷ ls) out = (nodes : List ℕ) × LineOpens l (Ok nodes) × Follows (Ok nodes) ls out
+PrintsOn (l ∷ ls) out = (o : Opening) × Opens l ls (Ok o) × Follows (Ok o) (played ls) out
 
--- why there is no world behind these lines, where this is left: no line is left to open one, or the first is refused
+-- why there is no world behind these lines, where this is left: no line is left to open one, or the last is refused
 abbrev pub OpensNone : List (List ℕ) → Option (List ℕ) → LineFault → Type 0
 OpensNone [] rest f = HasNoLine rest × (f ≡ BadLine)
-OpensNone (l ∷ []) rest f = LineOpens l (Err f)
-OpensNone _ rest f = ⊥
+OpensNone ls rest f = EndsRefused ls f
 
 -- all that is printed is that there is no world, and nothing of a further line was read
 abbrev pub PrintsNoWorld : List (List ℕ) → Option (List ℕ) → List ℕ → List Shown → Type 0

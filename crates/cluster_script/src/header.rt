@@ -1,13 +1,38 @@
-//! The first line of a script, which opens its world.
-ghost use Rattle.std.specs.Prelude.{◌≡◌, IfOk, map, List, ℕ, Ok};
-ghost use Rattle.command_lines.specs.Lines.{IsKept};
-ghost use Rattle.cluster_script.specs.Script.{made_of, ReadsTexts, OpensIn, LineOpens, Opened, cluster_texts, started};
+//! The first lines of a script, which open its world.
+ghost use Rattle.std.specs.Prelude.{◌≡◌, ◌≤◌, IfOk, MatchResult, map, option_map, List, ℕ, [], Ok};
+ghost use Rattle.std.specs.Io.KnownBytes.{Keeps};
+ghost use Rattle.std.specs.Io.Buffered.{reader_remaining};
+ghost use Rattle.command_lines.specs.Lines.{IsKept, most_lines};
+ghost use Rattle.command_lines.specs.Words.{words};
+ghost use Rattle.cluster_script.specs.Script.{made_of, texts_behind, lone_line, ReadsTexts};
+ghost use Rattle.cluster_script.specs.Headers.{ReadsHeader, Starts, StartsCluster, OpensCluster, OpensLone, ReadsLone, ReadsHeaders, StopsOpening};
+ghost use Rattle.cluster_script.specs.Played.{StopsReading};
 
+use crate::reading::next_line;
 use cluster_world::{StartFault, World};
-use command_lines::{Line, LineFault, text_of, words_of};
+use command_lines::{Line, LineFault, ScriptFault, Task, read_task, text_of, words_of};
 use name_table::ListTable;
 use std::alloc::{AllocError, Global};
+use std::io::{BufReader, Read, Write};
 use term::{NodeName, TextFault, parse_node};
+
+/// The nodes of a `cluster` line in its order, and a world of them alone.
+#[derive(Drop)]
+struct Cluster {
+    nodes: Vec<NodeName>,
+    world: World<ListTable<Global>>,
+}
+
+/// What the first lines of a script come to.
+#[derive(Drop)]
+pub(crate) enum Headers {
+    /// A world, and what the line behind the `cluster` line asks for, where it is no `lone` line.
+    Open(World<ListTable<Global>>, Option<Result<Task, LineFault>>),
+    /// There is no line behind the `cluster` line.
+    Ended,
+    /// One is missing or refused.
+    Refused(LineFault),
+}
 
 /// The nodes that the texts spell, or the fault of the first that spells none.
 fn read_nodes(alloc: Global, texts: &[&str]) -> Result<Result<Vec<NodeName>, TextFault>, AllocError>
@@ -23,51 +48,134 @@ fn read_nodes(alloc: Global, texts: &[&str]) -> Result<Result<Vec<NodeName>, Tex
     Ok(Ok(nodes))
 }
 
-/// A world of these nodes, which are all joined with each other, or why there is none.
+/// The nodes that a line names behind this word, or none where the line begins with another.
+fn read_header(
+    alloc: Global,
+    word: &str,
+    line: &str,
+) -> Result<Option<Result<Vec<NodeName>, TextFault>>, AllocError>
+    ensures { IfOk result (λ named. ReadsHeader (texts_behind word.now (words line.now))
+        (option_map (made_of (λ nodes. nodes.items)) named)) }
+{
+    let words = words_of(alloc, line)?;
+    match words.split_first() {
+        Some((first, texts)) if *first == word => Ok(Some(read_nodes(alloc, texts)?)),
+        _ => Ok(None),
+    }
+}
+
+/// A world of this cluster, whose nodes are all joined with each other, and of lone nodes, or why there is none.
 fn start(
     alloc: Global,
-    nodes: &[NodeName],
+    cluster: &[NodeName],
+    lone: &[NodeName],
 ) -> Result<Result<World<ListTable<Global>>, LineFault>, AllocError>
-    ensures { IfOk result (Opened (λ opened. opened ≡ started (Ok nodes.now))) }
+    ensures { IfOk result (Starts cluster.now lone.now) }
 {
-    match World::start(alloc, nodes, &[]) {
+    match World::start(alloc, cluster, lone) {
         Ok(world) => Ok(Ok(world)),
         Err(StartFault::Memory) => Err(AllocError),
         Err(fault) => Ok(Err(LineFault::Start(fault))),
     }
 }
 
-/// The world that the words of a line open.
-fn open_words(
-    alloc: Global,
-    words: &[&str],
-) -> Result<Result<World<ListTable<Global>>, LineFault>, AllocError>
-    ensures { IfOk result (Opened (OpensIn (cluster_texts (map (λ word. word.now) words.now)))) }
+/// The cluster of these nodes, or why no world has them.
+fn cluster_of(alloc: Global, nodes: Vec<NodeName>) -> Result<Result<Cluster, LineFault>, AllocError>
+    ensures { IfOk result (StartsCluster nodes.items) }
 {
-    let Some((word, texts)) = words.split_first() else {
-        return Ok(Err(LineFault::BadLine));
+    Ok(match start(alloc, &nodes, &[])? {
+        Ok(world) => Ok(Cluster { nodes, world }),
+        Err(fault) => Err(fault),
+    })
+}
+
+/// The cluster that a `cluster` line opens, or why it opens none.
+fn open_cluster(alloc: Global, line: &Line) -> Result<Result<Cluster, LineFault>, AllocError>
+    ensures { IfOk result (λ cluster. (bytes : List ℕ) → IsKept bytes line.now → OpensCluster bytes cluster) }
+{
+    let text = match text_of(line) {
+        Ok(text) => text,
+        Err(fault) => return Ok(Err(fault)),
     };
-    if *word != "cluster" {
-        return Ok(Err(LineFault::BadLine));
-    }
-    match read_nodes(alloc, texts)? {
-        Ok(nodes) => start(alloc, &nodes),
-        Err(fault) => Ok(Err(LineFault::Text(fault))),
+    match read_header(alloc, "cluster", text)? {
+        Some(Ok(nodes)) => cluster_of(alloc, nodes),
+        Some(Err(fault)) => Ok(Err(LineFault::Text(fault))),
+        None => Ok(Err(LineFault::BadLine)),
     }
 }
 
-/// The world that a line opens, or why it opens none.
-pub(crate) fn open_world(
+/// The lone nodes that a `lone` line names. Any other line names none, also one that can't be read.
+fn read_lone(
     alloc: Global,
     line: &Line,
-) -> Result<Result<World<ListTable<Global>>, LineFault>, AllocError>
-    ensures { IfOk result (λ world. (bytes : List ℕ) → IsKept bytes line.now → Opened (LineOpens bytes) world) }
+) -> Result<Option<Result<Vec<NodeName>, TextFault>>, AllocError>
+    ensures { IfOk result (λ named. (bytes : List ℕ) → IsKept bytes line.now → ReadsHeader (lone_line bytes)
+        (option_map (made_of (λ nodes. nodes.items)) named)) }
 {
     match text_of(line) {
-        Ok(text) => {
-            let words = words_of(alloc, text)?;
-            open_words(alloc, &words)
-        }
-        Err(fault) => Ok(Err(fault)),
+        Ok(text) => read_header(alloc, "lone", text),
+        Err(_) => Ok(None),
+    }
+}
+
+/// What the line behind the `cluster` line makes of its cluster.
+fn open_lone(alloc: Global, cluster: Cluster, line: &Line) -> Result<Headers, AllocError>
+    requires { Starts cluster.nodes.items [] (Ok cluster.world) }
+    ensures { IfOk result (λ headers. (bytes : List ℕ) → IsKept bytes line.now → OpensLone cluster.nodes.items bytes headers) }
+{
+    let Cluster { nodes, world } = cluster;
+    match read_lone(alloc, line)? {
+        Some(Ok(lone)) => match start(alloc, &nodes, &lone)? {
+            Ok(world) => Ok(Headers::Open(world, None)),
+            Err(fault) => Ok(Headers::Refused(fault)),
+        },
+        Some(Err(fault)) => Ok(Headers::Refused(LineFault::Text(fault))),
+        None => Ok(Headers::Open(world, Some(read_task(alloc, line)?))),
+    }
+}
+
+/// Reads the line behind the `cluster` line, and opens the world that is played on.
+fn read_behind<R: Read, W: Write>(
+    alloc: Global,
+    reader: &mut BufReader<R, Global>,
+    writer: &mut W,
+    cluster: Cluster,
+    left: &mut u32,
+) -> Result<Headers, ScriptFault>
+    requires most { left.old ≤ most_lines }
+    requires opening { Starts cluster.nodes.items [] (Ok cluster.world) }
+    ensures read { MatchResult result
+        (ReadsLone cluster.nodes.items (reader_remaining R.remaining reader.old) (reader_remaining R.remaining reader.new)
+        left.old left.new)
+        (StopsReading (reader_remaining R.remaining reader.old) (reader_remaining R.remaining reader.new) left.old) }
+    ensures kept { Keeps (W.contents writer.old) (W.contents writer.new) }
+{
+    match next_line(alloc, reader, writer, left)? {
+        Some(line) => Ok(open_lone(alloc, cluster, &line)?),
+        None => Ok(Headers::Ended),
+    }
+}
+
+/// Reads the first lines of a script: the `cluster` line, and if it isn't refused the line behind it, which may be a
+/// `lone` line. Nothing is written.
+pub(crate) fn read_headers<R: Read, W: Write>(
+    alloc: Global,
+    reader: &mut BufReader<R, Global>,
+    writer: &mut W,
+    left: &mut u32,
+) -> Result<Headers, ScriptFault>
+    requires { left.old ≤ most_lines }
+    ensures read { MatchResult result
+        (ReadsHeaders (reader_remaining R.remaining reader.old) (reader_remaining R.remaining reader.new)
+        left.old left.new)
+        (StopsOpening (reader_remaining R.remaining reader.old) (reader_remaining R.remaining reader.new) left.old) }
+    ensures kept { Keeps (W.contents writer.old) (W.contents writer.new) }
+{
+    let Some(line) = next_line(alloc, reader, writer, left)? else {
+        return Ok(Headers::Refused(LineFault::BadLine));
+    };
+    match open_cluster(alloc, &line)? {
+        Ok(cluster) => read_behind(alloc, reader, writer, cluster, left),
+        Err(fault) => Ok(Headers::Refused(fault)),
     }
 }

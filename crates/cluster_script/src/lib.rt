@@ -4,6 +4,7 @@
 mod header;
 mod laws;
 mod looking;
+mod reading;
 mod script;
 
 pub use command_lines::ScriptFault;

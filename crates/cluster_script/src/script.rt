@@ -11,14 +11,16 @@ ghost use Rattle.command_lines.specs.Lines.{most_lines};
 ghost use Rattle.command_lines.specs.Printing as print;
 ghost use Rattle.command_lines.specs.Writing.{Writes};
 ghost use Rattle.cluster_script.specs.Script.{Ran, Stopped};
-ghost use Rattle.cluster_script.specs.Played.{PlaysOrStops, PlaysAll, ReadsOn, StopsReading, Delivers, settle_end};
+ghost use Rattle.cluster_script.specs.Played.{PlaysOrStops, PlaysAll, Delivers, WritesOkay, settle_end};
+ghost use Rattle.cluster_script.specs.Headers.{asked_first};
 
-use crate::header::open_world;
+use crate::header::{Headers, read_headers};
 use crate::looking::{show_members, show_table};
-use cluster_world::{Answer, World, WorldEvent};
+use crate::reading::next_line;
+use cluster_world::{Answer, Event, World, WorldEvent};
 use command_lines::{
-    Line, LineFault, ScriptFault, Task, WriteFault, answer_line, is_blank, read_line, read_task,
-    refusal_word, write_error, write_text,
+    LineFault, ScriptFault, Task, WriteFault, answer_line, read_task, refusal_word, write_error,
+    write_text,
 };
 use name_table::ListTable;
 use std::alloc::Global;
@@ -46,6 +48,16 @@ fn write_answers<W: Write>(
     Ok(())
 }
 
+/// Writes what an accepted event prints before its answers: `ok` for an exit.
+fn write_accepted<W: Write>(writer: &mut W, event: &WorldEvent) -> Result<(), WriteFault>
+    ensures { WritesOkay (W.contents writer.old) (W.contents writer.new) result event.now }
+{
+    match event {
+        WorldEvent::At(_, Event::Exit(_)) => write_text(writer, b"ok\n"),
+        _ => Ok(()),
+    }
+}
+
 /// Plays an event, and writes its answers, or why it is refused: whether it isn't.
 fn play_event<W: Write>(
     alloc: Global,
@@ -57,6 +69,7 @@ fn play_event<W: Write>(
 {
     match world.play(event) {
         Ok(answers) => {
+            write_accepted(writer, event)?;
             write_answers(alloc, writer, &answers)?;
             Ok(true)
         }
@@ -137,30 +150,6 @@ fn play_task<W: Write>(
     }
 }
 
-/// Reads on to the next line that isn't empty. `left` says how many more lines may come. What was written is handed on
-/// before the reader waits.
-fn next_line<R: Read, W: Write>(
-    alloc: Global,
-    reader: &mut BufReader<R, Global>,
-    writer: &mut W,
-    left: &mut u32,
-) -> Result<Option<Line>, ScriptFault>
-    requires { left.old ≤ most_lines }
-    ensures read { MatchResult result
-        (ReadsOn (reader_remaining R.remaining reader.old) (reader_remaining R.remaining reader.new) left.old left.new)
-        (StopsReading (reader_remaining R.remaining reader.old) (reader_remaining R.remaining reader.new) left.old) }
-    ensures kept { Keeps (W.contents writer.old) (W.contents writer.new) }
-{
-    loop {
-        let Some(line) = read_line(alloc, reader, writer, left)? else {
-            return Ok(None);
-        };
-        if !is_blank(&line) {
-            return Ok(Some(line));
-        }
-    }
-}
-
 /// Whether both hold.
 fn both(left: bool, right: bool) -> bool
     ensures { result ≡ (left && right) }
@@ -177,7 +166,7 @@ fn play_lines<R: Read, W: Write>(
     left: &mut u32,
 ) -> Result<bool, ScriptFault>
     requires { left.old ≤ most_lines }
-    ensures { PlaysAll (reader_remaining R.remaining reader.old) (reader_remaining R.remaining reader.new)
+    ensures { PlaysAll [] (reader_remaining R.remaining reader.old) (reader_remaining R.remaining reader.new)
         left.old left.new world.old world.new (W.contents writer.old) (W.contents writer.new) result }
 {
     let mut is_fine = true;
@@ -189,11 +178,33 @@ fn play_lines<R: Read, W: Write>(
     Ok(is_fine)
 }
 
+/// Plays what was read already, and then lines to the end of the input: whether no refusal was printed.
+fn play_all<R: Read, W: Write>(
+    alloc: Global,
+    reader: &mut BufReader<R, Global>,
+    writer: &mut W,
+    world: &mut World<ListTable<Global>>,
+    first: Option<Result<Task, LineFault>>,
+    left: &mut u32,
+) -> Result<bool, ScriptFault>
+    requires { left.old ≤ most_lines }
+    ensures { PlaysAll (asked_first first) (reader_remaining R.remaining reader.old) (reader_remaining R.remaining reader.new)
+        left.old left.new world.old world.new (W.contents writer.old) (W.contents writer.new) result }
+{
+    let Some(task) = first else {
+        return play_lines(alloc, reader, writer, world, left);
+    };
+    let is_fine = play_task(alloc, writer, world, task)?;
+    let others = play_lines(alloc, reader, writer, world, left)?;
+    Ok(both(is_fine, others))
+}
+
 /// Plays a script, and writes what it prints: whether no refusal is printed.
 ///
-/// Its first line that isn't empty names the nodes of the cluster; each other line asks for an event, or for deliveries until no
-/// letter waits. A line that is refused prints the word for it and changes nothing; where there is no world, the script
-/// ends, and no further byte is read. What was written is handed on before the reader waits for more.
+/// Its first line that isn't empty names the nodes of the cluster, and the next one may name lone nodes; each other line asks
+/// for an event, or for deliveries until no letter waits. A line that is refused prints the word for it and changes nothing;
+/// where there is no world, the script ends, and no further byte is read. What was written is handed on before the reader
+/// waits for more.
 ///
 /// `TooManyLines` is answered only where a line takes the count past 1,000,000; that line isn't played, and all is written that
 /// those before it print, as after `Read`. The contract can't say when a reader, a writer or an allocator fails, since
@@ -211,13 +222,12 @@ pub fn run_script<R: Read, W: Write>(
         (W.contents writer.old) (W.contents writer.new)) }
 {
     let mut left = MOST_LINES;
-    let Some(line) = next_line(alloc, reader, writer, &mut left)? else {
-        write_error(alloc, writer, "bad_line")?;
-        return Ok(false);
-    };
-    match open_world(alloc, &line)? {
-        Ok(mut world) => play_lines(alloc, reader, writer, &mut world, &mut left),
-        Err(fault) => {
+    match read_headers(alloc, reader, writer, &mut left)? {
+        Headers::Open(mut world, first) => {
+            play_all(alloc, reader, writer, &mut world, first, &mut left)
+        }
+        Headers::Ended => Ok(true),
+        Headers::Refused(fault) => {
             write_error(alloc, writer, fault.word())?;
             Ok(false)
         }

@@ -1,4 +1,5 @@
 //! Worked rows, and lines at their limits.
+mod names;
 mod streams;
 
 use crate::run_script;
@@ -62,7 +63,7 @@ fn plays_rows(rt: HostRuntime) -> Result<(), Fail> {
         prints(
             rt.alloc(),
             b"cluster a\nlone b\nspawn a.1\nspawn b\nregister a x a\n",
-            b"error bad_line\nerror bad_byte\nerror no_such_node\nerror bad_serial\n",
+            b"error bad_byte\nb.1\nerror bad_serial\n",
             false
         )?
     );
@@ -99,6 +100,47 @@ settle\nretry b\nsettle\nregister a z a.2\nsettle\ntable b\n",
             true
         )?
     );
+    assert!(rt;
+        prints(
+            rt.alloc(),
+            b"cluster a\nlone d\nspawn d\nregister a x d.1\nregister d x d.1\nsettle\nwhereis a x\nwhereis d x\nmembers a\nmembers d\n",
+            b"d.1\na#1 unknown_node\nd#1 yes\nsettled\nundefined\nd.1\nmembers a\nmembers d\n",
+            true
+        )?
+    );
+    assert!(rt;
+        prints(
+            rt.alloc(),
+            b"cluster a\n\n \nlone\nmembers a\nlone b\n",
+            b"members a\nerror bad_line\n",
+            false
+        )?
+    );
+    assert!(rt;
+        prints(
+            rt.alloc(),
+            b"cluster a\nlone c b\nlone d\ntable c\ntable d\n",
+            b"error bad_line\ntable\nerror no_such_node\n",
+            false
+        )?
+    );
+    assert!(rt;
+        prints(
+            rt.alloc(),
+            b"cluster a\nspawn a\nlone b\nspawn b\n",
+            b"a.1\nerror bad_line\nerror no_such_node\n",
+            false
+        )?
+    );
+    assert!(rt;
+        prints(
+            rt.alloc(),
+            b"cluster a\nbogus\nlone b\nspawn b\n",
+            b"error bad_line\nerror bad_line\nerror no_such_node\n",
+            false
+        )?
+    );
+    assert!(rt; prints(rt.alloc(), b"cluster a", b"", true)?);
     Ok(())
 }
 
@@ -173,6 +215,62 @@ fn refuses_clusters(rt: HostRuntime) -> Result<(), Fail> {
             false
         )?
     );
+    assert!(rt;
+        prints(
+            rt.alloc(),
+            b"cluster a\nlone a b!\nspawn a\n",
+            b"error bad_byte\n",
+            false
+        )?
+    );
+    assert!(rt;
+        prints(
+            rt.alloc(),
+            b"cluster a b\nlone c b\nspawn a\n",
+            b"error same_node\n",
+            false
+        )?
+    );
+    assert!(rt;
+        prints(
+            rt.alloc(),
+            b"cluster a\nlone b b\nspawn a\n",
+            b"error same_node\n",
+            false
+        )?
+    );
+    assert!(rt;
+        prints(
+            rt.alloc(),
+            b"cluster a b c d e\nlone f g h i\nspawn a\n",
+            b"error too_many_nodes\n",
+            false
+        )?
+    );
+    assert!(rt;
+        prints(
+            rt.alloc(),
+            b"cluster a b c d e\nlone f g h\nmembers h\n",
+            b"members h\n",
+            true
+        )?
+    );
+    assert!(rt;
+        prints(
+            rt.alloc(),
+            b"cluster a a\nlone b!\n",
+            b"error same_node\n",
+            false
+        )?
+    );
+    assert!(rt;
+        prints(
+            rt.alloc(),
+            b"lone a\ncluster b\n",
+            b"error bad_line\n",
+            false
+        )?
+    );
     Ok(())
 }
 
@@ -230,6 +328,14 @@ fn reads_lines(rt: HostRuntime) -> Result<(), Fail> {
             false
         )?
     );
+    assert!(rt;
+        prints(
+            rt.alloc(),
+            b"cluster a\nlone b\xc8\nlone b\nspawn b\n",
+            b"error not_ascii\nerror bad_line\nerror no_such_node\n",
+            false
+        )?
+    );
     // 1,024 spaces are an empty line, and one more are too many.
     let mut script = Vec::new(rt.alloc());
     script.extend_from_slice(b"cluster a\n")?;
@@ -246,6 +352,21 @@ fn reads_lines(rt: HostRuntime) -> Result<(), Fail> {
             rt.alloc(),
             script.as_slice(),
             b"error line_too_long\na.1\n",
+            false
+        )?
+    );
+    // A line that is too long is no `lone` line, and stands in its place.
+    let mut script = Vec::new(rt.alloc());
+    script.extend_from_slice(b"cluster a\nlone ")?;
+    for _ in 0..1020 {
+        script.push(b'b')?;
+    }
+    script.extend_from_slice(b"\nlone b\nspawn a\n")?;
+    assert!(rt;
+        prints(
+            rt.alloc(),
+            script.as_slice(),
+            b"error line_too_long\nerror bad_line\na.1\n",
             false
         )?
     );

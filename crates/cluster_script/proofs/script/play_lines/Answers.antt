@@ -41,8 +41,8 @@ returns-in_err-fine g c =
     let p = err_from_is_err_and c.from_residual-in_err-fine.result c.from_residual-in_err-fine.ensures.1 in
     let t = subst (λ (o : Option Line). ReadsOn mid rest c.loop-line.left c.next_line.new.left o)
     c.in-Some.is c.in_ok-line.ensures.read in
-    PlaysAll-err _ _ _ _ _ _ _ _ c.from_residual-in_err-fine.result p.0 p.1
-    (StopsPlaying-writing _ rest _ _ _ _ c.in_err-fine.field-0.0 p.0 p.2
+    PlaysAll-err [] _ _ _ _ _ _ _ _ c.from_residual-in_err-fine.result p.0 p.1
+    (StopsPlaying-writing [] _ rest _ _ _ _ c.in_err-fine.field-0.0 p.0 p.2
     (PlaysSome-next input mid c.args.left.now c.loop-line.left c.args.world.now c.loop-line.world
     old same c.loop-line.is_fine P
     rest t.0 t.1 (asked_by c.in_ok-task.task) t.3 t.4 (c.in_ok-task.ensures t.1 t.2)
@@ -82,7 +82,7 @@ loop-line-preserved-in_ok-fine g c =
     old same c.loop-line.is_fine P
     rest t.0 t.1 (asked_by c.in_ok-task.task) t.3 t.4 (c.in_ok-task.ensures t.1 t.2)
     c.next_line.new.left c.play_task.new.world new c.in_ok-fine.fine t.5 c.in_ok-fine.ensures in
-    subst (λ (b : Bool). PlaysLines input rest c.args.left.now c.next_line.new.left c.args.world.now
+    subst (λ (b : Bool). PlaysLines [] input rest c.args.left.now c.next_line.new.left c.args.world.now
     c.play_task.new.world old new b) (sym c.both-is_fine.ensures) n
 
 pub loop-line-preserved : goal.loop-line-preserved
@@ -103,7 +103,7 @@ loop-line-preserved g c =
     old same c.loop-line.is_fine P
     rest t.0 t.1 (asked_by c.in_ok-task.task) t.3 t.4 (c.in_ok-task.ensures t.1 t.2)
     c.next_line.new.left c.play_task.new.world new c.in_ok-fine.fine t.5 c.in_ok-fine.ensures in
-    subst (λ (b : Bool). PlaysLines input rest c.args.left.now c.next_line.new.left c.args.world.now
+    subst (λ (b : Bool). PlaysLines [] input rest c.args.left.now c.next_line.new.left c.args.world.now
     c.play_task.new.world old new b) (sym c.both-is_fine.ensures) n
 
 pub returns : goal.returns
@@ -140,8 +140,8 @@ returns-in_err-line g c =
     let s = StopsPlaying-reading input mid c.args.left.now c.loop-line.left c.args.world.now
     c.loop-line.world old same c.loop-line.is_fine P
     rest c.in_err-line.field-0.0 c.in_err-line.ensures.read in
-    PlaysAll-err _ _ _ _ _ _ _ _ c.from_residual.result p.0 p.1
-    (subst (λ (f : ScriptFault). StopsPlaying input rest c.args.left.now c.args.world.now old
+    PlaysAll-err [] _ _ _ _ _ _ _ _ c.from_residual.result p.0 p.1
+    (subst (λ (f : ScriptFault). StopsPlaying [] input rest c.args.left.now c.args.world.now old
     same f) (sym p.2) s)
 
 pub returns-in_err-task : goal.returns-in_err-task
@@ -158,8 +158,8 @@ returns-in_err-task g c =
     let P = PlaysLines-kept input mid c.args.left.now c.loop-line.left
     c.args.world.now c.loop-line.world old written same c.loop-line.is_fine
     c.loop-line.invariant c.in_ok-line.ensures.kept in
-    PlaysAll-err _ _ _ _ _ _ _ _ c.from_residual-in_err-task.result p.0 p.1
-    (subst (λ (f : ScriptFault). StopsPlaying input rest c.args.left.now
+    PlaysAll-err [] _ _ _ _ _ _ _ _ c.from_residual-in_err-task.result p.0 p.1
+    (subst (λ (f : ScriptFault). StopsPlaying [] input rest c.args.left.now
     c.args.world.now old same f) (sym p.2)
     (StopsPlaying-next input mid c.args.left.now c.loop-line.left
     c.args.world.now c.loop-line.world old same c.loop-line.is_fine P

@@ -8,7 +8,7 @@ use Rattle.cluster_script.specs.Played.{StopsReading}
 use Rattle.command_lines.proofs.Known.{LosesLines-trans, spoken-append, spoken-blank, spoken-said, count_of_all-append, MatchResult-err}
 use Rattle.cluster_script.proofs.Known.{LosesNext-behind, StopsReading-behind}
 use Rattle.std.specs.Io.Buffered.{reader_remaining}
-use Rattle.cluster_script.proofs.script.next_line.Goals as goal
+use Rattle.cluster_script.proofs.reading.next_line.Goals as goal
 
 -- a line counts for at least one
 less : (most left : ℕ) (line : List ℕ) → most ≡ left + count_of line → left < most

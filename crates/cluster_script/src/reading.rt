@@ -1,0 +1,34 @@
+//! Reading on past empty lines.
+ghost use Rattle.std.specs.Prelude.{◌≤◌, MatchResult};
+ghost use Rattle.std.specs.Io.KnownBytes.{Keeps};
+ghost use Rattle.std.specs.Io.Buffered.{reader_remaining};
+ghost use Rattle.command_lines.specs.Lines.{most_lines};
+ghost use Rattle.cluster_script.specs.Played.{ReadsOn, StopsReading};
+
+use command_lines::{Line, ScriptFault, is_blank, read_line};
+use std::alloc::Global;
+use std::io::{BufReader, Read, Write};
+
+/// Reads on to the next line that isn't empty. `left` says how many more lines may come. What was written is handed on
+/// before the reader waits.
+pub(crate) fn next_line<R: Read, W: Write>(
+    alloc: Global,
+    reader: &mut BufReader<R, Global>,
+    writer: &mut W,
+    left: &mut u32,
+) -> Result<Option<Line>, ScriptFault>
+    requires { left.old ≤ most_lines }
+    ensures read { MatchResult result
+        (ReadsOn (reader_remaining R.remaining reader.old) (reader_remaining R.remaining reader.new) left.old left.new)
+        (StopsReading (reader_remaining R.remaining reader.old) (reader_remaining R.remaining reader.new) left.old) }
+    ensures kept { Keeps (W.contents writer.old) (W.contents writer.new) }
+{
+    loop {
+        let Some(line) = read_line(alloc, reader, writer, left)? else {
+            return Ok(None);
+        };
+        if !is_blank(&line) {
+            return Ok(Some(line));
+        }
+    }
+}
