@@ -142,8 +142,8 @@ OpensLone-none cluster line world old task e h s q = (
 )
 
 -- the line behind the `cluster` line was read
-pub ReadsLone-by : (cluster : List ℕ) (input rest : Option (List ℕ)) (most left : ℕ) (ls : List (List ℕ)) (line : List ℕ)
-    → LosesLines input rest ls → most ≡ left + count_of_all ls → spoken ls ≡ line ∷ []
+pub ReadsLone-by : (cluster : List ℕ) (input rest : Option (List ℕ)) (most left : ℕ) (ls : List (List ℕ))
+    (line : List ℕ) → LosesLines input rest ls → most ≡ left + count_of_all ls → spoken ls ≡ line ∷ []
     → (h : Headers) → OpensLone cluster line h → ReadsLone cluster input rest most left h
 ReadsLone-by cluster input rest most left ls line l e s (Open world first) o = (ls, line, l, e, s, o)
 ReadsLone-by cluster input rest most left ls line l e s Ended o = absurd o
@@ -193,7 +193,10 @@ module _ (input mid rest : Option (List ℕ)) (most mid_left : ℕ) (front : Lis
     front ++ g.0,
     LosesLines-trans input mid rest front g.0 l g.1,
     omega (arith, e, g.2, count_of_all-append front g.0),
-    (g.4, subst (λ (xs : List (List ℕ)). PrintsSpoken xs []) (sym (both g.0 [] g.3)) (Ok nothing.0, nothing.1, nothing.2)),
+    (
+      g.4,
+      subst (λ (xs : List (List ℕ)). PrintsSpoken xs []) (sym (both g.0 [] g.3)) (Ok nothing.0, nothing.1, nothing.2),
+    ),
   )
   ReadsHeaders-by left (Refused f) g = (
     front ++ g.0,

@@ -1,4 +1,4 @@
-//! Worked examples of worlds.
+//! Worked examples of worlds. Each test is a script: a line has an event, or a question about the world, and what comes of it.
 use crate::{Answer, Call, Event, Refusal, Reply, StartFault, World, WorldEvent};
 use name_table::{ListTable, Names};
 use std::alloc::Global;
@@ -8,355 +8,430 @@ use term::{NodeName, parse_name, parse_node, parse_pid};
 
 type Cluster = World<ListTable<Global>>;
 
-/// The nodes of a text, parted by single spaces.
+/// More deliveries than any of these scripts has.
+const ENOUGH: u32 = 1000;
+
+/// The nodes of a text, parted by single spaces, where `-` names none.
 fn nodes(alloc: Global, text: &str) -> Result<Vec<NodeName>, Fail> {
     let mut nodes = Vec::new(alloc);
+    if text == "-" {
+        return Ok(nodes);
+    }
     for word in text.split(' ') {
         nodes.push(parse_node(word)?)?;
     }
     Ok(nodes)
 }
 
-/// A world of these nodes, all of which are joined.
-fn start(alloc: Global, text: &str) -> Result<Cluster, Fail> {
-    Ok(World::start(alloc, nodes(alloc, text)?.as_slice(), &[])?)
+/// The call that registers a name for a process.
+fn register(name_and_owner: &str) -> Result<Call, Fail> {
+    let Some((name, owner)) = name_and_owner.split_once(' ') else {
+        return Err(Fail::from("no owner"));
+    };
+    Ok(Call::Register(parse_name(name)?, parse_pid(owner)?))
 }
 
-/// What happens at a node: `spawn`, `whereis NAME`, `register NAME PID`, `retry`, or `exit PID`.
-fn own_event(words: &[&str]) -> Result<Option<Event>, Fail> {
-    Ok(match words {
-        ["spawn"] => Some(Event::Call(Call::Spawn)),
-        ["whereis", name] => Some(Event::Call(Call::Whereis(parse_name(name)?))),
-        ["register", name, owner] => {
-            let call = Call::Register(parse_name(name)?, parse_pid(owner)?);
-            Some(Event::Call(call))
-        }
-        ["retry"] => Some(Event::Retry),
-        ["exit", process] => Some(Event::Exit(parse_pid(process)?)),
-        _ => None,
+/// An event of one word.
+fn plain_event(word: &str) -> Result<Event, Fail> {
+    Ok(match word {
+        "spawn" => Event::Call(Call::Spawn),
+        "retry" => Event::Retry,
+        _ => return Err(Fail::from("no event")),
+    })
+}
+
+/// What happens at a node: `spawn`, `whereis NAME`, `register NAME PID`, `exit PID`, or `retry`.
+fn own_event(text: &str) -> Result<Event, Fail> {
+    let Some((kind, rest)) = text.split_once(' ') else {
+        return plain_event(text);
+    };
+    Ok(match kind {
+        "whereis" => Event::Call(Call::Whereis(parse_name(rest)?)),
+        "register" => Event::Call(register(rest)?),
+        "exit" => Event::Exit(parse_pid(rest)?),
+        _ => return Err(Fail::from("no event")),
     })
 }
 
 /// An event: a node and what happens there, or `SENDER to RECEIVER`.
-fn event(alloc: Global, text: &str) -> Result<WorldEvent, Fail> {
-    let mut words = Vec::new(alloc);
-    for word in text.split(' ') {
-        words.push(word)?;
-    }
-    match words.as_slice() {
-        [sender, "to", receiver] => Ok(WorldEvent::Deliver(
-            parse_node(sender)?,
-            parse_node(receiver)?,
-        )),
-        [node, words @ ..] => {
-            let own = own_event(words)?.ok_or("no event")?;
-            Ok(WorldEvent::At(parse_node(node)?, own))
-        }
-        [] => Err("no event")?,
+fn event(text: &str) -> Result<WorldEvent, Fail> {
+    let Some((node, what)) = text.split_once(' ') else {
+        return Err(Fail::from("no event"));
+    };
+    let node = parse_node(node)?;
+    Ok(match what.split_once(' ') {
+        Some(("to", receiver)) => WorldEvent::Deliver(node, parse_node(receiver)?),
+        _ => WorldEvent::At(node, own_event(what)?),
+    })
+}
+
+/// A reply that is a word.
+fn plain_reply(reply: &Reply) -> &'static str {
+    match reply {
+        Reply::Yes => "yes",
+        Reply::No => "no",
+        Reply::Ok => "ok",
+        Reply::UnknownNode => "unknown_node",
+        Reply::Undefined => "undefined",
+        Reply::Pid(_) => "a process",
+        Reply::Names(_) => "names",
     }
 }
 
-/// The answers, each as its node, the number of its call and its reply.
-fn shown(alloc: Global, answers: &[Answer]) -> Result<String, Fail> {
-    let mut text = String::new(alloc);
+/// Answers, each as its node, the number of its call and its reply.
+fn show_answers(text: &mut String, answers: &[Answer]) -> Result<(), Fail> {
     for answer in answers {
-        let (node, call) = (&answer.node, answer.call);
+        write!(text, " {}#{}", answer.node, answer.call)?;
         match &answer.reply {
-            Reply::Yes => write!(text, "{node}#{call} yes;")?,
-            Reply::No => write!(text, "{node}#{call} no;")?,
-            Reply::Ok => write!(text, "{node}#{call} ok;")?,
-            Reply::UnknownNode => write!(text, "{node}#{call} unknown_node;")?,
-            Reply::Undefined => write!(text, "{node}#{call} undefined;")?,
-            Reply::Pid(process) => write!(text, "{node}#{call} {process};")?,
-            Reply::Names(names) => {
-                write!(text, "{node}#{call} {} names;", names.as_slice().len())?
-            }
+            Reply::Pid(process) => write!(text, " {process};")?,
+            reply => write!(text, " {};", plain_reply(reply))?,
         }
+    }
+    Ok(())
+}
+
+/// What comes of an event: its answers, or why it is refused.
+fn play(text: &mut String, world: &mut Cluster, event: &WorldEvent) -> Result<(), Fail> {
+    match world.play(event) {
+        Ok(answers) => show_answers(text, answers.as_slice())?,
+        Err(refusal) => write!(text, " {refusal};")?,
+    }
+    Ok(())
+}
+
+/// Delivers what waits until nothing does, and shows what is answered on the way.
+fn settle(text: &mut String, world: &mut Cluster) -> Result<(), Fail> {
+    for _ in 0..ENOUGH {
+        let Some((sender, receiver)) = world.waiting() else {
+            break;
+        };
+        play(text, world, &WorldEvent::Deliver(sender, receiver))?;
+    }
+    Ok(())
+}
+
+/// What comes of a list of events: how many were played, their answers, and the refusal that it ended with.
+fn run(text: &mut String, world: &mut Cluster, events: &str) -> Result<(), Fail> {
+    let mut list = Vec::new(*text.allocator());
+    for word in events.split(", ") {
+        list.push(event(word)?)?;
+    }
+    let end = world.run(list.as_slice());
+    write!(text, " {} played;", end.played)?;
+    show_answers(text, end.answers.as_slice())?;
+    if let Some(refusal) = &end.refusal {
+        write!(text, " {refusal};")?;
+    }
+    Ok(())
+}
+
+/// How many members and names a node has.
+fn show_node(text: &mut String, world: &Cluster, node: &str) -> Result<(), Fail> {
+    let node = parse_node(node)?;
+    if let Some(members) = world.members(&node) {
+        write!(text, " {} members;", members.len())?;
+    }
+    if let Some(table) = world.table(&node) {
+        let names = table.pairs(*text.allocator())?.len();
+        write!(text, " {names} names;")?;
+    }
+    Ok(())
+}
+
+/// Which node holds the lock, how many nodes there are, and how long the history is.
+fn show_world(text: &mut String, world: &Cluster) -> Result<(), Fail> {
+    if let Some(node) = world.holder() {
+        write!(text, " {node} holds;")?;
+    }
+    let (nodes, entries) = (world.nodes().len(), world.history().len());
+    write!(text, " {nodes} nodes; {entries} entries;")?;
+    Ok(())
+}
+
+/// What comes of `settle`, of `run` and a list of events, or of one event; what `world` is like, or `node` and a node.
+fn play_words(text: &mut String, world: &mut Cluster, words: &str) -> Result<(), Fail> {
+    match words.split_once(' ') {
+        Some(("run", events)) => run(text, world, events),
+        Some(("node", node)) => show_node(text, world, node),
+        Some(_) => play(text, world, &event(words)?),
+        None if words == "settle" => settle(text, world),
+        None => show_world(text, world),
+    }
+}
+
+/// What comes of a line, up to its colon.
+fn play_line(text: &mut String, world: &mut Cluster, line: &str) -> Result<(), Fail> {
+    let Some((words, _)) = line.split_once(':') else {
+        return Err(Fail::from("no line of a script"));
+    };
+    write!(text, "{words}:")?;
+    play_words(text, world, words)?;
+    text.push('\n')?;
+    Ok(())
+}
+
+/// What a world makes of the lines of a script.
+fn play_lines(alloc: Global, world: &mut Cluster, script: &str) -> Result<String, Fail> {
+    let mut text = String::new(alloc);
+    for line in script.lines() {
+        play_line(&mut text, world, line)?;
     }
     Ok(text)
 }
 
-/// What comes of an event: its answers, or why it is refused.
-fn play(alloc: Global, world: &mut Cluster, text: &str) -> Result<String, Fail> {
-    match world.play(&event(alloc, text)?) {
-        Ok(answers) => shown(alloc, answers.as_slice()),
-        Err(refusal) => Ok(format!(in alloc; "{refusal}")?),
-    }
+/// The script that a world of these nodes makes of the lines of a script: the same one, where the world does what it says.
+fn script_of(alloc: Global, cluster: &str, lone: &str, script: &str) -> Result<String, Fail> {
+    let (cluster, lone) = (nodes(alloc, cluster)?, nodes(alloc, lone)?);
+    let mut world = Cluster::start(alloc, cluster.as_slice(), lone.as_slice())?;
+    play_lines(alloc, &mut world, script)
 }
 
-/// Delivers what waits until nothing does, and shows what is answered on the way.
-fn settle(alloc: Global, world: &mut Cluster) -> Result<String, Fail> {
-    let mut answers = Vec::new(alloc);
-    for _ in 0..1000 {
-        let Some((sender, receiver)) = world.waiting() else {
-            break;
-        };
-        for answer in world.play(&WorldEvent::Deliver(sender, receiver))? {
-            answers.push(answer)?;
-        }
-    }
-    shown(alloc, answers.as_slice())
-}
-
-/// What comes of an event, where `settle` delivers all that waits.
-fn say(alloc: Global, world: &mut Cluster, text: &str) -> Result<String, Fail> {
-    if text == "settle" {
-        settle(alloc, world)
-    } else {
-        play(alloc, world, text)
-    }
-}
-
-/// The name of the node that holds, or nothing.
-fn holder(alloc: Global, world: &Cluster) -> Result<String, Fail> {
-    match world.holder() {
-        Some(node) => Ok(format!(in alloc; "{node}")?),
-        None => Ok(String::new(alloc)),
-    }
-}
+/// The lock is asked for, granted, and heard of: then the name is decided and the node holds. The name is written, and when
+/// that was acknowledged the call is done. Last the lock goes back.
+const ALONE: &str = "\
+a spawn: a#0 a.1;
+a register x a.1:
+a to a:
+world: 1 nodes; 0 entries;
+a to a:
+world: a holds; 1 nodes; 1 entries;
+a whereis x: a#0 undefined;
+a to a:
+a whereis x: a#0 a.1;
+world: a holds; 1 nodes; 3 entries;
+a to a: a#1 yes;
+world: 1 nodes; 4 entries;
+a to a:
+a to a: empty_link;
+world: 1 nodes; 4 entries;
+";
 
 #[test]
 fn registers_a_name_alone(rt: HostRuntime) -> Result<(), Fail> {
-    let alloc = rt.alloc();
-    let mut world = start(alloc, "a")?;
-    // The lock is asked for, granted, and heard of: then the name is decided and the node holds. The name is written, and
-    // when that was acknowledged the call is done. Last the lock goes back.
-    for (event, said, holds, entries) in [
-        ("a spawn", "a#0 a.1;", "", 0),
-        ("a register x a.1", "", "", 0),
-        ("a to a", "", "", 0),
-        ("a to a", "", "a", 1),
-        ("a whereis x", "a#0 undefined;", "a", 2),
-        ("a to a", "", "a", 2),
-        ("a whereis x", "a#0 a.1;", "a", 3),
-        ("a to a", "a#1 yes;", "", 4),
-        ("a to a", "", "", 4),
-        ("a to a", "empty_link", "", 4),
-    ] {
-        assert_eq!(rt; play(alloc, &mut world, event)?.as_str(), said, "{event}");
-        assert_eq!(rt; holder(alloc, &world)?.as_str(), holds, "{event}");
-        assert_eq!(rt; world.history().len(), entries, "{event}");
-    }
+    let text = script_of(rt.alloc(), "a", "-", ALONE)?;
+    assert_eq!(rt; text.as_str(), ALONE);
     Ok(())
 }
+
+/// The table has what was answered `yes` alone.
+const REFUSED: &str = "\
+a register x a.1:
+a register y a.1:
+a register x a.2:
+a register w z.1:
+settle: a#1 yes; a#2 no; a#3 no; a#4 unknown_node;
+a whereis x: a#0 a.1;
+a whereis y: a#0 undefined;
+a whereis w: a#0 undefined;
+node a: 1 members; 1 names;
+";
 
 #[test]
 fn says_who_gets_no_name(rt: HostRuntime) -> Result<(), Fail> {
-    let alloc = rt.alloc();
-    let mut world = start(alloc, "a")?;
-    for (event, said) in [
-        ("a register x a.1", ""),
-        ("a register y a.1", ""),
-        ("a register x a.2", ""),
-        ("a register w z.1", ""),
-        ("settle", "a#1 yes;a#2 no;a#3 no;a#4 unknown_node;"),
-        ("a whereis x", "a#0 a.1;"),
-        ("a whereis y", "a#0 undefined;"),
-        ("a whereis w", "a#0 undefined;"),
-    ] {
-        assert_eq!(rt; say(alloc, &mut world, event)?.as_str(), said, "{event}");
-    }
-    let table = world.table(&parse_node("a")?).ok_or("a has a table")?;
-    assert_eq!(rt; table.pairs(alloc)?.len(), 1);
+    let text = script_of(rt.alloc(), "a", "-", REFUSED)?;
+    assert_eq!(rt; text.as_str(), REFUSED);
     Ok(())
 }
+
+/// The greater node is asked first, then the other one.
+const AT_ALL: &str = "\
+a spawn: a#0 a.1;
+a register x a.1:
+a to a: empty_link;
+a to b:
+b to a:
+a to a:
+world: 2 nodes; 0 entries;
+a to a:
+world: a holds; 2 nodes; 1 entries;
+a to a:
+a whereis x: a#0 a.1;
+b whereis x: b#0 undefined;
+a to b:
+b whereis x: b#0 a.1;
+a to a:
+world: a holds; 2 nodes; 4 entries;
+b to a: a#1 yes;
+world: 2 nodes; 5 entries;
+settle:
+node a: 2 members; 1 names;
+node b: 2 members; 1 names;
+node c:
+";
 
 #[test]
 fn registers_at_all_nodes(rt: HostRuntime) -> Result<(), Fail> {
-    let alloc = rt.alloc();
-    let mut world = start(alloc, "b a")?;
-    // The greater node is asked first, then the other one.
-    for (event, said, holds) in [
-        ("a spawn", "a#0 a.1;", ""),
-        ("a register x a.1", "", ""),
-        ("a to a", "empty_link", ""),
-        ("a to b", "", ""),
-        ("b to a", "", ""),
-        ("a to a", "", ""),
-        ("a to a", "", "a"),
-        ("a to a", "", "a"),
-        ("a whereis x", "a#0 a.1;", "a"),
-        ("b whereis x", "b#0 undefined;", "a"),
-        ("a to b", "", "a"),
-        ("b whereis x", "b#0 a.1;", "a"),
-        ("a to a", "", "a"),
-        ("b to a", "a#1 yes;", ""),
-        ("settle", "", ""),
-    ] {
-        assert_eq!(rt; say(alloc, &mut world, event)?.as_str(), said, "{event}");
-        assert_eq!(rt; holder(alloc, &world)?.as_str(), holds, "{event}");
-    }
-    for node in ["a", "b"] {
-        let table = world.table(&parse_node(node)?).ok_or("a table")?;
-        assert_eq!(rt; table.pairs(alloc)?.len(), 1, "{node}");
-    }
-    assert!(rt; world.table(&parse_node("c")?).is_none());
+    let text = script_of(rt.alloc(), "b a", "-", AT_ALL)?;
+    assert_eq!(rt; text.as_str(), AT_ALL);
     Ok(())
 }
+
+/// Both ask the greatest node, which hears `b` first.
+const RETRIED: &str = "\
+a spawn: a#0 a.1;
+b spawn: b#0 b.1;
+a register x a.1:
+b register x b.1:
+a retry: nothing_to_retry;
+b to c:
+settle: b#1 yes;
+b retry: nothing_to_retry;
+a retry:
+settle: a#1 no;
+a whereis x: a#0 b.1;
+c whereis x: c#0 b.1;
+";
 
 #[test]
 fn retries_a_refused_round(rt: HostRuntime) -> Result<(), Fail> {
-    let alloc = rt.alloc();
-    let mut world = start(alloc, "a b c")?;
-    // Both ask the greatest node, which hears `b` first.
-    for (event, said) in [
-        ("a spawn", "a#0 a.1;"),
-        ("b spawn", "b#0 b.1;"),
-        ("a register x a.1", ""),
-        ("b register x b.1", ""),
-        ("a retry", "nothing_to_retry"),
-        ("b to c", ""),
-        ("settle", "b#1 yes;"),
-        ("b retry", "nothing_to_retry"),
-        ("a retry", ""),
-        ("settle", "a#1 no;"),
-        ("a whereis x", "a#0 b.1;"),
-        ("c whereis x", "c#0 b.1;"),
-    ] {
-        assert_eq!(rt; say(alloc, &mut world, event)?.as_str(), said, "{event}");
-    }
+    let text = script_of(rt.alloc(), "a b c", "-", RETRIED)?;
+    assert_eq!(rt; text.as_str(), RETRIED);
     Ok(())
 }
+
+/// The name of a process goes at each node, once its exit was settled.
+const STRUCK: &str = "\
+a spawn: a#0 a.1;
+a register x a.1:
+settle: a#1 yes;
+a exit a.2: no_such_process;
+b exit a.1: no_such_process;
+node b: 2 members; 1 names;
+a exit a.1:
+a exit a.1: already_exited;
+node b: 2 members; 1 names;
+settle:
+node b: 2 members; 0 names;
+";
 
 #[test]
 fn strikes_names_of_the_dead(rt: HostRuntime) -> Result<(), Fail> {
-    let alloc = rt.alloc();
-    let mut world = start(alloc, "a b")?;
-    for (event, said, names) in [
-        ("a spawn", "a#0 a.1;", 0),
-        ("a register x a.1", "", 0),
-        ("settle", "a#1 yes;", 1),
-        ("a exit a.2", "no_such_process", 1),
-        ("b exit a.1", "no_such_process", 1),
-        ("a exit a.1", "", 1),
-        ("a exit a.1", "already_exited", 1),
-        ("settle", "", 0),
-    ] {
-        assert_eq!(rt; say(alloc, &mut world, event)?.as_str(), said, "{event}");
-        let table = world.table(&parse_node("b")?).ok_or("b has a table")?;
-        assert_eq!(rt; table.pairs(alloc)?.len(), names, "{event}");
-    }
+    let text = script_of(rt.alloc(), "a b", "-", STRUCK)?;
+    assert_eq!(rt; text.as_str(), STRUCK);
     Ok(())
 }
+
+/// A lone node's registry is its own, and nobody else holds while it does.
+const LONE: &str = "\
+world: 3 nodes; 0 entries;
+node a: 2 members; 0 names;
+node b: 1 members; 0 names;
+node c: 2 members; 0 names;
+node d:
+b register x b.1:
+b register y a.1:
+b to b:
+b to b:
+world: 3 nodes; 1 entries;
+settle: b#1 yes; b#2 unknown_node;
+b whereis x: b#0 b.1;
+a whereis x: a#0 undefined;
+a register x b.1:
+settle: a#1 unknown_node;
+node b: 1 members; 1 names;
+";
 
 #[test]
 fn keeps_lone_nodes_apart(rt: HostRuntime) -> Result<(), Fail> {
-    let alloc = rt.alloc();
-    let (joined, lone) = (nodes(alloc, "a c")?, nodes(alloc, "b")?);
-    let mut world = Cluster::start(alloc, joined.as_slice(), lone.as_slice())?;
-    assert_eq!(rt; world.nodes().len(), 3);
-    for (node, count) in [("a", 2), ("b", 1), ("c", 2)] {
-        let members = world.members(&parse_node(node)?).ok_or("members")?;
-        assert_eq!(rt; members.len(), count, "{node}");
-    }
-    assert!(rt; world.members(&parse_node("d")?).is_none());
-    for (event, said, holds) in [
-        ("b register x b.1", "", ""),
-        ("b register y a.1", "", ""),
-        ("b to b", "", ""),
-        ("b to b", "", ""),
-        ("settle", "b#1 yes;b#2 unknown_node;", ""),
-        ("b whereis x", "b#0 b.1;", ""),
-        ("a whereis x", "a#0 undefined;", ""),
-        ("a register x b.1", "", ""),
-        ("settle", "a#1 unknown_node;", ""),
-    ] {
-        assert_eq!(rt; say(alloc, &mut world, event)?.as_str(), said, "{event}");
-        assert_eq!(rt; holder(alloc, &world)?.as_str(), holds, "{event}");
-    }
+    let text = script_of(rt.alloc(), "a c", "b", LONE)?;
+    assert_eq!(rt; text.as_str(), LONE);
     Ok(())
 }
+
+/// Strangers come before all else.
+const WRONG: &str = "\
+c spawn: no_such_node;
+a to c: no_such_node;
+c to a: no_such_node;
+a to a: empty_link;
+b to a: empty_link;
+a retry: nothing_to_retry;
+";
 
 #[test]
 fn refuses_events(rt: HostRuntime) -> Result<(), Fail> {
-    let alloc = rt.alloc();
-    let mut world = start(alloc, "a b")?;
-    for (event, refusal) in [
-        ("c spawn", "no_such_node"),
-        ("a to c", "no_such_node"),
-        ("c to a", "no_such_node"),
-        ("a to a", "empty_link"),
-        ("b to a", "empty_link"),
-        ("a retry", "nothing_to_retry"),
-    ] {
-        assert_eq!(rt;
-            play(alloc, &mut world, event)?.as_str(),
-            refusal,
-            "{event}"
-        );
-    }
-    for (refusal, text) in [
-        (Refusal::SerialsSpent, "serials_spent"),
-        (Refusal::CallsSpent, "calls_spent"),
-        (Refusal::Memory, "memory"),
-    ] {
-        assert_eq!(rt; format!(in alloc; "{refusal}")?.as_str(), text);
-    }
+    let text = script_of(rt.alloc(), "a b", "-", WRONG)?;
+    assert_eq!(rt; text.as_str(), WRONG);
     Ok(())
 }
 
-/// What comes of a start with these nodes, where `-` names none.
-fn start_of(alloc: Global, cluster: &str, lone: &str) -> Result<Option<StartFault>, Fail> {
-    let mut lists = [Vec::new(alloc), Vec::new(alloc)];
-    for (list, text) in lists.iter_mut().zip([cluster, lone]) {
-        if text != "-" {
-            *list = nodes(alloc, text)?;
-        }
-    }
-    let [cluster, lone] = &lists;
-    Ok(Cluster::start(alloc, cluster.as_slice(), lone.as_slice()).err())
-}
-
-#[test]
-fn refuses_to_start(rt: HostRuntime) -> Result<(), Fail> {
-    let alloc = rt.alloc();
-    for (cluster, lone, fault) in [
-        ("-", "a", Some(StartFault::NoNode)),
-        ("-", "a a", Some(StartFault::NoNode)),
-        ("a a", "-", Some(StartFault::SameNode)),
-        ("a b", "b", Some(StartFault::SameNode)),
-        ("a", "b b", Some(StartFault::SameNode)),
-        ("a b c d e f g h i", "-", Some(StartFault::TooManyNodes)),
-        ("a b c d e f", "g h i", Some(StartFault::TooManyNodes)),
-        ("a b c d e f g h a", "-", Some(StartFault::SameNode)),
-        ("h g f e d c b a", "-", None),
-        ("a b c d e", "f g h", None),
-    ] {
-        assert_eq!(rt; start_of(alloc, cluster, lone)?, fault, "{cluster}, {lone}");
-    }
-    for (fault, text) in [
-        (StartFault::NoNode, "no_node"),
-        (StartFault::SameNode, "same_node"),
-        (StartFault::TooManyNodes, "too_many_nodes"),
-        (StartFault::Memory, "memory"),
-    ] {
-        assert_eq!(rt; format!(in alloc; "{fault}")?.as_str(), text);
-    }
-    Ok(())
-}
+/// What stands behind the refused event is not played.
+const RUN: &str = "\
+run a spawn, a register x a.1, a to a, a whereis x, a to b, a spawn: 4 played; a#0 a.1; a#0 undefined; no_such_node;
+a spawn: a#0 a.2;
+";
 
 #[test]
 fn runs_up_to_a_refusal(rt: HostRuntime) -> Result<(), Fail> {
-    let alloc = rt.alloc();
-    let mut world = start(alloc, "a")?;
-    let mut events = Vec::new(alloc);
-    for text in [
-        "a spawn",
-        "a register x a.1",
-        "a to a",
-        "a whereis x",
-        "a to b",
-        "a spawn",
-    ] {
-        events.push(event(alloc, text)?)?;
-    }
-    let end = world.run(events.as_slice());
-    assert_eq!(rt; end.played, 4);
-    assert_eq!(rt; end.refusal, Some(Refusal::NoSuchNode));
-    let answers = shown(alloc, end.answers.as_slice())?;
-    assert_eq!(rt; answers.as_str(), "a#0 a.1;a#0 undefined;");
+    let text = script_of(rt.alloc(), "a", "-", RUN)?;
+    assert_eq!(rt; text.as_str(), RUN);
+    Ok(())
+}
 
-    // The spawn behind the refused event was not played.
-    assert_eq!(rt; play(alloc, &mut world, "a spawn")?.as_str(), "a#0 a.2;");
+/// Why a world of these nodes isn't started, if it isn't.
+fn fault_of(alloc: Global, cluster: &str, lone: &str) -> Result<Option<StartFault>, Fail> {
+    let (cluster, lone) = (nodes(alloc, cluster)?, nodes(alloc, lone)?);
+    Ok(Cluster::start(alloc, cluster.as_slice(), lone.as_slice()).err())
+}
+
+/// What comes of a start with the nodes of a line, parted by a bar.
+fn start_line(text: &mut String, line: &str) -> Result<(), Fail> {
+    let Some((words, _)) = line.split_once(':') else {
+        return Err(Fail::from("no line of a script"));
+    };
+    let Some((cluster, lone)) = words.split_once(" | ") else {
+        return Err(Fail::from("no bar"));
+    };
+    match fault_of(*text.allocator(), cluster, lone)? {
+        Some(fault) => write!(text, "{words}: {fault}\n")?,
+        None => write!(text, "{words}: started\n")?,
+    }
+    Ok(())
+}
+
+/// What comes of the starts of a script.
+fn start_lines(alloc: Global, script: &str) -> Result<String, Fail> {
+    let mut text = String::new(alloc);
+    for line in script.lines() {
+        start_line(&mut text, line)?;
+    }
+    Ok(text)
+}
+
+/// The nodes of the cluster and the lone ones, and why they make no world.
+const STARTS: &str = "\
+- | a: no_node
+- | a a: no_node
+a a | -: same_node
+a b | b: same_node
+a | b b: same_node
+a b c d e f g h i | -: too_many_nodes
+a b c d e f | g h i: too_many_nodes
+a b c d e f g h a | -: same_node
+h g f e d c b a | -: started
+a b c d e | f g h: started
+";
+
+#[test]
+fn refuses_to_start(rt: HostRuntime) -> Result<(), Fail> {
+    let text = start_lines(rt.alloc(), STARTS)?;
+    assert_eq!(rt; text.as_str(), STARTS);
+    Ok(())
+}
+
+/// Refusals that no short script meets, by their texts.
+fn show_refusals(alloc: Global) -> Result<String, Fail> {
+    let mut text = String::new(alloc);
+    for refusal in [Refusal::SerialsSpent, Refusal::CallsSpent, Refusal::Memory] {
+        write!(text, "{refusal} ")?;
+    }
+    write!(text, "{}", StartFault::Memory)?;
+    Ok(text)
+}
+
+#[test]
+fn names_its_refusals(rt: HostRuntime) -> Result<(), Fail> {
+    let text = show_refusals(rt.alloc())?;
+    assert_eq!(rt; text.as_str(), "serials_spent calls_spent memory memory");
     Ok(())
 }

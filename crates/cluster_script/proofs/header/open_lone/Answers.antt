@@ -23,8 +23,8 @@ returns-in-Ok c = λ bytes k.
     let a = c.in-Some-Ok.is in
     let b = c.in-Some-Ok.field-0-is in
     let e : c.in_ok-lone.field-0 ≡ Some (Ok c.in-Some-Ok.lone) = cc in
-    OpensLone-started c.args.cluster.nodes.items c.in-Some-Ok.lone.items c.deref.result.now c.deref-in-Some-Ok.result.now
-    bytes c.in-Ok.world c.deref.ensures.value c.deref-in-Some-Ok.ensures.value
+    OpensLone-started c.args.cluster.nodes.items c.in-Some-Ok.lone.items c.deref.result.now
+    c.deref-in-Some-Ok.result.now bytes c.in-Ok.world c.deref.ensures.value c.deref-in-Some-Ok.ensures.value
     (named (lone_line bytes) c.in_ok-lone.field-0 (Some (Ok c.in-Some-Ok.lone)) e (c.in_ok-lone.ensures bytes k))
     (subst (λ (r : Result Held LineFault). Starts c.deref.result.now c.deref-in-Some-Ok.result.now r) c.in-Ok.is
     c.in_ok-world-in-Some-Ok.ensures)
@@ -34,8 +34,8 @@ returns-in-Some-Ok c = λ bytes k.
     let a = c.in-Some-Ok.is in
     let b = c.in-Some-Ok.field-0-is in
     let e : c.in_ok-lone.field-0 ≡ Some (Ok c.in-Some-Ok.lone) = cc in
-    OpensLone-refused c.args.cluster.nodes.items c.in-Some-Ok.lone.items c.deref.result.now c.deref-in-Some-Ok.result.now
-    bytes c.in-Err.fault c.deref.ensures.value c.deref-in-Some-Ok.ensures.value
+    OpensLone-refused c.args.cluster.nodes.items c.in-Some-Ok.lone.items c.deref.result.now
+    c.deref-in-Some-Ok.result.now bytes c.in-Err.fault c.deref.ensures.value c.deref-in-Some-Ok.ensures.value
     (named (lone_line bytes) c.in_ok-lone.field-0 (Some (Ok c.in-Some-Ok.lone)) e (c.in_ok-lone.ensures bytes k))
     (subst (λ (r : Result Held LineFault). Starts c.deref.result.now c.deref-in-Some-Ok.result.now r) c.in-Err.is
     c.in_ok-world-in-Some-Ok.ensures)

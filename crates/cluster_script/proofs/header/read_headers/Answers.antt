@@ -55,5 +55,6 @@ returns-clause-read g c =
     let rest = reader_remaining g.R.Read.remaining c.next_line.new.reader in
     let t = subst (λ (o : Option Line). ReadsOn input rest c.args.left.now c.next_line.new.left o) c.in-Some.is
     c.in_ok-line.ensures.read in
-    let o = subst (λ (r : Result Cluster LineFault). OpensCluster t.1 r) c.in-Err.is (c.in_ok-cluster.ensures t.1 t.2) in
+    let o = subst (λ (r : Result Cluster LineFault). OpensCluster t.1 r) c.in-Err.is
+    (c.in_ok-cluster.ensures t.1 t.2) in
     (t.0, t.4, t.5, subst (λ (xs : List (List ℕ)). OpensNone xs rest c.in-Err.fault) (sym t.3) o)

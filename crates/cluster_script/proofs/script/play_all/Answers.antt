@@ -19,8 +19,8 @@ returns-in_err-is_fine g c =
     let p = err_from_is_err_and c.from_residual.result c.from_residual.ensures.1 in
     subst (λ (o : Option (Result Task LineFault)). PlaysAll (asked_first o) input input c.args.left.now c.args.left.now
     c.args.world.now c.play_task.new.world old new c.from_residual.result) (sym c.in-Some.is)
-    (PlaysAll-err (asked ∷ []) input input c.args.left.now c.args.left.now c.args.world.now c.play_task.new.world old new
-    c.from_residual.result p.0 p.1
+    (PlaysAll-err (asked ∷ []) input input c.args.left.now c.args.left.now c.args.world.now c.play_task.new.world old
+    new c.from_residual.result p.0 p.1
     (StopsPlaying-writing (asked ∷ []) input input c.args.left.now c.args.world.now old new c.in_err-is_fine.field-0.0
     p.0 p.2 (PlaysSome-first input c.args.world.now asked old new c.in_err-is_fine.ensures) refl))
 
