@@ -158,6 +158,7 @@ module _ (exact : IsExact SpellsText RefusesText) where
         | inr h ↦
             let u = some_first r.taken r.untaken first more line all (omega (arith, r.counted, s.2.3)) in
             let p : PrintsOn (spoken r.taken ++ spoken u.0) s.0.out =
-            subst (λ (ls : List (List ℕ)). PrintsOn ls s.0.out) (ap spoken u.1 ∙ spoken-append r.taken u.0) s.0.prints in
+            subst (λ (ls : List (List ℕ)). PrintsOn ls s.0.out) (ap spoken u.1 ∙ spoken-append r.taken u.0)
+            s.0.prints in
             refused_never (spoken r.taken) (spoken u.0) h.0 s.0.out h.1 p
       ]
