@@ -1,81 +1,229 @@
--- What a lock table says to one that asks, by what stands in it.
-use Rattle.std.proofs.Common.{ℕ, Bool, true, false, ◌==◌, ◌≡◌, ◌<◌, ◌+◌, Option, Some, None, Result, Ok, Err, [], ◌∷◌, ◌++◌, get_or, set, refl, sym, ap, ◌∙◌, arith}
-use Rattle.std.specs.Prelude.{if◌then◌else◌, find}
-use Rattle.std.specs.List.{position}
-use Rattle.std.specs.Option.{option_map}
-use Rattle.std.specs.Result.{OnErr}
-use Rattle.std.proofs.lemmas.Bool.{lt-ltb}
-use Rattle.registry_model.specs.Process.{Text, Process}
-use Rattle.protocol_model.specs.Letter.{Id, Global, Client}
+-- What a lock table says to one that asks, and what it has then.
+use Rattle.std.proofs.Common.{ℕ, suc, Bool, true, false, ◌==◌, ◌≡◌, ◌<◌, ◌≤◌, ◌+◌, Option, Some, None, List, [], ◌∷◌, ◌++◌, get_or, refl, sym, ap, subst, ◌∙◌, inl, inr, arith}
+use Rattle.std.specs.Prelude.{◌&&◌, not, if◌then◌else◌, find, All, Contains}
+use Rattle.std.specs.BTreeMap.{BTreeMap, get, is_at, insert_entry}
+use Rattle.std.specs.List.Sorted.{IsStrictlySortedBy}
+use Rattle.std.specs.Map.{keys_of, set_value}
+use Rattle.std.proofs.lemmas.Bool.{eqb-true, eq-eqb, lt-ltb}
+use Rattle.std.proofs.lemmas.List.Elements.{All-contains, All-head, All-tail, All-weaker, Contains-append_right}
+use Rattle.std.proofs.lemmas.Map.{none_passes_from_lookup}
+use Rattle.std.proofs.lemmas.Map.Views.{Contains-from_lookup}
+use Rattle.registry_model.specs.Process.{Process, Text}
+use Rattle.protocol_model.specs.Letter.{Id, Global, Client, is_resource}
 use Rattle.protocol_model.specs.LockTable.{Grant, Locks, count, is_grant_of, is_in_the_way, last_count, refused_for}
+use Rattle.protocol_model.proofs.Ids.{is_resource_swap}
 use Rattle.term.specs.declared.lock_id.LockId.{LockId}
-use Rattle.term.specs.LockIds.{global_text}
+use Rattle.lock_table.specs.Filed.{Entry, IsFiled, IsOpenTo, HasUnder, grant_of, key_cmp, listed}
 use Rattle.lock_table.specs.Ids.{id_of, requester_of}
-use Rattle.lock_table.specs.Verdicts.{asked}
-use Rattle.lock_table.proofs.Places.{All-position_none, count-place, count-absent, grant-place, grant-absent}
+use Rattle.lock_table.specs.Sound.{IsSound}
+use Rattle.lock_table.specs.Verdicts.{verdict_of, asked, IsFirstGrant}
+use Rattle.lock_table.specs.declared.grant.Key.{Key}
+use Rattle.lock_table.specs.declared.grant.Held.{Held}
+use Rattle.lock_table.specs.declared.verdict.Verdict.TheVariants.{Refuse}
+use Rattle.lock_table.proofs.Facts.{both}
+use Rattle.lock_table.proofs.Filing.{key_of, found_under, is_in_the_way-entry, never-absent, counted-held}
+use Rattle.lock_table.proofs.Holders.{one_requester}
+use Rattle.lock_table.proofs.Ids.{is_resource-id_of, requester_of-id_of}
+use Rattle.lock_table.proofs.Keys.{exact}
+use Rattle.lock_table.proofs.Listed.{All-listed, below-insert, listed-all, listed-insert}
+use Rattle.lock_table.proofs.Places.{All-find_none, count-absent, grant-absent}
+use Rattle.lock_table.proofs.Soundness.{sound-push}
+use Rattle.lock_table.proofs.Steps.{count_range, filed-written, grant-more, written-same}
 
--- an id is in its requester's name
-pub requester_of-id_of : (lock : LockId) → requester_of (id_of lock) ≡ lock.requester
-requester_of-id_of lock = go (lock.resource == global_text)
+find-none : {X : Type 0} (p : X → Bool) (xs : List X) → All (λ x. p x ≡ false) xs → find p xs ≡ None
+find-none p [] h = refl
+find-none p (x ∷ xs) h =
+    rw (All-head (λ y. p y ≡ false) x xs h) (find-none p xs (All-tail (λ y. p y ≡ false) x xs h))
+
+find-some : {X : Type 0} (p : X → Bool) (xs : List X) (y : X) → find p xs ≡ Some y → Contains xs y × (p y ≡ true)
+find-some p [] y e = absurd (cc e)
+find-some p (x ∷ xs) y e = go (p x) refl e (find-some p xs y)
   where
-    go : (b : Bool)
-        → requester_of (if b then Global lock.requester else Client lock.resource lock.requester) ≡ lock.requester
-    go true = refl
-    go false = refl
+    go : (b : Bool) → p x ≡ b → (if b then Some x else find p xs) ≡ Some y
+        → (find p xs ≡ Some y → Contains xs y × (p y ≡ true))
+        → Contains (x ∷ xs) y × (p y ≡ true)
+    go true i f rest =
+        let same : x ≡ y = cc f in
+        (subst (Contains (x ∷ xs)) same (0, omega arith, refl), subst (λ z. p z ≡ true) same i)
+    go false i f rest = (Contains-append_right (x ∷ []) xs y (rest f).0, (rest f).1)
 
--- nothing is made of nothing alone
-None-option_map : {X Y : Type 0} (f : X → Y) (o : Option X) → option_map f o ≡ None → o ≡ None
-None-option_map f None e = refl
-None-option_map f (Some x) e = cc
+is_resource_trans : (i j k : Id) → is_resource i j ≡ true → is_resource j k ≡ true → is_resource i k ≡ true
+is_resource_trans (Global a) (Global b) (Global d) e f = refl
+is_resource_trans (Client r q) (Client s z) (Client u w) e f =
+    eq-eqb r u (eqb-true r s e ∙ eqb-true s u f)
+is_resource_trans (Global a) (Global b) (Client u w) e f = cc
+is_resource_trans (Global a) (Client s z) k e f = cc
+is_resource_trans (Client r q) (Global b) k e f = cc
+is_resource_trans (Client r q) (Client s z) (Global d) e f = cc
 
--- no requester was found, so no grant is in the way
-pub clear_in : (id : Id) (s t : Locks) (r : Option Text) → s ≡ t
-    → r ≡ option_map (λ g. requester_of g.id) (find (is_in_the_way id) s)
-    → r ≡ None → find (is_in_the_way id) t ≡ None
-clear_in id s t r same e is = None-option_map _ _
-    (ap (λ (u : Locks). option_map (λ (g : Grant). requester_of g.id) (find (is_in_the_way id) u)) (sym same)
-    ∙ sym e ∙ is)
+-- a grant is in the way, so all that are in the way are its requester's
+refused_under : (id : Id) (p : Process) (t : Locks) (g : Grant) → IsSound t → Contains t g
+    → is_in_the_way id g ≡ true
+    → (verdict_of (refused_for id p t) ≡ Refuse (requester_of g.id)) × (asked id p t ≡ t)
+refused_under id p t g s at way = go (find (is_in_the_way id) t) refl
+  where
+    go : (o : Option Grant) → find (is_in_the_way id) t ≡ o
+        → (verdict_of (refused_for id p t) ≡ Refuse (requester_of g.id)) × (asked id p t ≡ t)
+    go None e =
+        absurd (cc (
+          way,
+          All-contains (λ (h : Grant). is_in_the_way id h ≡ false) t g
+              (All-find_none (is_in_the_way id) t e) at,
+        ))
+    go (Some h) e =
+        let f = find-some (is_in_the_way id) t h e in
+        let same = one_requester t h g s f.0 at
+        (is_resource_trans h.id id g.id (both _ _ f.1).0 (is_resource_swap g.id id (both _ _ way).0)) in
+        (rw e (ap Refuse same), rw e refl)
 
--- what is so of the failed and of the other results is so of the failed
-pub on_err_given : {X E P : Type 0} (r : Result X E) → P → OnErr r P
-on_err_given (Ok x) h = tt
-on_err_given (Err e) h = h
+-- What is filed, and one that asks
+module _ (n : ℕ) (m : BTreeMap Key Held) (filed : IsFiled n m.entries) (lock : LockId) (p : Process) where
+  abbrev Table : Locks
+  Table = listed n m.entries
 
--- none is in the way, and the grant that stands there has the greatest count
-pub refused-full : (id : Id) (p : Process) (t : Locks) (i : ℕ) (d g : Grant) → find (is_in_the_way id) t ≡ None
-    → position (is_grant_of id p) t ≡ Some i → g ≡ get_or t i d → g.count ≡ last_count → refused_for id p t ≡ Some id
-refused-full id p t i d g clear found is full = rw (clear, count-place id p t i d g found is ∙ full) refl
+  listed-entry : (e : Entry) → Contains m.entries e → Contains Table (grant_of e)
+  listed-entry e at =
+      All-contains (λ (x : Entry). Contains Table (grant_of x)) m.entries e (listed-all n m.entries filed.below) at
 
-free-below : (id : Id) (p : Process) (t : Locks) → find (is_in_the_way id) t ≡ None → count id p t < last_count
-    → refused_for id p t ≡ None
-free-below id p t clear room = rw (clear, lt-ltb (count id p t) last_count room) refl
+  -- another requester has the resource
+  pub refused_other : (k : Key) → k ≡ key_of lock p → (r : Text)
+      → HasUnder k.resource m.entries r × ((r == lock.requester) ≡ false)
+      → (Refuse r ≡ verdict_of (refused_for (id_of lock) p Table)) × (Table ≡ asked (id_of lock) p Table)
+  refused_other k under r found =
+      let h = subst (λ (q : Key). HasUnder q.resource m.entries r) under found.0 in
+      let e = h.0 in
+      let way : is_in_the_way (id_of lock) (grant_of e) ≡ true = is_in_the_way-entry lock e
+      ∙ rw (eq-eqb e.0.resource lock.resource h.2, h.3, found.1) refl in
+      let said = refused_under (id_of lock) p Table (grant_of e) filed.sound (listed-entry e h.1) way in (
+        sym (said.0 ∙ ap Refuse (requester_of-id_of (record { resource = e.0.resource; requester = e.1.requester })
+            ∙ h.3)),
+        sym said.1,
+      )
 
--- none is in the way, and the grant that stands there has room for one more
-pub free-place : (id : Id) (p : Process) (t : Locks) (i : ℕ) (d g : Grant) → find (is_in_the_way id) t ≡ None
-    → position (is_grant_of id p) t ≡ Some i → g ≡ get_or t i d → g.count < last_count → refused_for id p t ≡ None
-free-place id p t i d g clear found is room =
-    free-below id p t clear (omega (arith, room, count-place id p t i d g found is))
+  -- none has
+  no_other : IsOpenTo lock.resource m.entries lock.requester
+      → All (λ (e : Entry). ((e.0.resource == lock.resource)
+      && not (e.1.requester == lock.requester)) ≡ false) m.entries
+  no_other (inl none) i d l = rw (none i d l) refl
+  no_other (inr h) i d l = go (e.0.resource == lock.resource) refl
+    where
+      e : Entry
+      e = get_or m.entries i d
 
--- none is in the way, and there is no grant yet
-pub free-absent : (id : Id) (p : Process) (t : Locks) → find (is_in_the_way id) t ≡ None
-    → position (is_grant_of id p) t ≡ None
-    → refused_for id p t ≡ None
-free-absent id p t clear none =
-    free-below id p t clear (omega (arith, count-absent id p t (All-position_none (is_grant_of id p) t none)))
+      go : (b : Bool) → (e.0.resource == lock.resource) ≡ b → (b && not (e.1.requester == lock.requester)) ≡ false
+      go false on = refl
+      go true on =
+          let same = one_requester Table (grant_of e) (grant_of h.0) filed.sound
+          (listed-all n m.entries filed.below i d l) (listed-entry h.0 h.1)
+          (is_resource-id_of (record { resource = e.0.resource; requester = e.1.requester })
+          (record { resource = h.0.0.resource; requester = h.0.1.requester })
+          ∙ eq-eqb e.0.resource h.0.0.resource (eqb-true e.0.resource lock.resource on ∙ sym h.2)) in
+          let own = sym (requester_of-id_of (record { resource = e.0.resource; requester = e.1.requester })) ∙ same
+          ∙ requester_of-id_of (record { resource = h.0.0.resource; requester = h.0.1.requester }) ∙ h.3 in
+          rw (eq-eqb e.1.requester lock.requester own) refl
 
--- what the table is then
-pub asked-full : (id : Id) (p : Process) (t : Locks) (i : ℕ) (d g : Grant) → find (is_in_the_way id) t ≡ None
-    → position (is_grant_of id p) t ≡ Some i → g ≡ get_or t i d → g.count ≡ last_count → asked id p t ≡ t
-asked-full id p t i d g clear found is full = rw (refused-full id p t i d g clear found is full) refl
+  module _ (k : Key) (under : k ≡ key_of lock p) (may : IsOpenTo k.resource m.entries lock.requester) where
+    none_other : All (λ (e : Entry). ((e.0.resource == lock.resource)
+        && not (e.1.requester == lock.requester)) ≡ false) m.entries
+    none_other = no_other (subst (λ (q : Key). IsOpenTo q.resource m.entries lock.requester) under may)
 
-pub asked-place : (id : Id) (p : Process) (t : Locks) (i : ℕ) (d g : Grant) → find (is_in_the_way id) t ≡ None
-    → position (is_grant_of id p) t ≡ Some i → g ≡ get_or t i d → g.count < last_count
-    → asked id p t ≡ set t i (record g { count = g.count + 1 })
-asked-place id p t i d g clear found is room =
-    rw (free-place id p t i d g clear found is room) (grant-place id p t i d g found is)
+    clear : find (is_in_the_way (id_of lock)) Table ≡ None
+    clear = find-none (is_in_the_way (id_of lock)) Table
+        (All-listed (λ g. is_in_the_way (id_of lock) g ≡ false) n m.entries
+        (λ i d l. is_in_the_way-entry lock (get_or m.entries i d) ∙ none_other i d l))
 
-pub asked-absent : (id : Id) (p : Process) (t : Locks) → find (is_in_the_way id) t ≡ None
-    → position (is_grant_of id p) t ≡ None
-    → asked id p t ≡ t ++ record { id = id; holder = p; count = 1 } ∷ []
-asked-absent id p t clear none =
-    rw (free-absent id p t clear none) (grant-absent id p t (All-position_none (is_grant_of id p) t none))
+    free : count (id_of lock) p Table < last_count → refused_for (id_of lock) p Table ≡ None
+    free room = rw (clear, lt-ltb (count (id_of lock) p Table) last_count room) refl
+
+    module _ (v : Held) (found : Some v ≡ get key_cmp m k) where
+      at : get key_cmp m (key_of lock p) ≡ Some v
+      at = found_under m lock p k (Some v) under found
+
+      pub own : v.requester ≡ lock.requester
+      own =
+          let no = All-contains (λ (e : Entry). ((e.0.resource == lock.resource)
+          && not (e.1.requester == lock.requester)) ≡ false) m.entries (key_of lock p, v) none_other
+          (Contains-from_lookup exact (key_of lock p) v m.entries at) in
+          eqb-true v.requester lock.requester
+          (go (lock.resource == lock.resource) (v.requester == lock.requester) (eq-eqb _ _ refl) no)
+        where
+          go : (a b : Bool) → a ≡ true → (a && not b) ≡ false → b ≡ true
+          go true true i h = refl
+          go true false i h = cc
+          go false b i h = cc
+
+      held : count (id_of lock) p Table ≡ v.count
+      held = counted-held n m filed lock p v at own
+
+      pub at_most : v.count ≤ last_count
+      at_most = (count_range n m filed lock p k under v found own).1
+
+      pub verdict-full : v.count ≡ last_count → Refuse lock.requester ≡ verdict_of (refused_for (id_of lock) p Table)
+      verdict-full full = rw (clear, held ∙ full) (ap Refuse (sym (requester_of-id_of lock)))
+
+      pub asked-full : v.count ≡ last_count → (es : List Entry) → es ≡ set_value (is_at (key_cmp k)) m.entries v
+          → listed n es ≡ asked (id_of lock) p Table
+      asked-full full es e =
+          ap (listed n) (written-same n m filed lock p k under v found es e) ∙ rw (clear, held ∙ full) refl
+
+      pub free-held : v.count < last_count → refused_for (id_of lock) p Table ≡ None
+      free-held room = free (omega (arith, room, held))
+
+      pub filed-more : v.count < last_count → (es : List Entry)
+          → es ≡ set_value (is_at (key_cmp k)) m.entries (record v { count = v.count + 1 }) → IsFiled n es
+      filed-more room es e =
+          filed-written n m filed lock p k under v found own (v.count + 1) es (omega arith) (omega (arith, room)) e
+
+      pub asked-more : v.count < last_count → (es : List Entry)
+          → es ≡ set_value (is_at (key_cmp k)) m.entries (record v { count = v.count + 1 })
+          → listed n es ≡ asked (id_of lock) p Table
+      asked-more room es e =
+          grant-more n m filed lock p k under v found own es e ∙ rw (free-held room) refl
+
+    module _ (absent : None ≡ get key_cmp m k) where
+      none : All (λ g. is_grant_of (id_of lock) p g ≡ false) Table
+      none = never-absent n m filed lock p (found_under m lock p k None under absent)
+
+      unheld : count (id_of lock) p Table ≡ 0
+      unheld = count-absent (id_of lock) p Table none
+
+      pub free-first : refused_for (id_of lock) p Table ≡ None
+      free-first = free (omega (arith, unheld))
+
+      pub first_grant : IsFirstGrant (id_of lock) p Table
+      first_grant = (rw free-first refl, unheld)
+
+      next : n + 1 ≡ suc n
+      next = omega arith
+
+      listed-first : (es : List Entry)
+          → es ≡ insert_entry key_cmp m.entries k (record { requester = lock.requester; count = 1; number = n })
+          → listed (n + 1) es ≡ Table ++ record { id = id_of lock; holder = p; count = 1 } ∷ []
+      listed-first es e =
+          ap (listed (n + 1)) e
+          ∙ ap (λ (j : ℕ). listed j (insert_entry key_cmp m.entries k
+          (record { requester = lock.requester; count = 1; number = n }))) next
+          ∙ listed-insert k (record { requester = lock.requester; count = 1; number = n }) m.entries
+          (none_passes_from_lookup (is_at (key_cmp k)) m.entries (sym absent)) filed.below
+          ∙ ap (λ (q : Key). Table
+          ++ grant_of (q, record { requester = lock.requester; count = 1; number = n }) ∷ []) under
+
+      pub asked-first : (es : List Entry)
+          → es ≡ insert_entry key_cmp m.entries k (record { requester = lock.requester; count = 1; number = n })
+          → listed (n + 1) es ≡ asked (id_of lock) p Table
+      asked-first es e =
+          listed-first es e ∙ sym (rw free-first (grant-absent (id_of lock) p Table none))
+
+      pub filed-first : (es : List Entry)
+          → es ≡ insert_entry key_cmp m.entries k (record { requester = lock.requester; count = 1; number = n })
+          → IsStrictlySortedBy key_cmp (keys_of es) → IsFiled (n + 1) es
+      filed-first es e rising = record {
+        ordered = rising;
+        below = subst (All (λ (x : Entry). x.1.number < n + 1)) (sym e)
+            (below-insert k (record { requester = lock.requester; count = 1; number = n }) (n + 1) m.entries
+            (omega arith)
+            (All-weaker (λ (x : Entry). x.1.number < n) (λ (x : Entry). x.1.number < n + 1)
+            (λ x l. omega (arith, l)) m.entries filed.below));
+        sound = subst IsSound (sym (listed-first es e))
+            (sound-push (id_of lock) p Table filed.sound (All-find_none (is_in_the_way (id_of lock)) Table clear) none);
+      }

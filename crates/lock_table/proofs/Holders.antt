@@ -1,6 +1,6 @@
 -- What a sound table tells of those that are listed in it.
-use Rattle.std.proofs.Common.{ℕ, Bool, true, false, ◌==◌, ◌≡◌, ◌<◌, get_or, refl, sym, ap, ◌∙◌, subst, inl, inr, arith}
-use Rattle.std.specs.Prelude.{◌&&◌, ◌≤◌, Contains}
+use Rattle.std.proofs.Common.{ℕ, true, false, ◌==◌, ◌≡◌, ◌<◌, get_or, refl, sym, ap, ◌∙◌, subst, inl, inr, arith}
+use Rattle.std.specs.Prelude.{◌≤◌, Contains}
 use Rattle.std.proofs.lemmas.Bool.{cases_order, eqb-true, eq-eqb}
 use Rattle.std.proofs.lemmas.List.{get_or_default}
 use Rattle.protocol_model.specs.Letter.{Id, Global, Client, is_id, is_resource}
@@ -8,17 +8,13 @@ use Rattle.protocol_model.proofs.Ids.{is_id_self, is_resource_swap}
 use Rattle.protocol_model.specs.LockTable.{Grant, Locks, is_grant_of, count, last_count}
 use Rattle.lock_table.specs.Ids.{requester_of}
 use Rattle.lock_table.specs.Sound.{IsSound}
+use Rattle.lock_table.proofs.Facts.{both}
 use Rattle.lock_table.proofs.Places.{count_there}
-
--- the second of two tests that hold together
-second : (a b : Bool) → (a && b) ≡ true → b ≡ true
-second true b h = h
-second false b h = cc
 
 -- one id is in one requester's name
 same_requester : (i j : Id) → is_id i j ≡ true → requester_of i ≡ requester_of j
 same_requester (Global a) (Global b) e = eqb-true a b e
-same_requester (Client r q) (Client s z) e = eqb-true q z (second (r == s) (q == z) e)
+same_requester (Client r q) (Client s z) e = eqb-true q z (both (r == s) (q == z) e).1
 same_requester (Global a) (Client s z) e = cc
 same_requester (Client r q) (Global b) e = cc
 

@@ -1,4 +1,11 @@
 mod Asking
+mod Changes
+mod Facts
+mod Filing
 mod Holders
+mod Ids
+mod Keys
+mod Listed
 mod Places
 mod Soundness
+mod Steps

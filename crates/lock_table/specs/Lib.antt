@@ -1,3 +1,4 @@
+pub mod Filed
 pub mod Ids
 pub mod Sound
 pub mod Verdicts

@@ -1,50 +1,74 @@
 //! Lock tables.
-ghost use Rattle.std.specs.Prelude.{◌≡◌, [], find, IfOk, OnOk, OnErr};
-ghost use Rattle.std.specs.List.{position};
-ghost use Rattle.std.specs.Option.{option_map};
-ghost use Rattle.protocol_model.specs.LockTable.{is_grant_of, is_in_the_way};
+ghost use Rattle.std.specs.Prelude.{◌≡◌, ◌==◌, false, [], All, IfOk, IfNone, IfSome, OnOk, OnErr};
 ghost use Rattle.protocol_model.specs.LockTable.{count, refused_for, give_back, drop_holder, drop_node};
-ghost use Rattle.lock_table.specs.Ids.{id_of, requester_of};
+ghost use Rattle.lock_table.specs.Ids.{id_of};
+ghost use Rattle.lock_table.specs.Filed.{HasUnder, IsNoneOn, IsOpenTo};
 ghost use Rattle.lock_table.specs.Sound.{IsSound};
 ghost use Rattle.lock_table.specs.Verdicts.{verdict_of, asked, IsFirstGrant};
 
-use crate::grant::Grant;
+use crate::grant::{Held, Key};
 use crate::verdict::Verdict;
 use std::alloc::{AllocError, Global};
+use std::collections::BTreeMap;
 use std::marker::Model;
 use term::{LockId, NodeName, Pid, Requester};
 
 /// Who has which locks at one node, and how often. Holders that ask in the name of one requester share a resource;
 /// another requester is kept from it until they have given back all that they had.
+///
+/// Asking, counting and giving back cost no more for the other grants than a look-up.
 #[derive(Debug, Drop)]
 pub struct LockTable {
-    grants: Vec<Grant>,
+    grants: BTreeMap<Key, Held>,
+    /// The number of the next first grant: the grants are listed as their numbers rise.
+    next: u64,
 }
 
 impl Model for LockTable {
     ghost use Rattle.protocol_model.specs.LockTable.{Locks};
-    ghost use Rattle.lock_table.specs.Sound.{IsSound};
+    ghost use Rattle.lock_table.specs.Filed.{listed, IsFiled};
 
     ghost Value = { Locks };
 
-    ghost view = { λ t. t.grants.items };
+    ghost view = { λ t. listed t.next t.grants.entries };
 
-    ghost invariant = { λ t. IsSound t.grants.items };
+    ghost invariant = { λ t. IsFiled t.next t.grants.entries };
 }
 
-/// The requester that keeps others from the resource of this id, where it is not the id's own.
-fn other_requester(grants: &[Grant], id: &LockId) -> Option<Requester>
-    ensures { result ≡ option_map (λ g. requester_of g.id) (find (is_in_the_way (id_of id.now)) grants.now) }
+/// The requester that the resource of a key is under, if it is under any. The resource's grants stand together, so one
+/// of them is the next to the key, on one side or the other.
+fn requester_near(grants: &BTreeMap<Key, Held>, key: &Key) -> Option<Requester>
+    ensures some { IfSome result (HasUnder key.now.resource grants.now.entries) }
+    ensures none { IfNone result (IsNoneOn key.now.resource grants.now.entries) }
 {
-    let grant = grants.iter().find(|grant| grant.is_in_the_way(id))?;
-    Some(grant.requester())
+    if let Some((next, held)) = grants.range(key..).next() {
+        if next.resource == key.resource {
+            return Some(held.requester.copy());
+        }
+    }
+    let (last, held) = grants.range(..key).next_back()?;
+    if last.resource == key.resource {
+        Some(held.requester.copy())
+    } else {
+        None
+    }
 }
 
-/// The place of the grant of this id and holder.
-fn place_of(grants: &[Grant], id: &LockId, holder: &Pid) -> Option<usize>
-    ensures { result ≡ position (is_grant_of (id_of id.now) holder.now) grants.now }
+/// The requester that keeps others from the resource of a key, where it is not this one.
+fn other_requester(
+    grants: &BTreeMap<Key, Held>,
+    key: &Key,
+    requester: &Requester,
+) -> Option<Requester>
+    ensures some { IfSome result (λ other. HasUnder key.now.resource grants.now.entries other × ((other == requester.now) ≡ false)) }
+    ensures none { IfNone result (IsOpenTo key.now.resource grants.now.entries requester.now) }
 {
-    grants.iter().position(|grant| grant.is_of(id, holder))
+    let holding = requester_near(grants, key)?;
+    if holding == *requester {
+        None
+    } else {
+        Some(holding)
+    }
 }
 
 impl LockTable {
@@ -53,7 +77,8 @@ impl LockTable {
         ensures { result ≡ [] }
     {
         LockTable {
-            grants: Vec::new(alloc),
+            grants: BTreeMap::new(alloc),
+            next: 0,
         }
     }
 
@@ -62,41 +87,44 @@ impl LockTable {
         ensures count { result ≡ count (id_of id.now) holder.now self.now }
         ensures sound { IsSound self.now }
     {
-        match place_of(self.grants.as_slice(), id, holder) {
-            Some(place) => {
-                let grant = &self.grants[place];
-                grant.count
-            }
-            None => 0,
+        match self.grants.get(&Key::of(id, holder)) {
+            Some(held) if held.requester == id.requester => held.count,
+            _ => 0,
         }
     }
 
     /// Asks for a lock. The holder has it once more, unless another requester has the resource or the holder's count is
     /// the greatest there is; then nothing changes. `AllocError`: there is no memory for the first grant of this id to
-    /// this holder, and nothing changes.
+    /// this holder, or no number is left for it after 2^64 - 1 first grants, and nothing changes.
     pub fn ask(&mut self, id: LockId, holder: Pid) -> Result<Verdict, AllocError>
         ensures verdict { IfOk result (λ verdict. verdict ≡ verdict_of (refused_for (id_of id) holder self.old)) }
         ensures table { OnOk result (self.new ≡ asked (id_of id) holder self.old) }
         ensures unchanged { OnErr result (self.new ≡ self.old) }
         ensures err { OnErr result (IsFirstGrant (id_of id) holder self.old) }
     {
-        if let Some(other) = other_requester(self.grants.as_slice(), &id) {
+        let key = Key::of(&id, &holder);
+        if let Some(other) = other_requester(&self.grants, &key, &id.requester) {
             return Ok(Verdict::Refuse(other));
         }
-        match place_of(self.grants.as_slice(), &id, &holder) {
-            Some(place) => {
-                let grant = &mut self.grants[place];
-                if grant.count == u32::MAX {
+        match self.grants.get_mut(&key) {
+            Some(held) => {
+                if held.count == u32::MAX {
                     return Ok(Verdict::Refuse(id.requester));
                 }
-                grant.count += 1;
+                held.count += 1;
             }
             None => {
-                self.grants.push(Grant {
-                    id,
-                    holder,
+                let number = self.next;
+                let Some(next) = number.checked_add(1) else {
+                    return Err(AllocError);
+                };
+                let held = Held {
+                    requester: id.requester,
                     count: 1,
-                })?;
+                    number,
+                };
+                self.grants.insert(key, held)?;
+                self.next = next;
             }
         }
         Ok(Verdict::Grant)
@@ -106,12 +134,15 @@ impl LockTable {
     pub fn give_back(&mut self, id: &LockId, holder: &Pid)
         ensures { self.new ≡ give_back (id_of id.now) holder.now self.old }
     {
-        if let Some(place) = place_of(self.grants.as_slice(), id, holder) {
-            let grant = &mut self.grants[place];
-            if grant.count > 1 {
-                grant.count -= 1;
+        let key = Key::of(id, holder);
+        if let Some(held) = self.grants.get_mut(&key) {
+            if held.requester != id.requester {
+                return;
+            }
+            if held.count > 1 {
+                held.count -= 1;
             } else {
-                self.grants.remove(place);
+                self.grants.remove(&key);
             }
         }
     }
@@ -120,13 +151,13 @@ impl LockTable {
     pub fn drop_holder(&mut self, holder: &Pid)
         ensures { self.new ≡ drop_holder holder.now self.old }
     {
-        self.grants.retain(|grant| grant.holder != *holder);
+        self.grants.retain(|key, _held| key.holder != *holder);
     }
 
     /// Takes all locks of a node's processes away.
     pub fn drop_node(&mut self, node: &NodeName)
         ensures { self.new ≡ drop_node node.now self.old }
     {
-        self.grants.retain(|grant| grant.holder.node != *node);
+        self.grants.retain(|key, _held| key.holder.node != *node);
     }
 }

@@ -62,3 +62,53 @@ fn drops_holders_and_nodes(rt: HostRuntime) -> Result<(), Fail> {
     assert_eq!(rt; table.ask(LockId::global(&b), r)?, Verdict::Grant);
     Ok(())
 }
+
+/// The id of a lock on a resource, in a requester's name.
+fn lock_on(resource: &str, requester: &str) -> Result<LockId, Fail> {
+    Ok(LockId {
+        resource: parse_resource(resource)?,
+        requester: parse_requester(requester)?,
+    })
+}
+
+#[test]
+fn gives_back_in_the_middle(rt: HostRuntime) -> Result<(), Fail> {
+    let mut table = LockTable::new(rt.alloc());
+    let (a, b, c) = (
+        lock_on("a", "r1")?,
+        lock_on("b", "r2")?,
+        lock_on("c", "r3")?,
+    );
+    let other = lock_on("b", "r4")?;
+    let (p, q, r) = (parse_pid("m.1")?, parse_pid("m.2")?, parse_pid("m.3")?);
+    for holder in [&r, &p] {
+        for id in [&c, &b, &a] {
+            assert_eq!(rt; table.ask(id.copy(), holder.copy())?, Verdict::Grant);
+        }
+    }
+    assert_eq!(rt; table.ask(b.copy(), q.copy())?, Verdict::Grant);
+    table.give_back(&other, &p);
+    for holder in [&q, &r, &p] {
+        assert_eq!(rt; table.count(&other, &q), 0);
+        assert_eq!(rt;
+            table.ask(other.copy(), q.copy())?,
+            Verdict::Refuse(parse_requester("r2")?)
+        );
+        assert_eq!(rt; table.count(&b, holder), 1);
+        table.give_back(&b, holder);
+        assert_eq!(rt; table.count(&b, holder), 0);
+    }
+    for holder in [&r, &p] {
+        for id in [&a, &c] {
+            assert_eq!(rt; table.count(id, holder), 1);
+        }
+    }
+    assert_eq!(rt; table.ask(other.copy(), q.copy())?, Verdict::Grant);
+    for holder in [&p, &r] {
+        assert_eq!(rt;
+            table.ask(b.copy(), holder.copy())?,
+            Verdict::Refuse(parse_requester("r4")?)
+        );
+    }
+    Ok(())
+}

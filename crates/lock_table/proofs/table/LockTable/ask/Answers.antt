@@ -1,92 +1,114 @@
-use Rattle.std.proofs.Common.{ap, ◌∙◌, refl, sym, subst, Option, arith}
+use Rattle.std.proofs.Common.{◌∙◌, ◌+◌, sym, ap, arith, Option}
+use Rattle.std.specs.BTreeMap.{insert_entry}
 use Rattle.protocol_model.specs.Letter.{Id}
-use Rattle.protocol_model.specs.LockTable.{is_grant_of, is_in_the_way}
-use Rattle.lock_table.specs.Ids.{id_of}
-use Rattle.lock_table.specs.Sound.{IsSound}
+use Rattle.lock_table.specs.Filed.{key_cmp, listed}
+use Rattle.lock_table.specs.declared.grant.Held.{Held}
 use Rattle.lock_table.specs.Verdicts.{verdict_of}
-use Rattle.lock_table.specs.declared.verdict.Verdict.TheVariants.{Refuse}
-use Rattle.lock_table.proofs.Asking.{clear_in, on_err_given, requester_of-id_of, refused-full, free-place, free-absent, asked-full, asked-place, asked-absent}
-use Rattle.lock_table.proofs.Places.{place_in, All-find_none, All-position_none, count-absent, set-same}
-use Rattle.lock_table.proofs.Soundness.{sound-push}
+use Rattle.lock_table.proofs.Facts.{on_err_given}
+use Rattle.lock_table.proofs.Asking.{asked-first, asked-full, asked-more, at_most, filed-first, filed-more, first_grant, free-first, free-held, refused_other, verdict-full}
+use Rattle.lock_table.proofs.Steps.{filed-same}
 use Rattle.lock_table.proofs.table.LockTable.ask.Goals as goal
-use Rattle.lock_table.proofs.table.LockTable.ask.Goals.{in-Some-place_of+else-grant, in-None+in_ok-push-in-None}
+use Rattle.lock_table.proofs.table.LockTable.ask.Goals.{in-Some-get_mut+else-held, in-None+in-Some-checked_add+in_ok-insert-in-None}
 
-pub returns-then-grant-clause-verdict : goal.returns-then-grant-clause-verdict
-returns-then-grant-clause-verdict c =
-    let clear = clear_in (id_of c.args.id) _ _ _ c.as_slice.ensures.value c.other_requester.ensures c.in_default.is in
-    let found = place_in (id_of c.args.id) c.args.holder _ _ _ _ c.as_slice-2.ensures.value c.place_of.ensures
-    c.in-Some-place_of.is in
+pub returns-in-Some-clause-verdict : goal.returns-in-Some-clause-verdict
+returns-in-Some-clause-verdict c =
     rw (← c.self.view_is)
-    (ap Refuse (sym (requester_of-id_of c.args.id))
-    ∙ ap (λ (o : Option Id). verdict_of o)
-    (sym (refused-full (id_of c.args.id) c.args.holder c.self.inside.grants.items c.in-Some-place_of.place
-    c.index_mut-grant.result.now _ clear found (c.grant.view_is ∙ c.index_mut-grant.ensures.value) c.if-grant.true)))
+    (refused_other c.self.inside.next c.self.inside.grants c.self.invariant c.args.id c.args.holder c.of-key.result
+    c.of-key.ensures c.in-Some.other c.in-Some.ensures.some).0
 
-pub returns-then-grant-clause-table : goal.returns-then-grant-clause-table
-returns-then-grant-clause-table c =
-    let clear = clear_in (id_of c.args.id) _ _ _ c.as_slice.ensures.value c.other_requester.ensures c.in_default.is in
-    let found = place_in (id_of c.args.id) c.args.holder _ _ _ _ c.as_slice-2.ensures.value c.place_of.ensures
-    c.in-Some-place_of.is in
+pub returns-in-Some-clause-table : goal.returns-in-Some-clause-table
+returns-in-Some-clause-table c =
     rw (← c.self.view_is)
-    (set-same c.self.inside.grants.items c.in-Some-place_of.place c.index_mut-grant.result.now
-    c.index_mut-grant.result.now c.index_mut-grant.ensures.value
-    ∙ sym (asked-full (id_of c.args.id) c.args.holder c.self.inside.grants.items c.in-Some-place_of.place
-    c.index_mut-grant.result.now _ clear found (c.grant.view_is ∙ c.index_mut-grant.ensures.value) c.if-grant.true))
+    (refused_other c.self.inside.next c.self.inside.grants c.self.invariant c.args.id c.args.holder c.of-key.result
+    c.of-key.ensures c.in-Some.other c.in-Some.ensures.some).1
 
-pub invariant_of-self-in-Continue-1 : goal.invariant_of-self-in-Continue-1
-invariant_of-self-in-Continue-1 c =
-    let clear = clear_in (id_of c.args.id) _ _ _ c.as_slice.ensures.value c.other_requester.ensures c.in_default.is in
-    let none = place_in (id_of c.args.id) c.args.holder _ _ _ _ c.as_slice-2.ensures.value c.place_of.ensures
-    c.in-None.is in
-    subst IsSound (sym c.in_ok-push-in-None.ensures.items)
-    (sound-push (id_of c.args.id) c.args.holder c.self.inside.grants.items c.self.invariant
-    (All-find_none (is_in_the_way (id_of c.args.id)) c.self.inside.grants.items clear)
-    (All-position_none (is_grant_of (id_of c.args.id) c.args.holder) c.self.inside.grants.items none))
+pub invariant_of-self : goal.invariant_of-self
+invariant_of-self c =
+    filed-same c.self.inside.next c.self.inside.grants c.self.invariant c.args.id c.args.holder c.of-key.result
+    c.of-key.ensures c.in-Some-get_mut.held.now c.in-Some-get_mut.ensures.value _
+    (c.get_mut.follows.holds c.in-Some-get_mut.held.now).0
 
-pub returns-in_err-push-in-None-clause-err : goal.returns-in_err-push-in-None-clause-err
-returns-in_err-push-in-None-clause-err c =
-    let clear = clear_in (id_of c.args.id) _ _ _ c.as_slice.ensures.value c.other_requester.ensures c.in_default.is in
-    let none = place_in (id_of c.args.id) c.args.holder _ _ _ _ c.as_slice-2.ensures.value c.place_of.ensures
-    c.in-None.is in
+pub returns-then-held-clause-verdict : goal.returns-then-held-clause-verdict
+returns-then-held-clause-verdict c =
+    rw (← c.self.view_is)
+    (verdict-full c.self.inside.next c.self.inside.grants c.self.invariant c.args.id c.args.holder c.of-key.result
+    c.of-key.ensures c.in_default.ensures.none c.in-Some-get_mut.held.now c.in-Some-get_mut.ensures.value
+    c.if-held.true)
+
+pub returns-then-held-clause-table : goal.returns-then-held-clause-table
+returns-then-held-clause-table c =
+    rw (← c.self.view_is)
+    (asked-full c.self.inside.next c.self.inside.grants c.self.invariant c.args.id c.args.holder c.of-key.result
+    c.of-key.ensures c.in_default.ensures.none c.in-Some-get_mut.held.now c.in-Some-get_mut.ensures.value
+    c.if-held.true _ (c.get_mut.follows.holds c.in-Some-get_mut.held.now).0)
+
+pub invariant_of-self-in-Some-get_mut : goal.invariant_of-self-in-Some-get_mut
+invariant_of-self-in-Some-get_mut c =
+    let v = c.in-Some-get_mut.held.now in
+    let most = at_most c.self.inside.next c.self.inside.grants c.self.invariant c.args.id c.args.holder
+    c.of-key.result c.of-key.ensures c.in_default.ensures.none v c.in-Some-get_mut.ensures.value in
+    filed-more c.self.inside.next c.self.inside.grants c.self.invariant c.args.id c.args.holder c.of-key.result
+    c.of-key.ensures c.in_default.ensures.none v c.in-Some-get_mut.ensures.value
+    (omega (arith, most, c.if-held.false)) _ (c.get_mut.follows.holds (record v { count = v.count + 1 })).0
+
+pub returns-in_default-checked_add-clause-err : goal.returns-in_default-checked_add-clause-err
+returns-in_default-checked_add-clause-err c =
+    rw (← c.self.view_is)
+    (first_grant c.self.inside.next c.self.inside.grants c.self.invariant c.args.id c.args.holder c.of-key.result
+    c.of-key.ensures c.in_default.ensures.none c.in-None.ensures.value)
+
+pub returns-in_err-insert-in-None-clause-err : goal.returns-in_err-insert-in-None-clause-err
+returns-in_err-insert-in-None-clause-err c =
     on_err_given c.from_residual.result
-    (rw (← c.self.view_is) (
-      rw (free-absent (id_of c.args.id) c.args.holder c.self.inside.grants.items clear none) refl,
-      count-absent (id_of c.args.id) c.args.holder c.self.inside.grants.items
-          (All-position_none (is_grant_of (id_of c.args.id) c.args.holder) c.self.inside.grants.items none),
-    ))
+    (rw (← c.self.view_is)
+    (first_grant c.self.inside.next c.self.inside.grants c.self.invariant c.args.id c.args.holder c.of-key.result
+    c.of-key.ensures c.in_default.ensures.none c.in-None.ensures.value))
+
+pub invariant_of-self-in-None : goal.invariant_of-self-in-None
+invariant_of-self-in-None c =
+    let first : Held = record { requester = c.args.id.requester; count = 1; number = c.self.inside.next } in
+    rw c.in-Some-checked_add.ensures.1
+    (filed-first c.self.inside.next c.self.inside.grants c.self.invariant c.args.id c.args.holder c.of-key.result
+    c.of-key.ensures c.in_default.ensures.none c.in-None.ensures.value _
+    (c.in_ok-insert-in-None.ensures.entries
+    ∙ ap (λ m. insert_entry key_cmp m.entries c.of-key.result first) c.get_mut.follows.holds-at-none)
+    c.insert.ensures.ordered)
 
 pub returns-clause-verdict : goal.returns-clause-verdict
 returns-clause-verdict c =
-    let clear = clear_in (id_of c.args.id) _ _ _ c.as_slice.ensures.value c.other_requester.ensures c.in_default.is in
     rw (← c.self.view_is)
-    (elim c.match-place_of.branch [
-      | in-Some-place_of+else-grant w ↦
-          let found = place_in (id_of c.args.id) c.args.holder _ _ _ _ c.as_slice-2.ensures.value c.place_of.ensures
-          w.in-Some-place_of.is in
+    (elim c.match-get_mut.branch [
+      | in-Some-get_mut+else-held w ↦
+          let v = w.in-Some-get_mut.held.now in
+          let most = at_most c.self.inside.next c.self.inside.grants c.self.invariant c.args.id c.args.holder
+          c.of-key.result c.of-key.ensures c.in_default.ensures.none v w.in-Some-get_mut.ensures.value in
           ap (λ (o : Option Id). verdict_of o)
-          (sym (free-place (id_of c.args.id) c.args.holder c.self.inside.grants.items w.in-Some-place_of.place
-          w.index_mut-grant.result.now _ clear found (w.grant.view_is ∙ w.index_mut-grant.ensures.value) (omega arith)))
-      | in-None+in_ok-push-in-None w ↦
-          let none = place_in (id_of c.args.id) c.args.holder _ _ _ _ c.as_slice-2.ensures.value c.place_of.ensures
-          w.in-None.is in
+          (sym (free-held c.self.inside.next c.self.inside.grants c.self.invariant c.args.id c.args.holder
+          c.of-key.result c.of-key.ensures c.in_default.ensures.none v w.in-Some-get_mut.ensures.value
+          (omega (arith, most, w.if-held.false))))
+      | in-None+in-Some-checked_add+in_ok-insert-in-None w ↦
           ap (λ (o : Option Id). verdict_of o)
-          (sym (free-absent (id_of c.args.id) c.args.holder c.self.inside.grants.items clear none))
+          (sym (free-first c.self.inside.next c.self.inside.grants c.self.invariant c.args.id c.args.holder
+          c.of-key.result c.of-key.ensures c.in_default.ensures.none w.in-None.ensures.value))
     ])
 
 pub returns-clause-table : goal.returns-clause-table
 returns-clause-table c =
-    let clear = clear_in (id_of c.args.id) _ _ _ c.as_slice.ensures.value c.other_requester.ensures c.in_default.is in
     rw (← c.self.view_is)
-    (elim c.match-place_of.branch [
-      | in-Some-place_of+else-grant w ↦
-          let found = place_in (id_of c.args.id) c.args.holder _ _ _ _ c.as_slice-2.ensures.value c.place_of.ensures
-          w.in-Some-place_of.is in
+    (elim c.match-get_mut.branch [
+      | in-Some-get_mut+else-held w ↦
+          let v = w.in-Some-get_mut.held.now in
+          let most = at_most c.self.inside.next c.self.inside.grants c.self.invariant c.args.id c.args.holder
+          c.of-key.result c.of-key.ensures c.in_default.ensures.none v w.in-Some-get_mut.ensures.value in
           w.self-is
-          ∙ sym (asked-place (id_of c.args.id) c.args.holder c.self.inside.grants.items w.in-Some-place_of.place
-          w.index_mut-grant.result.now _ clear found (w.grant.view_is ∙ w.index_mut-grant.ensures.value) (omega arith))
-      | in-None+in_ok-push-in-None w ↦
-          let none = place_in (id_of c.args.id) c.args.holder _ _ _ _ c.as_slice-2.ensures.value c.place_of.ensures
-          w.in-None.is in
-          w.self-is ∙ w.in_ok-push-in-None.ensures.items
-          ∙ sym (asked-absent (id_of c.args.id) c.args.holder c.self.inside.grants.items clear none)
+          ∙ asked-more c.self.inside.next c.self.inside.grants c.self.invariant c.args.id c.args.holder
+          c.of-key.result c.of-key.ensures c.in_default.ensures.none v w.in-Some-get_mut.ensures.value
+          (omega (arith, most, w.if-held.false)) _ (c.get_mut.follows.holds (record v { count = v.count + 1 })).0
+      | in-None+in-Some-checked_add+in_ok-insert-in-None w ↦
+          let first : Held = record { requester = c.args.id.requester; count = 1; number = c.self.inside.next } in
+          w.self-is ∙ ap (λ n. listed n w.insert.new.self.entries) w.in-Some-checked_add.ensures.1
+          ∙ asked-first c.self.inside.next c.self.inside.grants c.self.invariant c.args.id c.args.holder
+          c.of-key.result c.of-key.ensures c.in_default.ensures.none w.in-None.ensures.value _
+          (w.in_ok-insert-in-None.ensures.entries
+          ∙ ap (λ m. insert_entry key_cmp m.entries c.of-key.result first) c.get_mut.follows.holds-at-none)
     ])

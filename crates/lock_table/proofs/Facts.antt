@@ -1,0 +1,36 @@
+-- What the answers of tests and calls say.
+use Rattle.std.proofs.Common.{ℕ, Bool, true, false, ◌==◌, ◌≡◌, Option, Some, None, Result, Ok, Err, refl, sym, ◌∙◌}
+use Rattle.std.specs.Prelude.{◌&&◌, not, IfNone}
+use Rattle.std.specs.Result.{OnErr}
+use Rattle.std.proofs.lemmas.Bool.{eqb-true}
+
+-- both of two tests that hold together
+pub both : (a b : Bool) → (a && b) ≡ true → (a ≡ true) × (b ≡ true)
+both true true h = (refl, refl)
+both true false h = cc
+both false b h = cc
+
+-- the answers of `!=`
+pub unlike : (a b : ℕ) (r : Bool) → r ≡ not (a == b) → r ≡ true → (a == b) ≡ false
+unlike a b r e i = go (a == b) (sym e ∙ i)
+  where
+    go : (x : Bool) → not x ≡ true → x ≡ false
+    go true h = cc
+    go false h = refl
+
+pub alike : (a b : ℕ) (r : Bool) → r ≡ not (a == b) → r ≡ false → a ≡ b
+alike a b r e i = eqb-true a b (go (a == b) (sym e ∙ i))
+  where
+    go : (x : Bool) → not x ≡ false → x ≡ true
+    go true h = refl
+    go false h = cc
+
+-- what is so of the missing and of the other results is so of the missing
+pub on_none_given : {X P : Type 0} (r : Option X) → P → IfNone r P
+on_none_given None h = h
+on_none_given (Some x) h = tt
+
+-- what is so of the failed and of the other results is so of the failed
+pub on_err_given : {X E P : Type 0} (r : Result X E) → P → OnErr r P
+on_err_given (Ok x) h = tt
+on_err_given (Err e) h = h

@@ -1,0 +1,98 @@
+-- What one grant more or less of what is filed under a key makes of the list of the grants.
+use Rattle.std.proofs.Common.{ℕ, false, ◌==◌, ◌≡◌, ◌<◌, ◌≤◌, ◌+◌, ◌-◌, Some, None, List, sym, ap, ◌∙◌, subst, arith}
+use Rattle.std.specs.BTreeMap.{BTreeMap, get, is_at}
+use Rattle.std.specs.List.Sorted.{IsStrictlySortedBy}
+use Rattle.std.specs.Map.{keys_of, set_value, remove_entry}
+use Rattle.std.proofs.lemmas.Map.Steps.{set_value_same}
+use Rattle.registry_model.specs.Process.{Process}
+use Rattle.protocol_model.specs.LockTable.{Locks, grant, give_back, last_count}
+use Rattle.term.specs.declared.lock_id.LockId.{LockId}
+use Rattle.lock_table.specs.Filed.{Entry, IsFiled, key_cmp, listed}
+use Rattle.lock_table.specs.Ids.{id_of}
+use Rattle.lock_table.specs.declared.grant.Key.{Key}
+use Rattle.lock_table.specs.declared.grant.Held.{Held}
+use Rattle.lock_table.proofs.Changes.{grant-recount, give_back-recount, give_back-filter}
+use Rattle.lock_table.proofs.Filing.{key_of, found_under, counted-held, count_in, filed-recount, filed-remove, listed-recount, listed-remove, never-absent, never-other}
+use Rattle.lock_table.proofs.Places.{give_back-absent}
+
+module _ (n : ℕ) (m : BTreeMap Key Held) (filed : IsFiled n m.entries) (lock : LockId) (p : Process) (k : Key)
+    (under : k ≡ key_of lock p) where
+  abbrev Table : Locks
+  Table = listed n m.entries
+
+  -- Something is filed there
+  module _ (v : Held) (found : Some v ≡ get key_cmp m k) where
+    at : get key_cmp m (key_of lock p) ≡ Some v
+    at = found_under m lock p k (Some v) under found
+
+    pub written-same : (es : List Entry) → es ≡ set_value (is_at (key_cmp k)) m.entries v → es ≡ m.entries
+    written-same es e = e ∙ set_value_same (is_at (key_cmp k)) m.entries v (sym found)
+
+    pub filed-same : (es : List Entry) → es ≡ set_value (is_at (key_cmp k)) m.entries v → IsFiled n es
+    filed-same es e = subst (IsFiled n) (sym (written-same es e)) filed
+
+    -- in another requester's name
+    pub give_back-stranger : (v.requester == lock.requester) ≡ false → (es : List Entry)
+        → es ≡ set_value (is_at (key_cmp k)) m.entries v → listed n es ≡ give_back (id_of lock) p Table
+    give_back-stranger other es e =
+        ap (listed n) (written-same es e)
+        ∙ sym (give_back-absent (id_of lock) p Table (never-other n m filed lock p v at other))
+
+    module _ (own : v.requester ≡ lock.requester) where
+      written : (c : ℕ) (es : List Entry)
+          → es ≡ set_value (is_at (key_cmp k)) m.entries (record v { count = c })
+          → es ≡ set_value (is_at (key_cmp (key_of lock p))) m.entries (record v { count = c })
+      written c es e = e ∙ ap (λ (q : Key). set_value (is_at (key_cmp q)) m.entries (record v { count = c })) under
+
+      pub filed-written : (c : ℕ) (es : List Entry) → 1 ≤ c → c ≤ last_count
+          → es ≡ set_value (is_at (key_cmp k)) m.entries (record v { count = c }) → IsFiled n es
+      filed-written c es low high e =
+          subst (IsFiled n) (sym (written c es e)) (filed-recount n m filed lock p v at own c low high)
+
+      pub count_range : (1 ≤ v.count) × (v.count ≤ last_count)
+      count_range = count_in n m filed lock p v at own
+
+      pub give_back-less : (es : List Entry) → 1 < v.count
+          → es ≡ set_value (is_at (key_cmp k)) m.entries (record v { count = v.count - 1 })
+          → listed n es ≡ give_back (id_of lock) p Table
+      give_back-less es more e =
+          ap (listed n) (written (v.count - 1) es e) ∙ listed-recount n m filed lock p v at own (v.count - 1)
+          ∙ sym (give_back-recount (id_of lock) p v.count Table filed.sound (counted-held n m filed lock p v at own)
+          more)
+
+      pub grant-more : (es : List Entry)
+          → es ≡ set_value (is_at (key_cmp k)) m.entries (record v { count = v.count + 1 })
+          → listed n es ≡ grant (id_of lock) p Table
+      grant-more es e =
+          ap (listed n) (written (v.count + 1) es e) ∙ listed-recount n m filed lock p v at own (v.count + 1)
+          ∙ sym (grant-recount (id_of lock) p v.count Table filed.sound (counted-held n m filed lock p v at own)
+          (omega (arith, count_range.0)))
+
+      removed : (es fs : List Entry) → es ≡ set_value (is_at (key_cmp k)) m.entries v
+          → fs ≡ remove_entry (is_at (key_cmp k)) es
+          → fs ≡ remove_entry (is_at (key_cmp (key_of lock p))) m.entries
+      removed es fs e f =
+          f ∙ ap (remove_entry (is_at (key_cmp k))) (written-same es e)
+          ∙ ap (λ (q : Key). remove_entry (is_at (key_cmp q)) m.entries) under
+
+      pub filed-removed : (es fs : List Entry) → es ≡ set_value (is_at (key_cmp k)) m.entries v
+          → fs ≡ remove_entry (is_at (key_cmp k)) es → IsStrictlySortedBy key_cmp (keys_of fs) → IsFiled n fs
+      filed-removed es fs e f rising =
+          let r = removed es fs e f in
+          subst (IsFiled n) (sym r)
+          (filed-remove n m filed lock p v at own
+          (subst (λ (gs : List Entry). IsStrictlySortedBy key_cmp (keys_of gs)) r rising))
+
+      pub give_back-gone : (es fs : List Entry) → es ≡ set_value (is_at (key_cmp k)) m.entries v
+          → fs ≡ remove_entry (is_at (key_cmp k)) es → v.count ≤ 1 → listed n fs ≡ give_back (id_of lock) p Table
+      give_back-gone es fs e f last =
+          ap (listed n) (removed es fs e f) ∙ listed-remove n m filed lock p v at own
+          ∙ sym (give_back-filter (id_of lock) p v.count Table filed.sound (counted-held n m filed lock p v at own)
+          last)
+
+  -- Nothing is filed there
+  module _ (absent : None ≡ get key_cmp m k) where
+    pub give_back-none : give_back (id_of lock) p Table ≡ Table
+    give_back-none =
+        give_back-absent (id_of lock) p Table
+        (never-absent n m filed lock p (found_under m lock p k None under absent))
