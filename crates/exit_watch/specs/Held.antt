@@ -3,7 +3,7 @@ use Rattle.std.specs.Prelude.{◌≡◌, ℕ, Bool, true, ◌==◌, nat_lt, Opti
 use Rattle.std.specs.List.{list_any}
 use Rattle.registry_model.specs.Process.{Process}
 use Rattle.registry_model.specs.Table.{Table, owns}
-use Rattle.protocol_model.specs.Watch.{Watch, is_dead, next_serial}
+use Rattle.protocol_model.specs.Watch.{Watch, is_dead, is_live, with_dead, next_serial}
 use Rattle.protocol_model.specs.Event.{last_u32}
 
 -- a watch, as its clauses see it
@@ -23,6 +23,10 @@ serial_left w = if nat_lt last_u32 (next_serial w) then None else Some (next_ser
 -- the process of this node that has this serial
 abbrev pub process_of : Held → ℕ → Process
 process_of h s = record { node = h.node; serial = s }
+
+-- p is killed: it is dead from now on, if it was live at node a
+abbrev pub with_killed : ℕ → Process → Watch → Watch
+with_killed a p w = if is_live a w p then with_dead p.serial w else w
 
 -- the process of this serial is a suspect
 abbrev pub is_suspect : Held → ℕ → Bool

@@ -45,6 +45,20 @@ fn tells_the_living_from_the_dead(rt: HostRuntime) -> Result<(), Fail> {
     Ok(())
 }
 
+#[test]
+fn kills_what_lives_here(rt: HostRuntime) -> Result<(), Fail> {
+    let mut watch = Watch::resume(rt.alloc(), parse_node("a")?, 1);
+    for (process, lived) in [("a.1", true), ("a.1", false), ("b.1", false), ("a.2", true)] {
+        assert_eq!(rt; watch.kill(&parse_pid(process)?), Ok(lived), "{process}");
+    }
+    assert_eq!(rt; watch.spawn(), Ok(parse_pid("a.3")?));
+    assert_eq!(rt;
+        watch.exit(&parse_pid("a.2")?),
+        Err(WatchFault::AlreadyExited)
+    );
+    Ok(())
+}
+
 /// A name is put for a process, as a node does it.
 fn put_for(
     watch: &mut Watch,

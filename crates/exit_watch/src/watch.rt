@@ -6,7 +6,7 @@ ghost use Rattle.registry_model.specs.Process.{Text};
 ghost use Rattle.protocol_model.specs.Watch.{is_live, is_dead, is_issued, next_serial, with_spawned, with_dead, owed};
 ghost use Rattle.protocol_model.specs.Event.{Calling, Exiting, Spawn, last_u32};
 ghost use Rattle.exit_watch.specs.Faults.{Refuses, refusal_of, cause_of};
-ghost use Rattle.exit_watch.specs.Held.{watch_from, process_of, serial_left, AreSuspected, KeepsSuspects};
+ghost use Rattle.exit_watch.specs.Held.{watch_from, process_of, serial_left, with_killed, AreSuspected, KeepsSuspects};
 ghost use Rattle.exit_watch.specs.declared.faults.WatchFault.TheVariants.{SerialsSpent, Memory};
 
 use crate::faults::WatchFault;
@@ -160,6 +160,22 @@ impl Watch {
             Some(fault) => Err(fault),
             None => self.bury(process.serial).map_err(|_| WatchFault::Memory),
         }
+    }
+
+    /// The process is dead from now on where it lives here, whether its serial was given or not; any other is passed
+    /// over. Tells whether it lived here.
+    pub fn kill(&mut self, process: &Pid) -> Result<bool, AllocError>
+        ensures lived { IfOk result (λ lived. lived ≡ is_live self.old.node self.old.watch process.now) }
+        ensures node { self.new.node ≡ self.old.node }
+        ensures ok { OnOk result (self.new.watch ≡ with_killed self.old.node process.now self.old.watch) }
+        ensures suspected { KeepsSuspects self.old self.new }
+        ensures unchanged { OnErr result (self.new ≡ self.old) }
+    {
+        let lived = self.is_live(process);
+        if lived {
+            self.bury(process.serial)?;
+        }
+        Ok(lived)
     }
 
     /// The process of this serial is dead from now on.
