@@ -64,6 +64,7 @@ impl LockCalls {
         ensures only_new { OnOk result (All (λ c. (c ≡ call) ⊎ IsAmong self.old.calls c) self.new.calls) }
         ensures unchanged { OnErr result (self.new ≡ self.old) }
         ensures err { OnErr result (call_of call.holder (seen self.old) ≡ None) }
+        ensures ordered { AreOrdered self.old.node (seen self.old) }
     {
         self.calls.insert(call.holder.serial, call)?;
         Ok(())
@@ -76,6 +77,7 @@ impl LockCalls {
         ensures call { option_map as_call result ≡ call_of holder.now (seen self.old) }
         ensures member { IfSome result (IsAmong self.old.calls) }
         ensures none_new { All (IsAmong self.old.calls) self.new.calls }
+        ensures ordered { AreOrdered self.old.node (seen self.old) }
     {
         if holder.node != self.node {
             return None;

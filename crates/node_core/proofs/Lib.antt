@@ -4,8 +4,11 @@ mod Rules
 mod Rounds
 mod Reading
 mod Refusals
+mod LockRefusals
 mod Exits
 mod Noting
 mod Calls
 mod Judging
 mod Opening
+mod Each
+mod Locking

@@ -2,6 +2,9 @@
 use Rattle.std.proofs.Common.{ℕ, Bool, true, false, ◌≡◌, None, List, ◌++◌, refl, sym, ap, ◌∙◌, subst}
 use Rattle.std.specs.Prelude.{not, if◌then◌else◌}
 use Rattle.registry_model.specs.Process.{Process, is_process}
+use Rattle.protocol_model.specs.Node.{call_of}
+use Rattle.protocol_model.specs.Turn.{Turn}
+use Rattle.protocol_model.specs.Client.{hear_lock}
 use Rattle.protocol_model.specs.Registrar.{registrar}
 use Rattle.protocol_model.specs.Deciding.{hear_answer}
 use Rattle.protocol_model.specs.Reading.{hear, read, receive}
@@ -14,25 +17,36 @@ use Rattle.node_core.specs.Seen.{turn_of, letter_of}
 use Rattle.node_core.specs.Steps.{Makes, Takes, Steps, IsTurn, refusal_of}
 use Rattle.node_core.proofs.Receivers.{sends_within}
 
--- an answer to the registrar goes to its round
-pub hears_own : (h k : Held) (t u : Made) (f : ℕ) (p q : Process) (g : Bool) → q ≡ registrar h.name → false
-    ≡ not (is_process p q) → (number : ℕ → ℕ)
-    → Makes (λ n a w. hear_answer n a number f g w.node.current w) h t k u
-    → Makes (λ n a. hear n a number f p g) h t k u
-hears_own h k t u f p q g is own number m = record {
-  name = m.name;
-  world = m.world;
-  turn = m.turn ∙ ap (λ (b : Bool). if b then hear_answer n h.name number f g (turn_of h t).node.current (turn_of h t)
-      else turn_of h t)
-      (sym (passes (is_process p q) own) ∙ ap (is_process p) is);
-}
-  where
-    n : ℕ
-    n = bound_of h.world
+-- an answer goes to the round of its holder: p is who it is for, and q the registrar
+module _ (h k : Held) (t u : Made) (f : ℕ) (p q : Process) (g : Bool) (is : q ≡ registrar h.name)
+    (number : ℕ → ℕ) where
+  -- one of the two rounds hears it
+  abbrev heard_by : Bool → Turn
+  heard_by b = if b
+      then hear_answer (bound_of h.world) h.name number f g (turn_of h t).node.current (turn_of h t)
+      else hear_lock (bound_of h.world) h.name f g (call_of p (turn_of h t).node.calls) (turn_of h t)
 
-    passes : (b : Bool) → false ≡ not b → b ≡ true
-    passes true e = refl
-    passes false e = cc
+  -- which of them it is
+  heard_is : (b : Bool) → not b ≡ not (is_process p q)
+      → heard_by b ≡ hear (bound_of h.world) h.name number f p g (turn_of h t)
+  heard_is b e = ap heard_by (same b (is_process p q) e ∙ ap (is_process p) is)
+    where
+      same : (c d : Bool) → not c ≡ not d → c ≡ d
+      same true true e = refl
+      same false false e = refl
+      same true false e = cc
+      same false true e = cc
+
+  -- the registrar's
+  pub hears_own : false ≡ not (is_process p q) → Makes (λ n a w. hear_answer n a number f g w.node.current w) h t k u
+      → Makes (λ n a. hear n a number f p g) h t k u
+  hears_own own m = record { name = m.name; world = m.world; turn = m.turn ∙ heard_is true own }
+
+  -- that of the process's call
+  pub hears_other : true ≡ not (is_process p q)
+      → Makes (λ n a w. hear_lock n a f g (call_of p w.node.calls) w) h t k u
+      → Makes (λ n a. hear n a number f p g) h t k u
+  hears_other other m = record { name = m.name; world = m.world; turn = m.turn ∙ heard_is false other }
 
 -- what is read is this letter
 pub reads : (h k : Held) (t u : Made) (f : ℕ) (l m : Letter) → l ≡ m → (number : ℕ → ℕ)

@@ -1,34 +1,37 @@
 -- The rules of a node send to nodes of its world alone.
 use Rattle.std.proofs.Common.{ℕ, zero, suc, Bool, true, false, ◌==◌, ◌≡◌, ◌<◌, ◌+◌, Option, Some, None, List, [], ◌∷◌, ◌++◌, get_or, map, refl, sym, ap, ◌∙◌, subst, inl, inr, arith}
 use Rattle.std.specs.Prelude.{◌&&◌, not, if◌then◌else◌, All, fold}
+use Rattle.std.specs.List.{list_any}
 use Rattle.std.proofs.lemmas.Bool.{cases_lt, eqb-true}
 use Rattle.std.proofs.lemmas.List.{get_or-map, length-map}
-use Rattle.std.proofs.lemmas.List.Elements.{All-nil, All-append, All-push, All-map}
-use Rattle.registry_model.specs.Process.{Process, is_process, Nodes, nodes_of}
+use Rattle.std.proofs.lemmas.List.Elements.{All-nil, All-append, All-push, All-map, All-filter}
+use Rattle.registry_model.specs.Process.{Process, is_process, Nodes, nodes_of, without_node}
 use Rattle.registry_model.specs.Table.{Change as AnyChange, StrikeOwner}
 use Rattle.registry_model.specs.Call.{NameCall, Reply as AnyReply, is_grant, change_of as change_of_call, reply_to}
 use Rattle.registry_model.specs.History.{Entry as AnyEntry}
 use Rattle.protocol_model.specs.Letter.{Letter as AnyLetter, Id, Global, is_down}
 use Rattle.protocol_model.specs.LockTable.{is_free_for}
 use Rattle.protocol_model.specs.Event.{Call as AnyCall, Event as AnyEvent}
-use Rattle.protocol_model.specs.Node.{Op as AnyOp, Current, LockCall, call_of as call_of_holder, drop_call}
+use Rattle.protocol_model.specs.Node.{Op as AnyOp, Current, LockCall, LockPhase, Target, Times, call_of as call_of_holder, put_call, drop_call, targets}
 use Rattle.protocol_model.specs.Round as round
 use Rattle.protocol_model.specs.Round.{Round, Mark, begin, greatest, asked, granted, owes, opens, answer, is_out, is_over, is_empty, Ending, is_held}
-use Rattle.protocol_model.specs.Turn.{Turn, Send, begun, at_work, with_queue, send_all, enter}
+use Rattle.protocol_model.specs.Turn.{Turn, Send, begun, at_work, with_queue, counted, keep_call, send_all, enter}
 use Rattle.protocol_model.specs.Registrar.{registrar, answer_op, finish, done, write, ask_global, ask_rest, await_less, start, start_next, start_queue, start_free, retry_global}
 use Rattle.protocol_model.specs.Watch.{owed}
-use Rattle.protocol_model.specs.Client.{hear_lock, owe_less, retry_in, retry_locks}
+use Rattle.protocol_model.specs.Client.{is_spent, one_less, in_phase, new_call, close_call, ask_lock, try_lock, give_lock, refuse_lock, end_lock, end_lock_by, go_on_lock, hear_lock, hear_lock_in, ask_back, delete_lock, owe_less, owe_less_in, retry_in, retry_locks}
 use Rattle.protocol_model.specs.Deciding.{held, end_by, end_round, go_on, hear_answer}
 use Rattle.protocol_model.specs.Reading.{judge, hear, take_back, read, receive}
 use Rattle.protocol_model.specs.Calling.{event, call, die}
 use Rattle.term.specs.NodeSets.{set_of}
 use Rattle.lock_table.specs.Ids.{id_of}
+use Rattle.lock_calls.specs.Held.{seen}
 use Rattle.locker.proofs.Marks.{asked-seen}
 use Rattle.transaction.specs.declared.op.Op.{Op}
 use Rattle.transaction.specs.declared.op.Op.TheVariants.{Name as NameOp, Strike}
 use Rattle.transaction.specs.Ops.{op_of}
+use Rattle.transaction.specs.Calls.{target_of, retries_of}
 use Rattle.node_core.specs.declared.events.Call.{Call}
-use Rattle.node_core.specs.declared.events.Call.TheVariants.{Spawn, Whereis, RegisteredNames, Register, ReRegister, Unregister}
+use Rattle.node_core.specs.declared.events.Call.TheVariants.{Spawn, Whereis, RegisteredNames, Register, ReRegister, Unregister, SetLock as SetsLock, DelLock as DeletesLock}
 use Rattle.node_core.specs.declared.events.Event.{Event}
 use Rattle.node_core.specs.declared.events.Event.TheVariants.{Call as Calls, FromPeer, Retry, Exit}
 use Rattle.node_core.specs.declared.events.Letter.{Letter}
@@ -36,10 +39,11 @@ use Rattle.node_core.specs.declared.events.Letter.TheVariants.{SetLock, LockAnsw
 use Rattle.node_core.specs.declared.node.Phase.{Phase}
 use Rattle.node_core.specs.declared.node.Phase.TheVariants.{Asking, Waiting, Writing}
 use Rattle.node_core.specs.Made.{Made}
-use Rattle.node_core.specs.Held.{Held, IsWhole, IsPhaseWithin, bound_of}
+use Rattle.node_core.specs.Held.{Held, IsWhole, IsPhaseWithin, IsCallWithin, bound_of}
 use Rattle.node_core.specs.Seen.{node_of, turn_of, send_of, letter_of, call_of, current_of}
 use Rattle.node_core.specs.Steps.{IsTurn, IsHeardWithin, GoWithin}
 use Rattle.node_core.proofs.Sends.{below_bound}
+use Rattle.node_core.proofs.Locking.{All-put_call, found_of}
 
 -- all of these nodes are of the others
 abbrev AreOf : Nodes → Nodes → Type 0
@@ -66,14 +70,23 @@ IsCurrentOf world (Current.Waiting op) = IsPlain op
 IsCurrentOf world (Current.Writing op s awaited reply) = AreOf world s
 IsCurrentOf world _ = Unit {0}
 
--- whom a node knows of and sends to is of the world; it has no lock calls
+-- who is asked by a lock call, or owes it something, is of the world
+abbrev IsPhaseOf : Nodes → LockPhase → Type 0
+IsPhaseOf world (LockPhase.Asking r) = AreOf world (asked r)
+IsPhaseOf world LockPhase.Waiting = Unit {0}
+IsPhaseOf world (LockPhase.Deleting owing) = AreOf world owing
+
+abbrev IsCallOf : Nodes → LockCall → Type 0
+IsCallOf world c = IsPhaseOf world c.phase
+
+-- whom a node knows of and sends to is of the world
 record Knows (n : ℕ) (world known : Nodes) (ops : List AnyOp) (cur : Current) (locks : List LockCall)
     (ss : List Send) : Type 0 where
   pub members : AreOf world known
   pub boss : world (greatest n known) ≡ true
   pub queue : ArePlain ops
   pub current : IsCurrentOf world cur
-  pub calls : locks ≡ []
+  pub calls : All (IsCallOf world) locks
   pub sends : GoTo world ss
 
 -- the same of a turn
@@ -99,6 +112,16 @@ greatest-within (suc n) s a l e = go (s n) refl (λ less. greatest-within n s a 
       | inl less ↦ below less
       | inr more ↦ absurd (never (omega arith) here)
     ]
+
+-- so it is of a set with a node
+greatest-of : (n : ℕ) (s : Nodes) → is_empty n s ≡ false → s (greatest n s) ≡ true
+greatest-of zero s e = cc
+greatest-of (suc n) s e = go (s n) refl e (greatest-of n s)
+  where
+    go : (b : Bool) → s n ≡ b → (not b && is_empty n s) ≡ false → (is_empty n s ≡ false → s (greatest n s) ≡ true)
+        → s (if b then n else greatest n s) ≡ true
+    go true here f below = here
+    go false here f below = below f
 
 -- the nodes of a set are of it
 nodes-within : (n : ℕ) (s : Nodes) → All (λ c. s c ≡ true) (nodes_of n s)
@@ -182,13 +205,13 @@ module _ (n a : ℕ) (number : ℕ → ℕ) (world : Nodes) where
     }
 
     -- these lock calls are unanswered
-    keeps : (cs : List LockCall) → cs ≡ [] → Knows n world known ops cur cs ss
-    keeps cs none = record {
+    keeps : (cs : List LockCall) → All (IsCallOf world) cs → Knows n world known ops cur cs ss
+    keeps cs of = record {
       members = W.members;
       boss = W.boss;
       queue = W.queue;
       current = W.current;
-      calls = none;
+      calls = of;
       sends = W.sends;
     }
 
@@ -343,6 +366,127 @@ module _ (n a : ℕ) (number : ℕ → ℕ) (world : Nodes) where
       go Current.Free = starts_next (owed a u.node.replica.table u.node.watch) u W
       go _ = W
 
+  -- a lock call ends
+  closes : (c : LockCall) (g : Bool) (u : Turn) → IsWithin n world u → IsWithin n world (close_call n a c g u)
+  closes c g u W = keeps W (drop_call c.holder u.node.calls)
+      (All-filter (λ d. not (is_process d.holder c.holder)) (IsCallOf world) u.node.calls W.calls)
+
+  -- a lock call stands so now
+  puts : (c : LockCall) (u : Turn) → IsCallOf world c → IsWithin n world u → IsWithin n world (keep_call c u)
+  puts c u of W = keeps W (put_call c u.node.calls) (All-put_call (IsCallOf world) c u.node.calls of W.calls)
+
+  -- the nodes that a call asks are members
+  targets-of : (known : Nodes) (t : Target) → AreOf world known → AreOf world (targets known t)
+  targets-of known Target.All of = of
+  targets-of known (Target.Named ns) of = λ c e. of c (first (known c) (list_any (λ m. m == c) ns) e)
+
+  -- a `set_lock` is tried
+  tries : (c : LockCall) (u : Turn) → IsWithin n world u → IsWithin n world (try_lock n a c u)
+  tries c u W = go (is_empty n s) refl
+    where
+      s : Nodes
+      s = targets u.node.replica.members c.target
+
+      of : AreOf world s
+      of = targets-of u.node.replica.members c.target W.members
+
+      go : (b : Bool) → is_empty n s ≡ b
+          → IsWithin n world (if b then close_call n a c false u else ask_lock n a c s u)
+      go true e = closes c false u W
+      go false e =
+          sends (puts (in_phase (LockPhase.Asking (begin n s)) c) u (λ x f. of x (begun_of n s x f)) W)
+          (greatest n s) (AnyLetter.SetLock c.id c.holder) (of (greatest n s) (greatest-of n s e))
+
+  refuses_lock : (c : LockCall) (u : Turn) → IsWithin n world u → IsWithin n world (refuse_lock n a c u)
+  refuses_lock c u W = go (is_spent c.retries)
+    where
+      go : (b : Bool)
+          → IsWithin n world (if b then close_call n a c false u else keep_call (in_phase LockPhase.Waiting c) u)
+      go true = closes c false u W
+      go false = puts (in_phase LockPhase.Waiting c) u tt W
+
+  ends_lock : (c : LockCall) (r : Round) (u : Turn) → AreOf world (asked r) → IsWithin n world u
+      → IsWithin n world (end_lock n a c r u)
+  ends_lock c r u of W = go (is_over n r) (is_held n (asked r) r)
+    where
+      go : (b d : Bool) → IsWithin n world (if b
+          then end_lock_by n a (if d then Ending.Held else Ending.GiveBack (granted r)) c u else u)
+      go true true = closes c true u W
+      go true false =
+          refuses_lock c (give_lock n a c (granted r) u)
+          (sends_all W (granted r) (AnyLetter.GiveBack c.id c.holder false) (λ x e. of x (granted_of r x e)))
+      go false d = W
+
+  hears_lock : (f : ℕ) (g : Bool) (phase : LockPhase) (c : LockCall) (u : Turn) → IsPhaseOf world phase
+      → IsWithin n world u → IsWithin n world (hear_lock_in n a f g phase c u)
+  hears_lock f g (LockPhase.Asking r) c u of W = go (owes r f) refl
+    where
+      letter : AnyLetter
+      letter = AnyLetter.SetLock c.id c.holder
+
+      r2 : Round
+      r2 = answer f g r
+
+      asked_now : owes r f ≡ true → AreOf world (asked r2)
+      asked_now owed x e = of x (answered_of r f g owed x e)
+
+      go : (b : Bool) → owes r f ≡ b
+          → IsWithin n world (if b then go_on_lock n a c r2 (ask_rest n a f g letter r u) else u)
+      go true owed =
+          ends_lock (in_phase (LockPhase.Asking r2) c) r2
+          (keep_call (in_phase (LockPhase.Asking r2) c) (ask_rest n a f g letter r u)) (asked_now owed)
+          (puts (in_phase (LockPhase.Asking r2) c) (ask_rest n a f g letter r u) (asked_now owed)
+          (asks_rest f g letter r u of W))
+      go false owed = W
+  hears_lock f g LockPhase.Waiting c u of W = W
+  hears_lock f g (LockPhase.Deleting owing) c u of W = W
+
+  -- a `del_lock` goes out
+  deletes : (c : LockCall) (u : Turn) → IsWithin n world u → IsWithin n world (delete_lock n a c u)
+  deletes c u W = go (is_empty n s)
+    where
+      s : Nodes
+      s = targets u.node.replica.members c.target
+
+      of : AreOf world s
+      of = targets-of u.node.replica.members c.target W.members
+
+      go : (b : Bool) → IsWithin n world (if b then close_call n a c true u else ask_back n a c s u)
+      go true = closes c true u W
+      go false = sends_all (puts (in_phase (LockPhase.Deleting s) c) u of W) s
+          (AnyLetter.GiveBack c.id c.holder true) of
+
+  owes_less : (f : ℕ) (phase : LockPhase) (c : LockCall) (u : Turn) → IsPhaseOf world phase
+      → IsWithin n world u → IsWithin n world (owe_less_in n a f phase c u)
+  owes_less f (LockPhase.Deleting owing) c u of W = go (owing f) (is_empty n less)
+    where
+      less : Nodes
+      less = without_node f owing
+
+      others : (x : ℕ) (b : Bool) → (if b then false else owing x) ≡ true → owing x ≡ true
+      others x true e = cc
+      others x false e = e
+
+      go : (b d : Bool) → IsWithin n world (if b
+          then (if d then close_call n a c true u else keep_call (in_phase (LockPhase.Deleting less) c) u) else u)
+      go true true = closes c true u W
+      go true false = puts (in_phase (LockPhase.Deleting less) c) u (λ x e. of x (others x (x == f) e)) W
+      go false d = W
+  owes_less f (LockPhase.Asking r) c u of W = W
+  owes_less f LockPhase.Waiting c u of W = W
+
+  -- a refused call is tried again
+  retries_call : (phase : LockPhase) (c : LockCall) (u : Turn) → IsWithin n world u
+      → IsWithin n world (retry_in n a phase c u)
+  retries_call LockPhase.Waiting c u W = tries (record c { retries = one_less c.retries }) u W
+  retries_call (LockPhase.Asking r) c u W = W
+  retries_call (LockPhase.Deleting owing) c u W = W
+
+  retries_calls : (cs : List LockCall) (u : Turn) → IsWithin n world u
+      → IsWithin n world (fold (λ x c. retry_in n a c.phase c x) u cs)
+  retries_calls [] u W = W
+  retries_calls (c ∷ cs) u W = retries_calls cs (retry_in n a c.phase c u) (retries_call c.phase c u W)
+
   judges : (f : ℕ) (id : Id) (p : Process) (b : Bool) (u : Turn) → world f ≡ true → IsWithin n world u
       → IsWithin n world (judge n a number f id p b u)
   judges f id p true u e W = sends W f (AnyLetter.LockAnswer id p true) e
@@ -352,16 +496,26 @@ module _ (n a : ℕ) (number : ℕ → ℕ) (world : Nodes) where
       → IsWithin n world (hear n a number f p g u)
   hears_for f p g u W = go (is_process p (registrar a))
     where
+      found : (o : Option LockCall) → call_of_holder p u.node.calls ≡ o → IsWithin n world (hear_lock n a f g o u)
+      found None is = W
+      found (Some c) is =
+          hears_lock f g c.phase c u (found_of (IsCallOf world) p u.node.calls c is W.calls) W
+
       go : (b : Bool) → IsWithin n world (if b
           then hear_answer n a number f g u.node.current u else hear_lock n a f g (call_of_holder p u.node.calls) u)
       go true = hears f g u.node.current u W.current W
-      go false =
-          subst (λ (cs : List LockCall). IsWithin n world (hear_lock n a f g (call_of_holder p cs) u)) (sym W.calls) W
+      go false = found (call_of_holder p u.node.calls) refl
 
   takes_back : (f : ℕ) (id : Id) (p : Process) (ack : Bool) (u : Turn) → world f ≡ true → IsWithin n world u
       → IsWithin n world (take_back n a number f id p ack u)
   takes_back f id p true u e W = sends W f (AnyLetter.GivenBack p) e
   takes_back f id p false u e W = W
+
+  gives_up : (f : ℕ) (p : Process) (u : Turn) (o : Option LockCall) → call_of_holder p u.node.calls ≡ o
+      → IsWithin n world u → IsWithin n world (owe_less n a f o u)
+  gives_up f p u None is W = W
+  gives_up f p u (Some c) is W =
+      owes_less f c.phase c u (found_of (IsCallOf world) p u.node.calls c is W.calls) W
 
   -- what is done with a letter
   reads_letter : (f : ℕ) (l : Letter) (u : Turn) → world f ≡ true → IsWithin n world u
@@ -369,8 +523,7 @@ module _ (n a : ℕ) (number : ℕ → ℕ) (world : Nodes) where
   reads_letter f (SetLock id p) u e W = judges f (id_of id) p (is_free_for (id_of id) p u.node.locks) u e W
   reads_letter f (LockAnswer id p g) u e W = hears_for f p g u W
   reads_letter f (GiveBack id p ack) u e W = takes_back f (id_of id) p ack u e W
-  reads_letter f (GivenBack p) u e W =
-      subst (λ (cs : List LockCall). IsWithin n world (owe_less n a f (call_of_holder p cs) u)) (sym W.calls) W
+  reads_letter f (GivenBack p) u e W = gives_up f p u (call_of_holder p u.node.calls) refl W
   reads_letter f (ReleaseOf p) u e W = W
   reads_letter f (Apply change) u e W = sends W f AnyLetter.Applied e
   reads_letter f Applied u e W = awaits f u.node.current u W.current W
@@ -402,15 +555,20 @@ module _ (n a : ℕ) (number : ℕ → ℕ) (world : Nodes) where
   calls_for k (Register x p) u W = numbers k (NameCall.Register x p) u W
   calls_for k (ReRegister x p) u W = numbers k (NameCall.ReRegister x p) u W
   calls_for k (Unregister x) u W = numbers k (NameCall.Unregister x) u W
+  calls_for k (SetsLock p id nodes retries) u W =
+      tries (new_call n a k p id.resource id.requester (target_of nodes) (retries_of retries)) (counted u) W
+  calls_for k (DeletesLock p id nodes) u W =
+      deletes (new_call n a k p id.resource id.requester (target_of nodes) (Times 0)) (counted u) W
 
   -- what an exit does
   exits : (p : Process) (u : Turn) → IsWithin n world u → IsWithin n world (event n a world (AnyEvent.Exiting p) u)
   exits p u W = starts (die n a p (enter (AnyEntry.Exit p) u))
-      (sends_all (keeps W (drop_call p u.node.calls) (ap (drop_call p) W.calls)) u.node.replica.members
+      (sends_all (keeps W (drop_call p u.node.calls)
+      (All-filter (λ d. not (is_process d.holder p)) (IsCallOf world) u.node.calls W.calls)) u.node.replica.members
       (AnyLetter.ReleaseOf p) W.members)
 
   retries : (u : Turn) → IsWithin n world u → IsWithin n world (event n a world AnyEvent.Retry u)
-  retries u W = starts (retry_locks n a v) (again v (go u.node.current W.current))
+  retries u W = starts (retry_locks n a v) (retries_calls v.node.calls v (go u.node.current W.current))
     where
       v : Turn
       v = retry_global n a u.node.current u
@@ -418,10 +576,6 @@ module _ (n a : ℕ) (number : ℕ → ℕ) (world : Nodes) where
       go : (cur : Current) → IsCurrentOf world cur → IsWithin n world (retry_global n a cur u)
       go (Current.Waiting op) of = asks op u of W
       go _ of = W
-
-      again : (w : Turn) → IsWithin n world w → IsWithin n world (retry_locks n a w)
-      again w V =
-          subst (λ (cs : List LockCall). IsWithin n world (fold (λ x c. retry_in n a c.phase c x) w cs)) (sym V.calls) V
 
 module _ (h : Held) (whole : IsWhole h) where
   abbrev n : ℕ
@@ -439,10 +593,15 @@ module _ (h : Held) (whole : IsWhole h) where
         (whole.members h.name whole.self)) whole.self);
     queue = plain h.registrar.queue;
     current = current h.registrar.current h.phase whole.phase;
-    calls = refl;
+    calls = λ k d l. call_within (get_or (seen h.calls) k d).phase (whole.called k d l);
     sends = All-nil (λ (s : Send). world s.to ≡ true);
   }
     where
+      call_within : (p : LockPhase) → IsCallWithin h.world p → IsPhaseOf world p
+      call_within (LockPhase.Asking r) within = within
+      call_within LockPhase.Waiting within = tt
+      call_within (LockPhase.Deleting owing) within = within
+
       plain : (ops : List Op) → ArePlain (map op_of ops)
       plain [] = tt
       plain (NameOp k c ∷ ops) = (tt, plain ops)

@@ -80,25 +80,20 @@ and_true false = refl
 -- the rest are asked
 pub asks_rest : (h : Held) (t u : Made) (r : HeldRound) (f : ℕ) (g : Bool) (xs : List ℕ) (l : Letter) → IsNodeSet xs
     → IsWithin h.world r.nodes
-    → xs ≡ others_of r.nodes → set_of xs ≡ rest (seen r) → letter_of l
-    ≡ AnyLetter.SetLock (Global h.name) (registrar h.name)
-    → opens f g (seen r) ≡ true → u ≡ sent_all xs l t
-    → Makes (λ n a. ask_rest n a f g (AnyLetter.SetLock (Global a) (registrar a)) (seen r)) h t h u
-asks_rest h t u r f g xs l set within others is asks first made = record {
+    → xs ≡ others_of r.nodes → set_of xs ≡ rest (seen r) → opens f g (seen r) ≡ true → u ≡ sent_all xs l t
+    → Makes (λ n a. ask_rest n a f g (letter_of l) (seen r)) h t h u
+asks_rest h t u r f g xs l set within others is first made = record {
   name = refl;
   world = refl;
   turn = ap (turn_of h) made ∙ sent_all_is h t xs l set
       (λ c e. within c (within_first (length r.nodes - 1) r.nodes c
       (subst (λ (ys : List ℕ). set_of ys c ≡ true) others e)))
-      ∙ ap (λ (x : AnyLetter). send_all (bound_of h.world) (set_of xs) x (turn_of h t)) asks
-      ∙ ap (λ (s : Nodes). send_all (bound_of h.world) s letter (turn_of h t))
+      ∙ ap (λ (s : Nodes). send_all (bound_of h.world) s (letter_of l) (turn_of h t))
       (is ∙ fun_ext (λ x. and_true (rest (seen r) x)))
-      ∙ ap (λ (b : Bool). if b then send_all (bound_of h.world) (λ x. rest (seen r) x && true) letter (turn_of h t) else
-      turn_of h t) (sym first);
+      ∙ ap (λ (b : Bool). if b
+      then send_all (bound_of h.world) (λ x. rest (seen r) x && true) (letter_of l) (turn_of h t)
+      else turn_of h t) (sym first);
 }
-  where
-    letter : AnyLetter
-    letter = AnyLetter.SetLock (Global h.name) (registrar h.name)
 
 -- the watch was asked for an owed strike, and then the registrar began
 module _ (h0 h : Held) (t : Made) (w : Work) (v : Watch) (strike : Option Process) (same : h0 ≡ h)
@@ -161,12 +156,12 @@ module _ (h0 h : Held) (t : Made) (w : Work) (v : Watch) (strike : Option Proces
       go (Some op) ops yes_ V = cc
 
 -- the end is that the lock is held
-held_end : (x : AnyEnding) → EndsAs Holds x → x ≡ IsHeld
+pub held_end : (x : AnyEnding) → EndsAs Holds x → x ≡ IsHeld
 held_end IsHeld e = refl
 held_end (GiveBackTo s) e = absurd e
 
 -- the end is that these get it back
-failed_end : (xs : List ℕ) (x : AnyEnding) → EndsAs (GiveBack xs) x → x ≡ GiveBackTo (set_of xs)
+pub failed_end : (xs : List ℕ) (x : AnyEnding) → EndsAs (GiveBack xs) x → x ≡ GiveBackTo (set_of xs)
 failed_end xs IsHeld e = absurd e
 failed_end xs (GiveBackTo s) e = ap GiveBackTo (sym (fun_ext e))
 

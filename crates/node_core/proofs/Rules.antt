@@ -157,7 +157,7 @@ granted_by r (inl e) = ap (λ (x : Reply). is_grant (reply_of x)) e
 granted_by r (inr e) = ap (λ (x : Reply). is_grant (reply_of x)) e
 
 -- whether one of many nodes is another
-without_is : (xs : List ℕ) (f : ℕ) → set_of (without_node xs f) ≡ at (set_of xs) f false
+pub without_is : (xs : List ℕ) (f : ℕ) → set_of (without_node xs f) ≡ at (set_of xs) f false
 without_is xs f = fun_ext (λ c. set_of-filter (λ m. not (m == f)) xs c ∙ go (c == f) (set_of xs c))
   where
     go : (b s : Bool) → (s && not b) ≡ (if b then false else s)
@@ -184,7 +184,7 @@ somebody_left (suc n) s c l e = elim (cases_eq c n) [
     and_no false e = refl
 
 -- the nodes of a list are none where the list is empty
-nobody_is : (n : ℕ) (xs : List ℕ) → All (λ c. c < n) xs → is_empty n (set_of xs) ≡ is_nobody xs
+pub nobody_is : (n : ℕ) (xs : List ℕ) → All (λ c. c < n) xs → is_empty n (set_of xs) ≡ is_nobody xs
 nobody_is n [] below = nobody_left n
 nobody_is n (x ∷ xs) below =
     somebody_left n (set_of (x ∷ xs)) x (below 0 0 (omega arith))
@@ -210,6 +210,8 @@ whole_less h w f whole is = record {
   phase = whole.phase;
   watch = whole.watch;
   suspected = whole.suspected;
+  calls = whole.calls;
+  called = whole.called;
 }
 
 -- the end of an operation is one, wherever it stood

@@ -1,9 +1,13 @@
 -- What a node holds.
-use Rattle.std.specs.Prelude.{ℕ, Bool, true, ◌+◌, ◌≡◌, max, List, [], ◌∷◌}
+use Rattle.std.specs.Prelude.{ℕ, Bool, true, ◌+◌, ◌≡◌, ◌<◌, All, max, List, [], ◌∷◌}
 use Rattle.registry_model.specs.Table.{Table}
 use Rattle.protocol_model.specs.LockTable.{Locks}
 use Rattle.term.specs.NodeSets.{set_of}
 use Rattle.exit_watch.specs.Held.{Held as Watch, watch_from, AreSuspected}
+use Rattle.lock_calls.specs.Held.{Held as LockCalls, none_at, seen}
+use Rattle.lock_calls.specs.declared.call.LockCall.{LockCall}
+use Rattle.protocol_model.specs.Node.{LockPhase}
+use Rattle.protocol_model.specs.Round.{asked}
 use Rattle.transaction.specs.Work.{Work, idle}
 use Rattle.node_core.specs.declared.events.Entry.{Entry}
 use Rattle.node_core.specs.declared.node.Phase.{Phase}
@@ -19,6 +23,7 @@ pub record Held : Type 0 where
   pub watch : Watch
   pub registrar : Work
   pub phase : Phase  -- where the current operation stands
+  pub calls : LockCalls  -- of its processes, that aren't answered
   pub last_call : ℕ
   pub entered : List Entry  -- what the last step entered into the history
 
@@ -37,8 +42,18 @@ IsPhaseWithin world (Asking r) = IsWithin world r.nodes
 IsPhaseWithin world Waiting = Unit {0}
 IsPhaseWithin world (Writing asked reply) = IsWithin world asked
 
--- The node is one of its members, all nodes that it knows of are of the world, and its watch is its own, and suspects each
--- dead process of the node that owns a name
+-- the nodes of a lock call's phase are of the world
+abbrev pub IsCallWithin : List ℕ → LockPhase → Type 0
+IsCallWithin world (LockPhase.Asking r) = (c : ℕ) → asked r c ≡ true → set_of world c ≡ true
+IsCallWithin world LockPhase.Waiting = Unit {0}
+IsCallWithin world (LockPhase.Deleting owing) = (c : ℕ) → owing c ≡ true → set_of world c ≡ true
+
+-- the call is of a process of this node
+abbrev pub IsOwnCall : Held → LockCall → Type 0
+IsOwnCall h c = (c.holder.node ≡ h.name) × (0 < c.holder.serial)
+
+-- The node is one of its members, and all nodes that it knows of are of the world. Its watch and its lock calls are its own,
+-- and the watch suspects each dead process of the node that owns a name
 pub record IsWhole (h : Held) : Type 0 where
   pub self : set_of h.members h.name ≡ true
   pub members : IsWithin h.world h.members
@@ -46,6 +61,8 @@ pub record IsWhole (h : Held) : Type 0 where
   pub phase : IsPhaseWithin h.world h.phase
   pub watch : h.watch.node ≡ h.name
   pub suspected : AreSuspected h.watch h.table
+  pub calls : h.calls.node ≡ h.name
+  pub called : All (λ c. IsCallWithin h.world c.phase) (seen h.calls)
 
 -- a node at its beginning
 abbrev pub fresh : ℕ → List ℕ → List ℕ → Bool → Held
@@ -59,6 +76,7 @@ fresh a world members joined = record {
   watch = watch_from a 0;
   registrar = idle;
   phase = Waiting;
+  calls = none_at a;
   last_call = 0;
   entered = [];
 }

@@ -2,3 +2,4 @@ pub mod Made
 pub mod Held
 pub mod Seen
 pub mod Steps
+pub mod Locking

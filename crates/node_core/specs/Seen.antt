@@ -1,5 +1,5 @@
 -- What a node holds and makes, seen as the protocol's node and turn.
-use Rattle.std.specs.Prelude.{ℕ, Bool, true, false, Option, Some, None, List, [], map}
+use Rattle.std.specs.Prelude.{ℕ, Bool, true, false, Option, Some, None, List, map}
 use Rattle.std.specs.Option.{option_map}
 use Rattle.registry_model.specs.Process.{nobody}
 use Rattle.registry_model.specs.Call.{NameCall as AnyNameCall, Look as AnyLook, Reply as AnyReply}
@@ -16,11 +16,13 @@ use Rattle.lock_table.specs.declared.verdict.Verdict.{Verdict}
 use Rattle.lock_table.specs.declared.verdict.Verdict.TheVariants.{Grant}
 use Rattle.lock_table.specs.Ids.{id_of}
 use Rattle.locker.specs.Held.{seen}
+use Rattle.lock_calls.specs.Held.{seen as calls_seen}
+use Rattle.transaction.specs.Calls.{target_of, retries_of}
 use Rattle.transaction.specs.declared.op.Op.{Op}
 use Rattle.transaction.specs.Ops.{name_call_of, op_of}
 use Rattle.node_core.specs.declared.events.Answer.{Answer}
 use Rattle.node_core.specs.declared.events.Call.{Call}
-use Rattle.node_core.specs.declared.events.Call.TheVariants.{Spawn, Whereis, RegisteredNames, Register, ReRegister, Unregister}
+use Rattle.node_core.specs.declared.events.Call.TheVariants.{Spawn, Whereis, RegisteredNames, Register, ReRegister, Unregister, SetLock as SetsLock, DelLock as DeletesLock}
 use Rattle.node_core.specs.declared.events.Entry.{Entry}
 use Rattle.node_core.specs.declared.events.Entry.TheVariants.{Name, Strike, Exit, Done, Read}
 use Rattle.node_core.specs.declared.events.Letter.{Letter}
@@ -28,9 +30,9 @@ use Rattle.node_core.specs.declared.events.Letter.TheVariants.{SetLock, LockAnsw
 use Rattle.node_core.specs.declared.events.Look.{Look}
 use Rattle.node_core.specs.declared.events.Look.TheVariants.{Whereis as LooksUp, RegisteredNames as LooksAtAll}
 use Rattle.node_core.specs.declared.events.Reply.{Reply}
-use Rattle.node_core.specs.declared.events.Reply.TheVariants.{Yes, No, Ok, UnknownNode, Pid, Undefined, Names}
+use Rattle.node_core.specs.declared.events.Reply.TheVariants.{Yes, No, Ok, UnknownNode, True, False, Pid, Undefined, Names}
 use Rattle.node_core.specs.declared.events.StepFault.{StepFault}
-use Rattle.node_core.specs.declared.events.StepFault.TheVariants.{NoSuchProcess, AlreadyExited, SerialsSpent, NothingToRetry, CallsSpent, Memory}
+use Rattle.node_core.specs.declared.events.StepFault.TheVariants.{NotLive, Busy, Reserved, UnknownNode as UnknownMember, NoSuchProcess, AlreadyExited, SerialsSpent, NothingToRetry, CallsSpent, Memory}
 use Rattle.node_core.specs.declared.node.Phase.{Phase}
 use Rattle.node_core.specs.declared.node.Phase.TheVariants.{Asking, Waiting, Writing}
 use Rattle.node_core.specs.Made.{Made}
@@ -41,6 +43,8 @@ reply_of Yes = AnyReply.Yes
 reply_of No = AnyReply.No
 reply_of Ok = AnyReply.Ok
 reply_of UnknownNode = AnyReply.UnknownNode
+reply_of True = AnyReply.True
+reply_of False = AnyReply.False
 reply_of (Pid p) = AnyReply.Pid p
 reply_of Undefined = AnyReply.Undefined
 reply_of (Names list) = AnyReply.Names list.names.items
@@ -83,7 +87,7 @@ abbrev pub current_of : Option Op → List ℕ → Phase → Current
 current_of None awaited p = Current.Free
 current_of (Some op) awaited p = phase_of op awaited p
 
--- the node: nobody has left it, and no client waits for a lock
+-- the node: nobody has left it
 abbrev pub node_of : Held → Node
 node_of h = record {
   replica = record { table = h.table; members = set_of h.members; told = nobody; joined = h.joined };
@@ -91,7 +95,7 @@ node_of h = record {
   watch = h.watch.watch;
   queue = map op_of h.registrar.queue;
   current = current_of h.registrar.current h.registrar.awaited h.phase;
-  calls = [];
+  calls = calls_seen h.calls;
   last_call = h.last_call;
 }
 
@@ -111,9 +115,15 @@ call_of RegisteredNames = AnyCall.LookUp AnyLook.RegisteredNames
 call_of (Register x p) = AnyCall.OnName (AnyNameCall.Register x p)
 call_of (ReRegister x p) = AnyCall.OnName (AnyNameCall.ReRegister x p)
 call_of (Unregister x) = AnyCall.OnName (AnyNameCall.Unregister x)
+call_of (SetsLock p id nodes retries) = AnyCall.SetLock p id.resource id.requester (target_of nodes) (retries_of retries)
+call_of (DeletesLock p id nodes) = AnyCall.DelLock p id.resource id.requester (target_of nodes)
 
 -- the protocol's refusal; want of memory is none of its
 abbrev pub fault_of : StepFault → Option AnyRefusal
+fault_of (NotLive p) = Some (AnyRefusal.NotLive p)
+fault_of (Busy p) = Some (AnyRefusal.Busy p)
+fault_of Reserved = Some AnyRefusal.Reserved
+fault_of UnknownMember = Some AnyRefusal.UnknownNode
 fault_of NoSuchProcess = Some AnyRefusal.NoSuchProcess
 fault_of AlreadyExited = Some AnyRefusal.AlreadyExited
 fault_of SerialsSpent = Some AnyRefusal.SerialsSpent

@@ -7,7 +7,7 @@ use name_table::Change;
 use std::alloc::AllocError;
 use term::{LockId, Name, NodeName, Pid};
 use thiserror::Error;
-use transaction::NameCall;
+use transaction::{NameCall, Nodes, Retries};
 
 /// What one node says to another, or to itself.
 #[derive(Debug, PartialEq, Eq, Drop)]
@@ -73,6 +73,12 @@ pub enum Call {
     ReRegister(Name, Pid),
     /// Nobody is to own the name. Numbered as `Register` is, and answered by `Ok`, whether it was owned or not.
     Unregister(Name),
+    /// The process asks for a lock, or for one grant more of it, of these nodes, and may be refused so often. Numbered as
+    /// `Register` is, and answered by `True` when all of them have granted it, or by `False` when no retry is left.
+    SetLock(Pid, LockId, Nodes, Retries),
+    /// The process gives one grant of a lock back at these nodes. Numbered as `Register` is, and answered by `True` when
+    /// all have said so, whether it had the lock or not.
+    DelLock(Pid, LockId, Nodes),
 }
 
 /// What may happen at a node.
@@ -82,7 +88,7 @@ pub enum Event {
     Call(Call),
     /// A letter from a node is read.
     FromPeer(NodeName, Letter),
-    /// The operation whose round was refused asks again.
+    /// The operation whose round was refused asks again, and so does each lock call whose round was.
     Retry,
     /// A process of the node dies: its locks are released at once, and its names are struck under the global lock.
     Exit(Pid),
@@ -99,6 +105,10 @@ pub enum Reply {
     Ok,
     /// The owner's node is no member.
     UnknownNode,
+    /// The lock is granted, or given back.
+    True,
+    /// The lock is refused, and no retry is left.
+    False,
     /// A process: the one that was spawned, or the owner of a name.
     Pid(Pid),
     /// Nobody owns the name.
@@ -120,6 +130,8 @@ impl Reply {
             Reply::No => Reply::No,
             Reply::Ok => Reply::Ok,
             Reply::UnknownNode => Reply::UnknownNode,
+            Reply::True => Reply::True,
+            Reply::False => Reply::False,
             Reply::Pid(process) => Reply::Pid(process.copy()),
             Reply::Undefined => Reply::Undefined,
             Reply::Names(names) => Reply::Names(names.copy()?),
@@ -154,8 +166,20 @@ pub enum Entry {
 }
 
 /// Why a node doesn't take a step.
-#[derive(Clone, Copy, Debug, PartialEq, Eq, Error)]
+#[derive(Clone, Debug, PartialEq, Eq, Error, Drop)]
 pub enum StepFault {
+    /// The holder of a lock call is no live process of this node.
+    #[error("not_live")]
+    NotLive(Pid),
+    /// The process has a lock call that isn't answered.
+    #[error("busy")]
+    Busy(Pid),
+    /// The resource `global` is the registry's own.
+    #[error("reserved")]
+    Reserved,
+    /// A named node is no member.
+    #[error("unknown_node")]
+    UnknownNode,
     /// The process is another node's, or its serial wasn't given.
     #[error("no_such_process")]
     NoSuchProcess,

@@ -9,7 +9,7 @@ mod turn;
 pub use events::{Answer, Call, Entry, Event, Letter, Look, Reply, StepFault};
 pub use name_list::NameList;
 pub use node::NodeCore;
-pub use transaction::{NameCall, Op};
+pub use transaction::{NameCall, Nodes, Op, Retries};
 
 #[cfg(test)]
 mod tests;

@@ -2,6 +2,7 @@
 ghost use Rattle.std.specs.Prelude.{◌≡◌};
 
 mod calling;
+mod locking;
 mod reading;
 mod registrar;
 mod rounds;
@@ -9,6 +10,7 @@ mod rounds;
 use crate::events::{Answer, Entry, Event, Letter, Reply, StepFault};
 use crate::turn::Turn;
 use exit_watch::Watch;
+use lock_calls::LockCalls;
 use lock_table::LockTable;
 use locker::Round;
 use name_table::Names;
@@ -29,8 +31,8 @@ pub(crate) enum Phase {
     Writing(NodeSet, Option<Reply>),
 }
 
-/// One node: its table, its locks, its processes, its registrar, and the numbers that it has given. It takes steps, and knows nothing of links:
-/// each step says what is to be sent to whom.
+/// One node: its table, its locks, its processes and their lock calls, its registrar, and the numbers that it has given.
+/// It takes steps, and knows nothing of links: each step says what is to be sent to whom.
 #[derive(Drop)]
 pub struct NodeCore<N: Names> {
     name: NodeName,
@@ -42,7 +44,9 @@ pub struct NodeCore<N: Names> {
     watch: Watch,
     registrar: Registrar,
     phase: Phase,
-    /// The number that the last name call was given; 0 before the first.
+    /// The lock calls of its processes that aren't answered.
+    calls: LockCalls,
+    /// The number that the last name or lock call was given; 0 before the first.
     last_call: u32,
     /// What the last step entered into the history.
     entered: Vec<Entry>,
@@ -63,6 +67,7 @@ impl<N: Names> Model for NodeCore<N> {
       watch = c.watch;
       registrar = c.registrar;
       phase = c.phase;
+      calls = c.calls;
       last_call = c.last_call;
       entered = c.entered.items;
     } };
@@ -77,6 +82,7 @@ impl<N: Names> Model for NodeCore<N> {
       watch = c.watch;
       registrar = c.registrar;
       phase = c.phase;
+      calls = c.calls;
       last_call = c.last_call;
       entered = c.entered.items;
     }) };
@@ -90,7 +96,7 @@ impl<N: Names> NodeCore<N> {
     ghost use Rattle.node_core.specs.Seen.{node_of, fault_of, is_memory};
     ghost use Rattle.node_core.specs.declared.events.StepFault.TheVariants.{Memory};
     ghost use Rattle.node_core.specs.Steps.{Steps, Keeps, Takes, refusal_of, cause_of};
-    ghost use Rattle.protocol_model.specs.Event.{can_retry};
+    ghost use Rattle.protocol_model.specs.Event.{can_retry, is_waiting};
 
     /// Takes the step of an event: gives its answers, and puts its letters, each with its receiver, behind those that are
     /// there. They go to nodes of its world, where the letter that it reads is from one. A refused event changes nothing;
@@ -131,7 +137,10 @@ impl<N: Names> NodeCore<N> {
     {
         match event {
             Event::Call(call) => self.call(turn, call)?,
-            Event::Retry => self.retry(turn)?,
+            Event::Retry => {
+                self.retry_global(turn)?;
+                self.retry_locks(turn)?;
+            }
             Event::Exit(process) => self.exit(turn, process)?,
             Event::FromPeer(from, letter) => return Ok(self.receive(turn, from, letter)?),
         }
@@ -146,11 +155,18 @@ impl<N: Names> NodeCore<N> {
         self.registrar.current().is_some()
     }
 
-    /// Whether a refused round waits for a retry.
+    /// Whether the registrar's round was refused, and waits for a retry.
+    fn is_waiting(&self) -> bool
+        ensures { result ≡ is_waiting (node_of self.now).current }
+    {
+        self.is_at_work() && matches!(self.phase, Phase::Waiting)
+    }
+
+    /// Whether some refused round waits for a retry.
     fn can_retry(&self) -> bool
         ensures { result ≡ can_retry (node_of self.now) }
     {
-        self.registrar.current().is_some() && matches!(self.phase, Phase::Waiting)
+        self.is_waiting() || self.calls.has_waiting()
     }
 
     /// Why an event is refused, if it is.
@@ -178,6 +194,13 @@ impl<N: Names> NodeCore<N> {
         ensures { option_copied result ≡ self.now.registrar.current }
     {
         self.registrar.current()
+    }
+
+    /// The number that its last name or lock call was given; 0 before the first.
+    pub fn last_call(&self) -> u32
+        ensures { result ≡ self.now.last_call }
+    {
+        self.last_call
     }
 
     /// Its table.
@@ -239,6 +262,7 @@ impl<N: Names<Memory = Global>> NodeCore<N> {
         ensures opening { joined ≡ true → node_of result ≡ opening_node (set_of members.now) name }
     {
         let watch = Watch::new(alloc, name.copy());
+        let calls = LockCalls::new(alloc, name.copy());
         NodeCore {
             name,
             world: world.copy(),
@@ -249,6 +273,7 @@ impl<N: Names<Memory = Global>> NodeCore<N> {
             watch,
             registrar: Registrar::new(alloc),
             phase: Phase::Waiting,
+            calls,
             last_call: 0,
             entered: Vec::new(alloc),
         }

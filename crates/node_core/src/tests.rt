@@ -1,11 +1,14 @@
 //! Steps of one node. Each test is a script: a line has events, and what the node makes of them, or `state`, and what the
 //! node is like.
-use crate::{Answer, Call, Entry, Event, Letter, NodeCore, Reply, StepFault};
+use crate::{Answer, Call, Entry, Event, Letter, NodeCore, Nodes, Reply, Retries, StepFault};
 use name_table::{ListTable, Names};
 use std::alloc::Global;
 use std::fmt::Write;
 use std::test::Fail;
-use term::{LockId, NodeName, NodeSet, Pid, parse_name, parse_node, parse_pid};
+use term::{
+    LockId, NodeName, NodeSet, Pid, parse_name, parse_node, parse_nodes, parse_pid,
+    parse_requester, parse_resource,
+};
 
 type Core = NodeCore<ListTable<Global>>;
 
@@ -25,7 +28,27 @@ fn core(alloc: Global, with_b: bool) -> Result<Core, Fail> {
     Ok(NodeCore::new(alloc, a, &members, &members, true))
 }
 
-/// A letter to the node `a`, about the lock of its registrar.
+/// A lock on a resource, in the name of a requester.
+fn lock_id(resource: &str, requester: &str) -> Result<LockId, Fail> {
+    Ok(LockId {
+        resource: parse_resource(resource)?,
+        requester: parse_requester(requester)?,
+    })
+}
+
+/// A letter to the node `a`, about the lock on `db` that its process `a.1` asks for or gives up in the name of `r`.
+fn client_letter(kind: &str) -> Result<Letter, Fail> {
+    let id = lock_id("db", "r")?;
+    let holder = parse_pid("a.1")?;
+    Ok(match kind {
+        "db_granted" => Letter::LockAnswer(id, holder, true),
+        "db_refused" => Letter::LockAnswer(id, holder, false),
+        "db_given_back" => Letter::GivenBack(holder),
+        _ => return Err(Fail::from("no letter")),
+    })
+}
+
+/// A letter to the node `a`, about the lock of its registrar, or about one of a process.
 fn letter(kind: &str) -> Result<Letter, Fail> {
     let a = parse_node("a")?;
     let id = LockId::global(&a);
@@ -35,7 +58,7 @@ fn letter(kind: &str) -> Result<Letter, Fail> {
         "refused" => Letter::LockAnswer(id, registrar, false),
         "give_back" => Letter::GiveBack(id, registrar, true),
         "applied" => Letter::Applied,
-        _ => return Err(Fail::from("no letter")),
+        _ => return client_letter(kind),
     })
 }
 
@@ -51,6 +74,48 @@ fn put(kind: &str, name_and_owner: &str) -> Result<Call, Fail> {
     } else {
         Call::ReRegister(name, owner)
     })
+}
+
+/// A text, parted behind its first word.
+fn part(text: &str) -> Result<(&str, &str), Fail> {
+    match text.split_once(' ') {
+        Some(parts) => Ok(parts),
+        None => Err(Fail::from("no further word")),
+    }
+}
+
+/// The nodes that a text names, or all.
+fn nodes_of(text: &str) -> Result<Nodes, Fail> {
+    if text == "all" {
+        return Ok(Nodes::All);
+    }
+    match Nodes::named(parse_nodes(text)?) {
+        Some(nodes) => Ok(nodes),
+        None => Err(Fail::from("no node")),
+    }
+}
+
+/// No retry, one or any number of them.
+fn retries_of(text: &str) -> Retries {
+    match text {
+        "0" => Retries::Times(0),
+        "1" => Retries::Times(1),
+        _ => Retries::Endless,
+    }
+}
+
+/// The call of a process for a lock: the process, the resource, the requester, the nodes and, of a `set_lock`, the retries.
+fn lock_call(kind: &str, text: &str) -> Result<Call, Fail> {
+    let (holder, text) = part(text)?;
+    let (resource, text) = part(text)?;
+    let (requester, text) = part(text)?;
+    let holder = parse_pid(holder)?;
+    let id = lock_id(resource, requester)?;
+    if kind == "del_lock" {
+        return Ok(Call::DelLock(holder, id, nodes_of(text)?));
+    }
+    let (nodes, retries) = part(text)?;
+    Ok(Call::SetLock(holder, id, nodes_of(nodes)?, retries_of(retries)))
 }
 
 /// An event of one word.
@@ -72,6 +137,7 @@ fn event(text: &str) -> Result<Event, Fail> {
         "whereis" => Event::Call(Call::Whereis(parse_name(rest)?)),
         "unregister" => Event::Call(Call::Unregister(parse_name(rest)?)),
         "register" | "re_register" => Event::Call(put(kind, rest)?),
+        "set_lock" | "del_lock" => Event::Call(lock_call(kind, rest)?),
         "exit" => Event::Exit(parse_pid(rest)?),
         _ => Event::FromPeer(parse_node(rest)?, letter(kind)?),
     })
@@ -84,7 +150,11 @@ fn plain_reply(reply: &Reply) -> &'static str {
         Reply::No => "no",
         Reply::Ok => "ok",
         Reply::UnknownNode => "unknown_node",
-        _ => "undefined",
+        Reply::True => "true",
+        Reply::False => "false",
+        Reply::Undefined => "undefined",
+        Reply::Pid(_) => "a process",
+        Reply::Names(_) => "names",
     }
 }
 
@@ -333,7 +403,106 @@ fn asks_the_boss_first(rt: HostRuntime) -> Result<(), Fail> {
     Ok(())
 }
 
-/// Each fault, by its text.
+/// A process is granted a lock as often as it asks, and another requester is refused until it is given up. A call that was
+/// refused waits for a retry, where it has one left.
+const LOCKS: &str = "\
+spawn: 0 a.1;
+spawn: 0 a.2;
+set_lock a.1 db r all 0: set_lock a; granted a; 1 true;
+set_lock a.1 db r a 0: set_lock a; granted a; 2 true;
+set_lock a.2 db s all 0: set_lock a; refused a; 3 false;
+set_lock a.2 db s all 1: set_lock a; refused a;
+retry: set_lock a; refused a; 4 false;
+retry: nothing_to_retry;
+set_lock a.2 db s all infinity: set_lock a; refused a;
+retry: set_lock a; refused a;
+del_lock a.1 db r all: give_back a; given_back a; 6 true;
+retry: set_lock a; refused a;
+del_lock a.1 db r all: give_back a; given_back a; 7 true;
+retry: set_lock a; granted a; 5 true;
+";
+
+#[test]
+fn grants_locks_alone(rt: HostRuntime) -> Result<(), Fail> {
+    let script = LOCKS;
+    let text = play(rt.alloc(), script, false)?;
+    assert_eq!(rt; text.as_str(), script);
+    Ok(())
+}
+
+/// A lock call is refused by the first cause that it has.
+const LOCK_REFUSALS: &str = "\
+spawn: 0 a.1;
+set_lock b.1 db r all 0: not_live;
+set_lock a.1 global r all 0: reserved;
+set_lock a.1 db r b 0: unknown_node;
+set_lock a.1 db r all infinity, set_lock a.1 global r b 0, del_lock a.1 db r all: set_lock a; busy; busy; granted a; \
+1 true;
+exit a.1: release_of a;
+del_lock a.1 db r all: not_live;
+";
+
+#[test]
+fn refuses_lock_calls(rt: HostRuntime) -> Result<(), Fail> {
+    let script = LOCK_REFUSALS;
+    let text = play(rt.alloc(), script, false)?;
+    assert_eq!(rt; text.as_str(), script);
+    Ok(())
+}
+
+/// The boss is asked for a lock first, and each node for its word that it was given up. The call of a process goes with it.
+const LOCK_ROUNDS: &str = "\
+spawn: 0 a.1;
+set_lock a.1 db r all 1: set_lock b;
+db_refused a:
+db_granted b: set_lock a;
+db_refused a: give_back b;
+retry: set_lock b;
+db_granted b: set_lock a;
+db_granted a: 1 true;
+db_granted a:
+del_lock a.1 db r all: give_back a; give_back b;
+db_given_back b:
+db_given_back b:
+db_given_back a: 2 true;
+set_lock a.1 db r b infinity: set_lock b;
+db_refused b:
+exit a.1: release_of a; release_of b;
+retry: nothing_to_retry;
+db_granted b:
+";
+
+#[test]
+fn asks_for_locks_by_rounds(rt: HostRuntime) -> Result<(), Fail> {
+    let script = LOCK_ROUNDS;
+    let text = play(rt.alloc(), script, true)?;
+    assert_eq!(rt; text.as_str(), script);
+    Ok(())
+}
+
+/// Each fault of a lock call, by its text.
+fn show_lock_faults(alloc: Global) -> Result<String, Fail> {
+    let mut text = String::new(alloc);
+    let process = parse_pid("a.1")?;
+    for fault in [
+        StepFault::NotLive(process.copy()),
+        StepFault::Busy(process),
+        StepFault::Reserved,
+        StepFault::UnknownNode,
+    ] {
+        write!(text, "{fault} ")?;
+    }
+    Ok(text)
+}
+
+#[test]
+fn names_its_faults_of_lock_calls(rt: HostRuntime) -> Result<(), Fail> {
+    let text = show_lock_faults(rt.alloc())?;
+    assert_eq!(rt; text.as_str(), "not_live busy reserved unknown_node ");
+    Ok(())
+}
+
+/// Each other fault, by its text.
 fn show_faults(alloc: Global) -> Result<String, Fail> {
     let mut text = String::new(alloc);
     for fault in [

@@ -1,6 +1,8 @@
 //! Whom a lock call asks, and how often.
 ghost use Rattle.std.specs.Prelude.{◌≡◌, ◌==◌, ◌<◌, length, None, Some, if◌then◌else◌};
+ghost use Rattle.protocol_model.specs.Client.{is_spent, one_less};
 ghost use Rattle.transaction.specs.declared.nodes.Nodes.TheVariants.{Named};
+ghost use Rattle.transaction.specs.Calls.{retries_of};
 
 use std::marker::Model;
 use term::NodeSet;
@@ -89,6 +91,23 @@ impl Retries {
     {
         match self {
             Retries::Times(left) => Retries::Times(*left),
+            Retries::Endless => Retries::Endless,
+        }
+    }
+
+    /// Whether none is left.
+    pub fn is_spent(&self) -> bool
+        ensures { result ≡ is_spent (retries_of self.now) }
+    {
+        matches!(self, Retries::Times(0))
+    }
+
+    /// What is left when one is used.
+    pub fn one_less(&self) -> Self
+        ensures { retries_of result ≡ one_less (retries_of self.now) }
+    {
+        match self {
+            Retries::Times(left) => Retries::Times(left.saturating_sub(1)),
             Retries::Endless => Retries::Endless,
         }
     }

@@ -3,26 +3,30 @@ use crate::events::{Call, Entry, Letter, Look, Reply, StepFault};
 use crate::name_list::NameList;
 use crate::node::NodeCore;
 use crate::turn::Turn;
+use lock_calls::{CallPhase, LockCall};
 use name_table::Names;
 use std::alloc::AllocError;
-use term::Pid;
-use transaction::{NameCall, Op};
+use term::{LockId, Pid, Resource};
+use transaction::{NameCall, Nodes, Op, Retries};
 
 impl<N: Names> NodeCore<N> {
-    ghost use Rattle.std.specs.Prelude.{◌≡◌, ◌+◌, false, ◌==◌, None, OnOk, IfOk, IfErr};
+    ghost use Rattle.std.specs.Prelude.{◌≡◌, ◌+◌, false, ◌==◌, None, Some, [], ◌∷◌, OnOk, IfOk, IfErr};
+    ghost use Rattle.registry_model.specs.Process.{Text};
     ghost use Rattle.registry_model.specs.Call.{seen_in};
     ghost use Rattle.registry_model.specs.History.{Entry as AnyEntry};
-    ghost use Rattle.protocol_model.specs.Node.{Op as AnyOp};
-    ghost use Rattle.protocol_model.specs.Event.{last_u32};
+    ghost use Rattle.protocol_model.specs.Node.{Op as AnyOp, Retries as AnyRetries};
+    ghost use Rattle.protocol_model.specs.Event.{Call as AnyCall, last_u32, calls_spent, lock_causes, call_causes, first_cause, names_members};
     ghost use Rattle.protocol_model.specs.Watch.{next_serial};
     ghost use Rattle.protocol_model.specs.Turn.{counted, enter as entering};
     ghost use Rattle.protocol_model.specs.Calling.{spawned, looked, queued, die, call as called};
+    ghost use Rattle.lock_calls.specs.declared.call.CallPhase.TheVariants.{Waiting};
     ghost use Rattle.transaction.specs.Ops.{name_call_of};
+    ghost use Rattle.transaction.specs.Calls.{target_of};
     ghost use Rattle.node_core.specs.declared.events.Call.TheVariants.{Spawn};
     ghost use Rattle.node_core.specs.declared.events.Event.TheVariants.{Call as Calls, Exit as Exits};
     ghost use Rattle.node_core.specs.declared.events.StepFault.TheVariants.{Memory};
     ghost use Rattle.node_core.specs.Made.{Made};
-    ghost use Rattle.node_core.specs.Seen.{call_of, look_of, reply_of};
+    ghost use Rattle.node_core.specs.Seen.{node_of, call_of, look_of, reply_of};
     ghost use Rattle.node_core.specs.Steps.{Keeps, Makes, refusal_of, cause_of};
 
     /// Why a call is refused, if it is.
@@ -32,9 +36,90 @@ impl<N: Names> NodeCore<N> {
         match call {
             Call::Spawn => self.watch.is_spent().then_some(StepFault::SerialsSpent),
             Call::Whereis(_) | Call::RegisteredNames => None,
-            Call::Register(..) | Call::ReRegister(..) | Call::Unregister(_) => {
-                (self.last_call == u32::MAX).then_some(StepFault::CallsSpent)
+            Call::Register(..) | Call::ReRegister(..) | Call::Unregister(_) => self.calls_spent(),
+            Call::SetLock(holder, id, nodes, _) => self.set_refusal(holder, id, nodes),
+            Call::DelLock(holder, id, _) => self.lock_refusal(holder, id).or(self.calls_spent()),
+        }
+    }
+
+    /// Where the node has given its last number, the next call is refused.
+    fn calls_spent(&self) -> Option<StepFault>
+        ensures { cause_of result ≡ first_cause (calls_spent (node_of self.now) ∷ []) }
+    {
+        (self.last_call == u32::MAX).then_some(StepFault::CallsSpent)
+    }
+
+    /// Why each lock call of a process on such a lock is refused, if it is.
+    fn lock_refusal(&self, holder: &Pid, id: &LockId) -> Option<StepFault>
+        ensures cause { cause_of result ≡ first_cause (lock_causes self.now.name (node_of self.now) holder.now id.now.resource) }
+        ensures never_memory { result ≡ Some Memory → ⊥ }
+    {
+        if !self.watch.is_live(holder) {
+            return Some(StepFault::NotLive(holder.copy()));
+        }
+        if self.calls.get(holder).is_some() {
+            return Some(StepFault::Busy(holder.copy()));
+        }
+        (id.resource == Resource::global()).then_some(StepFault::Reserved)
+    }
+
+    /// Whether each named node is a member.
+    fn names_members(&self, nodes: &Nodes) -> bool
+        ensures { result ≡ names_members (node_of self.now) (target_of nodes.now) }
+    {
+        match nodes {
+            Nodes::All => true,
+            Nodes::Named(named) => {
+                let nodes = named.as_set().as_slice();
+                nodes.iter().all(|node| self.members.contains(node))
             }
+        }
+    }
+
+    /// Why a `set_lock` is refused, if it is.
+    fn set_refusal(&self, holder: &Pid, id: &LockId, nodes: &Nodes) -> Option<StepFault>
+        ensures { (requester : Text) (retries : AnyRetries) → cause_of result
+            ≡ first_cause (call_causes self.now.name (node_of self.now) (AnyCall.SetLock holder.now id.now.resource requester (target_of nodes.now) retries)) }
+    {
+        if let Some(fault) = self.lock_refusal(holder, id) {
+            return Some(fault);
+        }
+        if !self.names_members(nodes) {
+            return Some(StepFault::UnknownNode);
+        }
+        self.calls_spent()
+    }
+
+    /// The number of the next call, which is given.
+    fn next_call(&mut self) -> u32
+        requires { (self.old.last_call == last_u32) ≡ false }
+        ensures state { self.new ≡ record self.old { last_call = self.old.last_call + 1 } }
+        ensures number { result ≡ self.old.last_call + 1 }
+    {
+        self.last_call += 1;
+        self.last_call
+    }
+
+    /// A lock call under the next number.
+    fn new_call(&mut self, holder: &Pid, id: &LockId, nodes: &Nodes, retries: Retries) -> LockCall
+        requires { (self.old.last_call == last_u32) ≡ false }
+        ensures state { self.new ≡ record self.old { last_call = self.old.last_call + 1 } }
+        ensures call { result ≡ record {
+          holder = holder.now;
+          number = self.old.last_call + 1;
+          id = id.now;
+          nodes = nodes.now;
+          retries = retries;
+          phase = Waiting;
+        } }
+    {
+        LockCall {
+            holder: holder.copy(),
+            number: self.next_call(),
+            id: id.copy(),
+            nodes: nodes.copy(),
+            retries,
+            phase: CallPhase::Waiting,
         }
     }
 
@@ -82,8 +167,8 @@ impl<N: Names> NodeCore<N> {
         ensures turn { (made : Made) → OnOk result (Makes (λ n a u. queued n a (AnyOp.Name (u.node.last_call + 1) (name_call_of name_call)) (counted u)) self.old made self.new made) }
         ensures kept { Keeps self.old self.new }
     {
-        self.last_call += 1;
-        self.registrar.enqueue(Op::Name(self.last_call, name_call))
+        let number = self.next_call();
+        self.registrar.enqueue(Op::Name(number, name_call))
     }
 
     /// What a call does that isn't refused.
@@ -104,11 +189,19 @@ impl<N: Names> NodeCore<N> {
                 self.enqueue(NameCall::ReRegister(name.copy(), owner.copy()))?
             }
             Call::Unregister(name) => self.enqueue(NameCall::Unregister(name.copy()))?,
+            Call::SetLock(holder, id, nodes, retries) => {
+                let call = self.new_call(holder, id, nodes, retries.copy());
+                self.try_lock(turn, call)?
+            }
+            Call::DelLock(holder, id, nodes) => {
+                let call = self.new_call(holder, id, nodes, Retries::Times(0));
+                self.delete_lock(turn, call)?
+            }
         }
         Ok(())
     }
 
-    /// A process dies: every member is to release its locks.
+    /// A process dies: its call is dropped, and every member is to release its locks.
     pub(super) fn exit(&mut self, turn: &mut Turn, process: &Pid) -> Result<(), StepFault>
         requires { refusal_of (Exits process.now) self.old ≡ None }
         ensures turn { OnOk result (Makes (λ n a u. die n a process.now (entering (AnyEntry.Exit process.now) u)) self.old turn.old self.new turn.new) }
@@ -116,6 +209,7 @@ impl<N: Names> NodeCore<N> {
         ensures kept { Keeps self.old self.new }
     {
         self.watch.exit(process)?;
+        self.calls.take(process);
         turn.enter(Entry::Exit(process.copy()))?;
         turn.send_all(&self.members, &Letter::ReleaseOf(process.copy()))?;
         Ok(())

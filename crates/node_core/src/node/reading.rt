@@ -65,7 +65,7 @@ impl<N: Names> NodeCore<N> {
         )
     }
 
-    /// An answer goes to the round of its holder, which is this node's registrar, or is none any more.
+    /// An answer goes to the round of its holder: this node's registrar, or a process that has a call.
     fn hear(
         &mut self,
         turn: &mut Turn,
@@ -77,7 +77,7 @@ impl<N: Names> NodeCore<N> {
         ensures kept { Keeps self.old self.new }
     {
         if *holder != self.registrar_pid() {
-            return Ok(());
+            return self.hear_lock(turn, from, holder, granted);
         }
         self.hear_answer(turn, from, granted)
     }
@@ -120,7 +120,7 @@ impl<N: Names> NodeCore<N> {
             Letter::SetLock(id, holder) => self.judge(turn, from, id, holder),
             Letter::LockAnswer(_, holder, granted) => self.hear(turn, from, holder, *granted),
             Letter::GiveBack(id, holder, ack) => self.take_back(turn, from, id, holder, *ack),
-            Letter::GivenBack(_) => Ok(()),
+            Letter::GivenBack(holder) => self.owe_less(turn, from, holder),
             Letter::ReleaseOf(holder) => {
                 self.locks.drop_holder(holder);
                 Ok(())

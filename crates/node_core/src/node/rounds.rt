@@ -1,4 +1,5 @@
 //! The rounds of the registrar: the lock is asked for, first of the boss and then of the rest.
+use crate::events::Letter;
 use crate::node::{NodeCore, Phase};
 use crate::turn::Turn;
 use boss_order::boss;
@@ -15,6 +16,7 @@ impl<N: Names> NodeCore<N> {
     ghost use Rattle.locker.specs.Held.{Held as HeldRound, seen};
     ghost use Rattle.node_core.specs.declared.node.Phase.TheVariants.{Asking};
     ghost use Rattle.node_core.specs.Held.{IsWithin};
+    ghost use Rattle.node_core.specs.Seen.{letter_of};
     ghost use Rattle.node_core.specs.Steps.{Keeps, Makes, Works};
 
     /// A round over the members begins: the boss is asked.
@@ -43,29 +45,30 @@ impl<N: Names> NodeCore<N> {
     }
 
     /// A refused round begins anew.
-    pub(super) fn retry(&mut self, turn: &mut Turn) -> Result<(), AllocError>
+    pub(super) fn retry_global(&mut self, turn: &mut Turn) -> Result<(), AllocError>
         ensures turn { OnOk result (Makes (λ n a u. retry_global n a u.node.current u) self.old turn.old self.new turn.new) }
         ensures kept { Keeps self.old self.new }
     {
-        if self.can_retry() {
+        if self.is_waiting() {
             self.ask_global(turn)?;
         }
         Ok(())
     }
 
     /// The boss's grant sends the same request to the rest.
-    fn ask_rest(
+    pub(super) fn ask_rest(
         &self,
         turn: &mut Turn,
         round: &Round,
         from: &NodeName,
         granted: bool,
+        request: &Letter,
     ) -> Result<(), AllocError>
         requires { IsWithin self.now.world round.now.nodes }
-        ensures { OnOk result (Makes (λ n a. ask_rest n a from.now granted (AnyLetter.SetLock (Global a) (registrar a)) (seen round.now)) self.now turn.old self.now turn.new) }
+        ensures { OnOk result (Makes (λ n a. ask_rest n a from.now granted (letter_of request.now) (seen round.now)) self.now turn.old self.now turn.new) }
     {
         if round.opens(from, granted) {
-            turn.send_all(&round.rest(), &self.set_lock())?;
+            turn.send_all(&round.rest(), request)?;
         }
         Ok(())
     }
@@ -108,7 +111,7 @@ impl<N: Names> NodeCore<N> {
         if !round.owes(from) {
             return Ok(());
         }
-        self.ask_rest(turn, round, from, granted)?;
+        self.ask_rest(turn, round, from, granted, &self.set_lock())?;
         let Phase::Asking(round) = &mut self.phase else {
             return Ok(());
         };

@@ -6,6 +6,7 @@ use Rattle.lock_calls.specs.Calls.{as_call}
 use Rattle.lock_calls.specs.Held.{IsOf}
 use Rattle.lock_calls.proofs.Among.{put_among}
 use Rattle.lock_calls.proofs.Filed.{filed-put, put_call-own, call_of-absent, on_err_given}
+use Rattle.lock_calls.proofs.Ordered.{ordered_in}
 use Rattle.lock_calls.proofs.calls.LockCalls.put.Goals as goal
 
 pub returns-in_err-insert-clause-err : goal.returns-in_err-insert-clause-err
@@ -33,3 +34,13 @@ pub returns-clause-only_new : goal.returns-clause-only_new
 returns-clause-only_new c =
     put_among c.self.inside.node c.self.inside.calls.entries c.args.self.now c.self.view_is _ c.args.call _
     c.in_ok-insert.ensures.entries
+
+pub returns-in_err-insert-clause-ordered : goal.returns-in_err-insert-clause-ordered
+returns-in_err-insert-clause-ordered c =
+    ordered_in c.self.inside.node c.self.inside.calls.entries c.args.self.now c.self.view_is c.self.invariant.of
+    c.self.invariant.rising
+
+pub returns-clause-ordered : goal.returns-clause-ordered
+returns-clause-ordered c =
+    ordered_in c.self.inside.node c.self.inside.calls.entries c.args.self.now c.self.view_is c.self.invariant.of
+    c.self.invariant.rising

@@ -7,6 +7,7 @@ use Rattle.lock_calls.specs.Calls.{as_call}
 use Rattle.lock_calls.specs.Held.{IsOf}
 use Rattle.lock_calls.proofs.Among.{among_itself, removed_among, found_among}
 use Rattle.lock_calls.proofs.Filed.{call_of-other, call_of-own, drop_call-other, drop_call-own, filed-remove_entry}
+use Rattle.lock_calls.proofs.Ordered.{ordered_in}
 use Rattle.lock_calls.proofs.calls.LockCalls.take.Goals as goal
 
 pub returns-then-ne-clause-calls : goal.returns-then-ne-clause-calls
@@ -50,3 +51,13 @@ pub returns-clause-none_new : goal.returns-clause-none_new
 returns-clause-none_new c =
     removed_among c.self.inside.node c.self.inside.calls.entries c.args.self.now c.self.view_is _ _
     c.remove.ensures.entries
+
+pub returns-then-ne-clause-ordered : goal.returns-then-ne-clause-ordered
+returns-then-ne-clause-ordered c =
+    ordered_in c.self.inside.node c.self.inside.calls.entries c.args.self.now c.self.view_is c.self.invariant.of
+    c.self.invariant.rising
+
+pub returns-clause-ordered : goal.returns-clause-ordered
+returns-clause-ordered c =
+    ordered_in c.self.inside.node c.self.inside.calls.entries c.args.self.now c.self.view_is c.self.invariant.of
+    c.self.invariant.rising
