@@ -37,7 +37,7 @@ agreed es h is = record {
 }
 
 -- what a list of events answers is what its course does
-course_answers : (o : Opening) (w : World) (es : List AnyWorldEvent) → answers_of (course o w es) ≡ all_answers o w es
+pub course_answers : (o : Opening) (w : World) (es : List AnyWorldEvent) → answers_of (course o w es) ≡ all_answers o w es
 course_answers o w [] = refl
 course_answers o w (e ∷ es) = go (is_none (refusal o w e)) (course_answers o (happens o w e) es)
   where
@@ -55,7 +55,7 @@ course_answers o w (e ∷ es) = go (is_none (refusal o w e)) (course_answers o (
     go true rest = ap (λ (l : List AnyAnswer). (turn_of o w e).answers ++ l) rest
     go false rest = rest
 
-all_answers-append : (o : Opening) (w : World) (xs ys : List AnyWorldEvent)
+pub all_answers-append : (o : Opening) (w : World) (xs ys : List AnyWorldEvent)
     → all_answers o w (xs ++ ys) ≡ all_answers o w xs ++ all_answers o (run o w xs) ys
 all_answers-append o w [] ys = refl
 all_answers-append o w (x ∷ xs) ys =

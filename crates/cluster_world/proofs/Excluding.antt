@@ -27,7 +27,7 @@ excludes es given old new A before is = excluded (before ++ events_of es) new (A
 
 module _ (o : Opening) (p : Process) (id : Id) (c : ℕ) where
   -- events behind others are counted behind them
-  tally-append : (w : World) (xs ys : List AnyWorldEvent) (k : Tally)
+  pub tally-append : (w : World) (xs ys : List AnyWorldEvent) (k : Tally)
       → tally_from o w (xs ++ ys) p id c k ≡ tally_from o (run o w xs) ys p id c (tally_from o w xs p id c k)
   tally-append w [] ys k = refl
   tally-append w (x ∷ xs) ys k = tally-append (happens o w x) xs ys (tally_after o w x p id c k)

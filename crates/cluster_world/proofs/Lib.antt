@@ -11,3 +11,8 @@ mod Starting
 pub mod Agreeing
 pub mod Excluding
 mod Running
+mod Verdicts
+mod Winning
+mod Spent
+mod Counting
+mod Seats

@@ -17,7 +17,7 @@ use Rattle.link.specs.Held.{Held as Mesh, place, seen as links_of}
 use Rattle.link.specs.declared.faults.LinkFault.{LinkFault}
 use Rattle.link.specs.declared.faults.LinkFault.TheVariants as on_link
 use Rattle.node_core.specs.declared.events.Answer.{Answer}
-use Rattle.node_core.specs.declared.events.Call.TheVariants.{Spawn, Whereis, RegisteredNames, Register, ReRegister, Unregister}
+use Rattle.node_core.specs.declared.events.Call.TheVariants.{Spawn, Whereis, RegisteredNames, Register, ReRegister, Unregister, SetLock, DelLock}
 use Rattle.node_core.specs.declared.events.Event.TheVariants.{FromPeer}
 use Rattle.node_core.specs.declared.events.Letter.{Letter}
 use Rattle.node_core.specs.Held.{Held as Core, bound_of}
@@ -26,7 +26,7 @@ use Rattle.node_core.specs.Steps.{IsTurn, IsHeardWithin, refusal_of as node_refu
 use Rattle.cluster_world.specs.declared.events.Event.{Event}
 use Rattle.cluster_world.specs.declared.events.Event.TheVariants.{Call, Retry, Exit}
 use Rattle.cluster_world.specs.declared.events.Refusal.{Refusal}
-use Rattle.cluster_world.specs.declared.events.Refusal.TheVariants.{NoSuchNode, EmptyLink, NoSuchProcess, AlreadyExited, SerialsSpent, NothingToRetry, CallsSpent, Memory}
+use Rattle.cluster_world.specs.declared.events.Refusal.TheVariants.{NoSuchNode, EmptyLink, NotLive, Busy, Reserved, UnknownNode, NoSuchProcess, AlreadyExited, SerialsSpent, NothingToRetry, CallsSpent, Memory}
 use Rattle.cluster_world.specs.declared.events.WorldEvent.TheVariants.{At, Deliver}
 use Rattle.cluster_world.specs.Events.{node_event, own_event_of, event_of}
 use Rattle.cluster_world.specs.Held.{Held, IsWhole}
@@ -55,6 +55,8 @@ module _ (h : Held) where
   own_alone a (Call (Register x p)) = refl
   own_alone a (Call (ReRegister x p)) = refl
   own_alone a (Call (Unregister x)) = refl
+  own_alone a (Call (SetLock p id nodes retries)) = refl
+  own_alone a (Call (DelLock p id nodes)) = refl
   own_alone a Retry = refl
   own_alone a (Exit p) = refl
 
@@ -124,6 +126,10 @@ pub refuses_own : (h : Held) (a : ℕ) (e : Event) (r : Refusal) → IsWhole h �
     → RefusedWith r (At a e) h
 refuses_own h a e NoSuchNode whole F = refused_stranger h a (own_event_of e) F
 refuses_own h a e EmptyLink whole (c, S, q) = refused_own h whole a c S e ∙ q
+refuses_own h a e (NotLive p) whole (c, S, q) = refused_own h whole a c S e ∙ q
+refuses_own h a e (Busy p) whole (c, S, q) = refused_own h whole a c S e ∙ q
+refuses_own h a e Reserved whole (c, S, q) = refused_own h whole a c S e ∙ q
+refuses_own h a e UnknownNode whole (c, S, q) = refused_own h whole a c S e ∙ q
 refuses_own h a e NoSuchProcess whole (c, S, q) = refused_own h whole a c S e ∙ q
 refuses_own h a e AlreadyExited whole (c, S, q) = refused_own h whole a c S e ∙ q
 refuses_own h a e SerialsSpent whole (c, S, q) = refused_own h whole a c S e ∙ q
@@ -263,6 +269,10 @@ module _ (h : Held) (whole : IsWhole h) (f t : ℕ) where
     only_memory : (r : Refusal) → FailsAt r t (FromPeer f letter) off_link → r ≡ Memory
     only_memory NoSuchNode F = cc (F, ends_known.1)
     only_memory EmptyLink (c, S, q) = cc
+    only_memory (NotLive p) (c, S, q) = cc
+    only_memory (Busy p) (c, S, q) = cc
+    only_memory Reserved (c, S, q) = cc
+    only_memory UnknownNode (c, S, q) = cc
     only_memory NoSuchProcess (c, S, q) = cc
     only_memory AlreadyExited (c, S, q) = cc
     only_memory SerialsSpent (c, S, q) = cc

@@ -17,19 +17,19 @@ use Rattle.cluster_world.specs.Playing.{Keeps, Played, RefusedWith, IsSoFar, Ran
 use Rattle.cluster_world.proofs.Agreeing.{same_opening}
 
 -- one event more is one more that happens
-run-push : (o : Opening) (w : World) (es : List AnyWorldEvent) (e : AnyWorldEvent) → run o w (es ++ e ∷ [])
+pub run-push : (o : Opening) (w : World) (es : List AnyWorldEvent) (e : AnyWorldEvent) → run o w (es ++ e ∷ [])
     ≡ happens o (run o w es) e
 run-push o w [] e = refl
 run-push o w (d ∷ es) e = run-push o (happens o w d) es e
 
-answers-push : (o : Opening) (w : World) (es : List AnyWorldEvent) (e : AnyWorldEvent)
+pub answers-push : (o : Opening) (w : World) (es : List AnyWorldEvent) (e : AnyWorldEvent)
     → all_answers o w (es ++ e ∷ []) ≡ all_answers o w es ++ answers o (run o w es) e
 answers-push o w [] e = append-nil (answers o w e)
 answers-push o w (d ∷ es) e = ap (λ (l : List AnyAnswer). answers o w d ++ l) (answers-push o (happens o w d) es e)
     ∙ sym (append_assoc (answers o w d) (all_answers o (happens o w d) es) (answers o (run o (happens o w d) es) e))
 
 -- and it was accepted, where all before were
-accepts_all-push : (o : Opening) (w : World) (es : List AnyWorldEvent) (e : AnyWorldEvent)
+pub accepts_all-push : (o : Opening) (w : World) (es : List AnyWorldEvent) (e : AnyWorldEvent)
     → accepts_all o w es ≡ true → refusal o (run o w es) e ≡ None → accepts_all o w (es ++ e ∷ []) ≡ true
 accepts_all-push o w [] e all free = ap (λ (r : Option AnyRefusal). is_none r && true) free
 accepts_all-push o w (d ∷ es) e all free = go (is_none (refusal o w d)) all

@@ -20,7 +20,7 @@ use Rattle.node_core.specs.declared.events.Entry.{Entry}
 use Rattle.node_core.specs.declared.events.Event.{Event as NodeEvent}
 use Rattle.node_core.specs.declared.events.Letter.{Letter}
 use Rattle.node_core.specs.declared.events.StepFault.{StepFault}
-use Rattle.node_core.specs.declared.events.StepFault.TheVariants.{NoSuchProcess, AlreadyExited, SerialsSpent, NothingToRetry, CallsSpent, Memory}
+use Rattle.node_core.specs.declared.events.StepFault.TheVariants.{NotLive, Busy, Reserved, UnknownNode, NoSuchProcess, AlreadyExited, SerialsSpent, NothingToRetry, CallsSpent, Memory}
 use Rattle.node_core.specs.Held.{Held as Core}
 use Rattle.node_core.specs.Seen.{node_of, turn_of, send_of, letter_of, entry_of, fault_of, is_memory as node_memory}
 use Rattle.node_core.specs.Steps.{Steps, IsHeardWithin, refusal_of as node_refusal}
@@ -69,6 +69,10 @@ module _ (h : Held) (whole : IsWhole h) (a i : ℕ) (core : Core) (there : place
   -- the node fails
   pub fails : (e : NodeEvent) (fault : StepFault) → node_refusal e core ≡ fault_of fault
       → FailsAt (refusal_by fault) a e h
+  fails e (NotLive p) q = (core, stands, q)
+  fails e (Busy p) q = (core, stands, q)
+  fails e Reserved q = (core, stands, q)
+  fails e UnknownNode q = (core, stands, q)
   fails e NoSuchProcess q = (core, stands, q)
   fails e AlreadyExited q = (core, stands, q)
   fails e SerialsSpent q = (core, stands, q)
@@ -184,6 +188,10 @@ module _ (h : Held) (whole : IsWhole h) (a i : ℕ) (core : Core) (there : place
 
 -- the world runs out of memory where its node does
 pub same_memory : (fault : StepFault) → is_memory (refusal_by fault) ≡ false → node_memory fault ≡ false
+same_memory (NotLive p) e = refl
+same_memory (Busy p) e = refl
+same_memory Reserved e = refl
+same_memory UnknownNode e = refl
 same_memory NoSuchProcess e = refl
 same_memory AlreadyExited e = refl
 same_memory SerialsSpent e = refl

@@ -8,3 +8,5 @@ pub mod Starting
 pub mod Playing
 pub mod Agreeing
 pub mod Excluding
+pub mod Counting
+pub mod Seats

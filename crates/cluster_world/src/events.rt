@@ -13,7 +13,7 @@ use thiserror::Error;
 pub enum Event {
     /// A client calls.
     Call(Call),
-    /// The operation whose round was refused asks again.
+    /// The operation whose round was refused asks again, and so does each lock call whose round was.
     Retry,
     /// A process of the node dies: its locks are released at once, and its names are struck under the global lock.
     Exit(Pid),
@@ -30,6 +30,12 @@ fn call_copy(call: &Call) -> Call
         Call::Register(name, owner) => Call::Register(name.copy(), owner.copy()),
         Call::ReRegister(name, owner) => Call::ReRegister(name.copy(), owner.copy()),
         Call::Unregister(name) => Call::Unregister(name.copy()),
+        Call::SetLock(holder, id, nodes, retries) => {
+            Call::SetLock(holder.copy(), id.copy(), nodes.copy(), retries.copy())
+        }
+        Call::DelLock(holder, id, nodes) => {
+            Call::DelLock(holder.copy(), id.copy(), nodes.copy())
+        }
     }
 }
 
@@ -56,7 +62,7 @@ pub enum WorldEvent {
 }
 
 /// Why an event is refused, in the order in which the causes are looked for.
-#[derive(Clone, Copy, Debug, PartialEq, Eq, Error)]
+#[derive(Clone, Debug, PartialEq, Eq, Error, Drop)]
 pub enum Refusal {
     /// A node of the event isn't of this world.
     #[error("no_such_node")]
@@ -64,6 +70,18 @@ pub enum Refusal {
     /// Nothing is on the link.
     #[error("empty_link")]
     EmptyLink,
+    /// The holder of a lock call is no live process of the node.
+    #[error("not_live")]
+    NotLive(Pid),
+    /// The process has a lock call that isn't answered.
+    #[error("busy")]
+    Busy(Pid),
+    /// The resource `global` is the registry's own.
+    #[error("reserved")]
+    Reserved,
+    /// A node that a lock call names is no member.
+    #[error("unknown_node")]
+    UnknownNode,
     /// The process is another node's, or its serial wasn't given.
     #[error("no_such_process")]
     NoSuchProcess,
@@ -101,6 +119,10 @@ impl From<StepFault> for Refusal {
 
     fn from(fault: StepFault) -> Refusal {
         match fault {
+            StepFault::NotLive(holder) => Refusal::NotLive(holder),
+            StepFault::Busy(holder) => Refusal::Busy(holder),
+            StepFault::Reserved => Refusal::Reserved,
+            StepFault::UnknownNode => Refusal::UnknownNode,
             StepFault::NoSuchProcess => Refusal::NoSuchProcess,
             StepFault::AlreadyExited => Refusal::AlreadyExited,
             StepFault::SerialsSpent => Refusal::SerialsSpent,

@@ -72,6 +72,8 @@ fn plain_reply(reply: &Reply) -> &'static str {
         Reply::No => "no",
         Reply::Ok => "ok",
         Reply::UnknownNode => "unknown_node",
+        Reply::True => "true",
+        Reply::False => "false",
         Reply::Undefined => "undefined",
         Reply::Pid(_) => "a process",
         Reply::Names(_) => "names",

@@ -172,7 +172,7 @@ impl<N: Names> World<N> {
     }
 
     /// The core of a node.
-    fn core(&self, node: &NodeName) -> Option<&NodeCore<N>>
+    pub(crate) fn core(&self, node: &NodeName) -> Option<&NodeCore<N>>
         ensures here { is_some result ≡ set_of self.now.nodes node.now }
         ensures core { option_copied result ≡ core_of node.now self.now.cores }
         ensures world { IfSome result (λ core. core.now.world ≡ self.now.nodes) }

@@ -1,0 +1,349 @@
+-- A call that waits, while events are played one after the other.
+use Rattle.std.proofs.Common.{ℕ, zero, suc, Bool, true, false, ◌≡◌, ◌<◌, ◌+◌, ◌-◌, arith, Option, Some, None, List, [], ◌∷◌, ◌++◌, map, refl, sym, ap, ◌∙◌, subst}
+use Rattle.std.specs.Prelude.{Result, Ok, Err, is_some, is_none, ◌&&◌, if◌then◌else◌}
+use Rattle.std.proofs.lemmas.List.{append_assoc, append-nil, map-append}
+use Rattle.protocol_model.specs.Event.{Answer as AnyAnswer, Refusal as AnyRefusal}
+use Rattle.protocol_model.specs.World.{Opening, World, WorldEvent as AnyWorldEvent, refusal, happens, answers, run, all_answers}
+use Rattle.node_core.specs.declared.events.Answer.{Answer}
+use Rattle.node_core.specs.declared.events.Call.{Call}
+use Rattle.node_core.specs.Seen.{answer_of, call_of}
+use Rattle.cluster_world.specs.declared.events.Refusal.{Refusal}
+use Rattle.cluster_world.specs.declared.events.Refusal.TheVariants.{NoSuchNode, EmptyLink, NotLive, Busy, Reserved, UnknownNode, NoSuchProcess, AlreadyExited, SerialsSpent, NothingToRetry, CallsSpent, Memory}
+use Rattle.cluster_world.specs.declared.events.Event.TheVariants.{Call as Calls}
+use Rattle.cluster_world.specs.declared.events.WorldEvent.{WorldEvent}
+use Rattle.cluster_world.specs.declared.events.WorldEvent.TheVariants.{At}
+use Rattle.cluster_world.specs.declared.seat.SeatFault.{SeatFault}
+use Rattle.cluster_world.specs.declared.seat.SeatFault.TheVariants.{Refused, NoAnswer}
+use Rattle.cluster_world.specs.Events.{event_of}
+use Rattle.cluster_world.specs.Held.{Held}
+use Rattle.cluster_world.specs.Playing.{Keeps, Played, RefusedWith, events_of, accepts_all}
+use Rattle.cluster_world.specs.Refusals.{refusal_of, is_memory}
+use Rattle.cluster_world.specs.Seats.{most_events, verdict_in, next_number, next_for, awaiting, until_answered, WentThrough, Waited, HasWaited, Called, SetsLock}
+use Rattle.cluster_world.specs.Seen.{opening_of, seen}
+use Rattle.cluster_world.specs.Agreeing.{Agrees}
+use Rattle.cluster_world.proofs.Agreeing.{same_opening, agrees}
+use Rattle.cluster_world.proofs.Excluding.{excludes}
+use Rattle.cluster_world.proofs.Verdicts.{verdict_in-append}
+use Rattle.cluster_world.proofs.Counting.{counts}
+use Rattle.cluster_world.proofs.Running.{run-push, answers-push, accepts_all-push}
+
+-- what a call waits for, where that is e, by why it is refused
+module _ (o : Opening) (a k left : ℕ) (w : World) where
+  -- e, and what is left behind it
+  abbrev onward : AnyWorldEvent → List AnyWorldEvent
+  onward e =
+      e ∷ (if is_some (verdict_in a k (answers o w e)) then [] else awaiting o a k left (happens o w e))
+
+  by_refusal : (r : Option AnyRefusal) → refusal o w (next_for o a w) ≡ r
+      → awaiting o a k (suc left) w ≡ (if is_some r then [] else onward (next_for o a w))
+  by_refusal r q = ap (λ (s : Option AnyRefusal). if is_some s then [] else onward (next_for o a w)) q
+
+  pub awaiting-on : (e : AnyWorldEvent) → next_for o a w ≡ e → refusal o w e ≡ None
+      → awaiting o a k (suc left) w ≡ onward e
+  awaiting-on e is free = by_refusal None (ap (refusal o w) is ∙ free) ∙ ap onward is
+
+  pub awaiting-end : (e : AnyWorldEvent) (r : AnyRefusal) → next_for o a w ≡ e → refusal o w e ≡ Some r
+      → awaiting o a k (suc left) w ≡ []
+  awaiting-end e r is refused = by_refusal (Some r) (ap (refusal o w) is ∙ refused)
+
+-- nothing was played yet
+pub went_nowhere : (h : Held) → WentThrough [] h h []
+went_nowhere h = record { accepted = refl; world = refl; answers = refl }
+
+module _ (es : List WorldEvent) (old mid new : Held) (given now : List Answer) (e : WorldEvent)
+    (W : WentThrough es old mid given) (K : Keeps old mid) (P : Played e mid new [] now) where
+  abbrev pub o : Opening
+  o = opening_of old
+
+  same : opening_of mid ≡ o
+  same = same_opening old mid K
+
+  pushed : events_of (es ++ e ∷ []) ≡ events_of es ++ event_of e ∷ []
+  pushed = map-append event_of es (e ∷ [])
+
+  -- it is accepted, makes this world, and answers so
+  pub free : refusal o (seen mid) (event_of e) ≡ None
+  free = ap (λ (p : Opening). refusal p (seen mid) (event_of e)) (sym same) ∙ P.accepted
+
+  pub makes : seen new ≡ happens o (seen mid) (event_of e)
+  makes = P.happens ∙ ap (λ (p : Opening). happens p (seen mid) (event_of e)) same
+
+  pub says : map answer_of now ≡ answers o (seen mid) (event_of e)
+  says = P.answers ∙ ap (λ (p : Opening). answers p (seen mid) (event_of e)) same
+
+  -- one event more
+  pub went_on : WentThrough (es ++ e ∷ []) old new (given ++ now)
+  went_on = record {
+    accepted = ap (accepts_all o (seen old)) pushed
+        ∙ accepts_all-push o (seen old) (events_of es) (event_of e) W.accepted
+        (ap (λ (w : World). refusal o w (event_of e)) (sym W.world) ∙ free);
+    world = makes ∙ ap (λ (w : World). happens o w (event_of e)) W.world
+        ∙ sym (run-push o (seen old) (events_of es) (event_of e)) ∙ ap (run o (seen old)) (sym pushed);
+    answers = map-append answer_of given now
+        ∙ ap (λ (l : List AnyAnswer). l ++ map answer_of now) W.answers
+        ∙ ap (λ (l : List AnyAnswer). all_answers o (seen old) (events_of es) ++ l) (says
+        ∙ ap (λ (w : World). answers o w (event_of e)) W.world)
+        ∙ sym (answers-push o (seen old) (events_of es) (event_of e)) ∙ ap (all_answers o (seen old)) (sym pushed);
+  }
+
+-- call k of node a still waits, and of what is played for it this many events are left at most
+pub record IsWaiting (a k : ℕ) (old mid : Held) (left : ℕ) : Type 0 where
+  pub kept : Keeps old mid
+  pub events : List WorldEvent
+  pub given : List Answer
+  pub played : WentThrough events old mid given
+  pub rest : awaiting (opening_of old) a k most_events (seen old)
+      ≡ events_of events ++ awaiting (opening_of old) a k left (seen mid)
+  pub silent : verdict_in a k (map answer_of given) ≡ None
+
+pub begins : (a k : ℕ) (h : Held) → IsWaiting a k h h most_events
+begins a k h = record {
+  kept = record { nodes = refl; cluster = refl };
+  events = [];
+  given = [];
+  played = went_nowhere h;
+  rest = refl;
+  silent = refl;
+}
+
+-- where nothing is left, it has no answer
+pub ends : (a k : ℕ) (old mid : Held) → IsWaiting a k old mid zero → Waited a k old mid None
+ends a k old mid I = record {
+  events = I.events;
+  given = I.given;
+  played = I.played;
+  are = sym (I.rest ∙ append-nil (events_of I.events));
+  answered = I.silent;
+}
+
+-- of the refusals, want of memory alone is none of the protocol's
+refusal_there : (r : Refusal) → is_memory r ≡ false → (x : AnyRefusal) × (refusal_of r ≡ Some x)
+refusal_there NoSuchNode e = (_, refl)
+refusal_there EmptyLink e = (_, refl)
+refusal_there (NotLive p) e = (_, refl)
+refusal_there (Busy p) e = (_, refl)
+refusal_there Reserved e = (_, refl)
+refusal_there UnknownNode e = (_, refl)
+refusal_there NoSuchProcess e = (_, refl)
+refusal_there AlreadyExited e = (_, refl)
+refusal_there SerialsSpent e = (_, refl)
+refusal_there NothingToRetry e = (_, refl)
+refusal_there CallsSpent e = (_, refl)
+refusal_there Memory e = cc
+
+module _ (a k : ℕ) (old mid new : Held) (i : ℕ) (e : WorldEvent) (within : i < most_events)
+    (waiting : IsWaiting a k old mid (most_events - i))
+    (next : event_of e ≡ next_for (opening_of mid) a (seen mid)) where
+  abbrev left : ℕ
+  left = most_events - (i + 1)
+
+  one_more : most_events - i ≡ suc left
+  one_more = omega (arith, within)
+
+  I : IsWaiting a k old mid (suc left)
+  I = subst (IsWaiting a k old mid) one_more waiting
+
+  next_is : next_for (opening_of old) a (seen mid) ≡ event_of e
+  next_is = sym (next ∙ ap (λ (p : Opening). next_for p a (seen mid)) (same_opening old mid I.kept))
+
+  -- the next event is refused
+  stops : (r : Refusal) → RefusedWith r e mid → is_memory r ≡ false → new ≡ mid → Waited a k old new None
+  stops r refused kept same = subst (λ (h : Held). Waited a k old h None) (sym same) (record {
+    events = I.events;
+    given = I.given;
+    played = I.played;
+    are = sym (I.rest ∙ ap (λ (l : List AnyWorldEvent). events_of I.events ++ l) nothing
+        ∙ append-nil (events_of I.events));
+    answered = I.silent;
+  })
+    where
+      there : (x : AnyRefusal) × (refusal_of r ≡ Some x)
+      there = refusal_there r kept
+
+      nothing : awaiting (opening_of old) a k (suc left) (seen mid) ≡ []
+      nothing = awaiting-end (opening_of old) a k left (seen mid) (event_of e) there.0 next_is
+          (ap (λ (p : Opening). refusal p (seen mid) (event_of e)) (sym (same_opening old mid I.kept)) ∙ refused
+          ∙ there.1)
+
+  pub refused_end : (r : Refusal) (fault : SeatFault) → RefusedWith r e mid → (is_memory r ≡ false → new ≡ mid)
+      → fault ≡ (if is_memory r then Refused Memory else NoAnswer) → HasWaited a k old new (Err fault)
+  refused_end r fault refused same is = subst (λ (f : SeatFault). HasWaited a k old new (Err f)) (sym is)
+      (go (is_memory r) refl)
+    where
+      go : (b : Bool) → is_memory r ≡ b
+          → HasWaited a k old new (Err (if b then Refused Memory else NoAnswer))
+      go true q = refl
+      go false q = stops r refused q (same q)
+
+  module _ (now : List Answer) (P : Played e mid new [] now) where
+    went : WentThrough (I.events ++ e ∷ []) old new (I.given ++ now)
+    went = went_on I.events old mid new I.given now e I.played I.kept P
+
+    -- what is left behind the next event, by its verdict
+    abbrev tail : Option Bool → List AnyWorldEvent
+    tail v = if is_some v then [] else awaiting (opening_of old) a k left (seen new)
+
+    unrolled : awaiting (opening_of old) a k (suc left) (seen mid)
+        ≡ event_of e ∷ tail (verdict_in a k (map answer_of now))
+    unrolled = awaiting-on (opening_of old) a k left (seen mid) (event_of e) next_is
+        (free I.events old mid new I.given now e I.played I.kept P)
+        ∙ ap (λ (w : World). event_of e
+        ∷ (if is_some (verdict_in a k (answers (opening_of old) (seen mid) (event_of e)))
+        then [] else awaiting (opening_of old) a k left w))
+        (sym (makes I.events old mid new I.given now e I.played I.kept P))
+        ∙ ap (λ (l : List AnyAnswer). event_of e ∷ tail (verdict_in a k l))
+        (sym (says I.events old mid new I.given now e I.played I.kept P))
+
+    rest_is : (v : Option Bool) → verdict_in a k (map answer_of now) ≡ v
+        → awaiting (opening_of old) a k most_events (seen old) ≡ events_of (I.events ++ e ∷ []) ++ tail v
+    rest_is v q = I.rest ∙ ap (λ (l : List AnyWorldEvent). events_of I.events ++ l) unrolled
+        ∙ ap (λ (w : Option Bool). events_of I.events ++ event_of e ∷ tail w) q
+        ∙ sym (append_assoc (events_of I.events) (event_of e ∷ []) (tail v))
+        ∙ ap (λ (l : List AnyWorldEvent). l ++ tail v) (sym (map-append event_of I.events (e ∷ [])))
+
+    verdict_is : verdict_in a k (map answer_of (I.given ++ now)) ≡ verdict_in a k (map answer_of now)
+    verdict_is = ap (verdict_in a k) (map-append answer_of I.given now)
+        ∙ verdict_in-append a k (map answer_of I.given) (map answer_of now) I.silent
+
+    -- the next event brings the answer
+    pub is_answered : (granted : Bool) → verdict_in a k (map answer_of now) ≡ Some granted
+        → Waited a k old new (Some granted)
+    is_answered granted q = record {
+      events = I.events ++ e ∷ [];
+      given = I.given ++ now;
+      played = went;
+      are = sym (rest_is (Some granted) q ∙ append-nil (events_of (I.events ++ e ∷ [])));
+      answered = verdict_is ∙ q;
+    }
+
+    -- or not
+    pub waits_on : Keeps mid new → verdict_in a k (map answer_of now) ≡ None
+        → IsWaiting a k old new (most_events - (i + 1))
+    waits_on K q = record {
+      kept = record { nodes = K.nodes ∙ I.kept.nodes; cluster = K.cluster ∙ I.kept.cluster };
+      events = I.events ++ e ∷ [];
+      given = I.given ++ now;
+      played = went;
+      rest = rest_is None q;
+      silent = verdict_is ∙ q;
+    }
+
+-- an event, and then others
+went_behind : (e : WorldEvent) (es : List WorldEvent) (old mid new : Held) (now given : List Answer) → Keeps old mid
+    → Played e old mid [] now → WentThrough es mid new given → WentThrough (e ∷ es) old new (now ++ given)
+went_behind e es old mid new now given K P W = record {
+  accepted = ap (λ (r : Option AnyRefusal). is_none r && accepts_all o (happens o (seen old) (event_of e))
+      (events_of es)) P.accepted
+      ∙ ap (λ (w : World). accepts_all o w (events_of es)) (sym P.happens)
+      ∙ ap (λ (p : Opening). accepts_all p (seen mid) (events_of es)) (sym same) ∙ W.accepted;
+  world = W.world ∙ ap (λ (p : Opening). run p (seen mid) (events_of es)) same
+      ∙ ap (λ (w : World). run o w (events_of es)) P.happens;
+  answers = map-append answer_of now given
+      ∙ ap (λ (l : List AnyAnswer). l ++ map answer_of given) P.answers
+      ∙ ap (λ (l : List AnyAnswer). answers o (seen old) (event_of e) ++ l) (W.answers
+      ∙ ap (λ (p : Opening). all_answers p (seen mid) (events_of es)) same
+      ∙ ap (λ (w : World). all_answers o w (events_of es)) P.happens);
+}
+  where
+    o : Opening
+    o = opening_of old
+
+    same : opening_of mid ≡ opening_of old
+    same = same_opening old mid K
+
+module _ (a : ℕ) (c : Call) (old mid : Held) (now : List Answer) (P : Played (At a (Calls c)) old mid [] now) where
+  abbrev calls : WorldEvent
+  calls = At a (Calls c)
+
+  abbrev k : ℕ
+  k = next_number a (seen old)
+
+  begun : Keeps old mid
+  begun = record { nodes = P.nodes; cluster = P.cluster }
+
+  -- a call whose events were these
+  called : (new : Held) (es : List WorldEvent) (given : List Answer) (v : Option Bool) → Keeps old new
+      → WentThrough es old new given
+      → events_of es ≡ until_answered (opening_of old) a k (seen old) (event_of calls)
+      → verdict_in a k (map answer_of given) ≡ v → Called a c old new v
+  called new es given v K W are answered = record {
+    events = es;
+    given = given;
+    played = W;
+    are = are;
+    answered = answered;
+    agrees = agreed;
+    excludes = excludes es given old new agreed;
+    counts = counts es given old new v W (call_of c) a (are, answered);
+  }
+    where
+      agreed : Agrees es given old new
+      agreed = agrees es given old new K W.world W.answers
+
+  -- the events, by the verdict in the call's own step
+  until : (v : Option Bool) → verdict_in a k (map answer_of now) ≡ v
+      → until_answered (opening_of old) a k (seen old) (event_of calls)
+      ≡ event_of calls ∷ (if is_some v then [] else awaiting (opening_of mid) a k most_events (seen mid))
+  until v q =
+      ap (λ (l : List AnyAnswer). event_of calls ∷ (if is_some (verdict_in a k l) then []
+      else awaiting (opening_of old) a k most_events (happens (opening_of old) (seen old) (event_of calls))))
+      (sym P.answers)
+      ∙ ap (λ (w : Option Bool). event_of calls ∷ (if is_some w then []
+      else awaiting (opening_of old) a k most_events (happens (opening_of old) (seen old) (event_of calls)))) q
+      ∙ ap (λ (w : World). event_of calls ∷ (if is_some v then [] else awaiting (opening_of old) a k most_events w))
+      (sym P.happens)
+      ∙ ap (λ (p : Opening). event_of calls ∷ (if is_some v then [] else awaiting p a k most_events (seen mid)))
+      (sym (same_opening old mid begun))
+
+  -- its own step answers it
+  answered_at_once : (granted : Bool) → verdict_in a k (map answer_of now) ≡ Some granted
+      → Called a c old mid (Some granted)
+  answered_at_once granted q =
+      called mid (calls ∷ []) now (Some granted) begun
+      (went_on [] old old mid [] now calls (went_nowhere old) (record { nodes = refl; cluster = refl }) P)
+      (sym (until (Some granted) q)) q
+
+  -- or it waits
+  answered_later : (new : Held) (v : Option Bool) → Keeps mid new → verdict_in a k (map answer_of now) ≡ None
+      → Waited a k mid new v → Called a c old new v
+  answered_later new v K q W =
+      called new (calls ∷ W.events) (now ++ W.given) v
+      (record { nodes = K.nodes ∙ P.nodes; cluster = K.cluster ∙ P.cluster })
+      (went_behind calls W.events old mid new now W.given begun P W.played)
+      (ap (λ (l : List AnyWorldEvent). event_of calls ∷ l) W.are ∙ sym (until None q))
+      (ap (verdict_in a k) (map-append answer_of now W.given)
+      ∙ verdict_in-append a k (map answer_of now) (map answer_of W.given) q ∙ W.answered)
+
+  -- so does its seat
+  sets : (new : Held) (result : Result Bool SeatFault) → Keeps mid new
+      → verdict_in a k (map answer_of now) ≡ None → HasWaited a k mid new result → SetsLock a c old new result
+  sets new (Ok granted) K q W = answered_later new (Some granted) K q W
+  sets new (Err NoAnswer) K q W = answered_later new None K q W
+  sets new (Err (Refused r)) K q W = (
+    P.accepted ∙ ap refusal_of (sym W),
+    λ kept. absurd (no_memory (sym (ap is_memory W) ∙ kept)),
+  )
+    where
+      no_memory : true ≡ false → ⊥
+      no_memory e = cc
+
+-- the same, where node and number are those that the seat looked up
+module _ (a node b n : ℕ) (c : Call) (old mid : Held) (now given : List Answer) (v : Option Bool) (node_is : node ≡ a)
+    (b_is : b ≡ node) (number_is : n ≡ next_number node (seen old)) (P : Played (At b (Calls c)) old mid [] now)
+    (given_is : given ≡ now) (verdict_is : v ≡ verdict_in node n (map answer_of given)) where
+  played : Played (At a (Calls c)) old mid [] now
+  played = subst (λ (x : ℕ). Played (At x (Calls c)) old mid [] now) (b_is ∙ node_is) P
+
+  verdict_here : verdict_in a (next_number a (seen old)) (map answer_of now) ≡ v
+  verdict_here = sym (verdict_is ∙ ap (λ (l : List Answer). verdict_in node n (map answer_of l)) given_is
+      ∙ ap (λ (x : ℕ). verdict_in node x (map answer_of now)) number_is
+      ∙ ap (λ (x : ℕ). verdict_in x (next_number x (seen old)) (map answer_of now)) node_is)
+
+  pub called_at_once : (granted : Bool) → v ≡ Some granted → Called a c old mid (Some granted)
+  called_at_once granted q = answered_at_once a c old mid now played granted (verdict_here ∙ q)
+
+  pub called_later : (new : Held) (result : Result Bool SeatFault) → Keeps mid new → v ≡ None
+      → HasWaited node n mid new result → SetsLock a c old new result
+  called_later new result K q W = sets a c old mid now played new result K (verdict_here ∙ q)
+      (subst (λ (x : ℕ). HasWaited x (next_number x (seen old)) mid new result) node_is
+      (subst (λ (x : ℕ). HasWaited node x mid new result) number_is W))

@@ -1,0 +1,215 @@
+-- What the numbers of a process become event by event, while a `del_lock` of it waits: its last try, whose call was answered
+-- before, wins nothing more.
+use Rattle.std.proofs.Common.{ℕ, Bool, true, false, ◌==◌, ◌≡◌, ◌≤◌, ◌-◌, Option, Some, None, List, [], ◌∷◌, refl, sym, ap, subst, ◌∙◌}
+use Rattle.std.specs.Prelude.{◌&&◌, ◌||◌, not, is_none, if◌then◌else◌}
+use Rattle.std.specs.List.{list_all}
+use Rattle.std.proofs.lemmas.Bool.{and_parts}
+use Rattle.registry_model.specs.Process.{Process}
+use Rattle.protocol_model.specs.Letter.{Id, Global}
+use Rattle.protocol_model.specs.Watch.{is_dead}
+use Rattle.protocol_model.specs.Node.{LockCall, Target}
+use Rattle.protocol_model.specs.Event.{Call, Event, Answer, Refusal, is_waiting_call}
+use Rattle.protocol_model.specs.ClientLocks.{Try, Tally, try_of, tried_again, is_refused, last_try, is_won, gives, is_gone, tallied, tally_after, tally_from}
+use Rattle.protocol_model.specs.World.{Opening, World, WorldEvent, At, Deliver, place, in_world, left, refusal, happens, accepted, answers, turn_of, run}
+use Rattle.moves.proofs.Rules.{answers_by}
+use Rattle.walk.proofs.Walk.{OrderedWalk, walked_in_order}
+use Rattle.walk.proofs.Orders.{ordered_keeps}
+use Rattle.client_locks.proofs.Answering.{any_true}
+use Rattle.client_locks.proofs.Clients.{Numbers, call_at}
+use Rattle.client_locks.proofs.RoundNumbers
+use Rattle.client_locks.proofs.RoundNumbers.{number_after}
+use Rattle.client_locks.proofs.Told.{chain_of}
+use Rattle.client_locks.proofs.TriedEvents.{Tried, tried}
+use Rattle.client_locks.proofs.Tries.{Fits, lost_without}
+use Rattle.client_locks.proofs.Walking.{event_keeps}
+use Rattle.headline.proofs.Together.{All}
+use Rattle.cluster_world.specs.Playing.{accepts_all}
+use Rattle.cluster_world.proofs.Winning.{is_plain, is_waited, waited_plain, waited_gives, grounds, Behind, happened, gone_before, counted_so, last_so, IsNow, now_up}
+
+-- an event that begins no try leaves the last one its number
+plain_last : (w : World) (e : WorldEvent) (p : Process) (t : Option Try) (s : Try) → is_plain e ≡ true
+    → last_try w e p t ≡ Some s → (u : Try) × ((t ≡ Some u) × (u.number ≡ s.number))
+plain_last w (Deliver f b) p t s h is = (s, (is, refl))
+plain_last w (At a Event.Retry) p t s h is = go ((a == p.node) && is_refused w p) t is
+  where
+    go : (b : Bool) (u : Option Try) → (if b then tried_again (w.node a).replica.members u else u) ≡ Some s
+        → (v : Try) × ((u ≡ Some v) × (v.number ≡ s.number))
+    go true None k = cc
+    go true (Some u) k =
+        let same : try_of (w.node a).replica.members u.number u.id u.target ≡ s = cc k in
+        (u, (refl, ap (λ (y : Try). y.number) same))
+    go false u k = (s, (k, refl))
+plain_last w (At a (Event.Calling (Call.DelLock q r z target))) p t s h is = (s, (is, refl))
+plain_last w (At a (Event.Calling Call.Spawn)) p t s h is = cc
+plain_last w (At a (Event.Calling (Call.LookUp look))) p t s h is = cc
+plain_last w (At a (Event.Calling (Call.OnName call))) p t s h is = cc
+plain_last w (At a (Event.Calling (Call.SetLock q r z target retries))) p t s h is = cc
+plain_last w (At a (Event.Calling (Call.JoinBy m))) p t s h is = cc
+plain_last w (At a (Event.Exiting q)) p t s h is = cc
+plain_last w (At a Event.Leave) p t s h is = cc
+
+-- for who has no call, it leaves it as it is
+idle_last : (w : World) (e : WorldEvent) (p : Process) (t : Option Try) → is_plain e ≡ true → call_at w p ≡ None
+    → last_try w e p t ≡ t
+idle_last w (Deliver f b) p t h none = refl
+idle_last w (At a Event.Retry) p t h none =
+    ap (λ (k : Option LockCall). if (a == p.node) && (elim k [ None ↦ false | Some c ↦ is_waiting_call c.phase ])
+    then tried_again (w.node a).replica.members t else t) none ∙ go (a == p.node)
+  where
+    go : (b : Bool) → (if b && false then tried_again (w.node a).replica.members t else t) ≡ t
+    go true = refl
+    go false = refl
+idle_last w (At a (Event.Calling (Call.DelLock q r z target))) p t h none = refl
+idle_last w (At a (Event.Calling Call.Spawn)) p t h none = refl
+idle_last w (At a (Event.Calling (Call.LookUp look))) p t h none = refl
+idle_last w (At a (Event.Calling (Call.OnName call))) p t h none = refl
+idle_last w (At a (Event.Calling (Call.SetLock q r z target retries))) p t h none = cc
+idle_last w (At a (Event.Calling (Call.JoinBy m))) p t h none = refl
+idle_last w (At a (Event.Exiting q)) p t h none = refl
+idle_last w (At a Event.Leave) p t h none = refl
+
+pub none_by : {A : Type 0} (r : Option A) → is_none r ≡ true → r ≡ None
+none_by None h = refl
+none_by (Some x) h = cc
+
+module _ (o : Opening) where
+  -- what an accepted event gives and keeps, where the last try of p fits
+  tried_at : (w : World) (num : Numbers) (S : Behind o w num) (e : WorldEvent) (p : Process) (t : Option Try)
+      (fit : Fits w p t) → refusal o w e ≡ None
+      → Tried o (ordered_keeps o) w num S.ordered S.replying S.numbered p t fit e (answers o w e) (accepted o w e)
+  tried_at w num S e p t fit free = subst
+      (λ (ss : List Answer). Tried o (ordered_keeps o) w num S.ordered S.replying S.numbered p t fit e ss
+      (accepted o w e))
+      (sym answered)
+      (tried o (ordered_keeps o) w num S.ordered S.replying S.numbered p t fit e walked.walk.rest walked.walk.may
+      walked.in_order walked.walk.world)
+    where
+      walked : OrderedWalk o w e
+      walked = walked_in_order o w e S.ordered ((grounds o).wide w S.family S.once) free
+
+      answered : answers o w e ≡ answers_by o (place e) (chain_of o w e walked.walk.rest) w
+      answered = ap (λ (r : Option Refusal). if is_none r then (turn_of o w e).answers else []) free
+          ∙ sym walked.walk.answers
+
+  -- behind each list of events the last try fits
+  pub fits_behind : (es : List WorldEvent) (w : World) (num : Numbers) → Behind o w num → (p : Process) (i : Id) (c : ℕ)
+      (k : Tally) → Fits w p k.last → Fits (run o w es) p (tally_from o w es p i c k).last
+  fits_behind [] w num S p i c k fit = fit
+  fits_behind (e ∷ es) w num S p i c k fit =
+      fits_behind es (happens o w e) (λ q x y. number_after o w e q x y (num q x y))
+      (event_keeps o (All o) (grounds o) w e num S) p i c (tally_after o w e p i c k) (go (refusal o w e) refl)
+    where
+      go : (r : Option Refusal) → refusal o w e ≡ r
+          → Fits (if is_none r then accepted o w e else w) p (if is_none r then tallied o w e p i c k else k).last
+      go (Some r) h = fit
+      go None h = (tried_at w num S e p k.last fit h).fits
+
+  module _ (p : Process) where
+    -- the registrar of p's node, which never has a lock call
+    abbrev clerk : Process
+    clerk = record { node = p.node; serial = 0 }
+
+    -- a try of the registrar's under this number
+    abbrev shown : ℕ → Try
+    shown m = record { number = m; id = Global 0; target = Target.All; asks = λ _. true }
+
+    -- that fits it: no open call of p's node has the number, and none will
+    abbrev pub Silent : World → ℕ → Type 0
+    Silent w m = Fits w clerk (Some (shown m))
+
+    no_call : (w : World) (num : Numbers) → Behind o w num → left w p.node ≡ false → call_at w clerk ≡ None
+    no_call w num S up = S.clients.callers clerk
+        (go (in_world o p.node) (not (left w p.node)) (not (is_dead (w.node p.node).watch 0))) up
+      where
+        go : (a b d : Bool) → (a && (b && (false && d))) ≡ false
+        go true true d = refl
+        go true false d = refl
+        go false b d = refl
+
+    silent_step : (w : World) (num : Numbers) → Behind o w num → (e : WorldEvent) → refusal o w e ≡ None
+        → is_plain e ≡ true → left w p.node ≡ false → (m : ℕ) → Silent w m
+        → (any_true p.node m (answers o w e) ≡ false) × Silent (happens o w e) m
+    silent_step w num S e free plain up m fit = (
+      ap (is_won clerk (Global 0) 0 (answers o w e)) (sym same) ∙ T.won (Global 0) 0
+          ∙ ap (RoundNumbers.is_won (Global 0) 0 (answers o w e)) none,
+      subst (λ (v : World). Fits v clerk (Some (shown m))) (sym (happened o w e free))
+          (subst (λ (t : Option Try). Fits (accepted o w e) clerk t) same T.fits),
+    )
+      where
+        none : call_at w clerk ≡ None
+        none = no_call w num S up
+
+        same : last_try w e clerk (Some (shown m)) ≡ Some (shown m)
+        same = idle_last w e clerk (Some (shown m)) plain none
+
+        T : Tried o (ordered_keeps o) w num S.ordered S.replying S.numbered clerk (Some (shown m)) fit e
+            (answers o w e) (accepted o w e)
+        T = tried_at w num S e clerk (Some (shown m)) fit free
+
+    -- the try has a number under which nothing comes any more
+    abbrev pub Spent : World → Option Try → Type 0
+    Spent w t = (s : Try) → t ≡ Some s → is_gone w p ≡ false → Silent w s.number
+
+    runs : (w : World) → is_gone w p ≡ false → left w p.node ≡ false
+    runs w h = go (left w p.node) (is_dead (w.node p.node).watch p.serial) h
+      where
+        go : (b d : Bool) → (b || d) ≡ false → b ≡ false
+        go false d e = refl
+        go true d e = cc
+
+    -- a deletion, and what it waits for, wins nothing by it
+    pub spent_step : (w : World) (num : Numbers) → Behind o w num → (e : WorldEvent) (i : Id) (c : ℕ) (j : Tally)
+        (n : ℕ) (given : Bool) → refusal o w e ≡ None → is_plain e ≡ true → Spent w j.last
+        → (is_gone w p ≡ false → j.number ≡ n) → gives w e p i c ≡ given
+        → IsNow o p i c (happens o w e) (tally_after o w e p i c j) (if given then n - 1 else n)
+        × Spent (happens o w e) (tally_after o w e p i c j).last
+    spent_step w num S e i c j n given free plain spent same goes = (
+      counted_so o p i c w e j n false given free (λ up. (
+        same (gone_before o w num S e free p up),
+        lost_without p i c (answers o w e) (last_try w e p j.last) (λ s is. (on s is up).0),
+      )) goes,
+      λ s is up. (on s (sym (last_so o p i c w e j free) ∙ is) up).1,
+    )
+      where
+        on : (s : Try) → last_try w e p j.last ≡ Some s → is_gone (happens o w e) p ≡ false
+            → (any_true p.node s.number (answers o w e) ≡ false) × Silent (happens o w e) s.number
+        on s is up =
+            let was : (u : Try) × ((j.last ≡ Some u) × (u.number ≡ s.number)) = plain_last w e p j.last s plain is in
+            let alive : is_gone w p ≡ false = gone_before o w num S e free p up in
+            subst (λ (m : ℕ). (any_true p.node m (answers o w e) ≡ false) × Silent (happens o w e) m) was.1.1
+            (silent_step w num S e free plain (runs w alive) was.0.number (spent was.0 was.1.0 alive))
+
+    -- so its number stays
+    pub spent_stays : (es : List WorldEvent) (w : World) (num : Numbers) → Behind o w num → (i : Id) (c : ℕ)
+        (j : Tally) (n : ℕ) → accepts_all o w es ≡ true → list_all is_waited es ≡ true → Spent w j.last
+        → IsNow o p i c w j n → IsNow o p i c (run o w es) (tally_from o w es p i c j) n
+    spent_stays [] w num S i c j n free waited spent now = now
+    spent_stays (e ∷ es) w num S i c j n free waited spent now =
+        let fine : (is_none (refusal o w e) ≡ true) × (accepts_all o (happens o w e) es ≡ true) =
+        and_parts (is_none (refusal o w e)) (accepts_all o (happens o w e) es) free in
+        let plain : (is_waited e ≡ true) × (list_all is_waited es ≡ true) =
+        and_parts (is_waited e) (list_all is_waited es) waited in
+        let one : IsNow o p i c (happens o w e) (tally_after o w e p i c j) n
+        × Spent (happens o w e) (tally_after o w e p i c j).last =
+        spent_step w num S e i c j n false (none_by (refusal o w e) fine.0) (waited_plain e plain.0) spent
+        (λ alive. now_up o p i c w j n now alive) (waited_gives w e p i c plain.0) in
+        spent_stays es (happens o w e) (λ q x y. number_after o w e q x y (num q x y))
+        (event_keeps o (All o) (grounds o) w e num S) i c (tally_after o w e p i c j) n fine.1 plain.1 one.1 one.0
+
+    -- a try whose process has no open call is spent
+    pub spent_first : (w : World) (num : Numbers) → Behind o w num → (t : Option Try) → Fits w p t
+        → call_at w p ≡ None → Spent w t
+    spent_first w num S t F none s is alive = record {
+      own = λ d e x. absurd (cc (no_call w num S (runs w alive), e));
+      alone = λ s2 is2 q d home has number. absurd (other s2 is2 q d home has number);
+      below = λ s2 is2. let same : shown s.number ≡ s2 = cc is2 in
+          subst (λ (y : Try). y.number ≤ (w.node p.node).last_call) same (F.below s is);
+    }
+      where
+        other : (s2 : Try) → Some (shown s.number) ≡ Some s2 → (q : Process) (d : LockCall) → q.node ≡ p.node
+            → call_at w q ≡ Some d → d.number ≡ s2.number → ⊥
+        other s2 is2 q d home has number =
+            let same : shown s.number ≡ s2 = cc is2 in
+            let one : q ≡ p = (F.alone s is q d home has (number ∙ ap (λ (y : Try). y.number) (sym same))).0 in
+            let there : call_at w p ≡ Some d = subst (λ (k : Process). call_at w k ≡ Some d) one has in
+            cc (there, none)

@@ -1,0 +1,39 @@
+use Rattle.std.proofs.Common.{◌-◌, ◌≡◌, ◌∙◌, zero, List, map, ap, sym, subst, arith}
+use Rattle.node_core.specs.declared.events.Answer.{Answer}
+use Rattle.node_core.specs.Seen.{answer_of}
+use Rattle.cluster_world.specs.Seats.{most_events, verdict_in}
+use Rattle.cluster_world.proofs.Seats.{IsWaiting, begins, ends, refused_end, is_answered, waits_on}
+use Rattle.cluster_world.proofs.world.World.wait.Goals as goal
+
+pub loop-init : goal.loop-init
+loop-init g c = begins c.args.node.now c.args.number c.args.self.now
+
+pub returns-in-Some-clause-waited : goal.returns-in-Some-clause-waited
+returns-in-Some-clause-waited g c =
+    is_answered c.args.node.now c.args.number c.args.self.now c.loop.self c.play.new.self c.loop.counter
+    c.next_for.result c.loop-test.true c.loop.invariant c.next_for.ensures c.in-Ok.answers.items c.in-Ok.ensures.ok
+    c.in-Some.granted
+    (ap (λ (l : List Answer). verdict_in c.args.node.now c.args.number (map answer_of l)) (sym c.as_slice.ensures.value)
+    ∙ sym c.verdict_in.ensures ∙ c.in-Some.is)
+
+pub returns-in-Err-clause-waited : goal.returns-in-Err-clause-waited
+returns-in-Err-clause-waited g c =
+    refused_end c.args.node.now c.args.number c.args.self.now c.loop.self c.play.new.self c.loop.counter
+    c.next_for.result c.loop-test.true c.loop.invariant c.next_for.ensures c.in-Err.refusal c.no_answer.result
+    c.in-Err.ensures.refused c.in-Err.ensures.unchanged c.no_answer.ensures
+
+pub loop-preserved : goal.loop-preserved
+loop-preserved g c =
+    waits_on c.args.node.now c.args.number c.args.self.now c.loop.self c.play.new.self c.loop.counter
+    c.next_for.result c.loop-test.true c.loop.invariant c.next_for.ensures c.in-Ok.answers.items c.in-Ok.ensures.ok
+    c.play.ensures.kept
+    (ap (λ (l : List Answer). verdict_in c.args.node.now c.args.number (map answer_of l)) (sym c.as_slice.ensures.value)
+    ∙ sym c.verdict_in.ensures ∙ c.in_default.is)
+
+pub returns-clause-waited : goal.returns-clause-waited
+returns-clause-waited g c =
+    ends c.args.node.now c.args.number c.args.self.now c.loop.self
+    (subst (IsWaiting c.args.node.now c.args.number c.args.self.now c.loop.self) over c.loop.invariant)
+  where
+    over : most_events - c.loop.counter ≡ zero
+    over = omega (arith, c.loop-test.false)

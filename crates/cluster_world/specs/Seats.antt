@@ -1,0 +1,129 @@
+-- What is played for a call at a lock holder's seat, and what answers the call.
+use Rattle.std.specs.Prelude.{ℕ, zero, suc, Bool, true, false, ◌+◌, ◌==◌, ◌&&◌, ◌≡◌, Option, Some, None, is_some, List, [], ◌∷◌, ◌++◌, map, Result, Ok, Err, if◌then◌else◌}
+use Rattle.registry_model.specs.Process.{Process}
+use Rattle.registry_model.specs.Call.{Reply as AnyReply, True, False}
+use Rattle.protocol_model.specs.Event.{Event as AnyEvent, Answer as AnyAnswer}
+use Rattle.protocol_model.specs.World.{Opening, World, WorldEvent as AnyWorldEvent, refusal, happens, answers, run, all_answers, next_delivery}
+use Rattle.transaction.specs.declared.reply.LockReply.{LockReply}
+use Rattle.node_core.specs.declared.events.Answer.{Answer}
+use Rattle.node_core.specs.declared.events.Call.{Call}
+use Rattle.node_core.specs.Seen.{answer_of, call_of}
+use Rattle.cluster_world.specs.declared.events.Event.TheVariants.{Call as Calls}
+use Rattle.cluster_world.specs.declared.events.Refusal.TheVariants.{Memory}
+use Rattle.cluster_world.specs.declared.events.WorldEvent.{WorldEvent}
+use Rattle.cluster_world.specs.declared.events.WorldEvent.TheVariants.{At}
+use Rattle.cluster_world.specs.declared.seat.WorldSeat.{WorldSeat}
+use Rattle.cluster_world.specs.declared.seat.SeatFault.{SeatFault}
+use Rattle.cluster_world.specs.declared.seat.SeatFault.TheVariants.{Refused, NoAnswer}
+use Rattle.cluster_world.specs.Held.{Held}
+use Rattle.cluster_world.specs.Refusals.{is_memory}
+use Rattle.cluster_world.specs.Seen.{opening_of, seen}
+use Rattle.cluster_world.specs.Playing.{RefusedWith, events_of, accepts_all}
+use Rattle.cluster_world.specs.Agreeing.{Agrees}
+use Rattle.cluster_world.specs.Excluding.{Excludes}
+use Rattle.cluster_world.specs.Counting.{Counts}
+
+-- how many events are played at most while a call waits
+abbrev pub most_events : ℕ
+most_events = 100000
+
+-- whether a lock call is granted, where this is a reply to one
+abbrev pub verdict_of : AnyReply → Option Bool
+verdict_of True = Some true
+verdict_of False = Some false
+verdict_of _ = None
+
+-- whether call k of node a is granted, where this is the answer to it
+abbrev pub verdict_to : ℕ → ℕ → AnyAnswer → Option Bool
+verdict_to a k s = if (s.node == a) && (s.number == k) then verdict_of s.reply else None
+
+-- the first such verdict among these answers
+abbrev pub verdict_in : ℕ → ℕ → List AnyAnswer → Option Bool
+verdict_in a k [] = None
+verdict_in a k (s ∷ ss) = elim (verdict_to a k s) [ None ↦ verdict_in a k ss | Some granted ↦ Some granted ]
+
+-- the number of the next numbered call of node a
+abbrev pub next_number : ℕ → World → ℕ
+next_number a w = (w.node a).last_call + 1
+
+-- what a call of node a waits for: the delivery that `settle` makes next, and where all links are empty a retry of its
+-- node
+abbrev pub next_for : Opening → ℕ → World → AnyWorldEvent
+next_for o a w = elim (next_delivery o w) [ None ↦ AnyWorldEvent.At a AnyEvent.Retry | Some e ↦ e ]
+
+-- that again and again, until call k is answered or that is refused; at most this many
+abbrev pub awaiting : Opening → ℕ → ℕ → ℕ → World → List AnyWorldEvent
+awaiting o a k zero w = []
+awaiting o a k (suc most) w =
+    if is_some (refusal o w (next_for o a w))
+    then []
+    else next_for o a w ∷ (if is_some (verdict_in a k (answers o w (next_for o a w)))
+    then []
+    else awaiting o a k most (happens o w (next_for o a w)))
+
+-- an event that makes call k of node a, and then what is played until that is answered
+abbrev pub until_answered : Opening → ℕ → ℕ → World → AnyWorldEvent → List AnyWorldEvent
+until_answered o a k w e =
+    e ∷ (if is_some (verdict_in a k (answers o w e)) then [] else awaiting o a k most_events (happens o w e))
+
+-- these events were accepted and played, with these answers
+pub record WentThrough (es : List WorldEvent) (old new : Held) (given : List Answer) : Type 0 where
+  pub accepted : accepts_all (opening_of old) (seen old) (events_of es) ≡ true
+  pub world : seen new ≡ run (opening_of old) (seen old) (events_of es)
+  pub answers : map answer_of given ≡ all_answers (opening_of old) (seen old) (events_of es)
+
+-- these events were played while call k of node a wasn't answered, and this is what it was answered then, if it was
+pub record Waited (a k : ℕ) (old new : Held) (verdict : Option Bool) : Type 0 where
+  pub events : List WorldEvent
+  pub given : List Answer
+  pub played : WentThrough events old new given
+  pub are : events_of events ≡ awaiting (opening_of old) a k most_events (seen old)
+  pub answered : verdict_in a k (map answer_of given) ≡ verdict
+
+-- what waiting comes to
+abbrev pub HasWaited : ℕ → ℕ → Held → Held → Result Bool SeatFault → Type 0
+HasWaited a k old new (Ok granted) = Waited a k old new (Some granted)
+HasWaited a k old new (Err NoAnswer) = Waited a k old new None
+HasWaited a k old new (Err (Refused r)) = r ≡ Memory
+
+-- A call was accepted at node a and played, and then what it waits for. This is what it was answered, if it was, the
+-- headline and the exclusion of locks hold behind all that was played, and a lock call counts
+pub record Called (a : ℕ) (c : Call) (old new : Held) (verdict : Option Bool) : Type 0 where
+  pub events : List WorldEvent
+  pub given : List Answer
+  pub played : WentThrough events old new given
+  pub are : events_of events ≡ until_answered (opening_of old) a (next_number a (seen old)) (seen old)
+      (AnyWorldEvent.At a (AnyEvent.Calling (call_of c)))
+  pub answered : verdict_in a (next_number a (seen old)) (map answer_of given) ≡ verdict
+  pub agrees : Agrees events given old new
+  pub excludes : Excludes events old new
+  pub counts : Counts (call_of c) verdict events old new
+
+-- why a call got no reply: it was refused as the protocol refuses it, which changes nothing; or it was accepted, and
+-- memory was refused; or no answer came
+abbrev pub Unanswered : ℕ → Call → Held → Held → SeatFault → Type 0
+Unanswered a c old new (Refused r) = RefusedWith r (At a (Calls c)) old × (is_memory r ≡ false → new ≡ old)
+Unanswered a c old new NoAnswer = Called a c old new None
+
+-- what a `set_lock` comes to
+abbrev pub SetsLock : ℕ → Call → Held → Held → Result Bool SeatFault → Type 0
+SetsLock a c old new (Ok granted) = Called a c old new (Some granted)
+SetsLock a c old new (Err fault) = Unanswered a c old new fault
+
+-- what a `del_lock` comes to
+abbrev pub DeletesLock : ℕ → Call → Held → Held → Result Unit SeatFault → Type 0
+DeletesLock a c old new (Ok _) = (granted : Bool) × Called a c old new (Some granted)
+DeletesLock a c old new (Err fault) = Unanswered a c old new fault
+
+-- whose seat it is, and the replies to its calls so far
+abbrev pub holder_of : {N M : Type 0} → WorldSeat N M → Process
+holder_of s = s.holder
+
+abbrev pub replies_of : {N M : Type 0} → WorldSeat N M → List LockReply
+replies_of s = s.replies.items
+
+-- behind a call the seat is the same holder's over the same world, with these replies more
+pub record Grows {N M : Type 0} (s t : WorldSeat N M) (more : List LockReply) : Type 0 where
+  pub replies : replies_of t ≡ replies_of s ++ more
+  pub holder : holder_of t ≡ holder_of s
+  pub same_world : t.world.ghost_name ≡ s.world.ghost_name

@@ -1,0 +1,232 @@
+//! Seats of lock holders, over a world.
+ghost use Rattle.std.specs.Prelude.{◌≡◌, map, if◌then◌else◌};
+ghost use Rattle.node_core.specs.Seen.{answer_of};
+ghost use Rattle.cluster_world.specs.declared.events.Refusal.TheVariants.{Memory};
+ghost use Rattle.cluster_world.specs.declared.seat.SeatFault.TheVariants.{Refused, NoAnswer};
+ghost use Rattle.cluster_world.specs.Refusals.{is_memory};
+ghost use Rattle.cluster_world.specs.Seats.{verdict_to, verdict_in};
+
+use crate::events::{Event, Refusal, WorldEvent};
+use crate::world::World;
+use name_table::Names;
+use node_core::{Answer, Call, Reply};
+use std::alloc::AllocError;
+use term::{LockId, NodeName, Pid};
+use thiserror::Error;
+use transaction::{LockReply, LockSeat, Nodes, Retries};
+
+/// How many events a seat plays at most while its call waits.
+const MOST_EVENTS: u32 = 100_000;
+
+/// Why a call at a seat got no reply.
+#[derive(Debug, PartialEq, Eq, Error, Drop)]
+pub enum SeatFault {
+    /// The world refused the call, and nothing changed. Memory alone may also be refused behind the call, which then goes on
+    /// waiting.
+    #[error("{0}")]
+    Refused(Refusal),
+    /// No answer came. The call goes on waiting in the world.
+    #[error("no_answer")]
+    NoAnswer,
+}
+
+impl From<Refusal> for SeatFault {
+    ghost from_gives = { λ refusal fault. fault ≡ Refused refusal };
+
+    fn from(refusal: Refusal) -> SeatFault {
+        SeatFault::Refused(refusal)
+    }
+}
+
+impl From<AllocError> for SeatFault {
+    ghost from_gives = { λ _ fault. fault ≡ Refused Memory };
+
+    fn from(_: AllocError) -> SeatFault {
+        SeatFault::Refused(Refusal::Memory)
+    }
+}
+
+/// Whether call `number` of the node is granted, if this is the answer to it.
+fn verdict(answer: &Answer, node: &NodeName, number: u64) -> Option<bool>
+    ensures { result ≡ verdict_to node.now number (answer_of answer.now) }
+{
+    if answer.node != *node || u64::from(answer.call) != number {
+        return None;
+    }
+    match answer.reply {
+        Reply::True => Some(true),
+        Reply::False => Some(false),
+        _ => None,
+    }
+}
+
+/// Whether call `number` of the node is granted, if one of these is the answer to it.
+fn verdict_in(answers: &[Answer], node: &NodeName, number: u64) -> Option<bool>
+    ensures { result ≡ verdict_in node.now number (map answer_of answers.now) }
+{
+    for answer in answers {
+        if let Some(granted) = verdict(answer, node, number) {
+            return Some(granted);
+        }
+    }
+    None
+}
+
+/// Why a call isn't answered, where what it waits for is refused: all links are empty, and nothing is left to retry, unless
+/// memory was refused.
+fn no_answer(refusal: &Refusal) -> SeatFault
+    ensures { result ≡ (if is_memory refusal.now then Refused Memory else NoAnswer) }
+{
+    match refusal {
+        Refusal::Memory => SeatFault::Refused(Refusal::Memory),
+        _ => SeatFault::NoAnswer,
+    }
+}
+
+impl<N: Names> World<N> {
+    ghost use Rattle.std.specs.Prelude.{Some};
+    ghost use Rattle.cluster_world.specs.Events.{event_of};
+    ghost use Rattle.cluster_world.specs.Playing.{Keeps};
+    ghost use Rattle.cluster_world.specs.Seats.{next_number, next_for, HasWaited};
+    ghost use Rattle.cluster_world.specs.Seen.{opening_of, seen};
+
+    /// The number of the node's next numbered call.
+    fn next_number(&self, node: &NodeName) -> u64
+        ensures { result ≡ next_number node.now (seen self.now) }
+    {
+        let last = match self.core(node) {
+            Some(core) => core.last_call(),
+            None => 0,
+        };
+        u64::from(last) + 1
+    }
+
+    /// What a call at the node waits for: the delivery that comes next, or else a retry.
+    fn next_for(&self, node: &NodeName) -> WorldEvent
+        ensures { event_of result ≡ next_for (opening_of self.now) node.now (seen self.now) }
+    {
+        match self.waiting() {
+            Some((sender, receiver)) => WorldEvent::Deliver(sender, receiver),
+            None => WorldEvent::At(node.copy(), Event::Retry),
+        }
+    }
+
+    /// Plays what call `number` of the node waits for, until it is answered.
+    fn wait(&mut self, node: &NodeName, number: u64) -> Result<bool, SeatFault>
+        ensures kept { Keeps self.old self.new }
+        ensures waited { HasWaited node.now number self.old self.new result }
+    {
+        for _ in 0..MOST_EVENTS {
+            match self.play(&self.next_for(node)) {
+                Ok(answers) => {
+                    if let Some(granted) = verdict_in(answers.as_slice(), node, number) {
+                        return Ok(granted);
+                    }
+                }
+                Err(refusal) => return Err(no_answer(&refusal)),
+            }
+        }
+        Err(SeatFault::NoAnswer)
+    }
+}
+
+/// The seat of one lock holder over a world. A call at it is played at the holder's node, and then the world goes on until the
+/// call is answered: the next delivery, by the order of links, or where all links are empty a retry of that node. After 100,000
+/// such events, or where there is nothing to retry, it has no answer. Answers to other calls that come meanwhile are dropped.
+#[derive(Drop)]
+pub struct WorldSeat<'a, N: Names> {
+    /// The world, which may be played on between calls.
+    pub world: &'a mut World<N>,
+    holder: Pid,
+    replies: Vec<LockReply>,
+}
+
+impl<'a, N: Names> WorldSeat<'a, N> {
+    ghost use Rattle.std.specs.Prelude.{[], ◌<◌, OnOk};
+    ghost use Rattle.std.specs.Vec.{vec_len, vec_capacity};
+    ghost use Rattle.cluster_world.specs.Playing.{Keeps};
+    ghost use Rattle.cluster_world.specs.Seats.{holder_of, replies_of, SetsLock};
+
+    /// The seat of this holder, without replies. Who it is isn't asked before a call is made.
+    pub fn new(world: &'a mut World<N>, holder: Pid) -> Self
+        ensures same_world { result.world.ghost_name ≡ world.entry.ghost_name }
+        ensures world { result.world.now ≡ world.old }
+        ensures holder { holder_of result ≡ holder }
+        ensures replies { replies_of result ≡ [] }
+    {
+        let replies = Vec::new(*world.history.allocator());
+        WorldSeat {
+            world,
+            holder,
+            replies,
+        }
+    }
+
+    /// The replies to its calls, the oldest first.
+    pub fn replies(&self) -> &[LockReply]
+        ensures { result.now ≡ replies_of self.now }
+    {
+        self.replies.as_slice()
+    }
+
+    /// Plays a lock call of the holder, and waits for its answer. There is room for one reply more, then.
+    fn call(&mut self, call: Call) -> Result<bool, SeatFault>
+        ensures same_world { self.new.world.ghost_name ≡ self.old.world.ghost_name }
+        ensures holder { self.new.holder ≡ self.old.holder }
+        ensures replies { self.new.replies.items ≡ self.old.replies.items }
+        ensures room { OnOk result (vec_len self.new.replies < vec_capacity self.new.replies) }
+        ensures kept { Keeps self.old.world.now self.new.world.now }
+        ensures called { SetsLock self.old.holder.node call self.old.world.now self.new.world.now result }
+    {
+        let node = self.holder.node.copy();
+        let number = self.world.next_number(&node);
+        let event = WorldEvent::At(node.copy(), Event::Call(call));
+        let answers = self.world.play(&event)?;
+        self.replies.reserve(1)?;
+        match verdict_in(answers.as_slice(), &node, number) {
+            Some(granted) => Ok(granted),
+            None => self.world.wait(&node, number),
+        }
+    }
+}
+
+impl<'a, N: Names> LockSeat for WorldSeat<'a, N> {
+    ghost use Rattle.transaction.specs.Counts.{set_replies, deletion_replies};
+    ghost use Rattle.node_core.specs.declared.events.Call.TheVariants.{SetLock, DelLock};
+    ghost use Rattle.cluster_world.specs.Playing.{Keeps};
+    ghost use Rattle.cluster_world.specs.Seats.{holder_of, replies_of, Grows, SetsLock, DeletesLock};
+
+    type Fault = SeatFault;
+
+    ghost replies = { λ s. replies_of s };
+
+    ghost sets = { λ s id nodes retries answer t. Grows s t (set_replies id answer) × Keeps s.world.now t.world.now
+        × SetsLock (holder_of s).node (SetLock (holder_of s) id nodes retries) s.world.now t.world.now answer };
+
+    ghost deletes = { λ s id nodes answer t. Grows s t (deletion_replies id answer) × Keeps s.world.now t.world.now
+        × DeletesLock (holder_of s).node (DelLock (holder_of s) id nodes) s.world.now t.world.now answer };
+
+    fn set_lock(
+        &mut self,
+        id: &LockId,
+        nodes: &Nodes,
+        retries: Retries,
+    ) -> Result<bool, SeatFault> {
+        let call = Call::SetLock(self.holder.copy(), id.copy(), nodes.copy(), retries);
+        let granted = self.call(call)?;
+        self.replies
+            .push_reserved(LockReply::Set(id.copy(), granted));
+        Ok(granted)
+    }
+
+    fn del_lock(&mut self, id: &LockId, nodes: &Nodes) -> Result<(), SeatFault> {
+        let call = Call::DelLock(self.holder.copy(), id.copy(), nodes.copy());
+        self.call(call)?;
+        self.replies.push_reserved(LockReply::Deleted(id.copy()));
+        Ok(())
+    }
+
+    ghost set_is_replied = { λ s t id nodes retries answer given. given.0.replies };
+
+    ghost deletion_is_replied = { λ s t id nodes answer given. given.0.replies };
+}
