@@ -2,3 +2,4 @@ pub mod Known
 pub mod Parts
 pub mod Texts
 mod Counts
+mod Refused

@@ -1,39 +1,57 @@
 -- The lines of the grammar: the word of each, the kinds of its texts, and what it asks for.
 use Rattle.std.specs.Prelude.{ℕ, Bool, true, false, bytes_eq, codes, ◌≡◌, ◌&&◌, ◌⊎◌, List, [], ◌∷◌, Option, Some, None, Result, Ok, Err}
 use Rattle.std.specs.List.{find}
-use Rattle.registry_model.specs.Process.{Process}
+use Rattle.registry_model.specs.Process.{Process, Text as AText}
 use Rattle.registry_model.specs.Call.{Register, ReRegister, Unregister, Whereis, RegisteredNames}
-use Rattle.protocol_model.specs.Event.{Event, Calling, Retry, Exiting, Call, Spawn, OnName, LookUp}
+use Rattle.protocol_model.specs.Event.{Event, Calling, Retry, Exiting, Call, Spawn, OnName, LookUp, SetLock, DelLock}
+use Rattle.protocol_model.specs.Node.{Target, Retries as Tries}
 use Rattle.protocol_model.specs.World.{At, Deliver}
 use Rattle.protocol_model.specs.Script.{Line, Play, Settle, TableAt, MembersAt}
 use Rattle.term.specs.declared.faults.TextFault.{TextFault}
 use Rattle.term.specs.Spelling.{SpellsText, RefusesText, SpellsPid, RefusesPid}
 use Rattle.command_lines.specs.declared.faults.LineFault.{LineFault}
 use Rattle.command_lines.specs.declared.faults.LineFault.TheVariants.{BadLine, Text}
+use Rattle.command_lines.specs.LockTexts.{SpellsTarget, RefusesTarget, SpellsRetries}
 
 -- what a text can stand for
 pub data Kind : Type 0 where
   Node : Kind
   Name : Kind
   Pid : Kind
+  Resource : Kind
+  Requester : Kind
+  Nodes : Kind  -- whom a lock call asks
+  Retries : Kind  -- how often it may begin anew
 
 -- the values of a kind
 abbrev pub Value : Kind → Type 0
 Value Node = ℕ
 Value Name = ℕ
 Value Pid = Process
+Value Resource = AText
+Value Requester = AText
+Value Nodes = Target
+Value Retries = Tries
 
 -- the text spells this value
 abbrev pub Spells : (k : Kind) → List ℕ → Value k → Type 0
 Spells Node text v = SpellsText text v
 Spells Name text v = SpellsText text v
 Spells Pid text v = SpellsPid text v
+Spells Resource text v = SpellsText text v
+Spells Requester text v = SpellsText text v
+Spells Nodes text v = SpellsTarget text v
+Spells Retries text v = SpellsRetries text v
 
--- the text spells no value, for this fault
+-- the text spells no value, for this fault; a text of retries has none
 abbrev pub RefusedAs : Kind → List ℕ → TextFault → Type 0
 RefusedAs Node text f = RefusesText text f
 RefusedAs Name text f = RefusesText text f
 RefusedAs Pid text f = RefusesPid text f
+RefusedAs Resource text f = RefusesText text f
+RefusedAs Requester text f = RefusesText text f
+RefusedAs Nodes text f = RefusesTarget text f
+RefusedAs Retries text f = ⊥
 
 -- what is asked for, by the values of texts of these kinds
 abbrev pub Asks : List Kind → Type 0
@@ -68,6 +86,9 @@ grammar =
     ∷ row (codes "unregister") (Node ∷ Name ∷ []) (λ n x. call_at n (OnName (Unregister x)))
     ∷ row (codes "whereis") (Node ∷ Name ∷ []) (λ n x. call_at n (LookUp (Whereis x)))
     ∷ row (codes "names") (Node ∷ []) (λ n. call_at n (LookUp RegisteredNames))
+    ∷ row (codes "set_lock") (Pid ∷ Resource ∷ Requester ∷ Nodes ∷ Retries ∷ [])
+    (λ p r q t n. call_at p.node (SetLock p r q t n))
+    ∷ row (codes "del_lock") (Pid ∷ Resource ∷ Requester ∷ Nodes ∷ []) (λ p r q t. call_at p.node (DelLock p r q t))
     ∷ row (codes "deliver") (Node ∷ Node ∷ []) (λ f t. Play (Deliver f t))
     ∷ row (codes "retry") (Node ∷ []) (λ n. at_node n Retry)
     ∷ row (codes "settle") [] Settle
@@ -92,6 +113,12 @@ abbrev pub TextsAsk : (kinds : List Kind) → Asks kinds → List (List ℕ) →
 TextsAsk kinds asks texts r =
     AllSpelled kinds asks texts r ⊎ ((f : TextFault) × FirstRefused kinds texts f × (r ≡ Err (Text f)))
 
+-- each text of retries spells them
+abbrev pub HasRetries : List Kind → List (List ℕ) → Type 0
+HasRetries (Retries ∷ kinds) (text ∷ texts) = ((r : Tries) × SpellsRetries text r) × HasRetries kinds texts
+HasRetries (k ∷ kinds) (text ∷ texts) = HasRetries kinds texts
+HasRetries _ _ = Unit {0}
+
 -- there are as many texts as a line of these kinds has
 abbrev pub fits : List Kind → List (List ℕ) → Bool
 fits [] [] = true
@@ -102,10 +129,12 @@ fits _ _ = false
 abbrev pub row_of : List ℕ → List (List ℕ) → List Row → Option Row
 row_of word texts rows = find (λ row. fits row.texts texts && bytes_eq word row.word) rows
 
--- what texts ask for behind the word of this line
+-- what texts ask for behind the word of this line: retries that are none make a bad line, whatever the other texts are
 abbrev pub AsksBy : Option Row → List (List ℕ) → Result Line LineFault → Type 0
 AsksBy None texts r = r ≡ Err BadLine
-AsksBy (Some row) texts r = TextsAsk row.texts row.asks texts r
+AsksBy (Some row) texts r =
+    (HasRetries row.texts texts × TextsAsk row.texts row.asks texts r)
+    ⊎ ((HasRetries row.texts texts → ⊥) × (r ≡ Err BadLine))
 
 -- what words ask for: no such line, or the wrong number of texts, is a bad line
 abbrev pub WordsAsk : List (List ℕ) → Result Line LineFault → Type 0

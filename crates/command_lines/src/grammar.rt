@@ -1,14 +1,21 @@
 //! The lines that are read: an arm for each. They stand by the number of their texts.
 ghost use Rattle.std.specs.Prelude.{◌≡◌, map, ◌∷◌, [], MatchResult};
-ghost use Rattle.protocol_model.specs.Event.{Exiting};
+ghost use Rattle.protocol_model.specs.Event.{Exiting, SetLock, DelLock};
 ghost use Rattle.term.specs.Spelling.{SpellsText, SpellsPid};
+ghost use Rattle.transaction.specs.Calls.{target_of, retries_of};
 ghost use Rattle.node_core.specs.Seen.{call_of};
 ghost use Rattle.command_lines.specs.Commands.{asked_by, line_in};
-ghost use Rattle.command_lines.specs.Grammar.{WordsAsk, FirstRefused, at_node, call_at, Node as ANode, Name as AName, Pid as APid};
+ghost use Rattle.command_lines.specs.LockTexts.{SpellsTarget};
+ghost use Rattle.command_lines.specs.Grammar.{WordsAsk, FirstRefused, at_node, call_at, Node as ANode, Name as AName, Pid as APid, Resource as AResource, Requester as ARequester, Nodes as SomeNodes};
 
 use crate::faults::LineFault;
+use crate::lock_texts::{parse_retries, parse_target};
 use cluster_world::{Call, Event, WorldEvent};
-use term::{Name, NodeName, Pid, TextFault, parse_name, parse_node, parse_pid};
+use term::{
+    LockId, Name, NodeName, Pid, TextFault, parse_name, parse_node, parse_pid, parse_requester,
+    parse_resource,
+};
+use transaction::{Nodes, Retries};
 
 /// What a line asks for.
 #[derive(Drop)]
@@ -37,12 +44,51 @@ fn exit(process: Pid) -> Task
     Task::Play(WorldEvent::At(process.node.copy(), Event::Exit(process)))
 }
 
+/// A call of a process for a lock, at its node.
+fn set_lock(holder: Pid, id: LockId, nodes: Nodes, retries: Retries) -> Task
+    ensures { line_in result ≡ call_at holder.node
+        (SetLock holder id.resource id.requester (target_of nodes) (retries_of retries)) }
+{
+    call(
+        holder.node.copy(),
+        Call::SetLock(holder, id, nodes, retries),
+    )
+}
+
+/// A call of a process that gives a lock back, at its node.
+fn del_lock(holder: Pid, id: LockId, nodes: Nodes) -> Task
+    ensures { line_in result ≡ call_at holder.node (DelLock holder id.resource id.requester (target_of nodes)) }
+{
+    call(holder.node.copy(), Call::DelLock(holder, id, nodes))
+}
+
 /// The values of three texts, or the fault of the first that spells none.
 fn node_name_and_pid(node: &str, name: &str, pid: &str) -> Result<(NodeName, Name, Pid), TextFault>
     ensures { MatchResult result (λ v. SpellsText node.now v.0 × SpellsText name.now v.1 × SpellsPid pid.now v.2)
         (FirstRefused (ANode ∷ AName ∷ APid ∷ []) (node.now ∷ name.now ∷ pid.now ∷ [])) }
 {
     Ok((parse_node(node)?, parse_name(name)?, parse_pid(pid)?))
+}
+
+/// The holder, the id and the nodes of a lock call, or the fault of the first text that spells none.
+fn holder_id_and_nodes(
+    holder: &str,
+    resource: &str,
+    requester: &str,
+    nodes: &str,
+) -> Result<(Pid, LockId, Nodes), TextFault>
+    ensures { MatchResult result
+        (λ v. SpellsPid holder.now v.0 × SpellsText resource.now v.1.resource × SpellsText requester.now v.1.requester
+        × SpellsTarget nodes.now (target_of v.2))
+        (FirstRefused (APid ∷ AResource ∷ ARequester ∷ SomeNodes ∷ [])
+        (holder.now ∷ resource.now ∷ requester.now ∷ nodes.now ∷ [])) }
+{
+    let holder = parse_pid(holder)?;
+    let id = LockId {
+        resource: parse_resource(resource)?,
+        requester: parse_requester(requester)?,
+    };
+    Ok((holder, id, parse_target(nodes)?))
 }
 
 /// What a word alone asks for.
@@ -99,6 +145,48 @@ fn with_three(word: &str, text: &str, next: &str, last: &str) -> Result<Task, Li
     }
 }
 
+/// What a word with four texts asks for.
+fn with_four(
+    word: &str,
+    holder: &str,
+    resource: &str,
+    requester: &str,
+    nodes: &str,
+) -> Result<Task, LineFault>
+    ensures { WordsAsk (word.now ∷ holder.now ∷ resource.now ∷ requester.now ∷ nodes.now ∷ []) (asked_by result) }
+{
+    match word {
+        "del_lock" => {
+            let (holder, id, nodes) = holder_id_and_nodes(holder, resource, requester, nodes)?;
+            Ok(del_lock(holder, id, nodes))
+        }
+        _ => Err(LineFault::BadLine),
+    }
+}
+
+/// What a word with five texts asks for. The retries are read first: no other text is looked at where they are wrong.
+fn with_five(
+    word: &str,
+    holder: &str,
+    resource: &str,
+    requester: &str,
+    nodes: &str,
+    retries: &str,
+) -> Result<Task, LineFault>
+    ensures { WordsAsk (word.now ∷ holder.now ∷ resource.now ∷ requester.now ∷ nodes.now ∷ retries.now ∷ []) (asked_by result) }
+{
+    match word {
+        "set_lock" => {
+            let Some(retries) = parse_retries(retries) else {
+                return Err(LineFault::BadLine);
+            };
+            let (holder, id, nodes) = holder_id_and_nodes(holder, resource, requester, nodes)?;
+            Ok(set_lock(holder, id, nodes, retries))
+        }
+        _ => Err(LineFault::BadLine),
+    }
+}
+
 /// What words ask for.
 pub(crate) fn read_words(words: &[&str]) -> Result<Task, LineFault>
     ensures { WordsAsk (map (λ word. word.now) words.now) (asked_by result) }
@@ -108,6 +196,12 @@ pub(crate) fn read_words(words: &[&str]) -> Result<Task, LineFault>
         [word, text] => with_one(word, text),
         [word, text, next] => with_two(word, text, next),
         [word, text, next, last] => with_three(word, text, next, last),
+        [word, holder, resource, requester, nodes] => {
+            with_four(word, holder, resource, requester, nodes)
+        }
+        [word, holder, resource, requester, nodes, retries] => {
+            with_five(word, holder, resource, requester, nodes, retries)
+        }
         _ => Err(LineFault::BadLine),
     }
 }

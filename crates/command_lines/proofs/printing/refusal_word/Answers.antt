@@ -9,6 +9,18 @@ returns-in-NoSuchNode c = (model.NoSuchNode, ap refusal_of c.in-NoSuchNode.is, r
 pub returns-in-EmptyLink : goal.returns-in-EmptyLink
 returns-in-EmptyLink c = (model.EmptyLink, ap refusal_of c.in-EmptyLink.is, refl)
 
+pub returns-in-NotLive : goal.returns-in-NotLive
+returns-in-NotLive c = (model.NotLive _, ap refusal_of c.in-NotLive.is, refl)
+
+pub returns-in-Busy : goal.returns-in-Busy
+returns-in-Busy c = (model.Busy _, ap refusal_of c.in-Busy.is, refl)
+
+pub returns-in-Reserved : goal.returns-in-Reserved
+returns-in-Reserved c = (model.Reserved, ap refusal_of c.in-Reserved.is, refl)
+
+pub returns-in-UnknownNode : goal.returns-in-UnknownNode
+returns-in-UnknownNode c = (model.UnknownNode, ap refusal_of c.in-UnknownNode.is, refl)
+
 pub returns-in-NoSuchProcess : goal.returns-in-NoSuchProcess
 returns-in-NoSuchProcess c = (model.NoSuchProcess, ap refusal_of c.in-NoSuchProcess.is, refl)
 
