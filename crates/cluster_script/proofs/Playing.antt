@@ -118,6 +118,10 @@ play-refused old new e r a b q n w = record {
 pub not_memory : (r : Refusal) (any : AnyRefusal) → refusal_of r ≡ Some any → is_memory r ≡ false
 not_memory refusal.NoSuchNode any e = refl
 not_memory refusal.EmptyLink any e = refl
+not_memory (refusal.NotLive p) any e = refl
+not_memory (refusal.Busy p) any e = refl
+not_memory refusal.Reserved any e = refl
+not_memory refusal.UnknownNode any e = refl
 not_memory refusal.NoSuchProcess any e = refl
 not_memory refusal.AlreadyExited any e = refl
 not_memory refusal.SerialsSpent any e = refl

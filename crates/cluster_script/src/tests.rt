@@ -1,4 +1,5 @@
 //! Worked rows, and lines at their limits.
+mod locks;
 mod names;
 mod streams;
 
