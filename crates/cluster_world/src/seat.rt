@@ -21,8 +21,8 @@ const MOST_EVENTS: u32 = 100_000;
 /// Why a call at a seat got no reply.
 #[derive(Debug, PartialEq, Eq, Error, Drop)]
 pub enum SeatFault {
-    /// The world refused the call, and nothing changed. Memory alone may also be refused behind the call, which then goes on
-    /// waiting.
+    /// The world refused the call, and nothing changed. `Memory` alone may also be refused behind the call; what stands then
+    /// isn't said, and the world isn't to be used any more.
     #[error("{0}")]
     Refused(Refusal),
     /// No answer came. The call goes on waiting in the world.
