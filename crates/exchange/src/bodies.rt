@@ -13,7 +13,7 @@ use std::alloc::{AllocError, Global};
 use term::{NodeName, NodeSet, Pid};
 
 /// What each member is told of a join: the body of `Admit`.
-#[derive(Debug, Drop)]
+#[derive(Debug, PartialEq, Eq, Drop)]
 pub struct Admission {
     /// The node that joins.
     pub joiner: NodeName,
@@ -24,7 +24,7 @@ pub struct Admission {
 }
 
 /// What the joiner is told: the body of `Welcome`.
-#[derive(Debug, Drop)]
+#[derive(Debug, PartialEq, Eq, Drop)]
 pub struct Welcome {
     /// The members, with the joiner.
     pub members: NodeSet,

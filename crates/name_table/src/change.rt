@@ -5,7 +5,7 @@ use std::marker::Model;
 use term::{Name, Pid};
 
 /// A name and the process that owns it.
-#[derive(Debug, Drop)]
+#[derive(Debug, PartialEq, Eq, Drop)]
 pub struct Pair {
     /// The name.
     pub name: Name,

@@ -165,6 +165,10 @@ impl<A: Allocator + Drop> Names for ListTable<A> {
         copied(alloc, self.pairs.as_slice())
     }
 
+    fn rising(&self) {
+        let _pairs = self.pairs.as_slice();
+    }
+
     fn copy(&self, memory: A) -> Result<Self, AllocError> {
         let pairs = copied(memory, self.pairs.as_slice())?;
         Ok(ListTable { pairs })

@@ -48,6 +48,10 @@ pub trait Names: Sized + Drop {
         ensures all { IfOk result (λ pairs. pairs.items ≡ contents self.now) }
         ensures rising { is_rising (contents self.now) ≡ true };
 
+    /// The names rise. It does nothing: what it promises holds of each table.
+    fn rising(&self)
+        ensures { is_rising (contents self.now) ≡ true };
+
     /// The same table, in memory of its own.
     fn copy(&self, memory: Self::Memory) -> Result<Self, AllocError>
         ensures { IfOk result (λ copy. contents copy ≡ contents self.now) };
