@@ -203,6 +203,16 @@ impl<L: Drop> Mesh<L> {
         None
     }
 
+    /// Whether a node was closed out.
+    pub fn is_closed(&self, node: &NodeName) -> bool
+        ensures { result ≡ (seen self.now).closed node.now }
+    {
+        match self.place(node) {
+            Some(place) => self.closed[place],
+            None => false,
+        }
+    }
+
     /// The first link, by sender and then receiver, on which a letter waits.
     pub fn first_waiting(&self) -> Option<(NodeName, NodeName)>
         ensures { WaitsFirst result self.now }

@@ -43,7 +43,10 @@ fn closes_out(rt: HostRuntime) -> Result<(), Fail> {
     for (from, to, letter) in [(&a, &b, 1), (&b, &b, 2), (&b, &a, 3), (&a, &a, 4)] {
         assert!(rt; mesh.send(from, to, letter).is_ok());
     }
+    assert!(rt; !mesh.is_closed(&b));
     assert_eq!(rt; mesh.close_out(&b), Ok(()));
+    assert!(rt; mesh.is_closed(&b));
+    assert!(rt; !mesh.is_closed(&a));
     assert!(rt; mesh.send(&a, &b, 5).is_ok());
     assert!(rt; mesh.send(&b, &a, 6).is_ok());
     assert!(rt; mesh.is_empty(&a, &b));
@@ -72,6 +75,7 @@ fn refuses_strangers(rt: HostRuntime) -> Result<(), Fail> {
         assert!(rt; mesh.is_empty(from, to));
     }
     assert_eq!(rt; mesh.close_out(&x), Err(LinkFault::NoSuchNode));
+    assert!(rt; !mesh.is_closed(&x));
     assert!(rt; !are_rising(&[x.copy(), a.copy()]));
     assert!(rt; !are_rising(&[a.copy(), a.copy()]));
     Ok(())
