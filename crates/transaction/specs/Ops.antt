@@ -4,7 +4,7 @@ use Rattle.protocol_model.specs.Node.{Op as AnyOp}
 use Rattle.transaction.specs.declared.op.NameCall.{NameCall}
 use Rattle.transaction.specs.declared.op.NameCall.TheVariants.{Register, ReRegister, Unregister}
 use Rattle.transaction.specs.declared.op.Op.{Op}
-use Rattle.transaction.specs.declared.op.Op.TheVariants.{Name, Strike}
+use Rattle.transaction.specs.declared.op.Op.TheVariants.{Name, Strike, Join, Admission}
 
 abbrev pub name_call_of : NameCall → AnyNameCall
 name_call_of (Register x p) = AnyNameCall.Register x p
@@ -14,3 +14,5 @@ name_call_of (Unregister x) = AnyNameCall.Unregister x
 abbrev pub op_of : Op → AnyOp
 op_of (Name k c) = AnyOp.Name k (name_call_of c)
 op_of (Strike p) = AnyOp.Strike p
+op_of (Join k m) = AnyOp.Join k m
+op_of (Admission j pairs) = AnyOp.Admission j pairs.items

@@ -4,8 +4,8 @@ ghost use Rattle.registry_model.specs.Call.{change_of as change_of_call};
 ghost use Rattle.name_table.specs.Changes.{change_of};
 ghost use Rattle.transaction.specs.Ops.{name_call_of};
 
-use name_table::Change;
-use term::{Name, Pid};
+use name_table::{Change, Pair};
+use term::{Name, NodeName, Pid};
 
 /// A call that goes through the registry.
 #[derive(Debug, PartialEq, Eq, Drop)]
@@ -50,4 +50,8 @@ pub enum Op {
     Name(u32, NameCall),
     /// A dead process of this node loses all its names.
     Strike(Pid),
+    /// This node joins by a contact, under the number of the call at the node.
+    Join(u32, NodeName),
+    /// A lone node is let in, with the names that it has, rising.
+    Admission(NodeName, Vec<Pair>),
 }

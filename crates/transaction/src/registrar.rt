@@ -26,8 +26,11 @@ impl Model for Registrar {
 
 impl Registrar {
     ghost use Rattle.std.specs.Prelude.{false, is_some, None, IsTrue, [], OnOk, OnErr};
+    ghost use Rattle.std.specs.List.{list_any};
     ghost use Rattle.std.specs.Option.{option_copied};
+    ghost use Rattle.protocol_model.specs.Event.{is_join};
     ghost use Rattle.term.specs.NodeSets.{set_of, without_node};
+    ghost use Rattle.transaction.specs.Ops.{op_of};
     ghost use Rattle.transaction.specs.Work.{idle, enqueued, started, starts, is_nobody};
 
     /// A registrar without operations. It takes no memory.
@@ -55,6 +58,13 @@ impl Registrar {
         ensures { option_copied result ≡ self.now.current }
     {
         self.current.as_ref()
+    }
+
+    /// Whether a join waits.
+    pub fn has_join(&self) -> bool
+        ensures { result ≡ list_any (λ op. is_join (op_of op)) self.now.queue }
+    {
+        self.queue.iter().any(|op| matches!(op, Op::Join(..)))
     }
 
     /// Where no operation is current, the strike of this process becomes current, if one is owed, and else the front of the
