@@ -12,7 +12,7 @@ use Rattle.exit_watch.specs.Held.{Held as Watch, KeepsSuspects}
 use Rattle.lock_calls.specs.Held.{Held as LockCalls, seen}
 use Rattle.node_core.specs.declared.events.Entry.TheVariants.{Exit}
 use Rattle.node_core.specs.declared.events.Letter.TheVariants.{ReleaseOf}
-use Rattle.node_core.specs.Made.{Made, sent_all, entered}
+use Rattle.node_core.specs.Made.{Made, SendsAll, entered}
 use Rattle.node_core.specs.Held.{Held, IsWhole, bound_of}
 use Rattle.node_core.specs.Seen.{turn_of}
 use Rattle.node_core.specs.Steps.{Makes}
@@ -27,6 +27,10 @@ pub whole_exited : (h : Held) (w : Watch) (cs : LockCalls) (p : Process) → IsW
 whole_exited h w cs p whole node kept own dropped = whole_taken (record h { watch = w }) cs p (record {
   self = whole.self;
   members = whole.members;
+  told = whole.told;
+  here = whole.here;
+  queue = whole.queue;
+  current = whole.current;
   awaited = whole.awaited;
   phase = whole.phase;
   watch = node ∙ whole.watch;
@@ -38,13 +42,13 @@ whole_exited h w cs p whole node kept own dropped = whole_taken (record h { watc
 -- the process is dead, and every member is to release its locks
 pub exits : (h k : Held) (w : Watch) (cs : LockCalls) (t u v : Made) (p q r : Process) → IsWhole k → k ≡ h
     → IsNodeSet k.members → w.watch ≡ with_dead p.serial k.watch.watch → seen cs ≡ drop_call p (seen k.calls)
-    → q ≡ p → r ≡ p → v ≡ entered (Exit q) t → u ≡ sent_all k.members (ReleaseOf r) v
+    → q ≡ p → r ≡ p → v ≡ entered (Exit q) t → SendsAll k.members (ReleaseOf r) v u
     → Makes (λ n a x. die n a p (enter (AnyEntry.Exit p) x)) h t (record k { watch = w; calls = cs }) u
 exits h k w cs t u v p q r whole same set dead dropped entering releasing put sends =
     subst (λ (x : Held). Makes (λ n a y. die n a p (enter (AnyEntry.Exit p) y)) x t after u) same (record {
       name = refl;
       world = refl;
-      turn = ap (turn_of after) made ∙ sent_all_is after (entered (Exit p) t) k.members (ReleaseOf p) set whole.members
+      turn = sent_all_is after (entered (Exit p) t) u k.members (ReleaseOf p) made set whole.members
           ∙ ap (λ (x : Turn). send_all (bound_of k.world) (set_of k.members) (AnyLetter.ReleaseOf p) x)
           (entered_is after t (Exit p) ∙ ap (λ (x : AnyWatch). known x (seen cs)) dead
           ∙ ap (known (with_dead p.serial k.watch.watch)) dropped);
@@ -57,5 +61,7 @@ exits h k w cs t u v p q r whole same set dead dropped entering releasing put se
     known x ds = record (enter (AnyEntry.Exit p) (turn_of k t))
         { node = record (turn_of k t).node { watch = x; calls = ds } }
 
-    made : u ≡ sent_all k.members (ReleaseOf p) (entered (Exit p) t)
-    made = cc
+    made : SendsAll k.members (ReleaseOf p) (entered (Exit p) t) u
+    made = subst (λ (x : Process). SendsAll k.members (ReleaseOf x) (entered (Exit p) t) u) releasing
+        (subst (λ (x : Made). SendsAll k.members (ReleaseOf r) x u)
+        (put ∙ ap (λ (x : Process). entered (Exit x) t) entering) sends)

@@ -1,5 +1,9 @@
 mod Sends
 mod Receivers
+mod ReceiversOfLocks
+mod ReceiversOfOperations
+mod ReceiversOfLetters
+mod ReceiversOfEvents
 mod Rules
 mod Rounds
 mod Reading
@@ -12,3 +16,10 @@ mod Judging
 mod Opening
 mod Each
 mod Locking
+mod Gone
+mod Leaving
+mod Numbers
+mod Stepping
+mod Tables
+mod Joining
+mod Queues

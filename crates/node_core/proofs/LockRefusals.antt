@@ -10,7 +10,7 @@ use Rattle.protocol_model.specs.Node.{call_of}
 use Rattle.protocol_model.specs.Watch.{is_live}
 use Rattle.term.specs.LockIds.{global_text}
 use Rattle.node_core.specs.declared.events.StepFault.{StepFault}
-use Rattle.node_core.specs.declared.events.StepFault.TheVariants.{NotLive, Busy, Reserved, UnknownNode, NoSuchProcess, AlreadyExited, SerialsSpent, NothingToRetry, CallsSpent, Memory}
+use Rattle.node_core.specs.declared.events.StepFault.TheVariants.{NotLive, Busy, Reserved, UnknownNode, AlreadyJoined, NoSuchProcess, AlreadyExited, SerialsSpent, NothingToRetry, HoldsLock, CallsSpent, Memory}
 use Rattle.node_core.specs.Held.{Held, IsWhole}
 use Rattle.node_core.specs.Seen.{node_of, fault_of}
 use Rattle.node_core.specs.Steps.{cause_of}
@@ -47,10 +47,12 @@ refusal_is (NotLive p) not = (refused.NotLive p, refl)
 refusal_is (Busy p) not = (refused.Busy p, refl)
 refusal_is Reserved not = (refused.Reserved, refl)
 refusal_is UnknownNode not = (refused.UnknownNode, refl)
+refusal_is AlreadyJoined not = (refused.AlreadyJoined, refl)
 refusal_is NoSuchProcess not = (refused.NoSuchProcess, refl)
 refusal_is AlreadyExited not = (refused.AlreadyExited, refl)
 refusal_is SerialsSpent not = (refused.SerialsSpent, refl)
 refusal_is NothingToRetry not = (refused.NothingToRetry, refl)
+refusal_is HoldsLock not = (refused.HoldsLock, refl)
 refusal_is CallsSpent not = (refused.CallsSpent, refl)
 refusal_is Memory not = absurd (not refl)
 

@@ -27,9 +27,10 @@ use Rattle.lock_calls.specs.declared.call.LockCall.{LockCall}
 use Rattle.lock_calls.specs.Calls.{phase_of, as_call}
 use Rattle.lock_calls.specs.Held.{Held as LockCalls, seen as calls_seen, AreOrdered}
 use Rattle.node_core.specs.declared.events.Letter.{Letter}
-use Rattle.node_core.specs.Made.{Made, sent, sent_all}
+use Rattle.node_core.specs.Made.{Made, sent, SendsAll}
 use Rattle.node_core.specs.Held.{Held, bound_of, IsWithin, IsCallWithin, IsOwnCall, IsWhole}
-use Rattle.node_core.specs.Seen.{turn_of, letter_of}
+use Rattle.node_core.specs.Letters.{letter_of}
+use Rattle.node_core.specs.Seen.{turn_of}
 use Rattle.node_core.specs.Steps.{Makes}
 use Rattle.node_core.proofs.Sends.{sent_is, sent_all_is, all_below}
 use Rattle.node_core.proofs.Rules.{followed, nobody_is, without_is, less_within}
@@ -97,6 +98,10 @@ whole_with : (h : Held) (k : LockCalls) → IsWhole h → k.node ≡ h.calls.nod
 whole_with h k whole node called = record {
   self = whole.self;
   members = whole.members;
+  told = whole.told;
+  here = whole.here;
+  queue = whole.queue;
+  current = whole.current;
   awaited = whole.awaited;
   phase = whole.phase;
   watch = whole.watch;
@@ -243,7 +248,7 @@ module _ (h : Held) (t : Made) (c : LockCall) (xs : List ℕ) (b : Bool) (within
 
   -- somebody is to give it up
   pub deletes_some : (h0 : Held) (u : Made) (k : LockCalls) (l : Letter) → h0 ≡ h → b ≡ false → IsNodeSet xs
-      → letter_of l ≡ AnyLetter.GiveBack (id_of c.id) c.holder true → u ≡ sent_all xs l t
+      → letter_of l ≡ AnyLetter.GiveBack (id_of c.id) c.holder true → SendsAll xs l t u
       → calls_seen k ≡ put_call (as_call (record c { phase = Deleting xs })) (calls_seen h0.calls)
       → Makes (λ n a. delete_lock n a (as_call c)) h t (record h0 { calls = k }) u
   deletes_some h0 u k l same some set is_letter made =
@@ -251,7 +256,7 @@ module _ (h : Held) (t : Made) (c : LockCall) (xs : List ℕ) (b : Bool) (within
       → Makes (λ n a. delete_lock n a (as_call c)) h t (record x { calls = k }) u) (sym same) (λ put. record {
         name = refl;
         world = refl;
-        turn = ap (turn_of h2) made ∙ sent_all_is h2 t xs l set within
+        turn = sent_all_is h2 t u xs l made set within
             ∙ ap (λ (x : AnyLetter). send_all n (set_of xs) x (turn_of h2 t)) is_letter
             ∙ ap (λ (cs : List AnyCall). send_all n (set_of xs) (AnyLetter.GiveBack (id_of c.id) c.holder true)
             (calls_now cs (turn_of h t))) put
@@ -269,12 +274,12 @@ module _ (h : Held) (t : Made) (c : LockCall) (xs : List ℕ) (b : Bool) (within
 
 -- these get their grant of a call back
 pub gives_lock : (h : Held) (t u : Made) (c : LockCall) (cs : List ℕ) (l : Letter) → IsNodeSet cs → IsWithin h.world cs
-    → letter_of l ≡ AnyLetter.GiveBack (id_of c.id) c.holder false → u ≡ sent_all cs l t
+    → letter_of l ≡ AnyLetter.GiveBack (id_of c.id) c.holder false → SendsAll cs l t u
     → Makes (λ n a. give_lock n a (as_call c) (set_of cs)) h t h u
 gives_lock h t u c cs l set within is made = record {
   name = refl;
   world = refl;
-  turn = ap (turn_of h) made ∙ sent_all_is h t cs l set within
+  turn = sent_all_is h t u cs l made set within
       ∙ ap (λ (x : AnyLetter). send_all (bound_of h.world) (set_of cs) x (turn_of h t)) is;
 }
 

@@ -42,13 +42,14 @@ opens a world members joined own is =
     }
 
 -- the same of what is made for it
-pub opened : (h : Held) (a : ℕ) (world members w m : List ℕ) (joined : Bool) (t : Table) (locks : Locks) (v : Watch)
+pub opened : (h : Held) (a : ℕ) (world members w m d : List ℕ) (joined : Bool) (t : Table) (locks : Locks) (v : Watch)
     (r : Work) (cs : LockCalls) (es : List Entry)
-    → w ≡ world → m ≡ members → t ≡ [] → locks ≡ [] → v ≡ watch_from a 0 → r ≡ idle → cs ≡ none_at a → es ≡ []
+    → w ≡ world → m ≡ members → d ≡ [] → t ≡ [] → locks ≡ [] → v ≡ watch_from a 0 → r ≡ idle → cs ≡ none_at a → es ≡ []
     → h ≡ record {
       name = a;
       world = w;
       members = m;
+      told = d;
       joined = joined;
       table = t;
       locks = locks;
@@ -60,7 +61,7 @@ pub opened : (h : Held) (a : ℕ) (world members w m : List ℕ) (joined : Bool)
       entered = es;
     }
     → set_of members a ≡ true → joined ≡ true → node_of h ≡ opening_node (set_of members) a
-opened h a world members w m joined t locks v r cs es e1 e2 e3 e4 e5 e6 e7 e8 e own is = ap node_of same
+opened h a world members w m d joined t locks v r cs es e1 e2 e0 e3 e4 e5 e6 e7 e8 e own is = ap node_of same
     ∙ opens a world members joined own is
   where
     same : h ≡ fresh a world members joined

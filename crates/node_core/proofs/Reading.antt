@@ -1,5 +1,5 @@
 -- The rules of letters and calls, one by one.
-use Rattle.std.proofs.Common.{ℕ, Bool, true, false, ◌≡◌, None, List, ◌++◌, refl, sym, ap, ◌∙◌, subst}
+use Rattle.std.proofs.Common.{ℕ, Bool, true, false, ◌≡◌, List, refl, sym, ap, ◌∙◌, subst}
 use Rattle.std.specs.Prelude.{not, if◌then◌else◌}
 use Rattle.registry_model.specs.Process.{Process, is_process}
 use Rattle.protocol_model.specs.Node.{call_of}
@@ -9,13 +9,14 @@ use Rattle.protocol_model.specs.Registrar.{registrar}
 use Rattle.protocol_model.specs.Deciding.{hear_answer}
 use Rattle.protocol_model.specs.Reading.{hear, read, receive}
 use Rattle.node_core.specs.declared.events.Letter.{Letter}
+use Rattle.node_core.specs.declared.events.Letter.TheVariants.{Down}
 use Rattle.node_core.specs.declared.events.Event.{Event}
-use Rattle.node_core.specs.declared.events.Event.TheVariants.{Call, FromPeer, Retry, Exit}
-use Rattle.node_core.specs.Made.{Made, nothing}
-use Rattle.node_core.specs.Held.{Held, IsWhole, bound_of}
-use Rattle.node_core.specs.Seen.{turn_of, letter_of}
-use Rattle.node_core.specs.Steps.{Makes, Takes, Steps, IsTurn, refusal_of}
-use Rattle.node_core.proofs.Receivers.{sends_within}
+use Rattle.node_core.specs.declared.events.Event.TheVariants.{FromPeer}
+use Rattle.node_core.specs.Made.{Made}
+use Rattle.node_core.specs.Held.{Held, bound_of}
+use Rattle.node_core.specs.Letters.{letter_of}
+use Rattle.node_core.specs.Seen.{turn_of, unnumbered}
+use Rattle.node_core.specs.Steps.{Makes, Takes, IsOther, IsSaidBy}
 
 -- an answer goes to the round of its holder: p is who it is for, and q the registrar
 module _ (h k : Held) (t u : Made) (f : ℕ) (p q : Process) (g : Bool) (is : q ≡ registrar h.name)
@@ -54,46 +55,12 @@ pub reads : (h k : Held) (t u : Made) (f : ℕ) (l m : Letter) → l ≡ m → (
 reads h k t u f l m is number made = subst (λ (x : Letter). Makes (λ n a. read n a number f (letter_of x)) h t k u)
     (sym is) made
 
+-- the sender of a letter that says so has left
+pub said_down : (world : List ℕ) (a f : ℕ) (l : Letter) → l ≡ Down → IsSaidBy world a f l → IsOther world a f
+said_down world a f l is said = subst (λ (m : Letter). IsSaidBy world a f m) is said
+
 -- a letter's event is taken
 pub takes_letter : (e : Event) (f : ℕ) (l : Letter) (h k : Held) (t u : Made) → e ≡ FromPeer f l
-    → ((number : ℕ → ℕ) → Makes (λ n a. receive n a number f (letter_of l)) h t k u) → Takes e h t k u
+    → (IsSaidBy h.world h.name f l → Makes (λ n a. receive n a unnumbered f (letter_of l)) h t k u)
+    → Takes e h t k u
 takes_letter e f l h k t u is each = subst (λ (x : Event). Takes x h t k u) (sym is) each
-
--- the step of an event, of the turn that it made
-stepped : (e : Event) (h k : Held) (u : Made) (before after : List (ℕ × Letter)) → refusal_of e h ≡ None
-    → after ≡ before ++ u.letters → IsWhole h → k.name ≡ h.name → k.world ≡ h.world → IsTurn e h (turn_of k u)
-    → Steps e h (record k { entered = u.entries }) before after u.answers
-stepped e h k u before after accepted letters whole name world turn = record {
-  name = name;
-  world = world;
-  accepted = accepted;
-  sent = u.letters;
-  letters = letters;
-  within = λ heard. sends_within h whole e k u heard turn;
-  turn = turn;
-}
-
--- the step of an event that was taken
-steps : (e : Event) (h k : Held) (u : Made) (before after : List (ℕ × Letter)) → refusal_of e h ≡ None
-    → Takes e h nothing k u → after ≡ before ++ u.letters
-    → IsWhole h → Steps e h (record k { entered = u.entries }) before after u.answers
-steps (Call c) h k u before after accepted made letters whole =
-    stepped (Call c) h k u before after accepted letters whole made.name made.world made.turn
-steps Retry h k u before after accepted made letters whole =
-    stepped Retry h k u before after accepted letters whole made.name made.world made.turn
-steps (Exit p) h k u before after accepted made letters whole =
-    stepped (Exit p) h k u before after accepted letters whole made.name made.world made.turn
-steps (FromPeer f l) h k u before after accepted made letters whole =
-    stepped (FromPeer f l) h k u before after accepted letters whole (made (λ j. 0)).name (made (λ j. 0)).world
-    (λ number. (made number).turn)
-
--- the same, where these are what the step began with, and what it came to
-pub steps_from : (e : Event) (h k k0 : Held) (t u u0 : Made) (before after : List (ℕ × Letter)) → t ≡ nothing → k ≡ k0
-    → u ≡ u0 → refusal_of e h ≡ None
-    → Takes e h t k0 u0 → after ≡ before ++ u.letters → IsWhole h
-    → Steps e h (record k { entered = u.entries }) before after u.answers
-steps_from e h k k0 t u u0 before after begun same_node same_turn accepted made letters whole =
-    steps e h k u before after accepted
-    (subst (λ (x : Made). Takes e h nothing k x) (sym same_turn)
-    (subst (λ (x : Held). Takes e h nothing x u0) (sym same_node)
-    (subst (λ (x : Made). Takes e h x k0 u0) begun made))) letters whole

@@ -1,14 +1,20 @@
 -- Why a watch refuses an event, and why its node does.
-use Rattle.std.proofs.Common.{ℕ, ◌≡◌, Option, Some, None, refl, sym, ap, ◌∙◌, subst}
+use Rattle.std.proofs.Common.{ℕ, Bool, false, ◌≡◌, Option, Some, None, List, [], ◌∷◌, map, refl, sym, ap, ◌∙◌, subst}
+use Rattle.std.specs.Prelude.{◌||◌, is_some}
+use Rattle.std.specs.List.{list_any}
 use Rattle.std.specs.Option.{MatchOption, IsSomeAnd}
-use Rattle.protocol_model.specs.Event.{Event as AnyEvent, Refusal, causes, first_cause}
+use Rattle.protocol_model.specs.Event.{Event as AnyEvent, Refusal, causes, first_cause, is_join, is_joining, has_joined}
 use Rattle.exit_watch.specs.declared.faults.WatchFault.{WatchFault}
 use Rattle.exit_watch.specs.declared.faults.WatchFault.TheVariants as fault
 use Rattle.exit_watch.specs.Faults.{Refuses, fault_of, cause_of as watch_cause_of}
+use Rattle.transaction.specs.declared.op.Op.{Op}
+use Rattle.transaction.specs.Ops.{op_of}
 use Rattle.node_core.specs.declared.events.StepFault.{StepFault}
 use Rattle.node_core.specs.declared.events.StepFault.TheVariants.{Memory}
+use Rattle.node_core.specs.declared.node.Phase.{Phase}
+use Rattle.node_core.specs.declared.node.Phase.TheVariants.{Asking, Waiting, Writing, Joining}
 use Rattle.node_core.specs.Held.{Held, IsWhole}
-use Rattle.node_core.specs.Seen.{node_of, step_fault_of, fault_of as fault_of_step}
+use Rattle.node_core.specs.Seen.{node_of, current_of, step_fault_of, fault_of as fault_of_step}
 use Rattle.node_core.specs.Steps.{cause_of}
 
 -- a node refuses an event as its watch does
@@ -40,3 +46,32 @@ same_cause (Some fault.NoSuchProcess) (Some f) is = ap fault_of_step (sym is)
 same_cause (Some fault.AlreadyExited) (Some f) is = ap fault_of_step (sym is)
 same_cause (Some fault.Memory) (Some f) is = ap fault_of_step (sym is)
 same_cause (Some x) None is = absurd is
+
+-- no join is current, where the phase is none
+pub no_join_stands : (o : Option Op) (awaited : List ℕ) (p : Phase) → ((k m : ℕ) → p ≡ Joining k m → ⊥)
+    → is_joining (current_of o awaited p) ≡ false
+no_join_stands None awaited p none = refl
+no_join_stands (Some op) awaited (Asking r) none = refl
+no_join_stands (Some op) awaited Waiting none = refl
+no_join_stands (Some op) awaited (Writing asked reply) none = refl
+no_join_stands (Some op) awaited (Joining k m) none = absurd (none k m refl)
+
+-- nothing is current
+pub none_is_current : (o : Option Op) (awaited : List ℕ) (p : Phase) → is_some o ≡ false
+    → is_joining (current_of o awaited p) ≡ false
+none_is_current None awaited p none = refl
+none_is_current (Some op) awaited p none = cc
+
+-- a lone node with no current join has one where one waits
+pub joins_where_waiting : (h0 h : Held) (waits : Bool) → h0 ≡ h → h0.joined ≡ false
+    → is_joining (node_of h0).current ≡ false → waits ≡ list_any (λ op. is_join (op_of op)) h0.registrar.queue
+    → waits ≡ has_joined (node_of h)
+joins_where_waiting h0 h waits same lone none is =
+    subst (λ (x : Held). waits ≡ has_joined (node_of x)) same (is ∙ all h0.registrar.queue
+    ∙ ap (λ (b : Bool). b || list_any is_join (map op_of h0.registrar.queue)) (sym none)
+    ∙ ap (λ (b : Bool). b || is_joining (node_of h0).current || list_any is_join (map op_of h0.registrar.queue))
+    (sym lone))
+  where
+    all : (ops : List Op) → list_any (λ op. is_join (op_of op)) ops ≡ list_any is_join (map op_of ops)
+    all [] = refl
+    all (op ∷ ops) = ap (λ (b : Bool). is_join (op_of op) || b) (all ops)

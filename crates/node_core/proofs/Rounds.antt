@@ -1,15 +1,16 @@
 -- The rules of the registrar's rounds, one by one.
 use Rattle.std.proofs.Common.{ℕ, Bool, true, false, zero, suc, ◌==◌, ◌≡◌, ◌<◌, ◌-◌, Option, Some, None, List, [], ◌∷◌, take, length, refl, sym, ap, ◌∙◌, subst}
 use Rattle.std.specs.Option.{option_map}
-use Rattle.std.specs.Prelude.{◌&&◌, ◌||◌, if◌then◌else◌, All, is_some}
+use Rattle.std.specs.Prelude.{not, ◌&&◌, ◌||◌, if◌then◌else◌, All, is_some}
 use Rattle.std.proofs.Math.Path.{fun_ext}
 use Rattle.registry_model.specs.Process.{Process, Nodes}
 use Rattle.protocol_model.specs.Letter.{Letter as AnyLetter, Global}
 use Rattle.protocol_model.specs.Node.{Op as AnyOp, Current}
-use Rattle.protocol_model.specs.Round.{Round, begin, greatest, rest, opens, owes, answer, is_over, asked as asked_by, granted as granted_of, ending, Ending as AnyEnding, Held as IsHeld, GiveBack as GiveBackTo}
+use Rattle.protocol_model.specs.Round.{Round, begin, greatest, rest, opens, owes, answer, down, is_over, asked as asked_by, granted as granted_of, ending, Ending as AnyEnding, Held as IsHeld, GiveBack as GiveBackTo}
 use Rattle.protocol_model.specs.Turn.{Turn, at_work, send, send_all}
 use Rattle.protocol_model.specs.Registrar.{registrar, ask_global, ask_rest, start_next, start, give_up}
-use Rattle.protocol_model.specs.Deciding.{held, end_by, end_round, hear_answer}
+use Rattle.protocol_model.specs.Deciding.{held, end_by, end_round, hear_answer, lose}
+use Rattle.protocol_model.specs.Reading.{lose_current}
 use Rattle.protocol_model.specs.Watch.{Watch as AnyWatch, owed}
 use Rattle.exit_watch.specs.Held.{Held as Watch, process_of}
 use Rattle.term.specs.NodeSets.{IsNodeSet, set_of}
@@ -20,15 +21,16 @@ use Rattle.locker.specs.declared.ending.Ending.TheVariants.{Held as Holds, GiveB
 use Rattle.locker.specs.Held.{Held as HeldRound, seen}
 use Rattle.locker.specs.Ends.{EndsAs, end_of, granted_by, is_won}
 use Rattle.transaction.specs.declared.op.Op.{Op}
-use Rattle.transaction.specs.declared.op.Op.TheVariants.{Name as NameOp, Strike as StrikeOp}
+use Rattle.transaction.specs.declared.op.Op.TheVariants.{Strike as StrikeOp}
 use Rattle.transaction.specs.Ops.{op_of}
-use Rattle.transaction.specs.Work.{Work, started, starts}
+use Rattle.transaction.specs.Work.{Work, started}
 use Rattle.node_core.specs.declared.events.Letter.{Letter}
 use Rattle.node_core.specs.declared.node.Phase.{Phase}
 use Rattle.node_core.specs.declared.node.Phase.TheVariants.{Asking}
-use Rattle.node_core.specs.Made.{Made, sent, sent_all}
+use Rattle.node_core.specs.Made.{Made, sent, SendsAll}
 use Rattle.node_core.specs.Held.{Held, bound_of, IsWithin, IsPhaseWithin}
-use Rattle.node_core.specs.Seen.{turn_of, letter_of, current_of, phase_of}
+use Rattle.node_core.specs.Letters.{letter_of}
+use Rattle.node_core.specs.Seen.{turn_of, current_of, phase_of}
 use Rattle.node_core.specs.Steps.{Makes, Works}
 use Rattle.node_core.proofs.Sends.{sent_is, sent_all_is, all_below}
 
@@ -73,25 +75,29 @@ within_first (suc k) (x ∷ xs) c e = go (x == c) e (within_first k xs c)
     go true f more = refl
     go false f more = more f
 
-and_true : (b : Bool) → b ≡ (b && true)
-and_true true = refl
-and_true false = refl
+-- what is of two tests passes the first
+pub first_passes : (a b : Bool) → (a && b) ≡ true → a ≡ true
+first_passes true b e = refl
+first_passes false b e = e
 
--- the rest are asked
-pub asks_rest : (h : Held) (t u : Made) (r : HeldRound) (f : ℕ) (g : Bool) (xs : List ℕ) (l : Letter) → IsNodeSet xs
+-- the rest are asked, but for those that have gone: ys, of xs
+pub asks_rest : (h : Held) (t u : Made) (r : HeldRound) (f : ℕ) (g : Bool) (xs ys : List ℕ) (l : Letter) → IsNodeSet ys
     → IsWithin h.world r.nodes
-    → xs ≡ others_of r.nodes → set_of xs ≡ rest (seen r) → opens f g (seen r) ≡ true → u ≡ sent_all xs l t
+    → xs ≡ others_of r.nodes → set_of xs ≡ rest (seen r)
+    → ((c : ℕ) → set_of ys c ≡ (set_of xs c && not (set_of h.told c))) → opens f g (seen r) ≡ true
+    → SendsAll ys l t u
     → Makes (λ n a. ask_rest n a f g (letter_of l) (seen r)) h t h u
-asks_rest h t u r f g xs l set within others is first made = record {
+asks_rest h t u r f g xs ys l set within others is are first made = record {
   name = refl;
   world = refl;
-  turn = ap (turn_of h) made ∙ sent_all_is h t xs l set
+  turn = sent_all_is h t u ys l made set
       (λ c e. within c (within_first (length r.nodes - 1) r.nodes c
-      (subst (λ (ys : List ℕ). set_of ys c ≡ true) others e)))
+      (subst (λ (zs : List ℕ). set_of zs c ≡ true) others
+      (first_passes (set_of xs c) (not (set_of h.told c)) (sym (are c) ∙ e)))))
       ∙ ap (λ (s : Nodes). send_all (bound_of h.world) s (letter_of l) (turn_of h t))
-      (is ∙ fun_ext (λ x. and_true (rest (seen r) x)))
+      (fun_ext are ∙ ap {B = Nodes} (λ (s : Nodes). λ x. s x && not (set_of h.told x)) is)
       ∙ ap (λ (b : Bool). if b
-      then send_all (bound_of h.world) (λ x. rest (seen r) x && true) (letter_of l) (turn_of h t)
+      then send_all (bound_of h.world) (λ x. rest (seen r) x && not (set_of h.told x)) (letter_of l) (turn_of h t)
       else turn_of h t) (sym first);
 }
 
@@ -125,35 +131,30 @@ module _ (h0 h : Held) (t : Made) (w : Work) (v : Watch) (strike : Option Proces
   begun_is : w ≡ started (struck owed_serial) h0.registrar
   begun_is = begun ∙ ap (λ (o : Option Process). started o h0.registrar) strike_is
 
-  -- the next operation begins
-  pub starts_next : (k : Held) (u : Made) (b : Bool) → b ≡ starts strike h0.registrar → b ≡ true
+  -- the strike that is owed begins
+  pub starts_strike : (k : Held) (u : Made) → is_some strike ≡ true → is_some h0.registrar.current ≡ false
       → Works (λ op n a. ask_global n a op) (record h0 { registrar = w; watch = v }) t k u → Makes start h t k u
-  starts_next k u b first began W =
+  starts_strike k u some free W =
       subst (λ (x : Held). Makes start x t k u) same
-      (go h0.registrar.current h0.registrar.queue
-      (ap (λ (o : Option Process). starts o h0.registrar) (sym strike_is) ∙ sym first ∙ began)
+      (go h0.registrar.current h0.registrar.queue free (ap is_some (sym strike_is) ∙ some)
       (subst (λ (x : Work). Works (λ op n a. ask_global n a op) (once_asked x) t k u) begun_is
       (subst (λ (x : AnyWatch). Works (λ op n a. ask_global n a op)
       (record h0 { registrar = w; watch = record v { watch = x } }) t k u) watch W)))
     where
-      next : (o : Option ℕ) (ops : List Op) → starts (struck o) (at_ops None ops) ≡ true
+      next : (o : Option ℕ) (ops : List Op) → is_some (struck o) ≡ true
           → Works (λ op n a. ask_global n a op) (once_asked (started (struck o) (at_ops None ops))) t k u
           → Makes (λ n a. start_next n a o) (record h0 { registrar = at_ops None ops }) t k u
       next (Some s) ops yes_ V =
           let M = V (StrikeOp (record { node = h0.name; serial = s })) refl in
           record { name = M.name; world = M.world; turn = M.turn }
-      next None (NameOp i c ∷ ops) yes_ V =
-          let M = V (NameOp i c) refl in record { name = M.name; world = M.world; turn = M.turn }
-      next None (StrikeOp p ∷ ops) yes_ V =
-          let M = V (StrikeOp p) refl in record { name = M.name; world = M.world; turn = M.turn }
-      next None [] yes_ V = cc
+      next None ops yes_ V = cc
 
-      go : (cur : Option Op) (ops : List Op) → starts (struck owed_serial) (at_ops cur ops) ≡ true
+      go : (cur : Option Op) (ops : List Op) → is_some cur ≡ false → is_some (struck owed_serial) ≡ true
           → Works (λ op n a. ask_global n a op) (once_asked (started (struck owed_serial) (at_ops cur ops))) t k u
           → Makes start (record h0 { registrar = at_ops cur ops }) t k u
-      go None ops yes_ V =
+      go None ops free_ yes_ V =
           let M = next owed_serial ops yes_ V in record { name = M.name; world = M.world; turn = M.turn }
-      go (Some op) ops yes_ V = cc
+      go (Some op) ops free_ yes_ V = cc
 
 -- the end is that the lock is held
 pub held_end : (x : AnyEnding) → EndsAs Holds x → x ≡ IsHeld
@@ -164,11 +165,6 @@ held_end (GiveBackTo s) e = absurd e
 pub failed_end : (xs : List ℕ) (x : AnyEnding) → EndsAs (GiveBack xs) x → x ≡ GiveBackTo (set_of xs)
 failed_end xs IsHeld e = absurd e
 failed_end xs (GiveBackTo s) e = ap GiveBackTo (sym (fun_ext e))
-
--- what is of two tests passes the first
-first_passes : (a b : Bool) → (a && b) ≡ true → a ≡ true
-first_passes true b e = refl
-first_passes false b e = e
 
 -- who gets it back was asked
 pub granted_within : (world members xs : List ℕ) (r : HeldRound) (e : Ending) → IsWithin world r.nodes → e
@@ -300,6 +296,35 @@ hears h h2 k t u v r r2 f g number asking owed busy rest answered is W =
           (ask_rest n h.name f g letter (seen r) (turn_of h t)))
           else turn_of h t) (sym owed)
           ∙ ap (λ (x : Current). hear_answer n h.name number f g x (turn_of h t))
+          (sym (ap (λ (x : Option Op). current_of x h.registrar.awaited h.phase) e
+          ∙ ap (phase_of op h.registrar.awaited) asking));
+    }
+
+-- a node has gone down: the round is told
+pub loses : (h h2 k : Held) (t v : Made) (r r2 : HeldRound) (f : ℕ) (number : ℕ → ℕ) → h.phase ≡ Asking r
+    → is_some h.registrar.current ≡ true → seen r2 ≡ down f (seen r) → h2 ≡ record h { phase = Asking r2 }
+    → Works (λ op n a. end_round n a number op (seen r2)) h2 t k v
+    → Makes (λ n a. lose_current n a number f) h t k v
+loses h h2 k t v r r2 f number asking busy fell is W =
+    go h.registrar.current refl busy (subst (λ (x : Held). Works (λ op n a. end_round n a number op (seen r2)) x t k v)
+    is W)
+  where
+    n : ℕ
+    n = bound_of h.world
+
+    go : (o : Option Op) → h.registrar.current ≡ o → is_some o ≡ true
+        → Works (λ op n a. end_round n a number op (seen r2)) (record h { phase = Asking r2 }) t k v
+        → Makes (λ n a. lose_current n a number f) h t k v
+    go None e some V = cc
+    go (Some op) e some V = record {
+      name = (V op e).name;
+      world = (V op e).world;
+      turn = (V op e).turn
+          ∙ ap (end_round n h.name number (op_of op) (seen r2))
+          (ap (λ (o : Option Op). at_work (current_of o h.registrar.awaited (Asking r2)) (turn_of h t)) e)
+          ∙ ap (λ (x : Round). end_round n h.name number (op_of op) x
+          (at_work (Current.Asking (op_of op) x) (turn_of h t))) fell
+          ∙ ap (λ (x : Current). lose n h.name number f x (turn_of h t))
           (sym (ap (λ (x : Option Op). current_of x h.registrar.awaited h.phase) e
           ∙ ap (phase_of op h.registrar.awaited) asking));
     }

@@ -13,7 +13,7 @@ use Rattle.registry_model.specs.History.{Entry as AnyEntry}
 use Rattle.protocol_model.specs.Letter.{Letter as AnyLetter, Global}
 use Rattle.protocol_model.specs.Node.{Op as AnyOp, Current}
 use Rattle.protocol_model.specs.Turn.{Turn, at_work, send_all, enter}
-use Rattle.protocol_model.specs.Registrar.{registrar, give_global, finish, done, write, decide, await_less}
+use Rattle.protocol_model.specs.Registrar.{registrar, give_global, answer_op, finish, done, write, decide, await_less}
 use Rattle.protocol_model.specs.Round.{is_empty}
 use Rattle.boss_order.proofs.Sets.{set_of-filter}
 use Rattle.protocol_model.specs.Deciding.{held}
@@ -33,9 +33,10 @@ use Rattle.node_core.specs.declared.events.Reply.{Reply}
 use Rattle.node_core.specs.declared.events.Reply.TheVariants.{Yes, Ok}
 use Rattle.node_core.specs.declared.node.Phase.{Phase}
 use Rattle.node_core.specs.declared.node.Phase.TheVariants.{Writing}
-use Rattle.node_core.specs.Made.{Made, sent_all, entered}
-use Rattle.node_core.specs.Held.{Held, bound_of, IsWithin, IsWhole}
-use Rattle.node_core.specs.Seen.{turn_of, letter_of, reply_of, entry_of, phase_of, current_of}
+use Rattle.node_core.specs.Made.{Made, SendsAll, entered}
+use Rattle.node_core.specs.Held.{Held, bound_of, IsWithin, IsOpWithin, IsCurrentWithin, IsWhole}
+use Rattle.node_core.specs.Letters.{letter_of}
+use Rattle.node_core.specs.Seen.{turn_of, reply_of, entry_of, phase_of, current_of}
 use Rattle.node_core.specs.Steps.{Makes, Works}
 use Rattle.node_core.proofs.Sends.{sent_all_is, all_below}
 
@@ -52,12 +53,12 @@ followed {f} {g} {h} {k} {m} {t} {u} {v} p q = record {
 
 -- the lock goes back to these
 pub gives_global : (h : Held) (t u : Made) (cs : List ℕ) (l : Letter) → IsNodeSet cs → IsWithin h.world cs
-    → letter_of l ≡ AnyLetter.GiveBack (Global h.name) (registrar h.name) false → u ≡ sent_all cs l t
+    → letter_of l ≡ AnyLetter.GiveBack (Global h.name) (registrar h.name) false → SendsAll cs l t u
     → Makes (λ n a. give_global n a (set_of cs)) h t h u
 gives_global h t u cs l set within is made = record {
   name = refl;
   world = refl;
-  turn = ap (turn_of h) made ∙ sent_all_is h t cs l set within
+  turn = sent_all_is h t u cs l made set within
       ∙ ap (λ (x : AnyLetter). send_all (bound_of h.world) (set_of cs) x (turn_of h t)) is;
 }
 
@@ -70,6 +71,26 @@ entered_is h t e = ap (λ (es : List AnyEntry). record (turn_of h t) { entries =
 pub phased : (h : Held) (t : Made) (op : Op) (p : Phase) → h.registrar.current ≡ Some op
     → turn_of (record h { phase = p }) t ≡ at_work (phase_of op h.registrar.awaited p) (turn_of h t)
 phased h t op p is = ap (λ (o : Option Op). at_work (current_of o h.registrar.awaited p) (turn_of h t)) is
+
+-- the end: the answer, and the lock goes back to those that were asked and haven't gone: less
+pub finishes : (h0 h : Held) (t u v : Made) (w : Work) (asked less : List ℕ) (reply : Option AnyReply) → h0 ≡ h
+    → w ≡ record h0.registrar { current = None; awaited = [] }
+    → ((c : ℕ) → set_of less c ≡ (set_of asked c && not (set_of h0.told c)))
+    → Works (λ op n a. answer_op n a op reply) h t h u → Makes (λ n a. give_global n a (set_of less)) h u h v
+    → Works (λ op n a. finish n a op (set_of asked) reply) h t (record h0 { registrar = w }) v
+finishes h0 h t u v w asked less reply same ended are =
+    subst (λ (x : Held). Works (λ op n a. answer_op n a op reply) x t x u
+    → Makes (λ n a. give_global n a (set_of less)) x u x v
+    → Works (λ op n a. finish n a op (set_of asked) reply) x t (record h0 { registrar = w }) v) same
+    (λ A G op is. record {
+      name = refl;
+      world = refl;
+      turn = ap (λ (x : Work). turn_of (record h0 { registrar = x }) v) ended
+          ∙ ap (at_work Current.Free) (G.turn
+          ∙ ap (λ (s : Nodes). give_global (bound_of h0.world) h0.name s (turn_of h0 u)) (fun_ext are)
+          ∙ ap (give_global (bound_of h0.world) h0.name (λ c. set_of asked c && not (set_of h0.told c)))
+          (A op is).turn);
+    })
 
 -- done: the entry, and then the end
 pub does : (h0 h k : Held) (t u v : Made) (a : ℕ) (asked : Nodes) (reply : Option AnyReply) → h0 ≡ h → a ≡ h0.name → u
@@ -88,7 +109,7 @@ does h0 h k t u v a asked reply same here made W =
 -- the change goes to every member
 pub writes : (h0 h : Held) (t u : Made) (w : Work) (asked : List ℕ) (reply : Option Reply) (change : Change) → h0 ≡ h
     → IsNodeSet h0.members → IsWithin h0.world h0.members
-    → w ≡ record h0.registrar { awaited = h0.members } → u ≡ sent_all h0.members (Apply change) t
+    → w ≡ record h0.registrar { awaited = h0.members } → SendsAll h0.members (Apply change) t u
     → Works (λ op n a. write n a op (set_of asked) (option_map reply_of reply) (change_of change)) h t
     (record h0 { registrar = w; phase = Writing asked reply }) u
 writes h0 h t u w asked reply change same set within awaits made =
@@ -97,7 +118,7 @@ writes h0 h t u w asked reply change same set within awaits made =
     (λ op is. record {
       name = refl;
       world = refl;
-      turn = ap (turn_of k) made ∙ sent_all_is k t h0.members (Apply change) set within
+      turn = sent_all_is k t u h0.members (Apply change) made set within
           ∙ ap (λ (x : Turn). send_all (bound_of h0.world) (set_of h0.members) (AnyLetter.Apply (change_of change)) x)
           (ap (λ (o : Option Op). at_work (current_of o h0.members (Writing asked reply)) (turn_of h0 t)) is);
     }))
@@ -109,7 +130,8 @@ writes h0 h t u w asked reply change same set within awaits made =
     k = record h0 { registrar = record h0.registrar { awaited = h0.members }; phase = Writing asked reply }
 
 -- the only current operation is this
-current_is : (h : Held) (op other : Op) → h.registrar.current ≡ Some op → h.registrar.current ≡ Some other → other ≡ op
+pub current_is : (h : Held) (op other : Op) → h.registrar.current ≡ Some op → h.registrar.current ≡ Some other
+    → other ≡ op
 current_is h op other e f = cc
 
 -- a granted call is written; its entry has a copy of the reply
@@ -205,6 +227,10 @@ pub whole_less : (h : Held) (w : Work) (f : ℕ) → IsWhole h → w
 whole_less h w f whole is = record {
   self = whole.self;
   members = whole.members;
+  told = whole.told;
+  here = whole.here;
+  queue = subst (λ (v : Work). All (IsOpWithin h.world) v.queue) (sym is) whole.queue;
+  current = subst (λ (v : Work). IsCurrentWithin h.world v.current) (sym is) whole.current;
   awaited = subst (λ (v : Work). IsWithin h.world v.awaited) (sym is)
       (less_within h.world h.registrar.awaited f whole.awaited);
   phase = whole.phase;

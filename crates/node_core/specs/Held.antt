@@ -1,5 +1,5 @@
 -- What a node holds.
-use Rattle.std.specs.Prelude.{ℕ, Bool, true, ◌+◌, ◌≡◌, ◌<◌, All, max, List, [], ◌∷◌}
+use Rattle.std.specs.Prelude.{ℕ, Bool, true, false, ◌+◌, ◌≡◌, ◌<◌, All, max, List, [], ◌∷◌, Option, Some, None}
 use Rattle.registry_model.specs.Table.{Table}
 use Rattle.protocol_model.specs.LockTable.{Locks}
 use Rattle.term.specs.NodeSets.{set_of}
@@ -9,14 +9,17 @@ use Rattle.lock_calls.specs.declared.call.LockCall.{LockCall}
 use Rattle.protocol_model.specs.Node.{LockPhase}
 use Rattle.protocol_model.specs.Round.{asked}
 use Rattle.transaction.specs.Work.{Work, idle}
+use Rattle.transaction.specs.declared.op.Op.{Op}
+use Rattle.transaction.specs.declared.op.Op.TheVariants.{Join, Admission}
 use Rattle.node_core.specs.declared.events.Entry.{Entry}
 use Rattle.node_core.specs.declared.node.Phase.{Phase}
-use Rattle.node_core.specs.declared.node.Phase.TheVariants.{Asking, Waiting, Writing}
+use Rattle.node_core.specs.declared.node.Phase.TheVariants.{Asking, Waiting, Writing, Joining}
 
 pub record Held : Type 0 where
   pub name : ℕ
   pub world : List ℕ  -- all nodes, rising
   pub members : List ℕ
+  pub told : List ℕ  -- the nodes that it was told have left
   pub joined : Bool
   pub table : Table
   pub locks : Locks
@@ -41,6 +44,18 @@ abbrev pub IsPhaseWithin : List ℕ → Phase → Type 0
 IsPhaseWithin world (Asking r) = IsWithin world r.nodes
 IsPhaseWithin world Waiting = Unit {0}
 IsPhaseWithin world (Writing asked reply) = IsWithin world asked
+IsPhaseWithin world (Joining k m) = set_of world m ≡ true
+
+-- the other node of an operation, if it has one, is of the world
+abbrev pub IsOpWithin : List ℕ → Op → Type 0
+IsOpWithin world (Join k m) = set_of world m ≡ true
+IsOpWithin world (Admission j pairs) = set_of world j ≡ true
+IsOpWithin world _ = Unit {0}
+
+-- that of the current operation, if there is one, is
+abbrev pub IsCurrentWithin : List ℕ → Option Op → Type 0
+IsCurrentWithin world None = Unit {0}
+IsCurrentWithin world (Some op) = IsOpWithin world op
 
 -- the nodes of a lock call's phase are of the world
 abbrev pub IsCallWithin : List ℕ → LockPhase → Type 0
@@ -52,11 +67,15 @@ IsCallWithin world (LockPhase.Deleting owing) = (c : ℕ) → owing c ≡ true �
 abbrev pub IsOwnCall : Held → LockCall → Type 0
 IsOwnCall h c = (c.holder.node ≡ h.name) × (0 < c.holder.serial)
 
--- The node is one of its members, and all nodes that it knows of are of the world. Its watch and its lock calls are its own,
+-- The node is one of its members and hasn't left, and all nodes that it knows of are of the world. Its watch and its lock calls are its own,
 -- and the watch suspects each dead process of the node that owns a name
 pub record IsWhole (h : Held) : Type 0 where
   pub self : set_of h.members h.name ≡ true
   pub members : IsWithin h.world h.members
+  pub told : IsWithin h.world h.told
+  pub here : set_of h.told h.name ≡ false
+  pub queue : All (IsOpWithin h.world) h.registrar.queue
+  pub current : IsCurrentWithin h.world h.registrar.current
   pub awaited : IsWithin h.world h.registrar.awaited
   pub phase : IsPhaseWithin h.world h.phase
   pub watch : h.watch.node ≡ h.name
@@ -70,6 +89,7 @@ fresh a world members joined = record {
   name = a;
   world = world;
   members = members;
+  told = [];
   joined = joined;
   table = [];
   locks = [];

@@ -1,5 +1,7 @@
+pub mod Letters
 pub mod Made
 pub mod Held
 pub mod Seen
 pub mod Steps
 pub mod Locking
+pub mod Joining

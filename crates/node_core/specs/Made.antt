@@ -1,8 +1,10 @@
 -- What one step has made so far.
-use Rattle.std.specs.Prelude.{ℕ, List, [], ◌∷◌, ◌++◌, map}
+use Rattle.std.specs.Prelude.{ℕ, ◌≡◌, List, [], ◌∷◌, ◌++◌, map}
+use Rattle.protocol_model.specs.Turn.{Send}
 use Rattle.node_core.specs.declared.events.Answer.{Answer}
 use Rattle.node_core.specs.declared.events.Entry.{Entry}
 use Rattle.node_core.specs.declared.events.Letter.{Letter}
+use Rattle.node_core.specs.Letters.{letter_of, send_of}
 
 -- the letters with their receivers, the entries and the answers, in order
 pub record Made : Type 0 where
@@ -17,13 +19,15 @@ nothing = record { letters = []; entries = []; answers = [] }
 abbrev pub sent : ℕ → Letter → Made → Made
 sent c l m = record m { letters = m.letters ++ (c, l) ∷ [] }
 
--- the letter, to each of these nodes
-abbrev pub each : List ℕ → Letter → List (ℕ × Letter)
-each cs l = map (λ c. (c, l)) cs
+-- the letter, to each of these nodes, as the protocol has it
+abbrev pub each : List ℕ → Letter → List Send
+each cs l = map (λ c. record { to = c; letter = letter_of l }) cs
 
--- a letter more to each of these nodes
-abbrev pub sent_all : List ℕ → Letter → Made → Made
-sent_all cs l m = record m { letters = m.letters ++ each cs l }
+-- u is t with a letter more to each of these nodes, a copy of which says the same
+pub record SendsAll (cs : List ℕ) (l : Letter) (t u : Made) : Type 0 where
+  pub sends : map send_of u.letters ≡ map send_of t.letters ++ each cs l
+  pub entries : u.entries ≡ t.entries
+  pub answers : u.answers ≡ t.answers
 
 -- an entry more
 abbrev pub entered : Entry → Made → Made

@@ -1,20 +1,16 @@
 -- What a node holds and makes, seen as the protocol's node and turn.
 use Rattle.std.specs.Prelude.{ℕ, Bool, true, false, Option, Some, None, List, map}
 use Rattle.std.specs.Option.{option_map}
-use Rattle.registry_model.specs.Process.{nobody}
 use Rattle.registry_model.specs.Call.{NameCall as AnyNameCall, Look as AnyLook, Reply as AnyReply}
 use Rattle.registry_model.specs.History.{Entry as AnyEntry}
-use Rattle.protocol_model.specs.Letter.{Letter as AnyLetter}
 use Rattle.protocol_model.specs.Node.{Node, Current}
 use Rattle.protocol_model.specs.Event.{Call as AnyCall, Answer as AnyAnswer, Refusal as AnyRefusal}
-use Rattle.protocol_model.specs.Turn.{Turn, Send}
-use Rattle.name_table.specs.Changes.{change_of}
+use Rattle.protocol_model.specs.Turn.{Turn}
 use Rattle.term.specs.NodeSets.{set_of}
 use Rattle.exit_watch.specs.declared.faults.WatchFault.{WatchFault}
 use Rattle.exit_watch.specs.declared.faults.WatchFault.TheVariants as fault
 use Rattle.lock_table.specs.declared.verdict.Verdict.{Verdict}
 use Rattle.lock_table.specs.declared.verdict.Verdict.TheVariants.{Grant}
-use Rattle.lock_table.specs.Ids.{id_of}
 use Rattle.locker.specs.Held.{seen}
 use Rattle.lock_calls.specs.Held.{seen as calls_seen}
 use Rattle.transaction.specs.Calls.{target_of, retries_of}
@@ -22,19 +18,18 @@ use Rattle.transaction.specs.declared.op.Op.{Op}
 use Rattle.transaction.specs.Ops.{name_call_of, op_of}
 use Rattle.node_core.specs.declared.events.Answer.{Answer}
 use Rattle.node_core.specs.declared.events.Call.{Call}
-use Rattle.node_core.specs.declared.events.Call.TheVariants.{Spawn, Whereis, RegisteredNames, Register, ReRegister, Unregister, SetLock as SetsLock, DelLock as DeletesLock}
+use Rattle.node_core.specs.declared.events.Call.TheVariants.{Spawn, Whereis, RegisteredNames, Register, ReRegister, Unregister, SetLock as SetsLock, DelLock as DeletesLock, Join as JoinBy}
 use Rattle.node_core.specs.declared.events.Entry.{Entry}
-use Rattle.node_core.specs.declared.events.Entry.TheVariants.{Name, Strike, Exit, Done, Read}
-use Rattle.node_core.specs.declared.events.Letter.{Letter}
-use Rattle.node_core.specs.declared.events.Letter.TheVariants.{SetLock, LockAnswer, GiveBack, GivenBack, ReleaseOf, Apply, Applied}
+use Rattle.node_core.specs.declared.events.Entry.TheVariants.{Name, Strike, Exit, Done, Read, Left, Told, Joined as HasJoined, NotMember as IsRefused, ContactLeft as LostContact}
 use Rattle.node_core.specs.declared.events.Look.{Look}
 use Rattle.node_core.specs.declared.events.Look.TheVariants.{Whereis as LooksUp, RegisteredNames as LooksAtAll}
 use Rattle.node_core.specs.declared.events.Reply.{Reply}
-use Rattle.node_core.specs.declared.events.Reply.TheVariants.{Yes, No, Ok, UnknownNode, True, False, Pid, Undefined, Names}
+use Rattle.node_core.specs.declared.events.Reply.TheVariants.{Yes, No, Ok, UnknownNode, True, False, Joined, NotMember, ContactLeft, Pid, Undefined, Names}
 use Rattle.node_core.specs.declared.events.StepFault.{StepFault}
-use Rattle.node_core.specs.declared.events.StepFault.TheVariants.{NotLive, Busy, Reserved, UnknownNode as UnknownMember, NoSuchProcess, AlreadyExited, SerialsSpent, NothingToRetry, CallsSpent, Memory}
+use Rattle.node_core.specs.declared.events.StepFault.TheVariants.{NotLive, Busy, Reserved, UnknownNode as UnknownMember, AlreadyJoined, NoSuchProcess, AlreadyExited, SerialsSpent, NothingToRetry, HoldsLock, CallsSpent, Memory}
 use Rattle.node_core.specs.declared.node.Phase.{Phase}
-use Rattle.node_core.specs.declared.node.Phase.TheVariants.{Asking, Waiting, Writing}
+use Rattle.node_core.specs.declared.node.Phase.TheVariants.{Asking, Waiting, Writing, Joining}
+use Rattle.node_core.specs.Letters.{send_of}
 use Rattle.node_core.specs.Made.{Made}
 use Rattle.node_core.specs.Held.{Held}
 
@@ -45,6 +40,9 @@ reply_of Ok = AnyReply.Ok
 reply_of UnknownNode = AnyReply.UnknownNode
 reply_of True = AnyReply.True
 reply_of False = AnyReply.False
+reply_of Joined = AnyReply.Joined
+reply_of NotMember = AnyReply.NotMember
+reply_of ContactLeft = AnyReply.ContactLeft
 reply_of (Pid p) = AnyReply.Pid p
 reply_of Undefined = AnyReply.Undefined
 reply_of (Names list) = AnyReply.Names list.names.items
@@ -56,25 +54,25 @@ look_of LooksAtAll = AnyLook.RegisteredNames
 abbrev pub answer_of : Answer → AnyAnswer
 answer_of s = record { node = s.node; number = s.call; reply = reply_of s.reply }
 
+-- an entry, where the current join of j has the number `number j`
+abbrev pub entry_by : (ℕ → ℕ) → Entry → AnyEntry
+entry_by number (Name a k c r) = AnyEntry.Name a k (name_call_of c) (reply_of r)
+entry_by number (Strike p) = AnyEntry.Strike p
+entry_by number (Exit p) = AnyEntry.Exit p
+entry_by number (Done a) = AnyEntry.Done a
+entry_by number (Read a l r) = AnyEntry.Read a (look_of l) (reply_of r)
+entry_by number (Left a) = AnyEntry.Left a
+entry_by number (Told a d) = AnyEntry.Told a d
+entry_by number (HasJoined j m) = AnyEntry.Join j (number j) m AnyReply.Joined
+entry_by number (IsRefused j m) = AnyEntry.Join j (number j) m AnyReply.NotMember
+entry_by number (LostContact j k m) = AnyEntry.Join j k m AnyReply.ContactLeft
+
+-- no join of another node has its number yet: a node doesn't know it
+abbrev pub unnumbered : ℕ → ℕ
+unnumbered j = 0
+
 abbrev pub entry_of : Entry → AnyEntry
-entry_of (Name a k c r) = AnyEntry.Name a k (name_call_of c) (reply_of r)
-entry_of (Strike p) = AnyEntry.Strike p
-entry_of (Exit p) = AnyEntry.Exit p
-entry_of (Done a) = AnyEntry.Done a
-entry_of (Read a l r) = AnyEntry.Read a (look_of l) (reply_of r)
-
-abbrev pub letter_of : Letter → AnyLetter
-letter_of (SetLock id p) = AnyLetter.SetLock (id_of id) p
-letter_of (LockAnswer id p granted) = AnyLetter.LockAnswer (id_of id) p granted
-letter_of (GiveBack id p ack) = AnyLetter.GiveBack (id_of id) p ack
-letter_of (GivenBack p) = AnyLetter.GivenBack p
-letter_of (ReleaseOf p) = AnyLetter.ReleaseOf p
-letter_of (Apply change) = AnyLetter.Apply (change_of change)
-letter_of Applied = AnyLetter.Applied
-
--- a letter with its receiver
-abbrev pub send_of : ℕ × Letter → Send
-send_of s = record { to = s.0; letter = letter_of s.1 }
+entry_of e = entry_by unnumbered e
 
 -- where an operation stands that awaits these nodes
 abbrev pub phase_of : Op → List ℕ → Phase → Current
@@ -82,15 +80,16 @@ phase_of op awaited (Asking r) = Current.Asking (op_of op) (seen r)
 phase_of op awaited Waiting = Current.Waiting (op_of op)
 phase_of op awaited (Writing asked reply) =
     Current.Writing (op_of op) (set_of asked) (set_of awaited) (option_map reply_of reply)
+phase_of op awaited (Joining k m) = Current.Joining k m
 
 abbrev pub current_of : Option Op → List ℕ → Phase → Current
 current_of None awaited p = Current.Free
 current_of (Some op) awaited p = phase_of op awaited p
 
--- the node: nobody has left it
+-- the node
 abbrev pub node_of : Held → Node
 node_of h = record {
-  replica = record { table = h.table; members = set_of h.members; told = nobody; joined = h.joined };
+  replica = record { table = h.table; members = set_of h.members; told = set_of h.told; joined = h.joined };
   locks = h.locks;
   watch = h.watch.watch;
   queue = map op_of h.registrar.queue;
@@ -108,6 +107,10 @@ turn_of h m = record {
   answers = map answer_of m.answers;
 }
 
+-- the same, with the numbers of joins
+abbrev pub turn_by : (ℕ → ℕ) → Held → Made → Turn
+turn_by number h m = record (turn_of h m) { entries = map (entry_by number) m.entries }
+
 abbrev pub call_of : Call → AnyCall
 call_of Spawn = AnyCall.Spawn
 call_of (Whereis x) = AnyCall.LookUp (AnyLook.Whereis x)
@@ -117,6 +120,7 @@ call_of (ReRegister x p) = AnyCall.OnName (AnyNameCall.ReRegister x p)
 call_of (Unregister x) = AnyCall.OnName (AnyNameCall.Unregister x)
 call_of (SetsLock p id nodes retries) = AnyCall.SetLock p id.resource id.requester (target_of nodes) (retries_of retries)
 call_of (DeletesLock p id nodes) = AnyCall.DelLock p id.resource id.requester (target_of nodes)
+call_of (JoinBy m) = AnyCall.JoinBy m
 
 -- the protocol's refusal; want of memory is none of its
 abbrev pub fault_of : StepFault → Option AnyRefusal
@@ -124,10 +128,12 @@ fault_of (NotLive p) = Some (AnyRefusal.NotLive p)
 fault_of (Busy p) = Some (AnyRefusal.Busy p)
 fault_of Reserved = Some AnyRefusal.Reserved
 fault_of UnknownMember = Some AnyRefusal.UnknownNode
+fault_of AlreadyJoined = Some AnyRefusal.AlreadyJoined
 fault_of NoSuchProcess = Some AnyRefusal.NoSuchProcess
 fault_of AlreadyExited = Some AnyRefusal.AlreadyExited
 fault_of SerialsSpent = Some AnyRefusal.SerialsSpent
 fault_of NothingToRetry = Some AnyRefusal.NothingToRetry
+fault_of HoldsLock = Some AnyRefusal.HoldsLock
 fault_of CallsSpent = Some AnyRefusal.CallsSpent
 fault_of Memory = None
 

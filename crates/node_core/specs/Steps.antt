@@ -1,5 +1,5 @@
 -- What a step of a node comes to, as the protocol has it.
-use Rattle.std.specs.Prelude.{ℕ, true, ◌≡◌, Option, Some, None, List, ◌++◌, All}
+use Rattle.std.specs.Prelude.{ℕ, true, false, ◌≡◌, ◌==◌, Option, Some, None, List, ◌++◌, All}
 use Rattle.protocol_model.specs.Event.{Event as AnyEvent, Refusal as AnyRefusal, causes, first_cause}
 use Rattle.protocol_model.specs.Node.{Op as AnyOp}
 use Rattle.protocol_model.specs.Turn.{Turn, begun}
@@ -10,12 +10,17 @@ use Rattle.transaction.specs.declared.op.Op.{Op}
 use Rattle.transaction.specs.Ops.{op_of}
 use Rattle.node_core.specs.declared.events.Answer.{Answer}
 use Rattle.node_core.specs.declared.events.Event.{Event}
-use Rattle.node_core.specs.declared.events.Event.TheVariants.{Call, FromPeer, Retry, Exit}
+use Rattle.node_core.specs.declared.events.Event.TheVariants.{Call, FromPeer, Retry, Exit, Leave}
+use Rattle.node_core.specs.declared.events.Call.TheVariants.{Join as JoinBy}
+use Rattle.node_core.specs.declared.events.Call.{Call as ClientCall}
 use Rattle.node_core.specs.declared.events.Letter.{Letter}
+use Rattle.node_core.specs.declared.events.Letter.TheVariants.{JoinAsk, Admit, Welcome, Down}
 use Rattle.node_core.specs.declared.events.StepFault.{StepFault}
 use Rattle.node_core.specs.Held.{Held, bound_of}
 use Rattle.node_core.specs.Made.{Made}
-use Rattle.node_core.specs.Seen.{node_of, turn_of, letter_of, call_of, fault_of}
+use Rattle.node_core.specs.Letters.{letter_of}
+use Rattle.node_core.specs.Joining.{IsWelcomeTo}
+use Rattle.node_core.specs.Seen.{node_of, turn_of, turn_by, unnumbered, call_of, fault_of}
 
 -- what no step changes, whatever comes of it
 pub record Keeps (old new : Held) : Type 0 where
@@ -32,25 +37,52 @@ pub record Makes (rule : ℕ → ℕ → Turn → Turn) (h : Held) (t : Made) (k
 abbrev pub Works : (AnyOp → ℕ → ℕ → Turn → Turn) → Held → Made → Held → Made → Type 0
 Works rule h t k u = (op : Op) → h.registrar.current ≡ Some op → Makes (rule (op_of op)) h t k u
 
--- the rule of an event is carried out; a letter's is the same whatever joins there are
+-- another node of the world
+abbrev pub IsOther : List ℕ → ℕ → ℕ → Type 0
+IsOther world a f = (set_of world f ≡ true) × ((f == a) ≡ false)
+
+-- What node a relies on of a letter that f sends: who asks to join and who is admitted are of the world, a welcome is one to a,
+-- and who has left is another node of the world
+abbrev pub IsSaidBy : List ℕ → ℕ → ℕ → Letter → Type 0
+IsSaidBy world a f (JoinAsk pairs) = set_of world f ≡ true
+IsSaidBy world a f (Admit body) = set_of world body.joiner ≡ true
+IsSaidBy world a f (Welcome body) = IsWelcomeTo world a body
+IsSaidBy world a f Down = IsOther world a f
+IsSaidBy world a f _ = Unit {0}
+
+-- what a node relies on of a call: the contact of a join is of the world
+abbrev pub IsAskedWithin : List ℕ → ClientCall → Type 0
+IsAskedWithin world (JoinBy m) = set_of world m ≡ true
+IsAskedWithin world _ = Unit {0}
+
+-- the rule of an event is carried out
 abbrev pub Takes : Event → Held → Made → Held → Made → Type 0
-Takes (Call c) h t k u = Makes (λ n a. event n a (set_of h.world) (AnyEvent.Calling (call_of c))) h t k u
+Takes (Call c) h t k u =
+    IsAskedWithin h.world c → Makes (λ n a. event n a (set_of h.world) (AnyEvent.Calling (call_of c))) h t k u
 Takes Retry h t k u = Makes (λ n a. event n a (set_of h.world) AnyEvent.Retry) h t k u
 Takes (Exit p) h t k u = Makes (λ n a. event n a (set_of h.world) (AnyEvent.Exiting p)) h t k u
-Takes (FromPeer f l) h t k u = (number : ℕ → ℕ) → Makes (λ n a. receive n a number f (letter_of l)) h t k u
+Takes Leave h t k u = Makes (λ n a. event n a (set_of h.world) AnyEvent.Leave) h t k u
+Takes (FromPeer f l) h t k u =
+    IsSaidBy h.world h.name f l → Makes (λ n a. receive n a unnumbered f (letter_of l)) h t k u
 
--- the turn that the protocol has for an event
-abbrev pub IsTurn : Event → Held → Turn → Type 0
-IsTurn (Call c) h u = u ≡ event (bound_of h.world) h.name (set_of h.world) (AnyEvent.Calling (call_of c)) (begun (node_of h))
-IsTurn Retry h u = u ≡ event (bound_of h.world) h.name (set_of h.world) AnyEvent.Retry (begun (node_of h))
-IsTurn (Exit p) h u = u ≡ event (bound_of h.world) h.name (set_of h.world) (AnyEvent.Exiting p) (begun (node_of h))
-IsTurn (FromPeer f l) h u = (number : ℕ → ℕ) → u ≡ receive (bound_of h.world) h.name number f (letter_of l) (begun (node_of h))
+-- the turn that the protocol has for an event, where the current join of j has the number `number j`
+abbrev pub IsTurn : (ℕ → ℕ) → Event → Held → Turn → Type 0
+IsTurn number (Call c) h u =
+    IsAskedWithin h.world c
+    → u ≡ event (bound_of h.world) h.name (set_of h.world) (AnyEvent.Calling (call_of c)) (begun (node_of h))
+IsTurn number Retry h u = u ≡ event (bound_of h.world) h.name (set_of h.world) AnyEvent.Retry (begun (node_of h))
+IsTurn number (Exit p) h u = u ≡ event (bound_of h.world) h.name (set_of h.world) (AnyEvent.Exiting p) (begun (node_of h))
+IsTurn number Leave h u = u ≡ event (bound_of h.world) h.name (set_of h.world) AnyEvent.Leave (begun (node_of h))
+IsTurn number (FromPeer f l) h u =
+    IsSaidBy h.world h.name f l
+    → u ≡ receive (bound_of h.world) h.name number f (letter_of l) (begun (node_of h))
 
 -- why an event is refused, if it is; a letter never is
 abbrev pub refusal_of : Event → Held → Option AnyRefusal
 refusal_of (Call c) h = first_cause (causes h.name (node_of h) (AnyEvent.Calling (call_of c)))
 refusal_of Retry h = first_cause (causes h.name (node_of h) AnyEvent.Retry)
 refusal_of (Exit p) h = first_cause (causes h.name (node_of h) (AnyEvent.Exiting p))
+refusal_of Leave h = first_cause (causes h.name (node_of h) AnyEvent.Leave)
 refusal_of (FromPeer f l) h = None
 
 -- the refusal that a fault stands for, if there is a fault
@@ -58,14 +90,15 @@ abbrev pub cause_of : Option StepFault → Option AnyRefusal
 cause_of None = None
 cause_of (Some fault) = fault_of fault
 
--- the letter of the event, if it has one, is from a node of the world
-abbrev pub IsHeardWithin : List ℕ → Event → Type 0
-IsHeardWithin world (FromPeer f l) = set_of world f ≡ true
-IsHeardWithin world _ = Unit {0}
+-- what node a relies on of an event: of its call, or of its letter, which is from a node of the world
+abbrev pub IsHeardWithin : List ℕ → ℕ → Event → Type 0
+IsHeardWithin world a (Call c) = IsAskedWithin world c
+IsHeardWithin world a (FromPeer f l) = (set_of world f ≡ true) × IsSaidBy world a f l
+IsHeardWithin world a _ = Unit {0}
 
--- each of these letters goes to a node of the world
-abbrev pub GoWithin : List ℕ → List (ℕ × Letter) → Type 0
-GoWithin world ss = All (λ s. set_of world s.0 ≡ true) ss
+-- each of these letters of node a goes to a node of the world, and to another one where it says that a has left
+abbrev pub GoWithin : List ℕ → ℕ → List (ℕ × Letter) → Type 0
+GoWithin world a ss = All (λ s. (set_of world s.0 ≡ true) × IsSaidBy world s.0 a s.1) ss
 
 -- An event was accepted, and the protocol's node makes its turn. What it sends comes behind the letters before, and goes
 -- to nodes of the world alone, where it hears none but those
@@ -75,5 +108,6 @@ pub record Steps (e : Event) (old new : Held) (before after : List (ℕ × Lette
   pub accepted : refusal_of e old ≡ None
   pub sent : List (ℕ × Letter)
   pub letters : after ≡ before ++ sent
-  pub within : IsHeardWithin old.world e → GoWithin old.world sent
-  pub turn : IsTurn e old (turn_of new (record { letters = sent; entries = new.entered; answers = answers }))
+  pub within : IsHeardWithin old.world old.name e → GoWithin old.world old.name sent
+  pub turn : (number : ℕ → ℕ) → IsTurn number e old
+      (turn_by number new (record { letters = sent; entries = new.entered; answers = answers }))

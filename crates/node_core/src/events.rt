@@ -1,10 +1,11 @@
 //! What may happen at a node, what it says to other nodes, and what it answers.
-ghost use Rattle.std.specs.Prelude.{◌≡◌};
+ghost use Rattle.std.specs.Prelude.{◌≡◌, IfOk};
 
 use crate::name_list::NameList;
+use exchange::{Admission, Welcome};
 use exit_watch::WatchFault;
-use name_table::Change;
-use std::alloc::AllocError;
+use name_table::{Change, Pair};
+use std::alloc::{AllocError, Global};
 use term::{LockId, Name, NodeName, Pid};
 use thiserror::Error;
 use transaction::{NameCall, Nodes, Retries};
@@ -24,16 +25,36 @@ pub enum Letter {
     ReleaseOf(Pid),
     /// Write this.
     Apply(Change),
-    /// It was written.
+    /// It was written, or the admission or welcome was carried out.
     Applied,
+    /// A lone node asks to join, with its names.
+    JoinAsk(Vec<Pair>),
+    /// Answers that: the node that was asked isn't joined itself.
+    JoinRefused,
+    /// A node joins, and is to be admitted.
+    Admit(Admission),
+    /// The receiver has joined.
+    Welcome(Welcome),
+    /// The sender has left.
+    Down,
+}
+
+/// The same pairs, in memory of their own.
+pub(crate) fn copied(pairs: &Vec<Pair>) -> Result<Vec<Pair>, AllocError>
+    ensures { IfOk result (λ copy. copy.items ≡ pairs.now.items) }
+{
+    let alloc: Global = *pairs.allocator();
+    pairs.iter().map(|pair| pair.copy()).collect(alloc)
 }
 
 impl Letter {
-    /// The same letter. It takes no memory.
-    pub fn copy(&self) -> Self
-        ensures { result ≡ self.now }
+    ghost use Rattle.node_core.specs.Letters.{letter_of};
+
+    /// The same letter. Only those of joins take memory.
+    pub fn copy(&self) -> Result<Self, AllocError>
+        ensures { IfOk result (λ copy. letter_of copy ≡ letter_of self.now) }
     {
-        match self {
+        Ok(match self {
             Letter::SetLock(id, holder) => Letter::SetLock(id.copy(), holder.copy()),
             Letter::LockAnswer(id, holder, granted) => {
                 Letter::LockAnswer(id.copy(), holder.copy(), *granted)
@@ -43,7 +64,12 @@ impl Letter {
             Letter::ReleaseOf(holder) => Letter::ReleaseOf(holder.copy()),
             Letter::Apply(change) => Letter::Apply(change.copy()),
             Letter::Applied => Letter::Applied,
-        }
+            Letter::JoinAsk(pairs) => Letter::JoinAsk(copied(pairs)?),
+            Letter::JoinRefused => Letter::JoinRefused,
+            Letter::Admit(admission) => Letter::Admit(admission.copy()?),
+            Letter::Welcome(welcome) => Letter::Welcome(welcome.copy()?),
+            Letter::Down => Letter::Down,
+        })
     }
 }
 
@@ -79,6 +105,9 @@ pub enum Call {
     /// The process gives one grant of a lock back at these nodes. Numbered as `Register` is, and answered by `True` when
     /// all have said so, whether it had the lock or not.
     DelLock(Pid, LockId, Nodes),
+    /// The node, which is lone, joins the cluster of this node. Numbered as `Register` is, and answered by `Joined`, or by
+    /// `NotMember` or `ContactLeft` where that node isn't joined itself or has left.
+    Join(NodeName),
 }
 
 /// What may happen at a node.
@@ -92,6 +121,8 @@ pub enum Event {
     Retry,
     /// A process of the node dies: its locks are released at once, and its names are struck under the global lock.
     Exit(Pid),
+    /// The node leaves: this is its last step.
+    Leave,
 }
 
 /// What a call is answered.
@@ -109,6 +140,12 @@ pub enum Reply {
     True,
     /// The lock is refused, and no retry is left.
     False,
+    /// The node is joined.
+    Joined,
+    /// The contact isn't joined itself.
+    NotMember,
+    /// The contact has left.
+    ContactLeft,
     /// A process: the one that was spawned, or the owner of a name.
     Pid(Pid),
     /// Nobody owns the name.
@@ -132,6 +169,9 @@ impl Reply {
             Reply::UnknownNode => Reply::UnknownNode,
             Reply::True => Reply::True,
             Reply::False => Reply::False,
+            Reply::Joined => Reply::Joined,
+            Reply::NotMember => Reply::NotMember,
+            Reply::ContactLeft => Reply::ContactLeft,
             Reply::Pid(process) => Reply::Pid(process.copy()),
             Reply::Undefined => Reply::Undefined,
             Reply::Names(names) => Reply::Names(names.copy()?),
@@ -163,6 +203,17 @@ pub enum Entry {
     Done(NodeName),
     /// A look-up was answered.
     Read(NodeName, Look, Reply),
+    /// A node left.
+    Left(NodeName),
+    /// A node was told that another has left: itself, and the other.
+    Told(NodeName, NodeName),
+    /// A node was let in: the joiner, and the node that it joined by. Neither this entry nor the next has the number of the
+    /// joiner's call, which only the joiner knows.
+    Joined(NodeName, NodeName),
+    /// A node wasn't let in: it, and the node that it asked, which isn't joined itself.
+    NotMember(NodeName, NodeName),
+    /// The contact of a join has left: the node that was to join, the number of its call, and the contact.
+    ContactLeft(NodeName, u32, NodeName),
 }
 
 /// Why a node doesn't take a step.
@@ -180,6 +231,9 @@ pub enum StepFault {
     /// A named node is no member.
     #[error("unknown_node")]
     UnknownNode,
+    /// The node is joined, or has a join that isn't answered.
+    #[error("already_joined")]
+    AlreadyJoined,
     /// The process is another node's, or its serial wasn't given.
     #[error("no_such_process")]
     NoSuchProcess,
@@ -192,6 +246,9 @@ pub enum StepFault {
     /// No refused round waits.
     #[error("nothing_to_retry")]
     NothingToRetry,
+    /// The node holds the global lock.
+    #[error("holds_lock")]
+    HoldsLock,
     /// The node has given its last number of a call, 4,294,967,295.
     #[error("calls_spent")]
     CallsSpent,

@@ -1,4 +1,4 @@
-//! One node of a cluster: what it holds, and the step that it takes with each letter, call, exit and retry.
+//! One node of a cluster: what it holds, and the step that it takes with each letter, call, exit, retry and leave.
 #![tactic(auto)]
 
 mod events;

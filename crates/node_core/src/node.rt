@@ -2,6 +2,8 @@
 ghost use Rattle.std.specs.Prelude.{◌≡◌};
 
 mod calling;
+mod joining;
+mod leaving;
 mod locking;
 mod reading;
 mod registrar;
@@ -29,6 +31,8 @@ pub(crate) enum Phase {
     /// It holds the lock at the nodes that were asked, and waits until the members have written it; the reply, if it
     /// has one, comes then.
     Writing(NodeSet, Option<Reply>),
+    /// It is a join, under this number, that waits for its contact.
+    Joining(u32, NodeName),
 }
 
 /// One node: its table, its locks, its processes and their lock calls, its registrar, and the numbers that it has given.
@@ -38,6 +42,8 @@ pub struct NodeCore<N: Names> {
     name: NodeName,
     world: NodeSet,
     members: NodeSet,
+    /// The nodes of the world that it was told have left.
+    told: NodeSet,
     joined: bool,
     table: N,
     locks: LockTable,
@@ -61,6 +67,7 @@ impl<N: Names> Model for NodeCore<N> {
       name = c.name;
       world = c.world;
       members = c.members;
+      told = c.told;
       joined = c.joined;
       table = N.contents c.table;
       locks = c.locks;
@@ -76,6 +83,7 @@ impl<N: Names> Model for NodeCore<N> {
       name = c.name;
       world = c.world;
       members = c.members;
+      told = c.told;
       joined = c.joined;
       table = N.contents c.table;
       locks = c.locks;
@@ -88,7 +96,7 @@ impl<N: Names> Model for NodeCore<N> {
     }) };
 }
 
-impl<N: Names> NodeCore<N> {
+impl<N: Names<Memory = Global>> NodeCore<N> {
     ghost use Rattle.std.specs.Prelude.{false, None, is_some, OnOk, OnErr, IfOk, IfErr};
     ghost use Rattle.std.specs.Option.{option_copied};
     ghost use Rattle.protocol_model.specs.Node.{holds_global};
@@ -97,10 +105,12 @@ impl<N: Names> NodeCore<N> {
     ghost use Rattle.node_core.specs.declared.events.StepFault.TheVariants.{Memory};
     ghost use Rattle.node_core.specs.Steps.{Steps, Keeps, Takes, refusal_of, cause_of};
     ghost use Rattle.protocol_model.specs.Event.{can_retry, is_waiting};
+    ghost use Rattle.node_core.specs.Joining.{join_number_of};
 
     /// Takes the step of an event: gives its answers, and puts its letters, each with its receiver, behind those that are
-    /// there. They go to nodes of its world, where the letter that it reads is from one. A refused event changes nothing;
-    /// where `Memory` is refused no letter is put there either, but the node isn't to be used any more.
+    /// there. They go to nodes of its world and say what their readers rely on, where what it reads does. A refused event
+    /// changes nothing; where `Memory` is refused no letter is put there either, but the node isn't to be used any more.
+    /// What no node of the world says is passed over: a departure of this node or of a stranger, a join of a stranger.
     pub fn step(
         &mut self,
         event: &Event,
@@ -116,6 +126,8 @@ impl<N: Names> NodeCore<N> {
         if let Some(fault) = self.refusal(event) {
             return Err(fault);
         }
+        // A welcome relies on the names of its sponsor's table rising.
+        self.table.rising();
         let mut turn = Turn::begin(*self.entered.allocator());
         self.take(&mut turn, event)?;
         let Turn {
@@ -142,6 +154,7 @@ impl<N: Names> NodeCore<N> {
                 self.retry_locks(turn)?;
             }
             Event::Exit(process) => self.exit(turn, process)?,
+            Event::Leave => return Ok(self.leave(turn)?),
             Event::FromPeer(from, letter) => return Ok(self.receive(turn, from, letter)?),
         }
         self.start(turn)?;
@@ -177,7 +190,8 @@ impl<N: Names> NodeCore<N> {
             Event::Call(call) => self.call_refusal(call),
             Event::Retry if !self.can_retry() => Some(StepFault::NothingToRetry),
             Event::Exit(process) => self.watch.exit_refusal(process).map(StepFault::from),
-            Event::Retry | Event::FromPeer(..) => None,
+            Event::Leave if self.holds_global() => Some(StepFault::HoldsLock),
+            Event::Retry | Event::Leave | Event::FromPeer(..) => None,
         }
     }
 
@@ -194,6 +208,16 @@ impl<N: Names> NodeCore<N> {
         ensures { option_copied result ≡ self.now.registrar.current }
     {
         self.registrar.current()
+    }
+
+    /// The number of its join that waits for the contact, if one does.
+    pub fn join_number(&self) -> Option<u32>
+        ensures { result ≡ join_number_of (node_of self.now).current }
+    {
+        match &self.phase {
+            Phase::Joining(number, _) if self.is_at_work() => Some(*number),
+            _ => None,
+        }
     }
 
     /// The number that its last name or lock call was given; 0 before the first.
@@ -216,6 +240,14 @@ impl<N: Names> NodeCore<N> {
         ensures whole { IsWhole self.now }
     {
         &self.members
+    }
+
+    /// The nodes that it was told have left.
+    pub fn told(&self) -> &NodeSet
+        ensures told { result.now ≡ self.now.told }
+        ensures whole { IsWhole self.now }
+    {
+        &self.told
     }
 
     /// Whether it is joined with the cluster.
@@ -267,6 +299,7 @@ impl<N: Names<Memory = Global>> NodeCore<N> {
             name,
             world: world.copy(),
             members: members.copy(),
+            told: NodeSet::empty(),
             joined,
             table: N::empty(alloc),
             locks: LockTable::new(alloc),

@@ -1,7 +1,7 @@
 //! Steps of one node. Each test is a script: a line has events, and what the node makes of them, or `state`, and what the
 //! node is like.
 use crate::{Answer, Call, Entry, Event, Letter, NodeCore, Nodes, Reply, Retries, StepFault};
-use name_table::{ListTable, Names};
+use name_table::{Change, ListTable, Names};
 use std::alloc::Global;
 use std::fmt::Write;
 use std::test::Fail;
@@ -9,6 +9,8 @@ use term::{
     LockId, NodeName, NodeSet, Pid, parse_name, parse_node, parse_nodes, parse_pid,
     parse_requester, parse_resource,
 };
+
+mod joins;
 
 type Core = NodeCore<ListTable<Global>>;
 
@@ -36,20 +38,31 @@ fn lock_id(resource: &str, requester: &str) -> Result<LockId, Fail> {
     })
 }
 
+/// A letter to the node `a` about the process `b.1`: it asks for the lock on `db`, or is to own the name `x`; or one that `a.1`
+/// asks for that lock in another name.
+fn other_letter(alloc: Global, kind: &str) -> Result<Letter, Fail> {
+    Ok(match kind {
+        "b_asks" => Letter::SetLock(lock_id("db", "r")?, parse_pid("b.1")?),
+        "a_asks" => Letter::SetLock(lock_id("db", "s")?, parse_pid("a.1")?),
+        "put_b" => Letter::Apply(Change::Put(parse_name("x")?, parse_pid("b.1")?)),
+        _ => return joins::letter(alloc, kind),
+    })
+}
+
 /// A letter to the node `a`, about the lock on `db` that its process `a.1` asks for or gives up in the name of `r`.
-fn client_letter(kind: &str) -> Result<Letter, Fail> {
+fn client_letter(alloc: Global, kind: &str) -> Result<Letter, Fail> {
     let id = lock_id("db", "r")?;
     let holder = parse_pid("a.1")?;
     Ok(match kind {
         "db_granted" => Letter::LockAnswer(id, holder, true),
         "db_refused" => Letter::LockAnswer(id, holder, false),
         "db_given_back" => Letter::GivenBack(holder),
-        _ => return Err(Fail::from("no letter")),
+        _ => return other_letter(alloc, kind),
     })
 }
 
 /// A letter to the node `a`, about the lock of its registrar, or about one of a process.
-fn letter(kind: &str) -> Result<Letter, Fail> {
+fn letter(alloc: Global, kind: &str) -> Result<Letter, Fail> {
     let a = parse_node("a")?;
     let id = LockId::global(&a);
     let registrar = Pid { node: a, serial: 0 };
@@ -58,7 +71,8 @@ fn letter(kind: &str) -> Result<Letter, Fail> {
         "refused" => Letter::LockAnswer(id, registrar, false),
         "give_back" => Letter::GiveBack(id, registrar, true),
         "applied" => Letter::Applied,
-        _ => return client_letter(kind),
+        "down" => Letter::Down,
+        _ => return client_letter(alloc, kind),
     })
 }
 
@@ -124,12 +138,13 @@ fn plain_event(word: &str) -> Result<Event, Fail> {
         "spawn" => Event::Call(Call::Spawn),
         "names" => Event::Call(Call::RegisteredNames),
         "retry" => Event::Retry,
+        "leave" => Event::Leave,
         _ => return Err(Fail::from("no event")),
     })
 }
 
 /// The event that a text names: a call, an exit, a retry, or the kind of a letter and who sends it.
-fn event(text: &str) -> Result<Event, Fail> {
+fn event(alloc: Global, text: &str) -> Result<Event, Fail> {
     let Some((kind, rest)) = text.split_once(' ') else {
         return plain_event(text);
     };
@@ -138,8 +153,9 @@ fn event(text: &str) -> Result<Event, Fail> {
         "unregister" => Event::Call(Call::Unregister(parse_name(rest)?)),
         "register" | "re_register" => Event::Call(put(kind, rest)?),
         "set_lock" | "del_lock" => Event::Call(lock_call(kind, rest)?),
+        "join" => Event::Call(Call::Join(parse_node(rest)?)),
         "exit" => Event::Exit(parse_pid(rest)?),
-        _ => Event::FromPeer(parse_node(rest)?, letter(kind)?),
+        _ => Event::FromPeer(parse_node(rest)?, letter(alloc, kind)?),
     })
 }
 
@@ -152,6 +168,9 @@ fn plain_reply(reply: &Reply) -> &'static str {
         Reply::UnknownNode => "unknown_node",
         Reply::True => "true",
         Reply::False => "false",
+        Reply::Joined => "joined",
+        Reply::NotMember => "not_member",
+        Reply::ContactLeft => "contact_left",
         Reply::Undefined => "undefined",
         Reply::Pid(_) => "a process",
         Reply::Names(_) => "names",
@@ -180,6 +199,11 @@ fn kind(letter: &Letter) -> &'static str {
         Letter::ReleaseOf(_) => "release_of",
         Letter::Apply(_) => "apply",
         Letter::Applied => "applied",
+        Letter::JoinAsk(_) => "join_ask",
+        Letter::JoinRefused => "join_refused",
+        Letter::Admit(_) => "admit",
+        Letter::Welcome(_) => "welcome",
+        Letter::Down => "down",
     }
 }
 
@@ -238,7 +262,7 @@ fn settle(text: &mut String, core: &mut Core, events: &str, times: u32) -> Resul
     let alloc: Global = *text.allocator();
     let mut waiting = Vec::new(alloc);
     for word in events.split(", ") {
-        step(text, core, &event(word)?, &mut waiting)?;
+        step(text, core, &event(alloc, word)?, &mut waiting)?;
     }
     for _ in 0..times {
         let mut sent = Vec::new(alloc);
@@ -256,6 +280,11 @@ fn entry_kind(entry: &Entry) -> &'static str {
         Entry::Exit(_) => "exit",
         Entry::Done(_) => "done",
         Entry::Read(..) => "read",
+        Entry::Left(_) => "left",
+        Entry::Told(..) => "told",
+        Entry::Joined(..) => "joined",
+        Entry::NotMember(..) => "not_member",
+        Entry::ContactLeft(..) => "contact_left",
     }
 }
 
@@ -480,6 +509,102 @@ fn asks_for_locks_by_rounds(rt: HostRuntime) -> Result<(), Fail> {
     Ok(())
 }
 
+/// A node that holds the global lock doesn't leave, and one that leaves says so to the others.
+const LEAVES: &str = "\
+register x a.1: set_lock b;
+granted b: set_lock a;
+granted a: apply a; apply b; holds;
+leave: holds_lock; holds;
+applied b: holds;
+applied a: 1 yes; give_back a; give_back b;
+leave: down b;
+state: joined; a; 2 members; 0 names; left;
+";
+
+#[test]
+fn leaves(rt: HostRuntime) -> Result<(), Fail> {
+    let script = LEAVES;
+    let text = play(rt.alloc(), script, true)?;
+    assert_eq!(rt; text.as_str(), script);
+    Ok(())
+}
+
+/// A node that is told that another has left takes away its names and locks, and reads no letter of it more. What is put for its
+/// processes then is removed instead. Of itself it isn't told.
+const DEPARTURES: &str = "\
+down a:
+put_b a: applied a;
+b_asks b: granted b;
+a_asks a: refused a;
+state: joined; a; 2 members; 1 names;
+down b:
+state: joined; a; 1 members; 0 names; told;
+a_asks a: granted a;
+put_b a: applied a;
+b_asks b:
+state: joined; a; 1 members; 0 names;
+down b:
+state: joined; a; 1 members; 0 names; told;
+";
+
+#[test]
+fn takes_in_departures(rt: HostRuntime) -> Result<(), Fail> {
+    let script = DEPARTURES;
+    let text = play(rt.alloc(), script, true)?;
+    assert_eq!(rt; text.as_str(), script);
+    Ok(())
+}
+
+/// A round whose boss goes down before it answers is begun anew, and what is written isn't awaited of who has gone down.
+const LOSSES: &str = "\
+register x a.1: set_lock b;
+down b:
+retry: set_lock a;
+granted b:
+granted a: apply a; holds;
+applied a: 1 yes; give_back a;
+";
+
+/// Who has gone down gets no lock back.
+const LOST_WRITES: &str = "\
+register x a.1: set_lock b;
+granted b: set_lock a;
+granted a: apply a; apply b; holds;
+applied a: holds;
+down b: 1 yes; give_back a;
+state: joined; a; 1 members; 0 names; told; done;
+";
+
+#[test]
+fn goes_on_without_the_departed(rt: HostRuntime) -> Result<(), Fail> {
+    for script in [LOSSES, LOST_WRITES] {
+        let text = play(rt.alloc(), script, true)?;
+        assert_eq!(rt; text.as_str(), script);
+    }
+    Ok(())
+}
+
+/// The rounds and waits of lock calls are told of a departure, by serial.
+const LOST_LOCKS: &str = "\
+spawn: 0 a.1;
+spawn: 0 a.2;
+spawn: 0 a.3;
+set_lock a.2 db r all 0: set_lock b;
+del_lock a.1 db r all: give_back a; give_back b;
+set_lock a.3 db s b infinity: set_lock b;
+down b: 1 false;
+retry: 3 false;
+db_given_back a: 2 true;
+";
+
+#[test]
+fn tells_lock_calls_of_departures(rt: HostRuntime) -> Result<(), Fail> {
+    let script = LOST_LOCKS;
+    let text = play(rt.alloc(), script, true)?;
+    assert_eq!(rt; text.as_str(), script);
+    Ok(())
+}
+
 /// Each fault of a lock call, by its text.
 fn show_lock_faults(alloc: Global) -> Result<String, Fail> {
     let mut text = String::new(alloc);
@@ -489,6 +614,7 @@ fn show_lock_faults(alloc: Global) -> Result<String, Fail> {
         StepFault::Busy(process),
         StepFault::Reserved,
         StepFault::UnknownNode,
+        StepFault::AlreadyJoined,
     ] {
         write!(text, "{fault} ")?;
     }
@@ -498,7 +624,10 @@ fn show_lock_faults(alloc: Global) -> Result<String, Fail> {
 #[test]
 fn names_its_faults_of_lock_calls(rt: HostRuntime) -> Result<(), Fail> {
     let text = show_lock_faults(rt.alloc())?;
-    assert_eq!(rt; text.as_str(), "not_live busy reserved unknown_node ");
+    assert_eq!(rt;
+        text.as_str(),
+        "not_live busy reserved unknown_node already_joined "
+    );
     Ok(())
 }
 
@@ -510,6 +639,7 @@ fn show_faults(alloc: Global) -> Result<String, Fail> {
         StepFault::AlreadyExited,
         StepFault::SerialsSpent,
         StepFault::NothingToRetry,
+        StepFault::HoldsLock,
         StepFault::CallsSpent,
         StepFault::Memory,
     ] {
@@ -521,7 +651,8 @@ fn show_faults(alloc: Global) -> Result<String, Fail> {
 #[test]
 fn names_its_faults(rt: HostRuntime) -> Result<(), Fail> {
     let text = show_faults(rt.alloc())?;
-    let said = "no_such_process already_exited serials_spent nothing_to_retry calls_spent memory ";
+    let said =
+        "no_such_process already_exited serials_spent nothing_to_retry holds_lock calls_spent memory ";
     assert_eq!(rt; text.as_str(), said);
     Ok(())
 }

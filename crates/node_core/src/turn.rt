@@ -24,7 +24,7 @@ impl Model for Turn {
 
 impl Turn {
     ghost use Rattle.term.specs.NodeSets.{IsNodeSet};
-    ghost use Rattle.node_core.specs.Made.{nothing, sent, sent_all, entered, answered};
+    ghost use Rattle.node_core.specs.Made.{nothing, sent, SendsAll, entered, answered};
 
     /// Nothing is made yet.
     pub(crate) fn begin(alloc: Global) -> Self
@@ -47,11 +47,11 @@ impl Turn {
 
     /// A letter to each of these nodes, in their order.
     pub(crate) fn send_all(&mut self, nodes: &NodeSet, letter: &Letter) -> Result<(), AllocError>
-        ensures letters { OnOk result (self.new ≡ sent_all nodes.now letter.now self.old) }
+        ensures letters { OnOk result (SendsAll nodes.now letter.now self.old self.new) }
         ensures set { IsNodeSet nodes.now }
     {
         for node in nodes.as_slice() {
-            self.send(node.copy(), letter.copy())?;
+            self.send(node.copy(), letter.copy()?)?;
         }
         Ok(())
     }

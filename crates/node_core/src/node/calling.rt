@@ -1,25 +1,26 @@
 //! What a node does with a call, and with the exit of a process.
 use crate::events::{Call, Entry, Letter, Look, Reply, StepFault};
 use crate::name_list::NameList;
-use crate::node::NodeCore;
+use crate::node::{NodeCore, Phase};
 use crate::turn::Turn;
 use lock_calls::{CallPhase, LockCall};
 use name_table::Names;
-use std::alloc::AllocError;
-use term::{LockId, Pid, Resource};
+use std::alloc::{AllocError, Global};
+use term::{LockId, NodeName, Pid, Resource};
 use transaction::{NameCall, Nodes, Op, Retries};
 
-impl<N: Names> NodeCore<N> {
-    ghost use Rattle.std.specs.Prelude.{◌≡◌, ◌+◌, false, ◌==◌, None, Some, [], ◌∷◌, OnOk, IfOk, IfErr};
+impl<N: Names<Memory = Global>> NodeCore<N> {
+    ghost use Rattle.std.specs.Prelude.{◌≡◌, ◌+◌, false, ◌==◌, true, None, Some, [], ◌∷◌, OnOk, IfOk, IfErr};
     ghost use Rattle.registry_model.specs.Process.{Text};
     ghost use Rattle.registry_model.specs.Call.{seen_in};
     ghost use Rattle.registry_model.specs.History.{Entry as AnyEntry};
     ghost use Rattle.protocol_model.specs.Node.{Op as AnyOp, Retries as AnyRetries};
-    ghost use Rattle.protocol_model.specs.Event.{Call as AnyCall, last_u32, calls_spent, lock_causes, call_causes, first_cause, names_members};
+    ghost use Rattle.protocol_model.specs.Event.{Call as AnyCall, last_u32, calls_spent, lock_causes, call_causes, first_cause, names_members, has_joined};
     ghost use Rattle.protocol_model.specs.Watch.{next_serial};
     ghost use Rattle.protocol_model.specs.Turn.{counted, enter as entering};
     ghost use Rattle.protocol_model.specs.Calling.{spawned, looked, queued, die, call as called};
     ghost use Rattle.lock_calls.specs.declared.call.CallPhase.TheVariants.{Waiting};
+    ghost use Rattle.term.specs.NodeSets.{set_of};
     ghost use Rattle.transaction.specs.Ops.{name_call_of};
     ghost use Rattle.transaction.specs.Calls.{target_of};
     ghost use Rattle.node_core.specs.declared.events.Call.TheVariants.{Spawn};
@@ -27,7 +28,7 @@ impl<N: Names> NodeCore<N> {
     ghost use Rattle.node_core.specs.declared.events.StepFault.TheVariants.{Memory};
     ghost use Rattle.node_core.specs.Made.{Made};
     ghost use Rattle.node_core.specs.Seen.{node_of, call_of, look_of, reply_of};
-    ghost use Rattle.node_core.specs.Steps.{Keeps, Makes, refusal_of, cause_of};
+    ghost use Rattle.node_core.specs.Steps.{Keeps, Makes, IsAskedWithin, refusal_of, cause_of};
 
     /// Why a call is refused, if it is.
     pub(super) fn call_refusal(&self, call: &Call) -> Option<StepFault>
@@ -39,7 +40,18 @@ impl<N: Names> NodeCore<N> {
             Call::Register(..) | Call::ReRegister(..) | Call::Unregister(_) => self.calls_spent(),
             Call::SetLock(holder, id, nodes, _) => self.set_refusal(holder, id, nodes),
             Call::DelLock(holder, id, _) => self.lock_refusal(holder, id).or(self.calls_spent()),
+            Call::Join(_) if self.has_joined() => Some(StepFault::AlreadyJoined),
+            Call::Join(_) => self.calls_spent(),
         }
+    }
+
+    /// Whether the node is joined, or has a join that isn't answered.
+    fn has_joined(&self) -> bool
+        ensures { result ≡ has_joined (node_of self.now) }
+    {
+        self.joined
+            || self.is_at_work() && matches!(self.phase, Phase::Joining(..))
+            || self.registrar.has_join()
     }
 
     /// Where the node has given its last number, the next call is refused.
@@ -171,10 +183,25 @@ impl<N: Names> NodeCore<N> {
         self.registrar.enqueue(Op::Name(number, name_call))
     }
 
+    /// A join is numbered, and goes to the back of the queue. One by a stranger is passed over.
+    fn enqueue_join(&mut self, contact: &NodeName) -> Result<(), AllocError>
+        requires { (self.old.last_call == last_u32) ≡ false }
+        ensures turn { (made : Made) → set_of self.old.world contact.now ≡ true
+            → OnOk result (Makes (λ n a u. queued n a (AnyOp.Join (u.node.last_call + 1) contact.now) (counted u)) self.old made self.new made) }
+        ensures kept { Keeps self.old self.new }
+    {
+        if !self.world.contains(contact) {
+            return Ok(());
+        }
+        let number = self.next_call();
+        self.registrar.enqueue(Op::Join(number, contact.copy()))
+    }
+
     /// What a call does that isn't refused.
     pub(super) fn call(&mut self, turn: &mut Turn, call: &Call) -> Result<(), StepFault>
         requires { refusal_of (Calls call.now) self.old ≡ None }
-        ensures turn { OnOk result (Makes (λ n a u. called n a (u.node.last_call + 1) (call_of call.now) u) self.old turn.old self.new turn.new) }
+        ensures turn { IsAskedWithin self.old.world call.now
+            → OnOk result (Makes (λ n a u. called n a (u.node.last_call + 1) (call_of call.now) u) self.old turn.old self.new turn.new) }
         ensures memory { IfErr result (λ fault. fault ≡ Memory) }
         ensures kept { Keeps self.old self.new }
     {
@@ -197,6 +224,7 @@ impl<N: Names> NodeCore<N> {
                 let call = self.new_call(holder, id, nodes, Retries::Times(0));
                 self.delete_lock(turn, call)?
             }
+            Call::Join(contact) => self.enqueue_join(contact)?,
         }
         Ok(())
     }

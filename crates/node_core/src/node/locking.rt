@@ -6,11 +6,11 @@ use boss_order::{boss, common};
 use lock_calls::{CallPhase, LockCall};
 use locker::{Ending, Round};
 use name_table::Names;
-use std::alloc::AllocError;
+use std::alloc::{AllocError, Global};
 use term::{NodeName, NodeSet, Pid};
 use transaction::Nodes;
 
-impl<N: Names> NodeCore<N> {
+impl<N: Names<Memory = Global>> NodeCore<N> {
     ghost use Rattle.std.specs.Prelude.{◌≡◌, ℕ, ◌<◌, length, IfSome, OnOk};
     ghost use Rattle.std.specs.Option.{option_map};
     ghost use Rattle.protocol_model.specs.Node.{targets, call_of};
@@ -24,11 +24,11 @@ impl<N: Names> NodeCore<N> {
     ghost use Rattle.transaction.specs.Calls.{target_of};
     ghost use Rattle.node_core.specs.Held.{IsWithin, IsCallWithin, IsOwnCall};
     ghost use Rattle.node_core.specs.Locking.{retry_of};
-    ghost use Rattle.node_core.specs.Seen.{letter_of};
+    ghost use Rattle.node_core.specs.Letters.{letter_of};
     ghost use Rattle.node_core.specs.Steps.{Keeps, Makes};
 
     /// The call of a process, if it has one. It takes no memory.
-    fn lock_call(&self, holder: &Pid) -> Option<LockCall>
+    pub(super) fn lock_call(&self, holder: &Pid) -> Option<LockCall>
         ensures call { option_map as_call result ≡ call_of holder.now (calls_seen self.now.calls) }
         ensures own { IfSome result (IsOwnCall self.now) }
         ensures within { IfSome result (λ call. IsCallWithin self.now.world (as_call call).phase) }
@@ -132,7 +132,7 @@ impl<N: Names> NodeCore<N> {
     }
 
     /// The round of the call stands so now, and ends where it is over.
-    fn go_on_lock(
+    pub(super) fn go_on_lock(
         &mut self,
         turn: &mut Turn,
         mut call: LockCall,

@@ -11,7 +11,7 @@ use crate::turn::Turn;
 use exit_watch::Watch;
 use lock_table::Verdict;
 use name_table::{Change, Names};
-use std::alloc::AllocError;
+use std::alloc::{AllocError, Global};
 use term::{LockId, NodeName, Pid};
 
 /// Whether the lock table grants.
@@ -34,16 +34,19 @@ fn note_change(watch: &mut Watch, change: &Change) -> Result<(), AllocError>
     Ok(())
 }
 
-impl<N: Names> NodeCore<N> {
+impl<N: Names<Memory = Global>> NodeCore<N> {
     ghost use Rattle.std.specs.Prelude.{ℕ};
     ghost use Rattle.protocol_model.specs.LockTable.{is_free_for};
     ghost use Rattle.protocol_model.specs.Letter.{Letter as AnyLetter};
-    ghost use Rattle.protocol_model.specs.Node.{wrote};
+    ghost use Rattle.protocol_model.specs.Node.{unless_told, wrote};
     ghost use Rattle.protocol_model.specs.Turn.{send, with_replica};
     ghost use Rattle.protocol_model.specs.Reading.{judge, hear, take_back, read, receive};
     ghost use Rattle.lock_table.specs.Ids.{id_of};
-    ghost use Rattle.node_core.specs.Seen.{letter_of};
-    ghost use Rattle.node_core.specs.Steps.{Keeps, Makes};
+    ghost use Rattle.term.specs.NodeSets.{set_of};
+    ghost use Rattle.node_core.specs.Letters.{letter_of};
+    ghost use Rattle.node_core.specs.Made.{Made};
+    ghost use Rattle.node_core.specs.Seen.{unnumbered};
+    ghost use Rattle.node_core.specs.Steps.{IsSaidBy, Keeps, Makes};
 
     /// The lock table answers a node that asks for a grant.
     fn judge(
@@ -53,8 +56,8 @@ impl<N: Names> NodeCore<N> {
         id: &LockId,
         holder: &Pid,
     ) -> Result<(), AllocError>
-        ensures turn { (number : ℕ → ℕ) → OnOk result
-            (Makes (λ n a u. judge n a number from.now (id_of id.now) holder.now (is_free_for (id_of id.now) holder.now u.node.locks) u) self.old turn.old self.new turn.new) }
+        ensures turn { OnOk result
+            (Makes (λ n a u. judge n a unnumbered from.now (id_of id.now) holder.now (is_free_for (id_of id.now) holder.now u.node.locks) u) self.old turn.old self.new turn.new) }
         ensures kept { Keeps self.old self.new }
     {
         let verdict = self.locks.ask(id.copy(), holder.copy())?;
@@ -73,7 +76,7 @@ impl<N: Names> NodeCore<N> {
         holder: &Pid,
         granted: bool,
     ) -> Result<(), AllocError>
-        ensures turn { (number : ℕ → ℕ) → OnOk result (Makes (λ n a. hear n a number from.now holder.now granted) self.old turn.old self.new turn.new) }
+        ensures turn { OnOk result (Makes (λ n a. hear n a unnumbered from.now holder.now granted) self.old turn.old self.new turn.new) }
         ensures kept { Keeps self.old self.new }
     {
         if *holder != self.registrar_pid() {
@@ -91,7 +94,7 @@ impl<N: Names> NodeCore<N> {
         holder: &Pid,
         ack: bool,
     ) -> Result<(), AllocError>
-        ensures turn { (number : ℕ → ℕ) → OnOk result (Makes (λ n a. take_back n a number from.now (id_of id.now) holder.now ack) self.old turn.old self.new turn.new) }
+        ensures turn { OnOk result (Makes (λ n a. take_back n a unnumbered from.now (id_of id.now) holder.now ack) self.old turn.old self.new turn.new) }
         ensures kept { Keeps self.old self.new }
     {
         self.locks.give_back(id, holder);
@@ -101,19 +104,41 @@ impl<N: Names> NodeCore<N> {
         Ok(())
     }
 
-    /// A change is written, and acknowledged.
-    fn apply(&mut self, turn: &mut Turn, from: &NodeName, change: Change) -> Result<(), AllocError>
-        ensures turn { OnOk result (Makes (λ n a u. send from.now AnyLetter.Applied (with_replica (wrote (change_of change)) u)) self.old turn.old self.new turn.new) }
+    /// A put whose owner's node is told to have left removes the name instead; all else is written as it stands.
+    fn unless_told(&self, change: &Change) -> Change
+        ensures { change_of result ≡ unless_told (set_of self.now.told) (change_of change.now) }
+    {
+        match change {
+            Change::Put(name, owner) if self.told.contains(&owner.node) => {
+                Change::Remove(name.copy())
+            }
+            _ => change.copy(),
+        }
+    }
+
+    /// A change is written.
+    pub(super) fn write_change(&mut self, change: &Change) -> Result<(), AllocError>
+        ensures turn { (made : Made) → OnOk result (Makes (λ n a. with_replica (wrote (change_of change.now))) self.old made self.new made) }
         ensures kept { Keeps self.old self.new }
     {
+        let change = self.unless_told(change);
         note_change(&mut self.watch, &change)?;
-        self.table.write(change)?;
+        self.table.write(change)
+    }
+
+    /// A change is written, and acknowledged.
+    fn apply(&mut self, turn: &mut Turn, from: &NodeName, change: &Change) -> Result<(), AllocError>
+        ensures turn { OnOk result (Makes (λ n a u. send from.now AnyLetter.Applied (with_replica (wrote (change_of change.now)) u)) self.old turn.old self.new turn.new) }
+        ensures kept { Keeps self.old self.new }
+    {
+        self.write_change(change)?;
         turn.send(from.copy(), Letter::Applied)
     }
 
     /// What the node does with a letter.
     fn read(&mut self, turn: &mut Turn, from: &NodeName, letter: &Letter) -> Result<(), AllocError>
-        ensures turn { (number : ℕ → ℕ) → OnOk result (Makes (λ n a. read n a number from.now (letter_of letter.now)) self.old turn.old self.new turn.new) }
+        ensures turn { IsSaidBy self.old.world self.old.name from.now letter.now
+            → OnOk result (Makes (λ n a. read n a unnumbered from.now (letter_of letter.now)) self.old turn.old self.new turn.new) }
         ensures kept { Keeps self.old self.new }
     {
         match letter {
@@ -125,22 +150,31 @@ impl<N: Names> NodeCore<N> {
                 self.locks.drop_holder(holder);
                 Ok(())
             }
-            Letter::Apply(change) => self.apply(turn, from, change.copy()),
+            Letter::Apply(change) => self.apply(turn, from, change),
             Letter::Applied => self.await_less(turn, from),
+            Letter::JoinAsk(pairs) => self.asked_to_admit(turn, from, pairs),
+            Letter::JoinRefused => self.refused_join(turn, from),
+            Letter::Admit(admission) => self.admit_joiner(turn, from, admission),
+            Letter::Welcome(welcome) => self.welcome(turn, from, welcome),
+            Letter::Down => self.bereave(turn, from),
         }
     }
 
-    /// A letter is read, and then the registrar starts what is next.
+    /// A letter is read, and then the registrar starts what is next. One from a node that is told to have left is dropped
+    /// unread, but for `Down`.
     pub(super) fn receive(
         &mut self,
         turn: &mut Turn,
         from: &NodeName,
         letter: &Letter,
     ) -> Result<(), AllocError>
-        ensures turn { (number : ℕ → ℕ) → OnOk result (Makes (λ n a. receive n a number from.now (letter_of letter.now)) self.old turn.old self.new turn.new) }
+        ensures turn { IsSaidBy self.old.world self.old.name from.now letter.now
+            → OnOk result (Makes (λ n a. receive n a unnumbered from.now (letter_of letter.now)) self.old turn.old self.new turn.new) }
         ensures kept { Keeps self.old self.new }
     {
-        self.read(turn, from, letter)?;
+        if !self.told.contains(from) || matches!(letter, Letter::Down) {
+            self.read(turn, from, letter)?;
+        }
         self.start(turn)
     }
 }

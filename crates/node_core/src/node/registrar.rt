@@ -1,26 +1,29 @@
 //! The rules of the registrar, which runs its operations one at a time, each under the global lock.
 use crate::events::{Answer, Entry, Letter, Reply};
+use crate::node::leaving::except;
 use crate::node::{NodeCore, Phase};
 use crate::turn::Turn;
+use exchange::settle;
 use name_table::{Change, Names};
-use std::alloc::AllocError;
+use std::alloc::{AllocError, Global};
 use std::mem;
 use term::{LockId, NodeName, NodeSet, Pid};
 use transaction::{NameCall, Op};
 
-impl<N: Names> NodeCore<N> {
+impl<N: Names<Memory = Global>> NodeCore<N> {
     ghost use Rattle.std.specs.Prelude.{◌≡◌, ℕ, false, Some, OnOk, is_some, IsTrue};
     ghost use Rattle.std.specs.Option.{option_map};
     ghost use Rattle.registry_model.specs.Call.{reply_to};
-    ghost use Rattle.protocol_model.specs.Letter.{Global, Letter as AnyLetter};
-    ghost use Rattle.protocol_model.specs.Registrar.{registrar, give_global, finish, done, write, give_up, await_less};
+    ghost use Rattle.protocol_model.specs.Letter.{Global as GlobalId, Letter as AnyLetter};
+    ghost use Rattle.protocol_model.specs.Registrar.{registrar, give_global, answer_op, finish, done, write, give_up, await_less};
     ghost use Rattle.protocol_model.specs.Deciding.{held};
     ghost use Rattle.term.specs.NodeSets.{set_of};
     ghost use Rattle.name_table.specs.Changes.{change_of};
     ghost use Rattle.transaction.specs.declared.op.Op.TheVariants.{Name as NameOp, Strike};
     ghost use Rattle.transaction.specs.Ops.{name_call_of, op_of};
     ghost use Rattle.node_core.specs.Held.{IsWithin};
-    ghost use Rattle.node_core.specs.Seen.{letter_of, reply_of};
+    ghost use Rattle.node_core.specs.Letters.{letter_of};
+    ghost use Rattle.node_core.specs.Seen.{reply_of, unnumbered};
     ghost use Rattle.node_core.specs.Steps.{Keeps, Makes, Works};
 
     /// The registrar, as the holder of its lock.
@@ -35,14 +38,14 @@ impl<N: Names> NodeCore<N> {
 
     /// Asks for the global lock.
     pub(super) fn set_lock(&self) -> Letter
-        ensures { letter_of result ≡ AnyLetter.SetLock (Global self.now.name) (registrar self.now.name) }
+        ensures { letter_of result ≡ AnyLetter.SetLock (GlobalId self.now.name) (registrar self.now.name) }
     {
         Letter::SetLock(LockId::global(&self.name), self.registrar_pid())
     }
 
     /// Gives the global lock back.
     fn lock_back(&self) -> Letter
-        ensures { letter_of result ≡ AnyLetter.GiveBack (Global self.now.name) (registrar self.now.name) false }
+        ensures { letter_of result ≡ AnyLetter.GiveBack (GlobalId self.now.name) (registrar self.now.name) false }
     {
         Letter::GiveBack(LockId::global(&self.name), self.registrar_pid(), false)
     }
@@ -66,8 +69,18 @@ impl<N: Names> NodeCore<N> {
         }
     }
 
-    /// The current operation is answered, who was asked gets the lock back, and the registrar is free.
-    fn finish(
+    /// The current operation is answered, where it is a name call and has a reply here.
+    fn answer_op(&self, turn: &mut Turn, reply: Option<Reply>) -> Result<(), AllocError>
+        ensures { OnOk result (Works (λ op n a. answer_op n a op (option_map reply_of reply)) self.now turn.old self.now turn.new) }
+    {
+        if let (Some(Op::Name(call, _)), Some(reply)) = (self.registrar.current(), reply) {
+            turn.answer(self.answer(*call, reply))?;
+        }
+        Ok(())
+    }
+
+    /// The current operation is answered, who was asked and hasn't gone down gets the lock back, and the registrar is free.
+    pub(super) fn finish(
         &mut self,
         turn: &mut Turn,
         asked: &NodeSet,
@@ -78,10 +91,8 @@ impl<N: Names> NodeCore<N> {
         ensures turn { OnOk result (Works (λ op n a. finish n a op (set_of asked.now) (option_map reply_of reply)) self.old turn.old self.new turn.new) }
         ensures kept { Keeps self.old self.new }
     {
-        if let (Some(Op::Name(call, _)), Some(reply)) = (self.registrar.current(), reply) {
-            turn.answer(self.answer(*call, reply))?;
-        }
-        self.give_global(turn, asked)?;
+        self.answer_op(turn, reply)?;
+        self.give_global(turn, &except(asked, &self.told))?;
         self.registrar.finish();
         Ok(())
     }
@@ -153,7 +164,7 @@ impl<N: Names> NodeCore<N> {
     ) -> Result<(), AllocError>
         requires current { self.old.registrar.current ≡ Some (NameOp call name_call) }
         requires within { IsWithin self.old.world asked }
-        ensures turn { (number : ℕ → ℕ) → OnOk result (Works (λ op n a. held n a number op (set_of asked)) self.old turn.old self.new turn.new) }
+        ensures turn { OnOk result (Works (λ op n a. held n a unnumbered op (set_of asked)) self.old turn.old self.new turn.new) }
         ensures kept { Keeps self.old self.new }
     {
         let reply = self.reply_to(&name_call);
@@ -170,7 +181,7 @@ impl<N: Names> NodeCore<N> {
     fn strike(&mut self, turn: &mut Turn, asked: NodeSet, process: Pid) -> Result<(), AllocError>
         requires current { self.old.registrar.current ≡ Some (Strike process) }
         requires within { IsWithin self.old.world asked }
-        ensures turn { (number : ℕ → ℕ) → OnOk result (Works (λ op n a. held n a number op (set_of asked)) self.old turn.old self.new turn.new) }
+        ensures turn { OnOk result (Works (λ op n a. held n a unnumbered op (set_of asked)) self.old turn.old self.new turn.new) }
         ensures kept { Keeps self.old self.new }
     {
         turn.enter(Entry::Strike(process.copy()))?;
@@ -180,7 +191,7 @@ impl<N: Names> NodeCore<N> {
     /// The lock is held: the current operation is decided.
     pub(super) fn held(&mut self, turn: &mut Turn, asked: NodeSet) -> Result<(), AllocError>
         requires within { IsWithin self.old.world asked }
-        ensures turn { (number : ℕ → ℕ) → OnOk result (Works (λ op n a. held n a number op (set_of asked)) self.old turn.old self.new turn.new) }
+        ensures turn { OnOk result (Works (λ op n a. held n a unnumbered op (set_of asked)) self.old turn.old self.new turn.new) }
         ensures kept { Keeps self.old self.new }
     {
         match self.registrar.current() {
@@ -192,7 +203,14 @@ impl<N: Names> NodeCore<N> {
                 let process = process.copy();
                 self.strike(turn, asked, process)
             }
-            None => Ok(()),
+            Some(Op::Admission(joiner, pairs)) => {
+                let joiner = joiner.copy();
+                let alloc = *self.entered.allocator();
+                let settled = settle(alloc, &self.table, pairs.as_slice())?;
+                self.decide_admission(turn, asked, joiner, &settled)
+            }
+            // A join has no round.
+            Some(Op::Join(..)) | None => Ok(()),
         }
     }
 
@@ -206,7 +224,7 @@ impl<N: Names> NodeCore<N> {
         self.give_global(turn, granted)
     }
 
-    /// A node has written the change: one less is awaited, and where none is left the operation is done.
+    /// A node has written the change, or has gone down: one less is awaited, and where none is left the operation is done.
     pub(super) fn await_less(&mut self, turn: &mut Turn, from: &NodeName) -> Result<(), AllocError>
         ensures turn { OnOk result (Makes (λ n a u. await_less n a from.now u.node.current u) self.old turn.old self.new turn.new) }
         ensures kept { Keeps self.old self.new }

@@ -1,22 +1,25 @@
 //! The rounds of the registrar: the lock is asked for, first of the boss and then of the rest.
 use crate::events::Letter;
+use crate::node::leaving::except;
 use crate::node::{NodeCore, Phase};
 use crate::turn::Turn;
 use boss_order::boss;
 use locker::{Ending, Round};
 use name_table::Names;
-use std::alloc::AllocError;
+use std::alloc::{AllocError, Global};
 use term::NodeName;
+use transaction::Op;
 
-impl<N: Names> NodeCore<N> {
+impl<N: Names<Memory = Global>> NodeCore<N> {
     ghost use Rattle.std.specs.Prelude.{◌≡◌, ℕ, None, Some, OnOk};
-    ghost use Rattle.protocol_model.specs.Letter.{Global, Letter as AnyLetter};
-    ghost use Rattle.protocol_model.specs.Registrar.{registrar, ask_global, ask_rest, start, retry_global};
+    ghost use Rattle.protocol_model.specs.Letter.{Global as GlobalId, Letter as AnyLetter};
+    ghost use Rattle.protocol_model.specs.Registrar.{registrar, ask_global, ask_rest, start_queue, start, retry_global};
     ghost use Rattle.protocol_model.specs.Deciding.{end_round, hear_answer};
     ghost use Rattle.locker.specs.Held.{Held as HeldRound, seen};
     ghost use Rattle.node_core.specs.declared.node.Phase.TheVariants.{Asking};
     ghost use Rattle.node_core.specs.Held.{IsWithin};
-    ghost use Rattle.node_core.specs.Seen.{letter_of};
+    ghost use Rattle.node_core.specs.Letters.{letter_of};
+    ghost use Rattle.node_core.specs.Seen.{unnumbered};
     ghost use Rattle.node_core.specs.Steps.{Keeps, Makes, Works};
 
     /// A round over the members begins: the boss is asked.
@@ -38,8 +41,29 @@ impl<N: Names> NodeCore<N> {
             return Ok(());
         }
         let owed = self.watch.owes(&self.table);
-        if self.registrar.start(owed) {
-            self.ask_global(turn)?;
+        if owed.is_none() {
+            return self.start_queue(turn);
+        }
+        self.registrar.start(owed);
+        self.ask_global(turn)
+    }
+
+    /// The front of the queue becomes current. A join whose contact has left is answered at once, and the next one's turn comes.
+    fn start_queue(&mut self, turn: &mut Turn) -> Result<(), AllocError>
+        requires { self.old.registrar.current ≡ None }
+        ensures turn { OnOk result (Makes (λ n a u. start_queue n a u.node.queue u) self.old turn.old self.new turn.new) }
+        ensures kept { Keeps self.old self.new }
+    {
+        while self.registrar.start(None) {
+            let Some(Op::Join(number, contact)) = self.registrar.current() else {
+                return self.ask_global(turn);
+            };
+            let (number, contact) = (*number, contact.copy());
+            if !self.told.contains(&contact) {
+                return self.ask_join(turn, number, contact);
+            }
+            self.registrar.finish();
+            self.contact_left(turn, number, contact)?;
         }
         Ok(())
     }
@@ -55,7 +79,7 @@ impl<N: Names> NodeCore<N> {
         Ok(())
     }
 
-    /// The boss's grant sends the same request to the rest.
+    /// The boss's grant sends the same request to the rest, but for those that have gone down.
     pub(super) fn ask_rest(
         &self,
         turn: &mut Turn,
@@ -68,15 +92,15 @@ impl<N: Names> NodeCore<N> {
         ensures { OnOk result (Makes (λ n a. ask_rest n a from.now granted (letter_of request.now) (seen round.now)) self.now turn.old self.now turn.new) }
     {
         if round.opens(from, granted) {
-            turn.send_all(&round.rest(), request)?;
+            turn.send_all(&except(&round.rest(), &self.told), request)?;
         }
         Ok(())
     }
 
     /// The round ends, where it is over.
-    fn end_round(&mut self, turn: &mut Turn) -> Result<(), AllocError>
-        ensures turn { (number : ℕ → ℕ) (round : HeldRound) → self.old.phase ≡ Asking round
-            → OnOk result (Works (λ op n a. end_round n a number op (seen round)) self.old turn.old self.new turn.new) }
+    pub(super) fn end_round(&mut self, turn: &mut Turn) -> Result<(), AllocError>
+        ensures turn { (round : HeldRound) → self.old.phase ≡ Asking round
+            → OnOk result (Works (λ op n a. end_round n a unnumbered op (seen round)) self.old turn.old self.new turn.new) }
         ensures kept { Keeps self.old self.new }
     {
         let Phase::Asking(round) = &self.phase else {
@@ -99,7 +123,7 @@ impl<N: Names> NodeCore<N> {
         from: &NodeName,
         granted: bool,
     ) -> Result<(), AllocError>
-        ensures turn { (number : ℕ → ℕ) → OnOk result (Makes (λ n a u. hear_answer n a number from.now granted u.node.current u) self.old turn.old self.new turn.new) }
+        ensures turn { OnOk result (Makes (λ n a u. hear_answer n a unnumbered from.now granted u.node.current u) self.old turn.old self.new turn.new) }
         ensures kept { Keeps self.old self.new }
     {
         if !self.is_at_work() {

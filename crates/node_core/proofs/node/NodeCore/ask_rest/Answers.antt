@@ -1,8 +1,13 @@
-use Rattle.std.proofs.Common.{sym, ◌∙◌}
+use Rattle.std.proofs.Common.{ap, sym, ◌∙◌}
+use Rattle.std.specs.Prelude.{not, ◌&&◌}
+use Rattle.term.specs.NodeSets.{set_of}
+use Rattle.node_core.specs.Held.{Held}
 use Rattle.node_core.proofs.Rounds.{asks_rest}
 use Rattle.node_core.proofs.node.NodeCore.ask_rest.Goals as goal
 
 pub returns-in_ok-send_all : goal.returns-in_ok-send_all
 returns-in_ok-send_all g c =
-    asks_rest _ _ _ _ _ _ c.rest.result _ c.rest.ensures.set c.requires c.rest.ensures.value c.rest.ensures.protocol
+    asks_rest c.args.self.now c.args.turn.now _ _ _ _ c.rest.result c.except.result _ c.in_ok-send_all.ensures.set
+    c.requires c.rest.ensures.value c.rest.ensures.protocol
+    (λ d. c.except.ensures d ∙ ap (λ (h : Held). set_of c.rest.result d && not (set_of h.told d)) c.self.view_is)
     (sym c.opens.ensures ∙ c.if-opens.true) c.in_ok-send_all.ensures.letters

@@ -1,12 +1,13 @@
-use Rattle.std.proofs.Common.{refl, ap, ◌∙◌}
+use Rattle.std.proofs.Common.{refl, ap, subst, ◌∙◌}
 use Rattle.node_core.specs.declared.events.Call.TheVariants.{Whereis, Register, ReRegister, Unregister}
 use Rattle.node_core.specs.Seen.{call_of}
+use Rattle.node_core.specs.Steps.{IsAskedWithin}
 use Rattle.node_core.proofs.Calls.{calls, sets, deletes}
-use Rattle.node_core.proofs.node.NodeCore.call.Goals.{in-Spawn+in_ok-spawn-in-Spawn, in-Whereis+in_ok-look_up-in-Whereis, in-RegisteredNames+in_ok-look_up-in-RegisteredNames, in-Register+in_ok-enqueue-in-Register, in-ReRegister+in_ok-enqueue-in-ReRegister, in-Unregister+in_ok-enqueue-in-Unregister, in-SetLock+in_ok-try_lock-in-SetLock, in-DelLock+in_ok-delete_lock-in-DelLock}
+use Rattle.node_core.proofs.node.NodeCore.call.Goals.{in-Spawn+in_ok-spawn-in-Spawn, in-Whereis+in_ok-look_up-in-Whereis, in-RegisteredNames+in_ok-look_up-in-RegisteredNames, in-Register+in_ok-enqueue-in-Register, in-ReRegister+in_ok-enqueue-in-ReRegister, in-Unregister+in_ok-enqueue-in-Unregister, in-SetLock+in_ok-try_lock-in-SetLock, in-DelLock+in_ok-delete_lock-in-DelLock, in-Join+in_ok-enqueue_join-in-Join}
 use Rattle.node_core.proofs.node.NodeCore.call.Goals as goal
 
 pub returns-clause-turn : goal.returns-clause-turn
-returns-clause-turn g c =
+returns-clause-turn g c = λ asked.
     elim c.match-call.branch [
       | in-Spawn+in_ok-spawn-in-Spawn w ↦
           calls c.args.call.now _ (ap call_of w.in-Spawn.is) w.self-is w.turn-is w.in_ok-spawn-in-Spawn.ensures.turn
@@ -42,4 +43,8 @@ returns-clause-turn g c =
           w.delete_lock.new.turn w.new_call-call-in-DelLock.result w.in-DelLock.holder w.in-DelLock.id
           w.in-DelLock.nodes _ w.new_call-call-in-DelLock.ensures.state w.new_call-call-in-DelLock.ensures.call
           c.args.call.now w.in-DelLock.is refl c.requires w.in_ok-delete_lock-in-DelLock.ensures.turn)
+      | in-Join+in_ok-enqueue_join-in-Join w ↦
+          calls c.args.call.now _ (ap call_of w.in-Join.is) w.self-is w.turn-is
+          (w.in_ok-enqueue_join-in-Join.ensures.turn c.args.turn.now
+          (subst (IsAskedWithin c.args.self.now.world) w.in-Join.is asked))
     ]

@@ -6,6 +6,7 @@ use Rattle.term.specs.NodeSets.{set_of}
 use Rattle.locker.specs.Held.{seen}
 use Rattle.locker.specs.Ends.{EndsAs}
 use Rattle.node_core.specs.Held.{Held, IsWhole}
+use Rattle.node_core.specs.Seen.{unnumbered}
 use Rattle.node_core.proofs.Rounds.{goes_on, ends_held, ends_failed, granted_within, round_within}
 use Rattle.node_core.proofs.node.NodeCore.end_round.Goals as goal
 
@@ -14,7 +15,7 @@ returns-then-not-is_over-clause-turn g c =
     let whole : IsWhole c.args.self.now = subst (λ (h : Held). IsWhole h) c.self.view_is c.self.invariant in
     goes_on c.args.self.now c.args.self.now c.args.turn.now c.in-Asking.round c.is_over.result refl
     (ap (λ (h : Held). h.phase) (sym c.self.view_is) ∙ c.in-Asking.is) whole.phase c.is_over.ensures.protocol
-    c.if-not-is_over.true
+    c.if-not-is_over.true unnumbered
 
 pub give_up-requires : goal.give_up-requires
 give_up-requires g c =
@@ -28,7 +29,7 @@ give_up-requires g c =
     }
 
 pub returns-in-Held-clause-turn : goal.returns-in-Held-clause-turn
-returns-in-Held-clause-turn g c = λ number round is.
+returns-in-Held-clause-turn g c = λ round is.
     let whole : IsWhole c.args.self.now = subst (λ (h : Held). IsWhole h) c.self.view_is c.self.invariant in
     on_ok_weaker c.held.result
     (λ w. ends_held c.args.self.now c.args.self.now c.args.turn.now c.in-Asking.round c.is_over.result refl
@@ -38,11 +39,11 @@ returns-in-Held-clause-turn g c = λ number round is.
     → EndsAs c.finish.result (ending n (set_of h.members) (seen c.in-Asking.round))) c.self.view_is
     c.finish.ensures.protocol)
     c.held.new.self c.held.new.turn c.asked-asked.result c.if-not-is_over.false c.in-Held.is
-    c.asked-asked.ensures.protocol number w round is)
-    (c.held.ensures.turn number)
+    c.asked-asked.ensures.protocol unnumbered w round is)
+    c.held.ensures.turn
 
 pub returns-in-GiveBack-clause-turn : goal.returns-in-GiveBack-clause-turn
-returns-in-GiveBack-clause-turn g c = λ number round is.
+returns-in-GiveBack-clause-turn g c = λ round is.
     let whole : IsWhole c.args.self.now = subst (λ (h : Held). IsWhole h) c.self.view_is c.self.invariant in
     on_ok_weaker c.give_up.result
     (λ w. ends_failed c.args.self.now c.args.self.now c.args.turn.now c.in-Asking.round c.is_over.result refl
@@ -51,6 +52,6 @@ returns-in-GiveBack-clause-turn g c = λ number round is.
     (subst (λ (h : Held). (n : ℕ) → All (λ d. d < n) c.in-Asking.round.nodes → All (λ d. d < n) h.members
     → EndsAs c.finish.result (ending n (set_of h.members) (seen c.in-Asking.round))) c.self.view_is
     c.finish.ensures.protocol)
-    c.give_up.new.self c.give_up.new.turn c.in-GiveBack.granted c.if-not-is_over.false c.in-GiveBack.is number w round
-    is)
+    c.give_up.new.self c.give_up.new.turn c.in-GiveBack.granted c.if-not-is_over.false c.in-GiveBack.is unnumbered w
+    round is)
     c.give_up.ensures.turn

@@ -6,17 +6,17 @@ use Rattle.protocol_model.specs.Registrar.{ask_rest}
 use Rattle.locker.specs.Held.{Held as HeldRound, seen}
 use Rattle.node_core.specs.declared.node.Phase.TheVariants.{Asking}
 use Rattle.node_core.specs.Held.{Held, bound_of}
-use Rattle.node_core.specs.Seen.{turn_of}
+use Rattle.node_core.specs.Seen.{unnumbered, turn_of}
 use Rattle.node_core.proofs.Locking.{made_as}
 use Rattle.node_core.proofs.Rounds.{hears, one_round}
 use Rattle.node_core.proofs.node.NodeCore.hear_answer.Goals as goal
 
 pub returns-clause-turn : goal.returns-clause-turn
-returns-clause-turn g c = λ number.
+returns-clause-turn g c =
     on_ok_weaker c.end_round.result
     (λ w. hears c.args.self.now _ c.end_round.new.self c.args.turn.now c.ask_rest.new.turn c.end_round.new.turn
     c.in-Asking.round c.answer.new.self c.args.from.now
-    c.args.granted number (ap (λ (h : Held). h.phase) (sym c.self.view_is) ∙ c.in-Asking.is)
+    c.args.granted unnumbered (ap (λ (h : Held). h.phase) (sym c.self.view_is) ∙ c.in-Asking.is)
     (sym c.owes.ensures ∙ c.if-not-owes.false)
     (sym c.is_at_work.ensures ∙ c.if-not-is_at_work.false) (made_as c.in_ok-ask_rest.ensures
     (ap (λ (l : AnyLetter). ask_rest (bound_of c.args.self.now.world) c.args.self.now.name c.args.from.now
@@ -24,4 +24,4 @@ returns-clause-turn g c = λ number.
     (c.answer.ensures.protocol ∙ ap (λ (r : HeldRound). answer c.args.from.now c.args.granted (seen r))
     (one_round c.self.inside.phase c.in-Asking-phase.round c.in-Asking.round c.in-Asking-phase.is c.in-Asking.is))
     (ap (λ (h : Held). record h { phase = Asking c.answer.new.self }) c.self.view_is) w)
-    (c.end_round.ensures.turn number c.answer.new.self refl)
+    (c.end_round.ensures.turn c.answer.new.self refl)

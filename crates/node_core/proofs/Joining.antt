@@ -1,0 +1,404 @@
+-- The rules of joins, one by one.
+use Rattle.std.proofs.Common.{ℕ, Bool, true, false, ◌==◌, ◌≡◌, ◌<◌, ◌≤◌, ◌+◌, Option, Some, None, List, [], ◌∷◌, ◌++◌, length, get_or, take, arith, refl, sym, ap, ◌∙◌, subst}
+use Rattle.std.specs.Prelude.{not, ◌&&◌, ◌||◌, if◌then◌else◌, filter}
+use Rattle.std.proofs.Math.Path.{fun_ext}
+use Rattle.std.proofs.lemmas.Bool.{eq-eqb, eqb-true}
+use Rattle.std.specs.List.Sorted.{IsStrictlyIncreasing}
+use Rattle.std.proofs.lemmas.List.{map-append}
+use Rattle.std.proofs.lemmas.List.Sums.{length-filter, count_by-le-length}
+use Rattle.std.proofs.lemmas.Grind.{take_at_read, fold-append}
+use Rattle.registry_model.specs.Process.{Text, Process, Nodes, with_node}
+use Rattle.registry_model.specs.Table.{Pair, Table, Put, put_all, without, is_rising}
+use Rattle.registry_model.specs.Call.{Joined}
+use Rattle.registry_model.specs.Registry.{Replica}
+use Rattle.registry_model.specs.Settlement.{Settled, settle}
+use Rattle.registry_model.specs.History.{Entry as AnyEntry}
+use Rattle.protocol_model.specs.Event.{Answer as AnyAnswer}
+use Rattle.protocol_model.specs.Letter.{Letter as AnyLetter}
+use Rattle.protocol_model.specs.Node.{Node, Op as AnyOp, Current, LockCall, drop_call, wrote}
+use Rattle.protocol_model.specs.Watch.{Watch as AnyWatch, is_live, with_dead}
+use Rattle.protocol_model.specs.Turn.{Turn, become, with_replica, at_work, send, send_all, enter, reply_with}
+use Rattle.protocol_model.specs.Calling.{die, kill}
+use Rattle.protocol_model.specs.Reading.{welcomed, welcome}
+use Rattle.protocol_model.specs.Deciding.{held}
+use Rattle.term.specs.NodeSets.{IsNodeSet, set_of, without_node, with_node as and_node, most_nodes}
+use Rattle.term.proofs.NodeSets.{set_of-with_node}
+use Rattle.term.proofs.NodeLists.{rising-with_node}
+use Rattle.boss_order.proofs.Sets.{set_of-filter, nodes_of-set_of, nodes_of-within}
+use Rattle.exit_watch.specs.Held.{Held as Watch, with_killed, AreSuspected}
+use Rattle.lock_calls.specs.Held.{Held as LockCalls, seen}
+use Rattle.transaction.specs.declared.op.Op.{Op}
+use Rattle.transaction.specs.Ops.{op_of}
+use Rattle.transaction.specs.Work.{Work}
+use Rattle.exchange.specs.declared.bodies.Welcome.{Welcome}
+use Rattle.node_core.specs.declared.events.Answer.{Answer}
+use Rattle.node_core.specs.declared.events.Entry.TheVariants.{Joined as HasJoined}
+use Rattle.node_core.specs.declared.events.Letter.{Letter}
+use Rattle.node_core.specs.declared.events.Letter.TheVariants.{ReleaseOf, Applied}
+use Rattle.node_core.specs.declared.events.Reply.TheVariants.{Joined as IsJoined}
+use Rattle.node_core.specs.declared.node.Phase.TheVariants.{Writing}
+use Rattle.node_core.specs.Made.{Made, sent, SendsAll, entered, answered}
+use Rattle.node_core.specs.Held.{Held, IsWhole, IsWithin, bound_of}
+use Rattle.node_core.specs.Joining.{join_by, let_in, admission_held, kill_one, put_names, IsWelcomeTo}
+use Rattle.node_core.specs.Letters.{letter_of}
+use Rattle.node_core.specs.Seen.{node_of, turn_of, answer_of, reply_of, current_of, unnumbered}
+use Rattle.node_core.specs.Steps.{Makes, Works}
+use Rattle.node_core.proofs.Sends.{sent_is, sent_all_is, all_below}
+use Rattle.node_core.proofs.Rules.{followed, entered_is, current_is}
+use Rattle.node_core.proofs.Rounds.{first_passes}
+use Rattle.node_core.proofs.Locking.{made_as}
+use Rattle.node_core.proofs.Gone.{told_is}
+
+-- an answer more
+answered_is : (h : Held) (t : Made) (s : Answer)
+    → turn_of h (answered s t) ≡ reply_with s.node s.call (reply_of s.reply) (turn_of h t)
+answered_is h t s = ap (λ (ss : List AnyAnswer). record (turn_of h t) { answers = ss })
+    (map-append answer_of t.answers (s ∷ []))
+
+-- a process that lives here dies, and every member is to release its locks
+pub kills_one : (h k : Held) (w : Watch) (cs : LockCalls) (t u : Made) (p r : Process) (lived : Bool) → IsWhole k
+    → k ≡ h → IsNodeSet k.members → lived ≡ true → lived ≡ is_live k.watch.node k.watch.watch p
+    → w.watch ≡ with_killed k.watch.node p k.watch.watch → seen cs ≡ drop_call p (seen k.calls) → r ≡ p
+    → SendsAll k.members (ReleaseOf r) t u → Makes (λ n a. kill_one n a p) h t (record k { watch = w; calls = cs }) u
+kills_one h k w cs t u p r lived whole same set is_so lived_is killed dropped releasing sends =
+    subst (λ (x : Held). Makes (λ n a. kill_one n a p) x t after u) same (record {
+      name = refl;
+      world = refl;
+      turn = sent_all_is after t u k.members (ReleaseOf p)
+          (subst (λ (x : Process). SendsAll k.members (ReleaseOf x) t u) releasing sends) set whole.members
+          ∙ ap (λ (x : Turn). send_all n (set_of k.members) (AnyLetter.ReleaseOf p) x)
+          (ap (λ (x : AnyWatch). known x (seen cs)) dead ∙ ap (known (with_dead p.serial k.watch.watch)) dropped)
+          ∙ ap (λ (b : Bool). if b then die n k.name p (turn_of k t) else turn_of k t) (sym live);
+    })
+  where
+    n : ℕ
+    n = bound_of k.world
+
+    after : Held
+    after = record k { watch = w; calls = cs }
+
+    known : AnyWatch → List LockCall → Turn
+    known x ds = record (turn_of k t) { node = record (turn_of k t).node { watch = x; calls = ds } }
+
+    dead : w.watch ≡ with_dead p.serial k.watch.watch
+    dead = killed ∙ ap (λ (b : Bool). if b then with_dead p.serial k.watch.watch else k.watch.watch)
+        (sym lived_is ∙ is_so)
+
+    live : is_live k.name k.watch.watch p ≡ true
+    live = ap (λ (a : ℕ). is_live a k.watch.watch p) (sym whole.watch) ∙ sym lived_is ∙ is_so
+
+-- one pair more is put
+pub puts_next : (h k m : Held) (t : Made) (pairs : Table) (i : ℕ) (e d : Pair) (x : Text) (p : Process)
+    → i < length pairs → e ≡ get_or pairs i e → d ≡ e → x ≡ d.name → p ≡ d.owner
+    → Makes (λ n a. with_replica (put_names (take i pairs))) h t k t
+    → Makes (λ n a. with_replica (wrote (Put x p))) k t m t
+    → Makes (λ n a. with_replica (put_names (take (i + 1) pairs))) h t m t
+puts_next h k m t pairs i e d x p l is same named owned before next =
+    made_as (followed before next) (ap (λ (v : Replica). become (record node { replica = v }) (turn_of h t))
+    (ap (λ (y : Text). wrote (Put y p) (first node.replica)) (named ∙ ap (λ (f : Pair). f.name) same)
+    ∙ ap (λ (q : Process). wrote (Put e.name q) (first node.replica)) (owned ∙ ap (λ (f : Pair). f.owner) same)
+    ∙ sym (fold-append write node.replica (take i pairs) (e ∷ []))
+    ∙ ap (λ (ps : Table). put_names ps node.replica) (ap (λ (f : Pair). take i pairs ++ f ∷ []) is
+    ∙ sym (take_at_read pairs i e l).1)))
+  where
+    node : Node
+    node = node_of h
+
+    first : Replica → Replica
+    first = put_names (take i pairs)
+
+    write : Replica → Pair → Replica
+    write v f = wrote (Put f.name f.owner) v
+
+-- h is the node, which is told by its welcome of members and of nodes that have left. either: those that one of the two
+-- was told of; told: these without the node itself; rest: the members that haven't left
+module _ (h : Held) (body : Welcome) (either told rest members : List ℕ) (table : Table) (v : Watch) (whole : IsWhole h)
+    (both : (c : ℕ) → set_of either c ≡ (set_of h.world c && (set_of h.told c || set_of body.told c)))
+    (less : told ≡ without_node either h.name)
+    (stay : (c : ℕ) → set_of rest c ≡ (set_of body.members c && not (set_of told c)))
+    (are : (c : ℕ) → set_of members c ≡ (set_of h.world c && (set_of rest c || (c == h.name)))) where
+  -- the node once it has moved in
+  abbrev moved : Held
+  moved = record h { members = members; told = told; joined = true; table = table; watch = v }
+
+  -- all of whom it is told
+  told_at : (c : ℕ) → set_of told c
+      ≡ ((set_of h.world c && (set_of h.told c || set_of body.told c)) && not (c == h.name))
+  told_at c = ap (λ (xs : List ℕ). set_of xs c) less ∙ set_of-filter (λ m. not (m == h.name)) either c
+      ∙ ap (λ (b : Bool). b && not (c == h.name)) (both c)
+
+  pub whole_moved : v.node ≡ h.watch.node → AreSuspected v table → IsWhole moved
+  whole_moved node suspected = record {
+    self = are h.name ∙ own (set_of h.world h.name) (set_of rest h.name) (h.name == h.name)
+        (whole.members h.name whole.self) (eq-eqb h.name h.name refl);
+    members = λ c e. first_passes (set_of h.world c) (set_of rest c || (c == h.name)) (sym (are c) ∙ e);
+    told = λ c e. first_passes (set_of h.world c) (set_of h.told c || set_of body.told c)
+        (first_passes (set_of h.world c && (set_of h.told c || set_of body.told c)) (not (c == h.name))
+        (sym (told_at c) ∙ e));
+    here = told_at h.name ∙ none (set_of h.world h.name && (set_of h.told h.name || set_of body.told h.name))
+        (h.name == h.name) (eq-eqb h.name h.name refl);
+    queue = whole.queue;
+    current = whole.current;
+    awaited = whole.awaited;
+    phase = whole.phase;
+    watch = node ∙ whole.watch;
+    suspected = suspected;
+    calls = whole.calls;
+    called = whole.called;
+  }
+    where
+      own : (w r e : Bool) → w ≡ true → e ≡ true → (w && (r || e)) ≡ true
+      own true true true p q = refl
+      own true false true p q = refl
+      own w r false p q = cc
+      own false r e p q = cc
+
+      none : (b e : Bool) → e ≡ true → (b && not e) ≡ false
+      none true true p = refl
+      none false true p = refl
+      none b false p = cc
+
+  -- the body is a welcome to the node
+  module _ (to : IsWelcomeTo h.world h.name body) where
+    told_are : set_of told ≡ (λ c. set_of h.told c || set_of body.told c)
+    told_are = fun_ext (λ c. told_at c ∙ go c (c == h.name) refl)
+      where
+        within : (w g t : Bool) → (g ≡ true → w ≡ true) → (t ≡ true → w ≡ true) → ((w && (g || t)) && true) ≡ (g || t)
+        within true true t p q = refl
+        within true false true p q = refl
+        within true false false p q = refl
+        within false false false p q = refl
+        within false true t p q = absurd (cc (p refl))
+        within false false true p q = absurd (cc (q refl))
+
+        never : (w g t : Bool) → g ≡ false → t ≡ false → ((w && (g || t)) && false) ≡ (g || t)
+        never true false false p q = refl
+        never false false false p q = refl
+        never w true t p q = cc
+        never w false true p q = cc
+
+        go : (c : ℕ) (b : Bool) → (c == h.name) ≡ b
+            → ((set_of h.world c && (set_of h.told c || set_of body.told c)) && not b)
+            ≡ (set_of h.told c || set_of body.told c)
+        go c false e = within (set_of h.world c) (set_of h.told c) (set_of body.told c) (whole.told c) (to.told c)
+        go c true e = never (set_of h.world c) (set_of h.told c) (set_of body.told c)
+            (ap (set_of h.told) (eqb-true c h.name e) ∙ whole.here)
+            (ap (set_of body.told) (eqb-true c h.name e) ∙ to.here)
+
+    members_are : set_of members ≡ (λ c. set_of body.members c && not (set_of told c))
+    members_are = fun_ext (λ c. are c ∙ ap (λ (b : Bool). set_of h.world c && (b || (c == h.name))) (stay c)
+        ∙ go c (c == h.name) refl)
+      where
+        within : (w m t : Bool) → (m ≡ true → w ≡ true) → (w && ((m && not t) || false)) ≡ (m && not t)
+        within true true true p = refl
+        within true true false p = refl
+        within true false t p = refl
+        within false false t p = refl
+        within false true t p = absurd (cc (p refl))
+
+        own : (w m t : Bool) → w ≡ true → m ≡ true → t ≡ false → (w && ((m && not t) || true)) ≡ (m && not t)
+        own true true false p q r = refl
+        own false m t p q r = cc
+        own true false t p q r = cc
+        own true true true p q r = cc
+
+        at_name : (c : ℕ) → (c == h.name) ≡ true → (s : Nodes) (b : Bool) → s h.name ≡ b → s c ≡ b
+        at_name c e s b is = ap s (eqb-true c h.name e) ∙ is
+
+        go : (c : ℕ) (b : Bool) → (c == h.name) ≡ b
+            → (set_of h.world c && ((set_of body.members c && not (set_of told c)) || b))
+            ≡ (set_of body.members c && not (set_of told c))
+        go c false e = within (set_of h.world c) (set_of body.members c) (set_of told c) (to.members c)
+        go c true e = own (set_of h.world c) (set_of body.members c) (set_of told c)
+            (at_name c e (set_of h.world) true (to.members h.name to.self))
+            (at_name c e (set_of body.members) true to.self)
+            (at_name c e (set_of told) false (ap (λ (s : Nodes). s h.name) told_are
+            ∙ ap (λ (b : Bool). b || set_of body.told h.name) whole.here ∙ to.here))
+
+    -- the node has moved in
+    pub moves_in : (h1 : Held) (t : Made) → h ≡ h1 → v.watch ≡ h.watch.watch
+        → (is_rising body.pairs.items ≡ true → table ≡ without (set_of told) body.pairs.items)
+        → Makes (λ n a. with_replica (welcomed (set_of body.members) body.pairs.items (set_of body.told))) h1 t moved t
+    moves_in h1 t same watch pairs =
+        subst (λ (x : Held). Makes (λ n a. with_replica
+        (welcomed (set_of body.members) body.pairs.items (set_of body.told))) x t moved t) same (record {
+          name = refl;
+          world = refl;
+          turn = ap (λ (w : AnyWatch). known w table (set_of members) (set_of told)) watch
+              ∙ ap (λ (x : Table). known h.watch.watch x (set_of members) (set_of told)) (pairs to.rising)
+              ∙ ap (λ (s : Nodes). known h.watch.watch (without (set_of told) body.pairs.items) s (set_of told))
+              members_are
+              ∙ ap (λ (s : Nodes). known h.watch.watch (without s body.pairs.items)
+              (λ c. set_of body.members c && not (s c)) s) told_are;
+        })
+      where
+        known : AnyWatch → Table → Nodes → Nodes → Turn
+        known w x m g = record (turn_of h t) {
+          node = record (node_of h) {
+            replica = record { table = x; members = m; told = g; joined = true };
+            watch = w;
+          };
+        }
+
+-- the registrar may be freed before or behind the deaths
+kills_at : (n a : ℕ) (ps : List Process) (x : Current) (u : Turn)
+    → kill n a ps (at_work x u) ≡ at_work x (kill n a ps u)
+kills_at n a [] x u = refl
+kills_at n a (p ∷ ps) x u = go (is_live a u.node.watch p) (kills_at n a ps x)
+  where
+    go : (b : Bool) → ((v : Turn) → kill n a ps (at_work x v) ≡ at_work x (kill n a ps v))
+        → kill n a ps (if b then die n a p (at_work x u) else at_work x u)
+        ≡ at_work x (kill n a ps (if b then die n a p u else u))
+    go true rest = rest (die n a p u)
+    go false rest = rest u
+
+-- a join that waits for f is the current one
+pub joining_is : (f k : ℕ) (x : Current) → Some k ≡ join_by f x → x ≡ Current.Joining k f
+joining_is f k (Current.Joining i m) e = go (m == f) refl e
+  where
+    go : (b : Bool) → (m == f) ≡ b → Some k ≡ (if b then Some i else None) → Current.Joining i m ≡ Current.Joining k f
+    go true same is = let j : k ≡ i = cc in
+        ap (λ (c : ℕ). Current.Joining i c) (eqb-true m f same) ∙ ap (λ (y : ℕ). Current.Joining y f) (sym j)
+    go false same is = cc
+joining_is f k Current.Free e = cc
+joining_is f k (Current.Asking op r) e = cc
+joining_is f k (Current.Waiting op) e = cc
+joining_is f k (Current.Writing op asked awaited reply) e = cc
+
+-- a join is granted: the registrar is free, the node moves in, those that clash die, and it is answered
+pub welcomes : (h0 h m k : Held) (t u v x : Made) (f d k0 : ℕ) (w : Work) (body : Welcome) (s : Answer) (number : ℕ → ℕ)
+    → h0 ≡ h → Some k0 ≡ join_by f (node_of h).current → w ≡ record h0.registrar { current = None; awaited = [] }
+    → Makes (λ n a. with_replica (welcomed (set_of body.members) body.pairs.items (set_of body.told)))
+    (record h0 { registrar = w }) t m t
+    → Makes (λ n a. kill n a body.kills.items) m t k u
+    → s ≡ record { node = k.name; call = k0; reply = IsJoined } → v ≡ answered s u → d ≡ f → x ≡ sent d Applied v
+    → Makes (λ n a y. welcome n a number f (set_of body.members) body.pairs.items (set_of body.told) body.kills.items
+    y.node.current y) h t k x
+welcomes h0 h m k t u v x f d k0 w body s number same waits free M K answer answering to sending =
+    subst (λ (y : Held). Some k0 ≡ join_by f (node_of y).current → Makes (λ n a z. welcome n a number f
+    (set_of body.members) body.pairs.items (set_of body.told) body.kills.items z.node.current z) y t k x) same
+    (λ waits0. record {
+      name = both.name;
+      world = both.world;
+      turn = ap (turn_of k) sending ∙ sent_is k v d Applied
+          ∙ ap (λ (c : ℕ). send c AnyLetter.Applied (turn_of k v)) to
+          ∙ ap (send f AnyLetter.Applied) (ap (turn_of k) answering ∙ answered_is k u s
+          ∙ ap (λ (y : Answer). reply_with y.node y.call (reply_of y.reply) (turn_of k u)) answer
+          ∙ ap (λ (c : ℕ). reply_with c k0 Joined (turn_of k u)) both.name
+          ∙ ap (reply_with a k0 Joined) (both.turn
+          ∙ ap (λ (y : Work). kill n a body.kills.items (moving (turn_of (record h0 { registrar = y }) t))) free
+          ∙ kills_at n a body.kills.items Current.Free (moving (turn_of h0 t))))
+          ∙ ap (λ (b : Bool). if b then granted else turn_of h0 t) (sym (eq-eqb f f refl))
+          ∙ ap (λ (y : Current). welcome n a number f (set_of body.members) body.pairs.items (set_of body.told)
+          body.kills.items y (turn_of h0 t)) (sym (joining_is f k0 (node_of h0).current waits0));
+    }) waits
+  where
+    n : ℕ
+    n = bound_of h0.world
+
+    a : ℕ
+    a = h0.name
+
+    both : Makes (λ i c y. kill i c body.kills.items
+        (with_replica (welcomed (set_of body.members) body.pairs.items (set_of body.told)) y))
+        (record h0 { registrar = w }) t k u
+    both = followed M K
+
+    moving : Turn → Turn
+    moving = with_replica (welcomed (set_of body.members) body.pairs.items (set_of body.told))
+
+    granted : Turn
+    granted = send f AnyLetter.Applied (reply_with a k0 Joined
+        (at_work Current.Free (kill n a body.kills.items (moving (turn_of h0 t)))))
+
+-- there is room for a node of the world beside others of it
+pub room_for : (world members : List ℕ) (j : ℕ) → IsNodeSet world → IsNodeSet members → IsWithin world members
+    → set_of world j ≡ true → length (and_node members j) ≤ most_nodes
+room_for world members j set rest within of =
+    omega (
+      arith,
+      ap length is,
+      length-filter (set_of all) world,
+      count_by-le-length (set_of all) world,
+      set.fits,
+    )
+  where
+    all : List ℕ
+    all = and_node members j
+
+    all_within : IsWithin world all
+    all_within c e = go (set_of members c) (j == c) refl (sym (set_of-with_node members j c) ∙ e) (within c)
+      where
+        go : (s b : Bool) → (j == c) ≡ b → (s || b) ≡ true → (s ≡ true → set_of world c ≡ true) → set_of world c ≡ true
+        go true b q f old = old refl
+        go false true q f old = ap (set_of world) (sym (eqb-true j c q)) ∙ of
+        go false false q f old = cc
+
+    rising : IsStrictlyIncreasing all
+    rising = rising-with_node members j rest.rising
+
+    is : all ≡ filter (set_of all) world
+    is = sym (nodes_of-set_of (bound_of world) all rising (all_below world all all_within))
+        ∙ nodes_of-within (bound_of world) (set_of all) world set.rising (all_below world world (λ c e. e)) all_within
+
+-- a lone node j is let in by the node h: all are its members and j
+pub lets_in : (h0 h : Held) (t u v x : Made) (w : Work) (asked all : List ℕ) (a j j1 j2 : ℕ) (l m : Letter)
+    (s : Settled)
+    → h0 ≡ h → IsWhole h0 → set_of h0.world j ≡ true → IsNodeSet h0.members
+    → ((c : ℕ) → set_of all c ≡ (set_of h0.world c && (set_of h0.members c || (c == j))))
+    → w ≡ record h0.registrar { awaited = all } → j1 ≡ j → a ≡ h0.name → u ≡ entered (HasJoined j1 a) t
+    → letter_of l ≡ AnyLetter.Admit j s.puts s.kills → SendsAll h0.members l u v
+    → letter_of m
+    ≡ AnyLetter.Welcome (with_node j (set_of h0.members)) (put_all s.puts h0.table) (set_of h0.told) s.kills
+    → j2 ≡ j → x ≡ sent j2 m v
+    → Works (λ op n b. let_in n b op j (set_of asked) s) h t (record h0 { registrar = w; phase = Writing asked None }) x
+lets_in h0 h t u v x w asked all a j j1 j2 l m s same whole of set are awaits joiner own entering admit admits welcoming
+    to sends =
+    subst (λ (y : Held). Works (λ op n b. let_in n b op j (set_of asked) s) y t k x) same (λ op cur. record {
+      name = refl;
+      world = refl;
+      turn = ap (turn_of k) sends ∙ sent_is k v j2 m
+          ∙ ap (λ (c : ℕ). send c (letter_of m) (turn_of k v)) to
+          ∙ ap (λ (y : AnyLetter). send j y (turn_of k v)) welcoming
+          ∙ ap (λ (y : Turn). send j welcome_letter y) (sent_all_is k u v h0.members l admits set whole.members
+          ∙ ap (λ (y : AnyLetter). send_all n (set_of h0.members) y (turn_of k u)) admit
+          ∙ ap (send_all n (set_of h0.members) (AnyLetter.Admit j s.puts s.kills)) (ap (turn_of k) entering
+          ∙ entered_is k t (HasJoined j1 a)
+          ∙ ap (λ (c : ℕ). enter (AnyEntry.Join c 0 a Joined) (turn_of k t)) joiner
+          ∙ ap (λ (c : ℕ). enter (AnyEntry.Join j 0 c Joined) (turn_of k t)) own
+          ∙ ap (λ (y : Work). enter (AnyEntry.Join j 0 h0.name Joined)
+          (turn_of (record h0 { registrar = y; phase = Writing asked None }) t)) awaits
+          ∙ ap (λ (o : Option Op). enter (AnyEntry.Join j 0 h0.name Joined)
+          (at_work (current_of o all (Writing asked None)) (turn_of h0 t))) cur
+          ∙ ap (λ (ss : Nodes). enter (AnyEntry.Join j 0 h0.name Joined)
+          (at_work (Current.Writing (op_of op) (set_of asked) ss None) (turn_of h0 t)))
+          (told_is h0.world h0.members all j are whole.members of)));
+    })
+  where
+    n : ℕ
+    n = bound_of h0.world
+
+    k : Held
+    k = record h0 { registrar = w; phase = Writing asked None }
+
+    welcome_letter : AnyLetter
+    welcome_letter =
+        AnyLetter.Welcome (with_node j (set_of h0.members)) (put_all s.puts h0.table) (set_of h0.told) s.kills
+
+-- the current admission is decided as the protocol has it
+pub decides_admission : (h0 h k : Held) (t u : Made) (asked : List ℕ) (j : ℕ) (op0 : Op) (pairs : Table) (s : Settled)
+    → h0 ≡ h → h0.registrar.current ≡ Some op0 → op_of op0 ≡ AnyOp.Admission j pairs → s ≡ settle h0.table pairs
+    → Works (λ op n a. admission_held n a op j (set_of asked) s) h t k u
+    → Works (λ op n a. held n a unnumbered op (set_of asked)) h t k u
+decides_admission h0 h k t u asked j op0 pairs s same cur is settled =
+    subst (λ (y : Held). Works (λ op n a. admission_held n a op j (set_of asked) s) y t k u
+    → Works (λ op n a. held n a unnumbered op (set_of asked)) y t k u) same (λ W op cur2. made_as (W op cur2)
+    (ap (λ (o : AnyOp). admission_held n h0.name o j (set_of asked) s (turn_of h0 t)) (this op cur2)
+    ∙ ap (λ (y : Settled). admission_held n h0.name (AnyOp.Admission j pairs) j (set_of asked) y (turn_of h0 t)) settled
+    ∙ ap (λ (o : AnyOp). held n h0.name unnumbered o (set_of asked) (turn_of h0 t)) (sym (this op cur2))))
+  where
+    n : ℕ
+    n = bound_of h0.world
+
+    this : (op : Op) → h0.registrar.current ≡ Some op → op_of op ≡ AnyOp.Admission j pairs
+    this op cur2 = ap op_of (current_is h0 op0 op cur cur2) ∙ is

@@ -1,0 +1,68 @@
+-- The step of an event: its turn, where the joins that it enters get the numbers that the world finds.
+use Rattle.std.proofs.Common.{ℕ, true, ◌≡◌, None, List, ◌++◌, sym, ap, ◌∙◌, subst}
+use Rattle.registry_model.specs.Table.{is_rising}
+use Rattle.protocol_model.specs.Event.{Event as AnyEvent}
+use Rattle.protocol_model.specs.Turn.{begun}
+use Rattle.term.specs.NodeSets.{set_of}
+use Rattle.node_core.specs.declared.events.Letter.{Letter}
+use Rattle.node_core.specs.declared.events.Event.{Event}
+use Rattle.node_core.specs.declared.events.Event.TheVariants.{Call, FromPeer, Retry, Exit, Leave}
+use Rattle.node_core.specs.Letters.{letter_of}
+use Rattle.node_core.specs.Made.{Made, nothing}
+use Rattle.node_core.specs.Held.{Held, IsWhole, bound_of}
+use Rattle.node_core.specs.Seen.{turn_by, unnumbered, node_of, call_of}
+use Rattle.node_core.specs.Steps.{Keeps, Takes, Steps, IsTurn, refusal_of}
+use Rattle.node_core.proofs.Numbers.{numbered, turn_numbered, event_numbered, receive_numbered}
+use Rattle.node_core.proofs.ReceiversOfEvents.{sends_within}
+
+-- the step of an event, of the turn that it made
+stepped : (e : Event) (h k : Held) (u : Made) (before after : List (ℕ × Letter)) → refusal_of e h ≡ None
+    → after ≡ before ++ u.letters → IsWhole h → is_rising h.table ≡ true → k.name ≡ h.name → k.world ≡ h.world
+    → ((number : ℕ → ℕ) → IsTurn number e h (turn_by number k u))
+    → Steps e h (record k { entered = u.entries }) before after u.answers
+stepped e h k u before after accepted letters whole rising name world turn = record {
+  name = name;
+  world = world;
+  accepted = accepted;
+  sent = u.letters;
+  letters = letters;
+  within = λ heard. sends_within h whole rising unnumbered e k u heard (turn unnumbered);
+  turn = turn;
+}
+
+-- the step of an event that was taken
+steps : (e : Event) (h k : Held) (u : Made) (before after : List (ℕ × Letter)) → refusal_of e h ≡ None
+    → Keeps h k → Takes e h nothing k u → after ≡ before ++ u.letters
+    → IsWhole h → is_rising h.table ≡ true → Steps e h (record k { entered = u.entries }) before after u.answers
+steps (Call c) h k u before after accepted kept made letters whole rising =
+    stepped (Call c) h k u before after accepted letters whole rising kept.name kept.world (λ number asked.
+    turn_numbered number k u ∙ ap (numbered number) (made asked).turn
+    ∙ event_numbered (bound_of h.world) h.name number (set_of h.world) (AnyEvent.Calling (call_of c))
+    (begun (node_of h)))
+steps Retry h k u before after accepted kept made letters whole rising =
+    stepped Retry h k u before after accepted letters whole rising made.name made.world (λ number.
+    turn_numbered number k u ∙ ap (numbered number) made.turn
+    ∙ event_numbered (bound_of h.world) h.name number (set_of h.world) AnyEvent.Retry (begun (node_of h)))
+steps (Exit p) h k u before after accepted kept made letters whole rising =
+    stepped (Exit p) h k u before after accepted letters whole rising made.name made.world (λ number.
+    turn_numbered number k u ∙ ap (numbered number) made.turn
+    ∙ event_numbered (bound_of h.world) h.name number (set_of h.world) (AnyEvent.Exiting p) (begun (node_of h)))
+steps Leave h k u before after accepted kept made letters whole rising =
+    stepped Leave h k u before after accepted letters whole rising made.name made.world (λ number.
+    turn_numbered number k u ∙ ap (numbered number) made.turn
+    ∙ event_numbered (bound_of h.world) h.name number (set_of h.world) AnyEvent.Leave (begun (node_of h)))
+steps (FromPeer f l) h k u before after accepted kept made letters whole rising =
+    stepped (FromPeer f l) h k u before after accepted letters whole rising kept.name kept.world (λ number said.
+    turn_numbered number k u ∙ ap (numbered number) (made said).turn
+    ∙ receive_numbered (bound_of h.world) h.name number f (letter_of l) (begun (node_of h)))
+
+-- the same, where these are what the step began with, and what it came to
+pub steps_from : (e : Event) (h k k0 : Held) (t u u0 : Made) (before after : List (ℕ × Letter)) → t ≡ nothing → k ≡ k0
+    → u ≡ u0 → refusal_of e h ≡ None → Keeps h k0
+    → Takes e h t k0 u0 → after ≡ before ++ u.letters → IsWhole h → is_rising h.table ≡ true
+    → Steps e h (record k { entered = u.entries }) before after u.answers
+steps_from e h k k0 t u u0 before after begun same_node same_turn accepted kept made letters whole rising =
+    steps e h k u before after accepted (subst (λ (x : Held). Keeps h x) (sym same_node) kept)
+    (subst (λ (x : Made). Takes e h nothing k x) (sym same_turn)
+    (subst (λ (x : Held). Takes e h nothing x u0) (sym same_node)
+    (subst (λ (x : Made). Takes e h x k0 u0) begun made))) letters whole rising

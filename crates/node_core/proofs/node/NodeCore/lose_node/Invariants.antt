@@ -1,0 +1,8 @@
+use Rattle.std.proofs.Common.{take}
+use Rattle.node_core.specs.Steps.{Makes}
+use Rattle.node_core.proofs.Each.{each_of, loss}
+use Rattle.node_core.proofs.node.NodeCore.lose_node.Given as goal
+
+abbrev pub invariant-loop-holder : goal.invariant-loop-holder
+invariant-loop-holder g l =
+    Makes (each_of (loss l.gone) (take l.holder-index l.holder-items)) l.fn.self l.fn.turn l.self l.turn

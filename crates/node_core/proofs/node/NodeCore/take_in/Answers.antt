@@ -1,0 +1,19 @@
+use Rattle.std.proofs.Common.{sym, subst}
+use Rattle.node_core.specs.Held.{Held}
+use Rattle.node_core.specs.Steps.{IsOther}
+use Rattle.node_core.specs.Seen.{unnumbered}
+use Rattle.node_core.proofs.Leaving.{whole_told, takes_in}
+use Rattle.node_core.proofs.node.NodeCore.take_in.Goals as goal
+
+pub invariant_of-self : goal.invariant_of-self
+invariant_of-self g c =
+    whole_told _ c.args.gone.now c.remove.new.self c.and_one-self-inside.result _ _ c.self.invariant
+    c.remove.ensures.others c.drop_node.ensures c.and_one-self-inside.ensures
+    (subst (λ (h : Held). IsOther h.world h.name c.args.gone.now) (sym c.self.view_is) c.requires)
+
+pub returns-clause-turn : goal.returns-clause-turn
+returns-clause-turn g c =
+    takes_in _ c.args.gone.now c.remove.new.self c.and_one-self-inside.result _ _ c.self.invariant
+    c.remove.ensures.others c.drop_node.ensures c.and_one-self-inside.ensures c.args.self.now c.args.turn.now _
+    c.copy.result c.copy-2.result unnumbered c.self.view_is c.copy.ensures c.copy-2.ensures c.drop_node-2.ensures
+    (subst (λ (h : Held). IsOther h.world h.name c.args.gone.now) (sym c.self.view_is) c.requires) c.in_ok-enter.ensures

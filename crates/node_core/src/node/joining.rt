@@ -1,0 +1,319 @@
+//! The rules of joins: a lone node asks a contact, which lets it in under the global lock.
+ghost use Rattle.std.specs.Prelude.{◌≡◌, ℕ, true, ◌&&◌, ◌||◌, OnOk, IfOk};
+ghost use Rattle.registry_model.specs.Table.{is_rising, without};
+ghost use Rattle.term.specs.NodeSets.{set_of};
+ghost use Rattle.exit_watch.specs.Held.{AreSuspected, KeepsSuspects};
+
+use crate::events::{Entry, Letter, Reply, copied};
+use crate::node::leaving::{and_one, except};
+use crate::node::{NodeCore, Phase};
+use crate::turn::Turn;
+use exchange::{Admission, Settled, Welcome, admit_of, welcome_of};
+use exit_watch::Watch;
+use name_table::{Change, Names, Pair};
+use std::alloc::{AllocError, Global};
+use term::{MOST_NODES, NodeName, NodeSet, Pid};
+use transaction::Op;
+
+/// Those of a world that are in one of two sets. As the world is a set there is room for all of them.
+fn either(world: &NodeSet, nodes: &NodeSet, others: &NodeSet) -> NodeSet
+    ensures { (c : ℕ) → set_of result c ≡ (set_of world.now c && (set_of nodes.now c || set_of others.now c)) }
+{
+    except(world, &except(&except(world, nodes), others))
+}
+
+/// A table of those of these pairs whose owners' nodes haven't gone. The watch is told of each owner.
+fn table_of<N: Names<Memory = Global>>(
+    alloc: Global,
+    watch: &mut Watch,
+    pairs: &[Pair],
+    gone: &NodeSet,
+) -> Result<N, AllocError>
+    ensures table { is_rising pairs.now ≡ true → IfOk result (λ table. N.contents table ≡ without (set_of gone.now) pairs.now) }
+    ensures node { watch.new.node ≡ watch.old.node }
+    ensures watch { watch.new.watch ≡ watch.old.watch }
+    ensures ok { IfOk result (λ table. AreSuspected watch.new (N.contents table)) }
+    ensures suspected { KeepsSuspects watch.old watch.new }
+{
+    let mut table = N::empty(alloc);
+    for pair in pairs {
+        if !gone.contains(&pair.owner.node) {
+            watch.note_owner(&pair.owner)?;
+            table.write(Change::Put(pair.name.copy(), pair.owner.copy()))?;
+        }
+    }
+    Ok(table)
+}
+
+impl<N: Names<Memory = Global>> NodeCore<N> {
+    ghost use Rattle.std.specs.Prelude.{None, Some, is_some, IsTrue, IfSome, fold};
+    ghost use Rattle.registry_model.specs.Process.{Process};
+    ghost use Rattle.registry_model.specs.Call.{NotMember as IsNoMember};
+    ghost use Rattle.protocol_model.specs.Node.{Op as AnyOp};
+    ghost use Rattle.protocol_model.specs.Letter.{Letter as AnyLetter};
+    ghost use Rattle.protocol_model.specs.Watch.{is_live};
+    ghost use Rattle.protocol_model.specs.Turn.{send, with_replica};
+    ghost use Rattle.protocol_model.specs.Registrar.{ask_join, contact_left, lose_contact};
+    ghost use Rattle.protocol_model.specs.Reading.{admitted, welcomed, asked_to_admit, refused_join, welcome, with_member};
+    ghost use Rattle.protocol_model.specs.Calling.{kill};
+    ghost use Rattle.node_core.specs.Made.{Made};
+    ghost use Rattle.node_core.specs.Held.{IsWithin};
+    ghost use Rattle.node_core.specs.Joining.{join_by, let_in, admission_held, kill_one, put_names, IsWelcomeTo};
+    ghost use Rattle.node_core.specs.Seen.{node_of, unnumbered};
+    ghost use Rattle.node_core.specs.Steps.{Keeps, Makes, Works};
+
+    /// The number of the join that waits for a contact, if one does.
+    fn join_by(&self, contact: &NodeName) -> Option<u32>
+        ensures number { result ≡ join_by contact.now (node_of self.now).current }
+        ensures busy { IfSome result (λ _. IsTrue (is_some self.now.registrar.current)) }
+    {
+        match &self.phase {
+            Phase::Joining(number, node) if self.is_at_work() && node == contact => Some(*number),
+            _ => None,
+        }
+    }
+
+    /// The current operation is a join: its contact is asked, and gets the whole table.
+    pub(super) fn ask_join(
+        &mut self,
+        turn: &mut Turn,
+        number: u32,
+        contact: NodeName,
+    ) -> Result<(), AllocError>
+        requires current { IsTrue (is_some self.old.registrar.current) }
+        requires within { set_of self.old.world contact ≡ true }
+        ensures turn { OnOk result (Makes (λ n a. ask_join n a number contact) self.old turn.old self.new turn.new) }
+        ensures kept { Keeps self.old self.new }
+    {
+        let pairs = self.table.pairs(*self.entered.allocator())?;
+        turn.send(contact.copy(), Letter::JoinAsk(pairs))?;
+        self.phase = Phase::Joining(number, contact);
+        Ok(())
+    }
+
+    /// A join of this node ends, since its contact has left.
+    pub(super) fn contact_left(
+        &self,
+        turn: &mut Turn,
+        number: u32,
+        contact: NodeName,
+    ) -> Result<(), AllocError>
+        ensures { OnOk result (Makes (λ n a. contact_left n a number contact) self.now turn.old self.now turn.new) }
+    {
+        turn.enter(Entry::ContactLeft(self.name.copy(), number, contact))?;
+        turn.answer(self.answer(number, Reply::ContactLeft))
+    }
+
+    /// A node has gone down: a join by it ends.
+    pub(super) fn lose_contact(
+        &mut self,
+        turn: &mut Turn,
+        gone: &NodeName,
+    ) -> Result<(), AllocError>
+        ensures turn { OnOk result (Makes (λ n a u. lose_contact n a gone.now u.node.current u) self.old turn.old self.new turn.new) }
+        ensures kept { Keeps self.old self.new }
+    {
+        let Some(number) = self.join_by(gone) else {
+            return Ok(());
+        };
+        self.registrar.finish();
+        self.contact_left(turn, number, gone.copy())
+    }
+
+    /// A lone node asks to join: its admission goes to the back of the queue, or is refused by a lone node. A stranger is
+    /// passed over.
+    pub(super) fn asked_to_admit(
+        &mut self,
+        turn: &mut Turn,
+        from: &NodeName,
+        pairs: &Vec<Pair>,
+    ) -> Result<(), AllocError>
+        ensures turn { set_of self.old.world from.now ≡ true
+            → OnOk result (Makes (λ n a. asked_to_admit n a unnumbered from.now pairs.now.items) self.old turn.old self.new turn.new) }
+        ensures kept { Keeps self.old self.new }
+    {
+        if !self.world.contains(from) {
+            return Ok(());
+        }
+        if !self.joined {
+            turn.enter(Entry::NotMember(from.copy(), self.name.copy()))?;
+            return turn.send(from.copy(), Letter::JoinRefused);
+        }
+        self.registrar
+            .enqueue(Op::Admission(from.copy(), copied(pairs)?))
+    }
+
+    /// A join by the node that says so is refused.
+    pub(super) fn refused_join(
+        &mut self,
+        turn: &mut Turn,
+        from: &NodeName,
+    ) -> Result<(), AllocError>
+        ensures turn { OnOk result (Makes (λ n a u. refused_join n a unnumbered from.now u.node.current u) self.old turn.old self.new turn.new) }
+        ensures kept { Keeps self.old self.new }
+    {
+        let Some(number) = self.join_by(from) else {
+            return Ok(());
+        };
+        self.registrar.finish();
+        turn.answer(self.answer(number, Reply::NotMember))
+    }
+
+    /// The lock is held: a lone node is let in. The members are to admit it, and it is welcomed with all that this node has.
+    pub(super) fn let_in(
+        &mut self,
+        turn: &mut Turn,
+        asked: NodeSet,
+        joiner: NodeName,
+        settled: &Settled,
+    ) -> Result<(), AllocError>
+        requires current { IsTrue (is_some self.old.registrar.current) }
+        requires joiner { set_of self.old.world joiner ≡ true }
+        requires within { IsWithin self.old.world asked }
+        ensures turn { OnOk result (Works (λ op n a. let_in n a op joiner (set_of asked) settled.now) self.old turn.old self.new turn.new) }
+        ensures kept { Keeps self.old self.new }
+    {
+        let alloc = *self.entered.allocator();
+        turn.enter(Entry::Joined(joiner.copy(), self.name.copy()))?;
+        let admission = admit_of(alloc, &joiner, settled)?;
+        turn.send_all(&self.members, &Letter::Admit(admission))?;
+        // The members and the joiner are of the world, so there is room for all of them.
+        let fits = self.world.len() <= MOST_NODES;
+        prove!(fits);
+        let welcome = welcome_of(
+            alloc,
+            &joiner,
+            &self.table,
+            &self.members,
+            &self.told,
+            settled,
+        )?;
+        turn.send(joiner.copy(), Letter::Welcome(welcome))?;
+        self.registrar
+            .await_from(&and_one(&self.world, &self.members, &joiner));
+        self.phase = Phase::Writing(asked, None);
+        Ok(())
+    }
+
+    /// The lock is held: the current admission is decided. A joiner that has left isn't let in.
+    pub(super) fn decide_admission(
+        &mut self,
+        turn: &mut Turn,
+        asked: NodeSet,
+        joiner: NodeName,
+        settled: &Settled,
+    ) -> Result<(), AllocError>
+        requires current { IsTrue (is_some self.old.registrar.current) }
+        requires joiner { set_of self.old.world joiner ≡ true }
+        requires within { IsWithin self.old.world asked }
+        ensures turn { OnOk result (Works (λ op n a. admission_held n a op joiner (set_of asked) settled.now) self.old turn.old self.new turn.new) }
+        ensures kept { Keeps self.old self.new }
+    {
+        if self.told.contains(&joiner) {
+            return self.finish(turn, &asked, None);
+        }
+        self.let_in(turn, asked, joiner, settled)
+    }
+
+    /// A process dies, if it lives here: its call is dropped, and every member is to release its locks.
+    fn kill_one(&mut self, turn: &mut Turn, process: &Pid) -> Result<(), AllocError>
+        ensures turn { OnOk result (Makes (λ n a. kill_one n a process.now) self.old turn.old self.new turn.new) }
+        ensures kept { Keeps self.old self.new }
+    {
+        if !self.watch.kill(process)? {
+            return Ok(());
+        }
+        self.calls.take(process);
+        turn.send_all(&self.members, &Letter::ReleaseOf(process.copy()))
+    }
+
+    /// Those of these processes that live here die, in order.
+    fn kill(&mut self, turn: &mut Turn, processes: &[Pid]) -> Result<(), AllocError>
+        ensures turn { OnOk result (Makes (λ n a. kill n a processes.now) self.old turn.old self.new turn.new) }
+        ensures kept { Keeps self.old self.new }
+    {
+        for process in processes {
+            self.kill_one(turn, process)?;
+        }
+        Ok(())
+    }
+
+    /// A node is a member, unless it has left.
+    fn add_member(&mut self, joiner: &NodeName)
+        ensures turn { (made : Made) → set_of self.old.world joiner.now ≡ true
+            → Makes (λ n a. with_replica (with_member joiner.now)) self.old made self.new made }
+        ensures kept { Keeps self.old self.new }
+    {
+        if !self.told.contains(joiner) {
+            self.members = and_one(&self.world, &self.members, joiner);
+        }
+    }
+
+    /// The names are put, in order.
+    fn put_names(&mut self, pairs: &[Pair]) -> Result<(), AllocError>
+        ensures turn { (made : Made) → OnOk result (Makes (λ n a. with_replica (put_names pairs.now)) self.old made self.new made) }
+        ensures kept { Keeps self.old self.new }
+    {
+        for pair in pairs {
+            self.write_change(&Change::Put(pair.name.copy(), pair.owner.copy()))?;
+        }
+        Ok(())
+    }
+
+    /// A joiner is admitted: it is a member, its names are put, and those who clash with them die.
+    pub(super) fn admit_joiner(
+        &mut self,
+        turn: &mut Turn,
+        from: &NodeName,
+        admission: &Admission,
+    ) -> Result<(), AllocError>
+        ensures turn { set_of self.old.world admission.now.joiner ≡ true → OnOk result
+            (Makes (λ n a u. send from.now AnyLetter.Applied (kill n a admission.now.kills.items
+            (with_replica (admitted admission.now.joiner admission.now.puts.items) u))) self.old turn.old self.new turn.new) }
+        ensures kept { Keeps self.old self.new }
+    {
+        self.add_member(&admission.joiner);
+        self.put_names(admission.puts.as_slice())?;
+        self.kill(turn, admission.kills.as_slice())?;
+        turn.send(from.copy(), Letter::Applied)
+    }
+
+    /// This node is joined: it has the members and the names of its sponsor, less those that either was told have left.
+    fn move_in(&mut self, welcome: &Welcome) -> Result<(), AllocError>
+        ensures turn { (made : Made) → IsWelcomeTo self.old.world self.old.name welcome.now → OnOk result
+            (Makes (λ n a. with_replica (welcomed (set_of welcome.now.members) welcome.now.pairs.items (set_of welcome.now.told)))
+            self.old made self.new made) }
+        ensures kept { Keeps self.old self.new }
+    {
+        let alloc = *self.entered.allocator();
+        let mut told = either(&self.world, &self.told, &welcome.told);
+        told.remove(&self.name);
+        self.table = table_of(alloc, &mut self.watch, welcome.pairs.as_slice(), &told)?;
+        self.members = and_one(&self.world, &except(&welcome.members, &told), &self.name);
+        self.told = told;
+        self.joined = true;
+        Ok(())
+    }
+
+    /// A join by the node that says so is granted.
+    pub(super) fn welcome(
+        &mut self,
+        turn: &mut Turn,
+        from: &NodeName,
+        body: &Welcome,
+    ) -> Result<(), AllocError>
+        ensures turn { IsWelcomeTo self.old.world self.old.name body.now → OnOk result
+            (Makes (λ n a u. welcome n a unnumbered from.now (set_of body.now.members) body.now.pairs.items
+            (set_of body.now.told) body.now.kills.items u.node.current u) self.old turn.old self.new turn.new) }
+        ensures kept { Keeps self.old self.new }
+    {
+        let Some(number) = self.join_by(from) else {
+            return Ok(());
+        };
+        self.registrar.finish();
+        self.move_in(body)?;
+        self.kill(turn, body.kills.as_slice())?;
+        turn.answer(self.answer(number, Reply::Joined))?;
+        turn.send(from.copy(), Letter::Applied)
+    }
+}
