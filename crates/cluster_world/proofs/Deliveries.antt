@@ -9,7 +9,7 @@ use Rattle.link.specs.Faults.{joins}
 use Rattle.link.specs.Held.{place, WaitsFirst, seen as links_of}
 use Rattle.link.proofs.Places.{queue-stranger}
 use Rattle.node_core.specs.declared.events.Letter.{Letter}
-use Rattle.node_core.specs.Seen.{letter_of}
+use Rattle.node_core.specs.Letters.{letter_of}
 use Rattle.cluster_world.specs.Held.{Held, IsWhole}
 use Rattle.cluster_world.specs.Playing.{WaitsOn}
 use Rattle.cluster_world.specs.Seen.{opening_of, seen}
@@ -51,7 +51,7 @@ module _ (h : Held) (whole : IsWhole h) where
   waits (Some (f, t)) w = next_first (opening_of h) (seen h) h.nodes (nodes_are h.nodes h.cluster whole.set) f t
       whole.set.rising sender receiver
       (accepted_waiting (opening_of h) (seen h) f t (inside f sender) (inside t receiver)
-      (ap (λ (s : Nodes). s t) whole.running) (empty ((links_of h.links).queue f t) ∙ w.0))
+      (running ((seen h).links.closed t) refl) (empty ((links_of h.links).queue f t) ∙ w.0))
       (λ x y before. nothing x y (w.1 x y before))
     where
       sender : set_of h.nodes f ≡ true
@@ -59,6 +59,11 @@ module _ (h : Held) (whole : IsWhole h) where
 
       receiver : set_of h.nodes t ≡ true
       receiver = second (set_of h.nodes f) (set_of h.nodes t) (ends f t w.0)
+
+      -- a letter waits for a running node alone
+      running : (b : Bool) → (seen h).links.closed t ≡ b → (seen h).links.closed t ≡ false
+      running false e = e
+      running true e = cc (ap (λ (ls : List Letter). is_nil ls) (whole.fit.quiet f t e), w.0)
 
       inside : (a : ℕ) → set_of h.nodes a ≡ true → in_world (opening_of h) a ≡ true
       inside a e = ap (λ (s : Nodes). s a) (world_is h.nodes h.cluster) ∙ e

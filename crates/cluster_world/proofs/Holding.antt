@@ -3,62 +3,55 @@ use Rattle.std.proofs.Common.{ℕ, zero, suc, Bool, true, false, ◌≡◌, ◌<
 use Rattle.std.specs.Prelude.{if◌then◌else◌, not, ◌&&◌, find, option_map}
 use Rattle.std.proofs.lemmas.Bool.{cases_lt}
 use Rattle.std.proofs.lemmas.List.{length-map, get_or_default}
-use Rattle.registry_model.specs.Process.{Nodes}
 use Rattle.protocol_model.specs.Node.{Node, holds_global}
 use Rattle.protocol_model.specs.World.{holder, left}
-use Rattle.link.specs.Held.{place}
+use Rattle.link.specs.Held.{Held as Mesh, place}
 use Rattle.link.proofs.Places.{place-get_or}
+use Rattle.node_core.specs.declared.events.Letter.{Letter}
 use Rattle.node_core.specs.Held.{Held as Core}
 use Rattle.node_core.specs.Seen.{node_of}
 use Rattle.cluster_world.specs.Held.{Held, IsWhole}
-use Rattle.cluster_world.specs.Seen.{opening_of, node_with, seen}
+use Rattle.cluster_world.specs.Seen.{opening_of, node_with, seen, is_holding}
 use Rattle.cluster_world.proofs.Cores.{name_at, core_here}
 use Rattle.cluster_world.proofs.Nodes.{nodes_are}
 use Rattle.cluster_world.proofs.Steps.{name_of}
 
--- the core is joined and holds the global lock
-abbrev pub is_holding : Core → Bool
-is_holding c = c.joined && holds_global (node_of c)
-
 -- nobody holds among the first i cores
-abbrev pub NobodyBefore : ℕ → List Core → Type 0
-NobodyBefore i cs = (k : ℕ) (d : Core) → k < i → is_holding (get_or cs k d) ≡ false
+abbrev pub NobodyBefore : Mesh Letter → ℕ → List Core → Type 0
+NobodyBefore w i cs = (k : ℕ) (d : Core) → k < i → is_holding w (get_or cs k d) ≡ false
 
 -- a search for a name is a search for its core
-found_by_name : (p : ℕ → Bool) (cs : List Core) → ((k : ℕ) (d : Core) → k < length cs → p (get_or cs k d).name
-    ≡ is_holding (get_or cs k d))
-    → find p (map name_of cs) ≡ option_map name_of (find is_holding cs)
-found_by_name p [] same = refl
-found_by_name p (c ∷ cs) same = ap (λ (b : Bool). if b then Some c.name else find p (map name_of cs))
+found_by_name : (w : Mesh Letter) (p : ℕ → Bool) (cs : List Core) → ((k : ℕ) (d : Core) → k < length cs
+    → p (get_or cs k d).name ≡ is_holding w (get_or cs k d))
+    → find p (map name_of cs) ≡ option_map name_of (find (is_holding w) cs)
+found_by_name w p [] same = refl
+found_by_name w p (c ∷ cs) same = ap (λ (b : Bool). if b then Some c.name else find p (map name_of cs))
     (same 0 c (omega arith))
-    ∙ go (is_holding c) (found_by_name p cs (λ k d l. same (suc k) d (omega arith)))
+    ∙ go (is_holding w c) (found_by_name w p cs (λ k d l. same (suc k) d (omega arith)))
   where
-    go : (b : Bool) → find p (map name_of cs) ≡ option_map name_of (find is_holding cs)
+    go : (b : Bool) → find p (map name_of cs) ≡ option_map name_of (find (is_holding w) cs)
         → (if b then Some c.name else find p (map name_of cs))
-        ≡ option_map name_of (if b then Some c else find is_holding cs)
+        ≡ option_map name_of (if b then Some c else find (is_holding w) cs)
     go true e = refl
     go false e = e
 
-found_none : (cs : List Core) → NobodyBefore (length cs) cs → find is_holding cs ≡ None
-found_none [] none = refl
-found_none (c ∷ cs) none = ap (λ (b : Bool). if b then Some c else find is_holding cs) (none 0 c (omega arith))
-    ∙ found_none cs (λ k d l. none (suc k) d (omega arith))
+found_none : (w : Mesh Letter) (cs : List Core) → NobodyBefore w (length cs) cs → find (is_holding w) cs ≡ None
+found_none w [] none = refl
+found_none w (c ∷ cs) none =
+    ap (λ (b : Bool). if b then Some c else find (is_holding w) cs) (none 0 c (omega arith))
+    ∙ found_none w cs (λ k d l. none (suc k) d (omega arith))
 
-found_some : (cs : List Core) (i : ℕ) (c : Core) → i < length cs → NobodyBefore i cs → is_holding (get_or cs i c) ≡ true
-    → find is_holding cs ≡ Some (get_or cs i c)
-found_some [] i c l none here = absurd (omega arith)
-found_some (d ∷ cs) zero c l none here = ap (λ (b : Bool). if b then Some d else find is_holding cs) here
-found_some (d ∷ cs) (suc i) c l none here = ap (λ (b : Bool). if b then Some d else find is_holding cs)
+found_some : (w : Mesh Letter) (cs : List Core) (i : ℕ) (c : Core) → i < length cs → NobodyBefore w i cs
+    → is_holding w (get_or cs i c) ≡ true → find (is_holding w) cs ≡ Some (get_or cs i c)
+found_some w [] i c l none here = absurd (omega arith)
+found_some w (d ∷ cs) zero c l none here = ap (λ (b : Bool). if b then Some d else find (is_holding w) cs) here
+found_some w (d ∷ cs) (suc i) c l none here = ap (λ (b : Bool). if b then Some d else find (is_holding w) cs)
     (none 0 c (omega arith))
-    ∙ found_some cs i c (omega arith) (λ k e m. none (suc k) e (omega arith)) here
+    ∙ found_some w cs i c (omega arith) (λ k e m. none (suc k) e (omega arith)) here
 
 module _ (h : Held) (whole : IsWhole h) where
   holds : ℕ → Bool
   holds c = ((seen h).node c).replica.joined && holds_global ((seen h).node c) && not (left (seen h) c)
-
-  stays : (b : Bool) (c : ℕ) → left (seen h) c ≡ false → (b && not (left (seen h) c)) ≡ b
-  stays true c e = ap not e
-  stays false c e = refl
 
   node_is : (k : ℕ) (d : Core) → k < length h.cores → (seen h).node (get_or h.cores k d).name
       ≡ node_of (get_or h.cores k d)
@@ -69,30 +62,33 @@ module _ (h : Held) (whole : IsWhole h) where
       ∙ place-get_or h.nodes k whole.set.rising (omega
       (arith, ap (λ (ns : List ℕ). length ns) whole.names, length-map h.cores name_of))))
 
-  same : (k : ℕ) (d : Core) → k < length h.cores → holds (get_or h.cores k d).name ≡ is_holding (get_or h.cores k d)
+  same : (k : ℕ) (d : Core) → k < length h.cores → holds (get_or h.cores k d).name
+      ≡ is_holding h.links (get_or h.cores k d)
   unfolding holds
-  same k d l = stays _ (get_or h.cores k d).name (ap (λ (s : Nodes). s (get_or h.cores k d).name) whole.running)
-      ∙ ap (λ (v : Node). v.replica.joined && holds_global v) (node_is k d l)
+  same k d l =
+      ap (λ (v : Node). v.replica.joined && holds_global v && not (left (seen h) (get_or h.cores k d).name))
+      (node_is k d l)
 
-  holder_is : holder (opening_of h) (seen h) ≡ option_map name_of (find is_holding h.cores)
+  holder_is : holder (opening_of h) (seen h) ≡ option_map name_of (find (is_holding h.links) h.cores)
   unfolding holds
   holder_is = ap (find holds) (nodes_are h.nodes h.cluster whole.set ∙ sym whole.names)
-      ∙ found_by_name holds h.cores same
+      ∙ found_by_name h.links holds h.cores same
 
-  nobody_holds : NobodyBefore (length h.cores) h.cores → None ≡ holder (opening_of h) (seen h)
-  nobody_holds none = sym (holder_is ∙ ap (option_map name_of) (found_none h.cores none))
+  nobody_holds : NobodyBefore h.links (length h.cores) h.cores → None ≡ holder (opening_of h) (seen h)
+  nobody_holds none = sym (holder_is ∙ ap (option_map name_of) (found_none h.links h.cores none))
 
-  this_holds : (i : ℕ) (c : Core) → i < length h.cores → NobodyBefore i h.cores → is_holding (get_or h.cores i c) ≡ true
+  this_holds : (i : ℕ) (c : Core) → i < length h.cores → NobodyBefore h.links i h.cores
+      → is_holding h.links (get_or h.cores i c) ≡ true
       → Some (get_or h.cores i c).name ≡ holder (opening_of h) (seen h)
-  this_holds i c l none here = sym (holder_is ∙ ap (option_map name_of) (found_some h.cores i c l none here))
+  this_holds i c l none here = sym (holder_is ∙ ap (option_map name_of) (found_some h.links h.cores i c l none here))
 
 -- one core more was looked at
-pub nobody_more : (cs : List Core) (i : ℕ) (c : Core) → i < length cs → c ≡ get_or cs i c → NobodyBefore i cs
-    → is_holding c ≡ false → NobodyBefore (i + 1) cs
-nobody_more cs i c l is before here k d m = elim (cases_lt k i) [
+pub nobody_more : (w : Mesh Letter) (cs : List Core) (i : ℕ) (c : Core) → i < length cs → c ≡ get_or cs i c
+    → NobodyBefore w i cs → is_holding w c ≡ false → NobodyBefore w (i + 1) cs
+nobody_more w cs i c l is before here k d m = elim (cases_lt k i) [
   | inl less ↦ before k d less
-  | inr more ↦ ap (λ (j : ℕ). is_holding (get_or cs j d)) (same_place k i m more)
-      ∙ ap is_holding (get_or_default cs i d c l ∙ sym is) ∙ here
+  | inr more ↦ ap (λ (j : ℕ). is_holding w (get_or cs j d)) (same_place k i m more)
+      ∙ ap (is_holding w) (get_or_default cs i d c l ∙ sym is) ∙ here
 ]
   where
     same_place : (k i : ℕ) → k < i + 1 → i ≤ k → k ≡ i
@@ -100,33 +96,18 @@ nobody_more cs i c l is before here k d m = elim (cases_lt k i) [
 
 -- this core holds, and none before it
 pub this_core : (h : Held) (cs : List Core) (i : ℕ) (c : Core) (x : ℕ) → IsWhole h → cs ≡ h.cores → i < length cs → c
-    ≡ get_or cs i c → NobodyBefore i cs
-    → is_holding c ≡ true → x ≡ c.name → Some x ≡ holder (opening_of h) (seen h)
+    ≡ get_or cs i c → NobodyBefore h.links i cs
+    → is_holding h.links c ≡ true → x ≡ c.name → Some x ≡ holder (opening_of h) (seen h)
 this_core h cs i c x whole are l is before here named =
     ap Some (named ∙ ap name_of here_is) ∙ this_holds h whole i c (subst (λ (ds : List Core). i < length ds) are l)
-    (subst (λ (ds : List Core). NobodyBefore i ds) are before) (sym (ap is_holding here_is) ∙ here)
+    (subst (λ (ds : List Core). NobodyBefore h.links i ds) are before) (sym (ap (is_holding h.links) here_is) ∙ here)
   where
     here_is : c ≡ get_or h.cores i c
     here_is = is ∙ ap (λ (ds : List Core). get_or ds i c) are
 
--- both tests
-pub both_hold : (c : Core) → c.joined ≡ true → holds_global (node_of c) ≡ true → is_holding c ≡ true
-both_hold c e f = ap (λ (b : Bool). b && holds_global (node_of c)) e ∙ f
-
--- one test
-pub not_joined : (c : Core) → c.joined ≡ false → is_holding c ≡ false
-not_joined c e = ap (λ (b : Bool). b && holds_global (node_of c)) e
-
-pub not_global : (c : Core) → holds_global (node_of c) ≡ false → is_holding c ≡ false
-not_global c e = ap (λ (b : Bool). c.joined && b) e ∙ and_false c.joined
-  where
-    and_false : (b : Bool) → (b && false) ≡ false
-    and_false true = refl
-    and_false false = refl
-
 -- no core holds
-pub no_core_holds : (h : Held) (cs : List Core) (i : ℕ) → IsWhole h → cs ≡ h.cores → length cs ≤ i → NobodyBefore i cs
-    → None ≡ holder (opening_of h) (seen h)
+pub no_core_holds : (h : Held) (cs : List Core) (i : ℕ) → IsWhole h → cs ≡ h.cores → length cs ≤ i
+    → NobodyBefore h.links i cs → None ≡ holder (opening_of h) (seen h)
 no_core_holds h cs i whole are le before =
-    nobody_holds h whole (λ k d l. subst (λ (ds : List Core). is_holding (get_or ds k d) ≡ false) are
+    nobody_holds h whole (λ k d l. subst (λ (ds : List Core). is_holding h.links (get_or ds k d) ≡ false) are
     (before k d (omega (arith, l, le, ap (λ (ds : List Core). length ds) are))))

@@ -2,17 +2,19 @@
 use Rattle.std.proofs.Common.{ℕ, Bool, true, false, ◌==◌, ◌≡◌, List, [], ◌∷◌, ◌++◌, drop, map, filter, refl, sym, ap, subst, ◌∙◌, suc, inl, inr, arith}
 use Rattle.std.specs.Prelude.{not, ◌&&◌, is_some, if◌then◌else◌, All}
 use Rattle.std.proofs.Math.Path.{fun_ext}
-use Rattle.std.proofs.lemmas.Bool.{cases_eq, eq-eqb, ne_eqb}
+use Rattle.std.proofs.lemmas.Bool.{cases_eq, eq-eqb, eqb-true, ne_eqb}
 use Rattle.std.proofs.lemmas.List.{append_assoc, append-nil, map-append}
-use Rattle.protocol_model.specs.Links.{Links, posted, taken}
+use Rattle.std.proofs.lemmas.List.Elements.{All-nil, All-push, All-append, All-tail}
+use Rattle.protocol_model.specs.Links.{Links, posted, taken, closed_out}
 use Rattle.link.specs.declared.faults.LinkFault.{LinkFault}
 use Rattle.link.specs.declared.faults.LinkFault.TheVariants as on_link
 use Rattle.link.specs.Faults.{joins, IsUnsent}
 use Rattle.link.specs.Held.{Held, place, only_to}
 use Rattle.node_core.specs.declared.events.Letter.{Letter}
+use Rattle.node_core.specs.Steps.{IsSaidBy}
 use Rattle.cluster_world.specs.declared.events.Refusal.TheVariants.{NoSuchNode, Memory}
 use Rattle.cluster_world.specs.Refusals.{refusal_on}
-use Rattle.cluster_world.specs.Links.{mapped, letters_to}
+use Rattle.cluster_world.specs.Links.{mapped, letters_to, AreFit}
 
 -- links with these queues
 abbrev with_queue : {L : Type 0} → Links L → (ℕ → ℕ → List L) → Links L
@@ -46,6 +48,16 @@ mapped-taken f s t w = queues_agree (mapped f w) (mapped f (taken s t w)).queue 
     go : (x y : ℕ) (b : Bool) → map f (if b then drop 1 (w.queue x y) else w.queue x y)
         ≡ (if b then drop 1 (map f (w.queue x y)) else map f (w.queue x y))
     go x y true = drop-map (w.queue x y)
+    go x y false = refl
+
+-- and a node is closed out
+pub mapped-closed_out : {L M : Type 0} (f : L → M) (d : ℕ) (w : Links L)
+    → mapped f (closed_out d w) ≡ closed_out d (mapped f w)
+mapped-closed_out f d w = queues_agree (mapped f (closed_out d w)) (mapped f (closed_out d w)).queue
+    (closed_out d (mapped f w)).queue (λ x y. go x y (y == d))
+  where
+    go : (x y : ℕ) (b : Bool) → map f (if b then [] else w.queue x y) ≡ (if b then [] else map f (w.queue x y))
+    go x y true = refl
     go x y false = refl
 
 -- no letters at all
@@ -90,17 +102,14 @@ pub posted-push : {L : Type 0} (a : ℕ) (ss : List (ℕ × L)) (s : ℕ × L) (
 posted-push a ss s w = sym (posted-posted a (λ t. letters_to t ss) (only_to s.0 s.1) w
     ∙ ap (λ (ls : ℕ → List _). posted a ls w) (fun_ext (λ t. sym (letters_to-push t ss s))))
 
--- the first of these letters is between nodes of a mesh
-pub first_joined : (a : ℕ) (h : Held Letter) (s : ℕ × Letter) (ss rest : List (ℕ × Letter)) → ss ≡ s ∷ rest
-    → All (λ s. joins a s.0 h ≡ true) ss → joins a s.0 h ≡ true
-first_joined a h s ss rest is all =
-    subst (λ (xs : List (ℕ × Letter)). All (λ s. joins a s.0 h ≡ true) xs) is all 0 s (omega arith)
+-- what holds of each of these letters holds of the first
+pub first_of : (P : ℕ × Letter → Type 0) (s : ℕ × Letter) (ss rest : List (ℕ × Letter)) → ss ≡ s ∷ rest → All P ss → P s
+first_of P s ss rest is all = subst (λ (xs : List (ℕ × Letter)). All P xs) is all 0 s (omega arith)
 
--- and so are the others
-pub others_joined : (a : ℕ) (h : Held Letter) (s : ℕ × Letter) (ss rest : List (ℕ × Letter)) → ss ≡ s ∷ rest
-    → All (λ s. joins a s.0 h ≡ true) ss → All (λ s. joins a s.0 h ≡ true) rest
-others_joined a h s ss rest is all = λ k d l.
-    subst (λ (xs : List (ℕ × Letter)). All (λ s. joins a s.0 h ≡ true) xs) is all (suc k) d (omega arith)
+-- and of the others
+pub others_of : (P : ℕ × Letter → Type 0) (s : ℕ × Letter) (ss rest : List (ℕ × Letter)) → ss ≡ s ∷ rest → All P ss
+    → All P rest
+others_of P s ss rest is all = λ k d l. subst (λ (xs : List (ℕ × Letter)). All P xs) is all (suc k) d (omega arith)
 
 -- between nodes of the mesh a letter isn't sent for want of memory alone
 pub only_memory : (fault : LinkFault) (a t : ℕ) (h k : Held Letter) → k.nodes ≡ h.nodes → joins a t h ≡ true
@@ -112,3 +121,64 @@ only_memory on_link.NoSuchNode a t h k same known f =
     never e = cc
 only_memory on_link.EmptyLink a t h k same known f = absurd f
 only_memory on_link.Memory a t h k same known f = refl
+
+-- links stay fit when a letter is posted
+pub fit_posted : (ns : List ℕ) (a t : ℕ) (l : Letter) (w : Links Letter) → IsSaidBy ns t a l → AreFit ns w
+    → AreFit ns (posted a (only_to t l) w)
+fit_posted ns a t l w from_a F = record { quiet = quiet; said = λ f x. said f x (f == a) refl (w.closed x) }
+  where
+    -- what was on a link, and what is put behind it
+    more : ℕ → ℕ → List Letter
+    more f x = w.queue f x ++ only_to t l x
+
+    quiet : (f x : ℕ) → w.closed x ≡ true → (posted a (only_to t l) w).queue f x ≡ []
+    quiet f x shut = ap (λ (b : Bool). if (f == a) && not b then more f x else w.queue f x) shut
+        ∙ same (f == a) ∙ F.quiet f x shut
+      where
+        same : (b : Bool) → (if b && false then more f x else w.queue f x) ≡ w.queue f x
+        same true = refl
+        same false = refl
+
+    said : (f x : ℕ) (b : Bool) → (f == a) ≡ b → (d : Bool)
+        → All (IsSaidBy ns x f) (if b && not d then more f x else w.queue f x)
+    said f x true e false = All-append (IsSaidBy ns x f) (w.queue f x) (only_to t l x) (F.said f x) (one (x == t) refl)
+      where
+        one : (b : Bool) → (x == t) ≡ b → All (IsSaidBy ns x f) (if b then l ∷ [] else [])
+        one true s = All-push (IsSaidBy ns x f) [] l (All-nil (IsSaidBy ns x f))
+            (subst (λ (y : ℕ). IsSaidBy ns y f l) (sym (eqb-true x t s))
+            (subst (λ (y : ℕ). IsSaidBy ns t y l) (sym (eqb-true f a e)) from_a))
+        one false s = All-nil (IsSaidBy ns x f)
+    said f x true e true = F.said f x
+    said f x false e d = F.said f x
+
+-- when one is taken
+pub fit_taken : (ns : List ℕ) (f t : ℕ) (w : Links Letter) → AreFit ns w → AreFit ns (taken f t w)
+fit_taken ns f t w F = record {
+  quiet = λ x y shut. quiet x y (F.quiet x y shut) ((x == f) && (y == t));
+  said = λ x y. said x y ((x == f) && (y == t)) (w.queue x y) (F.said x y);
+}
+  where
+    quiet : (x y : ℕ) → w.queue x y ≡ [] → (b : Bool) → (if b then drop 1 (w.queue x y) else w.queue x y) ≡ []
+    quiet x y e true = ap (λ (ls : List Letter). drop 1 ls) e
+    quiet x y e false = e
+
+    said : (x y : ℕ) (b : Bool) (ls : List Letter) → All (IsSaidBy ns y x) ls
+        → All (IsSaidBy ns y x) (if b then drop 1 ls else ls)
+    said x y true [] all = all
+    said x y true (l ∷ ls) all = All-tail (IsSaidBy ns y x) l ls all
+    said x y false ls all = all
+
+-- and when a node is closed out
+pub fit_closed : (ns : List ℕ) (d : ℕ) (w : Links Letter) → AreFit ns w → AreFit ns (closed_out d w)
+fit_closed ns d w F = record {
+  quiet = λ x y shut. quiet x y (y == d) shut;
+  said = λ x y. said x y (y == d);
+}
+  where
+    quiet : (x y : ℕ) (b : Bool) → (if b then true else w.closed y) ≡ true → (if b then [] else w.queue x y) ≡ []
+    quiet x y true shut = refl
+    quiet x y false shut = F.quiet x y shut
+
+    said : (x y : ℕ) (b : Bool) → All (IsSaidBy ns y x) (if b then [] else w.queue x y)
+    said x y true = All-nil (IsSaidBy ns y x)
+    said x y false = F.said x y

@@ -1,10 +1,11 @@
 -- A step of a node, as an event that the protocol's world accepts or refuses.
 use Rattle.std.proofs.Common.{ℕ, Bool, true, false, ◌≡◌, Option, Some, None, List, [], ◌∷◌, drop, map, refl, sym, ap, subst, ◌∙◌}
-use Rattle.std.specs.Prelude.{if◌then◌else◌, not, ◌&&◌, ◌||◌, is_none, is_some}
+use Rattle.std.specs.Prelude.{if◌then◌else◌, not, ◌&&◌, ◌||◌, is_none, is_some, All, Result, Ok, Err, OnOk, IfErr}
 use Rattle.std.specs.List.{slice_get}
+use Rattle.std.proofs.lemmas.List.Elements.{All-head}
 use Rattle.registry_model.specs.Process.{Nodes}
 use Rattle.protocol_model.specs.Letter.{Letter as AnyLetter}
-use Rattle.protocol_model.specs.Links.{Links, is_nil, taken}
+use Rattle.protocol_model.specs.Links.{Links, is_nil, taken, closed_out}
 use Rattle.protocol_model.specs.Node.{Node}
 use Rattle.protocol_model.specs.Event.{Event as AnyEvent, Answer as AnyAnswer, Refusal as AnyRefusal, causes, first_cause}
 use Rattle.protocol_model.specs.Turn.{Turn, begun}
@@ -12,53 +13,86 @@ use Rattle.protocol_model.specs.Calling.{event}
 use Rattle.protocol_model.specs.Reading.{receive}
 use Rattle.protocol_model.specs.World.{World, WorldEvent as AnyWorldEvent, in_world, left, other, refusal, accepted, happens, answers, turn_of, heard, apply, opened, join_number}
 use Rattle.term.specs.NodeSets.{set_of}
-use Rattle.link.specs.Faults.{joins, IsUndelivered}
-use Rattle.link.specs.Held.{Held as Mesh, place, seen as links_of}
+use Rattle.link.specs.Faults.{joins, IsUndelivered, IsNotClosed}
+use Rattle.link.specs.Held.{Held as Mesh, place, has, closed_at, seen as links_of}
 use Rattle.link.specs.declared.faults.LinkFault.{LinkFault}
 use Rattle.link.specs.declared.faults.LinkFault.TheVariants as on_link
 use Rattle.node_core.specs.declared.events.Answer.{Answer}
-use Rattle.node_core.specs.declared.events.Call.TheVariants.{Spawn, Whereis, RegisteredNames, Register, ReRegister, Unregister, SetLock, DelLock}
+use Rattle.node_core.specs.declared.events.Call.TheVariants.{Spawn, Whereis, RegisteredNames, Register, ReRegister, Unregister, SetLock, DelLock, Join as JoinBy}
+use Rattle.node_core.specs.declared.events.Call.{Call as ClientCall}
 use Rattle.node_core.specs.declared.events.Event.TheVariants.{FromPeer}
 use Rattle.node_core.specs.declared.events.Letter.{Letter}
 use Rattle.node_core.specs.Held.{Held as Core, bound_of}
-use Rattle.node_core.specs.Seen.{node_of, letter_of, answer_of}
-use Rattle.node_core.specs.Steps.{IsTurn, IsHeardWithin, refusal_of as node_refusal}
+use Rattle.node_core.specs.Letters.{letter_of}
+use Rattle.node_core.specs.Seen.{node_of, answer_of}
+use Rattle.node_core.specs.Steps.{IsTurn, IsSaidBy, IsAskedWithin, IsHeardWithin, refusal_of as node_refusal}
 use Rattle.cluster_world.specs.declared.events.Event.{Event}
-use Rattle.cluster_world.specs.declared.events.Event.TheVariants.{Call, Retry, Exit}
+use Rattle.cluster_world.specs.declared.events.Event.TheVariants.{Call, Retry, Exit, Leave}
 use Rattle.cluster_world.specs.declared.events.Refusal.{Refusal}
-use Rattle.cluster_world.specs.declared.events.Refusal.TheVariants.{NoSuchNode, EmptyLink, NotLive, Busy, Reserved, UnknownNode, NoSuchProcess, AlreadyExited, SerialsSpent, NothingToRetry, CallsSpent, Memory}
+use Rattle.cluster_world.specs.declared.events.Refusal.TheVariants.{NoSuchNode, NodeLeft, EmptyLink, NotLive, Busy, Reserved, UnknownNode, AlreadyJoined, NoSuchProcess, AlreadyExited, SerialsSpent, NothingToRetry, HoldsLock, CallsSpent, Memory}
 use Rattle.cluster_world.specs.declared.events.WorldEvent.TheVariants.{At, Deliver}
-use Rattle.cluster_world.specs.Events.{node_event, own_event_of, event_of}
+use Rattle.cluster_world.specs.Events.{node_event, own_event_of, event_of, is_leave, knows_contact}
 use Rattle.cluster_world.specs.Held.{Held, IsWhole}
-use Rattle.cluster_world.specs.Links.{mapped}
+use Rattle.cluster_world.specs.Links.{mapped, AreFit}
 use Rattle.cluster_world.specs.Playing.{Played, RefusedWith}
 use Rattle.cluster_world.specs.Refusals.{refusal_on, is_memory}
 use Rattle.cluster_world.specs.Seen.{opening_of, node_with, seen}
 use Rattle.cluster_world.specs.Steps.{Stands, Moves, FailsAt}
-use Rattle.cluster_world.proofs.Mail.{mapped-taken}
+use Rattle.cluster_world.proofs.Mail.{mapped-taken, mapped-closed_out, fit_taken, fit_closed}
 use Rattle.cluster_world.proofs.Nodes.{world_is, is_some-place}
+
+-- a call's contact, if it has one, is of the world
+own_asks : (nodes : List ℕ) (c : ClientCall) → knows_contact nodes (Call c) ≡ true → IsAskedWithin nodes c
+own_asks nodes Spawn known = tt
+own_asks nodes (Whereis x) known = tt
+own_asks nodes RegisteredNames known = tt
+own_asks nodes (Register x p) known = tt
+own_asks nodes (ReRegister x p) known = tt
+own_asks nodes (Unregister x) known = tt
+own_asks nodes (SetLock p id asked retries) known = tt
+own_asks nodes (DelLock p id asked) known = tt
+own_asks nodes (JoinBy m) known = known
+
+-- all links towards d are closed
+abbrev shut_out : ℕ → World → World
+shut_out d w = record w { links = closed_out d w.links }
 
 module _ (h : Held) where
   -- whether the world has a node
   inside : (a : ℕ) (b : Bool) → set_of h.nodes a ≡ b → in_world (opening_of h) a ≡ b
   inside a b e = ap (λ (s : Nodes). s a) (world_is h.nodes h.cluster) ∙ e
 
-  -- nobody has left it
-  running : IsWhole h → (a : ℕ) → left (seen h) a ≡ false
-  running whole a = ap (λ (s : Nodes). s a) whole.running
+  -- an event of a node names no other node than its contact
+  other_inside : (a : ℕ) (e : Event) → set_of h.nodes a ≡ true → knows_contact h.nodes e ≡ true
+      → in_world (opening_of h) (other (AnyWorldEvent.At a (own_event_of e))) ≡ true
+  other_inside a (Call Spawn) here known = inside a true here
+  other_inside a (Call (Whereis x)) here known = inside a true here
+  other_inside a (Call RegisteredNames) here known = inside a true here
+  other_inside a (Call (Register x p)) here known = inside a true here
+  other_inside a (Call (ReRegister x p)) here known = inside a true here
+  other_inside a (Call (Unregister x)) here known = inside a true here
+  other_inside a (Call (SetLock p id nodes retries)) here known = inside a true here
+  other_inside a (Call (DelLock p id nodes)) here known = inside a true here
+  other_inside a (Call (JoinBy m)) here known = inside m true known
+  other_inside a Retry here known = inside a true here
+  other_inside a (Exit p) here known = inside a true here
+  other_inside a Leave here known = inside a true here
 
-  -- an event of a call or a retry names no other node
-  own_alone : (a : ℕ) (e : Event) → other (AnyWorldEvent.At a (own_event_of e)) ≡ a
-  own_alone a (Call Spawn) = refl
-  own_alone a (Call (Whereis x)) = refl
-  own_alone a (Call RegisteredNames) = refl
-  own_alone a (Call (Register x p)) = refl
-  own_alone a (Call (ReRegister x p)) = refl
-  own_alone a (Call (Unregister x)) = refl
-  own_alone a (Call (SetLock p id nodes retries)) = refl
-  own_alone a (Call (DelLock p id nodes)) = refl
-  own_alone a Retry = refl
-  own_alone a (Exit p) = refl
+  -- and a contact that isn't of the world is
+  other_outside : (a : ℕ) (e : Event) → knows_contact h.nodes e ≡ false
+      → in_world (opening_of h) (other (AnyWorldEvent.At a (own_event_of e))) ≡ false
+  other_outside a (Call Spawn) strange = cc
+  other_outside a (Call (Whereis x)) strange = cc
+  other_outside a (Call RegisteredNames) strange = cc
+  other_outside a (Call (Register x p)) strange = cc
+  other_outside a (Call (ReRegister x p)) strange = cc
+  other_outside a (Call (Unregister x)) strange = cc
+  other_outside a (Call (SetLock p id nodes retries)) strange = cc
+  other_outside a (Call (DelLock p id nodes)) strange = cc
+  other_outside a (Call (JoinBy m)) strange = inside m false strange
+  other_outside a Retry strange = cc
+  other_outside a (Exit p) strange = cc
+  other_outside a Leave strange = cc
 
   -- a node that isn't of the world
   refused_stranger : (a : ℕ) (e : AnyEvent) → set_of h.nodes a ≡ false
@@ -69,29 +103,59 @@ module _ (h : Held) where
       else (if left (seen h) a then Some AnyRefusal.NodeLeft else first_cause (causes a ((seen h).node a) e)))
       (inside a false stranger)
 
-  module _ (whole : IsWhole h) (a : ℕ) (core : Core) (S : Stands a h core) where
+  -- a contact that isn't
+  pub refuses_contact : (a : ℕ) (e : Event) → knows_contact h.nodes e ≡ false → RefusedWith NoSuchNode (At a e) h
+  refuses_contact a e strange =
+      ap (λ (b : Bool). if not (in_world (opening_of h) a) || not b then Some AnyRefusal.NoSuchNode
+      else (if left (seen h) a then Some AnyRefusal.NodeLeft else
+      first_cause (causes a ((seen h).node a) (own_event_of e)))) (other_outside a e strange)
+      ∙ go (in_world (opening_of h) a)
+    where
+      go : (b : Bool) → (if not b || true then Some AnyRefusal.NoSuchNode
+          else (if left (seen h) a then Some AnyRefusal.NodeLeft else
+          first_cause (causes a ((seen h).node a) (own_event_of e)))) ≡ Some AnyRefusal.NoSuchNode
+      go true = refl
+      go false = refl
+
+  -- the nodes that an event names are of the world
+  named : (a : ℕ) (e : AnyEvent) → set_of h.nodes a ≡ true → in_world (opening_of h) (other (AnyWorldEvent.At a e)) ≡ true
+      → refusal (opening_of h) (seen h) (AnyWorldEvent.At a e)
+      ≡ (if left (seen h) a then Some AnyRefusal.NodeLeft else first_cause (causes a ((seen h).node a) e))
+  named a e known others =
+      ap (λ (b : Bool). if not (in_world (opening_of h) a) || not b then Some AnyRefusal.NoSuchNode
+      else (if left (seen h) a then Some AnyRefusal.NodeLeft else first_cause (causes a ((seen h).node a) e))) others
+      ∙ ap (λ (b : Bool). if not b || false then Some AnyRefusal.NoSuchNode
+      else (if left (seen h) a then Some AnyRefusal.NodeLeft else first_cause (causes a ((seen h).node a) e)))
+      (inside a true known)
+
+  -- one that has left
+  refused_left : (a : ℕ) (e : AnyEvent) → in_world (opening_of h) (other (AnyWorldEvent.At a e)) ≡ true
+      → set_of h.nodes a ≡ true → left (seen h) a ≡ true
+      → refusal (opening_of h) (seen h) (AnyWorldEvent.At a e) ≡ Some AnyRefusal.NodeLeft
+  refused_left a e others known gone =
+      named a e known others
+      ∙ ap (λ (b : Bool). if b then Some AnyRefusal.NodeLeft else first_cause (causes a ((seen h).node a) e)) gone
+
+  module _ (a : ℕ) (core : Core) (S : Stands a h core) where
     node_is : (seen h).node a ≡ node_of core
     node_is = ap (node_with (opening_of h) a) S.is
 
     -- what the node refuses
-    refused_by_node : (e : AnyEvent) → other (AnyWorldEvent.At a e) ≡ a
+    refused_by_node : (e : AnyEvent) → in_world (opening_of h) (other (AnyWorldEvent.At a e)) ≡ true
         → refusal (opening_of h) (seen h) (AnyWorldEvent.At a e) ≡ first_cause (causes core.name (node_of core) e)
-    refused_by_node e own =
-        ap (λ (c : ℕ). if not (in_world (opening_of h) a) || not (in_world (opening_of h) c) then Some
-        AnyRefusal.NoSuchNode
-        else (if left (seen h) a then Some AnyRefusal.NodeLeft else first_cause (causes a ((seen h).node a) e))) own
-        ∙ ap (λ (b : Bool). if not b || not b then Some AnyRefusal.NoSuchNode
-        else (if left (seen h) a then Some AnyRefusal.NodeLeft else first_cause (causes a ((seen h).node a) e)))
-        (inside a true S.known)
+    refused_by_node e others =
+        named a e S.known others
         ∙ ap (λ (b : Bool). if b then Some AnyRefusal.NodeLeft else first_cause (causes a ((seen h).node a) e))
-        (running whole a)
+        S.running
         ∙ ap (λ (v : Node). first_cause (causes a v e)) node_is
         ∙ ap (λ (n : ℕ). first_cause (causes n (node_of core) e)) (sym S.name)
 
-    refused_own : (e : Event) → refusal (opening_of h) (seen h) (event_of (At a e)) ≡ node_refusal (node_event e) core
-    refused_own (Call c) = refused_by_node (own_event_of (Call c)) (own_alone a (Call c))
-    refused_own Retry = refused_by_node (own_event_of Retry) (own_alone a Retry)
-    refused_own (Exit p) = refused_by_node (own_event_of (Exit p)) (own_alone a (Exit p))
+    refused_own : (e : Event) → knows_contact h.nodes e ≡ true
+        → refusal (opening_of h) (seen h) (event_of (At a e)) ≡ node_refusal (node_event e) core
+    refused_own (Call c) known = refused_by_node (own_event_of (Call c)) (other_inside a (Call c) S.known known)
+    refused_own Retry known = refused_by_node (own_event_of Retry) (inside a true S.known)
+    refused_own (Exit p) known = refused_by_node (own_event_of (Exit p)) (inside a true S.known)
+    refused_own Leave known = refused_by_node (own_event_of Leave) (inside a true S.known)
 
     -- what the node makes
     event_is : (e : AnyEvent) → event (bound_of core.world) core.name (set_of core.world) e (begun (node_of core))
@@ -102,40 +166,56 @@ module _ (h : Held) where
         ∙ ap (λ (s : Nodes). event (bound_of h.nodes) a s e (begun (node_of core))) (sym (world_is h.nodes h.cluster))
         ∙ ap (λ (v : Node). event (bound_of h.nodes) a (in_world (opening_of h)) e (begun v)) (sym node_is)
 
-    own_turn : (e : Event) (u : Turn) → IsTurn (node_event e) core u → u
-        ≡ turn_of (opening_of h) (seen h) (event_of (At a e))
-    own_turn (Call c) u is = is ∙ event_is (own_event_of (Call c))
-    own_turn Retry u is = is ∙ event_is (own_event_of Retry)
-    own_turn (Exit p) u is = is ∙ event_is (own_event_of (Exit p))
+    own_turn : (e : Event) → knows_contact h.nodes e ≡ true → (u : Turn)
+        → IsTurn (join_number (seen h)) (node_event e) core u → u ≡ turn_of (opening_of h) (seen h) (event_of (At a e))
+    own_turn (Call c) known u is = is (subst (λ (ns : List ℕ). IsAskedWithin ns c) (sym S.world)
+        (own_asks h.nodes c known)) ∙ event_is (own_event_of (Call c))
+    own_turn Retry known u is = is ∙ event_is (own_event_of Retry)
+    own_turn (Exit p) known u is = is ∙ event_is (own_event_of (Exit p))
+    own_turn Leave known u is = is ∙ event_is (own_event_of Leave)
 
-  -- nobody leaves by such an event
-  stays : (a : ℕ) (e : Event) → accepted (opening_of h) (seen h) (event_of (At a e))
+  -- by another event than a leave nobody leaves
+  stays : (a : ℕ) (e : Event) → is_leave e ≡ false → accepted (opening_of h) (seen h) (event_of (At a e))
       ≡ apply a (turn_of (opening_of h) (seen h) (event_of (At a e))) (seen h)
-  stays a (Call c) = refl
-  stays a Retry = refl
-  stays a (Exit p) = refl
+  stays a (Call c) other = refl
+  stays a Retry other = refl
+  stays a (Exit p) other = refl
+  stays a Leave other = cc
+
+  -- by a leave its node does
+  leaves : (a : ℕ) (e : Event) → is_leave e ≡ true → accepted (opening_of h) (seen h) (event_of (At a e))
+      ≡ shut_out a (apply a (turn_of (opening_of h) (seen h) (event_of (At a e))) (seen h))
+  leaves a (Call c) leave = cc
+  leaves a Retry leave = cc
+  leaves a (Exit p) leave = cc
+  leaves a Leave leave = refl
 
 -- it hears nobody
-pub own_hears : (nodes : List ℕ) (e : Event) → IsHeardWithin nodes (node_event e)
-own_hears nodes (Call c) = tt
-own_hears nodes Retry = tt
-own_hears nodes (Exit p) = tt
+pub own_hears : (nodes : List ℕ) (a : ℕ) (e : Event) → knows_contact nodes e ≡ true
+    → IsHeardWithin nodes a (node_event e)
+own_hears nodes a (Call c) known = own_asks nodes c known
+own_hears nodes a Retry known = tt
+own_hears nodes a (Exit p) known = tt
+own_hears nodes a Leave known = tt
 
 -- the node's own event is refused
-pub refuses_own : (h : Held) (a : ℕ) (e : Event) (r : Refusal) → IsWhole h → FailsAt r a (node_event e) h
-    → RefusedWith r (At a e) h
-refuses_own h a e NoSuchNode whole F = refused_stranger h a (own_event_of e) F
-refuses_own h a e EmptyLink whole (c, S, q) = refused_own h whole a c S e ∙ q
-refuses_own h a e (NotLive p) whole (c, S, q) = refused_own h whole a c S e ∙ q
-refuses_own h a e (Busy p) whole (c, S, q) = refused_own h whole a c S e ∙ q
-refuses_own h a e Reserved whole (c, S, q) = refused_own h whole a c S e ∙ q
-refuses_own h a e UnknownNode whole (c, S, q) = refused_own h whole a c S e ∙ q
-refuses_own h a e NoSuchProcess whole (c, S, q) = refused_own h whole a c S e ∙ q
-refuses_own h a e AlreadyExited whole (c, S, q) = refused_own h whole a c S e ∙ q
-refuses_own h a e SerialsSpent whole (c, S, q) = refused_own h whole a c S e ∙ q
-refuses_own h a e NothingToRetry whole (c, S, q) = refused_own h whole a c S e ∙ q
-refuses_own h a e CallsSpent whole (c, S, q) = refused_own h whole a c S e ∙ q
-refuses_own h a e Memory whole (c, S, q) = refused_own h whole a c S e ∙ q
+pub refuses_own : (h : Held) (a : ℕ) (e : Event) → knows_contact h.nodes e ≡ true → (r : Refusal)
+    → FailsAt r a (node_event e) h → RefusedWith r (At a e) h
+refuses_own h a e known NoSuchNode F = refused_stranger h a (own_event_of e) F
+refuses_own h a e known NodeLeft F = refused_left h a (own_event_of e) (other_inside h a e F.0 known) F.0 F.1
+refuses_own h a e known EmptyLink (c, S, q) = refused_own h a c S e known ∙ q
+refuses_own h a e known (NotLive p) (c, S, q) = refused_own h a c S e known ∙ q
+refuses_own h a e known (Busy p) (c, S, q) = refused_own h a c S e known ∙ q
+refuses_own h a e known Reserved (c, S, q) = refused_own h a c S e known ∙ q
+refuses_own h a e known UnknownNode (c, S, q) = refused_own h a c S e known ∙ q
+refuses_own h a e known AlreadyJoined (c, S, q) = refused_own h a c S e known ∙ q
+refuses_own h a e known NoSuchProcess (c, S, q) = refused_own h a c S e known ∙ q
+refuses_own h a e known AlreadyExited (c, S, q) = refused_own h a c S e known ∙ q
+refuses_own h a e known SerialsSpent (c, S, q) = refused_own h a c S e known ∙ q
+refuses_own h a e known NothingToRetry (c, S, q) = refused_own h a c S e known ∙ q
+refuses_own h a e known HoldsLock (c, S, q) = refused_own h a c S e known ∙ q
+refuses_own h a e known CallsSpent (c, S, q) = refused_own h a c S e known ∙ q
+refuses_own h a e known Memory (c, S, q) = refused_own h a c S e known ∙ q
 
 -- an event that is accepted, with what it makes
 happens_by : (h : Held) (e : AnyWorldEvent) (w : World) (u : Turn) → refusal (opening_of h) (seen h) e ≡ None
@@ -148,25 +228,65 @@ answers_by : (h : Held) (e : AnyWorldEvent) (given : List AnyAnswer) → refusal
 answers_by h e given free is = is ∙ sym (ap (λ (r : Option AnyRefusal). if is_none r then
     (turn_of (opening_of h) (seen h) e).answers else []) free)
 
--- the node's own event is played
-pub plays_own : (old new : Held) (a : ℕ) (e : Event) (given : List Answer) → IsWhole old
-    → Moves a (node_event e) old new given
-    → Played (At a e) old new [] given
-plays_own old new a e given whole M = record {
-  nodes = M.nodes;
-  cluster = M.cluster;
-  accepted = free;
-  happens = happens_by old (event_of (At a e)) (seen new) M.turn free
-      (M.world ∙ ap (λ (u : Turn). apply a u (seen old)) turn ∙ sym (stays old a e));
-  answers = answers_by old (event_of (At a e)) (map answer_of given) free
-      (M.answers ∙ ap (λ (u : Turn). u.answers) turn);
-}
-  where
-    free : refusal (opening_of old) (seen old) (event_of (At a e)) ≡ None
-    free = refused_own old whole a M.core M.stands e ∙ M.accepted
+module _ (old mid : Held) (a : ℕ) (e : Event) (given : List Answer) (known : knows_contact old.nodes e ≡ true)
+    (M : Moves a (node_event e) old mid given) where
+  free_own : refusal (opening_of old) (seen old) (event_of (At a e)) ≡ None
+  free_own = refused_own old a M.core M.stands e known ∙ M.accepted
 
-    turn : M.turn ≡ turn_of (opening_of old) (seen old) (event_of (At a e))
-    turn = own_turn old whole a M.core M.stands e M.turn M.makes
+  turn_own : M.turn ≡ turn_of (opening_of old) (seen old) (event_of (At a e))
+  turn_own = own_turn old a M.core M.stands e known M.turn M.makes
+
+  plays_so : (new : Held) → new.nodes ≡ mid.nodes → new.cluster ≡ mid.cluster
+      → seen new ≡ accepted (opening_of old) (seen old) (event_of (At a e)) → Played (At a e) old new [] given
+  plays_so new nodes cluster is = record {
+    nodes = nodes ∙ M.nodes;
+    cluster = cluster ∙ M.cluster;
+    accepted = free_own;
+    happens = happens_by old (event_of (At a e)) (seen new) M.turn free_own is;
+    answers = answers_by old (event_of (At a e)) (map answer_of given) free_own
+        (M.answers ∙ ap (λ (u : Turn). u.answers) turn_own);
+  }
+
+  -- the node's own event is played
+  pub plays_own : is_leave e ≡ false → Played (At a e) old mid [] given
+  plays_own other = plays_so mid refl refl
+      (M.world ∙ ap (λ (u : Turn). apply a u (seen old)) turn_own ∙ sym (stays old a e other))
+
+  -- and so is a leave, where the links towards the node are closed behind it
+  pub plays_leave : (new : Held) → is_leave e ≡ true → links_of new.links ≡ closed_out a (links_of mid.links)
+      → new ≡ record mid { links = new.links } → Played (At a e) old new [] given
+  plays_leave new leave closed others = plays_so new (ap (λ (k : Held). k.nodes) others)
+      (ap (λ (k : Held). k.cluster) others)
+      (ap seen others
+      ∙ ap (λ (w : Links AnyLetter). record (seen mid) { links = w })
+      (ap (mapped letter_of) closed ∙ mapped-closed_out letter_of a (links_of mid.links))
+      ∙ ap (shut_out a) (M.world ∙ ap (λ (u : Turn). apply a u (seen old)) turn_own)
+      ∙ sym (leaves old a e leave))
+
+-- a node of the mesh is closed out
+pub shuts : (a : ℕ) (h k : Mesh Letter) (r : Result Unit LinkFault) → has a h ≡ true
+    → OnOk r (links_of k ≡ closed_out a (links_of h)) → IfErr r (λ fault. IsNotClosed fault a h)
+    → links_of k ≡ closed_out a (links_of h)
+shuts a h k (Ok x) known ok err = ok
+shuts a h k (Err on_link.NoSuchNode) known ok err = cc (known, err)
+shuts a h k (Err on_link.EmptyLink) known ok err = absurd err
+shuts a h k (Err on_link.Memory) known ok err = absurd err
+
+-- so is one of the world, which stays whole
+module _ (h : Held) (whole : IsWhole h) (a : ℕ) where
+  pub has_so : set_of h.nodes a ≡ true → has a h.links ≡ true
+  has_so known = ap (λ (ns : List ℕ). is_some (place a ns)) whole.links ∙ is_some-place h.nodes a ∙ known
+
+  pub shut_whole : (k : Mesh Letter) → k.nodes ≡ h.links.nodes → links_of k ≡ closed_out a (links_of h.links)
+      → IsWhole (record h { links = k })
+  shut_whole k same closed = record {
+    set = whole.set;
+    names = whole.names;
+    worlds = whole.worlds;
+    links = same ∙ whole.links;
+    fit = subst (λ (w : Links Letter). AreFit h.nodes w) (sym closed)
+        (fit_closed h.nodes a (links_of h.links) whole.fit);
+  }
 
 -- the front of a list
 front : (ls : List Letter) (l : Letter) → slice_get ls 0 ≡ Some l → ls ≡ l ∷ drop 1 ls
@@ -180,19 +300,11 @@ module _ (h : Held) (whole : IsWhole h) (f t : ℕ) where
       ∙ sym (ap (λ (c : Bool). is_some (place f h.nodes) && c) (is_some-place h.nodes t))
       ∙ ap (λ (ns : List ℕ). is_some (place f ns) && is_some (place t ns)) (sym whole.links) ∙ e
 
-  -- the sender of a letter that is taken is of the world
-  pub sender_within : joins f t h.links ≡ true → set_of h.nodes f ≡ true
-  sender_within e = go (set_of h.nodes f) (ends true e)
-    where
-      go : (b : Bool) → (b && set_of h.nodes t) ≡ true → b ≡ true
-      go true q = refl
-      go false q = q
-
   -- a delivery, by whether its ends are nodes of the world
   refused_by : (b d : Bool) → set_of h.nodes f ≡ b → set_of h.nodes t ≡ d
       → refusal (opening_of h) (seen h) (AnyWorldEvent.Deliver f t)
-      ≡ (if not d || not b then Some AnyRefusal.NoSuchNode else
-      (if is_nil (map letter_of ((links_of h.links).queue f t)) then Some AnyRefusal.EmptyLink else None))
+      ≡ (if not d || not b then Some AnyRefusal.NoSuchNode else (if left (seen h) t then Some AnyRefusal.NodeLeft else
+      (if is_nil (map letter_of ((links_of h.links).queue f t)) then Some AnyRefusal.EmptyLink else None)))
   refused_by b d e g =
       ap (λ (c : Bool). if not c || not (in_world (opening_of h) f) then Some AnyRefusal.NoSuchNode
       else (if left (seen h) t then Some AnyRefusal.NodeLeft else
@@ -200,118 +312,146 @@ module _ (h : Held) (whole : IsWhole h) (f t : ℕ) where
       ∙ ap (λ (c : Bool). if not d || not c then Some AnyRefusal.NoSuchNode
       else (if left (seen h) t then Some AnyRefusal.NodeLeft else
       (if is_nil ((seen h).links.queue f t) then Some AnyRefusal.EmptyLink else None))) (inside h f b e)
-      ∙ ap (λ (c : Bool). if not d || not b then Some AnyRefusal.NoSuchNode
-      else (if c then Some AnyRefusal.NodeLeft else
-      (if is_nil ((seen h).links.queue f t) then Some AnyRefusal.EmptyLink else None))) (running h whole t)
 
-  -- the link refuses
-  pub refuses_on : (fault : LinkFault) → IsUndelivered fault f t h.links
-      → RefusedWith (refusal_on fault) (Deliver f t) h
-  refuses_on on_link.NoSuchNode e = refused_by (set_of h.nodes f) (set_of h.nodes t) refl refl
-      ∙ go (set_of h.nodes f) (set_of h.nodes t) (ends false e)
+  -- its sender is a stranger
+  pub refuses_stranger : set_of h.nodes f ≡ false → RefusedWith NoSuchNode (Deliver f t) h
+  refuses_stranger e = refused_by false (set_of h.nodes t) e refl ∙ go (set_of h.nodes t)
     where
-      go : (b d : Bool) → (b && d) ≡ false
-          → (if not d || not b then Some AnyRefusal.NoSuchNode else
-          (if is_nil (map letter_of ((links_of h.links).queue f t)) then Some AnyRefusal.EmptyLink else None))
+      go : (d : Bool) → (if not d || true then Some AnyRefusal.NoSuchNode else
+          (if left (seen h) t then Some AnyRefusal.NodeLeft else
+          (if is_nil (map letter_of ((links_of h.links).queue f t)) then Some AnyRefusal.EmptyLink else None)))
           ≡ Some AnyRefusal.NoSuchNode
-      go true true e = cc
-      go true false e = refl
-      go false true e = refl
-      go false false e = refl
-  refuses_on on_link.EmptyLink (e, q) = refused_by (set_of h.nodes f) (set_of h.nodes t) refl refl
-      ∙ go (set_of h.nodes f) (set_of h.nodes t) (ends true e)
+      go true = refl
+      go false = refl
+
+  -- who has left was of the world
+  pub was_known : left (seen h) t ≡ true → set_of h.nodes t ≡ true
+  was_known gone = sym (is_some-place h.nodes t) ∙ ap (λ (ns : List ℕ). is_some (place t ns)) (sym whole.links)
+      ∙ go (place t h.links.nodes) gone
     where
-      go : (b d : Bool) → (b && d) ≡ true
-          → (if not d || not b then Some AnyRefusal.NoSuchNode else
-          (if is_nil (map letter_of ((links_of h.links).queue f t)) then Some AnyRefusal.EmptyLink else None))
-          ≡ Some AnyRefusal.EmptyLink
-      go true true e = ap (λ (ls : List Letter). if is_nil (map letter_of ls) then Some AnyRefusal.EmptyLink else None)
-          q
-      go true false e = cc
-      go false true e = cc
-      go false false e = cc
-  refuses_on on_link.Memory e = absurd e
+      go : (p : Option ℕ) → closed_at p h.links.closed ≡ true → is_some p ≡ true
+      go None e = cc
+      go (Some i) e = refl
 
-  module _ (letter : Letter) (links : Mesh Letter) (known : joins f t h.links ≡ true)
-      (oldest : slice_get ((links_of h.links).queue f t) 0 ≡ Some letter)
-      (off : links_of links ≡ taken f t (links_of h.links))
-      (same : links.nodes ≡ h.links.nodes) where
-    -- what is held when the letter is off its link
-    abbrev pub off_link : Held
-    off_link = record h { links = links }
+  -- its receiver has left
+  pub refuses_left : set_of h.nodes f ≡ true → left (seen h) t ≡ true → RefusedWith NodeLeft (Deliver f t) h
+  refuses_left sender gone = refused_by true true sender (was_known gone)
+      ∙ ap (λ (b : Bool). if b then Some AnyRefusal.NodeLeft else
+      (if is_nil (map letter_of ((links_of h.links).queue f t)) then Some AnyRefusal.EmptyLink else None)) gone
 
-    pub off_whole : IsWhole off_link
-    off_whole = record {
-      set = whole.set;
-      names = whole.names;
-      worlds = whole.worlds;
-      links = same ∙ whole.links;
-      running = ap (λ (w : Links Letter). w.closed) off ∙ whole.running;
-    }
+  module _ (sender : set_of h.nodes f ≡ true) (up : left (seen h) t ≡ false) where
+    -- a running receiver's delivery, by whether it is of the world
+    refused_up : (d : Bool) → set_of h.nodes t ≡ d → refusal (opening_of h) (seen h) (AnyWorldEvent.Deliver f t)
+        ≡ (if not d || false then Some AnyRefusal.NoSuchNode else
+        (if is_nil (map letter_of ((links_of h.links).queue f t)) then Some AnyRefusal.EmptyLink else None))
+    refused_up d e = refused_by true d sender e
+        ∙ ap (λ (b : Bool). if not d || false then Some AnyRefusal.NoSuchNode else
+        (if b then Some AnyRefusal.NodeLeft else
+        (if is_nil (map letter_of ((links_of h.links).queue f t)) then Some AnyRefusal.EmptyLink else None))) up
 
-    queue_is : (seen h).links.queue f t ≡ letter_of letter ∷ map letter_of (drop 1 ((links_of h.links).queue f t))
-    queue_is = ap (map letter_of) (front ((links_of h.links).queue f t) letter oldest)
+    receiver_is : (b : Bool) → joins f t h.links ≡ b → set_of h.nodes t ≡ b
+    receiver_is b e = ap (λ (c : Bool). c && set_of h.nodes t) (sym sender) ∙ ends b e
 
-    both : (b d : Bool) → (b && d) ≡ true → (b ≡ true) × (d ≡ true)
-    both true true e = (refl, refl)
-    both true false e = cc
-    both false true e = cc
-    both false false e = cc
+    -- the link refuses
+    pub refuses_on : (fault : LinkFault) → IsUndelivered fault f t h.links
+        → RefusedWith (refusal_on fault) (Deliver f t) h
+    refuses_on on_link.NoSuchNode e = refused_up false (receiver_is false e)
+    refuses_on on_link.EmptyLink (e, q) = refused_up true (receiver_is true e)
+        ∙ ap (λ (ls : List Letter). if is_nil (map letter_of ls) then Some AnyRefusal.EmptyLink else None) q
+    refuses_on on_link.Memory e = absurd e
 
-    ends_known : (set_of h.nodes f ≡ true) × (set_of h.nodes t ≡ true)
-    ends_known = both (set_of h.nodes f) (set_of h.nodes t) (ends true known)
+    module _ (letter : Letter) (links : Mesh Letter) (known : joins f t h.links ≡ true)
+        (oldest : slice_get ((links_of h.links).queue f t) 0 ≡ Some letter)
+        (off : links_of links ≡ taken f t (links_of h.links))
+        (same : links.nodes ≡ h.links.nodes) where
+      -- what is held when the letter is off its link
+      abbrev pub off_link : Held
+      off_link = record h { links = links }
 
-    free : refusal (opening_of h) (seen h) (AnyWorldEvent.Deliver f t) ≡ None
-    free = refused_by true true ends_known.0 ends_known.1
-        ∙ ap (λ (ls : List AnyLetter). if is_nil ls then Some AnyRefusal.EmptyLink else None) queue_is
-
-    -- a letter is refused by want of memory alone
-    only_memory : (r : Refusal) → FailsAt r t (FromPeer f letter) off_link → r ≡ Memory
-    only_memory NoSuchNode F = cc (F, ends_known.1)
-    only_memory EmptyLink (c, S, q) = cc
-    only_memory (NotLive p) (c, S, q) = cc
-    only_memory (Busy p) (c, S, q) = cc
-    only_memory Reserved (c, S, q) = cc
-    only_memory UnknownNode (c, S, q) = cc
-    only_memory NoSuchProcess (c, S, q) = cc
-    only_memory AlreadyExited (c, S, q) = cc
-    only_memory SerialsSpent (c, S, q) = cc
-    only_memory NothingToRetry (c, S, q) = cc
-    only_memory CallsSpent (c, S, q) = cc
-    only_memory Memory F = refl
-
-    pub never_kept : (r : Refusal) → FailsAt r t (FromPeer f letter) off_link → is_memory r ≡ false → ⊥
-    never_kept r F kept = let out : is_memory r ≡ true = ap is_memory (only_memory r F) in cc
-
-    pub refuses_delivery : (r : Refusal) → FailsAt r t (FromPeer f letter) off_link → RefusedWith r (Deliver f t) h
-    refuses_delivery r F = subst (λ (x : Refusal). RefusedWith x (Deliver f t) h) (sym (only_memory r F)) free
-
-    opened_is : seen off_link ≡ opened (AnyWorldEvent.Deliver f t) (seen h)
-    opened_is = ap (λ (w : Links AnyLetter). record (seen h) { links = w })
-        (ap (mapped letter_of) off ∙ mapped-taken letter_of f t (links_of h.links))
-
-    module _ (new : Held) (given : List Answer) (M : Moves t (FromPeer f letter) off_link new given) where
-      core : Core
-      core = M.core
-
-      turn : M.turn ≡ turn_of (opening_of h) (seen h) (AnyWorldEvent.Deliver f t)
-      turn = M.makes (join_number (seen h))
-          ∙ ap (λ (ns : List ℕ). receive (bound_of ns) M.core.name (join_number (seen h)) f (letter_of letter)
-          (begun (node_of M.core))) M.stands.world
-          ∙ ap (λ (n : ℕ). receive (bound_of h.nodes) n (join_number (seen h)) f (letter_of letter)
-          (begun (node_of M.core))) M.stands.name
-          ∙ ap (λ (v : Node). receive (bound_of h.nodes) t (join_number (seen h)) f (letter_of letter) (begun v))
-          (sym (ap (node_with (opening_of h) t) M.stands.is))
-          ∙ sym (ap (heard (bound_of h.nodes) t (seen h) f) queue_is)
-
-      pub plays_delivery : Played (Deliver f t) h new [] given
-      plays_delivery = record {
-        nodes = M.nodes;
-        cluster = M.cluster;
-        accepted = free;
-        happens = happens_by h (AnyWorldEvent.Deliver f t) (seen new) M.turn free
-            (M.world ∙ ap (apply t M.turn) opened_is
-            ∙ ap (λ (u : Turn). apply t u (opened (AnyWorldEvent.Deliver f t) (seen h))) turn);
-        answers = answers_by h (AnyWorldEvent.Deliver f t) (map answer_of given) free
-            (M.answers ∙ ap (λ (u : Turn). u.answers) turn);
+      pub off_whole : IsWhole off_link
+      off_whole = record {
+        set = whole.set;
+        names = whole.names;
+        worlds = whole.worlds;
+        links = same ∙ whole.links;
+        fit = subst (λ (w : Links Letter). AreFit h.nodes w) (sym off)
+            (fit_taken h.nodes f t (links_of h.links) whole.fit);
       }
+
+      queue_is : (seen h).links.queue f t ≡ letter_of letter ∷ map letter_of (drop 1 ((links_of h.links).queue f t))
+      queue_is = ap (map letter_of) (front ((links_of h.links).queue f t) letter oldest)
+
+      receiver : set_of h.nodes t ≡ true
+      receiver = receiver_is true known
+
+      -- the receiver may read it
+      said : IsSaidBy h.nodes t f letter
+      said = All-head (IsSaidBy h.nodes t f) letter (drop 1 ((links_of h.links).queue f t))
+          (subst (λ (ls : List Letter). All (IsSaidBy h.nodes t f) ls)
+          (front ((links_of h.links).queue f t) letter oldest) (whole.fit.said f t))
+
+      pub may_hear : IsHeardWithin h.nodes t (FromPeer f letter)
+      may_hear = (sender, said)
+
+      free : refusal (opening_of h) (seen h) (AnyWorldEvent.Deliver f t) ≡ None
+      free = refused_up true receiver
+          ∙ ap (λ (ls : List AnyLetter). if is_nil ls then Some AnyRefusal.EmptyLink else None) queue_is
+
+      -- the receiver runs still
+      up_still : left (seen off_link) t ≡ false
+      up_still = ap (λ (w : Links Letter). w.closed t) off ∙ up
+
+      -- a letter is refused by want of memory alone
+      only_memory : (r : Refusal) → FailsAt r t (FromPeer f letter) off_link → r ≡ Memory
+      only_memory NoSuchNode F = cc (F, receiver)
+      only_memory NodeLeft F = cc (F.1, up_still)
+      only_memory EmptyLink (c, S, q) = cc
+      only_memory (NotLive p) (c, S, q) = cc
+      only_memory (Busy p) (c, S, q) = cc
+      only_memory Reserved (c, S, q) = cc
+      only_memory UnknownNode (c, S, q) = cc
+      only_memory AlreadyJoined (c, S, q) = cc
+      only_memory NoSuchProcess (c, S, q) = cc
+      only_memory AlreadyExited (c, S, q) = cc
+      only_memory SerialsSpent (c, S, q) = cc
+      only_memory NothingToRetry (c, S, q) = cc
+      only_memory HoldsLock (c, S, q) = cc
+      only_memory CallsSpent (c, S, q) = cc
+      only_memory Memory F = refl
+
+      pub never_kept : (r : Refusal) → FailsAt r t (FromPeer f letter) off_link → is_memory r ≡ false → ⊥
+      never_kept r F kept = let out : is_memory r ≡ true = ap is_memory (only_memory r F) in cc
+
+      pub refuses_delivery : (r : Refusal) → FailsAt r t (FromPeer f letter) off_link → RefusedWith r (Deliver f t) h
+      refuses_delivery r F = subst (λ (x : Refusal). RefusedWith x (Deliver f t) h) (sym (only_memory r F)) free
+
+      opened_is : seen off_link ≡ opened (AnyWorldEvent.Deliver f t) (seen h)
+      opened_is = ap (λ (w : Links AnyLetter). record (seen h) { links = w })
+          (ap (mapped letter_of) off ∙ mapped-taken letter_of f t (links_of h.links))
+
+      module _ (new : Held) (given : List Answer) (M : Moves t (FromPeer f letter) off_link new given) where
+        core : Core
+        core = M.core
+
+        turn : M.turn ≡ turn_of (opening_of h) (seen h) (AnyWorldEvent.Deliver f t)
+        turn = M.makes (subst (λ (n : ℕ). IsSaidBy M.core.world n f letter) (sym M.stands.name)
+            (subst (λ (ns : List ℕ). IsSaidBy ns t f letter) (sym M.stands.world) said))
+            ∙ ap (λ (ns : List ℕ). receive (bound_of ns) M.core.name (join_number (seen h)) f (letter_of letter)
+            (begun (node_of M.core))) M.stands.world
+            ∙ ap (λ (n : ℕ). receive (bound_of h.nodes) n (join_number (seen h)) f (letter_of letter)
+            (begun (node_of M.core))) M.stands.name
+            ∙ ap (λ (v : Node). receive (bound_of h.nodes) t (join_number (seen h)) f (letter_of letter) (begun v))
+            (sym (ap (node_with (opening_of h) t) M.stands.is))
+            ∙ sym (ap (heard (bound_of h.nodes) t (seen h) f) queue_is)
+
+        pub plays_delivery : Played (Deliver f t) h new [] given
+        plays_delivery = record {
+          nodes = M.nodes;
+          cluster = M.cluster;
+          accepted = free;
+          happens = happens_by h (AnyWorldEvent.Deliver f t) (seen new) M.turn free
+              (M.world ∙ ap (apply t M.turn) opened_is
+              ∙ ap (λ (u : Turn). apply t u (opened (AnyWorldEvent.Deliver f t) (seen h))) turn);
+          answers = answers_by h (AnyWorldEvent.Deliver f t) (map answer_of given) free
+              (M.answers ∙ ap (λ (u : Turn). u.answers) turn);
+        }

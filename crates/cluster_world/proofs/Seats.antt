@@ -8,7 +8,7 @@ use Rattle.node_core.specs.declared.events.Answer.{Answer}
 use Rattle.node_core.specs.declared.events.Call.{Call}
 use Rattle.node_core.specs.Seen.{answer_of, call_of}
 use Rattle.cluster_world.specs.declared.events.Refusal.{Refusal}
-use Rattle.cluster_world.specs.declared.events.Refusal.TheVariants.{NoSuchNode, EmptyLink, NotLive, Busy, Reserved, UnknownNode, NoSuchProcess, AlreadyExited, SerialsSpent, NothingToRetry, CallsSpent, Memory}
+use Rattle.cluster_world.specs.declared.events.Refusal.TheVariants.{NoSuchNode, NodeLeft, EmptyLink, NotLive, Busy, Reserved, UnknownNode, AlreadyJoined, NoSuchProcess, AlreadyExited, SerialsSpent, NothingToRetry, HoldsLock, CallsSpent, Memory}
 use Rattle.cluster_world.specs.declared.events.Event.TheVariants.{Call as Calls}
 use Rattle.cluster_world.specs.declared.events.WorldEvent.{WorldEvent}
 use Rattle.cluster_world.specs.declared.events.WorldEvent.TheVariants.{At}
@@ -119,15 +119,18 @@ ends a k old mid I = record {
 -- of the refusals, want of memory alone is none of the protocol's
 refusal_there : (r : Refusal) → is_memory r ≡ false → (x : AnyRefusal) × (refusal_of r ≡ Some x)
 refusal_there NoSuchNode e = (_, refl)
+refusal_there NodeLeft e = (_, refl)
 refusal_there EmptyLink e = (_, refl)
 refusal_there (NotLive p) e = (_, refl)
 refusal_there (Busy p) e = (_, refl)
 refusal_there Reserved e = (_, refl)
 refusal_there UnknownNode e = (_, refl)
+refusal_there AlreadyJoined e = (_, refl)
 refusal_there NoSuchProcess e = (_, refl)
 refusal_there AlreadyExited e = (_, refl)
 refusal_there SerialsSpent e = (_, refl)
 refusal_there NothingToRetry e = (_, refl)
+refusal_there HoldsLock e = (_, refl)
 refusal_there CallsSpent e = (_, refl)
 refusal_there Memory e = cc
 

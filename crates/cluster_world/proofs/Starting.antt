@@ -6,7 +6,7 @@ use Rattle.std.proofs.lemmas.Bool.{cases_eq, eq-eqb, eqb-true, ne_eqb}
 use Rattle.std.proofs.lemmas.Bool.Decides.{nat_tests}
 use Rattle.std.proofs.lemmas.Grind.{take_at_read}
 use Rattle.std.proofs.lemmas.List.{map-append}
-use Rattle.std.proofs.lemmas.List.Elements.{All-map}
+use Rattle.std.proofs.lemmas.List.Elements.{All-nil, All-map}
 use Rattle.registry_model.specs.Process.{Nodes, nobody}
 use Rattle.registry_model.specs.Table.{without}
 use Rattle.protocol_model.specs.Links.{Links, no_letters}
@@ -15,13 +15,17 @@ use Rattle.protocol_model.specs.World.{in_world, in_cluster, opening_world}
 use Rattle.term.specs.NodeSets.{set_of, with_node, IsNodeSet}
 use Rattle.boss_order.proofs.Sets.{set_of-append}
 use Rattle.link.specs.Held.{Held as Mesh, seen as links_of}
-use Rattle.node_core.specs.declared.events.Entry.{Entry}
 use Rattle.node_core.specs.declared.events.Letter.{Letter}
 use Rattle.node_core.specs.Held.{Held as Core, fresh, IsWithin}
-use Rattle.node_core.specs.Seen.{node_of, letter_of, entry_of}
-use Rattle.cluster_world.specs.Links.{mapped}
+use Rattle.node_core.specs.Letters.{letter_of}
+use Rattle.node_core.specs.Seen.{node_of}
+use Rattle.node_core.specs.Steps.{IsSaidBy}
+use Rattle.cluster_world.specs.Links.{mapped, AreFit}
 use Rattle.cluster_world.specs.Held.{IsWhole}
-use Rattle.cluster_world.specs.Seen.{opening_with, opening_core, core_of, node_with, seen}
+use Rattle.cluster_world.specs.declared.history.HistoryEntry.{HistoryEntry}
+use Rattle.cluster_world.specs.Cores.{core_of}
+use Rattle.cluster_world.specs.Histories.{entry_of}
+use Rattle.cluster_world.specs.Seen.{opening_with, opening_core, node_with, seen}
 use Rattle.cluster_world.specs.Starting.{Opens}
 use Rattle.cluster_world.proofs.Nodes.{listed, world_is}
 use Rattle.cluster_world.proofs.Steps.{name_of}
@@ -175,7 +179,7 @@ module _ (nodes cluster : List ℕ) where
       go true = core_is a ∙ ap (λ (s : Nodes). opening_node s a) (sym (cluster_is within))
       go false = refl
 
-  module _ (cores : List Core) (links : Mesh Letter) (history : List Entry)
+  module _ (cores : List Core) (links : Mesh Letter) (history : List HistoryEntry)
       (made : cores ≡ map (opening_core nodes cluster) nodes)
       (empty : links_of links ≡ no_letters) where
     pub opens_whole : IsNodeSet nodes → links.nodes ≡ nodes
@@ -187,7 +191,8 @@ module _ (nodes cluster : List ℕ) where
           (All-map (λ (c : Core). c.world ≡ nodes) (opening_core nodes cluster) nodes
           (λ k d l. opens_world (get_or nodes k d)));
       links = same;
-      running = ap (λ (w : Links Letter). w.closed) empty;
+      fit = subst (λ (w : Links Letter). AreFit nodes w) (sym empty)
+          (record { quiet = λ f t e. refl; said = λ f t. All-nil (IsSaidBy nodes t f) });
     }
 
     pub opens_seen : IsWithin nodes cluster → history ≡ []
@@ -214,7 +219,7 @@ module _ (nodes cluster : List ℕ) where
               mapped letter_of w;
           history = map entry_of history;
         }) empty
-        ∙ ap (λ (es : List Entry). record (opening_world (opening_with nodes cluster)) { history = map entry_of es })
+        ∙ ap (λ (es : List HistoryEntry). record (opening_world (opening_with nodes cluster)) { history = map entry_of es })
         none
 
 -- the nodes that were gathered are those that were named
@@ -223,7 +228,7 @@ module _ (cluster lone joined nodes : List ℕ) (first : (c : ℕ) → set_of jo
   pub joined_within : IsWithin nodes joined
   joined_within c e = all c ∙ ap (λ (b : Bool). b || set_of lone c) e
 
-  pub opens : (cores : List Core) (links : Mesh Letter) (history : List Entry)
+  pub opens : (cores : List Core) (links : Mesh Letter) (history : List HistoryEntry)
       → Opens cluster lone (record { nodes = nodes; cluster = joined; cores = cores; links = links; history = history })
   opens cores links history = record {
     nodes = λ c. all c ∙ ap (λ (b : Bool). b || set_of lone c) (first c) ∙ sym (set_of-append cluster lone c);

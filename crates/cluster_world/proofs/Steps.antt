@@ -1,32 +1,38 @@
 -- The step of one node, as a step of the world.
 use Rattle.std.proofs.Common.{ℕ, Bool, true, false, ◌==◌, ◌≡◌, ◌<◌, Option, Some, None, List, [], ◌∷◌, ◌++◌, length, get_or, set, map, filter, refl, sym, ap, subst, ◌∙◌, arith}
-use Rattle.std.specs.Prelude.{if◌then◌else◌, ◌&&◌, is_some, All}
+use Rattle.std.specs.Prelude.{if◌then◌else◌, ◌&&◌, is_some, unwrap_or, All}
 use Rattle.std.proofs.Math.Path.{fun_ext}
-use Rattle.std.proofs.lemmas.List.{length-map, set-get_or}
+use Rattle.std.proofs.lemmas.Bool.{ne_eqb}
+use Rattle.std.proofs.lemmas.List.{length-map, set-get_or, get_or-set_same}
 use Rattle.std.proofs.lemmas.List.Elements.{All-set}
 use Rattle.registry_model.specs.Process.{at}
+use Rattle.registry_model.proofs.Updates.{by_test}
 use Rattle.registry_model.specs.History.{Entry as AnyEntry}
 use Rattle.protocol_model.specs.Letter.{Letter as AnyLetter}
 use Rattle.protocol_model.specs.Links.{Links, posted}
-use Rattle.protocol_model.specs.Node.{Node}
+use Rattle.protocol_model.specs.Node.{Node, Current, Free, Asking, Waiting, Writing, Joining}
 use Rattle.protocol_model.specs.Turn.{Turn, sent_to}
-use Rattle.protocol_model.specs.World.{apply}
+use Rattle.protocol_model.specs.World.{Opening, apply, left, number_in, join_number}
 use Rattle.term.specs.NodeSets.{set_of}
 use Rattle.link.specs.Held.{Held as Mesh, place, seen as links_of}
 use Rattle.link.specs.Faults.{joins}
 use Rattle.term.proofs.NodePlaces.{place-Some}
 use Rattle.node_core.specs.declared.events.Answer.{Answer}
-use Rattle.node_core.specs.declared.events.Entry.{Entry}
 use Rattle.node_core.specs.declared.events.Event.{Event as NodeEvent}
 use Rattle.node_core.specs.declared.events.Letter.{Letter}
 use Rattle.node_core.specs.declared.events.StepFault.{StepFault}
-use Rattle.node_core.specs.declared.events.StepFault.TheVariants.{NotLive, Busy, Reserved, UnknownNode, NoSuchProcess, AlreadyExited, SerialsSpent, NothingToRetry, CallsSpent, Memory}
+use Rattle.node_core.specs.declared.events.StepFault.TheVariants.{NotLive, Busy, Reserved, UnknownNode, AlreadyJoined, NoSuchProcess, AlreadyExited, SerialsSpent, NothingToRetry, HoldsLock, CallsSpent, Memory}
 use Rattle.node_core.specs.Held.{Held as Core}
-use Rattle.node_core.specs.Seen.{node_of, turn_of, send_of, letter_of, entry_of, fault_of, is_memory as node_memory}
-use Rattle.node_core.specs.Steps.{Steps, IsHeardWithin, refusal_of as node_refusal}
-use Rattle.cluster_world.specs.Links.{mapped, letters_to}
+use Rattle.node_core.specs.Letters.{letter_of, send_of}
+use Rattle.node_core.specs.Joining.{join_number_of}
+use Rattle.node_core.specs.Seen.{node_of, turn_by, entry_by, fault_of, is_memory as node_memory}
+use Rattle.node_core.specs.Steps.{Steps, IsSaidBy, IsHeardWithin, GoWithin, refusal_of as node_refusal}
+use Rattle.cluster_world.specs.Links.{mapped, letters_to, AreFit}
 use Rattle.cluster_world.specs.Held.{Held, IsWhole}
-use Rattle.cluster_world.specs.Seen.{opening_of, core_of, node_with, seen}
+use Rattle.cluster_world.specs.declared.history.HistoryEntry.{HistoryEntry}
+use Rattle.cluster_world.specs.Cores.{core_of}
+use Rattle.cluster_world.specs.Histories.{entry_of, number_of, number_at}
+use Rattle.cluster_world.specs.Seen.{opening_of, node_with, seen}
 use Rattle.cluster_world.specs.declared.events.Refusal.TheVariants.{Memory as OutOfMemory}
 use Rattle.cluster_world.specs.Refusals.{refusal_by, is_memory}
 use Rattle.cluster_world.specs.Steps.{Stands, Moves, FailsAt}
@@ -49,6 +55,19 @@ sent_to-map t (s ∷ ss) = go (s.0 == t) (sent_to-map t ss)
     go true e = ap (λ (ls : List AnyLetter). letter_of s.1 ∷ ls) e
     go false e = e
 
+-- the number of a join, with 0 for none
+pub number_is : (c : Current) → unwrap_or (join_number_of c) 0 ≡ number_in c
+number_is Free = refl
+number_is (Asking op r) = refl
+number_is (Waiting op) = refl
+number_is (Writing op asked awaited reply) = refl
+number_is (Joining k m) = refl
+
+-- a core's join has the number that the world sees
+number_seen : (o : Opening) (j : ℕ) (c : Option Core) → number_of c ≡ number_in (node_with o j c).current
+number_seen o j None = refl
+number_seen o j (Some c) = refl
+
 module _ (h : Held) (whole : IsWhole h) (a i : ℕ) (core : Core) (there : place a h.nodes ≡ Some i)
     (is : core ≡ get_or h.cores i core) where
   there_too : place a (map name_of h.cores) ≡ Some i
@@ -58,56 +77,28 @@ module _ (h : Held) (whole : IsWhole h) (a i : ℕ) (core : Core) (there : place
   within = omega (arith, (place-Some a (map name_of h.cores) i there_too).0, length-map h.cores name_of)
 
   -- the core at the place of a node is the node's
-  pub stands : Stands a h core
-  stands = record {
-    known = known_place h.nodes a i there;
-    is = core_here name_of h.cores i core a within there_too ∙ ap Some (sym is);
-    name = ap name_of is ∙ name_at name_of h.cores i core within ∙ (place-Some a (map name_of h.cores) i there_too).1;
-    world = ap (λ (c : Core). c.world) is ∙ whole.worlds i core within;
-  }
+  pub core_is : core_of a h.cores ≡ Some core
+  core_is = core_here name_of h.cores i core a within there_too ∙ ap Some (sym is)
 
-  -- the node fails
-  pub fails : (e : NodeEvent) (fault : StepFault) → node_refusal e core ≡ fault_of fault
-      → FailsAt (refusal_by fault) a e h
-  fails e (NotLive p) q = (core, stands, q)
-  fails e (Busy p) q = (core, stands, q)
-  fails e Reserved q = (core, stands, q)
-  fails e UnknownNode q = (core, stands, q)
-  fails e NoSuchProcess q = (core, stands, q)
-  fails e AlreadyExited q = (core, stands, q)
-  fails e SerialsSpent q = (core, stands, q)
-  fails e NothingToRetry q = (core, stands, q)
-  fails e CallsSpent q = (core, stands, q)
-  fails e Memory q = (core, stands, q)
+  pub named_so : core.name ≡ a
+  named_so = ap name_of is ∙ name_at name_of h.cores i core within ∙ (place-Some a (map name_of h.cores) i there_too).1
 
-  -- the same where memory was refused behind the turn
-  pub fails_behind : (e : NodeEvent) (new : Core) (before after : List (ℕ × Letter)) (given : List Answer)
-      → Steps e core new before after given → FailsAt OutOfMemory a e h
-  fails_behind e new before after given S = (core, stands, S.accepted)
-
-  -- the letters of the step are between nodes of the mesh
-  pub joined : (e : NodeEvent) (new : Core) (before after : List (ℕ × Letter)) (given : List Answer) → before ≡ []
-      → Steps e core new before after given → IsHeardWithin h.nodes e → All (λ s. joins a s.0 h.links ≡ true) after
-  joined e new before after given none S heard =
-      subst (λ (ss : List (ℕ × Letter)). All (λ s. joins a s.0 h.links ≡ true) ss)
-      (sym (S.letters ∙ ap (λ (ss : List (ℕ × Letter)). ss ++ S.sent) none))
-      (λ k d l. both (get_or S.sent k d).0 (S.within
-      (subst (λ (ns : List ℕ). IsHeardWithin ns e) (sym stands.world) heard) k d l))
-    where
-      both : (t : ℕ) → set_of core.world t ≡ true → joins a t h.links ≡ true
-      both t there_t = ap (λ (ns : List ℕ). is_some (place a ns) && is_some (place t ns)) whole.links
-          ∙ ap (λ (p : Option ℕ). is_some p && is_some (place t h.nodes)) there
-          ∙ is_some-place h.nodes t ∙ ap (λ (ns : List ℕ). set_of ns t) (sym stands.world) ∙ there_t
+  pub world_so : core.world ≡ h.nodes
+  world_so = ap (λ (c : Core). c.world) is ∙ whole.worlds i core within
 
   -- the core stayed as it was
   pub unchanged : (new : Core) → new ≡ core → record h { cores = set h.cores i new } ≡ h
   unchanged new same = ap (λ (cs : List Core). record h { cores = cs })
       (ap (set h.cores i) (same ∙ is) ∙ set-get_or h.cores i core)
 
+  -- a core that was put there stands there
+  pub stands_there : (new found : Core) → found ≡ get_or (set h.cores i new) i found → found ≡ new
+  stands_there new found at_place = at_place ∙ get_or-set_same h.cores i new found within
+
   -- with another core of this name the world is whole
-  pub whole_with : (new : Core) (links : Mesh Letter) (history : List Entry) → new.name ≡ core.name → new.world
+  pub whole_with : (new : Core) (links : Mesh Letter) (history : List HistoryEntry) → new.name ≡ core.name → new.world
       ≡ core.world
-      → links.nodes ≡ h.links.nodes → (links_of links).closed ≡ (links_of h.links).closed
+      → links.nodes ≡ h.links.nodes → AreFit h.nodes (links_of links)
       → IsWhole (record {
         nodes = h.nodes;
         cluster = h.cluster;
@@ -116,75 +107,163 @@ module _ (h : Held) (whole : IsWhole h) (a i : ℕ) (core : Core) (there : place
         history =
             history;
       })
-  whole_with new links history named placed same closed = record {
+  whole_with new links history named placed same fit = record {
     set = whole.set;
-    names = names-set name_of h.cores i new within (named ∙ stands.name
+    names = names-set name_of h.cores i new within (named ∙ named_so
         ∙ sym (place-Some a (map name_of h.cores) i there_too).1) ∙ whole.names;
-    worlds = All-set (λ (c : Core). c.world ≡ h.nodes) h.cores i new (placed ∙ stands.world) whole.worlds;
+    worlds = All-set (λ (c : Core). c.world ≡ h.nodes) h.cores i new (placed ∙ world_so) whole.worlds;
     links = same ∙ whole.links;
-    running = closed ∙ whole.running;
+    fit = fit;
   }
 
-  module _ (e : NodeEvent) (new : Core) (before sends : List (ℕ × Letter)) (given : List Answer) (links : Mesh Letter)
-      (history : List Entry)
-      (none : before ≡ []) (S : Steps e core new before sends given)
-      (post : links_of links ≡ posted a (λ t. letters_to t sends) (links_of h.links))
-      (enter : map entry_of history ≡ map entry_of h.history ++ map entry_of new.entered) where
-    -- what is held behind the step
-    abbrev behind : Held
-    behind = record {
-      nodes = h.nodes;
-      cluster = h.cluster;
-      cores = set h.cores i new;
-      links = links;
-      history = history;
-    }
+  -- the same where letters were posted
+  pub whole_posted : (new : Core) (links : Mesh Letter) (history : List HistoryEntry) → new.name ≡ core.name → new.world
+      ≡ core.world
+      → links.nodes ≡ h.links.nodes
+      → (AreFit h.links.nodes (links_of h.links) → AreFit h.links.nodes (links_of links))
+      → IsWhole (record {
+        nodes = h.nodes;
+        cluster = h.cluster;
+        cores = set h.cores i new;
+        links = links;
+        history =
+            history;
+      })
+  whole_posted new links history named placed same fit = whole_with new links history named placed same
+      (subst (λ (ns : List ℕ). AreFit ns (links_of h.links) → AreFit ns (links_of links)) whole.links fit whole.fit)
 
-    abbrev turn : Turn
-    turn = turn_of new (record { letters = S.sent; entries = new.entered; answers = given })
+  -- the letters of the step go to nodes of the world
+  pub goes : (e : NodeEvent) (new : Core) (before after : List (ℕ × Letter)) (given : List Answer) → before ≡ []
+      → Steps e core new before after given → IsHeardWithin h.nodes a e → GoWithin h.nodes a after
+  goes e new before after given none S heard =
+      subst (λ (ss : List (ℕ × Letter)). GoWithin h.nodes a ss)
+      (sym (S.letters ∙ ap (λ (ss : List (ℕ × Letter)). ss ++ S.sent) none))
+      (subst (λ (n : ℕ). GoWithin h.nodes n S.sent) named_so
+      (subst (λ (ns : List ℕ). GoWithin ns core.name S.sent) world_so
+      (S.within (subst (λ (ns : List ℕ). IsHeardWithin ns core.name e) (sym world_so)
+      (subst (λ (n : ℕ). IsHeardWithin h.nodes n e) (sym named_so) heard)))))
 
-    nodes_are : (x : ℕ) → node_with (opening_of h) x (core_of x (set h.cores i new))
-        ≡ at (seen h).node a (node_of new) x
-    nodes_are x = ap (node_with (opening_of h) x) (core_wrote name_of h.cores i new a within there_too
-        (S.name ∙ stands.name) x) ∙ go (x == a)
+  module _ (e : NodeEvent) (new : Core) (before after : List (ℕ × Letter)) (given : List Answer) (none : before ≡ [])
+      (S : Steps e core new before after given) (heard : IsHeardWithin h.nodes a e) where
+    -- so they are between nodes of the mesh
+    pub joined : All (λ s. joins a s.0 h.links ≡ true) after
+    joined k d l = both (get_or after k d).0 (goes e new before after given none S heard k d l).0
       where
-        go : (b : Bool) → node_with (opening_of h) x (if b then Some new else core_of x h.cores)
-            ≡ (if b then node_of new else node_with (opening_of h) x (core_of x h.cores))
-        go true = refl
-        go false = refl
+        both : (t : ℕ) → set_of h.nodes t ≡ true → joins a t h.links ≡ true
+        both t there_t = ap (λ (ns : List ℕ). is_some (place a ns) && is_some (place t ns)) whole.links
+            ∙ ap (λ (p : Option ℕ). is_some p && is_some (place t h.nodes)) there
+            ∙ is_some-place h.nodes t ∙ there_t
 
-    sent : sends ≡ S.sent
-    sent = S.letters ∙ ap (λ (ss : List (ℕ × Letter)). ss ++ S.sent) none
+    -- and their receivers may read them
+    pub said : All (λ s. IsSaidBy h.links.nodes s.0 a s.1) after
+    said = subst (λ (ns : List ℕ). All (λ s. IsSaidBy ns s.0 a s.1) after) (sym whole.links)
+        (λ k d l. (goes e new before after given none S heard k d l).1)
 
-    links_are : mapped letter_of (links_of links) ≡ posted a (λ t. sent_to t (map send_of S.sent))
-        (mapped letter_of (links_of h.links))
-    links_are = ap (mapped letter_of) post ∙ mapped-posted letter_of a (λ t. letters_to t sends) (links_of h.links)
-        ∙ ap (λ (ls : ℕ → List AnyLetter). posted a ls (mapped letter_of (links_of h.links)))
-        (fun_ext (λ t. sent_to-map t sends ∙ ap (λ (ss : List (ℕ × Letter)). sent_to t (map send_of ss)) sent))
-
-    world_is : seen behind ≡ apply a turn (seen h)
-    world_is =
-        ap (λ (f : ℕ → Node). record (seen behind) { node = f }) (fun_ext nodes_are)
-        ∙ ap (λ (w : Links AnyLetter). record {
-          node = at (seen h).node a (node_of new);
-          links = w;
-          history = map
-              entry_of history;
-        }) links_are
-        ∙ ap (λ (es : List AnyEntry). record (apply a turn (seen h)) { history = es }) enter
-
-    pub moves : Moves a e h behind given
-    moves = record {
-      nodes = refl;
-      cluster = refl;
-      core = core;
-      stands = stands;
-      accepted = S.accepted;
-      turn = turn;
-      makes = S.turn;
-      world = world_is;
-      answers = refl;
+  -- the step of a running node
+  module _ (up : left (seen h) a ≡ false) where
+    pub stands : Stands a h core
+    stands = record {
+      known = known_place h.nodes a i there;
+      running = up;
+      is = core_is;
+      name = named_so;
+      world = world_so;
     }
+
+    -- the node fails
+    pub fails : (e : NodeEvent) (fault : StepFault) → node_refusal e core ≡ fault_of fault
+        → FailsAt (refusal_by fault) a e h
+    fails e (NotLive p) q = (core, stands, q)
+    fails e (Busy p) q = (core, stands, q)
+    fails e Reserved q = (core, stands, q)
+    fails e UnknownNode q = (core, stands, q)
+    fails e AlreadyJoined q = (core, stands, q)
+    fails e NoSuchProcess q = (core, stands, q)
+    fails e AlreadyExited q = (core, stands, q)
+    fails e SerialsSpent q = (core, stands, q)
+    fails e NothingToRetry q = (core, stands, q)
+    fails e HoldsLock q = (core, stands, q)
+    fails e CallsSpent q = (core, stands, q)
+    fails e Memory q = (core, stands, q)
+
+    -- the same where memory was refused behind the turn
+    pub fails_behind : (e : NodeEvent) (new : Core) (before after : List (ℕ × Letter)) (given : List Answer)
+        → Steps e core new before after given → FailsAt OutOfMemory a e h
+    fails_behind e new before after given S = (core, stands, S.accepted)
+
+    module _ (e : NodeEvent) (new : Core) (before sends : List (ℕ × Letter)) (given : List Answer) (links : Mesh Letter)
+        (history : List HistoryEntry) (own : ℕ)
+        (none : before ≡ []) (S : Steps e core new before sends given)
+        (post : links_of links ≡ posted a (λ t. letters_to t sends) (links_of h.links))
+        (owns : own ≡ number_in (node_of core).current)
+        (enter : map entry_of history
+        ≡ map entry_of h.history ++ map (entry_by (number_at (set h.cores i new) a own)) new.entered) where
+      -- what is held behind the step
+      abbrev behind : Held
+      behind = record {
+        nodes = h.nodes;
+        cluster = h.cluster;
+        cores = set h.cores i new;
+        links = links;
+        history = history;
+      }
+
+      abbrev turn : Turn
+      turn = turn_by (join_number (seen h)) new (record { letters = S.sent; entries = new.entered; answers = given })
+
+      wrote : (x : ℕ) → core_of x (set h.cores i new) ≡ (if x == a then Some new else core_of x h.cores)
+      wrote = core_wrote name_of h.cores i new a within there_too (S.name ∙ stands.name)
+
+      -- each join has the number that it had before the step
+      numbers_are : (j : ℕ) → number_at (set h.cores i new) a own j ≡ join_number (seen h) j
+      numbers_are = by_test a (λ j t. (if t then own else number_of (core_of j (set h.cores i new)))
+          ≡ join_number (seen h) j)
+          (owns ∙ sym (ap (λ (c : Option Core). number_in (node_with (opening_of h) a c).current) core_is))
+          (λ j ne. ap number_of (wrote j ∙ ap (λ (t : Bool). if t then Some new else core_of j h.cores)
+          (ne_eqb j a ne)) ∙ number_seen (opening_of h) j (core_of j h.cores))
+
+      nodes_are : (x : ℕ) → node_with (opening_of h) x (core_of x (set h.cores i new))
+          ≡ at (seen h).node a (node_of new) x
+      nodes_are x = ap (node_with (opening_of h) x) (wrote x) ∙ go (x == a)
+        where
+          go : (b : Bool) → node_with (opening_of h) x (if b then Some new else core_of x h.cores)
+              ≡ (if b then node_of new else node_with (opening_of h) x (core_of x h.cores))
+          go true = refl
+          go false = refl
+
+      sent : sends ≡ S.sent
+      sent = S.letters ∙ ap (λ (ss : List (ℕ × Letter)). ss ++ S.sent) none
+
+      links_are : mapped letter_of (links_of links) ≡ posted a (λ t. sent_to t (map send_of S.sent))
+          (mapped letter_of (links_of h.links))
+      links_are = ap (mapped letter_of) post ∙ mapped-posted letter_of a (λ t. letters_to t sends) (links_of h.links)
+          ∙ ap (λ (ls : ℕ → List AnyLetter). posted a ls (mapped letter_of (links_of h.links)))
+          (fun_ext (λ t. sent_to-map t sends ∙ ap (λ (ss : List (ℕ × Letter)). sent_to t (map send_of ss)) sent))
+
+      world_is : seen behind ≡ apply a turn (seen h)
+      world_is =
+          ap (λ (f : ℕ → Node). record (seen behind) { node = f }) (fun_ext nodes_are)
+          ∙ ap (λ (w : Links AnyLetter). record {
+            node = at (seen h).node a (node_of new);
+            links = w;
+            history = map
+                entry_of history;
+          }) links_are
+          ∙ ap (λ (es : List AnyEntry). record (apply a turn (seen h)) { history = es }) (enter
+          ∙ ap (λ (number : ℕ → ℕ). map entry_of h.history ++ map (entry_by number) new.entered) (fun_ext numbers_are))
+
+      pub moves : Moves a e h behind given
+      moves = record {
+        nodes = refl;
+        cluster = refl;
+        core = core;
+        stands = stands;
+        accepted = S.accepted;
+        turn = turn;
+        makes = S.turn (join_number (seen h));
+        world = world_is;
+        answers = refl;
+      }
 
 -- the world runs out of memory where its node does
 pub same_memory : (fault : StepFault) → is_memory (refusal_by fault) ≡ false → node_memory fault ≡ false
@@ -192,10 +271,12 @@ same_memory (NotLive p) e = refl
 same_memory (Busy p) e = refl
 same_memory Reserved e = refl
 same_memory UnknownNode e = refl
+same_memory AlreadyJoined e = refl
 same_memory NoSuchProcess e = refl
 same_memory AlreadyExited e = refl
 same_memory SerialsSpent e = refl
 same_memory NothingToRetry e = refl
+same_memory HoldsLock e = refl
 same_memory CallsSpent e = refl
 same_memory Memory e = cc
 

@@ -1,11 +1,14 @@
 -- What may happen, as the node and the protocol have it.
+use Rattle.std.specs.Prelude.{ℕ, Bool, true, false, List}
 use Rattle.protocol_model.specs.Event.{Event as AnyEvent}
 use Rattle.protocol_model.specs.World.{WorldEvent as AnyWorldEvent}
+use Rattle.term.specs.NodeSets.{set_of}
+use Rattle.node_core.specs.declared.events.Call.TheVariants.{Join as JoinBy}
 use Rattle.node_core.specs.declared.events.Event.{Event as NodeEvent}
 use Rattle.node_core.specs.declared.events.Event.TheVariants as at_node
 use Rattle.node_core.specs.Seen.{call_of}
 use Rattle.cluster_world.specs.declared.events.Event.{Event}
-use Rattle.cluster_world.specs.declared.events.Event.TheVariants.{Call, Retry, Exit}
+use Rattle.cluster_world.specs.declared.events.Event.TheVariants.{Call, Retry, Exit, Leave}
 use Rattle.cluster_world.specs.declared.events.WorldEvent.{WorldEvent}
 use Rattle.cluster_world.specs.declared.events.WorldEvent.TheVariants.{At, Deliver}
 
@@ -14,12 +17,24 @@ abbrev pub node_event : Event → NodeEvent
 node_event (Call c) = at_node.Call c
 node_event Retry = at_node.Retry
 node_event (Exit p) = at_node.Exit p
+node_event Leave = at_node.Leave
 
 -- as the protocol's node has it
 abbrev pub own_event_of : Event → AnyEvent
 own_event_of (Call c) = AnyEvent.Calling (call_of c)
 own_event_of Retry = AnyEvent.Retry
 own_event_of (Exit p) = AnyEvent.Exiting p
+own_event_of Leave = AnyEvent.Leave
+
+-- the contact of the event is one of these nodes, if it has one
+abbrev pub knows_contact : List ℕ → Event → Bool
+knows_contact nodes (Call (JoinBy m)) = set_of nodes m
+knows_contact nodes _ = true
+
+-- the node leaves
+abbrev pub is_leave : Event → Bool
+is_leave Leave = true
+is_leave _ = false
 
 -- as the protocol's world has it
 abbrev pub event_of : WorldEvent → AnyWorldEvent

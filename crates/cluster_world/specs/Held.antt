@@ -1,23 +1,23 @@
 -- What a world holds.
 use Rattle.std.specs.Prelude.{ℕ, ◌≡◌, List, map, All}
-use Rattle.registry_model.specs.Process.{nobody}
 use Rattle.term.specs.NodeSets.{IsNodeSet}
 use Rattle.link.specs.Held.{Held as Mesh, seen}
-use Rattle.node_core.specs.declared.events.Entry.{Entry}
 use Rattle.node_core.specs.declared.events.Letter.{Letter}
 use Rattle.node_core.specs.Held.{Held as Core}
+use Rattle.cluster_world.specs.declared.history.HistoryEntry.{HistoryEntry}
+use Rattle.cluster_world.specs.Links.{AreFit}
 
 pub record Held : Type 0 where
   pub nodes : List ℕ  -- rising
   pub cluster : List ℕ  -- those of them that were joined at first
   pub cores : List Core  -- one for each node, in the order of the nodes
   pub links : Mesh Letter
-  pub history : List Entry
+  pub history : List HistoryEntry
 
--- the cores and the links are those of the nodes, and no link is closed
+-- the cores and the links are those of the nodes
 pub record IsWhole (h : Held) : Type 0 where
   pub set : IsNodeSet h.nodes
   pub names : map (λ c. c.name) h.cores ≡ h.nodes
   pub worlds : All (λ c. c.world ≡ h.nodes) h.cores
   pub links : h.links.nodes ≡ h.nodes
-  pub running : (seen h.links).closed ≡ nobody
+  pub fit : AreFit h.nodes (seen h.links)

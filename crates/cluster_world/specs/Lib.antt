@@ -1,4 +1,6 @@
 pub mod Links
+pub mod Cores
+pub mod Histories
 pub mod Held
 pub mod Events
 pub mod Refusals

@@ -6,20 +6,23 @@ use Rattle.link.specs.declared.faults.LinkFault.TheVariants as on_link
 use Rattle.node_core.specs.declared.events.StepFault.{StepFault}
 use Rattle.node_core.specs.declared.events.StepFault.TheVariants as by_node
 use Rattle.cluster_world.specs.declared.events.Refusal.{Refusal}
-use Rattle.cluster_world.specs.declared.events.Refusal.TheVariants.{NoSuchNode, EmptyLink, NotLive, Busy, Reserved, UnknownNode, NoSuchProcess, AlreadyExited, SerialsSpent, NothingToRetry, CallsSpent, Memory}
+use Rattle.cluster_world.specs.declared.events.Refusal.TheVariants.{NoSuchNode, NodeLeft, EmptyLink, NotLive, Busy, Reserved, UnknownNode, AlreadyJoined, NoSuchProcess, AlreadyExited, SerialsSpent, NothingToRetry, HoldsLock, CallsSpent, Memory}
 
 -- the protocol's refusal; want of memory is none of its
 abbrev pub refusal_of : Refusal → Option AnyRefusal
 refusal_of NoSuchNode = Some AnyRefusal.NoSuchNode
+refusal_of NodeLeft = Some AnyRefusal.NodeLeft
 refusal_of EmptyLink = Some AnyRefusal.EmptyLink
 refusal_of (NotLive p) = Some (AnyRefusal.NotLive p)
 refusal_of (Busy p) = Some (AnyRefusal.Busy p)
 refusal_of Reserved = Some AnyRefusal.Reserved
 refusal_of UnknownNode = Some AnyRefusal.UnknownNode
+refusal_of AlreadyJoined = Some AnyRefusal.AlreadyJoined
 refusal_of NoSuchProcess = Some AnyRefusal.NoSuchProcess
 refusal_of AlreadyExited = Some AnyRefusal.AlreadyExited
 refusal_of SerialsSpent = Some AnyRefusal.SerialsSpent
 refusal_of NothingToRetry = Some AnyRefusal.NothingToRetry
+refusal_of HoldsLock = Some AnyRefusal.HoldsLock
 refusal_of CallsSpent = Some AnyRefusal.CallsSpent
 refusal_of Memory = None
 
@@ -29,10 +32,12 @@ refusal_by (by_node.NotLive p) = NotLive p
 refusal_by (by_node.Busy p) = Busy p
 refusal_by by_node.Reserved = Reserved
 refusal_by by_node.UnknownNode = UnknownNode
+refusal_by by_node.AlreadyJoined = AlreadyJoined
 refusal_by by_node.NoSuchProcess = NoSuchProcess
 refusal_by by_node.AlreadyExited = AlreadyExited
 refusal_by by_node.SerialsSpent = SerialsSpent
 refusal_by by_node.NothingToRetry = NothingToRetry
+refusal_by by_node.HoldsLock = HoldsLock
 refusal_by by_node.CallsSpent = CallsSpent
 refusal_by by_node.Memory = Memory
 

@@ -1,7 +1,7 @@
 -- The step of one node within its world.
 use Rattle.std.specs.Prelude.{ℕ, false, true, ◌≡◌, Some, None, List, map}
 use Rattle.protocol_model.specs.Turn.{Turn}
-use Rattle.protocol_model.specs.World.{apply}
+use Rattle.protocol_model.specs.World.{apply, left, join_number}
 use Rattle.term.specs.NodeSets.{set_of}
 use Rattle.node_core.specs.declared.events.Answer.{Answer}
 use Rattle.node_core.specs.declared.events.Event.{Event as NodeEvent}
@@ -9,14 +9,16 @@ use Rattle.node_core.specs.Held.{Held as Core}
 use Rattle.node_core.specs.Seen.{answer_of}
 use Rattle.node_core.specs.Steps.{IsTurn, refusal_of as node_refusal}
 use Rattle.cluster_world.specs.declared.events.Refusal.{Refusal}
-use Rattle.cluster_world.specs.declared.events.Refusal.TheVariants.{NoSuchNode}
+use Rattle.cluster_world.specs.declared.events.Refusal.TheVariants.{NoSuchNode, NodeLeft}
 use Rattle.cluster_world.specs.Refusals.{refusal_of}
 use Rattle.cluster_world.specs.Held.{Held}
-use Rattle.cluster_world.specs.Seen.{core_of, seen}
+use Rattle.cluster_world.specs.Cores.{core_of}
+use Rattle.cluster_world.specs.Seen.{seen}
 
--- node a is of the world, and this is its core
+-- node a is of the world, hasn't left it, and this is its core
 pub record Stands (a : ℕ) (h : Held) (c : Core) : Type 0 where
   pub known : set_of h.nodes a ≡ true
+  pub running : left (seen h) a ≡ false
   pub is : core_of a h.cores ≡ Some c
   pub name : c.name ≡ a
   pub world : c.world ≡ h.nodes
@@ -29,11 +31,12 @@ pub record Moves (a : ℕ) (e : NodeEvent) (old new : Held) (given : List Answer
   pub stands : Stands a old core
   pub accepted : node_refusal e core ≡ None
   pub turn : Turn
-  pub makes : IsTurn e core turn
+  pub makes : IsTurn (join_number (seen old)) e core turn
   pub world : seen new ≡ apply a turn (seen old)
   pub answers : map answer_of given ≡ turn.answers
 
 -- why an event isn't accepted at node a
 abbrev pub FailsAt : Refusal → ℕ → NodeEvent → Held → Type 0
 FailsAt NoSuchNode a e h = set_of h.nodes a ≡ false
+FailsAt NodeLeft a e h = (set_of h.nodes a ≡ true) × (left (seen h) a ≡ true)
 FailsAt r a e h = (c : Core) × Stands a h c × (node_refusal e c ≡ refusal_of r)

@@ -1,6 +1,6 @@
 //! What may happen in a world, and why it is refused.
 ghost use Rattle.std.specs.Prelude.{◌≡◌};
-ghost use Rattle.cluster_world.specs.Events.{node_event};
+ghost use Rattle.cluster_world.specs.Events.{node_event, is_leave};
 
 use link::LinkFault;
 use node_core::{Answer, Call, StepFault};
@@ -17,6 +17,8 @@ pub enum Event {
     Retry,
     /// A process of the node dies: its locks are released at once, and its names are struck under the global lock.
     Exit(Pid),
+    /// The node leaves the world: it says so to all others, and no event of its own comes any more.
+    Leave,
 }
 
 /// The same call. It takes no memory.
@@ -36,6 +38,7 @@ fn call_copy(call: &Call) -> Call
         Call::DelLock(holder, id, nodes) => {
             Call::DelLock(holder.copy(), id.copy(), nodes.copy())
         }
+        Call::Join(contact) => Call::Join(contact.copy()),
     }
 }
 
@@ -48,7 +51,15 @@ impl Event {
             Event::Call(call) => node_core::Event::Call(call_copy(call)),
             Event::Retry => node_core::Event::Retry,
             Event::Exit(process) => node_core::Event::Exit(process.copy()),
+            Event::Leave => node_core::Event::Leave,
         }
+    }
+
+    /// Whether the node leaves.
+    pub(crate) fn is_leave(&self) -> bool
+        ensures { result ≡ is_leave self.now }
+    {
+        matches!(self, Event::Leave)
     }
 }
 
@@ -67,6 +78,9 @@ pub enum Refusal {
     /// A node of the event isn't of this world.
     #[error("no_such_node")]
     NoSuchNode,
+    /// The node of the event, or the receiver of a delivery, has left.
+    #[error("node_left")]
+    NodeLeft,
     /// Nothing is on the link.
     #[error("empty_link")]
     EmptyLink,
@@ -82,6 +96,9 @@ pub enum Refusal {
     /// A node that a lock call names is no member.
     #[error("unknown_node")]
     UnknownNode,
+    /// The node is joined, or has a join that isn't answered.
+    #[error("already_joined")]
+    AlreadyJoined,
     /// The process is another node's, or its serial wasn't given.
     #[error("no_such_process")]
     NoSuchProcess,
@@ -94,6 +111,9 @@ pub enum Refusal {
     /// No refused round of the node waits.
     #[error("nothing_to_retry")]
     NothingToRetry,
+    /// The node holds the global lock, and doesn't leave while it does.
+    #[error("holds_lock")]
+    HoldsLock,
     /// The node has given its last number of a call, 4,294,967,295.
     #[error("calls_spent")]
     CallsSpent,
@@ -123,10 +143,12 @@ impl From<StepFault> for Refusal {
             StepFault::Busy(holder) => Refusal::Busy(holder),
             StepFault::Reserved => Refusal::Reserved,
             StepFault::UnknownNode => Refusal::UnknownNode,
+            StepFault::AlreadyJoined => Refusal::AlreadyJoined,
             StepFault::NoSuchProcess => Refusal::NoSuchProcess,
             StepFault::AlreadyExited => Refusal::AlreadyExited,
             StepFault::SerialsSpent => Refusal::SerialsSpent,
             StepFault::NothingToRetry => Refusal::NothingToRetry,
+            StepFault::HoldsLock => Refusal::HoldsLock,
             StepFault::CallsSpent => Refusal::CallsSpent,
             StepFault::Memory => Refusal::Memory,
         }

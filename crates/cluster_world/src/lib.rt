@@ -2,6 +2,7 @@
 #![tactic(auto)]
 
 mod events;
+mod history;
 pub mod laws;
 mod post;
 mod seat;
@@ -9,7 +10,8 @@ mod start;
 mod world;
 
 pub use events::{Event, Refusal, RunEnd, StartFault, WorldEvent};
-pub use node_core::{Answer, Call, Entry, Look, NameCall, Reply};
+pub use history::HistoryEntry;
+pub use node_core::{Answer, Call, Look, NameCall, Reply};
 pub use seat::{SeatFault, WorldSeat};
 pub use world::World;
 

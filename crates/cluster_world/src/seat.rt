@@ -10,7 +10,7 @@ use crate::events::{Event, Refusal, WorldEvent};
 use crate::world::World;
 use name_table::Names;
 use node_core::{Answer, Call, Reply};
-use std::alloc::AllocError;
+use std::alloc::{AllocError, Global};
 use term::{LockId, NodeName, Pid};
 use thiserror::Error;
 use transaction::{LockReply, LockSeat, Nodes, Retries};
@@ -83,7 +83,7 @@ fn no_answer(refusal: &Refusal) -> SeatFault
     }
 }
 
-impl<N: Names> World<N> {
+impl<N: Names<Memory = Global>> World<N> {
     ghost use Rattle.std.specs.Prelude.{Some};
     ghost use Rattle.cluster_world.specs.Events.{event_of};
     ghost use Rattle.cluster_world.specs.Playing.{Keeps};
@@ -141,7 +141,7 @@ pub struct WorldSeat<'a, N: Names> {
     replies: Vec<LockReply>,
 }
 
-impl<'a, N: Names> WorldSeat<'a, N> {
+impl<'a, N: Names<Memory = Global>> WorldSeat<'a, N> {
     ghost use Rattle.std.specs.Prelude.{[], ◌<◌, OnOk};
     ghost use Rattle.std.specs.Vec.{vec_len, vec_capacity};
     ghost use Rattle.cluster_world.specs.Playing.{Keeps};
@@ -190,7 +190,7 @@ impl<'a, N: Names> WorldSeat<'a, N> {
     }
 }
 
-impl<'a, N: Names> LockSeat for WorldSeat<'a, N> {
+impl<'a, N: Names<Memory = Global>> LockSeat for WorldSeat<'a, N> {
     ghost use Rattle.transaction.specs.Counts.{set_replies, deletion_replies};
     ghost use Rattle.node_core.specs.declared.events.Call.TheVariants.{SetLock, DelLock};
     ghost use Rattle.cluster_world.specs.Playing.{Keeps};

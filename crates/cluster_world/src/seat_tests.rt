@@ -192,3 +192,19 @@ fn passes_over_other_answers(rt: HostRuntime) -> Result<(), Fail> {
     assert_eq!(rt; text.as_str(), " true; true; no_such_node;");
     Ok(())
 }
+
+/// A node leaves with the grants of its processes. The round that asked it fails once its departure is heard of.
+#[test]
+fn frees_the_lock_of_who_left(rt: HostRuntime) -> Result<(), Fail> {
+    let mut world = world(rt.alloc())?;
+    let mut text = String::new(rt.alloc());
+    set(&mut text, &mut world, "b.1", "q")?;
+    world.play(&WorldEvent::At(parse_node("b")?, Event::Leave))?;
+    assert!(rt; world.has_left(&parse_node("b")?));
+    assert!(rt; !world.has_left(&parse_node("a")?));
+    set(&mut text, &mut world, "a.1", "z")?;
+    set(&mut text, &mut world, "a.1", "z")?;
+    set(&mut text, &mut world, "b.1", "q")?;
+    assert_eq!(rt; text.as_str(), " true; false; true; node_left;");
+    Ok(())
+}

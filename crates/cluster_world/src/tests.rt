@@ -1,10 +1,13 @@
 //! Worked examples of worlds. Each test is a script: a line has an event, or a question about the world, and what comes of it.
 use crate::{Answer, Call, Event, Refusal, Reply, StartFault, World, WorldEvent};
 use name_table::{ListTable, Names};
+use node_core::{Nodes, Retries};
 use std::alloc::Global;
 use std::fmt::Write;
 use std::test::Fail;
-use term::{NodeName, parse_name, parse_node, parse_pid};
+use term::{LockId, NodeName, parse_name, parse_node, parse_pid, parse_requester, parse_resource};
+
+mod joins;
 
 type Cluster = World<ListTable<Global>>;
 
@@ -23,12 +26,33 @@ fn nodes(alloc: Global, text: &str) -> Result<Vec<NodeName>, Fail> {
     Ok(nodes)
 }
 
-/// The call that registers a name for a process.
-fn register(name_and_owner: &str) -> Result<Call, Fail> {
-    let Some((name, owner)) = name_and_owner.split_once(' ') else {
-        return Err(Fail::from("no owner"));
+/// A text's first word, and the rest of it.
+fn part(text: &str) -> Result<(&str, &str), Fail> {
+    match text.split_once(' ') {
+        Some(parts) => Ok(parts),
+        None => Err(Fail::from("a word is missing")),
+    }
+}
+
+/// The call that registers a name for a process, or registers it anew.
+fn register(kind: &str, name_and_owner: &str) -> Result<Call, Fail> {
+    let (name, owner) = part(name_and_owner)?;
+    let (name, owner) = (parse_name(name)?, parse_pid(owner)?);
+    Ok(match kind {
+        "register" => Call::Register(name, owner),
+        _ => Call::ReRegister(name, owner),
+    })
+}
+
+/// The call of a process for a lock at all members, which may be refused any number of times.
+fn lock(text: &str) -> Result<Call, Fail> {
+    let (holder, text) = part(text)?;
+    let (resource, requester) = part(text)?;
+    let id = LockId {
+        resource: parse_resource(resource)?,
+        requester: parse_requester(requester)?,
     };
-    Ok(Call::Register(parse_name(name)?, parse_pid(owner)?))
+    Ok(Call::SetLock(parse_pid(holder)?, id, Nodes::All, Retries::Endless))
 }
 
 /// An event of one word.
@@ -36,18 +60,22 @@ fn plain_event(word: &str) -> Result<Event, Fail> {
     Ok(match word {
         "spawn" => Event::Call(Call::Spawn),
         "retry" => Event::Retry,
+        "leave" => Event::Leave,
         _ => return Err(Fail::from("no event")),
     })
 }
 
-/// What happens at a node: `spawn`, `whereis NAME`, `register NAME PID`, `exit PID`, or `retry`.
+/// What happens at a node: `spawn`, `whereis NAME`, `register NAME PID`, `re_register NAME PID`,
+/// `lock PID RESOURCE REQUESTER`, `join CONTACT`, `exit PID`, `retry`, or `leave`.
 fn own_event(text: &str) -> Result<Event, Fail> {
     let Some((kind, rest)) = text.split_once(' ') else {
         return plain_event(text);
     };
     Ok(match kind {
         "whereis" => Event::Call(Call::Whereis(parse_name(rest)?)),
-        "register" => Event::Call(register(rest)?),
+        "register" | "re_register" => Event::Call(register(kind, rest)?),
+        "lock" => Event::Call(lock(rest)?),
+        "join" => Event::Call(Call::Join(parse_node(rest)?)),
         "exit" => Event::Exit(parse_pid(rest)?),
         _ => return Err(Fail::from("no event")),
     })
@@ -74,6 +102,9 @@ fn plain_reply(reply: &Reply) -> &'static str {
         Reply::UnknownNode => "unknown_node",
         Reply::True => "true",
         Reply::False => "false",
+        Reply::Joined => "joined",
+        Reply::NotMember => "not_member",
+        Reply::ContactLeft => "contact_left",
         Reply::Undefined => "undefined",
         Reply::Pid(_) => "a process",
         Reply::Names(_) => "names",
@@ -127,7 +158,7 @@ fn run(text: &mut String, world: &mut Cluster, events: &str) -> Result<(), Fail>
     Ok(())
 }
 
-/// How many members and names a node has.
+/// How many members and names a node has, and of how many it was told that they have left, if of any.
 fn show_node(text: &mut String, world: &Cluster, node: &str) -> Result<(), Fail> {
     let node = parse_node(node)?;
     if let Some(members) = world.members(&node) {
@@ -136,6 +167,10 @@ fn show_node(text: &mut String, world: &Cluster, node: &str) -> Result<(), Fail>
     if let Some(table) = world.table(&node) {
         let names = table.pairs(*text.allocator())?.len();
         write!(text, " {names} names;")?;
+    }
+    match world.told(&node) {
+        Some(told) if !told.is_empty() => write!(text, " {} told;", told.len())?,
+        _ => {}
     }
     Ok(())
 }
@@ -150,13 +185,17 @@ fn show_world(text: &mut String, world: &Cluster) -> Result<(), Fail> {
     Ok(())
 }
 
-/// What comes of `settle`, of `run` and a list of events, or of one event; what `world` is like, or `node` and a node.
+/// What comes of `settle`, of `run` and a list of events, or of one event; what `world` is like, or `node` and a node; the
+/// `table` of a node, its `members`, or all `joins` of the history.
 fn play_words(text: &mut String, world: &mut Cluster, words: &str) -> Result<(), Fail> {
     match words.split_once(' ') {
         Some(("run", events)) => run(text, world, events),
         Some(("node", node)) => show_node(text, world, node),
+        Some(("table", node)) => joins::show_table(text, world, node),
+        Some(("members", node)) => joins::show_members(text, world, node),
         Some(_) => play(text, world, &event(words)?),
         None if words == "settle" => settle(text, world),
+        None if words == "joins" => joins::show_joins(text, world),
         None => show_world(text, world),
     }
 }
@@ -310,6 +349,34 @@ node b: 2 members; 0 names;
 fn strikes_names_of_the_dead(rt: HostRuntime) -> Result<(), Fail> {
     let text = script_of(rt.alloc(), "a b", "-", STRUCK)?;
     assert_eq!(rt; text.as_str(), STRUCK);
+    Ok(())
+}
+
+/// The greatest node leaves while it is asked: what goes to it vanishes, and the round fails once its departure is heard of.
+const LEFT_IN_A_ROUND: &str = "\
+a spawn: a#0 a.1;
+a register x a.1:
+c leave:
+world: 4 nodes; 1 entries;
+a to c: node_left;
+z to c: no_such_node;
+c to z: no_such_node;
+c spawn: node_left;
+c leave: node_left;
+settle:
+world: 4 nodes; 4 entries;
+a retry:
+settle: a#1 yes;
+node a: 2 members; 1 names; 1 told;
+node b: 2 members; 1 names; 1 told;
+node c: 3 members; 0 names;
+node d: 1 members; 0 names; 1 told;
+";
+
+#[test]
+fn goes_on_without_who_left(rt: HostRuntime) -> Result<(), Fail> {
+    let text = script_of(rt.alloc(), "a b c", "d", LEFT_IN_A_ROUND)?;
+    assert_eq!(rt; text.as_str(), LEFT_IN_A_ROUND);
     Ok(())
 }
 

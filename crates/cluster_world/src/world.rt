@@ -1,11 +1,14 @@
 //! A world of up to eight nodes.
 ghost use Rattle.std.specs.Prelude.{◌≡◌};
+ghost use Rattle.cluster_world.specs.Seen.{is_holding};
 
-use crate::events::{Refusal, RunEnd, WorldEvent};
-use crate::post::{enter, post};
+use crate::events::{Event, Refusal, RunEnd, WorldEvent};
+use crate::history::{HistoryEntry, enter};
+use crate::post::post;
 use link::Mesh;
 use name_table::Names;
-use node_core::{Answer, Entry, Letter, NodeCore};
+use node_core::{Answer, Call, Letter, NodeCore};
+use std::alloc::Global;
 use std::marker::Model;
 use term::{NodeName, NodeSet};
 
@@ -18,7 +21,7 @@ pub struct World<N: Names> {
     /// The core of each node, in the order of the nodes.
     pub(crate) cores: Vec<NodeCore<N>>,
     pub(crate) links: Mesh<Letter>,
-    pub(crate) history: Vec<Entry>,
+    pub(crate) history: Vec<HistoryEntry>,
 }
 
 impl<N: Names> Model for World<N> {
@@ -43,15 +46,26 @@ impl<N: Names> Model for World<N> {
     }) };
 }
 
-impl<N: Names> World<N> {
-    ghost use Rattle.std.specs.Prelude.{false, [], ◌∷◌, take, is_some, OnOk, OnErr, IfOk, IfErr, IfSome};
+/// Whether the core, over these links, is that of a running joined node that holds the global lock.
+fn is_holder<N: Names<Memory = Global>>(links: &Mesh<Letter>, core: &NodeCore<N>) -> bool
+    ensures { result ≡ is_holding links.now core.now }
+{
+    core.is_joined() && core.holds_global() && !links.is_closed(core.name())
+}
+
+impl<N: Names<Memory = Global>> World<N> {
+    ghost use Rattle.std.specs.Prelude.{true, false, [], ◌∷◌, take, is_some, OnOk, OnErr, IfOk, IfErr, IfSome};
     ghost use Rattle.std.specs.Option.{option_copied};
+    ghost use Rattle.protocol_model.specs.Links.{closed_out};
     ghost use Rattle.protocol_model.specs.World.{holder, left};
+    ghost use Rattle.link.specs.Held.{seen as links_of};
     ghost use Rattle.node_core.specs.Held.{IsWithin};
     ghost use Rattle.node_core.specs.Steps.{IsHeardWithin};
     ghost use Rattle.term.specs.NodeSets.{set_of};
     ghost use Rattle.cluster_world.specs.Held.{IsWhole};
-    ghost use Rattle.cluster_world.specs.Seen.{opening_of, core_of, seen};
+    ghost use Rattle.cluster_world.specs.Cores.{core_of};
+    ghost use Rattle.cluster_world.specs.Events.{knows_contact};
+    ghost use Rattle.cluster_world.specs.Seen.{opening_of, seen};
     ghost use Rattle.cluster_world.specs.Refusals.{is_memory};
     ghost use Rattle.cluster_world.specs.Steps.{Moves, FailsAt};
     ghost use Rattle.cluster_world.specs.Playing.{Keeps, Played, RefusedWith, ran_out, Ran, WaitsOn};
@@ -60,7 +74,7 @@ impl<N: Names> World<N> {
 
     /// A node takes the step of an event: its letters go onto their links, and its entries into the history.
     fn step(&mut self, node: &NodeName, event: &node_core::Event) -> Result<Vec<Answer>, Refusal>
-        requires { IsHeardWithin self.old.nodes event.now }
+        requires { IsHeardWithin self.old.nodes node.now event.now }
         ensures kept { Keeps self.old self.new }
         ensures ok { IfOk result (λ answers. Moves node.now event.now self.old self.new answers.items) }
         ensures refused { IfErr result (λ refusal. FailsAt refusal node.now event.now self.old) }
@@ -70,11 +84,52 @@ impl<N: Names> World<N> {
         let Some(place) = self.nodes.position(node) else {
             return Err(Refusal::NoSuchNode);
         };
+        if self.links.is_closed(node) {
+            return Err(Refusal::NodeLeft);
+        }
         let mut letters = Vec::new(*self.history.allocator());
         let core = &mut self.cores[place];
+        let join = core.join_number().unwrap_or(0);
         let answers = core.step(event, &mut letters)?;
         post(&mut self.links, node, letters)?;
-        enter(&mut self.history, core.entered())?;
+        let entries = self.cores[place].entered();
+        enter(&mut self.history, entries, &self.cores, node, join)?;
+        Ok(answers)
+    }
+
+    /// Empties all links towards a node of the world, for good.
+    fn close_out(&mut self, node: &NodeName)
+        requires { set_of self.old.nodes node.now ≡ true }
+        ensures closed { links_of self.new.links ≡ closed_out node.now (links_of self.old.links) }
+        ensures others { self.new ≡ record self.old { links = self.new.links } }
+    {
+        let _ = self.links.close_out(node);
+    }
+
+    /// Whether the contact of an event is of this world, if it has one.
+    fn knows_contact(&self, event: &Event) -> bool
+        ensures { result ≡ knows_contact self.now.nodes event.now }
+    {
+        match event {
+            Event::Call(Call::Join(contact)) => self.nodes.contains(contact),
+            _ => true,
+        }
+    }
+
+    /// An event of a node is played. All links towards one that leaves are closed.
+    fn happen(&mut self, node: &NodeName, event: &Event) -> Result<Vec<Answer>, Refusal>
+        ensures kept { Keeps self.old self.new }
+        ensures ok { IfOk result (λ answers. Played (WorldEvent.At node.now event.now) self.old self.new [] answers.items) }
+        ensures refused { IfErr result (λ refusal. RefusedWith refusal (WorldEvent.At node.now event.now) self.old) }
+        ensures unchanged { IfErr result (λ refusal. is_memory refusal ≡ false → self.new ≡ self.old) }
+    {
+        if !self.knows_contact(event) {
+            return Err(Refusal::NoSuchNode);
+        }
+        let answers = self.step(node, &event.at_node())?;
+        if event.is_leave() {
+            self.close_out(node);
+        }
         Ok(answers)
     }
 
@@ -85,6 +140,12 @@ impl<N: Names> World<N> {
         ensures refused { IfErr result (λ refusal. RefusedWith refusal (WorldEvent.Deliver sender.now receiver.now) self.old) }
         ensures unchanged { IfErr result (λ refusal. is_memory refusal ≡ false → self.new ≡ self.old) }
     {
+        if !self.nodes.contains(sender) {
+            return Err(Refusal::NoSuchNode);
+        }
+        if self.links.is_closed(receiver) {
+            return Err(Refusal::NodeLeft);
+        }
         let letter = self.links.deliver(sender, receiver)?;
         let event = node_core::Event::FromPeer(sender.copy(), letter);
         self.step(receiver, &event)
@@ -107,7 +168,7 @@ impl<N: Names> World<N> {
         ensures unchanged { IfErr result (λ refusal. is_memory refusal ≡ false → self.new ≡ self.old) }
     {
         match event {
-            WorldEvent::At(node, event) => self.step(node, &event.at_node()),
+            WorldEvent::At(node, event) => self.happen(node, event),
             WorldEvent::Deliver(sender, receiver) => self.deliver(sender, receiver),
         }
     }
@@ -158,7 +219,7 @@ impl<N: Names> World<N> {
     }
 
     /// The history: all entries, the oldest first.
-    pub fn history(&self) -> &[Entry]
+    pub fn history(&self) -> &[HistoryEntry]
         ensures { result.now ≡ self.now.history }
     {
         self.history.as_slice()
@@ -182,33 +243,48 @@ impl<N: Names> World<N> {
         Some(&self.cores[place])
     }
 
-    /// The table of a node, or `None` where the node isn't of this world. No node has left a world.
+    /// Whether a node has left this world.
+    pub fn has_left(&self, node: &NodeName) -> bool
+        ensures left { result ≡ left (seen self.now) node.now }
+        ensures known { result ≡ true → set_of self.now.nodes node.now ≡ true }
+    {
+        self.links.is_closed(node)
+    }
+
+    /// The table of a node, or `None` where the node isn't of this world. That of one that has left is as it was then.
     pub fn table(&self, node: &NodeName) -> Option<&N>
         ensures here { is_some result ≡ set_of self.now.nodes node.now }
         ensures table { IfSome result (λ table. N.contents table.now ≡ ((seen self.now).node node.now).replica.table) }
-        ensures running { left (seen self.now) node.now ≡ false }
     {
         Some(self.core(node)?.table())
     }
 
-    /// The members of a node, itself among them, or `None` where the node isn't of this world. All are nodes of the world, and none
-    /// has left it.
+    /// The members of a node, itself among them, or `None` where the node isn't of this world. All are nodes of the world. Those
+    /// of one that has left are as they were then.
     pub fn members(&self, node: &NodeName) -> Option<&NodeSet>
         ensures here { is_some result ≡ set_of self.now.nodes node.now }
         ensures members { IfSome result (λ members. set_of members.now ≡ ((seen self.now).node node.now).replica.members) }
         ensures within { IfSome result (λ members. IsWithin self.now.nodes members.now) }
-        ensures running { left (seen self.now) node.now ≡ false }
     {
         Some(self.core(node)?.members())
     }
 
-    /// The joined node that holds the global lock, if one does: from the grant of the last member until what it wrote is
+    /// The nodes that a node was told have left, or `None` where that node isn't of this world. All are nodes of the world.
+    pub fn told(&self, node: &NodeName) -> Option<&NodeSet>
+        ensures here { is_some result ≡ set_of self.now.nodes node.now }
+        ensures told { IfSome result (λ told. set_of told.now ≡ ((seen self.now).node node.now).replica.told) }
+        ensures within { IfSome result (λ told. IsWithin self.now.nodes told.now) }
+    {
+        Some(self.core(node)?.told())
+    }
+
+    /// The running joined node that holds the global lock, if one does: from the grant of the last member until what it wrote is
     /// acknowledged by all.
     pub fn holder(&self) -> Option<NodeName>
         ensures { result ≡ holder (opening_of self.now) (seen self.now) }
     {
         for core in &self.cores {
-            if core.is_joined() && core.holds_global() {
+            if is_holder(&self.links, core) {
                 return Some(core.name().copy());
             }
         }

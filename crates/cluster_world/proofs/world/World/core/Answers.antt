@@ -1,9 +1,9 @@
 use Rattle.std.proofs.Common.{◌∙◌, ap, sym}
 use Rattle.term.specs.NodeSets.{set_of}
 use Rattle.cluster_world.specs.Held.{Held}
-use Rattle.cluster_world.specs.Seen.{core_of}
+use Rattle.cluster_world.specs.Cores.{core_of}
 use Rattle.cluster_world.proofs.Nodes.{no_place, known_place}
-use Rattle.cluster_world.proofs.Steps.{stands, core_missing}
+use Rattle.cluster_world.proofs.Steps.{core_is, core_missing}
 use Rattle.cluster_world.proofs.world.World.core.Goals as goal
 
 pub returns-in_err-place-clause-here : goal.returns-in_err-place-clause-here
@@ -24,5 +24,5 @@ returns-clause-here g c =
 pub returns-clause-core : goal.returns-clause-core
 returns-clause-core g c =
     sym (ap (λ (k : Held). core_of c.args.node.now k.cores) (sym c.self.view_is)
-    ∙ (stands _ c.self.invariant c.args.node.now c.in_ok-place.place c.index.result.now
-    (sym c.position.ensures ∙ c.in_ok-place.was) c.index.ensures).is)
+    ∙ core_is _ c.self.invariant c.args.node.now c.in_ok-place.place c.index.result.now
+    (sym c.position.ensures ∙ c.in_ok-place.was) c.index.ensures)

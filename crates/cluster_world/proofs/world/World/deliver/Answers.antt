@@ -1,13 +1,16 @@
-use Rattle.std.proofs.Common.{[], ap, subst, ◌∙◌, ℕ}
+use Rattle.std.proofs.Common.{[], sym, subst, ◌∙◌, ℕ}
 use Rattle.std.proofs.lemmas.Result.{err_from_is_err_and, IfOk-weaker, IfErr-weaker}
-use Rattle.term.specs.NodeSets.{set_of}
+use Rattle.link.specs.Held.{Held as Mesh}
 use Rattle.node_core.specs.declared.events.Event.TheVariants.{FromPeer}
+use Rattle.node_core.specs.declared.events.Letter.{Letter}
+use Rattle.node_core.specs.Steps.{IsHeardWithin}
+use Rattle.cluster_world.specs.declared.events.Refusal.TheVariants.{NoSuchNode, NodeLeft}
 use Rattle.cluster_world.specs.declared.events.WorldEvent.TheVariants.{Deliver}
-use Rattle.cluster_world.specs.Held.{Held}
+use Rattle.cluster_world.specs.Held.{Held, IsWhole}
 use Rattle.cluster_world.specs.Refusals.{refusal_on}
 use Rattle.cluster_world.specs.Playing.{Played, RefusedWith}
 use Rattle.cluster_world.specs.Steps.{Moves, FailsAt}
-use Rattle.cluster_world.proofs.Plays.{sender_within, refuses_on, plays_delivery, refuses_delivery, never_kept}
+use Rattle.cluster_world.proofs.Plays.{refuses_stranger, refuses_left, refuses_on, off_whole, may_hear, plays_delivery, refuses_delivery, never_kept}
 use Rattle.cluster_world.proofs.world.World.deliver.Goals as goal
 
 pub returns-in_err-letter-clause-refused : goal.returns-in_err-letter-clause-refused
@@ -17,7 +20,7 @@ returns-in_err-letter-clause-refused g c =
     c.args.self.now =
     subst (λ (k : Held). RefusedWith (refusal_on c.in_err-letter.field-0.0)
     (Deliver c.args.sender.now c.args.receiver.now) k) c.self.view_is
-    (refuses_on _ c.self.invariant c.args.sender.now c.args.receiver.now c.in_err-letter.field-0.0
+    (refuses_on _ c.self.invariant c.args.sender.now c.args.receiver.now (sym c.contains.ensures ∙ c.if-not-contains.false) (sym c.is_closed.ensures ∙ c.if-is_closed.false) c.in_err-letter.field-0.0
     c.in_err-letter.ensures.err) in
     rw (p.1, p.2) refused
 
@@ -34,7 +37,8 @@ returns-clause-ok g c =
     IfOk-weaker c.step.result _ _ (λ answers M. subst
     (λ (k : Held). Played (Deliver c.args.sender.now c.args.receiver.now) k c.step.new.self [] answers.items)
     c.self.view_is
-    (plays_delivery _ c.self.invariant c.args.sender.now c.args.receiver.now c.in_ok-letter.letter c.deliver.new.self
+    (plays_delivery _ c.self.invariant c.args.sender.now c.args.receiver.now (sym c.contains.ensures ∙ c.if-not-contains.false) (sym c.is_closed.ensures ∙ c.if-is_closed.false)
+    c.in_ok-letter.letter c.deliver.new.self
     c.in_ok-letter.ensures.known c.in_ok-letter.ensures.oldest c.in_ok-letter.ensures.ok c.in_ok-letter.ensures.nodes
     c.step.new.self answers.items
     (subst (λ (f : ℕ). Moves c.args.receiver.now (FromPeer f c.in_ok-letter.letter) off c.step.new.self answers.items)
@@ -52,7 +56,8 @@ returns-clause-refused g c =
     } in
     IfErr-weaker c.step.result _ _ (λ r F. subst (λ (k : Held). RefusedWith r
     (Deliver c.args.sender.now c.args.receiver.now) k) c.self.view_is
-    (refuses_delivery _ c.self.invariant c.args.sender.now c.args.receiver.now c.in_ok-letter.letter c.deliver.new.self
+    (refuses_delivery _ c.self.invariant c.args.sender.now c.args.receiver.now (sym c.contains.ensures ∙ c.if-not-contains.false) (sym c.is_closed.ensures ∙ c.if-is_closed.false)
+    c.in_ok-letter.letter c.deliver.new.self
     c.in_ok-letter.ensures.known c.in_ok-letter.ensures.oldest c.in_ok-letter.ensures.ok c.in_ok-letter.ensures.nodes r
     (subst (λ (f : ℕ). FailsAt r c.args.receiver.now (FromPeer f c.in_ok-letter.letter) off) c.copy.ensures F)))
     c.step.ensures.refused
@@ -68,13 +73,42 @@ returns-clause-unchanged g c =
       history = c.self.inside.history.items;
     } in
     IfErr-weaker c.step.result _ _ (λ r F kept. absurd
-    (never_kept _ c.self.invariant c.args.sender.now c.args.receiver.now c.in_ok-letter.letter
+    (never_kept _ c.self.invariant c.args.sender.now c.args.receiver.now (sym c.contains.ensures ∙ c.if-not-contains.false) (sym c.is_closed.ensures ∙ c.if-is_closed.false)
+    c.in_ok-letter.letter
     c.deliver.new.self c.in_ok-letter.ensures.known c.in_ok-letter.ensures.oldest c.in_ok-letter.ensures.ok
     c.in_ok-letter.ensures.nodes r
     (subst (λ (f : ℕ). FailsAt r c.args.receiver.now (FromPeer f c.in_ok-letter.letter) off) c.copy.ensures F) kept))
     c.step.ensures.refused
 
+pub returns-then-not-contains-clause-refused : goal.returns-then-not-contains-clause-refused
+returns-then-not-contains-clause-refused g c =
+    subst (λ (k : Held). RefusedWith NoSuchNode (Deliver c.args.sender.now c.args.receiver.now) k) c.self.view_is
+    (refuses_stranger _ c.self.invariant c.args.sender.now c.args.receiver.now (sym c.contains.ensures ∙ c.if-not-contains.true))
+
+pub returns-then-is_closed-clause-refused : goal.returns-then-is_closed-clause-refused
+returns-then-is_closed-clause-refused g c =
+    subst (λ (k : Held). RefusedWith NodeLeft (Deliver c.args.sender.now c.args.receiver.now) k) c.self.view_is
+    (refuses_left _ c.self.invariant c.args.sender.now c.args.receiver.now (sym c.contains.ensures ∙ c.if-not-contains.false)
+    (sym c.is_closed.ensures ∙ c.if-is_closed.true))
+
+pub invariant_of-self : goal.invariant_of-self
+invariant_of-self g c =
+    subst (λ (k : Mesh Letter). IsWhole (record {
+      nodes = c.self.inside.nodes;
+      cluster = c.self.inside.cluster;
+      cores = c.self.inside.cores.items;
+      links = k;
+      history = c.self.inside.history.items;
+    })) (sym c.in_err-letter.ensures.unchanged) c.self.invariant
+
+pub invariant_of-self-2 : goal.invariant_of-self-2
+invariant_of-self-2 g c =
+    off_whole _ c.self.invariant c.args.sender.now c.args.receiver.now (sym c.contains.ensures ∙ c.if-not-contains.false) (sym c.is_closed.ensures ∙ c.if-is_closed.false) c.in_ok-letter.letter c.deliver.new.self
+    c.in_ok-letter.ensures.known c.in_ok-letter.ensures.oldest c.in_ok-letter.ensures.ok c.in_ok-letter.ensures.nodes
+
 pub step-requires : goal.step-requires
 step-requires g c =
-    ap (λ (f : ℕ). set_of c.self.inside.nodes f) c.copy.ensures
-    ∙ sender_within _ c.self.invariant c.args.sender.now c.args.receiver.now c.in_ok-letter.ensures.known
+    subst (λ (f : ℕ). IsHeardWithin c.self.inside.nodes c.args.receiver.now (FromPeer f c.in_ok-letter.letter))
+    (sym c.copy.ensures)
+    (may_hear _ c.self.invariant c.args.sender.now c.args.receiver.now (sym c.contains.ensures ∙ c.if-not-contains.false) (sym c.is_closed.ensures ∙ c.if-is_closed.false) c.in_ok-letter.letter c.deliver.new.self
+    c.in_ok-letter.ensures.known c.in_ok-letter.ensures.oldest c.in_ok-letter.ensures.ok c.in_ok-letter.ensures.nodes)

@@ -1,15 +1,18 @@
-use Rattle.std.proofs.Common.{◌∙◌, ◌++◌, List, map, set, ap, sym, subst, refl}
+use Rattle.std.proofs.Common.{ℕ, ◌∙◌, ◌++◌, Option, List, map, set, ap, sym, subst, refl}
+use Rattle.std.specs.Prelude.{unwrap_or}
 use Rattle.std.proofs.lemmas.Result.{err_from_is_err_and}
 use Rattle.term.specs.NodeSets.{set_of}
 use Rattle.node_core.specs.declared.events.Entry.{Entry}
-use Rattle.node_core.specs.Seen.{entry_of}
+use Rattle.node_core.specs.Held.{Held as Core}
+use Rattle.node_core.specs.Seen.{node_of, entry_by}
 use Rattle.node_core.specs.Steps.{IsHeardWithin}
-use Rattle.cluster_world.specs.declared.events.Refusal.TheVariants.{Memory}
+use Rattle.cluster_world.specs.declared.events.Refusal.TheVariants.{NodeLeft, Memory}
 use Rattle.cluster_world.specs.Held.{Held}
+use Rattle.cluster_world.specs.Histories.{entry_of, number_at}
 use Rattle.cluster_world.specs.Refusals.{refusal_by}
 use Rattle.cluster_world.specs.Steps.{Moves, FailsAt}
-use Rattle.cluster_world.proofs.Nodes.{no_place}
-use Rattle.cluster_world.proofs.Steps.{fails, fails_behind, joined, unchanged, whole_with, moves, same_memory}
+use Rattle.cluster_world.proofs.Nodes.{no_place, known_place}
+use Rattle.cluster_world.proofs.Steps.{fails, fails_behind, joined, said, unchanged, stands_there, whole_with, whole_posted, moves, same_memory, number_is}
 use Rattle.cluster_world.proofs.world.World.step.Goals as goal
 
 pub returns-in_default-clause-refused : goal.returns-in_default-clause-refused
@@ -17,12 +20,19 @@ returns-in_default-clause-refused g c =
     ap (λ (k : Held). set_of k.nodes c.args.node.now) (sym c.self.view_is)
     ∙ no_place c.self.inside.nodes c.args.node.now (sym c.position.ensures ∙ c.in_default.is)
 
+pub returns-then-is_closed-clause-refused : goal.returns-then-is_closed-clause-refused
+returns-then-is_closed-clause-refused g c =
+    subst (λ (k : Held). FailsAt NodeLeft c.args.node.now c.args.event.now k) c.self.view_is (
+      known_place c.self.inside.nodes c.args.node.now c.in-Some.place (sym c.position.ensures ∙ c.in-Some.is),
+      sym c.is_closed.ensures ∙ c.if-is_closed.true,
+    )
+
 pub invariant_of-self : goal.invariant_of-self
 invariant_of-self g c =
     whole_with _ c.self.invariant c.args.node.now c.in-Some.place c.index_mut-core.result.now
     (sym c.position.ensures ∙ c.in-Some.is)
     c.index_mut-core.ensures.value c.step.new.self c.self.inside.links c.self.inside.history.items c.step.ensures.name
-    c.step.ensures.world refl refl
+    c.step.ensures.world refl c.self.invariant.fit
 
 pub returns-in_err-answers-clause-refused : goal.returns-in_err-answers-clause-refused
 returns-in_err-answers-clause-refused g c =
@@ -32,7 +42,7 @@ returns-in_err-answers-clause-refused g c =
     c.self.view_is
     (fails _ c.self.invariant c.args.node.now c.in-Some.place c.index_mut-core.result.now
     (sym c.position.ensures ∙ c.in-Some.is)
-    c.index_mut-core.ensures.value c.args.event.now c.in_err-answers.field-0.0 c.in_err-answers.ensures.refused) in
+    c.index_mut-core.ensures.value (sym c.is_closed.ensures ∙ c.if-is_closed.false) c.args.event.now c.in_err-answers.field-0.0 c.in_err-answers.ensures.refused) in
     rw (p.1, p.2) failed
 
 pub returns-in_err-answers-clause-unchanged : goal.returns-in_err-answers-clause-unchanged
@@ -45,11 +55,11 @@ returns-in_err-answers-clause-unchanged g c =
 
 pub invariant_of-self-in_err-post : goal.invariant_of-self-in_err-post
 invariant_of-self-in_err-post g c =
-    whole_with _ c.self.invariant c.args.node.now c.in-Some.place c.index_mut-core.result.now
+    whole_posted _ c.self.invariant c.args.node.now c.in-Some.place c.index_mut-core.result.now
     (sym c.position.ensures ∙ c.in-Some.is)
     c.index_mut-core.ensures.value c.step.new.self c.post.new.links c.self.inside.history.items c.step.ensures.name
     c.step.ensures.world
-    c.post.ensures.nodes c.post.ensures.closed
+    c.post.ensures.nodes c.post.ensures.fit
 
 pub returns-in_err-post-clause-refused : goal.returns-in_err-post-clause-refused
 returns-in_err-post-clause-refused g c =
@@ -58,18 +68,18 @@ returns-in_err-post-clause-refused g c =
     subst (λ (k : Held). FailsAt Memory c.args.node.now c.args.event.now k) c.self.view_is
     (fails_behind _ c.self.invariant c.args.node.now c.in-Some.place c.index_mut-core.result.now
     (sym c.position.ensures ∙ c.in-Some.is)
-    c.index_mut-core.ensures.value c.args.event.now c.step.new.self c.new-letters.result.items c.step.new.letters.items
+    c.index_mut-core.ensures.value (sym c.is_closed.ensures ∙ c.if-is_closed.false) c.args.event.now c.step.new.self c.new-letters.result.items c.step.new.letters.items
     c.in_ok-answers.answers.items
     c.in_ok-answers.ensures.ok) in
     rw (p.1, p.2, c.in_err-post.ensures.err) failed
 
 pub invariant_of-self-in_err-enter : goal.invariant_of-self-in_err-enter
 invariant_of-self-in_err-enter g c =
-    whole_with _ c.self.invariant c.args.node.now c.in-Some.place c.index_mut-core.result.now
+    whole_posted _ c.self.invariant c.args.node.now c.in-Some.place c.index_mut-core.result.now
     (sym c.position.ensures ∙ c.in-Some.is)
     c.index_mut-core.ensures.value c.step.new.self c.post.new.links c.enter.new.history.items c.step.ensures.name
     c.step.ensures.world
-    c.post.ensures.nodes c.post.ensures.closed
+    c.post.ensures.nodes c.post.ensures.fit
 
 pub returns-in_err-enter-clause-refused : goal.returns-in_err-enter-clause-refused
 returns-in_err-enter-clause-refused g c =
@@ -78,18 +88,18 @@ returns-in_err-enter-clause-refused g c =
     subst (λ (k : Held). FailsAt Memory c.args.node.now c.args.event.now k) c.self.view_is
     (fails_behind _ c.self.invariant c.args.node.now c.in-Some.place c.index_mut-core.result.now
     (sym c.position.ensures ∙ c.in-Some.is)
-    c.index_mut-core.ensures.value c.args.event.now c.step.new.self c.new-letters.result.items c.step.new.letters.items
+    c.index_mut-core.ensures.value (sym c.is_closed.ensures ∙ c.if-is_closed.false) c.args.event.now c.step.new.self c.new-letters.result.items c.step.new.letters.items
     c.in_ok-answers.answers.items
     c.in_ok-answers.ensures.ok) in
     rw (p.1, p.2) failed
 
 pub invariant_of-self-2 : goal.invariant_of-self-2
 invariant_of-self-2 g c =
-    whole_with _ c.self.invariant c.args.node.now c.in-Some.place c.index_mut-core.result.now
+    whole_posted _ c.self.invariant c.args.node.now c.in-Some.place c.index_mut-core.result.now
     (sym c.position.ensures ∙ c.in-Some.is)
     c.index_mut-core.ensures.value c.step.new.self c.post.new.links c.enter.new.history.items c.step.ensures.name
     c.step.ensures.world
-    c.post.ensures.nodes c.post.ensures.closed
+    c.post.ensures.nodes c.post.ensures.fit
 
 pub returns-clause-ok : goal.returns-clause-ok
 returns-clause-ok g c =
@@ -103,18 +113,37 @@ returns-clause-ok g c =
     subst (λ (k : Held). Moves c.args.node.now c.args.event.now k behind c.in_ok-answers.answers.items) c.self.view_is
     (moves _ c.self.invariant c.args.node.now c.in-Some.place c.index_mut-core.result.now
     (sym c.position.ensures ∙ c.in-Some.is)
-    c.index_mut-core.ensures.value c.args.event.now c.step.new.self c.new-letters.result.items c.step.new.letters.items
+    c.index_mut-core.ensures.value (sym c.is_closed.ensures ∙ c.if-is_closed.false) c.args.event.now c.step.new.self c.new-letters.result.items c.step.new.letters.items
     c.in_ok-answers.answers.items
-    c.post.new.links c.enter.new.history.items c.new-letters.ensures.items c.in_ok-answers.ensures.ok
-    c.in_ok-post.ensures.ok
-    (c.in_ok-enter.ensures ∙ ap (λ (es : List Entry). map entry_of c.self.inside.history.items ++ map entry_of es)
-    c.entered.ensures))
+    c.post.new.links c.enter.new.history.items c.unwrap_or-join.result c.new-letters.ensures.items
+    c.in_ok-answers.ensures.ok c.in_ok-post.ensures.ok
+    (c.unwrap_or-join.ensures ∙ ap (λ (o : Option ℕ). unwrap_or o 0) c.join_number.ensures
+    ∙ number_is (node_of c.index_mut-core.result.now).current)
+    (c.in_ok-enter.ensures
+    ∙ ap (λ (cs : List Core). map entry_of c.self.inside.history.items
+    ++ map (entry_by (number_at cs c.args.node.now c.unwrap_or-join.result)) c.entered-entries.result.now)
+    c.deref.ensures.value
+    ∙ ap (λ (es : List Entry). map entry_of c.self.inside.history.items
+    ++ map (entry_by (number_at behind.cores c.args.node.now c.unwrap_or-join.result)) es)
+    (c.entered-entries.ensures ∙ ap (λ (k : Core). k.entered)
+    (stands_there _ c.self.invariant c.args.node.now c.in-Some.place c.index_mut-core.result.now
+    (sym c.position.ensures ∙ c.in-Some.is) c.index_mut-core.ensures.value c.step.new.self c.index.result.now
+    c.index.ensures))))
 
-pub post-requires : goal.post-requires
-post-requires g c =
+pub post-requires-clause-joined : goal.post-requires-clause-joined
+post-requires-clause-joined g c =
     joined _ c.self.invariant c.args.node.now c.in-Some.place c.index_mut-core.result.now
     (sym c.position.ensures ∙ c.in-Some.is)
     c.index_mut-core.ensures.value c.args.event.now c.step.new.self c.new-letters.result.items c.step.new.letters.items
     c.in_ok-answers.answers.items
     c.new-letters.ensures.items c.in_ok-answers.ensures.ok
-    (subst (λ (k : Held). IsHeardWithin k.nodes c.args.event.now) (sym c.self.view_is) c.requires)
+    (subst (λ (k : Held). IsHeardWithin k.nodes c.args.node.now c.args.event.now) (sym c.self.view_is) c.requires)
+
+pub post-requires-clause-said : goal.post-requires-clause-said
+post-requires-clause-said g c =
+    said _ c.self.invariant c.args.node.now c.in-Some.place c.index_mut-core.result.now
+    (sym c.position.ensures ∙ c.in-Some.is)
+    c.index_mut-core.ensures.value c.args.event.now c.step.new.self c.new-letters.result.items c.step.new.letters.items
+    c.in_ok-answers.answers.items
+    c.new-letters.ensures.items c.in_ok-answers.ensures.ok
+    (subst (λ (k : Held). IsHeardWithin k.nodes c.args.node.now c.args.event.now) (sym c.self.view_is) c.requires)

@@ -1,0 +1,7 @@
+-- The cores of the nodes.
+use Rattle.std.specs.Prelude.{ℕ, ◌==◌, Option, List, find}
+use Rattle.node_core.specs.Held.{Held as Core}
+
+-- the core of a node, if there is one
+abbrev pub core_of : ℕ → List Core → Option Core
+core_of a cs = find (λ c. c.name == a) cs
