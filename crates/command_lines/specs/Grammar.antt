@@ -3,7 +3,7 @@ use Rattle.std.specs.Prelude.{ℕ, Bool, true, false, bytes_eq, codes, ◌≡◌
 use Rattle.std.specs.List.{find}
 use Rattle.registry_model.specs.Process.{Process, Text as AText}
 use Rattle.registry_model.specs.Call.{Register, ReRegister, Unregister, Whereis, RegisteredNames}
-use Rattle.protocol_model.specs.Event.{Event, Calling, Retry, Exiting, Call, Spawn, OnName, LookUp, SetLock, DelLock}
+use Rattle.protocol_model.specs.Event.{Event, Calling, Retry, Exiting, Leave, Call, Spawn, OnName, LookUp, SetLock, DelLock, JoinBy}
 use Rattle.protocol_model.specs.Node.{Target, Retries as Tries}
 use Rattle.protocol_model.specs.World.{At, Deliver}
 use Rattle.protocol_model.specs.Script.{Line, Play, Settle, TableAt, MembersAt}
@@ -89,8 +89,10 @@ grammar =
     ∷ row (codes "set_lock") (Pid ∷ Resource ∷ Requester ∷ Nodes ∷ Retries ∷ [])
     (λ p r q t n. call_at p.node (SetLock p r q t n))
     ∷ row (codes "del_lock") (Pid ∷ Resource ∷ Requester ∷ Nodes ∷ []) (λ p r q t. call_at p.node (DelLock p r q t))
+    ∷ row (codes "join") (Node ∷ Node ∷ []) (λ n m. call_at n (JoinBy m))
     ∷ row (codes "deliver") (Node ∷ Node ∷ []) (λ f t. Play (Deliver f t))
     ∷ row (codes "retry") (Node ∷ []) (λ n. at_node n Retry)
+    ∷ row (codes "leave") (Node ∷ []) (λ n. at_node n Leave)
     ∷ row (codes "settle") [] Settle
     ∷ row (codes "members") (Node ∷ []) MembersAt
     ∷ row (codes "table") (Node ∷ []) TableAt

@@ -110,6 +110,7 @@ fn with_one(word: &str, text: &str) -> Result<Task, LineFault>
         "exit" => Ok(exit(parse_pid(text)?)),
         "names" => Ok(call(parse_node(text)?, Call::RegisteredNames)),
         "retry" => Ok(Task::Play(WorldEvent::At(parse_node(text)?, Event::Retry))),
+        "leave" => Ok(Task::Play(WorldEvent::At(parse_node(text)?, Event::Leave))),
         "members" => Ok(Task::Members(parse_node(text)?)),
         "table" => Ok(Task::Table(parse_node(text)?)),
         _ => Err(LineFault::BadLine),
@@ -123,6 +124,7 @@ fn with_two(word: &str, text: &str, next: &str) -> Result<Task, LineFault>
     match word {
         "unregister" => Ok(call(parse_node(text)?, Call::Unregister(parse_name(next)?))),
         "whereis" => Ok(call(parse_node(text)?, Call::Whereis(parse_name(next)?))),
+        "join" => Ok(call(parse_node(text)?, Call::Join(parse_node(next)?))),
         "deliver" => Ok(Task::Play(WorldEvent::Deliver(parse_node(text)?, parse_node(next)?))),
         _ => Err(LineFault::BadLine),
     }

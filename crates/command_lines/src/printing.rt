@@ -38,6 +38,9 @@ fn reply_text(alloc: Global, reply: &Reply) -> Result<String, AllocError>
         Reply::UnknownNode => String::from_str(alloc, "unknown_node"),
         Reply::True => String::from_str(alloc, "true"),
         Reply::False => String::from_str(alloc, "false"),
+        Reply::Joined => String::from_str(alloc, "joined"),
+        Reply::NotMember => String::from_str(alloc, "not_member"),
+        Reply::ContactLeft => String::from_str(alloc, "contact_left"),
         Reply::Pid(process) => format!(in alloc; "{process}"),
         Reply::Undefined => String::from_str(alloc, "undefined"),
         Reply::Names(names) => names_text(alloc, names.as_slice()),
@@ -108,15 +111,18 @@ pub fn refusal_word(refusal: &Refusal) -> Option<&'static str>
 {
     match refusal {
         Refusal::NoSuchNode => Some("no_such_node"),
+        Refusal::NodeLeft => Some("node_left"),
         Refusal::EmptyLink => Some("empty_link"),
         Refusal::NotLive(_) => Some("not_live"),
         Refusal::Busy(_) => Some("busy"),
         Refusal::Reserved => Some("reserved"),
         Refusal::UnknownNode => Some("unknown_node"),
+        Refusal::AlreadyJoined => Some("already_joined"),
         Refusal::NoSuchProcess => Some("no_such_process"),
         Refusal::AlreadyExited => Some("already_exited"),
         Refusal::SerialsSpent => Some("serials_spent"),
         Refusal::NothingToRetry => Some("nothing_to_retry"),
+        Refusal::HoldsLock => Some("holds_lock"),
         Refusal::CallsSpent => Some("calls_spent"),
         Refusal::Memory => None,
     }
