@@ -52,6 +52,7 @@ pub okay-fine : (o : Opening) (e : WorldEvent) (given : List AnyAnswer)
 okay-fine o (At a (event.Call c)) given = Said-fine given
 okay-fine o (At a event.Retry) given = Said-fine given
 okay-fine o (At a (event.Exit p)) given = Said-fine given
+okay-fine o (At a event.Leave) given = Said-fine given
 okay-fine o (Deliver f t) given = Said-fine given
 
 module _ (h : Held) (e : WorldEvent) where
@@ -117,15 +118,18 @@ play-refused old new e r a b q n w = record {
 -- a refusal that has a word isn't want of memory
 pub not_memory : (r : Refusal) (any : AnyRefusal) → refusal_of r ≡ Some any → is_memory r ≡ false
 not_memory refusal.NoSuchNode any e = refl
+not_memory refusal.NodeLeft any e = refl
 not_memory refusal.EmptyLink any e = refl
 not_memory (refusal.NotLive p) any e = refl
 not_memory (refusal.Busy p) any e = refl
 not_memory refusal.Reserved any e = refl
 not_memory refusal.UnknownNode any e = refl
+not_memory refusal.AlreadyJoined any e = refl
 not_memory refusal.NoSuchProcess any e = refl
 not_memory refusal.AlreadyExited any e = refl
 not_memory refusal.SerialsSpent any e = refl
 not_memory refusal.NothingToRetry any e = refl
+not_memory refusal.HoldsLock any e = refl
 not_memory refusal.CallsSpent any e = refl
 not_memory refusal.Memory any e = cc
 

@@ -9,7 +9,7 @@ use Rattle.term.specs.NodeSets.{set_of, IsNodeSet}
 use Rattle.node_core.specs.Held.{IsWithin}
 use Rattle.cluster_world.specs.Held.{Held}
 use Rattle.cluster_world.specs.Seen.{opening_of, seen}
-use Rattle.command_lines.specs.Printing.{output_line, is_fine_output}
+use Rattle.command_lines.specs.Printing.{output_line, error_line, refusal_word, is_fine_output}
 use Rattle.cluster_script.specs.Script.{settle_limit}
 use Rattle.cluster_script.specs.Played.{IsShown, table_of, members_of}
 use Rattle.cluster_script.proofs.Nodes.{in_world-listed, nodes_of-listed}
@@ -27,9 +27,29 @@ module _ (h : Held) (a : ℕ) (x : Output) where
       ∙ ap (λ (b : Bool). if not b then Error NoSuchNode else (if left (seen h) a then Error NodeLeft else x))
       (sym (in_world-listed h a ∙ e))
 
+  -- and where it has left
+  shown_left : set_of h.nodes a ≡ true → left (seen h) a ≡ true
+      → Error NodeLeft ≡ shown_at (opening_of h) settle_limit (seen h) a x
+  shown_left e r =
+      ap (λ (b : Bool). if b then Error NodeLeft else x) (sym r)
+      ∙ ap (λ (b : Bool). if not b then Error NoSuchNode else (if left (seen h) a then Error NodeLeft else x))
+      (sym (in_world-listed h a ∙ e))
+
   -- there is no such node
-  pub IsShown-none : set_of h.nodes a ≡ false → IsShown h a x None
-  IsShown-none e = record { text = ap output_line (shown_none e); fine = ap is_fine_output (shown_none e) }
+  pub IsShown-none : set_of h.nodes a ≡ false → left (seen h) a ≡ false → IsShown h a x None
+  IsShown-none e r = record {
+    text = ap (λ (b : Bool). error_line (refusal_word (if b then NodeLeft else NoSuchNode))) r
+        ∙ ap output_line (shown_none e);
+    fine = ap is_fine_output (shown_none e);
+  }
+
+  -- it has left
+  pub IsShown-left : set_of h.nodes a ≡ true → left (seen h) a ≡ true → IsShown h a x None
+  IsShown-left e r = record {
+    text = ap (λ (b : Bool). error_line (refusal_word (if b then NodeLeft else NoSuchNode))) r
+        ∙ ap output_line (shown_left e r);
+    fine = ap is_fine_output (shown_left e r);
+  }
 
   -- a node of the world is shown
   pub IsShown-some : (line : List ℕ) → set_of h.nodes a ≡ true → left (seen h) a ≡ false → is_fine_output x ≡ true

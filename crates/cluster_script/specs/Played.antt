@@ -3,9 +3,9 @@ use Rattle.std.specs.Prelude.{ℕ, Bool, ◌≡◌, ◌+◌, List, [], ◌∷◌
 use Rattle.std.specs.List.{list_all}
 use Rattle.std.specs.Io.KnownBytes.{Appends}
 use Rattle.registry_model.specs.Process.{nodes_of}
-use Rattle.protocol_model.specs.Event.{NoSuchNode}
+use Rattle.protocol_model.specs.Event.{Refusal, NoSuchNode, NodeLeft}
 use Rattle.protocol_model.specs.Script.{Line as ScriptLine, Output, Settled, SettleLimit, TableIs, MembersAre, okay, shown_at}
-use Rattle.protocol_model.specs.World.{Opening, WorldEvent as AnyEvent, happens, answers}
+use Rattle.protocol_model.specs.World.{Opening, WorldEvent as AnyEvent, left, happens, answers}
 use Rattle.cluster_world.specs.declared.events.WorldEvent.{WorldEvent}
 use Rattle.cluster_world.specs.Events.{event_of}
 use Rattle.cluster_world.specs.Held.{Held}
@@ -57,14 +57,18 @@ table_of h a = TableIs ((seen h).node a).replica.table
 abbrev pub members_of : Held → ℕ → Output
 members_of h a = MembersAre (nodes_of (opening_of h).bound ((seen h).node a).replica.members)
 
--- the line where there is one, or the refusal for want of such a node
-abbrev pub line_or_refusal : Option (List ℕ) → List ℕ
-line_or_refusal None = error_line (refusal_word NoSuchNode)
-line_or_refusal (Some line) = line
+-- why node a isn't shown: it has left, or there is none
+abbrev pub hidden_by : Held → ℕ → Refusal
+hidden_by h a = if left (seen h) a then NodeLeft else NoSuchNode
+
+-- the line where there is one, or that refusal
+abbrev pub line_or_refusal : Held → ℕ → Option (List ℕ) → List ℕ
+line_or_refusal h a None = error_line (refusal_word (hidden_by h a))
+line_or_refusal h a (Some line) = line
 
 -- the line that shows x of node a, or none where x isn't shown
 pub record IsShown (h : Held) (a : ℕ) (x : Output) (line : Option (List ℕ)) : Type 0 where
-  pub text : line_or_refusal line ≡ output_line (shown_at (opening_of h) settle_limit (seen h) a x)
+  pub text : line_or_refusal h a line ≡ output_line (shown_at (opening_of h) settle_limit (seen h) a x)
   pub fine : is_some line ≡ is_fine_output (shown_at (opening_of h) settle_limit (seen h) a x)
 
 -- known bytes lose empty lines, and bytes of one line at most behind them

@@ -1,8 +1,9 @@
 //! What a script shows of a node.
 ghost use Rattle.std.specs.Prelude.{◌≡◌, IfOk, Ok, is_some, option_map, string_bytes};
 ghost use Rattle.protocol_model.specs.Script.{TableAt, MembersAt};
+ghost use Rattle.command_lines.specs.Printing.{refusal_word};
 ghost use Rattle.command_lines.specs.Writing.{Writes};
-ghost use Rattle.cluster_script.specs.Played.{PlaysOrStops, IsShown, table_of, members_of, line_or_refusal};
+ghost use Rattle.cluster_script.specs.Played.{PlaysOrStops, IsShown, table_of, members_of, hidden_by, line_or_refusal};
 
 use cluster_world::World;
 use command_lines::{WriteFault, members_line, table_line, write_error, write_text};
@@ -11,7 +12,7 @@ use std::alloc::{AllocError, Global};
 use std::io::Write;
 use term::NodeName;
 
-/// The line of a node's table, or none where the world has no such node.
+/// The line of a node's table, or none where the world has no such node or it has left.
 fn line_of_table(
     alloc: Global,
     world: &World<ListTable<Global>>,
@@ -19,6 +20,9 @@ fn line_of_table(
 ) -> Result<Option<String>, AllocError>
     ensures { IfOk result (λ line. IsShown world.now node.now (table_of world.now node.now) (option_map string_bytes line)) }
 {
+    if world.has_left(node) {
+        return Ok(None);
+    }
     let Some(table) = world.table(node) else {
         return Ok(None);
     };
@@ -26,7 +30,7 @@ fn line_of_table(
     Ok(Some(table_line(alloc, &pairs)?))
 }
 
-/// The line of a node's members, or none where the world has no such node.
+/// The line of a node's members, or none where the world has no such node or it has left.
 fn line_of_members(
     alloc: Global,
     world: &World<ListTable<Global>>,
@@ -34,19 +38,36 @@ fn line_of_members(
 ) -> Result<Option<String>, AllocError>
     ensures { IfOk result (λ line. IsShown world.now node.now (members_of world.now node.now) (option_map string_bytes line)) }
 {
+    if world.has_left(node) {
+        return Ok(None);
+    }
     let Some(members) = world.members(node) else {
         return Ok(None);
     };
     Ok(Some(members_line(alloc, members.as_slice())?))
 }
 
-/// Writes what is shown of a node, or that there is no such node: whether there is one.
+/// The word for which a node isn't shown.
+fn hidden_word(world: &World<ListTable<Global>>, node: &NodeName) -> &'static str
+    ensures { result.now ≡ refusal_word (hidden_by world.now node.now) }
+{
+    if world.has_left(node) {
+        "node_left"
+    } else {
+        "no_such_node"
+    }
+}
+
+/// Writes what is shown of a node, or why it isn't: whether it is.
 fn write_shown<W: Write>(
     alloc: Global,
     writer: &mut W,
+    world: &World<ListTable<Global>>,
+    node: &NodeName,
     line: Option<String>,
 ) -> Result<bool, WriteFault>
-    ensures text { Writes (W.contents writer.old) (W.contents writer.new) result (line_or_refusal (option_map string_bytes line)) }
+    ensures text { Writes (W.contents writer.old) (W.contents writer.new) result
+        (line_or_refusal world.now node.now (option_map string_bytes line)) }
     ensures fine { IfOk result (λ fine. fine ≡ is_some line) }
 {
     match line {
@@ -55,7 +76,7 @@ fn write_shown<W: Write>(
             Ok(true)
         }
         None => {
-            write_error(alloc, writer, "no_such_node")?;
+            write_error(alloc, writer, hidden_word(world, node))?;
             Ok(false)
         }
     }
@@ -71,7 +92,7 @@ pub(crate) fn show_table<W: Write>(
     ensures { PlaysOrStops world.now world.now (Ok (TableAt node.now)) (W.contents writer.old) (W.contents writer.new) result }
 {
     let line = line_of_table(alloc, world, node)?;
-    write_shown(alloc, writer, line)
+    write_shown(alloc, writer, world, node, line)
 }
 
 /// Writes the members of a node, or why it is refused: whether it isn't.
@@ -84,5 +105,5 @@ pub(crate) fn show_members<W: Write>(
     ensures { PlaysOrStops world.now world.now (Ok (MembersAt node.now)) (W.contents writer.old) (W.contents writer.new) result }
 {
     let line = line_of_members(alloc, world, node)?;
-    write_shown(alloc, writer, line)
+    write_shown(alloc, writer, world, node, line)
 }

@@ -48,12 +48,12 @@ fn write_answers<W: Write>(
     Ok(())
 }
 
-/// Writes what an accepted event prints before its answers: `ok` for an exit.
+/// Writes what an accepted event prints before its answers: `ok` for an exit or a leave.
 fn write_accepted<W: Write>(writer: &mut W, event: &WorldEvent) -> Result<(), WriteFault>
     ensures { WritesOkay (W.contents writer.old) (W.contents writer.new) result event.now }
 {
     match event {
-        WorldEvent::At(_, Event::Exit(_)) => write_text(writer, b"ok\n"),
+        WorldEvent::At(_, Event::Exit(_) | Event::Leave) => write_text(writer, b"ok\n"),
         _ => Ok(()),
     }
 }

@@ -1,4 +1,6 @@
 //! Worked rows, and lines at their limits.
+mod departures;
+mod joins;
 mod locks;
 mod names;
 mod streams;

@@ -20,6 +20,16 @@ error reserved\nb#4 true\nsettled\n",
             false
         )?
     );
+    // A lock that another requester has at one node is given back at the others, and granted at a retry.
+    assert!(rt;
+        prints(
+            rt.alloc(),
+            b"cluster a b c\nspawn a\nspawn b\nset_lock b.1 r z b 0\nsettle\nset_lock a.1 r q all 1\nsettle\n\
+del_lock b.1 r z b\nsettle\nretry a\nsettle\n",
+            b"a.1\nb.1\nb#1 true\nsettled\nsettled\nb#2 true\nsettled\na#1 true\nsettled\n",
+            true
+        )?
+    );
     Ok(())
 }
 
