@@ -2,8 +2,9 @@
 ghost use Rattle.cluster_world.specs.Agreeing.{EveryWorldAgrees};
 ghost use Rattle.cluster_world.specs.Excluding.{EveryWorldExcludes, NeverBothHold};
 
-/// The headline, of every world and of every list of events: all answers to name calls are those of one sequential registry that
-/// takes the granted operations in lock order, and whenever the lock is free, the tables are that registry's.
+/// The headline, of every world and of every list of events: all answers to name calls and joins are those of one sequential registry
+/// that takes the granted operations in lock order, and whenever the lock is free, the tables are that registry's, less the names on
+/// nodes that a node was told have left.
 pub fn headline_of_every_world()
     ensures { EveryWorldAgrees }
 {}

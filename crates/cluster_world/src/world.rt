@@ -155,8 +155,9 @@ impl<N: Names<Memory = Global>> World<N> {
     /// world not to be used any more.
     ///
     /// Whatever was played on a world since it opened, the headline holds behind that and this event: the answers to name
-    /// calls are those of one sequential registry that takes the granted operations in lock order, and the tables are that
-    /// registry's. So does the exclusion of clients' locks: at a running node no resource is held under two requesters.
+    /// calls and joins are those of one sequential registry that takes the granted operations in lock order, and whenever the
+    /// lock is free, the tables are that registry's, less the names on nodes that a node was told have left. So does the
+    /// exclusion of clients' locks: at a running node no resource is held under two requesters.
     pub fn play(&mut self, event: &WorldEvent) -> Result<Vec<Answer>, Refusal>
         ensures kept { Keeps self.old self.new }
         ensures agrees { IfOk result (λ answers. Agrees (event.now ∷ []) answers.items self.old self.new) }

@@ -184,7 +184,7 @@ impl Reply {
 pub struct Answer {
     /// The node that answers.
     pub node: NodeName,
-    /// The number of the call at that node: from 1 on for name calls, and 0 for `Spawn` and look-ups.
+    /// The number of the call at that node: from 1 on, and 0 for `Spawn` and look-ups.
     pub call: u32,
     /// The reply.
     pub reply: Reply,

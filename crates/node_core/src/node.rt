@@ -52,7 +52,7 @@ pub struct NodeCore<N: Names> {
     phase: Phase,
     /// The lock calls of its processes that aren't answered.
     calls: LockCalls,
-    /// The number that the last name or lock call was given; 0 before the first.
+    /// The number that the last numbered call was given; 0 before the first.
     last_call: u32,
     /// What the last step entered into the history.
     entered: Vec<Entry>,
@@ -220,7 +220,7 @@ impl<N: Names<Memory = Global>> NodeCore<N> {
         }
     }
 
-    /// The number that its last name or lock call was given; 0 before the first.
+    /// The number that its last numbered call was given; 0 before the first.
     pub fn last_call(&self) -> u32
         ensures { result ≡ self.now.last_call }
     {
