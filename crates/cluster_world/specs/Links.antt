@@ -12,7 +12,7 @@ mapped f w = record { queue = λ a b. map f (w.queue a b); closed = w.closed }
 abbrev pub letters_to : {L : Type 0} → ℕ → List (ℕ × L) → List L
 letters_to t ss = map (λ s. s.1) (filter (λ s. s.0 == t) ss)
 
--- between these nodes no letter waits for one that was closed out, and only another node says of itself that it has left
+-- between these nodes no letter waits for one that was closed out, and each letter says what its reader relies on
 pub record AreFit (nodes : List ℕ) (w : Links Letter) : Type 0 where
   pub quiet : (f t : ℕ) → w.closed t ≡ true → w.queue f t ≡ []
   pub said : (f t : ℕ) → All (IsSaidBy nodes t f) (w.queue f t)
