@@ -1,2 +1,10 @@
+mod Agreement
+mod Departures
+mod Index
+mod Least
+mod Listing
 mod Owners
 mod Places
+mod Puts
+mod Sorted
+mod Turns

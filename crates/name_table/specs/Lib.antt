@@ -1,3 +1,4 @@
 pub mod Changes
+pub mod Index
 pub mod Owners
 pub mod Places

@@ -1,14 +1,18 @@
 //! Tables of names: finite maps from names to processes. `Names` is what all layers above use of them; `ListTable` keeps a
-//! sorted list.
+//! sorted list, `IndexTable` finds names and owners by hashing.
 #![tactic(auto)]
 
 mod change;
+mod index_table;
 mod list_table;
 mod names;
 
 pub use change::{Change, Pair};
+pub use index_table::IndexTable;
 pub use list_table::ListTable;
 pub use names::Names;
 
+#[cfg(test)]
+mod index_tests;
 #[cfg(test)]
 mod tests;

@@ -1,0 +1,230 @@
+//! A table that is found by hashing.
+ghost use Rattle.std.specs.Prelude.{◌≡◌, [], IfOk, OnOk, OnErr};
+ghost use Rattle.registry_model.specs.Table.{put, remove, strike, names};
+ghost use Rattle.name_table.specs.Index.{table_of, pairs_of, HaveNames, Lists, Unlists, Forgets};
+
+use crate::change::{Change, Pair};
+use crate::names::Names;
+use indexmap::IndexMap;
+use std::alloc::{AllocError, Allocator};
+use std::collections::{BTreeMap, BTreeSet};
+use std::hash::{BuildHasherDefault, FoldHasher};
+use std::marker::Model;
+use term::{Name, NodeName, Pid};
+
+/// The owner of each name.
+type Owners<A> = IndexMap<Name, Pid, BuildHasherDefault<FoldHasher>, A>;
+
+/// The names of each process that owns one.
+type Owned<A> = IndexMap<Pid, BTreeSet<Name, A>, BuildHasherDefault<FoldHasher>, A>;
+
+/// A table of names that finds a name, and the names of a process, by hashing: what a look-up or a change of one
+/// name costs doesn't grow with the table. A list of all names is sorted when it is asked for.
+#[derive(Drop)]
+pub struct IndexTable<A: Allocator> {
+    owners: Owners<A>,
+    owned: Owned<A>,
+}
+
+impl<A: Allocator> Model for IndexTable<A> {
+    ghost use Rattle.registry_model.specs.Table.{Table};
+    ghost use Rattle.name_table.specs.Index.{table_of, Agrees};
+
+    ghost Value = { Table };
+
+    ghost view = { λ t. table_of t.owners.entries };
+
+    ghost invariant = { λ t. Agrees t.owners.entries t.owned.entries };
+}
+
+/// Lists a name under its owner. Where memory is refused the index is as before.
+fn list<A: Allocator + Copy + Drop>(
+    owned: &mut Owned<A>,
+    owner: &Pid,
+    name: &Name,
+) -> Result<(), AllocError>
+    ensures ok { OnOk result (Lists owner.now name.now owned.old.entries owned.new.entries) }
+    ensures err { OnErr result (owned.new.entries ≡ owned.old.entries) }
+    ensures named { HaveNames owned.old.entries → HaveNames owned.new.entries }
+{
+    if let Some(names) = owned.get_mut(owner) {
+        names.insert(name.copy())?;
+        return Ok(());
+    }
+    let mut names = BTreeSet::new(*owned.allocator());
+    names.insert(name.copy())?;
+    owned.insert(owner.copy(), names)?;
+    Ok(())
+}
+
+/// Lists a name under this process no more. It takes no memory.
+fn unlist<A: Allocator + Copy + Drop>(owned: &mut Owned<A>, owner: &Pid, name: &Name)
+    ensures unlisted { Unlists owner.now name.now owned.old.entries owned.new.entries }
+    ensures named { HaveNames owned.old.entries → HaveNames owned.new.entries }
+{
+    if let Some(names) = owned.get_mut(owner) {
+        names.remove(name);
+        if names.is_empty() {
+            owned.swap_remove(owner);
+        }
+    }
+}
+
+/// These names have no owner from now on. It takes no memory.
+fn forget<A: Allocator>(owners: &mut Owners<A>, mut names: BTreeSet<Name, A>)
+    ensures { Forgets names owners.old.entries owners.new.entries }
+{
+    while let Some(name) = names.pop_first() {
+        owners.swap_remove(&name);
+    }
+}
+
+/// The owners of all names, rising by name.
+fn sorted<A: Allocator + Copy>(owners: &Owners<A>) -> Result<BTreeMap<Name, Pid, A>, AllocError>
+    ensures { IfOk result (λ sorted. pairs_of sorted.entries ≡ table_of owners.now.entries) }
+{
+    let mut sorted = BTreeMap::new(*owners.allocator());
+    for (name, owner) in owners {
+        sorted.insert(name.copy(), owner.copy())?;
+    }
+    Ok(sorted)
+}
+
+/// The names of a sorted map.
+fn names_in<A: Allocator, B: Allocator>(
+    alloc: B,
+    sorted: &BTreeMap<Name, Pid, A>,
+) -> Result<Vec<Name, B>, AllocError>
+    ensures { IfOk result (λ list. list.items ≡ names (pairs_of sorted.now.entries)) }
+{
+    sorted.keys().map(|name| name.copy()).collect(alloc)
+}
+
+/// The pairs of a sorted map.
+fn pairs_in<A: Allocator, B: Allocator>(
+    alloc: B,
+    sorted: &BTreeMap<Name, Pid, A>,
+) -> Result<Vec<Pair, B>, AllocError>
+    ensures { IfOk result (λ pairs. pairs.items ≡ pairs_of sorted.now.entries) }
+{
+    sorted
+        .iter()
+        .map(|(name, owner)| Pair {
+            name: name.copy(),
+            owner: owner.copy(),
+        })
+        .collect(alloc)
+}
+
+/// A table of these names and their owners.
+fn copied<A: Allocator + Copy + Drop>(
+    memory: A,
+    owners: &Owners<A>,
+) -> Result<IndexTable<A>, AllocError>
+    ensures { IfOk result (λ copy. copy ≡ table_of owners.now.entries) }
+{
+    let mut copy = IndexTable::new(memory);
+    for (name, owner) in owners {
+        copy.put(name.copy(), owner.copy())?;
+    }
+    Ok(copy)
+}
+
+impl<A: Allocator + Copy + Drop> IndexTable<A> {
+    /// A table without names. It takes no memory.
+    fn new(memory: A) -> Self
+        ensures { result ≡ [] }
+    {
+        IndexTable {
+            owners: IndexMap::new(memory),
+            owned: IndexMap::new(memory),
+        }
+    }
+
+    /// The name has this owner from now on. All growths come first, so a refusal changes nothing.
+    fn put(&mut self, name: Name, owner: Pid) -> Result<(), AllocError>
+        ensures ok { OnOk result (self.new ≡ put name owner self.old) }
+        ensures err { OnErr result (self.new ≡ self.old) }
+    {
+        self.owners.reserve(1)?;
+        list(&mut self.owned, &owner, &name)?;
+        let before = self.owners.insert(name.copy(), owner.copy()).unwrap();
+        if let Some(before) = before {
+            if before != owner {
+                unlist(&mut self.owned, &before, &name);
+            }
+        }
+        Ok(())
+    }
+
+    /// Nobody has the name from now on.
+    fn remove(&mut self, name: &Name)
+        ensures { self.new ≡ remove name.now self.old }
+    {
+        if let Some(owner) = self.owners.swap_remove(name) {
+            unlist(&mut self.owned, &owner, name);
+        }
+    }
+
+    /// The process has no name from now on.
+    fn strike(&mut self, owner: &Pid)
+        ensures { self.new ≡ strike owner.now self.old }
+    {
+        if let Some(names) = self.owned.swap_remove(owner) {
+            forget(&mut self.owners, names);
+        }
+    }
+}
+
+impl<A: Allocator + Copy + Drop> Names for IndexTable<A> {
+    type Memory = A;
+
+    ghost contents = { λ t. t };
+
+    fn empty(memory: A) -> Self {
+        IndexTable::new(memory)
+    }
+
+    fn get(&self, name: &Name) -> Option<Pid> {
+        let owner = self.owners.get(name)?;
+        Some(owner.copy())
+    }
+
+    fn write(&mut self, change: Change) -> Result<(), AllocError> {
+        match change {
+            Change::Put(name, owner) => self.put(name, owner)?,
+            Change::Remove(name) => self.remove(&name),
+            Change::StrikeOwner(owner) => self.strike(&owner),
+        }
+        Ok(())
+    }
+
+    fn drop_node(&mut self, node: &NodeName) {
+        // A name has one entry: the proof has this from `len`.
+        let _owners = self.owners.len();
+        self.owners.retain(|_name, owner| owner.node != *node);
+        self.owned.retain(|owner, _names| owner.node != *node);
+    }
+
+    fn owned_by(&self, owner: &Pid) -> Option<Name> {
+        let names = self.owned.get(owner)?;
+        let least = names.first()?;
+        Some(least.copy())
+    }
+
+    fn names<B: Allocator>(&self, alloc: B) -> Result<Vec<Name, B>, AllocError> {
+        names_in(alloc, &sorted(&self.owners)?)
+    }
+
+    fn pairs<B: Allocator>(&self, alloc: B) -> Result<Vec<Pair, B>, AllocError> {
+        pairs_in(alloc, &sorted(&self.owners)?)
+    }
+
+    fn rising(&self) {
+        let _owners = self.owners.len();
+    }
+
+    fn copy(&self, memory: A) -> Result<Self, AllocError> {
+        copied(memory, &self.owners)
+    }
+}
