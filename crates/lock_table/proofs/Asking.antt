@@ -19,11 +19,14 @@ use Rattle.lock_table.specs.Sound.{IsSound}
 use Rattle.lock_table.specs.Verdicts.{verdict_of, asked, IsFirstGrant}
 use Rattle.lock_table.specs.declared.grant.Key.{Key}
 use Rattle.lock_table.specs.declared.grant.Held.{Held}
+use Rattle.lock_table.specs.declared.grant.Place.{Place}
+use Rattle.lock_table.specs.Index.{IsIndexed, place_at}
 use Rattle.lock_table.specs.declared.verdict.Verdict.TheVariants.{Refuse}
 use Rattle.lock_table.proofs.Facts.{both}
 use Rattle.lock_table.proofs.Filing.{key_of, found_under, is_in_the_way-entry, never-absent, counted-held}
 use Rattle.lock_table.proofs.Holders.{one_requester}
 use Rattle.lock_table.proofs.Ids.{is_resource-id_of, requester_of-id_of}
+use Rattle.lock_table.proofs.Index.{Sets, SetsAt, indexed-first, indexed-same, number_below, refilled, same_gets, unplaced}
 use Rattle.lock_table.proofs.Keys.{exact}
 use Rattle.lock_table.proofs.Listed.{All-listed, below-insert, listed-all, listed-insert}
 use Rattle.lock_table.proofs.Places.{All-find_none, count-absent, grant-absent}
@@ -227,3 +230,26 @@ module _ (n : ℕ) (m : BTreeMap Key Held) (filed : IsFiled n m.entries) (lock :
         sound = subst IsSound (sym (listed-first es e))
             (sound-push (id_of lock) p Table filed.sound (All-find_none (is_in_the_way (id_of lock)) Table clear) none);
       }
+
+      -- its place is filled, and then it is filed or, for want of memory, its place is emptied again
+      module _ (x y : BTreeMap Place Text) (ix : IsIndexed m x) (a : Place) (at_a : a ≡ place_at p n) (on : Text)
+          (fills : SetsAt a (Some on) x y) where
+        filled : SetsAt (place_at p n) (Some on) x y
+        filled = subst (λ (b : Place). SetsAt b (Some on) x y) at_a fills
+
+        pub indexed-filed : on ≡ k.resource → (old new : BTreeMap Key Held) → old ≡ m
+            → Sets k (Some (record { requester = lock.requester; count = 1; number = n })) old new → IsIndexed new y
+        indexed-filed copied old new same sets =
+            let first : Held = record { requester = lock.requester; count = 1; number = n } in
+            indexed-first m new x y ix k first (sym absent) (number_below n m filed.below)
+            (subst (λ (z : BTreeMap Key Held). Sets k (Some first) z new) same sets)
+            (subst (λ (b : Place). SetsAt b (Some k.resource) x y)
+            (ap (λ (q : Key). place_at q.holder n) (sym under))
+            (subst (λ (r : Text). SetsAt (place_at p n) (Some r) x y) copied filled))
+
+        pub indexed-undone : (new : BTreeMap Key Held) → new.entries ≡ m.entries → (z : BTreeMap Place Text)
+            → (b : Place) → b ≡ place_at p n → SetsAt b None y z → IsIndexed new z
+        indexed-undone new same z b at_b empties =
+            indexed-same m new x z ix (same_gets m new same)
+            (refilled x y z (place_at p n) on (unplaced n m x ix filed.below p) filled
+            (subst (λ (c : Place). SetsAt c None y z) at_b empties))

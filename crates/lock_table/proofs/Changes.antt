@@ -18,7 +18,7 @@ same_id (Client r q) (Client s z) e =
 same_id (Global a) (Client s z) e = cc
 same_id (Client r q) (Global b) e = cc
 
-same_process : (p q : Process) → is_process p q ≡ true → p ≡ q
+pub same_process : (p q : Process) → is_process p q ≡ true → p ≡ q
 same_process p q e =
     let h = both (p.node == q.node) (p.serial == q.serial) e in
     ap (λ (n : ℕ). record p { node = n }) (eqb-true p.node q.node h.0)

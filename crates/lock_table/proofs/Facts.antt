@@ -1,7 +1,7 @@
 -- What the answers of tests and calls say.
 use Rattle.std.proofs.Common.{ℕ, Bool, true, false, ◌==◌, ◌≡◌, Option, Some, None, Result, Ok, Err, refl, sym, ◌∙◌}
 use Rattle.std.specs.Prelude.{◌&&◌, not, IfNone}
-use Rattle.std.specs.Result.{OnErr}
+use Rattle.std.specs.Result.{OnErr, OnOk, is_err}
 use Rattle.std.proofs.lemmas.Bool.{eqb-true}
 
 -- both of two tests that hold together
@@ -34,3 +34,12 @@ on_none_given (Some x) h = tt
 pub on_err_given : {X E P : Type 0} (r : Result X E) → P → OnErr r P
 on_err_given (Ok x) h = tt
 on_err_given (Err e) h = h
+
+-- what is so of the failed, or of the others, by the answer of `is_err`
+pub err_from : {X E : Type 0} (r : Result X E) → is_err r ≡ true → (P : Type 0) → OnErr r P → P
+err_from (Ok x) e P h = cc
+err_from (Err f) e P h = h
+
+pub ok_from : {X E : Type 0} (r : Result X E) → is_err r ≡ false → (P : Type 0) → OnOk r P → P
+ok_from (Ok x) e P h = h
+ok_from (Err f) e P h = cc

@@ -57,7 +57,7 @@ module _ (q : Key) where
       go true i r = ap (λ (fs : List Entry). (e.0, w) ∷ fs) (sym (map-put_none w es (none_past e es s i)))
       go false i r = ap (λ (fs : List Entry). e ∷ fs) r
 
-  remove_entry-filter : (es : List Entry) → IsStrictlySortedBy key_cmp (keys_of es)
+  pub remove_entry-filter : (es : List Entry) → IsStrictlySortedBy key_cmp (keys_of es)
       → remove_entry (is_at (key_cmp q)) es ≡ filter (λ e. not (is_at (key_cmp q) e.0)) es
   remove_entry-filter [] s = refl
   remove_entry-filter (e ∷ es) s =
@@ -215,16 +215,6 @@ module _ (n : ℕ) (m : BTreeMap Key Held) (filed : IsFiled n m.entries)
         ap (listed n) (remove_entry-filter Key_ m.entries filed.ordered)
         ∙ listed-filter (λ e. not (is_at (key_cmp Key_) e.0)) (λ g. not (is_grant_of (id_of lock) p g)) n m.entries
         (λ i d l. ap not (sym (hits i d l)))
-
-    pub filed-remove : IsStrictlySortedBy key_cmp (keys_of (remove_entry (is_at (key_cmp Key_)) m.entries))
-        → IsFiled n (remove_entry (is_at (key_cmp Key_)) m.entries)
-    filed-remove rising = record {
-      ordered = rising;
-      below = subst (All (λ (e : Entry). e.1.number < n)) (sym (remove_entry-filter Key_ m.entries filed.ordered))
-          (All-filter (λ e. not (is_at (key_cmp Key_) e.0)) (λ (e : Entry). e.1.number < n) m.entries filed.below);
-      sound = subst IsSound (sym listed-remove)
-          (sound-filter (λ g. not (is_grant_of (id_of lock) p g)) Table filed.sound);
-    }
 
 -- some grants are gone
 pub filed-filter : (n : ℕ) (es fs : List Entry) (f : Entry → Bool) (h : Grant → Bool)

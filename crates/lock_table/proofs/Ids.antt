@@ -5,7 +5,7 @@ use Rattle.std.proofs.lemmas.Bool.{eqb-true, eq-eqb, ne_eqb}
 use Rattle.protocol_model.specs.Letter.{Global, Client, is_id, is_resource}
 use Rattle.term.specs.declared.lock_id.LockId.{LockId}
 use Rattle.term.specs.LockIds.{global_text}
-use Rattle.lock_table.specs.Ids.{id_of, requester_of}
+use Rattle.lock_table.specs.Ids.{id_of, requester_of, resource_of}
 
 -- an id is in its requester's name
 pub requester_of-id_of : (lock : LockId) → requester_of (id_of lock) ≡ lock.requester
@@ -15,6 +15,15 @@ requester_of-id_of lock = go (lock.resource == global_text)
         → requester_of (if b then Global lock.requester else Client lock.resource lock.requester) ≡ lock.requester
     go true = refl
     go false = refl
+
+-- and on its resource
+pub resource_of-id_of : (lock : LockId) → resource_of (id_of lock) ≡ lock.resource
+resource_of-id_of lock = go (lock.resource == global_text) refl
+  where
+    go : (b : Bool) → (lock.resource == global_text) ≡ b
+        → resource_of (if b then Global lock.requester else Client lock.resource lock.requester) ≡ lock.resource
+    go true e = sym (eqb-true lock.resource global_text e)
+    go false e = refl
 
 -- one of two resources is `global`, and the other isn't
 apart : (a b : LockId) → (a.resource == global_text) ≡ true → (b.resource == global_text) ≡ false

@@ -23,7 +23,7 @@ key_total =
     (then_total (on_total (λ (k : Key). k.holder.node) nat_cmp_total)
     (on_total (λ (k : Key). k.holder.serial) nat_cmp_total))
 
-is_eq-nat : (s k : ℕ) → is_eq (nat_cmp s k) ≡ (k == s)
+pub is_eq-nat : (s k : ℕ) → is_eq (nat_cmp s k) ≡ (k == s)
 is_eq-nat s k = elim (cases_order s k) [
   | inl i ↦ rw (le-ltb s k (omega arith), eq-eqb s k i, eq-eqb k s (sym i)) refl
   | inr (inl l) ↦ rw (lt-ltb s k l, ne_eqb k s (λ i. absurd (omega arith))) refl
@@ -31,7 +31,7 @@ is_eq-nat s k = elim (cases_order s k) [
       (rw (ne_eqb s k (λ i. absurd (omega arith)), ne_eqb k s (λ i. absurd (omega arith))) refl)
 ]
 
-is_eq-then : (a b : Ordering) → is_eq (ordering_then a b) ≡ (is_eq a && is_eq b)
+pub is_eq-then : (a b : Ordering) → is_eq (ordering_then a b) ≡ (is_eq a && is_eq b)
 is_eq-then Less b = refl
 is_eq-then Equal b = refl
 is_eq-then Greater b = refl
@@ -45,6 +45,14 @@ is_at-key q k =
       is_eq-nat q.resource k.resource,
       is_eq-nat q.holder.node k.holder.node,
       is_eq-nat q.holder.serial k.holder.serial,
+    ) refl
+
+pub is_at-key_self : (k : Key) → is_at (key_cmp k) k ≡ true
+is_at-key_self k = is_at-key k k
+    ∙ rw (
+      eq-eqb k.resource k.resource refl,
+      eq-eqb k.holder.node k.holder.node refl,
+      eq-eqb k.holder.serial k.holder.serial refl,
     ) refl
 
 pub exact : (a b : Key) → eq_by_cmp key_cmp a b ≡ true → a ≡ b

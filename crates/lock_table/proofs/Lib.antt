@@ -1,11 +1,15 @@
 mod Asking
 mod Changes
+mod Dropping
 mod Facts
 mod Filing
+mod Finding
 mod Holders
 mod Ids
+mod Index
 mod Keys
 mod Listed
 mod Places
+mod Removal
 mod Soundness
 mod Steps

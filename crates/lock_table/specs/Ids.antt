@@ -13,3 +13,8 @@ id_of lock = if lock.resource == global_text then Global lock.requester else Cli
 abbrev pub requester_of : Id → Text
 requester_of (Global a) = a
 requester_of (Client r q) = q
+
+-- what the lock is on
+abbrev pub resource_of : Id → Text
+resource_of (Global a) = global_text
+resource_of (Client r q) = r

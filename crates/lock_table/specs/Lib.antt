@@ -1,4 +1,5 @@
 pub mod Filed
 pub mod Ids
+pub mod Index
 pub mod Sound
 pub mod Verdicts

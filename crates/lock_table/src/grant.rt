@@ -19,6 +19,14 @@ pub(crate) struct Held {
     pub(crate) number: u64,
 }
 
+/// Where a grant stands among its holder's. Holders of one node stand together, and the grants of one holder, as their
+/// numbers rise.
+#[derive(Debug, PartialEq, Eq, PartialOrd, Ord, Drop)]
+pub(crate) struct Place {
+    pub(crate) holder: Pid,
+    pub(crate) number: u64,
+}
+
 impl Key {
     /// Where the grant of this id to this holder is filed, if there is one.
     pub(crate) fn of(id: &LockId, holder: &Pid) -> Key
@@ -27,6 +35,18 @@ impl Key {
         Key {
             resource: id.resource.copy(),
             holder: holder.copy(),
+        }
+    }
+}
+
+impl Place {
+    /// Where the holder's grant of this number stands, if there is one.
+    pub(crate) fn of(holder: &Pid, number: u64) -> Place
+        ensures { result ≡ record { holder = holder.now; number = number } }
+    {
+        Place {
+            holder: holder.copy(),
+            number,
         }
     }
 }

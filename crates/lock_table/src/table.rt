@@ -1,25 +1,30 @@
 //! Lock tables.
-ghost use Rattle.std.specs.Prelude.{◌≡◌, ◌==◌, false, [], All, IfOk, IfNone, IfSome, OnOk, OnErr};
+ghost use Rattle.std.specs.Prelude.{◌≡◌, ◌==◌, false, not, [], filter, All, IfOk, IfNone, IfSome, OnOk, OnErr};
+ghost use Rattle.registry_model.specs.Process.{is_process};
 ghost use Rattle.protocol_model.specs.LockTable.{count, refused_for, give_back, drop_holder, drop_node};
 ghost use Rattle.lock_table.specs.Ids.{id_of};
 ghost use Rattle.lock_table.specs.Filed.{HasUnder, IsNoneOn, IsOpenTo};
+ghost use Rattle.lock_table.specs.Index.{IsFirstFrom, IsNoneFrom, IsListedUnder, is_under};
 ghost use Rattle.lock_table.specs.Sound.{IsSound};
 ghost use Rattle.lock_table.specs.Verdicts.{verdict_of, asked, IsFirstGrant};
 
-use crate::grant::{Held, Key};
+use crate::grant::{Held, Key, Place};
 use crate::verdict::Verdict;
 use std::alloc::{AllocError, Global};
 use std::collections::BTreeMap;
 use std::marker::Model;
-use term::{LockId, NodeName, Pid, Requester};
+use term::{LockId, NodeName, Pid, Requester, Resource};
 
 /// Who has which locks at one node, and how often. Holders that ask in the name of one requester share a resource;
 /// another requester is kept from it until they have given back all that they had.
 ///
-/// Asking, counting and giving back cost no more for the other grants than a look-up.
+/// Asking, counting and giving back cost no more for the other grants than a look-up, and so does each grant of a
+/// holder that is dropped, or of a node.
 #[derive(Debug, Drop)]
 pub struct LockTable {
     grants: BTreeMap<Key, Held>,
+    /// The resource of each grant, where the grant stands among its holder's.
+    by_holder: BTreeMap<Place, Resource>,
     /// The number of the next first grant: the grants are listed as their numbers rise.
     next: u64,
 }
@@ -27,12 +32,13 @@ pub struct LockTable {
 impl Model for LockTable {
     ghost use Rattle.protocol_model.specs.LockTable.{Locks};
     ghost use Rattle.lock_table.specs.Filed.{listed, IsFiled};
+    ghost use Rattle.lock_table.specs.Index.{IsIndexed};
 
     ghost Value = { Locks };
 
     ghost view = { λ t. listed t.next t.grants.entries };
 
-    ghost invariant = { λ t. IsFiled t.next t.grants.entries };
+    ghost invariant = { λ t. IsFiled t.next t.grants.entries × IsIndexed t.grants t.by_holder };
 }
 
 /// The requester that the resource of a key is under, if it is under any. The resource's grants stand together, so one
@@ -71,6 +77,18 @@ fn other_requester(
     }
 }
 
+/// The key of the first grant that stands at a place or behind it.
+fn first_from(by_holder: &BTreeMap<Place, Resource>, from: &Place) -> Option<Key>
+    ensures some { IfSome result (IsFirstFrom by_holder.now from.now) }
+    ensures none { IfNone result (IsNoneFrom by_holder.now from.now) }
+{
+    let (place, resource) = by_holder.range(from..).next()?;
+    Some(Key {
+        resource: resource.copy(),
+        holder: place.holder.copy(),
+    })
+}
+
 impl LockTable {
     /// A table where nobody has a lock. It takes no memory yet.
     pub fn new(alloc: Global) -> LockTable
@@ -78,6 +96,7 @@ impl LockTable {
     {
         LockTable {
             grants: BTreeMap::new(alloc),
+            by_holder: BTreeMap::new(alloc),
             next: 0,
         }
     }
@@ -118,12 +137,17 @@ impl LockTable {
                 let Some(next) = number.checked_add(1) else {
                     return Err(AllocError);
                 };
+                let place = Place::of(&holder, number);
+                self.by_holder.insert(place, key.resource.copy())?;
                 let held = Held {
                     requester: id.requester,
                     count: 1,
                     number,
                 };
-                self.grants.insert(key, held)?;
+                if self.grants.insert(key, held).is_err() {
+                    self.by_holder.remove(&Place::of(&holder, number));
+                    return Err(AllocError);
+                }
                 self.next = next;
             }
         }
@@ -142,8 +166,47 @@ impl LockTable {
             if held.count > 1 {
                 held.count -= 1;
             } else {
-                self.grants.remove(&key);
+                self.remove(&key);
             }
+        }
+    }
+
+    /// Takes the grant that is filed under a key away, where there is one.
+    fn remove(&mut self, key: &Key)
+        ensures { self.new ≡ filter (λ g. not (is_under key.now g)) self.old }
+    {
+        if let Some(held) = self.grants.remove(key) {
+            self.by_holder.remove(&Place::of(&key.holder, held.number));
+        }
+    }
+
+    /// What a holder's first grant is filed under, if the holder has any.
+    fn first_of(&self, holder: &Pid) -> Option<Key>
+        ensures some { IfSome result (λ key. IsListedUnder key self.now × (key.holder ≡ holder.now)) }
+        ensures none { IfNone result (All (λ g. is_process g.holder holder.now ≡ false) self.now) }
+    {
+        let key = first_from(&self.by_holder, &Place::of(holder, 0))?;
+        if key.holder == *holder {
+            Some(key)
+        } else {
+            None
+        }
+    }
+
+    /// What the first grant of a node's first holder is filed under, if any of its processes has one.
+    fn first_on(&self, node: &NodeName) -> Option<Key>
+        ensures some { IfSome result (λ key. IsListedUnder key self.now × (key.holder.node ≡ node.now)) }
+        ensures none { IfNone result (All (λ g. (g.holder.node == node.now) ≡ false) self.now) }
+    {
+        let first = Pid {
+            node: node.copy(),
+            serial: 0,
+        };
+        let key = first_from(&self.by_holder, &Place::of(&first, 0))?;
+        if key.holder.node == *node {
+            Some(key)
+        } else {
+            None
         }
     }
 
@@ -151,13 +214,17 @@ impl LockTable {
     pub fn drop_holder(&mut self, holder: &Pid)
         ensures { self.new ≡ drop_holder holder.now self.old }
     {
-        self.grants.retain(|key, _held| key.holder != *holder);
+        while let Some(first) = self.first_of(holder) {
+            self.remove(&first);
+        }
     }
 
     /// Takes all locks of a node's processes away.
     pub fn drop_node(&mut self, node: &NodeName)
         ensures { self.new ≡ drop_node node.now self.old }
     {
-        self.grants.retain(|key, _held| key.holder.node != *node);
+        while let Some(first) = self.first_on(node) {
+            self.remove(&first);
+        }
     }
 }

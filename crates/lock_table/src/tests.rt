@@ -112,3 +112,34 @@ fn gives_back_in_the_middle(rt: HostRuntime) -> Result<(), Fail> {
     }
     Ok(())
 }
+
+#[test]
+fn drops_all_of_a_holder(rt: HostRuntime) -> Result<(), Fail> {
+    let mut table = LockTable::new(rt.alloc());
+    let (a, b, c) = (
+        lock_on("a", "r1")?,
+        lock_on("b", "r1")?,
+        lock_on("c", "r1")?,
+    );
+    let (p, q, r) = (parse_pid("m.1")?, parse_pid("m.2")?, parse_pid("n.1")?);
+    for holder in [&r, &p, &q] {
+        for id in [&c, &a, &b] {
+            assert_eq!(rt; table.ask(id.copy(), holder.copy())?, Verdict::Grant);
+        }
+    }
+    table.give_back(&a, &p);
+    table.drop_holder(&p);
+    for id in [&a, &b, &c] {
+        assert_eq!(rt; table.count(id, &p), 0);
+        assert_eq!(rt; table.count(id, &q), 1);
+        assert_eq!(rt; table.count(id, &r), 1);
+    }
+    assert_eq!(rt; table.ask(b.copy(), p.copy())?, Verdict::Grant);
+    table.drop_node(&parse_node("m")?);
+    for id in [&a, &b, &c] {
+        assert_eq!(rt; table.count(id, &p), 0);
+        assert_eq!(rt; table.count(id, &q), 0);
+        assert_eq!(rt; table.count(id, &r), 1);
+    }
+    Ok(())
+}
