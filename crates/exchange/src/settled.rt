@@ -2,6 +2,7 @@
 ghost use Rattle.std.specs.Prelude.{◌≡◌, [], IfOk, OnOk};
 ghost use Rattle.registry_model.specs.Settlement.{with_put, with_kill, settle_one, settle as settlement};
 
+use indexmap::IndexSet;
 use name_table::{Change, Names, Pair};
 use std::alloc::{AllocError, Global};
 use std::marker::Model;
@@ -12,8 +13,8 @@ use term::Pid;
 pub struct Settled {
     /// What the cluster writes: puts of names of the joiner, rising.
     pub puts: Vec<Change>,
-    /// The processes that die, each once.
-    pub kills: Vec<Pid>,
+    /// The processes that die, each once, in the order of their clashes.
+    pub kills: IndexSet<Pid>,
 }
 
 impl Model for Settled {
@@ -22,7 +23,7 @@ impl Model for Settled {
 
     ghost Value = { Settlement };
 
-    ghost view = { λ s. record { puts = pairs_of s.puts.items; kills = s.kills.items } };
+    ghost view = { λ s. record { puts = pairs_of s.puts.items; kills = s.kills.keys } };
 
     ghost invariant = { λ s. AreAllPuts s.puts.items };
 }
@@ -34,7 +35,7 @@ impl Settled {
     {
         Settled {
             puts: Vec::new(alloc),
-            kills: Vec::new(alloc),
+            kills: IndexSet::new(alloc),
         }
     }
 
@@ -51,9 +52,7 @@ impl Settled {
     fn kill(&mut self, process: &Pid) -> Result<(), AllocError>
         ensures { OnOk result (self.new ≡ with_kill process.now self.old) }
     {
-        if !self.kills.contains(process) {
-            self.kills.push(process.copy())?;
-        }
+        self.kills.insert(process.copy())?;
         Ok(())
     }
 
