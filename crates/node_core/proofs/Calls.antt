@@ -19,12 +19,13 @@ use Rattle.transaction.specs.Calls.{target_of, retries_of}
 use Rattle.transaction.specs.declared.nodes.Nodes.{Nodes}
 use Rattle.transaction.specs.declared.nodes.Retries.{Retries}
 use Rattle.transaction.specs.declared.nodes.Retries.TheVariants.{Times}
-use Rattle.node_core.specs.declared.events.Call.{Call}
-use Rattle.node_core.specs.declared.events.Call.TheVariants.{SetLock, DelLock}
-use Rattle.node_core.specs.declared.events.Event.TheVariants.{Call as Calls}
-use Rattle.node_core.specs.Made.{Made}
+use Rattle.node_events.specs.declared.events.Call.{Call}
+use Rattle.node_events.specs.declared.events.Call.TheVariants.{SetLock, DelLock}
+use Rattle.node_events.specs.declared.events.Event.TheVariants.{Call as Calls}
+use Rattle.node_events.specs.Made.{Made}
 use Rattle.node_core.specs.Held.{Held, bound_of}
-use Rattle.node_core.specs.Seen.{node_of, turn_of, call_of}
+use Rattle.node_core.specs.Seen.{node_of, turn_of}
+use Rattle.node_events.specs.Seen.{call_of}
 use Rattle.node_core.specs.Steps.{Makes, refusal_of}
 use Rattle.node_core.proofs.LockRefusals.{is_global}
 

@@ -14,7 +14,7 @@ use Rattle.moves.proofs.Rules.{is_after, is_ordered}
 use Rattle.walk.proofs.Calls.{Only, AllOpen, OrderedParts, ordered_parts, ordered_of, all_after, all_open, all_open-only, only_none, only_then, only_drop, only_put}
 use Rattle.lock_calls.specs.Calls.{as_call}
 use Rattle.lock_calls.specs.Held.{AreOrdered, seen}
-use Rattle.node_core.specs.Made.{Made}
+use Rattle.node_events.specs.Made.{Made}
 use Rattle.node_core.specs.Held.{Held, IsWhole, bound_of}
 use Rattle.node_core.specs.Locking.{retry_of, loss_of}
 use Rattle.node_core.specs.Seen.{turn_of}

@@ -10,9 +10,9 @@ use Rattle.protocol_model.specs.Calling.{die}
 use Rattle.term.specs.NodeSets.{IsNodeSet, set_of}
 use Rattle.exit_watch.specs.Held.{Held as Watch, KeepsSuspects}
 use Rattle.lock_calls.specs.Held.{Held as LockCalls, seen}
-use Rattle.node_core.specs.declared.events.Entry.TheVariants.{Exit}
-use Rattle.node_core.specs.declared.events.Letter.TheVariants.{ReleaseOf}
-use Rattle.node_core.specs.Made.{Made, SendsAll, entered}
+use Rattle.node_events.specs.declared.events.Entry.TheVariants.{Exit}
+use Rattle.node_events.specs.declared.events.Letter.TheVariants.{ReleaseOf}
+use Rattle.node_events.specs.Made.{Made, SendsAll, entered}
 use Rattle.node_core.specs.Held.{Held, IsWhole, bound_of}
 use Rattle.node_core.specs.Seen.{turn_of}
 use Rattle.node_core.specs.Steps.{Makes}

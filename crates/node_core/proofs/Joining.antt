@@ -1,6 +1,7 @@
 -- The rules of joins, one by one.
 use Rattle.std.proofs.Common.{ℕ, Bool, true, false, ◌==◌, ◌≡◌, ◌<◌, ◌≤◌, ◌+◌, Option, Some, None, List, [], ◌∷◌, ◌++◌, length, get_or, take, arith, refl, sym, ap, ◌∙◌, subst}
 use Rattle.std.specs.Prelude.{not, ◌&&◌, ◌||◌, if◌then◌else◌, filter}
+use Rattle.std.specs.Option.{option_map}
 use Rattle.std.proofs.Math.Path.{fun_ext}
 use Rattle.std.proofs.lemmas.Bool.{eq-eqb, eqb-true}
 use Rattle.std.specs.List.Sorted.{IsStrictlyIncreasing}
@@ -20,7 +21,8 @@ use Rattle.protocol_model.specs.Watch.{Watch as AnyWatch, is_live, with_dead}
 use Rattle.protocol_model.specs.Turn.{Turn, become, with_replica, at_work, send, send_all, enter, reply_with}
 use Rattle.protocol_model.specs.Calling.{die, kill}
 use Rattle.protocol_model.specs.Reading.{welcomed, welcome}
-use Rattle.protocol_model.specs.Deciding.{held}
+use Rattle.protocol_model.specs.Deciding.{admit, held}
+use Rattle.protocol_model.specs.Registrar.{finish}
 use Rattle.term.specs.NodeSets.{IsNodeSet, set_of, without_node, with_node as and_node, most_nodes}
 use Rattle.term.proofs.NodeSets.{set_of-with_node}
 use Rattle.term.proofs.NodeLists.{rising-with_node}
@@ -31,20 +33,21 @@ use Rattle.transaction.specs.declared.op.Op.{Op}
 use Rattle.transaction.specs.Ops.{op_of}
 use Rattle.transaction.specs.Work.{Work}
 use Rattle.exchange.specs.declared.bodies.Welcome.{Welcome}
-use Rattle.node_core.specs.declared.events.Answer.{Answer}
-use Rattle.node_core.specs.declared.events.Entry.TheVariants.{Joined as HasJoined}
-use Rattle.node_core.specs.declared.events.Letter.{Letter}
-use Rattle.node_core.specs.declared.events.Letter.TheVariants.{ReleaseOf, Applied}
-use Rattle.node_core.specs.declared.events.Reply.TheVariants.{Joined as IsJoined}
+use Rattle.node_events.specs.declared.events.Answer.{Answer}
+use Rattle.node_events.specs.declared.events.Entry.TheVariants.{Joined as HasJoined}
+use Rattle.node_events.specs.declared.events.Letter.{Letter}
+use Rattle.node_events.specs.declared.events.Letter.TheVariants.{ReleaseOf, Applied}
+use Rattle.node_events.specs.declared.events.Reply.TheVariants.{Joined as IsJoined}
 use Rattle.node_core.specs.declared.node.Phase.TheVariants.{Writing}
-use Rattle.node_core.specs.Made.{Made, sent, SendsAll, entered, answered}
+use Rattle.node_events.specs.Made.{Made, sent, SendsAll, entered, answered}
 use Rattle.node_core.specs.Held.{Held, IsWhole, IsWithin, bound_of}
-use Rattle.node_core.specs.Joining.{join_by, let_in, admission_held, kill_one, put_names, IsWelcomeTo}
-use Rattle.node_core.specs.Letters.{letter_of}
-use Rattle.node_core.specs.Seen.{node_of, turn_of, answer_of, reply_of, current_of, unnumbered}
+use Rattle.node_core.specs.Joining.{join_by, kill_one, put_names, IsAdmitting, IsWelcomeTo}
+use Rattle.node_events.specs.Letters.{letter_of}
+use Rattle.node_core.specs.Seen.{node_of, turn_of, current_of}
+use Rattle.node_events.specs.Seen.{answer_of, reply_of, unnumbered}
 use Rattle.node_core.specs.Steps.{Makes, Works}
 use Rattle.node_core.proofs.Sends.{sent_is, sent_all_is, all_below}
-use Rattle.node_core.proofs.Rules.{followed, entered_is, current_is}
+use Rattle.node_core.proofs.Rules.{followed, entered_is}
 use Rattle.node_core.proofs.Rounds.{first_passes}
 use Rattle.node_core.proofs.Locking.{made_as}
 use Rattle.node_core.proofs.Gone.{told_is}
@@ -341,39 +344,49 @@ room_for world members j set rest within of =
     is = sym (nodes_of-set_of (bound_of world) all rising (all_below world all all_within))
         ∙ nodes_of-within (bound_of world) (set_of all) world set.rising (all_below world world (λ c e. e)) all_within
 
+-- the current operation writes, and awaits these nodes
+writes : (o : Option Op) (op : AnyOp) (asked all : List ℕ) → option_map op_of o ≡ Some op
+    → current_of o all (Writing asked None) ≡ Current.Writing op (set_of asked) (set_of all) None
+writes None op asked all e = cc
+writes (Some x) op asked all e =
+    let same : op_of x ≡ op = cc in
+    ap (λ (y : AnyOp). Current.Writing y (set_of asked) (set_of all) None) same
+
 -- a lone node j is let in by the node h: all are its members and j
 pub lets_in : (h0 h : Held) (t u v x : Made) (w : Work) (asked all : List ℕ) (a j j1 j2 : ℕ) (l m : Letter)
-    (s : Settled)
+    (s : Settled) (pairs : Table)
     → h0 ≡ h → IsWhole h0 → set_of h0.world j ≡ true → IsNodeSet h0.members
     → ((c : ℕ) → set_of all c ≡ (set_of h0.world c && (set_of h0.members c || (c == j))))
     → w ≡ record h0.registrar { awaited = all } → j1 ≡ j → a ≡ h0.name → u ≡ entered (HasJoined j1 a) t
     → letter_of l ≡ AnyLetter.Admit j s.puts s.kills → SendsAll h0.members l u v
     → letter_of m
     ≡ AnyLetter.Welcome (with_node j (set_of h0.members)) (put_all s.puts h0.table) (set_of h0.told) s.kills
-    → j2 ≡ j → x ≡ sent j2 m v
-    → Works (λ op n b. let_in n b op j (set_of asked) s) h t (record h0 { registrar = w; phase = Writing asked None }) x
-lets_in h0 h t u v x w asked all a j j1 j2 l m s same whole of set are awaits joiner own entering admit admits welcoming
-    to sends =
-    subst (λ (y : Held). Works (λ op n b. let_in n b op j (set_of asked) s) y t k x) same (λ op cur. record {
+    → j2 ≡ j → x ≡ sent j2 m v → IsAdmitting h j pairs
+    → Makes (λ n b. admit n b unnumbered j pairs (set_of asked) s) h t
+    (record h0 { registrar = w; phase = Writing asked None }) x
+lets_in h0 h t u v x w asked all a j j1 j2 l m s pairs same whole of set are awaits joiner own entering admit_it admits
+    welcoming to sends admitting =
+    subst (λ (y : Held). IsAdmitting y j pairs → Makes (λ n b. admit n b unnumbered j pairs (set_of asked) s) y t k x)
+    same (λ current. record {
       name = refl;
       world = refl;
       turn = ap (turn_of k) sends ∙ sent_is k v j2 m
           ∙ ap (λ (c : ℕ). send c (letter_of m) (turn_of k v)) to
           ∙ ap (λ (y : AnyLetter). send j y (turn_of k v)) welcoming
           ∙ ap (λ (y : Turn). send j welcome_letter y) (sent_all_is k u v h0.members l admits set whole.members
-          ∙ ap (λ (y : AnyLetter). send_all n (set_of h0.members) y (turn_of k u)) admit
+          ∙ ap (λ (y : AnyLetter). send_all n (set_of h0.members) y (turn_of k u)) admit_it
           ∙ ap (send_all n (set_of h0.members) (AnyLetter.Admit j s.puts s.kills)) (ap (turn_of k) entering
           ∙ entered_is k t (HasJoined j1 a)
           ∙ ap (λ (c : ℕ). enter (AnyEntry.Join c 0 a Joined) (turn_of k t)) joiner
           ∙ ap (λ (c : ℕ). enter (AnyEntry.Join j 0 c Joined) (turn_of k t)) own
           ∙ ap (λ (y : Work). enter (AnyEntry.Join j 0 h0.name Joined)
           (turn_of (record h0 { registrar = y; phase = Writing asked None }) t)) awaits
-          ∙ ap (λ (o : Option Op). enter (AnyEntry.Join j 0 h0.name Joined)
-          (at_work (current_of o all (Writing asked None)) (turn_of h0 t))) cur
+          ∙ ap (λ (y : Current). enter (AnyEntry.Join j 0 h0.name Joined) (at_work y (turn_of h0 t)))
+          (writes h0.registrar.current (AnyOp.Admission j pairs) asked all current)
           ∙ ap (λ (ss : Nodes). enter (AnyEntry.Join j 0 h0.name Joined)
-          (at_work (Current.Writing (op_of op) (set_of asked) ss None) (turn_of h0 t)))
+          (at_work (Current.Writing (AnyOp.Admission j pairs) (set_of asked) ss None) (turn_of h0 t)))
           (told_is h0.world h0.members all j are whole.members of)));
-    })
+    }) admitting
   where
     n : ℕ
     n = bound_of h0.world
@@ -385,20 +398,27 @@ lets_in h0 h t u v x w asked all a j j1 j2 l m s same whole of set are awaits jo
     welcome_letter =
         AnyLetter.Welcome (with_node j (set_of h0.members)) (put_all s.puts h0.table) (set_of h0.told) s.kills
 
--- the current admission is decided as the protocol has it
-pub decides_admission : (h0 h k : Held) (t u : Made) (asked : List ℕ) (j : ℕ) (op0 : Op) (pairs : Table) (s : Settled)
-    → h0 ≡ h → h0.registrar.current ≡ Some op0 → op_of op0 ≡ AnyOp.Admission j pairs → s ≡ settle h0.table pairs
-    → Works (λ op n a. admission_held n a op j (set_of asked) s) h t k u
-    → Works (λ op n a. held n a unnumbered op (set_of asked)) h t k u
-decides_admission h0 h k t u asked j op0 pairs s same cur is settled =
-    subst (λ (y : Held). Works (λ op n a. admission_held n a op j (set_of asked) s) y t k u
-    → Works (λ op n a. held n a unnumbered op (set_of asked)) y t k u) same (λ W op cur2. made_as (W op cur2)
-    (ap (λ (o : AnyOp). admission_held n h0.name o j (set_of asked) s (turn_of h0 t)) (this op cur2)
-    ∙ ap (λ (y : Settled). admission_held n h0.name (AnyOp.Admission j pairs) j (set_of asked) y (turn_of h0 t)) settled
-    ∙ ap (λ (o : AnyOp). held n h0.name unnumbered o (set_of asked) (turn_of h0 t)) (sym (this op cur2))))
+-- j, which has not left, is let in
+pub lets_pass : (h0 h k : Held) (t u : Made) (asked : List ℕ) (j : ℕ) (pairs : Table) (s : Settled) → h0 ≡ h
+    → set_of h0.told j ≡ false → s ≡ settle h.table pairs
+    → Makes (λ n a. admit n a unnumbered j pairs (set_of asked) s) h t k u
+    → Makes (λ n a. held n a unnumbered (AnyOp.Admission j pairs) (set_of asked)) h t k u
+lets_pass h0 h k t u asked j pairs s same here settled M = made_as M (
+    ap (λ (y : Settled). admit n h.name unnumbered j pairs (set_of asked) y (turn_of h t)) settled
+    ∙ ap (λ (gone : Bool). if gone
+    then finish n h.name (AnyOp.Admission j pairs) (set_of asked) None (turn_of h t)
+    else admit n h.name unnumbered j pairs (set_of asked) (settle h.table pairs) (turn_of h t))
+    (sym here ∙ ap (λ (y : Held). set_of y.told j) same)
+    )
   where
     n : ℕ
-    n = bound_of h0.world
+    n = bound_of h.world
 
-    this : (op : Op) → h0.registrar.current ≡ Some op → op_of op ≡ AnyOp.Admission j pairs
-    this op cur2 = ap op_of (current_is h0 op0 op cur cur2) ∙ is
+-- the current operation is this admission, so what is decided of this is decided of it
+pub decides_admission : (h k : Held) (t u : Made) (asked : List ℕ) (j : ℕ) (pairs : Table) → IsAdmitting h j pairs
+    → Makes (λ n a. held n a unnumbered (AnyOp.Admission j pairs) (set_of asked)) h t k u
+    → Works (λ op n a. held n a unnumbered op (set_of asked)) h t k u
+decides_admission h k t u asked j pairs admitting M op current =
+    let e : Some (op_of op) ≡ Some (AnyOp.Admission j pairs) = ap (option_map op_of) (sym current) ∙ admitting in
+    let this : AnyOp.Admission j pairs ≡ op_of op = cc in
+    subst (λ (x : AnyOp). Makes (λ n a. held n a unnumbered x (set_of asked)) h t k u) this M

@@ -10,8 +10,8 @@ use Rattle.lock_table.specs.declared.verdict.Verdict.{Verdict}
 use Rattle.lock_table.specs.Ids.{id_of}
 use Rattle.lock_table.specs.Verdicts.{verdict_of, asked}
 use Rattle.term.specs.declared.lock_id.LockId.{LockId}
-use Rattle.node_core.specs.declared.events.Letter.TheVariants.{LockAnswer}
-use Rattle.node_core.specs.Made.{Made, sent}
+use Rattle.node_events.specs.declared.events.Letter.TheVariants.{LockAnswer}
+use Rattle.node_events.specs.Made.{Made, sent}
 use Rattle.node_core.specs.Held.{Held}
 use Rattle.node_core.specs.Seen.{turn_of, is_granted}
 use Rattle.node_core.specs.Steps.{Makes}

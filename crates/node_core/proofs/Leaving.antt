@@ -26,9 +26,9 @@ use Rattle.lock_calls.specs.declared.call.CallPhase.TheVariants.{Asking as AsksL
 use Rattle.lock_calls.specs.declared.call.LockCall.{LockCall}
 use Rattle.lock_calls.specs.Calls.{as_call, phase_of as phase_of_call}
 use Rattle.lock_calls.specs.Held.{seen as calls_seen}
-use Rattle.node_core.specs.declared.events.Entry.TheVariants.{Left, Told}
-use Rattle.node_core.specs.declared.events.Letter.TheVariants.{Down}
-use Rattle.node_core.specs.Made.{Made, SendsAll, entered}
+use Rattle.node_events.specs.declared.events.Entry.TheVariants.{Left, Told}
+use Rattle.node_events.specs.declared.events.Letter.TheVariants.{Down}
+use Rattle.node_events.specs.Made.{Made, SendsAll, entered}
 use Rattle.node_core.specs.Held.{Held, bound_of, IsWithin, IsWhole}
 use Rattle.node_core.specs.Locking.{loss_of}
 use Rattle.node_core.specs.Seen.{node_of, turn_of}

@@ -9,10 +9,11 @@ use Rattle.protocol_model.specs.Event as refused
 use Rattle.protocol_model.specs.Node.{call_of}
 use Rattle.protocol_model.specs.Watch.{is_live}
 use Rattle.term.specs.LockIds.{global_text}
-use Rattle.node_core.specs.declared.events.StepFault.{StepFault}
-use Rattle.node_core.specs.declared.events.StepFault.TheVariants.{NotLive, Busy, Reserved, UnknownNode, AlreadyJoined, NoSuchProcess, AlreadyExited, SerialsSpent, NothingToRetry, HoldsLock, CallsSpent, Memory}
+use Rattle.node_events.specs.declared.events.StepFault.{StepFault}
+use Rattle.node_events.specs.declared.events.StepFault.TheVariants.{NotLive, Busy, Reserved, UnknownNode, AlreadyJoined, NoSuchProcess, AlreadyExited, SerialsSpent, NothingToRetry, HoldsLock, CallsSpent, Memory}
 use Rattle.node_core.specs.Held.{Held, IsWhole}
-use Rattle.node_core.specs.Seen.{node_of, fault_of}
+use Rattle.node_core.specs.Seen.{node_of}
+use Rattle.node_events.specs.Seen.{fault_of}
 use Rattle.node_core.specs.Steps.{cause_of}
 
 -- the text `global` is the resource's

@@ -26,10 +26,10 @@ use Rattle.lock_calls.specs.declared.call.CallPhase.TheVariants.{Asking, Deletin
 use Rattle.lock_calls.specs.declared.call.LockCall.{LockCall}
 use Rattle.lock_calls.specs.Calls.{phase_of, as_call}
 use Rattle.lock_calls.specs.Held.{Held as LockCalls, seen as calls_seen, AreOrdered}
-use Rattle.node_core.specs.declared.events.Letter.{Letter}
-use Rattle.node_core.specs.Made.{Made, sent, SendsAll}
+use Rattle.node_events.specs.declared.events.Letter.{Letter}
+use Rattle.node_events.specs.Made.{Made, sent, SendsAll}
 use Rattle.node_core.specs.Held.{Held, bound_of, IsWithin, IsCallWithin, IsOwnCall, IsWhole}
-use Rattle.node_core.specs.Letters.{letter_of}
+use Rattle.node_events.specs.Letters.{letter_of}
 use Rattle.node_core.specs.Seen.{turn_of}
 use Rattle.node_core.specs.Steps.{Makes}
 use Rattle.node_core.proofs.Sends.{sent_is, sent_all_is, all_below}

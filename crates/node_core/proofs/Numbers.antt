@@ -21,11 +21,12 @@ use Rattle.protocol_model.specs.Client.{is_spent, one_less, in_phase, new_call, 
 use Rattle.protocol_model.specs.Deciding.{admit, held, end_by, end_round, go_on, hear_answer, lose}
 use Rattle.protocol_model.specs.Reading.{admitted, welcomed, bereft, judge, hear, take_back, asked_to_admit, refused_join, welcome, told_of, lose_join, lose_current, bereave, read, receive}
 use Rattle.protocol_model.specs.Calling.{die, kill, queued, looked, call, event}
-use Rattle.node_core.specs.declared.events.Entry.{Entry}
-use Rattle.node_core.specs.declared.events.Entry.TheVariants.{Name, Strike, Exit, Done, Read, Left, Told, Joined as HasJoined, NotMember as IsRefused, ContactLeft as LostContact}
-use Rattle.node_core.specs.Made.{Made}
+use Rattle.node_events.specs.declared.events.Entry.{Entry}
+use Rattle.node_events.specs.declared.events.Entry.TheVariants.{Name, Strike, Exit, Done, Read, Left, Told, Joined as HasJoined, NotMember as IsRefused, ContactLeft as LostContact}
+use Rattle.node_events.specs.Made.{Made}
 use Rattle.node_core.specs.Held.{Held}
-use Rattle.node_core.specs.Seen.{turn_of, turn_by, entry_of, entry_by, unnumbered}
+use Rattle.node_core.specs.Seen.{turn_of, turn_by}
+use Rattle.node_events.specs.Seen.{entry_of, entry_by, unnumbered}
 
 -- the join of another node gets its number
 abbrev pub with_number : (ℕ → ℕ) → AnyEntry → AnyEntry

@@ -10,7 +10,7 @@ use Rattle.term.specs.NodeSets.{set_of}
 use Rattle.exit_watch.specs.Held.{Held as Watch, watch_from}
 use Rattle.lock_calls.specs.Held.{Held as LockCalls, none_at}
 use Rattle.transaction.specs.Work.{Work, idle}
-use Rattle.node_core.specs.declared.events.Entry.{Entry}
+use Rattle.node_events.specs.declared.events.Entry.{Entry}
 use Rattle.node_core.specs.declared.node.Phase.TheVariants.{Waiting}
 use Rattle.node_core.specs.Held.{Held, fresh}
 use Rattle.node_core.specs.Seen.{node_of}

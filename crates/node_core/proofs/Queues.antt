@@ -10,7 +10,7 @@ use Rattle.transaction.specs.declared.op.Op.{Op}
 use Rattle.transaction.specs.declared.op.Op.TheVariants.{Join}
 use Rattle.transaction.specs.Ops.{op_of}
 use Rattle.transaction.specs.Work.{Work, started, starts}
-use Rattle.node_core.specs.Made.{Made}
+use Rattle.node_events.specs.Made.{Made}
 use Rattle.node_core.specs.Held.{Held, IsWhole, IsWithin, IsOpWithin, IsCurrentWithin, bound_of}
 use Rattle.node_core.specs.Seen.{node_of, turn_of}
 use Rattle.node_core.specs.Steps.{Makes}

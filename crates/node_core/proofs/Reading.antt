@@ -8,14 +8,15 @@ use Rattle.protocol_model.specs.Client.{hear_lock}
 use Rattle.protocol_model.specs.Registrar.{registrar}
 use Rattle.protocol_model.specs.Deciding.{hear_answer}
 use Rattle.protocol_model.specs.Reading.{hear, read, receive}
-use Rattle.node_core.specs.declared.events.Letter.{Letter}
-use Rattle.node_core.specs.declared.events.Letter.TheVariants.{Down}
-use Rattle.node_core.specs.declared.events.Event.{Event}
-use Rattle.node_core.specs.declared.events.Event.TheVariants.{FromPeer}
-use Rattle.node_core.specs.Made.{Made}
+use Rattle.node_events.specs.declared.events.Letter.{Letter}
+use Rattle.node_events.specs.declared.events.Letter.TheVariants.{Down}
+use Rattle.node_events.specs.declared.events.Event.{Event}
+use Rattle.node_events.specs.declared.events.Event.TheVariants.{FromPeer}
+use Rattle.node_events.specs.Made.{Made}
 use Rattle.node_core.specs.Held.{Held, bound_of}
-use Rattle.node_core.specs.Letters.{letter_of}
-use Rattle.node_core.specs.Seen.{turn_of, unnumbered}
+use Rattle.node_events.specs.Letters.{letter_of}
+use Rattle.node_core.specs.Seen.{turn_of}
+use Rattle.node_events.specs.Seen.{unnumbered}
 use Rattle.node_core.specs.Steps.{Makes, Takes, IsOther, IsSaidBy}
 
 -- an answer goes to the round of its holder: p is who it is for, and q the registrar

@@ -23,18 +23,19 @@ use Rattle.transaction.specs.declared.op.Op.{Op}
 use Rattle.transaction.specs.declared.op.Op.TheVariants.{Name as NameOp, Strike, Join as JoinOp, Admission as AdmissionOp}
 use Rattle.transaction.specs.Ops.{op_of}
 use Rattle.transaction.specs.Calls.{target_of, retries_of}
-use Rattle.node_core.specs.declared.events.Call.{Call}
-use Rattle.node_core.specs.declared.events.Call.TheVariants.{Spawn, Whereis, RegisteredNames, Register, ReRegister, Unregister, SetLock as SetsLock, DelLock as DeletesLock, Join as JoinBy}
-use Rattle.node_core.specs.declared.events.Event.{Event}
-use Rattle.node_core.specs.declared.events.Event.TheVariants.{Call as Calls, FromPeer, Retry, Exit, Leave}
-use Rattle.node_core.specs.declared.events.Letter.{Letter}
-use Rattle.node_core.specs.declared.events.Letter.TheVariants.{SetLock, LockAnswer, GiveBack, GivenBack, ReleaseOf, Apply, Applied, JoinAsk, JoinRefused, Admit, Welcome, Down}
+use Rattle.node_events.specs.declared.events.Call.{Call}
+use Rattle.node_events.specs.declared.events.Call.TheVariants.{Spawn, Whereis, RegisteredNames, Register, ReRegister, Unregister, SetLock as SetsLock, DelLock as DeletesLock, Join as JoinBy}
+use Rattle.node_events.specs.declared.events.Event.{Event}
+use Rattle.node_events.specs.declared.events.Event.TheVariants.{Call as Calls, FromPeer, Retry, Exit, Leave}
+use Rattle.node_events.specs.declared.events.Letter.{Letter}
+use Rattle.node_events.specs.declared.events.Letter.TheVariants.{SetLock, LockAnswer, GiveBack, GivenBack, ReleaseOf, Apply, Applied, JoinAsk, JoinRefused, Admit, Welcome, Down}
 use Rattle.node_core.specs.declared.node.Phase.{Phase}
 use Rattle.node_core.specs.declared.node.Phase.TheVariants.{Asking, Waiting, Writing, Joining}
-use Rattle.node_core.specs.Made.{Made}
+use Rattle.node_events.specs.Made.{Made}
 use Rattle.node_core.specs.Held.{Held, IsWhole, IsPhaseWithin, IsOpWithin, IsCurrentWithin, IsCallWithin, bound_of}
-use Rattle.node_core.specs.Letters.{send_of, letter_of}
-use Rattle.node_core.specs.Seen.{node_of, turn_by, call_of, current_of}
+use Rattle.node_events.specs.Letters.{send_of, letter_of}
+use Rattle.node_core.specs.Seen.{node_of, turn_by, current_of}
+use Rattle.node_events.specs.Seen.{call_of}
 use Rattle.node_core.specs.Steps.{IsTurn, IsSaidBy, IsAskedWithin, IsHeardWithin, GoWithin}
 use Rattle.node_core.proofs.Sends.{below_bound}
 use Rattle.node_core.proofs.Receivers.{IsFit, IsSent, GoTo, IsOpOf, AreOpsOf, IsCurrentOf, IsPhaseOf, IsWithin, ops-push, greatest-within, queues, sends_all}

@@ -21,10 +21,10 @@ use Rattle.protocol_model.specs.Reading.{with_member, admitted, welcomed, bereft
 use Rattle.protocol_model.specs.Calling.{die, kill, queued}
 use Rattle.term.specs.NodeSets.{set_of}
 use Rattle.lock_table.specs.Ids.{id_of}
-use Rattle.node_core.specs.declared.events.Letter.{Letter}
-use Rattle.node_core.specs.declared.events.Letter.TheVariants.{SetLock, LockAnswer, GiveBack, GivenBack, ReleaseOf, Apply, Applied, JoinAsk, JoinRefused, Admit, Welcome, Down}
+use Rattle.node_events.specs.declared.events.Letter.{Letter}
+use Rattle.node_events.specs.declared.events.Letter.TheVariants.{SetLock, LockAnswer, GiveBack, GivenBack, ReleaseOf, Apply, Applied, JoinAsk, JoinRefused, Admit, Welcome, Down}
 use Rattle.name_table.specs.Changes.{change_of}
-use Rattle.node_core.specs.Letters.{letter_of}
+use Rattle.node_events.specs.Letters.{letter_of}
 use Rattle.node_core.proofs.Locking.{found_of}
 use Rattle.node_core.proofs.Receivers.{AreOf, IsCallOf, Knows, IsWithin, ops-push, first, and_one_of, one_less_of, works, queues, keeps, shows, writes_one, sends, sends_all}
 use Rattle.node_core.proofs.ReceiversOfLocks.{hears_lock, owes_less, loses_calls}

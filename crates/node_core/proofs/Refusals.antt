@@ -9,12 +9,13 @@ use Rattle.exit_watch.specs.declared.faults.WatchFault.TheVariants as fault
 use Rattle.exit_watch.specs.Faults.{Refuses, fault_of, cause_of as watch_cause_of}
 use Rattle.transaction.specs.declared.op.Op.{Op}
 use Rattle.transaction.specs.Ops.{op_of}
-use Rattle.node_core.specs.declared.events.StepFault.{StepFault}
-use Rattle.node_core.specs.declared.events.StepFault.TheVariants.{Memory}
+use Rattle.node_events.specs.declared.events.StepFault.{StepFault}
+use Rattle.node_events.specs.declared.events.StepFault.TheVariants.{Memory}
 use Rattle.node_core.specs.declared.node.Phase.{Phase}
 use Rattle.node_core.specs.declared.node.Phase.TheVariants.{Asking, Waiting, Writing, Joining}
 use Rattle.node_core.specs.Held.{Held, IsWhole}
-use Rattle.node_core.specs.Seen.{node_of, current_of, step_fault_of, fault_of as fault_of_step}
+use Rattle.node_core.specs.Seen.{node_of, current_of}
+use Rattle.node_events.specs.Seen.{step_fault_of, fault_of as fault_of_step}
 use Rattle.node_core.specs.Steps.{cause_of}
 
 -- a node refuses an event as its watch does

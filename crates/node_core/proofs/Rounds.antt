@@ -24,12 +24,12 @@ use Rattle.transaction.specs.declared.op.Op.{Op}
 use Rattle.transaction.specs.declared.op.Op.TheVariants.{Strike as StrikeOp}
 use Rattle.transaction.specs.Ops.{op_of}
 use Rattle.transaction.specs.Work.{Work, started}
-use Rattle.node_core.specs.declared.events.Letter.{Letter}
+use Rattle.node_events.specs.declared.events.Letter.{Letter}
 use Rattle.node_core.specs.declared.node.Phase.{Phase}
 use Rattle.node_core.specs.declared.node.Phase.TheVariants.{Asking}
-use Rattle.node_core.specs.Made.{Made, sent, SendsAll}
+use Rattle.node_events.specs.Made.{Made, sent, SendsAll}
 use Rattle.node_core.specs.Held.{Held, bound_of, IsWithin, IsPhaseWithin}
-use Rattle.node_core.specs.Letters.{letter_of}
+use Rattle.node_events.specs.Letters.{letter_of}
 use Rattle.node_core.specs.Seen.{turn_of, current_of, phase_of}
 use Rattle.node_core.specs.Steps.{Makes, Works}
 use Rattle.node_core.proofs.Sends.{sent_is, sent_all_is, all_below}

@@ -25,18 +25,19 @@ use Rattle.transaction.specs.declared.op.Op.{Op}
 use Rattle.transaction.specs.declared.op.Op.TheVariants.{Name as NameOp}
 use Rattle.transaction.specs.Ops.{op_of, name_call_of}
 use Rattle.transaction.specs.Work.{Work, is_nobody}
-use Rattle.node_core.specs.declared.events.Entry.{Entry}
-use Rattle.node_core.specs.declared.events.Entry.TheVariants.{Name, Done}
-use Rattle.node_core.specs.declared.events.Letter.{Letter}
-use Rattle.node_core.specs.declared.events.Letter.TheVariants.{Apply}
-use Rattle.node_core.specs.declared.events.Reply.{Reply}
-use Rattle.node_core.specs.declared.events.Reply.TheVariants.{Yes, Ok}
+use Rattle.node_events.specs.declared.events.Entry.{Entry}
+use Rattle.node_events.specs.declared.events.Entry.TheVariants.{Name, Done}
+use Rattle.node_events.specs.declared.events.Letter.{Letter}
+use Rattle.node_events.specs.declared.events.Letter.TheVariants.{Apply}
+use Rattle.node_events.specs.declared.events.Reply.{Reply}
+use Rattle.node_events.specs.declared.events.Reply.TheVariants.{Yes, Ok}
 use Rattle.node_core.specs.declared.node.Phase.{Phase}
 use Rattle.node_core.specs.declared.node.Phase.TheVariants.{Writing}
-use Rattle.node_core.specs.Made.{Made, SendsAll, entered}
+use Rattle.node_events.specs.Made.{Made, SendsAll, entered}
 use Rattle.node_core.specs.Held.{Held, bound_of, IsWithin, IsOpWithin, IsCurrentWithin, IsWhole}
-use Rattle.node_core.specs.Letters.{letter_of}
-use Rattle.node_core.specs.Seen.{turn_of, reply_of, entry_of, phase_of, current_of}
+use Rattle.node_events.specs.Letters.{letter_of}
+use Rattle.node_core.specs.Seen.{turn_of, phase_of, current_of}
+use Rattle.node_events.specs.Seen.{reply_of, entry_of}
 use Rattle.node_core.specs.Steps.{Makes, Works}
 use Rattle.node_core.proofs.Sends.{sent_all_is, all_below}
 

@@ -1,20 +1,19 @@
 -- What a step sends, as the protocol has it.
-use Rattle.std.proofs.Common.{ℕ, Bool, true, false, zero, suc, ◌==◌, ◌≡◌, ◌<◌, List, [], ◌∷◌, ◌++◌, length, get_or, take, ◌+◌, map, refl, sym, ap, ◌∙◌, inl, inr, arith}
+use Rattle.std.proofs.Common.{ℕ, Bool, true, false, zero, suc, ◌==◌, ◌≡◌, ◌<◌, List, [], ◌∷◌, ◌++◌, length, get_or, ◌+◌, map, refl, sym, ap, ◌∙◌, inl, inr, arith}
 use Rattle.std.specs.Prelude.{◌||◌, All}
 use Rattle.std.proofs.lemmas.Bool.{cases_eq, eq-eqb, ne_eqb}
-use Rattle.std.proofs.lemmas.List.{map-append, append_assoc}
-use Rattle.std.proofs.lemmas.Grind.{take_at_read}
-use Rattle.protocol_model.specs.Letter.{Letter as AnyLetter}
+use Rattle.std.proofs.lemmas.List.{map-append}
 use Rattle.protocol_model.specs.Turn.{Send, send, send_all}
 use Rattle.term.specs.NodeSets.{IsNodeSet, set_of}
 use Rattle.boss_order.proofs.Sets.{nodes_of-set_of}
-use Rattle.node_core.specs.declared.events.Letter.{Letter}
-use Rattle.node_core.specs.Made.{Made, sent, SendsAll, each}
+use Rattle.node_events.specs.declared.events.Letter.{Letter}
+use Rattle.node_events.specs.Made.{Made, sent, SendsAll, each}
 use Rattle.node_core.specs.Held.{Held, bound_of, IsWithin}
-use Rattle.node_core.specs.Letters.{send_of, letter_of}
-use Rattle.node_core.specs.Seen.{turn_of, entry_of, answer_of}
-use Rattle.node_core.specs.declared.events.Entry.{Entry}
-use Rattle.node_core.specs.declared.events.Answer.{Answer}
+use Rattle.node_events.specs.Letters.{send_of, letter_of}
+use Rattle.node_core.specs.Seen.{turn_of}
+use Rattle.node_events.specs.Seen.{entry_of, answer_of}
+use Rattle.node_events.specs.declared.events.Entry.{Entry}
+use Rattle.node_events.specs.declared.events.Answer.{Answer}
 
 -- a node of a list is below the list's bound
 pub below_bound : (world : List ℕ) (c : ℕ) → set_of world c ≡ true → c < bound_of world
@@ -55,18 +54,3 @@ sent_all_is h t u cs l made set within =
     { entries = map entry_of es; answers = map answer_of u.answers }) made.entries
     ∙ ap (λ (ss : List Answer). record (send_all (bound_of h.world) (set_of cs) (letter_of l) (turn_of h t))
     { answers = map answer_of ss }) made.answers
-
--- one letter more of those to all
-pub sends_next : (cs : List ℕ) (l m : Letter) (i c : ℕ) (t u v : Made) → i < length cs → c ≡ get_or cs i c
-    → letter_of m ≡ letter_of l → v ≡ sent c m u → SendsAll (take i cs) l t u → SendsAll (take (i + 1) cs) l t v
-sends_next cs l m i c t u v below item copied made S = record {
-  sends = ap (λ (x : Made). map send_of x.letters) made ∙ map-append send_of u.letters ((c, m) ∷ [])
-      ∙ ap (λ (ss : List Send). ss ++ record { to = c; letter = letter_of m } ∷ []) S.sends
-      ∙ append_assoc (map send_of t.letters) (each (take i cs) l) (record { to = c; letter = letter_of m } ∷ [])
-      ∙ ap (λ (ss : List Send). map send_of t.letters ++ ss) (
-      ap (λ (x : AnyLetter). each (take i cs) l ++ record { to = c; letter = x } ∷ []) copied
-      ∙ sym (map-append (λ d. record { to = d; letter = letter_of l }) (take i cs) (c ∷ []))
-      ∙ ap (λ (xs : List ℕ). each xs l) (ap (λ (d : ℕ). take i cs ++ d ∷ []) item ∙ sym (take_at_read cs i c below).1));
-  entries = ap (λ (x : Made). x.entries) made ∙ S.entries;
-  answers = ap (λ (x : Made). x.answers) made ∙ S.answers;
-}

@@ -4,13 +4,14 @@ use Rattle.registry_model.specs.Table.{is_rising}
 use Rattle.protocol_model.specs.Event.{Event as AnyEvent}
 use Rattle.protocol_model.specs.Turn.{begun}
 use Rattle.term.specs.NodeSets.{set_of}
-use Rattle.node_core.specs.declared.events.Letter.{Letter}
-use Rattle.node_core.specs.declared.events.Event.{Event}
-use Rattle.node_core.specs.declared.events.Event.TheVariants.{Call, FromPeer, Retry, Exit, Leave}
-use Rattle.node_core.specs.Letters.{letter_of}
-use Rattle.node_core.specs.Made.{Made, nothing}
+use Rattle.node_events.specs.declared.events.Letter.{Letter}
+use Rattle.node_events.specs.declared.events.Event.{Event}
+use Rattle.node_events.specs.declared.events.Event.TheVariants.{Call, FromPeer, Retry, Exit, Leave}
+use Rattle.node_events.specs.Letters.{letter_of}
+use Rattle.node_events.specs.Made.{Made, nothing}
 use Rattle.node_core.specs.Held.{Held, IsWhole, bound_of}
-use Rattle.node_core.specs.Seen.{turn_by, unnumbered, node_of, call_of}
+use Rattle.node_core.specs.Seen.{turn_by, node_of}
+use Rattle.node_events.specs.Seen.{unnumbered, call_of}
 use Rattle.node_core.specs.Steps.{Keeps, Takes, Steps, IsTurn, refusal_of}
 use Rattle.node_core.proofs.Numbers.{numbered, turn_numbered, event_numbered, receive_numbered}
 use Rattle.node_core.proofs.ReceiversOfEvents.{sends_within}

@@ -11,7 +11,7 @@ use Rattle.protocol_model.specs.Round.{asked}
 use Rattle.transaction.specs.Work.{Work, idle}
 use Rattle.transaction.specs.declared.op.Op.{Op}
 use Rattle.transaction.specs.declared.op.Op.TheVariants.{Join, Admission}
-use Rattle.node_core.specs.declared.events.Entry.{Entry}
+use Rattle.node_events.specs.declared.events.Entry.{Entry}
 use Rattle.node_core.specs.declared.node.Phase.{Phase}
 use Rattle.node_core.specs.declared.node.Phase.TheVariants.{Asking, Waiting, Writing, Joining}
 
@@ -67,8 +67,8 @@ IsCallWithin world (LockPhase.Deleting owing) = (c : ℕ) → owing c ≡ true �
 abbrev pub IsOwnCall : Held → LockCall → Type 0
 IsOwnCall h c = (c.holder.node ≡ h.name) × (0 < c.holder.serial)
 
--- The node is one of its members and hasn't left, and all nodes that it knows of are of the world. Its watch and its lock
--- calls are its own, and the watch suspects each dead process of the node that owns a name
+-- The node is one of its members and hasn't left, and all nodes that it knows of are of the world. Its watch and its
+-- lock calls are its own, and the watch suspects each dead process of the node that owns a name
 pub record IsWhole (h : Held) : Type 0 where
   pub self : set_of h.members h.name ≡ true
   pub members : IsWithin h.world h.members

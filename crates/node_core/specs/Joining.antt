@@ -1,21 +1,17 @@
 -- The rules of joins: what a node needs to know of whom it hears.
 use Rattle.std.specs.Prelude.{ℕ, fold, ◌==◌, ◌≡◌, true, false, Option, Some, None, List, if◌then◌else◌}
-use Rattle.registry_model.specs.Table.{is_rising}
-use Rattle.registry_model.specs.Table.{Table, put_all, Put}
-use Rattle.registry_model.specs.Process.{Process, Nodes, with_node}
-use Rattle.registry_model.specs.Call.{Joined}
+use Rattle.std.specs.Option.{option_map}
+use Rattle.registry_model.specs.Table.{Table, Put, is_rising}
+use Rattle.registry_model.specs.Process.{Process}
 use Rattle.registry_model.specs.Registry.{Replica}
-use Rattle.registry_model.specs.Settlement.{Settled}
-use Rattle.registry_model.specs.History.{Entry}
-use Rattle.protocol_model.specs.Letter.{Letter}
 use Rattle.protocol_model.specs.Node.{Op, Current, wrote}
-use Rattle.protocol_model.specs.Registrar.{finish}
-use Rattle.protocol_model.specs.Turn.{Turn, at_work, send, send_all, enter}
+use Rattle.protocol_model.specs.Turn.{Turn}
 use Rattle.protocol_model.specs.Watch.{is_live}
 use Rattle.protocol_model.specs.Calling.{die}
 use Rattle.term.specs.NodeSets.{set_of}
+use Rattle.transaction.specs.Ops.{op_of}
 use Rattle.exchange.specs.declared.bodies.Welcome.{Welcome}
-use Rattle.node_core.specs.Held.{IsWithin}
+use Rattle.node_core.specs.Held.{Held, IsWithin}
 
 -- the number of the join that waits for its contact, if one does
 abbrev pub join_number_of : Current → Option ℕ
@@ -35,19 +31,9 @@ pub record IsWelcomeTo (world : List ℕ) (a : ℕ) (w : Welcome) : Type 0 where
   pub here : set_of w.told a ≡ false
   pub rising : is_rising w.pairs.items ≡ true
 
--- j is let in by the operation op: the members are told to admit it, and it is welcomed
-abbrev pub let_in : ℕ → ℕ → Op → ℕ → Nodes → Settled → Turn → Turn
-let_in n a op j asked s u =
-    send j
-    (Letter.Welcome (with_node j u.node.replica.members)
-    (put_all s.puts u.node.replica.table) u.node.replica.told s.kills)
-    (send_all n u.node.replica.members (Letter.Admit j s.puts s.kills)
-    (at_work (Current.Writing op asked (with_node j u.node.replica.members) None)
-    (enter (Entry.Join j 0 a Joined) u)))
-
--- the admission of j is decided: where j has left, it ends
-abbrev pub admission_held : ℕ → ℕ → Op → ℕ → Nodes → Settled → Turn → Turn
-admission_held n a op j asked s u = if u.node.replica.told j then finish n a op asked None u else let_in n a op j asked s u
+-- the current operation is the admission of j, which has these names
+abbrev pub IsAdmitting : Held → ℕ → Table → Type 0
+IsAdmitting h j pairs = option_map op_of h.registrar.current ≡ Some (Op.Admission j pairs)
 
 -- p dies, if it lives here
 abbrev pub kill_one : ℕ → ℕ → Process → Turn → Turn

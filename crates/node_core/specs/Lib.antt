@@ -1,5 +1,3 @@
-pub mod Letters
-pub mod Made
 pub mod Held
 pub mod Seen
 pub mod Steps

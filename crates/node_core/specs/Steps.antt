@@ -8,19 +8,20 @@ use Rattle.protocol_model.specs.Reading.{receive}
 use Rattle.term.specs.NodeSets.{set_of}
 use Rattle.transaction.specs.declared.op.Op.{Op}
 use Rattle.transaction.specs.Ops.{op_of}
-use Rattle.node_core.specs.declared.events.Answer.{Answer}
-use Rattle.node_core.specs.declared.events.Event.{Event}
-use Rattle.node_core.specs.declared.events.Event.TheVariants.{Call, FromPeer, Retry, Exit, Leave}
-use Rattle.node_core.specs.declared.events.Call.TheVariants.{Join as JoinBy}
-use Rattle.node_core.specs.declared.events.Call.{Call as ClientCall}
-use Rattle.node_core.specs.declared.events.Letter.{Letter}
-use Rattle.node_core.specs.declared.events.Letter.TheVariants.{JoinAsk, Admit, Welcome, Down}
-use Rattle.node_core.specs.declared.events.StepFault.{StepFault}
+use Rattle.node_events.specs.declared.events.Answer.{Answer}
+use Rattle.node_events.specs.declared.events.Event.{Event}
+use Rattle.node_events.specs.declared.events.Event.TheVariants.{Call, FromPeer, Retry, Exit, Leave}
+use Rattle.node_events.specs.declared.events.Call.TheVariants.{Join as JoinBy}
+use Rattle.node_events.specs.declared.events.Call.{Call as ClientCall}
+use Rattle.node_events.specs.declared.events.Letter.{Letter}
+use Rattle.node_events.specs.declared.events.Letter.TheVariants.{JoinAsk, Admit, Welcome, Down}
+use Rattle.node_events.specs.declared.events.StepFault.{StepFault}
 use Rattle.node_core.specs.Held.{Held, bound_of}
-use Rattle.node_core.specs.Made.{Made}
-use Rattle.node_core.specs.Letters.{letter_of}
+use Rattle.node_events.specs.Made.{Made}
+use Rattle.node_events.specs.Letters.{letter_of}
 use Rattle.node_core.specs.Joining.{IsWelcomeTo}
-use Rattle.node_core.specs.Seen.{node_of, turn_of, turn_by, unnumbered, call_of, fault_of}
+use Rattle.node_core.specs.Seen.{node_of, turn_of, turn_by}
+use Rattle.node_events.specs.Seen.{unnumbered, call_of, fault_of}
 
 -- what no step changes, whatever comes of it
 pub record Keeps (old new : Held) : Type 0 where
@@ -41,8 +42,8 @@ Works rule h t k u = (op : Op) → h.registrar.current ≡ Some op → Makes (ru
 abbrev pub IsOther : List ℕ → ℕ → ℕ → Type 0
 IsOther world a f = (set_of world f ≡ true) × ((f == a) ≡ false)
 
--- What node a relies on of a letter that f sends: who asks to join and who is admitted are of the world, a welcome is one to a,
--- and who has left is another node of the world
+-- What node a relies on of a letter that f sends: who asks to join and who is admitted are of the world, a welcome is
+-- one to a, and who has left is another node of the world
 abbrev pub IsSaidBy : List ℕ → ℕ → ℕ → Letter → Type 0
 IsSaidBy world a f (JoinAsk pairs) = set_of world f ≡ true
 IsSaidBy world a f (Admit body) = set_of world body.joiner ≡ true
@@ -71,7 +72,8 @@ IsTurn number (Call c) h u =
     IsAskedWithin h.world c
     → u ≡ event (bound_of h.world) h.name (set_of h.world) (AnyEvent.Calling (call_of c)) (begun (node_of h))
 IsTurn number Retry h u = u ≡ event (bound_of h.world) h.name (set_of h.world) AnyEvent.Retry (begun (node_of h))
-IsTurn number (Exit p) h u = u ≡ event (bound_of h.world) h.name (set_of h.world) (AnyEvent.Exiting p) (begun (node_of h))
+IsTurn number (Exit p) h u =
+    u ≡ event (bound_of h.world) h.name (set_of h.world) (AnyEvent.Exiting p) (begun (node_of h))
 IsTurn number Leave h u = u ≡ event (bound_of h.world) h.name (set_of h.world) AnyEvent.Leave (begun (node_of h))
 IsTurn number (FromPeer f l) h u =
     IsSaidBy h.world h.name f l
@@ -100,8 +102,8 @@ IsHeardWithin world a _ = Unit {0}
 abbrev pub GoWithin : List ℕ → ℕ → List (ℕ × Letter) → Type 0
 GoWithin world a ss = All (λ s. (set_of world s.0 ≡ true) × IsSaidBy world s.0 a s.1) ss
 
--- An event was accepted, and the protocol's node makes its turn. What it sends comes behind the letters before, and goes
--- to nodes of the world alone, where it hears none but those
+-- An event was accepted, and the protocol's node makes its turn. What it sends comes behind the letters before, and
+-- goes to nodes of the world alone, where it hears none but those
 pub record Steps (e : Event) (old new : Held) (before after : List (ℕ × Letter)) (answers : List Answer) : Type 0 where
   pub name : new.name ≡ old.name
   pub world : new.world ≡ old.world

@@ -9,13 +9,12 @@ mod reading;
 mod registrar;
 mod rounds;
 
-use crate::events::{Answer, Entry, Event, Letter, Reply, StepFault};
-use crate::turn::Turn;
 use exit_watch::Watch;
 use lock_calls::LockCalls;
 use lock_table::LockTable;
 use locker::Round;
 use name_table::Names;
+use node_events::{Answer, Entry, Event, Letter, Reply, StepFault, Turn};
 use std::alloc::{AllocError, Global};
 use std::marker::Model;
 use term::{NodeName, NodeSet};
@@ -101,8 +100,9 @@ impl<N: Names<Memory = Global>> NodeCore<N> {
     ghost use Rattle.std.specs.Option.{option_copied};
     ghost use Rattle.protocol_model.specs.Node.{holds_global};
     ghost use Rattle.node_core.specs.Held.{IsWhole};
-    ghost use Rattle.node_core.specs.Seen.{node_of, fault_of, is_memory};
-    ghost use Rattle.node_core.specs.declared.events.StepFault.TheVariants.{Memory};
+    ghost use Rattle.node_core.specs.Seen.{node_of};
+    ghost use Rattle.node_events.specs.Seen.{fault_of, is_memory};
+    ghost use Rattle.node_events.specs.declared.events.StepFault.TheVariants.{Memory};
     ghost use Rattle.node_core.specs.Steps.{Steps, Keeps, Takes, refusal_of, cause_of};
     ghost use Rattle.protocol_model.specs.Event.{can_retry, is_waiting};
     ghost use Rattle.node_core.specs.Joining.{join_number_of};
@@ -165,7 +165,7 @@ impl<N: Names<Memory = Global>> NodeCore<N> {
     fn is_at_work(&self) -> bool
         ensures { result ≡ is_some self.now.registrar.current }
     {
-        self.registrar.current().is_some()
+        self.current().is_some()
     }
 
     /// Whether the registrar's round was refused, and waits for a retry.
@@ -261,7 +261,7 @@ impl<N: Names<Memory = Global>> NodeCore<N> {
     pub fn holds_global(&self) -> bool
         ensures { result ≡ holds_global (node_of self.now) }
     {
-        self.registrar.current().is_some() && matches!(self.phase, Phase::Writing(..))
+        self.is_at_work() && matches!(self.phase, Phase::Writing(..))
     }
 
     /// What its last step entered into the history, the oldest entry first.

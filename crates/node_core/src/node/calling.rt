@@ -1,10 +1,8 @@
 //! What a node does with a call, and with the exit of a process.
-use crate::events::{Call, Entry, Letter, Look, Reply, StepFault};
-use crate::name_list::NameList;
 use crate::node::{NodeCore, Phase};
-use crate::turn::Turn;
 use lock_calls::{CallPhase, LockCall};
 use name_table::Names;
+use node_events::{Call, Entry, Letter, Look, NameList, Reply, StepFault, Turn};
 use std::alloc::{AllocError, Global};
 use term::{LockId, NodeName, Pid, Resource};
 use transaction::{NameCall, Nodes, Op, Retries};
@@ -23,11 +21,12 @@ impl<N: Names<Memory = Global>> NodeCore<N> {
     ghost use Rattle.term.specs.NodeSets.{set_of};
     ghost use Rattle.transaction.specs.Ops.{name_call_of};
     ghost use Rattle.transaction.specs.Calls.{target_of};
-    ghost use Rattle.node_core.specs.declared.events.Call.TheVariants.{Spawn};
-    ghost use Rattle.node_core.specs.declared.events.Event.TheVariants.{Call as Calls, Exit as Exits};
-    ghost use Rattle.node_core.specs.declared.events.StepFault.TheVariants.{Memory};
-    ghost use Rattle.node_core.specs.Made.{Made};
-    ghost use Rattle.node_core.specs.Seen.{node_of, call_of, look_of, reply_of};
+    ghost use Rattle.node_events.specs.declared.events.Call.TheVariants.{Spawn};
+    ghost use Rattle.node_events.specs.declared.events.Event.TheVariants.{Call as Calls, Exit as Exits};
+    ghost use Rattle.node_events.specs.declared.events.StepFault.TheVariants.{Memory};
+    ghost use Rattle.node_events.specs.Made.{Made};
+    ghost use Rattle.node_core.specs.Seen.{node_of};
+    ghost use Rattle.node_events.specs.Seen.{call_of, look_of, reply_of};
     ghost use Rattle.node_core.specs.Steps.{Keeps, Makes, IsAskedWithin, refusal_of, cause_of};
 
     /// Why a call is refused, if it is.

@@ -4,13 +4,12 @@ ghost use Rattle.registry_model.specs.Table.{is_rising, without};
 ghost use Rattle.term.specs.NodeSets.{set_of};
 ghost use Rattle.exit_watch.specs.Held.{AreSuspected, KeepsSuspects};
 
-use crate::events::{Entry, Letter, Reply, copied};
 use crate::node::leaving::{and_one, except};
 use crate::node::{NodeCore, Phase};
-use crate::turn::Turn;
 use exchange::{Admission, Settled, Welcome, admit_of, welcome_of};
 use exit_watch::Watch;
 use name_table::{Change, Names, Pair};
+use node_events::{Entry, Letter, Reply, Turn, copied_pairs};
 use std::alloc::{AllocError, Global};
 use term::{MOST_NODES, NodeName, NodeSet, Pid};
 use transaction::Op;
@@ -48,19 +47,23 @@ fn table_of<N: Names<Memory = Global>>(
 impl<N: Names<Memory = Global>> NodeCore<N> {
     ghost use Rattle.std.specs.Prelude.{None, Some, is_some, IsTrue, IfSome, fold};
     ghost use Rattle.registry_model.specs.Process.{Process};
+    ghost use Rattle.registry_model.specs.Table.{Table};
+    ghost use Rattle.registry_model.specs.Settlement.{settle};
     ghost use Rattle.registry_model.specs.Call.{NotMember as IsNoMember};
     ghost use Rattle.protocol_model.specs.Node.{Op as AnyOp};
     ghost use Rattle.protocol_model.specs.Letter.{Letter as AnyLetter};
     ghost use Rattle.protocol_model.specs.Watch.{is_live};
     ghost use Rattle.protocol_model.specs.Turn.{send, with_replica};
     ghost use Rattle.protocol_model.specs.Registrar.{ask_join, contact_left, lose_contact};
+    ghost use Rattle.protocol_model.specs.Deciding.{admit, held};
     ghost use Rattle.protocol_model.specs.Reading.{admitted, welcomed, asked_to_admit, refused_join, welcome, with_member};
     ghost use Rattle.protocol_model.specs.Calling.{kill};
-    ghost use Rattle.node_core.specs.Made.{Made};
+    ghost use Rattle.node_events.specs.Made.{Made};
     ghost use Rattle.node_core.specs.Held.{IsWithin};
-    ghost use Rattle.node_core.specs.Joining.{join_by, let_in, admission_held, kill_one, put_names, IsWelcomeTo};
-    ghost use Rattle.node_core.specs.Seen.{node_of, unnumbered};
-    ghost use Rattle.node_core.specs.Steps.{Keeps, Makes, Works};
+    ghost use Rattle.node_core.specs.Joining.{join_by, kill_one, put_names, IsAdmitting, IsWelcomeTo};
+    ghost use Rattle.node_core.specs.Seen.{node_of};
+    ghost use Rattle.node_events.specs.Seen.{unnumbered};
+    ghost use Rattle.node_core.specs.Steps.{Keeps, Makes};
 
     /// The number of the join that waits for a contact, if one does.
     fn join_by(&self, contact: &NodeName) -> Option<u32>
@@ -140,7 +143,7 @@ impl<N: Names<Memory = Global>> NodeCore<N> {
             return turn.send(from.copy(), Letter::JoinRefused);
         }
         self.registrar
-            .enqueue(Op::Admission(from.copy(), copied(pairs)?))
+            .enqueue(Op::Admission(from.copy(), copied_pairs(pairs)?))
     }
 
     /// A join by the node that says so is refused.
@@ -170,7 +173,8 @@ impl<N: Names<Memory = Global>> NodeCore<N> {
         requires current { IsTrue (is_some self.old.registrar.current) }
         requires joiner { set_of self.old.world joiner ≡ true }
         requires within { IsWithin self.old.world asked }
-        ensures turn { OnOk result (Works (λ op n a. let_in n a op joiner (set_of asked) settled.now) self.old turn.old self.new turn.new) }
+        ensures turn { (pairs : Table) → IsAdmitting self.old joiner pairs
+            → OnOk result (Makes (λ n a. admit n a unnumbered joiner pairs (set_of asked) settled.now) self.old turn.old self.new turn.new) }
         ensures kept { Keeps self.old self.new }
     {
         let alloc = *self.entered.allocator();
@@ -206,7 +210,8 @@ impl<N: Names<Memory = Global>> NodeCore<N> {
         requires current { IsTrue (is_some self.old.registrar.current) }
         requires joiner { set_of self.old.world joiner ≡ true }
         requires within { IsWithin self.old.world asked }
-        ensures turn { OnOk result (Works (λ op n a. admission_held n a op joiner (set_of asked) settled.now) self.old turn.old self.new turn.new) }
+        ensures turn { (pairs : Table) → IsAdmitting self.old joiner pairs → settled.now ≡ settle self.old.table pairs
+            → OnOk result (Makes (λ n a. held n a unnumbered (AnyOp.Admission joiner pairs) (set_of asked)) self.old turn.old self.new turn.new) }
         ensures kept { Keeps self.old self.new }
     {
         if self.told.contains(&joiner) {

@@ -2,11 +2,10 @@
 ghost use Rattle.std.specs.Prelude.{◌≡◌, ℕ, ◌&&◌, ◌||◌, ◌==◌, not, OnOk};
 ghost use Rattle.term.specs.NodeSets.{set_of};
 
-use crate::events::{Entry, Letter};
 use crate::node::{NodeCore, Phase};
-use crate::turn::Turn;
 use lock_calls::CallPhase;
 use name_table::Names;
+use node_events::{Entry, Letter, Turn};
 use std::alloc::{AllocError, Global};
 use term::{NodeName, NodeSet, Pid};
 
@@ -37,7 +36,7 @@ impl<N: Names<Memory = Global>> NodeCore<N> {
     ghost use Rattle.protocol_model.specs.Node.{call_of};
     ghost use Rattle.protocol_model.specs.Reading.{told_of, lose_current, bereave};
     ghost use Rattle.node_core.specs.Locking.{loss_of};
-    ghost use Rattle.node_core.specs.Seen.{unnumbered};
+    ghost use Rattle.node_events.specs.Seen.{unnumbered};
     ghost use Rattle.node_core.specs.Steps.{IsOther, Keeps, Makes};
 
     /// The node leaves: it says so to every other node of the world.

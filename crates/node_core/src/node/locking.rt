@@ -1,11 +1,10 @@
 //! The rules of clients' lock calls: each call of a process of this node has rounds of its own.
-use crate::events::{Letter, Reply};
 use crate::node::NodeCore;
-use crate::turn::Turn;
 use boss_order::{boss, common};
 use lock_calls::{CallPhase, LockCall};
 use locker::{Ending, Round};
 use name_table::Names;
+use node_events::{Letter, Reply, Turn};
 use std::alloc::{AllocError, Global};
 use term::{NodeName, NodeSet, Pid};
 use transaction::Nodes;
@@ -24,7 +23,7 @@ impl<N: Names<Memory = Global>> NodeCore<N> {
     ghost use Rattle.transaction.specs.Calls.{target_of};
     ghost use Rattle.node_core.specs.Held.{IsWithin, IsCallWithin, IsOwnCall};
     ghost use Rattle.node_core.specs.Locking.{retry_of};
-    ghost use Rattle.node_core.specs.Letters.{letter_of};
+    ghost use Rattle.node_events.specs.Letters.{letter_of};
     ghost use Rattle.node_core.specs.Steps.{Keeps, Makes};
 
     /// The call of a process, if it has one. It takes no memory.

@@ -5,12 +5,11 @@ ghost use Rattle.name_table.specs.Changes.{change_of};
 ghost use Rattle.exit_watch.specs.Held.{AreSuspected, KeepsSuspects};
 ghost use Rattle.node_core.specs.Seen.{is_granted};
 
-use crate::events::Letter;
 use crate::node::NodeCore;
-use crate::turn::Turn;
 use exit_watch::Watch;
 use lock_table::Verdict;
 use name_table::{Change, Names};
+use node_events::{Letter, Turn};
 use std::alloc::{AllocError, Global};
 use term::{LockId, NodeName, Pid};
 
@@ -43,9 +42,9 @@ impl<N: Names<Memory = Global>> NodeCore<N> {
     ghost use Rattle.protocol_model.specs.Reading.{judge, hear, take_back, read, receive};
     ghost use Rattle.lock_table.specs.Ids.{id_of};
     ghost use Rattle.term.specs.NodeSets.{set_of};
-    ghost use Rattle.node_core.specs.Letters.{letter_of};
-    ghost use Rattle.node_core.specs.Made.{Made};
-    ghost use Rattle.node_core.specs.Seen.{unnumbered};
+    ghost use Rattle.node_events.specs.Letters.{letter_of};
+    ghost use Rattle.node_events.specs.Made.{Made};
+    ghost use Rattle.node_events.specs.Seen.{unnumbered};
     ghost use Rattle.node_core.specs.Steps.{IsSaidBy, Keeps, Makes};
 
     /// The lock table answers a node that asks for a grant.

@@ -1,10 +1,9 @@
 //! The rules of the registrar, which runs its operations one at a time, each under the global lock.
-use crate::events::{Answer, Entry, Letter, Reply};
 use crate::node::leaving::except;
 use crate::node::{NodeCore, Phase};
-use crate::turn::Turn;
 use exchange::settle;
 use name_table::{Change, Names};
+use node_events::{Answer, Entry, Letter, Reply, Turn};
 use std::alloc::{AllocError, Global};
 use std::mem;
 use term::{LockId, NodeName, NodeSet, Pid};
@@ -22,8 +21,8 @@ impl<N: Names<Memory = Global>> NodeCore<N> {
     ghost use Rattle.transaction.specs.declared.op.Op.TheVariants.{Name as NameOp, Strike};
     ghost use Rattle.transaction.specs.Ops.{name_call_of, op_of};
     ghost use Rattle.node_core.specs.Held.{IsWithin};
-    ghost use Rattle.node_core.specs.Letters.{letter_of};
-    ghost use Rattle.node_core.specs.Seen.{reply_of, unnumbered};
+    ghost use Rattle.node_events.specs.Letters.{letter_of};
+    ghost use Rattle.node_events.specs.Seen.{reply_of, unnumbered};
     ghost use Rattle.node_core.specs.Steps.{Keeps, Makes, Works};
 
     /// The registrar, as the holder of its lock.

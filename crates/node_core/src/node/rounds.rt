@@ -1,11 +1,10 @@
 //! The rounds of the registrar: the lock is asked for, first of the boss and then of the rest.
-use crate::events::Letter;
 use crate::node::leaving::except;
 use crate::node::{NodeCore, Phase};
-use crate::turn::Turn;
 use boss_order::boss;
 use locker::{Ending, Round};
 use name_table::Names;
+use node_events::{Letter, Turn};
 use std::alloc::{AllocError, Global};
 use term::NodeName;
 use transaction::Op;
@@ -18,8 +17,8 @@ impl<N: Names<Memory = Global>> NodeCore<N> {
     ghost use Rattle.locker.specs.Held.{Held as HeldRound, seen};
     ghost use Rattle.node_core.specs.declared.node.Phase.TheVariants.{Asking};
     ghost use Rattle.node_core.specs.Held.{IsWithin};
-    ghost use Rattle.node_core.specs.Letters.{letter_of};
-    ghost use Rattle.node_core.specs.Seen.{unnumbered};
+    ghost use Rattle.node_events.specs.Letters.{letter_of};
+    ghost use Rattle.node_events.specs.Seen.{unnumbered};
     ghost use Rattle.node_core.specs.Steps.{Keeps, Makes, Works};
 
     /// A round over the members begins: the boss is asked.

@@ -1,5 +1,5 @@
 use Rattle.std.proofs.lemmas.Result.{on_ok_weaker}
-use Rattle.node_core.specs.Seen.{unnumbered}
+use Rattle.node_events.specs.Seen.{unnumbered}
 use Rattle.node_core.proofs.Leaving.{bereaves}
 use Rattle.node_core.proofs.node.NodeCore.bereave.Goals as goal
 

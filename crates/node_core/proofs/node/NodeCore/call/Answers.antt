@@ -1,6 +1,6 @@
 use Rattle.std.proofs.Common.{refl, ap, subst, ◌∙◌}
-use Rattle.node_core.specs.declared.events.Call.TheVariants.{Whereis, Register, ReRegister, Unregister}
-use Rattle.node_core.specs.Seen.{call_of}
+use Rattle.node_events.specs.declared.events.Call.TheVariants.{Whereis, Register, ReRegister, Unregister}
+use Rattle.node_events.specs.Seen.{call_of}
 use Rattle.node_core.specs.Steps.{IsAskedWithin}
 use Rattle.node_core.proofs.Calls.{calls, sets, deletes}
 use Rattle.node_core.proofs.node.NodeCore.call.Goals.{in-Spawn+in_ok-spawn-in-Spawn, in-Whereis+in_ok-look_up-in-Whereis, in-RegisteredNames+in_ok-look_up-in-RegisteredNames, in-Register+in_ok-enqueue-in-Register, in-ReRegister+in_ok-enqueue-in-ReRegister, in-Unregister+in_ok-enqueue-in-Unregister, in-SetLock+in_ok-try_lock-in-SetLock, in-DelLock+in_ok-delete_lock-in-DelLock, in-Join+in_ok-enqueue_join-in-Join}

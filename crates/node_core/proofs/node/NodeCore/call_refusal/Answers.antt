@@ -1,8 +1,8 @@
 use Rattle.std.proofs.Common.{[], ◌∷◌, sym, ap, ◌∙◌}
 use Rattle.protocol_model.specs.Event.{lock_causes, calls_spent}
 use Rattle.transaction.specs.Calls.{retries_of}
-use Rattle.node_core.specs.declared.events.Event.TheVariants.{Call as Calls}
-use Rattle.node_core.specs.declared.events.Call.{Call}
+use Rattle.node_events.specs.declared.events.Event.TheVariants.{Call as Calls}
+use Rattle.node_events.specs.declared.events.Call.{Call}
 use Rattle.node_core.specs.Seen.{node_of}
 use Rattle.node_core.specs.Steps.{refusal_of, cause_of}
 use Rattle.node_core.proofs.LockRefusals.{faults_next}

@@ -3,7 +3,7 @@ use Rattle.std.specs.Option.{option_map}
 use Rattle.std.proofs.lemmas.Result.{on_ok_weaker}
 use Rattle.term.specs.NodeSets.{set_of}
 use Rattle.node_core.specs.Held.{Held}
-use Rattle.node_core.specs.Seen.{reply_of}
+use Rattle.node_events.specs.Seen.{reply_of}
 use Rattle.node_core.proofs.Rules.{does}
 use Rattle.node_core.proofs.node.NodeCore.done.Goals as goal
 

@@ -6,7 +6,7 @@ use Rattle.term.specs.NodeSets.{set_of}
 use Rattle.locker.specs.Held.{seen}
 use Rattle.locker.specs.Ends.{EndsAs}
 use Rattle.node_core.specs.Held.{Held, IsWhole}
-use Rattle.node_core.specs.Seen.{unnumbered}
+use Rattle.node_events.specs.Seen.{unnumbered}
 use Rattle.node_core.proofs.Rounds.{goes_on, ends_held, ends_failed, granted_within, round_within}
 use Rattle.node_core.proofs.node.NodeCore.end_round.Goals as goal
 

@@ -1,5 +1,5 @@
 use Rattle.std.proofs.lemmas.Result.{on_ok_weaker}
-use Rattle.node_core.specs.Seen.{unnumbered}
+use Rattle.node_events.specs.Seen.{unnumbered}
 use Rattle.node_core.proofs.Reading.{hears_own, hears_other}
 use Rattle.node_core.proofs.node.NodeCore.hear.Goals as goal
 

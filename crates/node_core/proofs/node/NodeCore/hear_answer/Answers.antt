@@ -6,7 +6,8 @@ use Rattle.protocol_model.specs.Registrar.{ask_rest}
 use Rattle.locker.specs.Held.{Held as HeldRound, seen}
 use Rattle.node_core.specs.declared.node.Phase.TheVariants.{Asking}
 use Rattle.node_core.specs.Held.{Held, bound_of}
-use Rattle.node_core.specs.Seen.{unnumbered, turn_of}
+use Rattle.node_core.specs.Seen.{turn_of}
+use Rattle.node_events.specs.Seen.{unnumbered}
 use Rattle.node_core.proofs.Locking.{made_as}
 use Rattle.node_core.proofs.Rounds.{hears, one_round}
 use Rattle.node_core.proofs.node.NodeCore.hear_answer.Goals as goal

@@ -11,11 +11,11 @@ welcome_of-requires g c =
     (subst (λ (h : Held). set_of h.world c.args.joiner ≡ true) (sym c.self.view_is) c.requires.joiner)
 
 pub returns-clause-turn : goal.returns-clause-turn
-returns-clause-turn g c =
+returns-clause-turn g c = λ pairs admitting.
     lets_in _ c.args.self.now c.args.turn.now c.enter.new.self c.send_all.new.self c.send.new.self c.await_from.new.self
     c.args.asked c.and_one.result c.copy-2.result c.args.joiner c.copy.result c.copy-3.result _ _ c.args.settled.now
-    c.self.view_is c.self.invariant
+    pairs c.self.view_is c.self.invariant
     (subst (λ (h : Held). set_of h.world c.args.joiner ≡ true) (sym c.self.view_is) c.requires.joiner)
     c.send_all.ensures.set c.and_one.ensures c.await_from.ensures c.copy.ensures c.copy-2.ensures c.in_ok-enter.ensures
     c.in_ok-admission.ensures c.in_ok-send_all.ensures.letters c.in_ok-welcome.ensures.letter c.copy-3.ensures
-    c.in_ok-send.ensures
+    c.in_ok-send.ensures admitting

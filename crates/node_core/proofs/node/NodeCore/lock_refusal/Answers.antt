@@ -2,7 +2,7 @@ use Rattle.std.proofs.Common.{Bool, sym, ap, ◌∙◌}
 use Rattle.std.specs.Option.{is_some}
 use Rattle.std.specs.Bool.{then_some}
 use Rattle.lock_calls.specs.Calls.{as_call}
-use Rattle.node_core.specs.declared.events.StepFault.TheVariants.{Reserved}
+use Rattle.node_events.specs.declared.events.StepFault.TheVariants.{Reserved}
 use Rattle.node_core.specs.Steps.{cause_of}
 use Rattle.node_core.proofs.LockRefusals.{reserves, is_found}
 use Rattle.node_core.proofs.node.NodeCore.lock_refusal.Goals as goal

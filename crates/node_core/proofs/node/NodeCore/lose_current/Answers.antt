@@ -2,7 +2,7 @@ use Rattle.std.proofs.Common.{ap, sym, refl, ◌∙◌}
 use Rattle.std.proofs.lemmas.Result.{on_ok_weaker}
 use Rattle.node_core.specs.declared.node.Phase.TheVariants.{Asking}
 use Rattle.node_core.specs.Held.{Held}
-use Rattle.node_core.specs.Seen.{unnumbered}
+use Rattle.node_events.specs.Seen.{unnumbered}
 use Rattle.node_core.proofs.Rounds.{loses}
 use Rattle.node_core.proofs.node.NodeCore.lose_current.Goals as goal
 

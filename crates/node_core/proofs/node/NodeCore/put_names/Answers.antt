@@ -3,7 +3,7 @@ use Rattle.registry_model.specs.Table.{Table}
 use Rattle.protocol_model.specs.Turn.{with_replica}
 use Rattle.node_core.specs.Joining.{put_names}
 use Rattle.node_core.specs.Steps.{Makes}
-use Rattle.node_core.specs.Made.{nothing}
+use Rattle.node_events.specs.Made.{nothing}
 use Rattle.node_core.proofs.Joining.{puts_next}
 use Rattle.node_core.proofs.node.NodeCore.put_names.Goals as goal
 

@@ -1,6 +1,6 @@
 use Rattle.std.proofs.Common.{take}
 use Rattle.protocol_model.specs.Turn.{with_replica}
-use Rattle.node_core.specs.Made.{Made}
+use Rattle.node_events.specs.Made.{Made}
 use Rattle.node_core.specs.Joining.{put_names}
 use Rattle.node_core.specs.Steps.{Makes}
 use Rattle.node_core.proofs.node.NodeCore.put_names.Given as goal

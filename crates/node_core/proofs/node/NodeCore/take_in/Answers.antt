@@ -1,7 +1,7 @@
 use Rattle.std.proofs.Common.{sym, subst}
 use Rattle.node_core.specs.Held.{Held}
 use Rattle.node_core.specs.Steps.{IsOther}
-use Rattle.node_core.specs.Seen.{unnumbered}
+use Rattle.node_events.specs.Seen.{unnumbered}
 use Rattle.node_core.proofs.Leaving.{whole_told, takes_in}
 use Rattle.node_core.proofs.node.NodeCore.take_in.Goals as goal
 

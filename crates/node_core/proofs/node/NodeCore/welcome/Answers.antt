@@ -4,7 +4,7 @@ use Rattle.registry_model.specs.Process.{Process}
 use Rattle.protocol_model.specs.Calling.{kill}
 use Rattle.node_core.specs.Held.{Held}
 use Rattle.node_core.specs.Joining.{IsWelcomeTo}
-use Rattle.node_core.specs.Seen.{unnumbered}
+use Rattle.node_events.specs.Seen.{unnumbered}
 use Rattle.node_core.specs.Steps.{Makes}
 use Rattle.node_core.proofs.Joining.{welcomes}
 use Rattle.node_core.proofs.node.NodeCore.welcome.Goals as goal

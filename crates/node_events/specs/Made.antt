@@ -1,10 +1,10 @@
 -- What one step has made so far.
 use Rattle.std.specs.Prelude.{ℕ, ◌≡◌, List, [], ◌∷◌, ◌++◌, map}
 use Rattle.protocol_model.specs.Turn.{Send}
-use Rattle.node_core.specs.declared.events.Answer.{Answer}
-use Rattle.node_core.specs.declared.events.Entry.{Entry}
-use Rattle.node_core.specs.declared.events.Letter.{Letter}
-use Rattle.node_core.specs.Letters.{letter_of, send_of}
+use Rattle.node_events.specs.declared.events.Answer.{Answer}
+use Rattle.node_events.specs.declared.events.Entry.{Entry}
+use Rattle.node_events.specs.declared.events.Letter.{Letter}
+use Rattle.node_events.specs.Letters.{letter_of, send_of}
 
 -- the letters with their receivers, the entries and the answers, in order
 pub record Made : Type 0 where

@@ -40,7 +40,7 @@ pub enum Letter {
 }
 
 /// The same pairs, in memory of their own.
-pub(crate) fn copied(pairs: &Vec<Pair>) -> Result<Vec<Pair>, AllocError>
+pub fn copied_pairs(pairs: &Vec<Pair>) -> Result<Vec<Pair>, AllocError>
     ensures { IfOk result (λ copy. copy.items ≡ pairs.now.items) }
 {
     let alloc: Global = *pairs.allocator();
@@ -48,7 +48,7 @@ pub(crate) fn copied(pairs: &Vec<Pair>) -> Result<Vec<Pair>, AllocError>
 }
 
 impl Letter {
-    ghost use Rattle.node_core.specs.Letters.{letter_of};
+    ghost use Rattle.node_events.specs.Letters.{letter_of};
 
     /// The same letter. Only those of joins take memory.
     pub fn copy(&self) -> Result<Self, AllocError>
@@ -64,7 +64,7 @@ impl Letter {
             Letter::ReleaseOf(holder) => Letter::ReleaseOf(holder.copy()),
             Letter::Apply(change) => Letter::Apply(change.copy()),
             Letter::Applied => Letter::Applied,
-            Letter::JoinAsk(pairs) => Letter::JoinAsk(copied(pairs)?),
+            Letter::JoinAsk(pairs) => Letter::JoinAsk(copied_pairs(pairs)?),
             Letter::JoinRefused => Letter::JoinRefused,
             Letter::Admit(admission) => Letter::Admit(admission.copy()?),
             Letter::Welcome(welcome) => Letter::Welcome(welcome.copy()?),
@@ -156,7 +156,7 @@ pub enum Reply {
 
 impl Reply {
     ghost use Rattle.std.specs.Prelude.{IfOk};
-    ghost use Rattle.node_core.specs.Seen.{reply_of};
+    ghost use Rattle.node_events.specs.Seen.{reply_of};
 
     /// The same reply. Only a list of names takes memory.
     pub fn copy(&self) -> Result<Self, AllocError>
@@ -258,7 +258,7 @@ pub enum StepFault {
 }
 
 impl From<AllocError> for StepFault {
-    ghost use Rattle.node_core.specs.declared.events.StepFault.{StepFault};
+    ghost use Rattle.node_events.specs.declared.events.StepFault.{StepFault};
 
     ghost from_gives = { λ _ fault. fault ≡ StepFault.Memory };
 
@@ -268,7 +268,7 @@ impl From<AllocError> for StepFault {
 }
 
 impl From<WatchFault> for StepFault {
-    ghost use Rattle.node_core.specs.Seen.{step_fault_of};
+    ghost use Rattle.node_events.specs.Seen.{step_fault_of};
 
     ghost from_gives = { λ cause fault. fault ≡ step_fault_of cause };
 

@@ -12,7 +12,7 @@ pub struct NameList {
 
 impl NameList {
     /// These names.
-    pub(crate) fn new(names: Vec<Name>) -> Self
+    pub fn new(names: Vec<Name>) -> Self
         ensures { result.names.items ≡ names.items }
     {
         NameList { names }

@@ -8,14 +8,17 @@ use term::{NodeName, NodeSet};
 
 /// What one step of a node has made so far: the letters that it sends, its entries of the history, and its answers, in order.
 #[derive(Drop)]
-pub(crate) struct Turn {
-    pub(crate) letters: Vec<(NodeName, Letter)>,
-    pub(crate) entries: Vec<Entry>,
-    pub(crate) answers: Vec<Answer>,
+pub struct Turn {
+    /// The letters, each with its receiver.
+    pub letters: Vec<(NodeName, Letter)>,
+    /// What is entered into the history.
+    pub entries: Vec<Entry>,
+    /// The answers to calls.
+    pub answers: Vec<Answer>,
 }
 
 impl Model for Turn {
-    ghost use Rattle.node_core.specs.Made.{Made};
+    ghost use Rattle.node_events.specs.Made.{Made};
 
     ghost Value = { Made };
 
@@ -24,10 +27,10 @@ impl Model for Turn {
 
 impl Turn {
     ghost use Rattle.term.specs.NodeSets.{IsNodeSet};
-    ghost use Rattle.node_core.specs.Made.{nothing, sent, SendsAll, entered, answered};
+    ghost use Rattle.node_events.specs.Made.{nothing, sent, SendsAll, entered, answered};
 
     /// Nothing is made yet.
-    pub(crate) fn begin(alloc: Global) -> Self
+    pub fn begin(alloc: Global) -> Self
         ensures { result ≡ nothing }
     {
         Turn {
@@ -38,7 +41,7 @@ impl Turn {
     }
 
     /// A letter to a node.
-    pub(crate) fn send(&mut self, to: NodeName, letter: Letter) -> Result<(), AllocError>
+    pub fn send(&mut self, to: NodeName, letter: Letter) -> Result<(), AllocError>
         ensures { OnOk result (self.new ≡ sent to letter self.old) }
     {
         self.letters.push((to, letter))?;
@@ -46,7 +49,7 @@ impl Turn {
     }
 
     /// A letter to each of these nodes, in their order.
-    pub(crate) fn send_all(&mut self, nodes: &NodeSet, letter: &Letter) -> Result<(), AllocError>
+    pub fn send_all(&mut self, nodes: &NodeSet, letter: &Letter) -> Result<(), AllocError>
         ensures letters { OnOk result (SendsAll nodes.now letter.now self.old self.new) }
         ensures set { IsNodeSet nodes.now }
     {
@@ -57,7 +60,7 @@ impl Turn {
     }
 
     /// An entry of the history.
-    pub(crate) fn enter(&mut self, entry: Entry) -> Result<(), AllocError>
+    pub fn enter(&mut self, entry: Entry) -> Result<(), AllocError>
         ensures { OnOk result (self.new ≡ entered entry self.old) }
     {
         self.entries.push(entry)?;
@@ -65,7 +68,7 @@ impl Turn {
     }
 
     /// An answer to a call.
-    pub(crate) fn answer(&mut self, answer: Answer) -> Result<(), AllocError>
+    pub fn answer(&mut self, answer: Answer) -> Result<(), AllocError>
         ensures { OnOk result (self.new ≡ answered answer self.old) }
     {
         self.answers.push(answer)?;

@@ -5,8 +5,21 @@ use Rattle.protocol_model.specs.Turn.{Send}
 use Rattle.name_table.specs.Changes.{change_of}
 use Rattle.lock_table.specs.Ids.{id_of}
 use Rattle.exchange.specs.Bodies.{admit_letter, welcome_letter}
-use Rattle.node_core.specs.declared.events.Letter.{Letter}
-use Rattle.node_core.specs.declared.events.Letter.TheVariants.{SetLock, LockAnswer, GiveBack, GivenBack, ReleaseOf, Apply, Applied, JoinAsk, JoinRefused, Admit, Welcome, Down}
+use Rattle.node_events.specs.declared.events.Letter.{Letter}
+use Rattle.node_events.specs.declared.events.Letter.TheVariants.{
+  SetLock,
+  LockAnswer,
+  GiveBack,
+  GivenBack,
+  ReleaseOf,
+  Apply,
+  Applied,
+  JoinAsk,
+  JoinRefused,
+  Admit,
+  Welcome,
+  Down,
+}
 
 abbrev pub letter_of : Letter → AnyLetter
 letter_of (SetLock id p) = AnyLetter.SetLock (id_of id) p

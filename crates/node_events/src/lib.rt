@@ -1,0 +1,10 @@
+//! What may happen at a node, what it says to other nodes, what it answers, and what it enters into the history.
+#![tactic(auto)]
+
+mod events;
+mod name_list;
+mod turn;
+
+pub use events::{Answer, Call, Entry, Event, Letter, Look, Reply, StepFault, copied_pairs};
+pub use name_list::NameList;
+pub use turn::Turn;
