@@ -22,8 +22,8 @@ use Rattle.client_locks.proofs.Tries.{Fits}
 use Rattle.client_locks.proofs.Walking.{event_keeps, run_state, opening_state}
 use Rattle.headline.proofs.Together.{All}
 use Rattle.headline.proofs.Theorem.{calls_are_answered_once}
-use Rattle.node_core.specs.declared.events.Answer.{Answer}
-use Rattle.node_core.specs.Seen.{answer_of}
+use Rattle.node_events.specs.declared.events.Answer.{Answer}
+use Rattle.node_events.specs.Seen.{answer_of}
 use Rattle.cluster_world.specs.declared.events.WorldEvent.{WorldEvent}
 use Rattle.cluster_world.specs.Held.{Held}
 use Rattle.cluster_world.specs.Seen.{opening_of, seen}

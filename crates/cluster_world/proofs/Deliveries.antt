@@ -8,8 +8,8 @@ use Rattle.term.specs.NodeSets.{set_of}
 use Rattle.link.specs.Faults.{joins}
 use Rattle.link.specs.Held.{place, WaitsFirst, seen as links_of}
 use Rattle.link.proofs.Places.{queue-stranger}
-use Rattle.node_core.specs.declared.events.Letter.{Letter}
-use Rattle.node_core.specs.Letters.{letter_of}
+use Rattle.node_events.specs.declared.events.Letter.{Letter}
+use Rattle.node_events.specs.Letters.{letter_of}
 use Rattle.cluster_world.specs.Held.{Held, IsWhole}
 use Rattle.cluster_world.specs.Playing.{WaitsOn}
 use Rattle.cluster_world.specs.Seen.{opening_of, seen}

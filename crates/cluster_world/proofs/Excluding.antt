@@ -4,7 +4,7 @@ use Rattle.std.specs.Prelude.{IsTrue, is_none, is_some, not, ◌&&◌, ◌||◌,
 use Rattle.std.proofs.lemmas.Bool.{and_parts}
 use Rattle.headline.proofs.Clients.{exclusion}
 use Rattle.registry_model.specs.Process.{Process}
-use Rattle.node_core.specs.declared.events.Answer.{Answer}
+use Rattle.node_events.specs.declared.events.Answer.{Answer}
 use Rattle.protocol_model.specs.ClientLocks.{Tally, tally_from, tally_after, last_try, is_won, is_gone, gives, Holds}
 use Rattle.protocol_model.specs.Event.{Refusal as AnyRefusal}
 use Rattle.protocol_model.specs.Letter.{Id, is_id}

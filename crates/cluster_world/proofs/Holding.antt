@@ -7,7 +7,7 @@ use Rattle.protocol_model.specs.Node.{Node, holds_global}
 use Rattle.protocol_model.specs.World.{holder, left}
 use Rattle.link.specs.Held.{Held as Mesh, place}
 use Rattle.link.proofs.Places.{place-get_or}
-use Rattle.node_core.specs.declared.events.Letter.{Letter}
+use Rattle.node_events.specs.declared.events.Letter.{Letter}
 use Rattle.node_core.specs.Held.{Held as Core}
 use Rattle.node_core.specs.Seen.{node_of}
 use Rattle.cluster_world.specs.Held.{Held, IsWhole}

@@ -17,14 +17,15 @@ use Rattle.link.specs.Faults.{joins, IsUndelivered, IsNotClosed}
 use Rattle.link.specs.Held.{Held as Mesh, place, has, closed_at, seen as links_of}
 use Rattle.link.specs.declared.faults.LinkFault.{LinkFault}
 use Rattle.link.specs.declared.faults.LinkFault.TheVariants as on_link
-use Rattle.node_core.specs.declared.events.Answer.{Answer}
-use Rattle.node_core.specs.declared.events.Call.TheVariants.{Spawn, Whereis, RegisteredNames, Register, ReRegister, Unregister, SetLock, DelLock, Join as JoinBy}
-use Rattle.node_core.specs.declared.events.Call.{Call as ClientCall}
-use Rattle.node_core.specs.declared.events.Event.TheVariants.{FromPeer}
-use Rattle.node_core.specs.declared.events.Letter.{Letter}
+use Rattle.node_events.specs.declared.events.Answer.{Answer}
+use Rattle.node_events.specs.declared.events.Call.TheVariants.{Spawn, Whereis, RegisteredNames, Register, ReRegister, Unregister, SetLock, DelLock, Join as JoinBy}
+use Rattle.node_events.specs.declared.events.Call.{Call as ClientCall}
+use Rattle.node_events.specs.declared.events.Event.TheVariants.{FromPeer}
+use Rattle.node_events.specs.declared.events.Letter.{Letter}
 use Rattle.node_core.specs.Held.{Held as Core, bound_of}
-use Rattle.node_core.specs.Letters.{letter_of}
-use Rattle.node_core.specs.Seen.{node_of, answer_of}
+use Rattle.node_events.specs.Letters.{letter_of}
+use Rattle.node_core.specs.Seen.{node_of}
+use Rattle.node_events.specs.Seen.{answer_of}
 use Rattle.node_core.specs.Steps.{IsTurn, IsSaidBy, IsAskedWithin, IsHeardWithin, refusal_of as node_refusal}
 use Rattle.cluster_world.specs.declared.events.Event.{Event}
 use Rattle.cluster_world.specs.declared.events.Event.TheVariants.{Call, Retry, Exit, Leave}

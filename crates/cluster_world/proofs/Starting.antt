@@ -15,9 +15,9 @@ use Rattle.protocol_model.specs.World.{in_world, in_cluster, opening_world}
 use Rattle.term.specs.NodeSets.{set_of, with_node, IsNodeSet}
 use Rattle.boss_order.proofs.Sets.{set_of-append}
 use Rattle.link.specs.Held.{Held as Mesh, seen as links_of}
-use Rattle.node_core.specs.declared.events.Letter.{Letter}
+use Rattle.node_events.specs.declared.events.Letter.{Letter}
 use Rattle.node_core.specs.Held.{Held as Core, fresh, IsWithin}
-use Rattle.node_core.specs.Letters.{letter_of}
+use Rattle.node_events.specs.Letters.{letter_of}
 use Rattle.node_core.specs.Seen.{node_of}
 use Rattle.node_core.specs.Steps.{IsSaidBy}
 use Rattle.cluster_world.specs.Links.{mapped, AreFit}

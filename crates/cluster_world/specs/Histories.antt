@@ -4,7 +4,8 @@ use Rattle.registry_model.specs.History.{Entry as AnyEntry}
 use Rattle.protocol_model.specs.World.{number_in}
 use Rattle.transaction.specs.Ops.{name_call_of}
 use Rattle.node_core.specs.Held.{Held as Core}
-use Rattle.node_core.specs.Seen.{node_of, look_of, reply_of}
+use Rattle.node_core.specs.Seen.{node_of}
+use Rattle.node_events.specs.Seen.{look_of, reply_of}
 use Rattle.cluster_world.specs.declared.history.HistoryEntry.{HistoryEntry}
 use Rattle.cluster_world.specs.declared.history.HistoryEntry.TheVariants.{Name, Strike, Join, Done, Exit, Left, Told, Read}
 use Rattle.cluster_world.specs.Cores.{core_of}

@@ -5,9 +5,9 @@ use Rattle.registry_model.specs.Call.{Reply as AnyReply, True, False}
 use Rattle.protocol_model.specs.Event.{Event as AnyEvent, Answer as AnyAnswer}
 use Rattle.protocol_model.specs.World.{Opening, World, WorldEvent as AnyWorldEvent, refusal, happens, answers, run, all_answers, next_delivery}
 use Rattle.transaction.specs.declared.reply.LockReply.{LockReply}
-use Rattle.node_core.specs.declared.events.Answer.{Answer}
-use Rattle.node_core.specs.declared.events.Call.{Call}
-use Rattle.node_core.specs.Seen.{answer_of, call_of}
+use Rattle.node_events.specs.declared.events.Answer.{Answer}
+use Rattle.node_events.specs.declared.events.Call.{Call}
+use Rattle.node_events.specs.Seen.{answer_of, call_of}
 use Rattle.cluster_world.specs.declared.events.Event.TheVariants.{Call as Calls}
 use Rattle.cluster_world.specs.declared.events.Refusal.TheVariants.{Memory}
 use Rattle.cluster_world.specs.declared.events.WorldEvent.{WorldEvent}

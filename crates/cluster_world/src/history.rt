@@ -1,13 +1,17 @@
 //! The history of a world.
-ghost use Rattle.std.specs.Prelude.{◌≡◌, ◌++◌, map, OnOk, IfOk};
-ghost use Rattle.node_core.specs.Seen.{entry_by};
+ghost use Rattle.std.specs.Prelude.{◌≡◌, [], ◌++◌, map, OnOk, IfOk};
+ghost use Rattle.node_events.specs.Seen.{entry_by};
 ghost use Rattle.cluster_world.specs.Cores.{core_of};
 ghost use Rattle.cluster_world.specs.Histories.{entry_of, number_of, number_at};
+ghost use Rattle.cluster_world.specs.Kept.{entry_in};
 
+use crate::keeper::Keeper;
+use crate::kept::{Kept, KeptEntry, KeptReply};
 use name_table::Names;
 use node_core::{Entry, Look, NameCall, NodeCore, Reply};
 use std::alloc::{AllocError, Global};
-use term::{NodeName, Pid};
+use std::marker::Model;
+use term::{NodeName, NodeSet, Pid};
 
 /// An entry of a world's history. They stand in the order in which operations took effect.
 #[derive(Debug, PartialEq, Eq, Drop)]
@@ -58,65 +62,93 @@ fn number_at<N: Names<Memory = Global>>(
     }
 }
 
-/// The same look-up. It takes no memory.
-fn look_copy(look: &Look) -> Look
-    ensures { result ≡ look.now }
-{
-    match look {
-        Look::Whereis(name) => Look::Whereis(name.copy()),
-        Look::RegisteredNames => Look::RegisteredNames,
-    }
-}
-
-/// What the node `stepped` entered, which had the join `own` before its step, as the history has it: where it decided a join of
-/// another node, that node knows the number. Only a list of names takes memory.
+/// Keeps what the node `stepped` entered, which had the join `own` before its step: where it decided a join of another node,
+/// that node knows the number.
 fn numbered<N: Names<Memory = Global>>(
+    keeper: &Keeper,
     entry: &Entry,
     cores: &[NodeCore<N>],
     stepped: &NodeName,
     own: u32,
-) -> Result<HistoryEntry, AllocError>
-    ensures { IfOk result (λ numbered. entry_of numbered ≡ entry_by (number_at cores.now stepped.now own) entry.now) }
+) -> Result<Kept, AllocError>
+    ensures { IfOk result (λ kept. entry_of (entry_in kept) ≡ entry_by (number_at cores.now stepped.now own) entry.now) }
 {
     Ok(match entry {
-        Entry::Name(node, call, name_call, reply) => {
-            HistoryEntry::Name(node.copy(), *call, name_call.copy(), reply.copy()?)
+        Entry::Name(node, number, call, reply) => keeper.decision(node, *number, call, reply)?,
+        Entry::Strike(process) => Kept::Strike(keeper.process(process)?),
+        Entry::Exit(process) => Kept::Exit(keeper.process(process)?),
+        Entry::Done(node) => Kept::Done(keeper.node(node)?),
+        Entry::Left(node) => Kept::Left(keeper.node(node)?),
+        Entry::Told(node, gone) => Kept::Told(keeper.node(node)?, keeper.node(gone)?),
+        Entry::Read(node, Look::Whereis(name), reply) => {
+            Kept::Whereis(keeper.node(node)?, keeper.name(name)?, keeper.reply(reply)?)
         }
-        Entry::Strike(process) => HistoryEntry::Strike(process.copy()),
-        Entry::Exit(process) => HistoryEntry::Exit(process.copy()),
-        Entry::Done(node) => HistoryEntry::Done(node.copy()),
-        Entry::Left(node) => HistoryEntry::Left(node.copy()),
-        Entry::Told(node, gone) => HistoryEntry::Told(node.copy(), gone.copy()),
-        Entry::Read(node, look, reply) => {
-            HistoryEntry::Read(node.copy(), look_copy(look), reply.copy()?)
+        Entry::Read(node, Look::RegisteredNames, reply) => {
+            Kept::RegisteredNames(keeper.node(node)?, keeper.reply(reply)?)
         }
         Entry::Joined(joiner, contact) => {
             let number = number_at(cores, stepped, own, joiner);
-            HistoryEntry::Join(joiner.copy(), number, contact.copy(), Reply::Joined)
+            keeper.join(joiner, number, contact, KeptReply::Joined)?
         }
         Entry::NotMember(joiner, contact) => {
             let number = number_at(cores, stepped, own, joiner);
-            HistoryEntry::Join(joiner.copy(), number, contact.copy(), Reply::NotMember)
+            keeper.join(joiner, number, contact, KeptReply::NotMember)?
         }
         Entry::ContactLeft(joiner, number, contact) => {
-            HistoryEntry::Join(joiner.copy(), *number, contact.copy(), Reply::ContactLeft)
+            keeper.join(joiner, *number, contact, KeptReply::ContactLeft)?
         }
     })
 }
 
-/// Puts what the node `stepped` entered, which had the join `own` before its step, at the end of the history.
-pub(crate) fn enter<N: Names<Memory = Global>>(
-    history: &mut Vec<HistoryEntry>,
-    entries: &[Entry],
-    cores: &[NodeCore<N>],
-    stepped: &NodeName,
-    own: u32,
-) -> Result<(), AllocError>
-    ensures { OnOk result (map entry_of history.new.items
-        ≡ map entry_of history.old.items ++ map (entry_by (number_at cores.now stepped.now own)) entries.now) }
-{
-    for entry in entries {
-        history.push(numbered(entry, cores, stepped, own)?)?;
+/// The history of a world: all entries, the oldest first. Contracts see it as their list.
+#[derive(Drop)]
+pub(crate) struct History {
+    keeper: Keeper,
+    entries: Vec<KeptEntry>,
+}
+
+impl Model for History {
+    ghost use Rattle.std.specs.Prelude.{List};
+    ghost use Rattle.cluster_world.specs.declared.history.HistoryEntry.{HistoryEntry};
+
+    ghost Value = { List HistoryEntry };
+
+    ghost view = { λ h. h.entries.items };
+}
+
+impl History {
+    /// The history of a world of these nodes, without an entry.
+    pub(crate) fn new(alloc: Global, nodes: &NodeSet) -> Result<Self, AllocError>
+        ensures { IfOk result (λ history. history ≡ []) }
+    {
+        Ok(History {
+            keeper: Keeper::new(alloc, nodes)?,
+            entries: Vec::new(alloc),
+        })
     }
-    Ok(())
+
+    /// Its entries.
+    pub(crate) fn as_slice(&self) -> &[KeptEntry]
+        ensures { result.now ≡ self.now }
+    {
+        self.entries.as_slice()
+    }
+
+    /// Puts what the node `stepped` entered, which had the join `own` before its step, at the end.
+    pub(crate) fn enter<N: Names<Memory = Global>>(
+        &mut self,
+        entries: &[Entry],
+        cores: &[NodeCore<N>],
+        stepped: &NodeName,
+        own: u32,
+    ) -> Result<(), AllocError>
+        ensures { OnOk result (map entry_of self.new
+            ≡ map entry_of self.old ++ map (entry_by (number_at cores.now stepped.now own)) entries.now) }
+    {
+        for entry in entries {
+            let kept = numbered(&self.keeper, entry, cores, stepped, own)?;
+            self.entries.push(KeptEntry::new(kept))?;
+        }
+        Ok(())
+    }
 }

@@ -3,6 +3,9 @@
 
 mod events;
 mod history;
+mod keeper;
+mod kept;
+mod kept_name;
 pub mod laws;
 mod post;
 mod seat;
@@ -11,6 +14,7 @@ mod world;
 
 pub use events::{Event, Refusal, RunEnd, StartFault, WorldEvent};
 pub use history::HistoryEntry;
+pub use kept::KeptEntry;
 pub use node_core::{Answer, Call, Look, NameCall, Reply};
 pub use seat::{SeatFault, WorldSeat};
 pub use world::World;

@@ -9,6 +9,7 @@ ghost use Rattle.cluster_world.specs.Excluding.{ExclusionAfter};
 ghost use Rattle.cluster_world.specs.Starting.{repeats, start_refused, start_fault_of, Opens};
 
 use crate::events::StartFault;
+use crate::history::History;
 use crate::world::World;
 use link::Mesh;
 use name_table::Names;
@@ -104,12 +105,13 @@ impl<N: Names<Memory = Global>> World<N> {
         gather(&mut nodes, lone)?;
         let cores = cores_of(alloc, &nodes, &joined)?;
         let links = Mesh::new(alloc, nodes.as_slice())?;
+        let history = History::new(alloc, &nodes)?;
         Ok(World {
             nodes,
             cluster: joined,
             cores,
             links,
-            history: Vec::new(alloc),
+            history,
         })
     }
 }

@@ -7,6 +7,7 @@ use std::fmt::Write;
 use std::test::Fail;
 use term::{LockId, NodeName, parse_name, parse_node, parse_pid, parse_requester, parse_resource};
 
+mod entries;
 mod joins;
 
 type Cluster = World<ListTable<Global>>;
@@ -59,14 +60,15 @@ fn lock(text: &str) -> Result<Call, Fail> {
 fn plain_event(word: &str) -> Result<Event, Fail> {
     Ok(match word {
         "spawn" => Event::Call(Call::Spawn),
+        "registered_names" => Event::Call(Call::RegisteredNames),
         "retry" => Event::Retry,
         "leave" => Event::Leave,
         _ => return Err(Fail::from("no event")),
     })
 }
 
-/// What happens at a node: `spawn`, `whereis NAME`, `register NAME PID`, `re_register NAME PID`,
-/// `lock PID RESOURCE REQUESTER`, `join CONTACT`, `exit PID`, `retry`, or `leave`.
+/// What happens at a node: `spawn`, `registered_names`, `whereis NAME`, `register NAME PID`, `re_register NAME PID`,
+/// `unregister NAME`, `lock PID RESOURCE REQUESTER`, `join CONTACT`, `exit PID`, `retry`, or `leave`.
 fn own_event(text: &str) -> Result<Event, Fail> {
     let Some((kind, rest)) = text.split_once(' ') else {
         return plain_event(text);
@@ -75,6 +77,7 @@ fn own_event(text: &str) -> Result<Event, Fail> {
         "whereis" => Event::Call(Call::Whereis(parse_name(rest)?)),
         "register" | "re_register" => Event::Call(register(kind, rest)?),
         "lock" => Event::Call(lock(rest)?),
+        "unregister" => Event::Call(Call::Unregister(parse_name(rest)?)),
         "join" => Event::Call(Call::Join(parse_node(rest)?)),
         "exit" => Event::Exit(parse_pid(rest)?),
         _ => return Err(Fail::from("no event")),
@@ -186,13 +189,14 @@ fn show_world(text: &mut String, world: &Cluster) -> Result<(), Fail> {
 }
 
 /// What comes of `settle`, of `run` and a list of events, or of one event; what `world` is like, or `node` and a node; the
-/// `table` of a node, its `members`, or all `joins` of the history.
+/// `table` of a node, its `members`, all `joins` of the history, or `history` and the place of the first entry to be shown.
 fn play_words(text: &mut String, world: &mut Cluster, words: &str) -> Result<(), Fail> {
     match words.split_once(' ') {
         Some(("run", events)) => run(text, world, events),
         Some(("node", node)) => show_node(text, world, node),
         Some(("table", node)) => joins::show_table(text, world, node),
         Some(("members", node)) => joins::show_members(text, world, node),
+        Some(("history", from)) => entries::show_history(text, world, from),
         Some(_) => play(text, world, &event(words)?),
         None if words == "settle" => settle(text, world),
         None if words == "joins" => joins::show_joins(text, world),

@@ -3,7 +3,8 @@ ghost use Rattle.std.specs.Prelude.{◌≡◌};
 ghost use Rattle.cluster_world.specs.Seen.{is_holding};
 
 use crate::events::{Event, Refusal, RunEnd, WorldEvent};
-use crate::history::{HistoryEntry, enter};
+use crate::history::History;
+use crate::kept::KeptEntry;
 use crate::post::post;
 use link::Mesh;
 use name_table::Names;
@@ -21,7 +22,7 @@ pub struct World<N: Names> {
     /// The core of each node, in the order of the nodes.
     pub(crate) cores: Vec<NodeCore<N>>,
     pub(crate) links: Mesh<Letter>,
-    pub(crate) history: Vec<HistoryEntry>,
+    pub(crate) history: History,
 }
 
 impl<N: Names> Model for World<N> {
@@ -34,7 +35,7 @@ impl<N: Names> Model for World<N> {
       cluster = w.cluster;
       cores = w.cores.items;
       links = w.links;
-      history = w.history.items;
+      history = w.history;
     } };
 
     ghost invariant = { λ w. IsWhole (record {
@@ -42,7 +43,7 @@ impl<N: Names> Model for World<N> {
       cluster = w.cluster;
       cores = w.cores.items;
       links = w.links;
-      history = w.history.items;
+      history = w.history;
     }) };
 }
 
@@ -87,13 +88,13 @@ impl<N: Names<Memory = Global>> World<N> {
         if self.links.is_closed(node) {
             return Err(Refusal::NodeLeft);
         }
-        let mut letters = Vec::new(*self.history.allocator());
+        let mut letters = Vec::new(*self.cores.allocator());
         let core = &mut self.cores[place];
         let join = core.join_number().unwrap_or(0);
         let answers = core.step(event, &mut letters)?;
         post(&mut self.links, node, letters)?;
         let entries = self.cores[place].entered();
-        enter(&mut self.history, entries, &self.cores, node, join)?;
+        self.history.enter(entries, &self.cores, node, join)?;
         Ok(answers)
     }
 
@@ -202,7 +203,7 @@ impl<N: Names<Memory = Global>> World<N> {
     fn play_all(&mut self, events: &[WorldEvent]) -> RunEnd
         ensures { Ran events.now self.old self.new result.played result.answers.items result.refusal }
     {
-        let mut answers = Vec::new(*self.history.allocator());
+        let mut answers = Vec::new(*self.cores.allocator());
         for (played, event) in events.iter().enumerate() {
             if let Err(refusal) = self.play_into(event, &mut answers) {
                 return RunEnd {
@@ -220,7 +221,7 @@ impl<N: Names<Memory = Global>> World<N> {
     }
 
     /// The history: all entries, the oldest first.
-    pub fn history(&self) -> &[HistoryEntry]
+    pub fn history(&self) -> &[KeptEntry]
         ensures { result.now ≡ self.now.history }
     {
         self.history.as_slice()

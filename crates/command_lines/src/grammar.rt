@@ -3,7 +3,7 @@ ghost use Rattle.std.specs.Prelude.{◌≡◌, map, ◌∷◌, [], MatchResult};
 ghost use Rattle.protocol_model.specs.Event.{Exiting, SetLock, DelLock};
 ghost use Rattle.term.specs.Spelling.{SpellsText, SpellsPid};
 ghost use Rattle.transaction.specs.Calls.{target_of, retries_of};
-ghost use Rattle.node_core.specs.Seen.{call_of};
+ghost use Rattle.node_events.specs.Seen.{call_of};
 ghost use Rattle.command_lines.specs.Commands.{asked_by, line_in};
 ghost use Rattle.command_lines.specs.LockTexts.{SpellsTarget};
 ghost use Rattle.command_lines.specs.Grammar.{WordsAsk, FirstRefused, at_node, call_at, Node as ANode, Name as AName, Pid as APid, Resource as AResource, Requester as ARequester, Nodes as SomeNodes};

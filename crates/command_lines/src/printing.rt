@@ -4,7 +4,7 @@ ghost use Rattle.std.specs.Fmt.{decimal};
 ghost use Rattle.term.specs.Spelling.{bytes_of};
 ghost use Rattle.std.specs.Io.KnownBytes.{Appends, Keeps};
 ghost use Rattle.protocol_model.specs.Script.{Said, TableIs, MembersAre};
-ghost use Rattle.node_core.specs.Seen.{answer_of as any_answer, reply_of as any_reply};
+ghost use Rattle.node_events.specs.Seen.{answer_of as any_answer, reply_of as any_reply};
 ghost use Rattle.command_lines.specs.Printing as print;
 ghost use Rattle.command_lines.specs.Writing.{Writes};
 

@@ -30,8 +30,8 @@ pub(super) fn show_members(text: &mut String, world: &Cluster, node: &str) -> Re
 
 /// The joins that were decided, each with its call and its contact.
 pub(super) fn show_joins(text: &mut String, world: &Cluster) -> Result<(), Fail> {
-    for entry in world.history() {
-        if let HistoryEntry::Join(joiner, call, contact, reply) = entry {
+    for kept in world.history() {
+        if let HistoryEntry::Join(joiner, call, contact, reply) = &kept.entry()? {
             write!(
                 text,
                 " {joiner}#{call} by {contact} {};",

@@ -1,5 +1,5 @@
 use Rattle.std.proofs.Common.{◌∙◌}
-use Rattle.node_core.specs.Seen.{answer_of}
+use Rattle.node_events.specs.Seen.{answer_of}
 use Rattle.command_lines.proofs.Texts.{numbered_text}
 use Rattle.command_lines.proofs.printing.answer_line.Goals as goal
 

@@ -1,8 +1,8 @@
 use Rattle.std.proofs.Common.{[], sym, subst, ◌∙◌, ℕ}
 use Rattle.std.proofs.lemmas.Result.{err_from_is_err_and, IfOk-weaker, IfErr-weaker}
 use Rattle.link.specs.Held.{Held as Mesh}
-use Rattle.node_core.specs.declared.events.Event.TheVariants.{FromPeer}
-use Rattle.node_core.specs.declared.events.Letter.{Letter}
+use Rattle.node_events.specs.declared.events.Event.TheVariants.{FromPeer}
+use Rattle.node_events.specs.declared.events.Letter.{Letter}
 use Rattle.node_core.specs.Steps.{IsHeardWithin}
 use Rattle.cluster_world.specs.declared.events.Refusal.TheVariants.{NoSuchNode, NodeLeft}
 use Rattle.cluster_world.specs.declared.events.WorldEvent.TheVariants.{Deliver}
@@ -32,7 +32,7 @@ returns-clause-ok g c =
       cores =
           c.self.inside.cores.items;
       links = c.deliver.new.self;
-      history = c.self.inside.history.items;
+      history = c.self.inside.history;
     } in
     IfOk-weaker c.step.result _ _ (λ answers M. subst
     (λ (k : Held). Played (Deliver c.args.sender.now c.args.receiver.now) k c.step.new.self [] answers.items)
@@ -52,7 +52,7 @@ returns-clause-refused g c =
       cores =
           c.self.inside.cores.items;
       links = c.deliver.new.self;
-      history = c.self.inside.history.items;
+      history = c.self.inside.history;
     } in
     IfErr-weaker c.step.result _ _ (λ r F. subst (λ (k : Held). RefusedWith r
     (Deliver c.args.sender.now c.args.receiver.now) k) c.self.view_is
@@ -70,7 +70,7 @@ returns-clause-unchanged g c =
       cores =
           c.self.inside.cores.items;
       links = c.deliver.new.self;
-      history = c.self.inside.history.items;
+      history = c.self.inside.history;
     } in
     IfErr-weaker c.step.result _ _ (λ r F kept. absurd
     (never_kept _ c.self.invariant c.args.sender.now c.args.receiver.now (sym c.contains.ensures ∙ c.if-not-contains.false) (sym c.is_closed.ensures ∙ c.if-is_closed.false)
@@ -98,7 +98,7 @@ invariant_of-self g c =
       cluster = c.self.inside.cluster;
       cores = c.self.inside.cores.items;
       links = k;
-      history = c.self.inside.history.items;
+      history = c.self.inside.history;
     })) (sym c.in_err-letter.ensures.unchanged) c.self.invariant
 
 pub invariant_of-self-2 : goal.invariant_of-self-2

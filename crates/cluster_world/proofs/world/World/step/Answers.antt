@@ -2,9 +2,10 @@ use Rattle.std.proofs.Common.{ℕ, ◌∙◌, ◌++◌, Option, List, map, set, 
 use Rattle.std.specs.Prelude.{unwrap_or}
 use Rattle.std.proofs.lemmas.Result.{err_from_is_err_and}
 use Rattle.term.specs.NodeSets.{set_of}
-use Rattle.node_core.specs.declared.events.Entry.{Entry}
+use Rattle.node_events.specs.declared.events.Entry.{Entry}
 use Rattle.node_core.specs.Held.{Held as Core}
-use Rattle.node_core.specs.Seen.{node_of, entry_by}
+use Rattle.node_core.specs.Seen.{node_of}
+use Rattle.node_events.specs.Seen.{entry_by}
 use Rattle.node_core.specs.Steps.{IsHeardWithin}
 use Rattle.cluster_world.specs.declared.events.Refusal.TheVariants.{NodeLeft, Memory}
 use Rattle.cluster_world.specs.Held.{Held}
@@ -31,7 +32,7 @@ pub invariant_of-self : goal.invariant_of-self
 invariant_of-self g c =
     whole_with _ c.self.invariant c.args.node.now c.in-Some.place c.index_mut-core.result.now
     (sym c.position.ensures ∙ c.in-Some.is)
-    c.index_mut-core.ensures.value c.step.new.self c.self.inside.links c.self.inside.history.items c.step.ensures.name
+    c.index_mut-core.ensures.value c.step.new.self c.self.inside.links c.self.inside.history c.step.ensures.name
     c.step.ensures.world refl c.self.invariant.fit
 
 pub returns-in_err-answers-clause-refused : goal.returns-in_err-answers-clause-refused
@@ -57,7 +58,7 @@ pub invariant_of-self-in_err-post : goal.invariant_of-self-in_err-post
 invariant_of-self-in_err-post g c =
     whole_posted _ c.self.invariant c.args.node.now c.in-Some.place c.index_mut-core.result.now
     (sym c.position.ensures ∙ c.in-Some.is)
-    c.index_mut-core.ensures.value c.step.new.self c.post.new.links c.self.inside.history.items c.step.ensures.name
+    c.index_mut-core.ensures.value c.step.new.self c.post.new.links c.self.inside.history c.step.ensures.name
     c.step.ensures.world
     c.post.ensures.nodes c.post.ensures.fit
 
@@ -77,7 +78,7 @@ pub invariant_of-self-in_err-enter : goal.invariant_of-self-in_err-enter
 invariant_of-self-in_err-enter g c =
     whole_posted _ c.self.invariant c.args.node.now c.in-Some.place c.index_mut-core.result.now
     (sym c.position.ensures ∙ c.in-Some.is)
-    c.index_mut-core.ensures.value c.step.new.self c.post.new.links c.enter.new.history.items c.step.ensures.name
+    c.index_mut-core.ensures.value c.step.new.self c.post.new.links c.enter.new.self c.step.ensures.name
     c.step.ensures.world
     c.post.ensures.nodes c.post.ensures.fit
 
@@ -97,7 +98,7 @@ pub invariant_of-self-2 : goal.invariant_of-self-2
 invariant_of-self-2 g c =
     whole_posted _ c.self.invariant c.args.node.now c.in-Some.place c.index_mut-core.result.now
     (sym c.position.ensures ∙ c.in-Some.is)
-    c.index_mut-core.ensures.value c.step.new.self c.post.new.links c.enter.new.history.items c.step.ensures.name
+    c.index_mut-core.ensures.value c.step.new.self c.post.new.links c.enter.new.self c.step.ensures.name
     c.step.ensures.world
     c.post.ensures.nodes c.post.ensures.fit
 
@@ -108,22 +109,22 @@ returns-clause-ok g c =
       cluster = c.self.inside.cluster;
       cores = set c.self.inside.cores.items c.in-Some.place c.step.new.self;
       links = c.post.new.links;
-      history = c.enter.new.history.items;
+      history = c.enter.new.self;
     } in
     subst (λ (k : Held). Moves c.args.node.now c.args.event.now k behind c.in_ok-answers.answers.items) c.self.view_is
     (moves _ c.self.invariant c.args.node.now c.in-Some.place c.index_mut-core.result.now
     (sym c.position.ensures ∙ c.in-Some.is)
     c.index_mut-core.ensures.value (sym c.is_closed.ensures ∙ c.if-is_closed.false) c.args.event.now c.step.new.self c.new-letters.result.items c.step.new.letters.items
     c.in_ok-answers.answers.items
-    c.post.new.links c.enter.new.history.items c.unwrap_or-join.result c.new-letters.ensures.items
+    c.post.new.links c.enter.new.self c.unwrap_or-join.result c.new-letters.ensures.items
     c.in_ok-answers.ensures.ok c.in_ok-post.ensures.ok
     (c.unwrap_or-join.ensures ∙ ap (λ (o : Option ℕ). unwrap_or o 0) c.join_number.ensures
     ∙ number_is (node_of c.index_mut-core.result.now).current)
     (c.in_ok-enter.ensures
-    ∙ ap (λ (cs : List Core). map entry_of c.self.inside.history.items
+    ∙ ap (λ (cs : List Core). map entry_of c.self.inside.history
     ++ map (entry_by (number_at cs c.args.node.now c.unwrap_or-join.result)) c.entered-entries.result.now)
     c.deref.ensures.value
-    ∙ ap (λ (es : List Entry). map entry_of c.self.inside.history.items
+    ∙ ap (λ (es : List Entry). map entry_of c.self.inside.history
     ++ map (entry_by (number_at behind.cores c.args.node.now c.unwrap_or-join.result)) es)
     (c.entered-entries.ensures ∙ ap (λ (k : Core). k.entered)
     (stands_there _ c.self.invariant c.args.node.now c.in-Some.place c.index_mut-core.result.now
