@@ -11,10 +11,10 @@ use Rattle.cluster_world.specs.Playing.{Played}
 use Rattle.cluster_world.specs.Seen.{opening_with, opening_of, seen}
 use Rattle.cluster_world.specs.Events.{event_of}
 use Rattle.cluster_world.specs.Refusals.{refusal_of, is_memory}
-use Rattle.node_core.specs.Seen.{answer_of}
+use Rattle.node_events.specs.Seen.{answer_of}
 use Rattle.cluster_world.specs.declared.events.Refusal.{Refusal}
 use Rattle.cluster_world.specs.declared.events.Refusal.TheVariants as refusal
-use Rattle.node_core.specs.declared.events.Answer.{Answer}
+use Rattle.node_events.specs.declared.events.Answer.{Answer}
 use Rattle.cluster_world.specs.declared.events.WorldEvent.{WorldEvent}
 use Rattle.cluster_world.specs.declared.events.Event.TheVariants as event
 use Rattle.cluster_world.specs.declared.events.WorldEvent.TheVariants.{At, Deliver}

@@ -10,9 +10,9 @@ use Rattle.protocol_model.specs.Script.{Settle, Output, Said, settled}
 use Rattle.cluster_world.specs.Held.{Held}
 use Rattle.cluster_world.specs.Seen.{opening_of, seen}
 use Rattle.cluster_world.specs.Events.{event_of}
-use Rattle.node_core.specs.Seen.{answer_of}
+use Rattle.node_events.specs.Seen.{answer_of}
 use Rattle.cluster_world.specs.Playing.{Played, WaitsOn}
-use Rattle.node_core.specs.declared.events.Answer.{Answer}
+use Rattle.node_events.specs.declared.events.Answer.{Answer}
 use Rattle.cluster_world.specs.declared.events.WorldEvent.{WorldEvent}
 use Rattle.command_lines.specs.declared.faults.WriteFault.{WriteFault}
 use Rattle.command_lines.specs.Printing.{answers_text, output_line, shown_text, is_fine, is_fine_output, Shows}

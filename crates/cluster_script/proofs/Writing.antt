@@ -6,8 +6,8 @@ use Rattle.std.proofs.lemmas.List.{take-append-drop}
 use Rattle.std.proofs.lemmas.Grind.{take_at_read}
 use Rattle.protocol_model.specs.Script.{Said, Line as ScriptLine}
 use Rattle.cluster_world.specs.Held.{Held}
-use Rattle.node_core.specs.Seen.{answer_of}
-use Rattle.node_core.specs.declared.events.Answer.{Answer}
+use Rattle.node_events.specs.Seen.{answer_of}
+use Rattle.node_events.specs.declared.events.Answer.{Answer}
 use Rattle.command_lines.specs.declared.faults.LineFault.{LineFault}
 use Rattle.command_lines.specs.declared.faults.WriteFault.{WriteFault}
 use Rattle.command_lines.specs.Printing.{answers_text, output_line}

@@ -11,23 +11,27 @@ ghost use Rattle.cluster_script.specs.Played.{StopsReading};
 use crate::reading::next_line;
 use cluster_world::{StartFault, World};
 use command_lines::{Line, LineFault, ScriptFault, Task, read_task, text_of, words_of};
-use name_table::ListTable;
+use name_table::IndexTable;
 use std::alloc::{AllocError, Global};
 use std::io::{BufReader, Read, Write};
 use term::{NodeName, TextFault, parse_node};
+
+/// The world that a script plays on. Its tables are found by hashing: no line costs more for the names that are there, but for
+/// one that prints them.
+pub(crate) type ScriptWorld = World<IndexTable<Global>>;
 
 /// The nodes of a `cluster` line in its order, and a world of them alone.
 #[derive(Drop)]
 struct Cluster {
     nodes: Vec<NodeName>,
-    world: World<ListTable<Global>>,
+    world: ScriptWorld,
 }
 
 /// What the first lines of a script come to.
 #[derive(Drop)]
 pub(crate) enum Headers {
     /// A world, and what the line behind the `cluster` line asks for, where it is no `lone` line.
-    Open(World<ListTable<Global>>, Option<Result<Task, LineFault>>),
+    Open(ScriptWorld, Option<Result<Task, LineFault>>),
     /// There is no line behind the `cluster` line.
     Ended,
     /// One is missing or refused.
@@ -69,7 +73,7 @@ fn start(
     alloc: Global,
     cluster: &[NodeName],
     lone: &[NodeName],
-) -> Result<Result<World<ListTable<Global>>, LineFault>, AllocError>
+) -> Result<Result<ScriptWorld, LineFault>, AllocError>
     ensures { IfOk result (Starts cluster.now lone.now) }
 {
     match World::start(alloc, cluster, lone) {

@@ -5,9 +5,9 @@ ghost use Rattle.command_lines.specs.Printing.{refusal_word};
 ghost use Rattle.command_lines.specs.Writing.{Writes};
 ghost use Rattle.cluster_script.specs.Played.{PlaysOrStops, IsShown, table_of, members_of, hidden_by, line_or_refusal};
 
-use cluster_world::World;
+use crate::header::ScriptWorld;
 use command_lines::{WriteFault, members_line, table_line, write_error, write_text};
-use name_table::{ListTable, Names};
+use name_table::Names;
 use std::alloc::{AllocError, Global};
 use std::io::Write;
 use term::NodeName;
@@ -15,7 +15,7 @@ use term::NodeName;
 /// The line of a node's table, or none where the world has no such node or it has left.
 fn line_of_table(
     alloc: Global,
-    world: &World<ListTable<Global>>,
+    world: &ScriptWorld,
     node: &NodeName,
 ) -> Result<Option<String>, AllocError>
     ensures { IfOk result (λ line. IsShown world.now node.now (table_of world.now node.now) (option_map string_bytes line)) }
@@ -33,7 +33,7 @@ fn line_of_table(
 /// The line of a node's members, or none where the world has no such node or it has left.
 fn line_of_members(
     alloc: Global,
-    world: &World<ListTable<Global>>,
+    world: &ScriptWorld,
     node: &NodeName,
 ) -> Result<Option<String>, AllocError>
     ensures { IfOk result (λ line. IsShown world.now node.now (members_of world.now node.now) (option_map string_bytes line)) }
@@ -48,7 +48,7 @@ fn line_of_members(
 }
 
 /// The word for which a node isn't shown.
-fn hidden_word(world: &World<ListTable<Global>>, node: &NodeName) -> &'static str
+fn hidden_word(world: &ScriptWorld, node: &NodeName) -> &'static str
     ensures { result.now ≡ refusal_word (hidden_by world.now node.now) }
 {
     if world.has_left(node) {
@@ -62,7 +62,7 @@ fn hidden_word(world: &World<ListTable<Global>>, node: &NodeName) -> &'static st
 fn write_shown<W: Write>(
     alloc: Global,
     writer: &mut W,
-    world: &World<ListTable<Global>>,
+    world: &ScriptWorld,
     node: &NodeName,
     line: Option<String>,
 ) -> Result<bool, WriteFault>
@@ -86,7 +86,7 @@ fn write_shown<W: Write>(
 pub(crate) fn show_table<W: Write>(
     alloc: Global,
     writer: &mut W,
-    world: &World<ListTable<Global>>,
+    world: &ScriptWorld,
     node: &NodeName,
 ) -> Result<bool, WriteFault>
     ensures { PlaysOrStops world.now world.now (Ok (TableAt node.now)) (W.contents writer.old) (W.contents writer.new) result }
@@ -99,7 +99,7 @@ pub(crate) fn show_table<W: Write>(
 pub(crate) fn show_members<W: Write>(
     alloc: Global,
     writer: &mut W,
-    world: &World<ListTable<Global>>,
+    world: &ScriptWorld,
     node: &NodeName,
 ) -> Result<bool, WriteFault>
     ensures { PlaysOrStops world.now world.now (Ok (MembersAt node.now)) (W.contents writer.old) (W.contents writer.new) result }

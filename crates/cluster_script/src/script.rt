@@ -4,7 +4,7 @@ ghost use Rattle.std.specs.Io.KnownBytes.{Keeps};
 ghost use Rattle.std.specs.Io.Buffered.{reader_remaining};
 ghost use Rattle.protocol_model.specs.Script as script;
 ghost use Rattle.protocol_model.specs.World.{WorldEvent as AnyEvent};
-ghost use Rattle.node_core.specs.Seen.{answer_of as any_answer};
+ghost use Rattle.node_events.specs.Seen.{answer_of as any_answer};
 ghost use Rattle.cluster_world.specs.Events.{event_of as any_event};
 ghost use Rattle.command_lines.specs.Commands.{asked_by};
 ghost use Rattle.command_lines.specs.Lines.{most_lines};
@@ -14,15 +14,14 @@ ghost use Rattle.cluster_script.specs.Script.{Ran, Stopped};
 ghost use Rattle.cluster_script.specs.Played.{PlaysOrStops, PlaysAll, Delivers, WritesOkay, settle_end};
 ghost use Rattle.cluster_script.specs.Headers.{asked_first};
 
-use crate::header::{Headers, read_headers};
+use crate::header::{Headers, ScriptWorld, read_headers};
 use crate::looking::{show_members, show_table};
 use crate::reading::next_line;
-use cluster_world::{Answer, Event, World, WorldEvent};
+use cluster_world::{Answer, Event, WorldEvent};
 use command_lines::{
     LineFault, ScriptFault, Task, WriteFault, answer_line, read_task, refusal_word, write_error,
     write_text,
 };
-use name_table::ListTable;
 use std::alloc::Global;
 use std::io::{BufReader, Read, Write};
 use term::NodeName;
@@ -62,7 +61,7 @@ fn write_accepted<W: Write>(writer: &mut W, event: &WorldEvent) -> Result<(), Wr
 fn play_event<W: Write>(
     alloc: Global,
     writer: &mut W,
-    world: &mut World<ListTable<Global>>,
+    world: &mut ScriptWorld,
     event: &WorldEvent,
 ) -> Result<bool, WriteFault>
     ensures { PlaysOrStops world.old world.new (Ok (script.Play (any_event event.now))) (W.contents writer.old) (W.contents writer.new) result }
@@ -100,7 +99,7 @@ fn end_settle<W: Write>(alloc: Global, writer: &mut W, is_settled: bool) -> Resu
 fn deliver<W: Write>(
     alloc: Global,
     writer: &mut W,
-    world: &mut World<ListTable<Global>>,
+    world: &mut ScriptWorld,
     sender: NodeName,
     receiver: NodeName,
 ) -> Result<(), WriteFault>
@@ -116,7 +115,7 @@ fn deliver<W: Write>(
 fn settle<W: Write>(
     alloc: Global,
     writer: &mut W,
-    world: &mut World<ListTable<Global>>,
+    world: &mut ScriptWorld,
 ) -> Result<bool, WriteFault>
     ensures { PlaysOrStops world.old world.new (Ok script.Settle) (W.contents writer.old) (W.contents writer.new) result }
 {
@@ -133,7 +132,7 @@ fn settle<W: Write>(
 fn play_task<W: Write>(
     alloc: Global,
     writer: &mut W,
-    world: &mut World<ListTable<Global>>,
+    world: &mut ScriptWorld,
     task: Result<Task, LineFault>,
 ) -> Result<bool, WriteFault>
     ensures { PlaysOrStops world.old world.new (asked_by task) (W.contents writer.old) (W.contents writer.new) result }
@@ -162,7 +161,7 @@ fn play_lines<R: Read, W: Write>(
     alloc: Global,
     reader: &mut BufReader<R, Global>,
     writer: &mut W,
-    world: &mut World<ListTable<Global>>,
+    world: &mut ScriptWorld,
     left: &mut u32,
 ) -> Result<bool, ScriptFault>
     requires { left.old ≤ most_lines }
@@ -183,7 +182,7 @@ fn play_all<R: Read, W: Write>(
     alloc: Global,
     reader: &mut BufReader<R, Global>,
     writer: &mut W,
-    world: &mut World<ListTable<Global>>,
+    world: &mut ScriptWorld,
     first: Option<Result<Task, LineFault>>,
     left: &mut u32,
 ) -> Result<bool, ScriptFault>

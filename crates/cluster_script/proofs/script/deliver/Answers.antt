@@ -1,6 +1,6 @@
 use Rattle.std.proofs.Common.{List, subst, map}
-use Rattle.node_core.specs.Seen.{answer_of}
-use Rattle.node_core.specs.declared.events.Answer.{Answer}
+use Rattle.node_events.specs.Seen.{answer_of}
+use Rattle.node_events.specs.declared.events.Answer.{Answer}
 use Rattle.cluster_world.specs.declared.events.WorldEvent.TheVariants.{Deliver}
 use Rattle.command_lines.specs.Printing.{answers_text}
 use Rattle.command_lines.specs.Writing.{Writes}

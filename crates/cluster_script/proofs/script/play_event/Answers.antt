@@ -6,8 +6,8 @@ use Rattle.protocol_model.specs.Script.{Play}
 use Rattle.cluster_world.specs.Events.{event_of}
 use Rattle.cluster_world.specs.Seen.{opening_of}
 use Rattle.cluster_script.specs.Played.{okay_text}
-use Rattle.node_core.specs.Seen.{answer_of}
-use Rattle.node_core.specs.declared.events.Answer.{Answer}
+use Rattle.node_events.specs.Seen.{answer_of}
+use Rattle.node_events.specs.declared.events.Answer.{Answer}
 use Rattle.command_lines.specs.Printing.{answers_text, error_line}
 use Rattle.command_lines.specs.Writing.{AppendsPart}
 use Rattle.cluster_script.proofs.Writing.{PlaysOrStops-err, AppendsPart-behind, AppendsPart-more}
