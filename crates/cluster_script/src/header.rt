@@ -16,8 +16,7 @@ use std::alloc::{AllocError, Global};
 use std::io::{BufReader, Read, Write};
 use term::{NodeName, TextFault, parse_node};
 
-/// The world that a script plays on. Its tables are found by hashing: no line costs more for the names that are there, but for
-/// one that prints them.
+/// The world that a script plays on. Its tables are found by hashing.
 pub(crate) type ScriptWorld = World<IndexTable<Global>>;
 
 /// The nodes of a `cluster` line in its order, and a world of them alone.

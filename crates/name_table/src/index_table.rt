@@ -141,7 +141,7 @@ impl<A: Allocator + Copy + Drop> IndexTable<A> {
         }
     }
 
-    /// The name has this owner from now on. All growths come first, so a refusal changes nothing.
+    /// The name has this owner from now on. Behind the listing nothing can be refused, so a refusal changes nothing.
     fn put(&mut self, name: Name, owner: Pid) -> Result<(), AllocError>
         ensures ok { OnOk result (self.new ≡ put name owner self.old) }
         ensures err { OnErr result (self.new ≡ self.old) }
