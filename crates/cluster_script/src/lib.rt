@@ -10,6 +10,3 @@ mod script;
 pub use command_lines::ScriptFault;
 pub use laws::one_end;
 pub use script::run_script;
-
-#[cfg(test)]
-mod tests;

@@ -18,8 +18,3 @@ pub use kept::KeptEntry;
 pub use node_core::{Answer, Call, Look, NameCall, Reply};
 pub use seat::{SeatFault, WorldSeat};
 pub use world::World;
-
-#[cfg(test)]
-mod seat_tests;
-#[cfg(test)]
-mod tests;

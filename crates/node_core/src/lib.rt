@@ -6,6 +6,3 @@ mod node;
 pub use node::NodeCore;
 pub use node_events::{Answer, Call, Entry, Event, Letter, Look, NameList, Reply, StepFault};
 pub use transaction::{NameCall, Nodes, Op, Retries};
-
-#[cfg(test)]
-mod tests;

@@ -1,5 +1,5 @@
 //! Readers and writers that fail, or answer each other.
-use crate::{ScriptFault, run_script};
+use cluster_script::{ScriptFault, run_script};
 use std::cell::Cell;
 use std::io::{self, BufReader, BufWriter, Cursor, Error, ErrorKind, Read, Write};
 use std::test::Fail;

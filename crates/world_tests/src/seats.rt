@@ -1,5 +1,5 @@
 //! Work under clients' locks. Each test writes down what its calls come to, and compares the text.
-use crate::{Call, Event, Reply, SeatFault, World, WorldEvent, WorldSeat};
+use cluster_world::{Call, Event, Reply, SeatFault, World, WorldEvent, WorldSeat};
 use name_table::ListTable;
 use std::alloc::Global;
 use std::fmt::Write;

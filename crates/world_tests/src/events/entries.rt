@@ -1,6 +1,6 @@
 //! What a world gives back of its history.
 use super::{Cluster, plain_reply, script_of};
-use crate::{HistoryEntry, Look, NameCall, Reply};
+use cluster_world::{HistoryEntry, Look, NameCall, Reply};
 use std::fmt::Write;
 use std::test::Fail;
 

@@ -1,6 +1,6 @@
 //! Joins of one node, and those that it lets in.
 use super::{Core, play_lines};
-use crate::{Letter, NodeCore};
+use node_core::{Letter, NodeCore};
 use exchange::{Admission, Welcome};
 use name_table::Pair;
 use std::alloc::Global;

@@ -5,7 +5,7 @@ mod locks;
 mod names;
 mod streams;
 
-use crate::run_script;
+use cluster_script::run_script;
 use std::alloc::Global;
 use std::io::{BufReader, Cursor};
 use std::test::Fail;

@@ -1,6 +1,6 @@
 //! Worlds that nodes join, in all orders of deliveries that matter.
 use super::{Cluster, plain_reply, script_of};
-use crate::HistoryEntry;
+use cluster_world::HistoryEntry;
 use name_table::Names;
 use std::fmt::Write;
 use std::test::Fail;

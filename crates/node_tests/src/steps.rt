@@ -1,6 +1,6 @@
 //! Steps of one node. Each test is a script: a line has events, and what the node makes of them, or `state`, and what the
 //! node is like.
-use crate::{Answer, Call, Entry, Event, Letter, NodeCore, Nodes, Reply, Retries, StepFault};
+use node_core::{Answer, Call, Entry, Event, Letter, NodeCore, Nodes, Reply, Retries, StepFault};
 use name_table::{Change, ListTable, Names};
 use std::alloc::Global;
 use std::fmt::Write;

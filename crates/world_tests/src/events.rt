@@ -1,5 +1,5 @@
 //! Worked examples of worlds. Each test is a script: a line has an event, or a question about the world, and what comes of it.
-use crate::{Answer, Call, Event, Refusal, Reply, StartFault, World, WorldEvent};
+use cluster_world::{Answer, Call, Event, Refusal, Reply, StartFault, World, WorldEvent};
 use name_table::{ListTable, Names};
 use node_core::{Nodes, Retries};
 use std::alloc::Global;
