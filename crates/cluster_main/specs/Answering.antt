@@ -5,7 +5,7 @@ use Rattle.clap.specs.Words.{IsAmong, Kinds, Text}
 use Rattle.clap.specs.declared.error.kind.ErrorKind.{ErrorKind}
 use Rattle.clap.specs.declared.error.kind.ErrorKind.TheVariants as kind
 use Rattle.cluster_script.specs.Script.{Ran, Stopped}
-use Rattle.command_lines.specs.declared.faults.ScriptFault.{ScriptFault}
+use Rattle.text_lines.specs.declared.faults.ScriptFault.{ScriptFault}
 use Rattle.cluster_main.specs.Arguments.{refusals}
 
 -- the status for a script that was played: 0 where it ended with no fault and printed no refusal, and else 1

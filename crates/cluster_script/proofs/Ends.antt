@@ -4,9 +4,9 @@ use Rattle.term.specs.declared.faults.TextFault.{TextFault}
 use Rattle.term.specs.Laws.{IsExact}
 use Rattle.term.specs.Spelling.{SpellsText, RefusesText}
 use Rattle.command_lines.specs.declared.faults.LineFault.{LineFault}
-use Rattle.command_lines.specs.declared.faults.ScriptFault.TheVariants.{TooManyLines}
-use Rattle.command_lines.specs.Lines.{count_of, count_of_all, spoken}
-use Rattle.command_lines.specs.Words.{words}
+use Rattle.text_lines.specs.declared.faults.ScriptFault.TheVariants.{TooManyLines}
+use Rattle.text_lines.specs.Lines.{count_of, count_of_all, spoken}
+use Rattle.text_lines.specs.Words.{words}
 use Rattle.command_lines.specs.Commands.{unread}
 use Rattle.std.specs.Prelude.{codes}
 use Rattle.cluster_world.specs.Starting.{start_refused}
@@ -14,7 +14,7 @@ use Rattle.cluster_world.specs.declared.events.StartFault.{StartFault}
 use Rattle.command_lines.specs.declared.faults.LineFault.TheVariants.{BadLine, Text, Start}
 use Rattle.command_lines.specs.Printing.{Shown}
 use Rattle.cluster_script.specs.Script.{AllSpell, ReadsTexts, Names, judged, unless_refused, made_of, texts_behind, lone_texts, OpensIn, OpensUnless, LineOpens, LoneOpens, OpensBehind, EndsRefused, PrintsOn, Ran, Stopped, opening_for}
-use Rattle.command_lines.proofs.Known.{spoken-append, count_of_all-append}
+use Rattle.text_lines.proofs.Known.{spoken-append, count_of_all-append}
 
 -- lines that count for less than the first ones and the next are some of the first ones
 some_first : (xs ys zs ws : List (List ℕ)) (line : List ℕ) → xs ++ ys ≡ zs ++ line ∷ ws

@@ -18,10 +18,10 @@ use Rattle.cluster_script.specs.declared.header.Headers.TheVariants.{Open, Ended
 use Rattle.cluster_world.specs.Held.{Held}
 use Rattle.command_lines.specs.Commands.{LineAsks, asked_by}
 use Rattle.command_lines.specs.declared.grammar.Task.{Task}
-use Rattle.command_lines.specs.declared.faults.ScriptFault.{ScriptFault}
-use Rattle.command_lines.specs.declared.faults.ScriptFault.TheVariants.{Memory}
-use Rattle.command_lines.specs.Lines.{spoken, count_of_all, LosesLines}
-use Rattle.command_lines.proofs.Known.{spoken-append, count_of_all-append, LosesLines-trans, LosesInto-behind, GoesPastFor-behind}
+use Rattle.text_lines.specs.declared.faults.ScriptFault.{ScriptFault}
+use Rattle.text_lines.specs.declared.faults.ScriptFault.TheVariants.{Memory}
+use Rattle.text_lines.specs.Lines.{spoken, count_of_all, LosesLines}
+use Rattle.text_lines.proofs.Known.{spoken-append, count_of_all-append, LosesLines-trans, LosesInto-behind, GoesPastFor-behind}
 use Rattle.cluster_script.specs.Script.{AllAsk, LineOpens, PrintsOn, PrintsSpoken, opening_for}
 use Rattle.cluster_script.specs.Played.{LosesNext, StopsReading}
 use Rattle.cluster_script.proofs.Agreeing.{lines_agree}

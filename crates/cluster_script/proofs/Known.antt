@@ -1,9 +1,9 @@
 -- Reading on past empty lines.
 use Rattle.std.proofs.Common.{ℕ, List, [], ◌≡◌, ◌+◌, Option, subst, append-nil}
-use Rattle.command_lines.specs.Lines.{spoken, count_of_all, LosesLines, LosesWithinLine, StopsAtLine, GoesPastFor}
-use Rattle.command_lines.specs.declared.faults.ScriptFault.{ScriptFault}
+use Rattle.text_lines.specs.Lines.{spoken, count_of_all, LosesLines, LosesWithinLine, StopsAtLine, GoesPastFor}
+use Rattle.text_lines.specs.declared.faults.ScriptFault.{ScriptFault}
 use Rattle.cluster_script.specs.Played.{StopsReading, LosesNext}
-use Rattle.command_lines.proofs.Known.{GoesPastFor-behind}
+use Rattle.text_lines.proofs.Known.{GoesPastFor-behind}
 
 -- the line behind empty ones isn't read
 pub StopsReading-behind : (a b c : Option (List ℕ)) (ls : List (List ℕ)) (most left : ℕ) → spoken ls ≡ []

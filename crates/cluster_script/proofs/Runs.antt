@@ -8,14 +8,14 @@ use Rattle.protocol_model.specs.Script.{Line as ScriptLine}
 use Rattle.cluster_world.specs.Held.{Held}
 use Rattle.cluster_world.specs.Seen.{opening_of, seen}
 use Rattle.command_lines.specs.declared.faults.LineFault.{LineFault}
-use Rattle.command_lines.specs.declared.faults.ScriptFault.{ScriptFault}
-use Rattle.command_lines.specs.declared.faults.ScriptFault.TheVariants as fault
-use Rattle.command_lines.specs.declared.faults.WriteFault.{WriteFault}
-use Rattle.command_lines.specs.declared.faults.WriteFault.TheVariants as write
-use Rattle.command_lines.specs.Lines.{spoken, LosesLines, LosesInto, count_of_all, HasNoLine, GoesPast, MayEndIn}
+use Rattle.text_lines.specs.declared.faults.ScriptFault.{ScriptFault}
+use Rattle.text_lines.specs.declared.faults.ScriptFault.TheVariants as fault
+use Rattle.text_lines.specs.declared.faults.WriteFault.{WriteFault}
+use Rattle.text_lines.specs.declared.faults.WriteFault.TheVariants as write
+use Rattle.text_lines.specs.Lines.{spoken, LosesLines, LosesInto, count_of_all, HasNoLine, GoesPast, MayEndIn}
 use Rattle.command_lines.specs.Printing.{Shown, Refuses, error_line, word_of}
-use Rattle.command_lines.specs.Lines.{HasLines}
-use Rattle.command_lines.specs.Writing.{AppendsPart, stop_of}
+use Rattle.text_lines.specs.Lines.{HasLines}
+use Rattle.text_lines.specs.Writing.{AppendsPart, stop_of}
 use Rattle.cluster_script.proofs.Agreeing.{lines_agree}
 use Rattle.cluster_script.specs.Script.{AllAsk, shown_all, Prints, PrintsOn, PrintsSpoken, OpensNone, EndsRefused, Ran, Stopped, StoppedBetween, StoppedWithin, LineOpens, lone_line, played, opening_for}
 use Rattle.cluster_script.specs.Headers.{OpensHeaders, OpensLone, StopsOpening, asked_first}
@@ -23,7 +23,7 @@ use Rattle.cluster_script.specs.declared.header.Headers.TheVariants.{Open, Ended
 use Rattle.command_lines.specs.declared.grammar.Task.{Task}
 use Rattle.cluster_script.specs.Played.{StopsPlaying, PlaysSome, PlaysAll}
 use Rattle.std.proofs.KnownBytes.{Appends-nil, Appends-trans, Appends-kept}
-use Rattle.command_lines.proofs.Known.{GoesPast-behind, LosesInto-whole, LosesInto-behind, LosesLines-trans, LosesLines-all, MayEndIn-none, spoken-append, count_of_all-append}
+use Rattle.text_lines.proofs.Known.{GoesPast-behind, LosesInto-whole, LosesInto-behind, LosesLines-trans, LosesLines-all, MayEndIn-none, spoken-append, count_of_all-append}
 
 -- the lines of known bytes
 abbrev left_in : Option (List ℕ) → List (List ℕ)

@@ -10,18 +10,18 @@ use Rattle.protocol_model.specs.Script.{Line as ScriptLine}
 use Rattle.cluster_world.specs.Held.{Held}
 use Rattle.cluster_world.specs.Seen.{opening_of, seen}
 use Rattle.command_lines.specs.declared.faults.LineFault.{LineFault}
-use Rattle.command_lines.specs.declared.faults.ScriptFault.{ScriptFault}
-use Rattle.command_lines.specs.declared.faults.ScriptFault.TheVariants as fault
-use Rattle.command_lines.specs.declared.faults.WriteFault.{WriteFault}
-use Rattle.command_lines.specs.declared.faults.WriteFault.TheVariants as write
-use Rattle.command_lines.specs.Lines.{spoken, count_of_all, LosesLines, LosesInto, MayEndIn}
+use Rattle.text_lines.specs.declared.faults.ScriptFault.{ScriptFault}
+use Rattle.text_lines.specs.declared.faults.ScriptFault.TheVariants as fault
+use Rattle.text_lines.specs.declared.faults.WriteFault.{WriteFault}
+use Rattle.text_lines.specs.declared.faults.WriteFault.TheVariants as write
+use Rattle.text_lines.specs.Lines.{spoken, count_of_all, LosesLines, LosesInto, MayEndIn}
 use Rattle.command_lines.specs.Commands.{LineAsks}
 use Rattle.command_lines.specs.Printing.{shown_text, shown_line, is_fine, Shown}
-use Rattle.command_lines.specs.Writing.{AppendsPart, stop_of}
+use Rattle.text_lines.specs.Writing.{AppendsPart, stop_of}
 use Rattle.cluster_script.specs.Script.{AllAsk, behind, behind_all, shown, shown_all}
 use Rattle.cluster_script.specs.Played.{PlaysLine, PlaysLines, PlaysSome, LosesNext, StopsReading, StopsPlaying, PlaysAll, shown_on}
-use Rattle.cluster_script.proofs.Writing.{AppendsPart-behind, AppendsPart-whole}
-use Rattle.command_lines.proofs.Known.{GoesPast-behind, LosesLines-trans, LosesLines-nil, LosesInto-whole, LosesInto-behind, MayEndIn-none, spoken-append, count_of_all-append}
+use Rattle.text_lines.proofs.Written.{AppendsPart-behind, AppendsPart-whole}
+use Rattle.text_lines.proofs.Known.{GoesPast-behind, LosesLines-trans, LosesLines-nil, LosesInto-whole, LosesInto-behind, MayEndIn-none, spoken-append, count_of_all-append}
 
 -- two lists that are printed
 pub shown_text-append : (xs ys : List Shown) → shown_text (xs ++ ys) ≡ shown_text xs ++ shown_text ys

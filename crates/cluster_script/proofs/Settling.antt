@@ -14,12 +14,12 @@ use Rattle.node_events.specs.Seen.{answer_of}
 use Rattle.cluster_world.specs.Playing.{Played, WaitsOn}
 use Rattle.node_events.specs.declared.events.Answer.{Answer}
 use Rattle.cluster_world.specs.declared.events.WorldEvent.{WorldEvent}
-use Rattle.command_lines.specs.declared.faults.WriteFault.{WriteFault}
+use Rattle.text_lines.specs.declared.faults.WriteFault.{WriteFault}
 use Rattle.command_lines.specs.Printing.{answers_text, output_line, shown_text, is_fine, is_fine_output, Shows}
-use Rattle.command_lines.specs.Writing.{AppendsPart, Writes}
+use Rattle.text_lines.specs.Writing.{AppendsPart, Writes}
 use Rattle.cluster_script.specs.Script.{settle_limit}
 use Rattle.cluster_script.specs.Played.{PlaysOrStops, Delivers, shown_on, settle_end}
-use Rattle.cluster_script.proofs.Writing.{AppendsPart-behind, AppendsPart-more}
+use Rattle.text_lines.proofs.Written.{AppendsPart-behind, AppendsPart-more}
 use Rattle.cluster_script.proofs.Playing.{opening_of-same}
 
 -- how the deliveries end in a world that opened so and stands as w

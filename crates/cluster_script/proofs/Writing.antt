@@ -1,7 +1,7 @@
 -- Texts that are written in parts.
 use Rattle.std.proofs.Common.{ℕ, List, [], ◌∷◌, ◌++◌, ◌≡◌, Option, refl, sym, ap, subst, ◌∙◌, append_assoc, Result, Err, Bool, ◌<◌, ◌+◌, length, get_or, take, drop, map}
 use Rattle.std.specs.Io.KnownBytes.{Appends}
-use Rattle.std.proofs.KnownBytes.{Appends-trans, Appends-nil}
+use Rattle.text_lines.proofs.Written.{AppendsPart-behind, AppendsPart-more}
 use Rattle.std.proofs.lemmas.List.{take-append-drop}
 use Rattle.std.proofs.lemmas.Grind.{take_at_read}
 use Rattle.protocol_model.specs.Script.{Said, Line as ScriptLine}
@@ -9,42 +9,12 @@ use Rattle.cluster_world.specs.Held.{Held}
 use Rattle.node_events.specs.Seen.{answer_of}
 use Rattle.node_events.specs.declared.events.Answer.{Answer}
 use Rattle.command_lines.specs.declared.faults.LineFault.{LineFault}
-use Rattle.command_lines.specs.declared.faults.WriteFault.{WriteFault}
+use Rattle.text_lines.specs.declared.faults.WriteFault.{WriteFault}
 use Rattle.command_lines.specs.Printing.{answers_text, output_line}
 use Rattle.cluster_script.specs.Played.{PlaysOrStops, shown_on}
-use Rattle.command_lines.specs.Writing.{AppendsPart, Writes}
+use Rattle.text_lines.specs.Writing.{AppendsPart}
 
--- nothing of a text was written
-pub AppendsPart-none : (a : Option (List ℕ)) (text : List ℕ) → AppendsPart a a text
-AppendsPart-none a text = ([], text, refl, Appends-nil a)
-
--- a text was written, and a part of the next
-pub AppendsPart-behind : (a b c : Option (List ℕ)) (front text : List ℕ) → Appends a b front → AppendsPart b c text
-    → AppendsPart a c (front ++ text)
-AppendsPart-behind a b c front text h p = (
-  front ++ p.0,
-  p.1,
-  ap (λ (t : List ℕ). front ++ t) p.2
-      ∙ sym (append_assoc front p.0 p.1),
-  Appends-trans a b c front p.0 h p.3,
-)
-
--- a part of a text is one of a longer text
-pub AppendsPart-more : (a b : Option (List ℕ)) (text more : List ℕ) → AppendsPart a b text
-    → AppendsPart a b (text ++ more)
-AppendsPart-more a b text more p =
-    (p.0, p.1 ++ more, ap (λ (t : List ℕ). t ++ more) p.2 ∙ append_assoc p.0 p.1 more, p.3)
-
--- a whole text is a part of a longer one
-pub AppendsPart-whole : (a b : Option (List ℕ)) (text more : List ℕ) → Appends a b text → AppendsPart a b (text ++ more)
-AppendsPart-whole a b text more h = (text, more, refl, h)
-
--- what the exit of a `?` says of a text
-pub Writes-err : {A E : Type 0} (a b : Option (List ℕ)) (r : Result A E) (y : E) (text : List ℕ) → r ≡ Err y
-    → AppendsPart a b text → Writes a b r text
-Writes-err a b r y text e p = rw e p
-
--- and of a line that is played
+-- what the exit of a `?` says of a line that is played
 pub PlaysOrStops-err : (old new : Held) (asked : Result ScriptLine LineFault) (a b : Option (List ℕ))
     (r : Result Bool WriteFault) (y : WriteFault)
     → r ≡ Err y → AppendsPart a b (shown_on old asked) → PlaysOrStops old new asked a b r

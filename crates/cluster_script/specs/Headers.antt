@@ -9,10 +9,10 @@ use Rattle.cluster_world.specs.Starting.{start_refused}
 use Rattle.cluster_world.specs.declared.events.StartFault.{StartFault}
 use Rattle.command_lines.specs.declared.faults.LineFault.{LineFault}
 use Rattle.command_lines.specs.declared.faults.LineFault.TheVariants.{Start}
-use Rattle.command_lines.specs.declared.faults.ScriptFault.{ScriptFault}
+use Rattle.text_lines.specs.declared.faults.ScriptFault.{ScriptFault}
 use Rattle.command_lines.specs.declared.grammar.Task.{Task}
 use Rattle.command_lines.specs.Commands.{asked_by}
-use Rattle.command_lines.specs.Lines.{spoken, count_of_all, LosesLines, LosesInto, HasNoLine, MayEndIn, GoesPastFor}
+use Rattle.text_lines.specs.Lines.{spoken, count_of_all, LosesLines, LosesInto, HasNoLine, MayEndIn, GoesPastFor}
 use Rattle.cluster_script.specs.Script.{AllAsk, ReadsTexts, LineOpens, LoneOpens, PrintsSpoken, PrintsOn, OpensNone, opening_for, played}
 use Rattle.cluster_script.specs.declared.header.Cluster.{Cluster}
 use Rattle.cluster_script.specs.declared.header.Headers.{Headers}

@@ -11,13 +11,13 @@ use Rattle.cluster_world.specs.Events.{event_of}
 use Rattle.cluster_world.specs.Held.{Held}
 use Rattle.cluster_world.specs.Seen.{opening_of, seen}
 use Rattle.command_lines.specs.declared.faults.LineFault.{LineFault}
-use Rattle.command_lines.specs.declared.faults.ScriptFault.{ScriptFault}
-use Rattle.command_lines.specs.declared.faults.ScriptFault.TheVariants.{Read, TooManyLines}
-use Rattle.command_lines.specs.declared.faults.WriteFault.{WriteFault}
-use Rattle.command_lines.specs.declared.lines.Line.{Line}
-use Rattle.command_lines.specs.Lines.{spoken, count_of_all, IsKept, LosesLines, LosesInto, HasNoLine, IsWithinLine, MayEndIn, GoesPastFor}
+use Rattle.text_lines.specs.declared.faults.ScriptFault.{ScriptFault}
+use Rattle.text_lines.specs.declared.faults.ScriptFault.TheVariants.{Read, TooManyLines}
+use Rattle.text_lines.specs.declared.faults.WriteFault.{WriteFault}
+use Rattle.text_lines.specs.declared.lines.Line.{Line}
+use Rattle.text_lines.specs.Lines.{spoken, count_of_all, IsKept, LosesLines, LosesInto, HasNoLine, IsWithinLine, MayEndIn, GoesPastFor}
 use Rattle.command_lines.specs.Printing.{Shows, answers_text, shown_text, is_fine, is_fine_output, output_line, error_line, refusal_word}
-use Rattle.command_lines.specs.Writing.{AppendsPart}
+use Rattle.text_lines.specs.Writing.{AppendsPart}
 use Rattle.cluster_script.specs.Script.{settle_limit, behind, behind_all, shown, shown_all, AllAsk}
 
 -- what is printed for a line on what is held

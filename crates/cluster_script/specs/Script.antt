@@ -11,12 +11,12 @@ use Rattle.cluster_world.specs.Starting.{start_refused}
 use Rattle.cluster_world.specs.Seen.{opening_with}
 use Rattle.command_lines.specs.declared.faults.LineFault.{LineFault}
 use Rattle.command_lines.specs.declared.faults.LineFault.TheVariants.{BadLine, Text, Start}
-use Rattle.command_lines.specs.declared.faults.ScriptFault.{ScriptFault}
-use Rattle.command_lines.specs.declared.faults.ScriptFault.TheVariants.{Read, Write, TooManyLines, Memory}
+use Rattle.text_lines.specs.declared.faults.ScriptFault.{ScriptFault}
+use Rattle.text_lines.specs.declared.faults.ScriptFault.TheVariants.{Read, Write, TooManyLines, Memory}
 use Rattle.cluster_world.specs.declared.events.StartFault.{StartFault}
-use Rattle.command_lines.specs.Lines.{HasLines, spoken, count_of_all, most_lines, LosesLines, LosesInto, HasNoLine, HasNoFeed, IsWithinLine, GoesPast}
-use Rattle.command_lines.specs.Words.{words}
-use Rattle.command_lines.specs.Writing.{AppendsPart}
+use Rattle.text_lines.specs.Lines.{HasLines, spoken, count_of_all, most_lines, LosesLines, LosesInto, HasNoLine, HasNoFeed, IsWithinLine, GoesPast}
+use Rattle.text_lines.specs.Words.{words}
+use Rattle.text_lines.specs.Writing.{AppendsPart}
 use Rattle.command_lines.specs.Commands.{unread, LineAsks}
 use Rattle.command_lines.specs.Printing.{Shown, Shows, Refuses, shown_text, is_fine}
 

@@ -2,19 +2,20 @@
 ghost use Rattle.std.specs.Prelude.{◌≡◌, ◌≤◌, IfOk, MatchResult, map, option_map, List, ℕ, [], Ok};
 ghost use Rattle.std.specs.Io.KnownBytes.{Keeps};
 ghost use Rattle.std.specs.Io.Buffered.{reader_remaining};
-ghost use Rattle.command_lines.specs.Lines.{IsKept, most_lines};
-ghost use Rattle.command_lines.specs.Words.{words};
+ghost use Rattle.text_lines.specs.Lines.{IsKept, most_lines};
+ghost use Rattle.text_lines.specs.Words.{words};
 ghost use Rattle.cluster_script.specs.Script.{made_of, texts_behind, lone_line, ReadsTexts};
 ghost use Rattle.cluster_script.specs.Headers.{ReadsHeader, Starts, StartsCluster, OpensCluster, OpensLone, ReadsLone, ReadsHeaders, StopsOpening};
 ghost use Rattle.cluster_script.specs.Played.{StopsReading};
 
 use crate::reading::next_line;
 use cluster_world::{StartFault, World};
-use command_lines::{Line, LineFault, ScriptFault, Task, read_task, text_of, words_of};
+use command_lines::{LineFault, Task, read_task, text_of};
 use name_table::IndexTable;
 use std::alloc::{AllocError, Global};
 use std::io::{BufReader, Read, Write};
 use term::{NodeName, TextFault, parse_node};
+use text_lines::{Line, ScriptFault, words_of};
 
 /// The world that a script plays on. Its tables are found by hashing.
 pub(crate) type ScriptWorld = World<IndexTable<Global>>;

@@ -7,6 +7,6 @@ mod looking;
 mod reading;
 mod script;
 
-pub use command_lines::ScriptFault;
 pub use laws::one_end;
 pub use script::run_script;
+pub use text_lines::ScriptFault;

@@ -2,15 +2,16 @@
 ghost use Rattle.std.specs.Prelude.{◌≡◌, IfOk, Ok, is_some, option_map, string_bytes};
 ghost use Rattle.protocol_model.specs.Script.{TableAt, MembersAt};
 ghost use Rattle.command_lines.specs.Printing.{refusal_word};
-ghost use Rattle.command_lines.specs.Writing.{Writes};
+ghost use Rattle.text_lines.specs.Writing.{Writes};
 ghost use Rattle.cluster_script.specs.Played.{PlaysOrStops, IsShown, table_of, members_of, hidden_by, line_or_refusal};
 
 use crate::header::ScriptWorld;
-use command_lines::{WriteFault, members_line, table_line, write_error, write_text};
+use command_lines::{members_line, table_line, write_error};
 use name_table::Names;
 use std::alloc::{AllocError, Global};
 use std::io::Write;
 use term::NodeName;
+use text_lines::{WriteFault, write_text};
 
 /// The line of a node's table, or none where the world has no such node or it has left.
 fn line_of_table(

@@ -2,12 +2,12 @@
 ghost use Rattle.std.specs.Prelude.{◌≤◌, MatchResult};
 ghost use Rattle.std.specs.Io.KnownBytes.{Keeps};
 ghost use Rattle.std.specs.Io.Buffered.{reader_remaining};
-ghost use Rattle.command_lines.specs.Lines.{most_lines};
+ghost use Rattle.text_lines.specs.Lines.{most_lines};
 ghost use Rattle.cluster_script.specs.Played.{ReadsOn, StopsReading};
 
-use command_lines::{Line, ScriptFault, is_blank, read_line};
 use std::alloc::Global;
 use std::io::{BufReader, Read, Write};
+use text_lines::{Line, ScriptFault, is_blank, read_line};
 
 /// Reads on to the next line that isn't empty. `left` says how many more lines may come. What was written is handed on
 /// before the reader waits.

@@ -7,9 +7,9 @@ ghost use Rattle.protocol_model.specs.World.{WorldEvent as AnyEvent};
 ghost use Rattle.node_events.specs.Seen.{answer_of as any_answer};
 ghost use Rattle.cluster_world.specs.Events.{event_of as any_event};
 ghost use Rattle.command_lines.specs.Commands.{asked_by};
-ghost use Rattle.command_lines.specs.Lines.{most_lines};
+ghost use Rattle.text_lines.specs.Lines.{most_lines};
 ghost use Rattle.command_lines.specs.Printing as print;
-ghost use Rattle.command_lines.specs.Writing.{Writes};
+ghost use Rattle.text_lines.specs.Writing.{Writes};
 ghost use Rattle.cluster_script.specs.Script.{Ran, Stopped};
 ghost use Rattle.cluster_script.specs.Played.{PlaysOrStops, PlaysAll, Delivers, WritesOkay, settle_end};
 ghost use Rattle.cluster_script.specs.Headers.{asked_first};
@@ -18,13 +18,11 @@ use crate::header::{Headers, ScriptWorld, read_headers};
 use crate::looking::{show_members, show_table};
 use crate::reading::next_line;
 use cluster_world::{Answer, Event, WorldEvent};
-use command_lines::{
-    LineFault, ScriptFault, Task, WriteFault, answer_line, read_task, refusal_word, write_error,
-    write_text,
-};
+use command_lines::{LineFault, Task, answer_line, read_task, refusal_word, write_error};
 use std::alloc::Global;
 use std::io::{BufReader, Read, Write};
 use term::NodeName;
+use text_lines::{ScriptFault, WriteFault, write_text};
 
 /// The most deliveries of one `settle`.
 const SETTLE_LIMIT: u32 = 100_000;

@@ -22,9 +22,9 @@ use Rattle.node_core.specs.Seen.{node_of}
 use Rattle.node_core.specs.Steps.{IsSaidBy}
 use Rattle.cluster_world.specs.Links.{mapped, AreFit}
 use Rattle.cluster_world.specs.Held.{IsWhole}
-use Rattle.cluster_world.specs.declared.history.HistoryEntry.{HistoryEntry}
+use Rattle.world_history.specs.declared.entry.HistoryEntry.{HistoryEntry}
 use Rattle.cluster_world.specs.Cores.{core_of}
-use Rattle.cluster_world.specs.Histories.{entry_of}
+use Rattle.world_history.specs.Histories.{entry_of}
 use Rattle.cluster_world.specs.Seen.{opening_with, opening_core, node_with, seen}
 use Rattle.cluster_world.specs.Starting.{Opens}
 use Rattle.cluster_world.proofs.Nodes.{listed, world_is}

@@ -30,9 +30,10 @@ use Rattle.node_events.specs.Seen.{entry_by, fault_of, is_memory as node_memory}
 use Rattle.node_core.specs.Steps.{Steps, IsSaidBy, IsHeardWithin, GoWithin, refusal_of as node_refusal}
 use Rattle.cluster_world.specs.Links.{mapped, letters_to, AreFit}
 use Rattle.cluster_world.specs.Held.{Held, IsWhole}
-use Rattle.cluster_world.specs.declared.history.HistoryEntry.{HistoryEntry}
+use Rattle.world_history.specs.declared.entry.HistoryEntry.{HistoryEntry}
 use Rattle.cluster_world.specs.Cores.{core_of}
-use Rattle.cluster_world.specs.Histories.{entry_of, number_of, number_at}
+use Rattle.world_history.specs.Histories.{entry_of}
+use Rattle.cluster_world.specs.Histories.{number_of, number_at}
 use Rattle.cluster_world.specs.Seen.{opening_of, node_with, seen}
 use Rattle.cluster_world.specs.declared.events.Refusal.TheVariants.{Memory as OutOfMemory}
 use Rattle.cluster_world.specs.Refusals.{refusal_by, is_memory}

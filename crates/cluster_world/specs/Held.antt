@@ -4,7 +4,7 @@ use Rattle.term.specs.NodeSets.{IsNodeSet}
 use Rattle.link.specs.Held.{Held as Mesh, seen}
 use Rattle.node_events.specs.declared.events.Letter.{Letter}
 use Rattle.node_core.specs.Held.{Held as Core}
-use Rattle.cluster_world.specs.declared.history.HistoryEntry.{HistoryEntry}
+use Rattle.world_history.specs.declared.entry.HistoryEntry.{HistoryEntry}
 use Rattle.cluster_world.specs.Links.{AreFit}
 
 pub record Held : Type 0 where

@@ -1,8 +1,6 @@
 pub mod Links
 pub mod Cores
 pub mod Histories
-pub mod KeptTexts
-pub mod Kept
 pub mod Held
 pub mod Events
 pub mod Refusals

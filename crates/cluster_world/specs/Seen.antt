@@ -11,7 +11,7 @@ use Rattle.node_core.specs.Seen.{node_of}
 use Rattle.cluster_world.specs.Links.{mapped}
 use Rattle.cluster_world.specs.Cores.{core_of}
 use Rattle.cluster_world.specs.Held.{Held}
-use Rattle.cluster_world.specs.Histories.{entry_of}
+use Rattle.world_history.specs.Histories.{entry_of}
 
 -- a world of these nodes, of which those of the cluster are joined
 abbrev pub opening_with : List ℕ → List ℕ → Opening

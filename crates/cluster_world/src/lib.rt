@@ -3,9 +3,6 @@
 
 mod events;
 mod history;
-mod keeper;
-mod kept;
-mod kept_name;
 pub mod laws;
 mod post;
 mod seat;
@@ -13,8 +10,7 @@ mod start;
 mod world;
 
 pub use events::{Event, Refusal, RunEnd, StartFault, WorldEvent};
-pub use history::HistoryEntry;
-pub use kept::KeptEntry;
 pub use node_core::{Answer, Call, Look, NameCall, Reply};
 pub use seat::{SeatFault, WorldSeat};
 pub use world::World;
+pub use world_history::{HistoryEntry, KeptEntry};

@@ -9,13 +9,13 @@ ghost use Rattle.cluster_world.specs.Excluding.{ExclusionAfter};
 ghost use Rattle.cluster_world.specs.Starting.{repeats, start_refused, start_fault_of, Opens};
 
 use crate::events::StartFault;
-use crate::history::History;
 use crate::world::World;
 use link::Mesh;
 use name_table::Names;
 use node_core::NodeCore;
 use std::alloc::{AllocError, Global};
 use term::{MOST_NODES, NodeName, NodeSet};
+use world_history::History;
 
 /// Whether one of these nodes stands twice, here or among the others.
 fn repeats_in(nodes: &[NodeName], others: &[NodeName]) -> bool

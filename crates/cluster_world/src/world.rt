@@ -3,8 +3,7 @@ ghost use Rattle.std.specs.Prelude.{◌≡◌};
 ghost use Rattle.cluster_world.specs.Seen.{is_holding};
 
 use crate::events::{Event, Refusal, RunEnd, WorldEvent};
-use crate::history::History;
-use crate::kept::KeptEntry;
+use crate::history::enter_all;
 use crate::post::post;
 use link::Mesh;
 use name_table::Names;
@@ -12,6 +11,7 @@ use node_core::{Answer, Call, Letter, NodeCore};
 use std::alloc::Global;
 use std::marker::Model;
 use term::{NodeName, NodeSet};
+use world_history::{History, KeptEntry};
 
 /// A world: its nodes, the links between them, and the history. Contracts see what it holds as the protocol's world.
 #[derive(Drop)]
@@ -94,7 +94,7 @@ impl<N: Names<Memory = Global>> World<N> {
         let answers = core.step(event, &mut letters)?;
         post(&mut self.links, node, letters)?;
         let entries = self.cores[place].entered();
-        self.history.enter(entries, &self.cores, node, join)?;
+        enter_all(&mut self.history, entries, &self.cores, node, join)?;
         Ok(answers)
     }
 

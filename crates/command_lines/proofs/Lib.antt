@@ -1,5 +1,3 @@
-pub mod Known
-pub mod Parts
 pub mod Texts
 mod Counts
 mod Refused

@@ -37,8 +37,3 @@ numbered_text r s reply h e k =
     subst (λ (t : List ℕ). IfOk r (λ text. string_bytes text ≡ t))
     (ap (λ (t : List ℕ). bytes_of s.node ++ (35 ∷ (decimal s.number ++ (32 ∷ (t ++ 10 ∷ []))))) e
     ∙ sym (numbered_line s h)) k
-
--- some more of a text is written
-pub written-more : (text part rest : List ℕ) (n : ℕ) → n ≤ length rest → text ≡ part ++ rest → text
-    ≡ (part ++ take n rest) ++ take (length rest - n) (drop n rest)
-written-more text part rest n l e = grind (arith, common_steps)

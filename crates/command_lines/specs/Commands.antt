@@ -6,8 +6,8 @@ use Rattle.cluster_world.specs.Events.{event_of}
 use Rattle.command_lines.specs.declared.faults.LineFault.{LineFault}
 use Rattle.command_lines.specs.declared.faults.LineFault.TheVariants.{LineTooLong, NotAscii}
 use Rattle.command_lines.specs.declared.grammar.Task.{Task}
-use Rattle.command_lines.specs.Lines.{longest_line}
-use Rattle.command_lines.specs.Words.{words}
+use Rattle.text_lines.specs.Lines.{longest_line}
+use Rattle.text_lines.specs.Words.{words}
 use Rattle.command_lines.specs.Grammar.{WordsAsk}
 
 -- each byte is below 128

@@ -1,14 +1,13 @@
 //! What a line asks for.
 ghost use Rattle.std.specs.Prelude.{◌≡◌, IfOk, MatchResult, MatchOption, true, false, List, ℕ, Some, None};
-ghost use Rattle.command_lines.specs.Lines.{IsKept};
+ghost use Rattle.text_lines.specs.Lines.{IsKept};
 ghost use Rattle.command_lines.specs.Commands.{LineAsks, asked_by, unread, is_ascii};
 
 use crate::faults::LineFault;
 use crate::grammar::{Task, read_words};
-use crate::lines::Line;
-use crate::words::words_of;
 use std::alloc::{AllocError, Global};
 use std::str;
+use text_lines::{Line, words_of};
 
 /// Whether each byte is below 128.
 fn all_ascii(bytes: &[u8]) -> bool

@@ -6,14 +6,14 @@ ghost use Rattle.std.specs.Io.KnownBytes.{Appends, Keeps};
 ghost use Rattle.protocol_model.specs.Script.{Said, TableIs, MembersAre};
 ghost use Rattle.node_events.specs.Seen.{answer_of as any_answer, reply_of as any_reply};
 ghost use Rattle.command_lines.specs.Printing as print;
-ghost use Rattle.command_lines.specs.Writing.{Writes};
+ghost use Rattle.text_lines.specs.Writing.{Writes};
 
-use crate::faults::WriteFault;
 use cluster_world::{Answer, Refusal, Reply};
 use name_table::Pair;
 use std::alloc::{AllocError, Global};
-use std::io::{ErrorKind, Write};
+use std::io::Write;
 use term::{Name, NodeName};
+use text_lines::{WriteFault, write_text};
 
 /// The text of names, in their order.
 fn names_text(alloc: Global, names: &[Name]) -> Result<String, AllocError>
@@ -126,39 +126,6 @@ pub fn refusal_word(refusal: &Refusal) -> Option<&'static str>
         Refusal::CallsSpent => Some("calls_spent"),
         Refusal::Memory => None,
     }
-}
-
-/// Writes some bytes of a text that isn't empty, and says how many: none where the writer was interrupted.
-fn write_some<W: Write>(writer: &mut W, text: &[u8]) -> Result<usize, WriteFault>
-    ensures { MatchResult result (λ n. (n ≤ length text.now) × Appends (W.contents writer.old) (W.contents writer.new) (take n text.now))
-        (λ _. Keeps (W.contents writer.old) (W.contents writer.new)) }
-{
-    match writer.write(text) {
-        Ok(0) => Err(WriteFault::Writer),
-        Ok(count) => Ok(count),
-        Err(e) => {
-            if e.kind() == ErrorKind::Interrupted {
-                Ok(0)
-            } else {
-                Err(WriteFault::Writer)
-            }
-        }
-    }
-}
-
-/// Writes a text. After a fault a part of it was written.
-pub fn write_text<W: Write>(writer: &mut W, text: &[u8]) -> Result<(), WriteFault>
-    ensures { Writes (W.contents writer.old) (W.contents writer.new) result text.now }
-{
-    let mut rest = text;
-    for _ in 0..u64::MAX {
-        if rest.is_empty() {
-            return Ok(());
-        }
-        let count = write_some(writer, rest)?;
-        rest = &rest[count..];
-    }
-    Err(WriteFault::Writer)
 }
 
 /// Writes the line of a refusal.

@@ -1,6 +1,6 @@
 use Rattle.std.proofs.Common.{Option, subst}
 use Rattle.std.specs.Io.Buffered.{reader_remaining}
-use Rattle.command_lines.specs.declared.lines.Line.{Line}
+use Rattle.text_lines.specs.declared.lines.Line.{Line}
 use Rattle.cluster_script.specs.Played.{ReadsOn}
 use Rattle.cluster_script.proofs.Headers.{ReadsLone-by}
 use Rattle.cluster_script.proofs.header.read_behind.Goals as goal

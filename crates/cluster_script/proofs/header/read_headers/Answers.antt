@@ -2,10 +2,10 @@ use Rattle.std.proofs.Common.{ℕ, List, Option, Result, subst, sym}
 use Rattle.std.specs.Io.Buffered.{reader_remaining}
 use Rattle.std.proofs.KnownBytes.{Keeps-trans}
 use Rattle.std.proofs.lemmas.Result.{err_from_is_err_and}
-use Rattle.command_lines.specs.declared.lines.Line.{Line}
+use Rattle.text_lines.specs.declared.lines.Line.{Line}
 use Rattle.command_lines.specs.declared.faults.LineFault.{LineFault}
-use Rattle.command_lines.specs.declared.faults.ScriptFault.{ScriptFault}
-use Rattle.command_lines.proofs.Known.{MatchResult-err}
+use Rattle.text_lines.specs.declared.faults.ScriptFault.{ScriptFault}
+use Rattle.text_lines.proofs.Known.{MatchResult-err}
 use Rattle.cluster_script.specs.declared.header.Cluster.{Cluster}
 use Rattle.cluster_script.specs.Headers.{OpensCluster, StopsOpening}
 use Rattle.cluster_script.specs.Script.{OpensNone}

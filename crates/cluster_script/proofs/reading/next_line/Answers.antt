@@ -1,11 +1,11 @@
 use Rattle.std.proofs.Common.{◌≡◌, ◌++◌, ◌∷◌, ◌+◌, ◌<◌, ℕ, List, [], Option, ◌∙◌, subst, ap, sym, append-nil, arith}
-use Rattle.command_lines.specs.Lines.{TakesLine, LosesLines, count_of, spoken}
+use Rattle.text_lines.specs.Lines.{TakesLine, LosesLines, count_of, spoken}
 use Rattle.std.proofs.KnownBytes.{Keeps-trans}
 use Rattle.std.proofs.lemmas.Result.{err_from_is_err_and}
-use Rattle.command_lines.specs.declared.lines.Line.{Line}
-use Rattle.command_lines.specs.declared.faults.ScriptFault.{ScriptFault}
+use Rattle.text_lines.specs.declared.lines.Line.{Line}
+use Rattle.text_lines.specs.declared.faults.ScriptFault.{ScriptFault}
 use Rattle.cluster_script.specs.Played.{StopsReading}
-use Rattle.command_lines.proofs.Known.{LosesLines-trans, spoken-append, spoken-blank, spoken-said, count_of_all-append, MatchResult-err}
+use Rattle.text_lines.proofs.Known.{LosesLines-trans, spoken-append, spoken-blank, spoken-said, count_of_all-append, MatchResult-err}
 use Rattle.cluster_script.proofs.Known.{LosesNext-behind, StopsReading-behind}
 use Rattle.std.specs.Io.Buffered.{reader_remaining}
 use Rattle.cluster_script.proofs.reading.next_line.Goals as goal

@@ -1,5 +1,5 @@
 use Rattle.std.proofs.Common.{◌≡◌, ◌+◌, ℕ, List, []}
-use Rattle.command_lines.specs.Lines.{spoken, count_of_all, LosesLines}
+use Rattle.text_lines.specs.Lines.{spoken, count_of_all, LosesLines}
 use Rattle.std.specs.Io.KnownBytes.{Keeps}
 use Rattle.std.specs.Io.Buffered.{reader_remaining}
 use Rattle.cluster_script.proofs.reading.next_line.Given as goal

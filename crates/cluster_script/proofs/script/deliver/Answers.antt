@@ -3,7 +3,7 @@ use Rattle.node_events.specs.Seen.{answer_of}
 use Rattle.node_events.specs.declared.events.Answer.{Answer}
 use Rattle.cluster_world.specs.declared.events.WorldEvent.TheVariants.{Deliver}
 use Rattle.command_lines.specs.Printing.{answers_text}
-use Rattle.command_lines.specs.Writing.{Writes}
+use Rattle.text_lines.specs.Writing.{Writes}
 use Rattle.cluster_script.proofs.Settling.{Delivers-played}
 use Rattle.cluster_script.proofs.script.deliver.Goals as goal
 

@@ -2,7 +2,7 @@ use Rattle.std.proofs.Common.{Bool, [], ◌∷◌, Option, Result, subst, sym, r
 use Rattle.std.proofs.lemmas.Result.{err_from_is_err_and}
 use Rattle.std.specs.Io.Buffered.{reader_remaining}
 use Rattle.command_lines.specs.declared.faults.LineFault.{LineFault}
-use Rattle.command_lines.specs.declared.faults.ScriptFault.{ScriptFault}
+use Rattle.text_lines.specs.declared.faults.ScriptFault.{ScriptFault}
 use Rattle.command_lines.specs.declared.grammar.Task.{Task}
 use Rattle.command_lines.specs.Commands.{asked_by}
 use Rattle.cluster_script.specs.Headers.{asked_first}

@@ -9,8 +9,9 @@ use Rattle.cluster_script.specs.Played.{okay_text}
 use Rattle.node_events.specs.Seen.{answer_of}
 use Rattle.node_events.specs.declared.events.Answer.{Answer}
 use Rattle.command_lines.specs.Printing.{answers_text, error_line}
-use Rattle.command_lines.specs.Writing.{AppendsPart}
-use Rattle.cluster_script.proofs.Writing.{PlaysOrStops-err, AppendsPart-behind, AppendsPart-more}
+use Rattle.text_lines.specs.Writing.{AppendsPart}
+use Rattle.text_lines.proofs.Written.{AppendsPart-behind, AppendsPart-more}
+use Rattle.cluster_script.proofs.Writing.{PlaysOrStops-err}
 use Rattle.cluster_script.proofs.Playing.{play-accepted, play-refused, text-accepted, text-refused, not_memory}
 use Rattle.std.proofs.Common.{map}
 use Rattle.cluster_script.proofs.script.play_event.Goals as goal

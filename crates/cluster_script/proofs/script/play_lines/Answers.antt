@@ -1,11 +1,11 @@
 use Rattle.std.proofs.Common.{◌≡◌, ◌+◌, ◌<◌, ℕ, Bool, List, [], ◌∷◌, Option, ◌∙◌, subst, sym, arith, refl}
 use Rattle.std.proofs.lemmas.Result.{err_from_is_err_and}
-use Rattle.command_lines.specs.declared.lines.Line.{Line}
-use Rattle.command_lines.specs.declared.faults.ScriptFault.{ScriptFault}
-use Rattle.command_lines.specs.Lines.{spoken, count_of_all}
+use Rattle.text_lines.specs.declared.lines.Line.{Line}
+use Rattle.text_lines.specs.declared.faults.ScriptFault.{ScriptFault}
+use Rattle.text_lines.specs.Lines.{spoken, count_of_all}
 use Rattle.command_lines.specs.Commands.{asked_by}
 use Rattle.cluster_script.specs.Played.{ReadsOn, PlaysLines, StopsPlaying}
-use Rattle.command_lines.proofs.Known.{count_of_all-some}
+use Rattle.text_lines.proofs.Known.{count_of_all-some}
 use Rattle.cluster_script.proofs.Scripts.{PlaysLines-start, PlaysLines-next, PlaysSome-next, PlaysLines-blank, PlaysLines-kept, StopsPlaying-next, PlaysAll-err, StopsPlaying-reading, StopsPlaying-writing}
 use Rattle.std.specs.Io.Buffered.{reader_remaining}
 use Rattle.cluster_script.proofs.script.play_lines.Goals as goal

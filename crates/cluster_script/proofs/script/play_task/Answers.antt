@@ -5,7 +5,7 @@ use Rattle.command_lines.specs.declared.grammar.Task.{Task}
 use Rattle.command_lines.specs.Commands.{asked_by}
 use Rattle.command_lines.specs.Printing.{error_line}
 use Rattle.cluster_script.specs.Played.{PlaysOrStops, shown_on}
-use Rattle.command_lines.specs.Writing.{AppendsPart}
+use Rattle.text_lines.specs.Writing.{AppendsPart}
 use Rattle.cluster_script.proofs.Writing.{PlaysOrStops-err}
 use Rattle.cluster_script.proofs.Playing.{text-fault}
 use Rattle.cluster_script.proofs.script.play_task.Goals as goal

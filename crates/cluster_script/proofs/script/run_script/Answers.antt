@@ -2,10 +2,10 @@ use Rattle.std.proofs.Common.{ℕ, List, subst, sym, refl, arith}
 use Rattle.std.specs.Io.KnownBytes.{Appends}
 use Rattle.std.specs.Io.Buffered.{reader_remaining}
 use Rattle.std.proofs.lemmas.Result.{err_from_is_err_and}
-use Rattle.command_lines.specs.declared.faults.ScriptFault.{ScriptFault}
-use Rattle.command_lines.specs.Lines.{spoken}
+use Rattle.text_lines.specs.declared.faults.ScriptFault.{ScriptFault}
+use Rattle.text_lines.specs.Lines.{spoken}
 use Rattle.command_lines.specs.Printing.{error_line}
-use Rattle.command_lines.specs.Writing.{AppendsPart}
+use Rattle.text_lines.specs.Writing.{AppendsPart}
 use Rattle.cluster_script.specs.declared.header.Headers.{Headers}
 use Rattle.cluster_script.specs.Headers.{ReadsHeaders}
 use Rattle.cluster_script.specs.Script.{Stopped}

@@ -1,7 +1,8 @@
 use Rattle.std.proofs.Common.{ℕ, List, ◌∙◌, subst}
 use Rattle.std.proofs.lemmas.Result.{err_from_is_err_and}
-use Rattle.command_lines.specs.Writing.{AppendsPart}
-use Rattle.cluster_script.proofs.Writing.{Writes-err, AppendsPart-none, answers-part}
+use Rattle.text_lines.specs.Writing.{AppendsPart}
+use Rattle.text_lines.proofs.Written.{Writes-err, AppendsPart-none}
+use Rattle.cluster_script.proofs.Writing.{answers-part}
 use Rattle.cluster_script.proofs.script.write_answers.Goals as goal
 
 pub returns-in_err-line : goal.returns-in_err-line

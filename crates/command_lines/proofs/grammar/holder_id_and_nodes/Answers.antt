@@ -2,7 +2,7 @@ use Rattle.std.proofs.Common.{sym, subst, inl, inr}
 use Rattle.std.proofs.lemmas.Result.{err_from_is_err_and}
 use Rattle.term.specs.declared.faults.TextFault.{TextFault}
 use Rattle.command_lines.specs.LockTexts.{RefusesTarget}
-use Rattle.command_lines.proofs.Known.{MatchResult-err}
+use Rattle.text_lines.proofs.Known.{MatchResult-err}
 use Rattle.command_lines.proofs.grammar.holder_id_and_nodes.Goals as goal
 
 pub returns-in_err-parse_target : goal.returns-in_err-parse_target

@@ -9,7 +9,8 @@ use Rattle.node_events.specs.Seen.{entry_by}
 use Rattle.node_core.specs.Steps.{IsHeardWithin}
 use Rattle.cluster_world.specs.declared.events.Refusal.TheVariants.{NodeLeft, Memory}
 use Rattle.cluster_world.specs.Held.{Held}
-use Rattle.cluster_world.specs.Histories.{entry_of, number_at}
+use Rattle.world_history.specs.Histories.{entry_of}
+use Rattle.cluster_world.specs.Histories.{number_at}
 use Rattle.cluster_world.specs.Refusals.{refusal_by}
 use Rattle.cluster_world.specs.Steps.{Moves, FailsAt}
 use Rattle.cluster_world.proofs.Nodes.{no_place, known_place}

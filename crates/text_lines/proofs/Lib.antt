@@ -1,0 +1,3 @@
+mod Parts
+pub mod Known
+pub mod Written

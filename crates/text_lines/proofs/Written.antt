@@ -1,0 +1,41 @@
+-- Texts that are written in parts.
+use Rattle.std.proofs.Common.{ℕ, List, [], ◌++◌, ◌≡◌, ◌≤◌, ◌-◌, Option, refl, sym, ap, ◌∙◌, append_assoc, Result, Err, length, take, drop, arith}
+use Rattle.std.specs.Io.KnownBytes.{Appends}
+use Rattle.std.proofs.KnownBytes.{Appends-trans, Appends-nil}
+use Rattle.std.proofs.lemmas.Grind.{common_steps}
+use Rattle.text_lines.specs.Writing.{AppendsPart, Writes}
+
+-- some more of a text is written
+pub written-more : (text part rest : List ℕ) (n : ℕ) → n ≤ length rest → text ≡ part ++ rest → text
+    ≡ (part ++ take n rest) ++ take (length rest - n) (drop n rest)
+written-more text part rest n l e = grind (arith, common_steps)
+
+-- nothing of a text was written
+pub AppendsPart-none : (a : Option (List ℕ)) (text : List ℕ) → AppendsPart a a text
+AppendsPart-none a text = ([], text, refl, Appends-nil a)
+
+-- a text was written, and a part of the next
+pub AppendsPart-behind : (a b c : Option (List ℕ)) (front text : List ℕ) → Appends a b front → AppendsPart b c text
+    → AppendsPart a c (front ++ text)
+AppendsPart-behind a b c front text h p = (
+  front ++ p.0,
+  p.1,
+  ap (λ (t : List ℕ). front ++ t) p.2
+      ∙ sym (append_assoc front p.0 p.1),
+  Appends-trans a b c front p.0 h p.3,
+)
+
+-- a part of a text is one of a longer text
+pub AppendsPart-more : (a b : Option (List ℕ)) (text more : List ℕ) → AppendsPart a b text
+    → AppendsPart a b (text ++ more)
+AppendsPart-more a b text more p =
+    (p.0, p.1 ++ more, ap (λ (t : List ℕ). t ++ more) p.2 ∙ append_assoc p.0 p.1 more, p.3)
+
+-- a whole text is a part of a longer one
+pub AppendsPart-whole : (a b : Option (List ℕ)) (text more : List ℕ) → Appends a b text → AppendsPart a b (text ++ more)
+AppendsPart-whole a b text more h = (text, more, refl, h)
+
+-- what the exit of a `?` says of a text
+pub Writes-err : {A E : Type 0} (a b : Option (List ℕ)) (r : Result A E) (y : E) (text : List ℕ) → r ≡ Err y
+    → AppendsPart a b text → Writes a b r text
+Writes-err a b r y text e p = rw e p

@@ -1,0 +1,61 @@
+//! Why a script ends early.
+ghost use Rattle.std.specs.Prelude.{◌≡◌};
+ghost use Rattle.text_lines.specs.Writing.{stop_of};
+ghost use Rattle.text_lines.specs.declared.faults.ScriptFault.TheVariants.{Memory};
+ghost use Rattle.text_lines.specs.declared.faults.WriteFault.TheVariants as write;
+
+use std::alloc::AllocError;
+use thiserror::Error;
+
+/// Why a script ended before its last line was played.
+#[derive(Debug, Drop, Error)]
+pub enum ScriptFault {
+    /// The reader failed: all is written that the lines before print.
+    #[error("the script can't be read")]
+    Read,
+    /// The writer failed: a part is written of what the lines so far print.
+    #[error("the answers can't be written")]
+    Write,
+    /// The next line takes the count past 1,000,000 lines: all is written that the lines before it print.
+    #[error("too many lines")]
+    TooManyLines,
+    /// Memory was refused: a part is written of what the lines so far print.
+    #[error("out of memory")]
+    Memory,
+}
+
+impl From<AllocError> for ScriptFault {
+    ghost from_gives = { λ _ e. e ≡ Memory };
+
+    fn from(_: AllocError) -> Self {
+        ScriptFault::Memory
+    }
+}
+
+/// Why a text wasn't written.
+#[derive(Drop)]
+pub enum WriteFault {
+    /// The writer failed.
+    Writer,
+    /// Memory was refused.
+    Memory,
+}
+
+impl From<AllocError> for WriteFault {
+    ghost from_gives = { λ _ e. e ≡ write.Memory };
+
+    fn from(_: AllocError) -> Self {
+        WriteFault::Memory
+    }
+}
+
+impl From<WriteFault> for ScriptFault {
+    ghost from_gives = { λ f e. e ≡ stop_of f };
+
+    fn from(fault: WriteFault) -> Self {
+        match fault {
+            WriteFault::Writer => ScriptFault::Write,
+            WriteFault::Memory => ScriptFault::Memory,
+        }
+    }
+}

@@ -1,0 +1,12 @@
+//! The lines of a reader, their words, and texts that are written: bytes, whatever they say.
+#![tactic(auto)]
+
+mod faults;
+mod lines;
+mod words;
+mod writing;
+
+pub use faults::{ScriptFault, WriteFault};
+pub use lines::{Line, is_blank, read_line};
+pub use words::words_of;
+pub use writing::write_text;

@@ -1,0 +1,170 @@
+//! What makes entries small.
+ghost use Rattle.std.specs.Prelude.{◌≡◌, map, IfOk};
+ghost use Rattle.registry_model.specs.History.{Entry as AnyEntry};
+ghost use Rattle.transaction.specs.Ops.{name_call_of};
+ghost use Rattle.node_events.specs.Seen.{reply_of, entry_by};
+ghost use Rattle.world_history.specs.declared.entry.HistoryEntry.{HistoryEntry};
+ghost use Rattle.world_history.specs.Histories.{entry_of};
+ghost use Rattle.world_history.specs.Kept.{reply_in, call_in, entry_in};
+
+use crate::kept::{Decision, Kept, KeptCall, KeptEntry, KeptPid, KeptReply};
+use crate::kept_name::KeptName;
+use node_events::{Entry, Look, Reply};
+use std::alloc::{AllocError, Global};
+use std::rc::Rc;
+use term::{Name, NodeName, NodeSet, Pid};
+use transaction::NameCall;
+
+/// Makes what is kept of entries. They share the names of these nodes.
+#[derive(Drop)]
+pub(crate) struct Keeper {
+    nodes: Vec<Rc<NodeName>>,
+}
+
+impl Keeper {
+    /// What shares the names of these nodes.
+    pub(crate) fn new(alloc: Global, nodes: &NodeSet) -> Result<Self, AllocError>
+        ensures { IfOk result (λ keeper. map (λ n. n.value) keeper.nodes.items ≡ nodes.now) }
+    {
+        let mut shared = Vec::new(alloc);
+        for node in nodes.as_slice() {
+            shared.push(Rc::new(alloc, node.copy())?)?;
+        }
+        Ok(Keeper { nodes: shared })
+    }
+
+    /// The memory that it takes.
+    fn alloc(&self) -> Global {
+        *self.nodes.allocator()
+    }
+
+    /// Keeps the name of a node. Only that of a node outside the world takes memory.
+    fn node(&self, node: &NodeName) -> Result<Rc<NodeName>, AllocError>
+        ensures { IfOk result (λ kept. kept.value ≡ node.now) }
+    {
+        for shared in &self.nodes {
+            if shared.as_ref() == node {
+                return shared.clone();
+            }
+        }
+        Ok(Rc::new(self.alloc(), node.copy())?)
+    }
+
+    /// Keeps a name.
+    fn name(&self, name: &Name) -> Result<KeptName, AllocError>
+        ensures { IfOk result (λ kept. kept ≡ name.now) }
+    {
+        KeptName::keep(self.alloc(), name)
+    }
+
+    /// Keeps a process.
+    fn process(&self, process: &Pid) -> Result<KeptPid, AllocError>
+        ensures { IfOk result (λ kept. kept ≡ process.now) }
+    {
+        Ok(KeptPid {
+            node: self.node(&process.node)?,
+            serial: process.serial,
+        })
+    }
+
+    /// Keeps a name call.
+    fn call(&self, call: &NameCall) -> Result<KeptCall, AllocError>
+        ensures { IfOk result (λ kept. call_in kept ≡ call.now) }
+    {
+        Ok(match call {
+            NameCall::Register(name, owner) => KeptCall::Register(
+                self.name(name)?,
+                self.process(owner)?,
+            ),
+            NameCall::ReRegister(name, owner) => KeptCall::ReRegister(
+                self.name(name)?,
+                self.process(owner)?,
+            ),
+            NameCall::Unregister(name) => KeptCall::Unregister(self.name(name)?),
+        })
+    }
+
+    /// Keeps a reply.
+    fn reply(&self, reply: &Reply) -> Result<KeptReply, AllocError>
+        ensures { IfOk result (λ kept. reply_of (reply_in kept) ≡ reply_of reply.now) }
+    {
+        Ok(match reply {
+            Reply::Yes => KeptReply::Yes,
+            Reply::No => KeptReply::No,
+            Reply::Ok => KeptReply::Ok,
+            Reply::UnknownNode => KeptReply::UnknownNode,
+            Reply::True => KeptReply::True,
+            Reply::False => KeptReply::False,
+            Reply::Joined => KeptReply::Joined,
+            Reply::NotMember => KeptReply::NotMember,
+            Reply::ContactLeft => KeptReply::ContactLeft,
+            Reply::Pid(process) => KeptReply::Pid(self.process(process)?),
+            Reply::Undefined => KeptReply::Undefined,
+            Reply::Names(names) => KeptReply::Names(Box::new(self.alloc(), names.copy()?)?),
+        })
+    }
+
+    /// Keeps a name call that was decided: its node, its number there, the call and the reply.
+    fn decision(
+        &self,
+        node: &NodeName,
+        number: u32,
+        call: &NameCall,
+        reply: &Reply,
+    ) -> Result<Kept, AllocError>
+        ensures { IfOk result (λ kept. entry_of (entry_in kept)
+            ≡ AnyEntry.Name node.now number (name_call_of call.now) (reply_of reply.now)) }
+    {
+        let decision = Decision {
+            node: self.node(node)?,
+            number,
+            call: self.call(call)?,
+            reply: self.reply(reply)?,
+        };
+        Ok(Kept::Name(Box::new(self.alloc(), decision)?))
+    }
+
+    /// Keeps a join that was decided: the joiner, the number of its call there, its contact and the reply.
+    fn join(
+        &self,
+        joiner: &NodeName,
+        number: u32,
+        contact: &NodeName,
+        reply: KeptReply,
+    ) -> Result<Kept, AllocError>
+        ensures { IfOk result (λ kept. entry_in kept ≡ HistoryEntry.Join joiner.now number contact.now (reply_in reply)) }
+    {
+        let (joiner, contact) = (self.node(joiner)?, self.node(contact)?);
+        Ok(Kept::Join(joiner, number, contact, reply))
+    }
+
+    /// Keeps an entry of a node. Where that decided a join of another node, `number` is that of its call there.
+    pub(crate) fn entry(&self, entry: &Entry, number: u32) -> Result<KeptEntry, AllocError>
+        ensures { IfOk result (λ kept. entry_of kept ≡ entry_by (λ _. number) entry.now) }
+    {
+        let kept = match entry {
+            Entry::Name(node, number, call, reply) => self.decision(node, *number, call, reply)?,
+            Entry::Strike(process) => Kept::Strike(self.process(process)?),
+            Entry::Exit(process) => Kept::Exit(self.process(process)?),
+            Entry::Done(node) => Kept::Done(self.node(node)?),
+            Entry::Left(node) => Kept::Left(self.node(node)?),
+            Entry::Told(node, gone) => Kept::Told(self.node(node)?, self.node(gone)?),
+            Entry::Read(node, Look::Whereis(name), reply) => {
+                Kept::Whereis(self.node(node)?, self.name(name)?, self.reply(reply)?)
+            }
+            Entry::Read(node, Look::RegisteredNames, reply) => {
+                Kept::RegisteredNames(self.node(node)?, self.reply(reply)?)
+            }
+            Entry::Joined(joiner, contact) => {
+                self.join(joiner, number, contact, KeptReply::Joined)?
+            }
+            Entry::NotMember(joiner, contact) => {
+                self.join(joiner, number, contact, KeptReply::NotMember)?
+            }
+            Entry::ContactLeft(joiner, number, contact) => {
+                self.join(joiner, *number, contact, KeptReply::ContactLeft)?
+            }
+        };
+        Ok(KeptEntry::new(kept))
+    }
+}

@@ -1,0 +1,182 @@
+//! What a world keeps of its history: entries in little memory.
+ghost use Rattle.std.specs.Prelude.{◌≡◌, IfOk};
+ghost use Rattle.node_events.specs.Seen.{reply_of};
+ghost use Rattle.world_history.specs.Histories.{entry_of};
+ghost use Rattle.world_history.specs.Kept.{reply_in, call_in, entry_in};
+
+use crate::entry::HistoryEntry;
+use crate::kept_name::KeptName;
+use node_events::{Look, NameList, Reply};
+use std::alloc::AllocError;
+use std::marker::Model;
+use std::mem::size_of;
+use std::rc::Rc;
+use term::{NodeName, Pid};
+use transaction::NameCall;
+
+/// A process, whose node is shared with other entries.
+#[derive(Drop)]
+pub(crate) struct KeptPid {
+    pub(crate) node: Rc<NodeName>,
+    pub(crate) serial: u32,
+}
+
+impl Model for KeptPid {
+    ghost use Rattle.registry_model.specs.Process.{Process};
+
+    ghost Value = { Process };
+
+    ghost view = { λ p. record { node = p.node.value; serial = p.serial } };
+}
+
+impl KeptPid {
+    /// The process.
+    fn process(&self) -> Pid
+        ensures { result ≡ self.now }
+    {
+        Pid {
+            node: self.node.copy(),
+            serial: self.serial,
+        }
+    }
+}
+
+/// A name call.
+#[derive(Drop)]
+pub(crate) enum KeptCall {
+    Register(KeptName, KeptPid),
+    ReRegister(KeptName, KeptPid),
+    Unregister(KeptName),
+}
+
+impl KeptCall {
+    /// The call.
+    fn call(&self) -> NameCall
+        ensures { result ≡ call_in self.now }
+    {
+        match self {
+            KeptCall::Register(name, owner) => NameCall::Register(name.name(), owner.process()),
+            KeptCall::ReRegister(name, owner) => NameCall::ReRegister(name.name(), owner.process()),
+            KeptCall::Unregister(name) => NameCall::Unregister(name.name()),
+        }
+    }
+}
+
+/// A reply.
+#[derive(Drop)]
+pub(crate) enum KeptReply {
+    Yes,
+    No,
+    Ok,
+    UnknownNode,
+    True,
+    False,
+    Joined,
+    NotMember,
+    ContactLeft,
+    Pid(KeptPid),
+    Undefined,
+    Names(Box<NameList>),
+}
+
+impl KeptReply {
+    /// The reply. Only a list of names takes memory.
+    fn reply(&self) -> Result<Reply, AllocError>
+        ensures { IfOk result (λ reply. reply_of reply ≡ reply_of (reply_in self.now)) }
+    {
+        Ok(match self {
+            KeptReply::Yes => Reply::Yes,
+            KeptReply::No => Reply::No,
+            KeptReply::Ok => Reply::Ok,
+            KeptReply::UnknownNode => Reply::UnknownNode,
+            KeptReply::True => Reply::True,
+            KeptReply::False => Reply::False,
+            KeptReply::Joined => Reply::Joined,
+            KeptReply::NotMember => Reply::NotMember,
+            KeptReply::ContactLeft => Reply::ContactLeft,
+            KeptReply::Pid(process) => Reply::Pid(process.process()),
+            KeptReply::Undefined => Reply::Undefined,
+            KeptReply::Names(names) => Reply::Names(names.copy()?),
+        })
+    }
+}
+
+/// A name call that was decided: its node, its number there, the call and the reply.
+#[derive(Drop)]
+pub(crate) struct Decision {
+    pub(crate) node: Rc<NodeName>,
+    pub(crate) number: u32,
+    pub(crate) call: KeptCall,
+    pub(crate) reply: KeptReply,
+}
+
+/// What is kept of an entry. Each of its kinds is that of a `HistoryEntry`, but a look-up for one name and one for all are two.
+/// A decided name call lies in memory of its own, since it is larger than the others.
+#[derive(Drop)]
+pub(crate) enum Kept {
+    Name(Box<Decision>),
+    Strike(KeptPid),
+    Join(Rc<NodeName>, u32, Rc<NodeName>, KeptReply),
+    Done(Rc<NodeName>),
+    Exit(KeptPid),
+    Left(Rc<NodeName>),
+    Told(Rc<NodeName>, Rc<NodeName>),
+    Whereis(Rc<NodeName>, KeptName, KeptReply),
+    RegisteredNames(Rc<NodeName>, KeptReply),
+}
+
+/// An entry as a world keeps it: 72 bytes, and memory of its own for a decided name call, a list of names, a name of more than
+/// 16 bytes and the name of a node outside the world. Contracts see the entry that is kept.
+#[derive(Drop)]
+pub struct KeptEntry {
+    kept: Kept,
+}
+
+impl Model for KeptEntry {
+    ghost use Rattle.world_history.specs.declared.entry.HistoryEntry.{HistoryEntry};
+    ghost use Rattle.world_history.specs.Kept.{entry_in};
+
+    ghost Value = { HistoryEntry };
+
+    ghost view = { λ e. entry_in e.kept };
+}
+
+// Look-ups come in any number, and change nothing else in a world: so an entry is small.
+const _: () = prove!(size_of::<KeptEntry>() == 72);
+
+impl KeptEntry {
+    /// Keeps what is kept of an entry.
+    pub(crate) fn new(kept: Kept) -> Self
+        ensures { result ≡ entry_in kept }
+    {
+        KeptEntry { kept }
+    }
+
+    /// The entry, made again. Only a list of names takes memory.
+    pub fn entry(&self) -> Result<HistoryEntry, AllocError>
+        ensures { IfOk result (λ entry. entry_of entry ≡ entry_of self.now) }
+    {
+        Ok(match &self.kept {
+            Kept::Name(decision) => HistoryEntry::Name(
+                decision.node.copy(),
+                decision.number,
+                decision.call.call(),
+                decision.reply.reply()?,
+            ),
+            Kept::Strike(process) => HistoryEntry::Strike(process.process()),
+            Kept::Join(joiner, number, contact, reply) => {
+                HistoryEntry::Join(joiner.copy(), *number, contact.copy(), reply.reply()?)
+            }
+            Kept::Done(node) => HistoryEntry::Done(node.copy()),
+            Kept::Exit(process) => HistoryEntry::Exit(process.process()),
+            Kept::Left(node) => HistoryEntry::Left(node.copy()),
+            Kept::Told(node, gone) => HistoryEntry::Told(node.copy(), gone.copy()),
+            Kept::Whereis(node, name, reply) => {
+                HistoryEntry::Read(node.copy(), Look::Whereis(name.name()), reply.reply()?)
+            }
+            Kept::RegisteredNames(node, reply) => {
+                HistoryEntry::Read(node.copy(), Look::RegisteredNames, reply.reply()?)
+            }
+        })
+    }
+}

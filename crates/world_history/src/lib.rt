@@ -1,0 +1,12 @@
+//! The history of a world, kept in little memory.
+#![tactic(auto)]
+
+mod entry;
+mod history;
+mod keeper;
+mod kept;
+mod kept_name;
+
+pub use entry::HistoryEntry;
+pub use history::History;
+pub use kept::KeptEntry;
