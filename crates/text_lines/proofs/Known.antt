@@ -9,7 +9,8 @@ use Rattle.std.specs.Io.KnownBytes.{Consumes}
 use Rattle.std.proofs.KnownBytes.{Consumes-trans, Consumes-nil, Consumes-kept}
 use Rattle.std.proofs.lemmas.Bool.{ne_eqb}
 use Rattle.std.proofs.lemmas.List.Elements.{All-append, All-cons, All-nil, All-head, All-tail}
-use Rattle.text_lines.specs.Lines.{HasLines, TakesByte, TakesPart, HasNoFeed, LosesLines, HasNoLine, line_of, count_for, count_of, count_of_all, spoken, is_blank, BeginsWithLines, GoesPast, GoesPastFor, LosesInto, LosesWithinLine, IsWithinLine, MayEndIn, StopsAtByte, StopsAtLine}
+use Rattle.text_lines.specs.Lines.{HasLines, TakesByte, TakesPart, HasNoFeed, LosesLines, HasNoLine, line_of, count_for, count_of, count_of_all, spoken, is_blank, BeginsWithLines, GoesPast, GoesPastFor, LosesInto, LosesWithinLine, IsWithinLine, MayEndIn, StopsAtByte, StopsAtLine, TakesSome, TakesAtHand, IsPart}
+use Rattle.text_lines.specs.declared.lines.Part.{Part}
 use Rattle.text_lines.specs.declared.faults.ScriptFault.{ScriptFault}
 use Rattle.text_lines.specs.declared.faults.ScriptFault.TheVariants as fault
 use Rattle.text_lines.proofs.Parts.{length-line_of}
@@ -26,6 +27,38 @@ pub Consumes-more : (a b c : Option (List ℕ)) (bytes : List ℕ) (x : ℕ) (r 
     → TakesByte b c r → r ≡ Some x → Consumes a c (bytes ++ x ∷ [])
 Consumes-more a b c bytes x r h t e = Consumes-trans a b c bytes (x ∷ []) h
     (subst (λ (o : Option ℕ). TakesByte b c o) e t)
+
+-- bytes of a line, and then those at hand of it
+reads : (a b c : Option (List ℕ)) (part more : Part) (e : Bool)
+    → (bytes : List ℕ) × IsPart bytes part × HasNoFeed bytes × Consumes a b bytes → TakesAtHand b c part more e
+    → (bytes : List ℕ) × IsPart bytes more × HasNoFeed bytes × TakesSome a c e bytes
+reads a b c part more e r t = (
+  r.0 ++ t.0,
+  t.2 r.0 r.1,
+  All-append (λ x. (x == 10) ≡ false) r.0 t.0 r.2 t.1,
+  taken e t.3,
+)
+  where
+    taken : (e : Bool) → TakesSome b c e t.0 → TakesSome a c e (r.0 ++ t.0)
+    taken true s = subst (λ (xs : List ℕ). Consumes a c xs) (sym (append_assoc r.0 t.0 (10 ∷ [])))
+        (Consumes-trans a b c r.0 (t.0 ++ 10 ∷ []) r.3 s)
+    taken false s = Consumes-trans a b c r.0 t.0 r.3 s
+
+-- without a line feed
+pub reads-on : (a b c : Option (List ℕ)) (part more : Part) (e : Bool)
+    → (bytes : List ℕ) × IsPart bytes part × HasNoFeed bytes × Consumes a b bytes → TakesAtHand b c part more e
+    → e ≡ false → (bytes : List ℕ) × IsPart bytes more × HasNoFeed bytes × Consumes a c bytes
+reads-on a b c part more e r t is =
+    let u = reads a b c part more e r t in
+    (u.0, u.1, u.2, subst (λ (x : Bool). TakesSome a c x u.0) is u.3)
+
+-- with one
+pub reads-end : (a b c : Option (List ℕ)) (part more : Part) (e : Bool)
+    → (bytes : List ℕ) × IsPart bytes part × HasNoFeed bytes × Consumes a b bytes → TakesAtHand b c part more e
+    → e ≡ true → (bytes : List ℕ) × IsPart bytes more × HasNoFeed bytes × TakesPart a c true bytes
+reads-end a b c part more e r t is =
+    let u = reads a b c part more e r t in
+    (u.0, u.1, u.2, subst (λ (x : Bool). TakesSome a c x u.0) is u.3)
 
 -- a line of so few lines isn't longer
 pub count_for-bound : (n len most : ℕ) → len ≤ n + 1 → count_for n ≤ most → most ≤ 1000000 → len ≤ 1024001025

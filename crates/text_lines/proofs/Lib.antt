@@ -1,3 +1,4 @@
 mod Parts
+mod AtHand
 pub mod Known
 pub mod Written

@@ -1,29 +1,40 @@
 -- What is kept of a line while it is read.
-use Rattle.std.proofs.Common.{ℕ, Bool, true, false, List, [], ◌∷◌, ◌++◌, ◌≡◌, ◌<◌, ◌≤◌, ◌+◌, ◌-◌, ◌==◌, length, take, slice_index, sym, ap, ◌∙◌, arith, length-append}
+use Rattle.std.proofs.Common.{ℕ, Bool, true, false, List, [], ◌∷◌, ◌++◌, ◌≡◌, ◌<◌, ◌≤◌, ◌+◌, ◌-◌, ◌==◌, length, take, min, slice_index, sym, ap, ◌∙◌, arith, append-nil, zero, suc, refl}
 use Rattle.std.specs.Prelude.{if◌then◌else◌}
-use Rattle.std.proofs.lemmas.List.{take-append-le, take_all, length-take-le}
-use Rattle.std.proofs.Math.Seq.{get_or-append_seam}
+use Rattle.std.proofs.lemmas.List.{take_all, length-take-le}
+use Rattle.std.proofs.lemmas.Grind.{common_steps}
 use Rattle.text_lines.specs.Lines.{line_of}
 
--- as many bytes as are kept are all, where they fit
-pub take-push_all : (bytes : List ℕ) (b : ℕ) → length bytes ≤ 1024 → take 1025 (bytes ++ b ∷ []) ≡ take 1025 bytes ++ b
-    ∷ []
-take-push_all bytes b l =
-    let n : length (bytes ++ b ∷ []) ≤ 1025 = omega (arith, length-append bytes (b ∷ [])) in
-    take_all 1025 (bytes ++ b ∷ []) n ∙ ap (λ (xs : List ℕ). xs ++ b ∷ []) (sym (take_all 1025 bytes (omega arith)))
+-- the first bytes of two lists
+take-append : (xs : List ℕ) (n : ℕ) (ys : List ℕ) → take n (xs ++ ys) ≡ take n xs ++ take (n - length xs) ys
+take-append [] zero ys = refl
+take-append [] (suc n) ys =
+    let e : suc n ≡ suc n - length {A = ℕ} [] = omega arith in ap (λ (k : ℕ). take k ys) e
+take-append (x ∷ xs) zero ys =
+    let e : 0 ≡ 0 - length (x ∷ xs) = omega arith in ap (λ (k : ℕ). take k ys) e
+take-append (x ∷ xs) (suc n) ys =
+    let e : n - length xs ≡ suc n - length (x ∷ xs) = omega arith in
+    ap (λ (l : List ℕ). x ∷ l) (take-append xs n ys ∙ ap (λ (k : ℕ). take n xs ++ take k ys) e)
 
--- more are not kept
-pub take-push_full : (bytes : List ℕ) (b : ℕ) → 1024 < length bytes → take 1025 (bytes ++ b ∷ []) ≡ take 1025 bytes
-take-push_full bytes b l = take-append-le 1025 bytes (b ∷ []) (omega arith)
+-- more bytes are kept as long as they fit
+pub take-extend : (before bytes : List ℕ) (n : ℕ) → n ≡ min (length bytes) (1025 - length before)
+    → take 1025 before ++ take n bytes ≡ take 1025 (before ++ bytes)
+take-extend before bytes n e = ap (λ (xs : List ℕ). take 1025 before ++ xs) (fitting n e)
+    ∙ sym (take-append before 1025 bytes)
+  where
+    fitting : (n : ℕ) → n ≡ min (length bytes) (1025 - length before) → take n bytes ≡ take (1025 - length before) bytes
+    fitting n e = grind (arith, common_steps)
 
--- the last byte
-pub last-push : (bytes : List ℕ) (b : ℕ) → slice_index (bytes ++ b ∷ []) (length (bytes ++ b ∷ []) - 1) ≡ b
-last-push bytes b =
-    let n : length (bytes ++ b ∷ []) - 1 ≡ length bytes = omega (arith, length-append bytes (b ∷ [])) in
-    ap (λ (k : ℕ). slice_index (bytes ++ b ∷ []) k) n ∙ get_or-append_seam bytes b [] 0
+-- of more bytes the last is the last
+pub last-extend : (before bytes : List ℕ) → 0 < length bytes → slice_index (before ++ bytes)
+    (length (before ++ bytes) - 1) ≡ slice_index bytes (length bytes - 1)
+last-extend before bytes l = grind (arith, common_steps)
 
-pub length-push : (bytes : List ℕ) (b : ℕ) → length (bytes ++ b ∷ []) ≡ length bytes + 1
-length-push bytes b = omega (arith, length-append bytes (b ∷ []))
+-- of no more bytes the last is as before
+pub last-same : (before bytes : List ℕ) → length bytes ≤ 0 → slice_index (before ++ bytes)
+    (length (before ++ bytes) - 1) ≡ slice_index before (length before - 1)
+last-same before [] l = ap (λ (xs : List ℕ). slice_index xs (length xs - 1)) (append-nil before)
+last-same before (b ∷ bytes) l = absurd (omega (arith, l))
 
 -- a line is the first of the bytes
 pub line_of-take : (e : Bool) (bytes : List ℕ) → line_of e bytes ≡ take (length (line_of e bytes)) bytes

@@ -49,6 +49,14 @@ pub record IsPart (bytes : List ℕ) (part : Part) : Type 0 where
   pub len : part.len ≡ length bytes
   pub ends_in_return : part.ends_in_return ≡ (slice_index bytes (length bytes - 1) == 13)
 
+-- the most bytes of a line that counts for no more than the most lines
+abbrev pub longest_part : ℕ
+longest_part = 1024001025
+
+-- these bytes were read, too
+abbrev pub GrowsByBytes : List ℕ → Part → Part → Type 0
+GrowsByBytes bytes old new = (before : List ℕ) → IsPart before old → IsPart (before ++ bytes) new
+
 -- the line of these bytes: before a line feed it loses one carriage return
 abbrev pub line_of : Bool → List ℕ → List ℕ
 line_of is_ended bytes = if is_ended then strip_carriage_return bytes else bytes
@@ -94,6 +102,16 @@ IsWithinLine bytes = length (lines bytes) ≤ 1
 abbrev pub TakesPart : Option (List ℕ) → Option (List ℕ) → Bool → List ℕ → Type 0
 TakesPart old new true bytes = Consumes old new (bytes ++ 10 ∷ [])
 TakesPart old new false bytes = Consumes old new bytes × IsAtEnd new
+
+-- known bytes lose these, and behind them a line feed
+abbrev pub TakesSome : Option (List ℕ) → Option (List ℕ) → Bool → List ℕ → Type 0
+TakesSome old new true bytes = Consumes old new (bytes ++ 10 ∷ [])
+TakesSome old new false bytes = Consumes old new bytes
+
+-- bytes of a line were read that were at hand, and its line feed if that was
+abbrev pub TakesAtHand : Option (List ℕ) → Option (List ℕ) → Part → Part → Bool → Type 0
+TakesAtHand old new part more is_ended =
+    (bytes : List ℕ) × HasNoFeed bytes × GrowsByBytes bytes part more × TakesSome old new is_ended bytes
 
 -- known bytes lose this one, or there is none
 abbrev pub TakesByte : Option (List ℕ) → Option (List ℕ) → Option ℕ → Type 0

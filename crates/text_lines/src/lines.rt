@@ -1,17 +1,18 @@
 //! Lines of a reader.
-ghost use Rattle.std.specs.Prelude.{false, ◌≡◌, ◌≤◌, ◌<◌, ◌+◌, ◌==◌, ℕ, List, Some, ◌∷◌, ◌++◌, [], length, MatchResult, MatchOption, IfSome, IfErr, OnOk, IfOk, IsTrue, All, ◌≢◌};
+ghost use Rattle.std.specs.Prelude.{true, false, ◌≡◌, ◌≤◌, ◌<◌, ◌+◌, ◌==◌, ℕ, List, Some, ◌∷◌, ◌++◌, [], length, MatchResult, MatchOption, IfSome, IfErr, OnOk, IfOk, IsTrue, All, ◌≢◌};
 ghost use Rattle.std.specs.List.{list_all};
 ghost use Rattle.std.specs.Io.KnownBytes.{Keeps, Consumes, IsAtEnd};
 ghost use Rattle.std.specs.Io.Buffered.{reader_remaining};
 ghost use Rattle.text_lines.specs.declared.faults.ScriptFault.TheVariants as fault;
-ghost use Rattle.text_lines.specs.Lines.{IsPart, IsKept, line_of, count_for, count_of, is_blank as blank, most_lines, HasNoFeed, TakesByte, TakesPart, TakesLine, StopsAtByte, StopsAtLine, LosesLines, HasNoLine};
+ghost use Rattle.text_lines.specs.Lines.{IsPart, IsKept, line_of, count_for, count_of, is_blank as blank, most_lines, HasNoFeed, TakesByte, TakesPart, TakesLine, StopsAtByte, StopsAtLine, LosesLines, HasNoLine, longest_part, GrowsByBytes, TakesAtHand};
 
 use crate::faults::ScriptFault;
+use memchr::memchr;
 use std::alloc::{AllocError, Global};
-use std::io::{BufReader, ErrorKind, Read, Write};
+use std::io::{BufRead, BufReader, ErrorKind, Read, Write};
 
 /// The longest line that is read.
-const LONGEST_LINE: u32 = 1024;
+const LONGEST_LINE: usize = 1024;
 
 /// A line without its end.
 #[derive(Drop)]
@@ -28,13 +29,13 @@ struct Part {
     /// The first bytes: one more than a line may have.
     text: Vec<u8>,
     /// How many bytes were read.
-    len: u32,
+    len: usize,
     /// Whether the last byte is a carriage return.
     ends_in_return: bool,
 }
 
 /// For how many lines so many bytes count.
-fn count(len: u32) -> u32
+fn count(len: usize) -> usize
     ensures { result ≡ count_for len }
 {
     1 + len.saturating_sub(LONGEST_LINE) / LONGEST_LINE
@@ -103,21 +104,23 @@ impl Part {
         }
     }
 
-    /// One more byte was read.
-    fn push(&mut self, byte: u8) -> Result<(), AllocError>
-        requires { self.old.len < 4294967295 }
-        ensures { OnOk result ((bytes : List ℕ) → IsPart bytes self.old → IsPart (bytes ++ byte ∷ []) self.new) }
+    /// These bytes were read, too.
+    fn extend(&mut self, bytes: &[u8]) -> Result<(), AllocError>
+        requires { self.old.len ≤ longest_part + 1 }
+        ensures { OnOk result (GrowsByBytes bytes.now self.old self.new) }
     {
-        if self.len <= LONGEST_LINE {
-            self.text.push(byte)?;
+        let room = (LONGEST_LINE + 1).saturating_sub(self.len);
+        self.text
+            .extend_from_slice(&bytes[..bytes.len().min(room)])?;
+        if let Some(last) = bytes.last() {
+            self.ends_in_return = *last == b'\r';
         }
-        self.len += 1;
-        self.ends_in_return = byte == b'\r';
+        self.len += bytes.len();
         Ok(())
     }
 
     /// How many bytes the line has, where it ends here.
-    fn line_len(&self, is_ended: bool) -> u32
+    fn line_len(&self, is_ended: bool) -> usize
         ensures { (bytes : List ℕ) → IsPart bytes self.now → result ≡ length (line_of is_ended bytes) }
     {
         if is_ended && self.ends_in_return {
@@ -127,6 +130,16 @@ impl Part {
         }
     }
 
+    /// Whether what was read of a line counts for more lines than the most.
+    fn exceeds(&self, most: u32) -> bool
+        requires { most ≤ most_lines }
+        ensures past { result ≡ true → (bytes : List ℕ) → IsPart bytes self.now
+            → (0 < length bytes) × (most < count_of (line_of true bytes)) }
+        ensures short { result ≡ false → (bytes : List ℕ) → IsPart bytes self.now → length bytes ≤ longest_part }
+    {
+        self.len > 0 && count(self.line_len(true)) > most as usize
+    }
+
     /// The line, which ends here.
     fn end(self, is_ended: bool) -> Line
         ensures { (bytes : List ℕ) → IsPart bytes self → IsKept (line_of is_ended bytes) result }
@@ -134,12 +147,30 @@ impl Part {
         let len = self.line_len(is_ended);
         let Part { mut text, .. } = self;
         if len <= LONGEST_LINE {
-            text.truncate(len as usize);
+            text.truncate(len);
             Line::Text(text)
         } else {
             Line::TooLong
         }
     }
+}
+
+/// Takes what is at hand of a line, and its line feed where that is at hand: whether it is.
+fn take_at_hand<R: Read>(
+    reader: &mut BufReader<R, Global>,
+    part: &mut Part,
+) -> Result<bool, AllocError>
+    requires { part.old.len ≤ longest_part + 1 }
+    ensures { MatchResult result
+        (TakesAtHand (reader_remaining R.remaining reader.old) (reader_remaining R.remaining reader.new) part.old part.new)
+        (λ _. Keeps (reader_remaining R.remaining reader.old) (reader_remaining R.remaining reader.new)) }
+{
+    let bytes = reader.buffer();
+    let end = memchr(b'\n', bytes);
+    let len = end.unwrap_or(bytes.len());
+    part.extend(&bytes[..len])?;
+    reader.consume(len + usize::from(end.is_some()));
+    Ok(end.is_some())
 }
 
 /// Reads on to the end of a line, which is a line feed or the end of the input: whether it is a line feed. The line may count for
@@ -158,15 +189,16 @@ fn read_part<R: Read, W: Write>(
     ensures kept { Keeps (W.contents writer.old) (W.contents writer.new) }
 {
     loop {
+        if take_at_hand(reader, part)? {
+            return Ok(true);
+        }
+        if part.exceeds(most) {
+            return Err(ScriptFault::TooManyLines);
+        }
         match next_byte(reader, writer)? {
             None => return Ok(false),
             Some(b'\n') => return Ok(true),
-            Some(byte) => {
-                part.push(byte)?;
-                if count(part.line_len(true)) > most {
-                    return Err(ScriptFault::TooManyLines);
-                }
-            }
+            Some(byte) => part.extend(&[byte])?,
         }
     }
 }
@@ -191,10 +223,10 @@ pub fn read_line<R: Read, W: Write>(
         return Ok(None);
     }
     let count = count(part.line_len(is_ended));
-    if count > *left {
+    if count > *left as usize {
         return Err(ScriptFault::TooManyLines);
     }
-    *left -= count;
+    *left -= count as u32;
     Ok(Some(part.end(is_ended)))
 }
 

@@ -5,6 +5,6 @@ use Rattle.cluster_world.specs.Histories.{number_at}
 use Rattle.cluster_world.proofs.history.enter_all.Given as goal
 
 abbrev pub invariant-loop-entry : goal.invariant-loop-entry
-invariant-loop-entry g l = map entry_of l.history-inside
-    ≡ map entry_of l.initial.history-inside
+invariant-loop-entry g l = map entry_of l.history
+    ≡ map entry_of l.initial.history
     ++ map (entry_by (number_at l.cores l.stepped l.own)) (take l.entry-index l.entries)

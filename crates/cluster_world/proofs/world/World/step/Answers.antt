@@ -75,17 +75,17 @@ returns-in_err-post-clause-refused g c =
     c.in_ok-answers.ensures.ok) in
     rw (p.1, p.2, c.in_err-post.ensures.err) failed
 
-pub invariant_of-self-in_err-enter : goal.invariant_of-self-in_err-enter
-invariant_of-self-in_err-enter g c =
+pub invariant_of-self-in_err-enter_all : goal.invariant_of-self-in_err-enter_all
+invariant_of-self-in_err-enter_all g c =
     whole_posted _ c.self.invariant c.args.node.now c.in-Some.place c.index_mut-core.result.now
     (sym c.position.ensures ∙ c.in-Some.is)
-    c.index_mut-core.ensures.value c.step.new.self c.post.new.links c.enter.new.self c.step.ensures.name
+    c.index_mut-core.ensures.value c.step.new.self c.post.new.links c.enter_all.new.history c.step.ensures.name
     c.step.ensures.world
     c.post.ensures.nodes c.post.ensures.fit
 
-pub returns-in_err-enter-clause-refused : goal.returns-in_err-enter-clause-refused
-returns-in_err-enter-clause-refused g c =
-    let p = err_from_is_err_and c.from_residual-in_err-enter.result c.from_residual-in_err-enter.ensures.1 in
+pub returns-in_err-enter_all-clause-refused : goal.returns-in_err-enter_all-clause-refused
+returns-in_err-enter_all-clause-refused g c =
+    let p = err_from_is_err_and c.from_residual-in_err-enter_all.result c.from_residual-in_err-enter_all.ensures.1 in
     let failed : FailsAt Memory c.args.node.now c.args.event.now c.args.self.now =
     subst (λ (k : Held). FailsAt Memory c.args.node.now c.args.event.now k) c.self.view_is
     (fails_behind _ c.self.invariant c.args.node.now c.in-Some.place c.index_mut-core.result.now
@@ -99,7 +99,7 @@ pub invariant_of-self-2 : goal.invariant_of-self-2
 invariant_of-self-2 g c =
     whole_posted _ c.self.invariant c.args.node.now c.in-Some.place c.index_mut-core.result.now
     (sym c.position.ensures ∙ c.in-Some.is)
-    c.index_mut-core.ensures.value c.step.new.self c.post.new.links c.enter.new.self c.step.ensures.name
+    c.index_mut-core.ensures.value c.step.new.self c.post.new.links c.enter_all.new.history c.step.ensures.name
     c.step.ensures.world
     c.post.ensures.nodes c.post.ensures.fit
 
@@ -110,18 +110,18 @@ returns-clause-ok g c =
       cluster = c.self.inside.cluster;
       cores = set c.self.inside.cores.items c.in-Some.place c.step.new.self;
       links = c.post.new.links;
-      history = c.enter.new.self;
+      history = c.enter_all.new.history;
     } in
     subst (λ (k : Held). Moves c.args.node.now c.args.event.now k behind c.in_ok-answers.answers.items) c.self.view_is
     (moves _ c.self.invariant c.args.node.now c.in-Some.place c.index_mut-core.result.now
     (sym c.position.ensures ∙ c.in-Some.is)
     c.index_mut-core.ensures.value (sym c.is_closed.ensures ∙ c.if-is_closed.false) c.args.event.now c.step.new.self c.new-letters.result.items c.step.new.letters.items
     c.in_ok-answers.answers.items
-    c.post.new.links c.enter.new.self c.unwrap_or-join.result c.new-letters.ensures.items
+    c.post.new.links c.enter_all.new.history c.unwrap_or-join.result c.new-letters.ensures.items
     c.in_ok-answers.ensures.ok c.in_ok-post.ensures.ok
     (c.unwrap_or-join.ensures ∙ ap (λ (o : Option ℕ). unwrap_or o 0) c.join_number.ensures
     ∙ number_is (node_of c.index_mut-core.result.now).current)
-    (c.in_ok-enter.ensures
+    (c.in_ok-enter_all.ensures
     ∙ ap (λ (cs : List Core). map entry_of c.self.inside.history
     ++ map (entry_by (number_at cs c.args.node.now c.unwrap_or-join.result)) c.entered-entries.result.now)
     c.deref.ensures.value
