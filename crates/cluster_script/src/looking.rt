@@ -77,7 +77,7 @@ fn write_shown<W: Write>(
             Ok(true)
         }
         None => {
-            write_error(alloc, writer, hidden_word(world, node))?;
+            write_error(writer, hidden_word(world, node))?;
             Ok(false)
         }
     }

@@ -74,7 +74,7 @@ fn play_event<W: Write>(
             let Some(word) = refusal_word(&refusal) else {
                 return Err(WriteFault::Memory);
             };
-            write_error(alloc, writer, word)?;
+            write_error(writer, word)?;
             Ok(false)
         }
     }
@@ -88,7 +88,7 @@ fn end_settle<W: Write>(alloc: Global, writer: &mut W, is_settled: bool) -> Resu
     if is_settled {
         write_text(writer, b"settled\n")?;
     } else {
-        write_error(alloc, writer, "settle_limit")?;
+        write_error(writer, "settle_limit")?;
     }
     Ok(is_settled)
 }
@@ -141,7 +141,7 @@ fn play_task<W: Write>(
         Ok(Task::Table(node)) => show_table(alloc, writer, world, &node),
         Ok(Task::Members(node)) => show_members(alloc, writer, world, &node),
         Err(fault) => {
-            write_error(alloc, writer, fault.word())?;
+            write_error(writer, fault.word())?;
             Ok(false)
         }
     }
@@ -225,7 +225,7 @@ pub fn run_script<R: Read, W: Write>(
         }
         Headers::Ended => Ok(true),
         Headers::Refused(fault) => {
-            write_error(alloc, writer, fault.word())?;
+            write_error(writer, fault.word())?;
             Ok(false)
         }
     }

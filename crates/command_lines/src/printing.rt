@@ -1,8 +1,5 @@
 //! What is printed.
-ghost use Rattle.std.specs.Prelude.{◌≡◌, ◌++◌, ◌∷◌, [], ◌≤◌, IfOk, MatchResult, string_bytes, codes, length, take, List, ℕ, option_map};
-ghost use Rattle.std.specs.Fmt.{decimal};
-ghost use Rattle.term.specs.Spelling.{bytes_of};
-ghost use Rattle.std.specs.Io.KnownBytes.{Appends, Keeps};
+ghost use Rattle.std.specs.Prelude.{◌≡◌, ◌++◌, IfOk, OnOk, string_bytes, option_map};
 ghost use Rattle.protocol_model.specs.Script.{Said, TableIs, MembersAre};
 ghost use Rattle.node_events.specs.Seen.{answer_of as any_answer, reply_of as any_reply};
 ghost use Rattle.command_lines.specs.Printing as print;
@@ -11,65 +8,54 @@ ghost use Rattle.text_lines.specs.Writing.{Writes};
 use cluster_world::{Answer, Refusal, Reply};
 use name_table::Pair;
 use std::alloc::{AllocError, Global};
+use std::fmt::Write as _;
 use std::io::Write;
 use term::{Name, NodeName};
 use text_lines::{WriteFault, write_text};
 
-/// The text of names, in their order.
-fn names_text(alloc: Global, names: &[Name]) -> Result<String, AllocError>
-    ensures { IfOk result (λ text. string_bytes text ≡ print.names_text names.now) }
+/// Puts the text of names behind a text, in their order.
+fn push_names(text: &mut String, names: &[Name]) -> Result<(), AllocError>
+    ensures { OnOk result (string_bytes text.new ≡ string_bytes text.old ++ print.names_text names.now) }
 {
-    let mut text = String::from_str(alloc, "names")?;
+    text.push_str("names")?;
     for name in names {
         text.push(' ')?;
         text.push_str(name.as_str())?;
     }
-    Ok(text)
+    Ok(())
 }
 
-/// The text of a reply.
-fn reply_text(alloc: Global, reply: &Reply) -> Result<String, AllocError>
-    ensures { IfOk result (λ text. string_bytes text ≡ print.reply_text (any_reply reply.now)) }
+/// Puts the text of a reply behind a text.
+fn push_reply(text: &mut String, reply: &Reply) -> Result<(), AllocError>
+    ensures { OnOk result (string_bytes text.new ≡ string_bytes text.old ++ print.reply_text (any_reply reply.now)) }
 {
     match reply {
-        Reply::Yes => String::from_str(alloc, "yes"),
-        Reply::No => String::from_str(alloc, "no"),
-        Reply::Ok => String::from_str(alloc, "ok"),
-        Reply::UnknownNode => String::from_str(alloc, "unknown_node"),
-        Reply::True => String::from_str(alloc, "true"),
-        Reply::False => String::from_str(alloc, "false"),
-        Reply::Joined => String::from_str(alloc, "joined"),
-        Reply::NotMember => String::from_str(alloc, "not_member"),
-        Reply::ContactLeft => String::from_str(alloc, "contact_left"),
-        Reply::Pid(process) => format!(in alloc; "{process}"),
-        Reply::Undefined => String::from_str(alloc, "undefined"),
-        Reply::Names(names) => names_text(alloc, names.as_slice()),
+        Reply::Yes => text.push_str("yes"),
+        Reply::No => text.push_str("no"),
+        Reply::Ok => text.push_str("ok"),
+        Reply::UnknownNode => text.push_str("unknown_node"),
+        Reply::True => text.push_str("true"),
+        Reply::False => text.push_str("false"),
+        Reply::Joined => text.push_str("joined"),
+        Reply::NotMember => text.push_str("not_member"),
+        Reply::ContactLeft => text.push_str("contact_left"),
+        Reply::Pid(process) => write!(text, "{process}"),
+        Reply::Undefined => text.push_str("undefined"),
+        Reply::Names(names) => push_names(text, names.as_slice()),
     }
-}
-
-/// The line of an answer to a numbered call.
-fn numbered_line(
-    alloc: Global,
-    node: &NodeName,
-    call: u32,
-    reply: &str,
-) -> Result<String, AllocError>
-    ensures { IfOk result (λ text. string_bytes text
-        ≡ bytes_of node.now ++ (35 ∷ (decimal call ++ (32 ∷ (reply.now ++ 10 ∷ []))))) }
-{
-    format!(in alloc; "{node}#{call} {reply}\n")
 }
 
 /// The line of an answer.
 pub fn answer_line(alloc: Global, answer: &Answer) -> Result<String, AllocError>
     ensures { IfOk result (λ text. string_bytes text ≡ print.output_line (Said (any_answer answer.now))) }
 {
-    let reply = reply_text(alloc, &answer.reply)?;
-    if answer.call == 0 {
-        format!(in alloc; "{reply}\n")
-    } else {
-        numbered_line(alloc, &answer.node, answer.call, reply.as_str())
+    let mut line = String::new(alloc);
+    if answer.call != 0 {
+        write!(line, "{}#{} ", answer.node, answer.call)?;
     }
+    push_reply(&mut line, &answer.reply)?;
+    line.push('\n')?;
+    Ok(line)
 }
 
 /// The line of a table: its names with their owners, as they stand in it.
@@ -78,8 +64,7 @@ pub fn table_line(alloc: Global, table: &[Pair]) -> Result<String, AllocError>
 {
     let mut line = String::from_str(alloc, "table")?;
     for pair in table {
-        let text = format!(in alloc; " {}={}", pair.name, pair.owner)?;
-        line.push_str(text.as_str())?;
+        write!(line, " {}={}", pair.name, pair.owner)?;
     }
     line.push('\n')?;
     Ok(line)
@@ -96,13 +81,6 @@ pub fn members_line(alloc: Global, members: &[NodeName]) -> Result<String, Alloc
     }
     line.push('\n')?;
     Ok(line)
-}
-
-/// The line of a refusal.
-pub fn error_line(alloc: Global, word: &str) -> Result<String, AllocError>
-    ensures { IfOk result (λ text. string_bytes text ≡ print.error_line word.now) }
-{
-    format!(in alloc; "error {word}\n")
 }
 
 /// The word of a refusal, unless it is want of memory.
@@ -129,9 +107,10 @@ pub fn refusal_word(refusal: &Refusal) -> Option<&'static str>
 }
 
 /// Writes the line of a refusal.
-pub fn write_error<W: Write>(alloc: Global, writer: &mut W, word: &str) -> Result<(), WriteFault>
+pub fn write_error<W: Write>(writer: &mut W, word: &str) -> Result<(), WriteFault>
     ensures { Writes (W.contents writer.old) (W.contents writer.new) result (print.error_line word.now) }
 {
-    let line = error_line(alloc, word)?;
-    write_text(writer, line.as_bytes())
+    write_text(writer, b"error ")?;
+    write_text(writer, word.as_bytes())?;
+    write_text(writer, b"\n")
 }

@@ -1,7 +1,7 @@
 //! Steps of one node. Each test is a script: a line has events, and what the node makes of them, or `state`, and what the
 //! node is like.
-use node_core::{Answer, Call, Entry, Event, Letter, NodeCore, Nodes, Reply, Retries, StepFault};
 use name_table::{Change, ListTable, Names};
+use node_core::{Answer, Call, Entry, Event, Letter, NodeCore, Nodes, Reply, Retries, StepFault};
 use std::alloc::Global;
 use std::fmt::Write;
 use std::test::Fail;

@@ -1,5 +1,5 @@
 -- Texts that are written in parts.
-use Rattle.std.proofs.Common.{ℕ, List, [], ◌++◌, ◌≡◌, ◌≤◌, ◌-◌, Option, refl, sym, ap, ◌∙◌, append_assoc, Result, Err, length, take, drop, arith}
+use Rattle.std.proofs.Common.{ℕ, List, [], ◌++◌, ◌≡◌, ◌≤◌, ◌-◌, Option, refl, sym, ap, ◌∙◌, append_assoc, Result, Ok, Err, length, take, drop, arith}
 use Rattle.std.specs.Io.KnownBytes.{Appends}
 use Rattle.std.proofs.KnownBytes.{Appends-trans, Appends-nil}
 use Rattle.std.proofs.lemmas.Grind.{common_steps}
@@ -39,3 +39,9 @@ AppendsPart-whole a b text more h = (text, more, refl, h)
 pub Writes-err : {A E : Type 0} (a b : Option (List ℕ)) (r : Result A E) (y : E) (text : List ℕ) → r ≡ Err y
     → AppendsPart a b text → Writes a b r text
 Writes-err a b r y text e p = rw e p
+
+-- a text was written, and then another, or a part of it
+pub Writes-behind : {A E : Type 0} (a b c : Option (List ℕ)) (r : Result A E) (front text : List ℕ) → Appends a b front
+    → Writes b c r text → Writes a c r (front ++ text)
+Writes-behind a b c (Ok x) front text h w = Appends-trans a b c front text h w
+Writes-behind a b c (Err e) front text h w = AppendsPart-behind a b c front text h w

@@ -1,8 +1,8 @@
 //! Joins of one node, and those that it lets in.
 use super::{Core, play_lines};
-use node_core::{Letter, NodeCore};
 use exchange::{Admission, Welcome};
 use name_table::Pair;
+use node_core::{Letter, NodeCore};
 use std::alloc::Global;
 use std::test::Fail;
 use term::{NodeSet, parse_name, parse_node, parse_nodes, parse_pid};
