@@ -103,7 +103,7 @@ abbrev pub TakesPart : Option (List ℕ) → Option (List ℕ) → Bool → List
 TakesPart old new true bytes = Consumes old new (bytes ++ 10 ∷ [])
 TakesPart old new false bytes = Consumes old new bytes × IsAtEnd new
 
--- known bytes lose these, and behind them a line feed
+-- known bytes lose these, and behind them a line feed where there was one
 abbrev pub TakesSome : Option (List ℕ) → Option (List ℕ) → Bool → List ℕ → Type 0
 TakesSome old new true bytes = Consumes old new (bytes ++ 10 ∷ [])
 TakesSome old new false bytes = Consumes old new bytes
