@@ -13,7 +13,7 @@ use Rattle.cluster_world.specs.declared.events.Event.TheVariants.{Call as Calls}
 use Rattle.cluster_world.specs.declared.events.WorldEvent.{WorldEvent}
 use Rattle.cluster_world.specs.declared.events.WorldEvent.TheVariants.{At}
 use Rattle.cluster_world.specs.declared.seat.SeatFault.{SeatFault}
-use Rattle.cluster_world.specs.declared.seat.SeatFault.TheVariants.{Refused, NoAnswer}
+use Rattle.cluster_world.specs.declared.seat.SeatFault.TheVariants.{Refused, NoMemory, NoAnswer}
 use Rattle.cluster_world.specs.Events.{event_of}
 use Rattle.cluster_world.specs.Held.{Held}
 use Rattle.cluster_world.specs.Playing.{Keeps, Played, RefusedWith, events_of, accepts_all}
@@ -321,6 +321,7 @@ module _ (a : ℕ) (c : Call) (old mid : Held) (now : List Answer) (P : Played (
   sets : (new : Held) (result : Result Bool SeatFault) → Keeps mid new
       → verdict_in a k (map answer_of now) ≡ None → HasWaited a k mid new result → SetsLock a c old new result
   sets new (Ok granted) K q W = answered_later new (Some granted) K q W
+  sets new (Err NoMemory) K q W = absurd W
   sets new (Err NoAnswer) K q W = answered_later new None K q W
   sets new (Err (Refused r)) K q W = (
     P.accepted ∙ ap refusal_of (sym W),

@@ -14,7 +14,7 @@ use Rattle.cluster_world.specs.declared.events.WorldEvent.{WorldEvent}
 use Rattle.cluster_world.specs.declared.events.WorldEvent.TheVariants.{At}
 use Rattle.cluster_world.specs.declared.seat.WorldSeat.{WorldSeat}
 use Rattle.cluster_world.specs.declared.seat.SeatFault.{SeatFault}
-use Rattle.cluster_world.specs.declared.seat.SeatFault.TheVariants.{Refused, NoAnswer}
+use Rattle.cluster_world.specs.declared.seat.SeatFault.TheVariants.{Refused, NoMemory, NoAnswer}
 use Rattle.cluster_world.specs.Held.{Held}
 use Rattle.cluster_world.specs.Refusals.{is_memory}
 use Rattle.cluster_world.specs.Seen.{opening_of, seen}
@@ -85,6 +85,7 @@ abbrev pub HasWaited : ℕ → ℕ → Held → Held → Result Bool SeatFault �
 HasWaited a k old new (Ok granted) = Waited a k old new (Some granted)
 HasWaited a k old new (Err NoAnswer) = Waited a k old new None
 HasWaited a k old new (Err (Refused r)) = r ≡ Memory
+HasWaited a k old new (Err NoMemory) = ⊥
 
 -- A call was accepted at node a and played, and then what it waits for. This is what it was answered, if it was, the
 -- headline and the exclusion of locks hold behind all that was played, and a lock call counts
@@ -100,9 +101,10 @@ pub record Called (a : ℕ) (c : Call) (old new : Held) (verdict : Option Bool) 
   pub counts : Counts (call_of c) verdict events old new
 
 -- why a call got no reply: it was refused as the protocol refuses it, which changes nothing; or it was accepted, and
--- memory was refused; or no answer came
+-- memory was refused; or there was no memory to make it; or no answer came
 abbrev pub Unanswered : ℕ → Call → Held → Held → SeatFault → Type 0
 Unanswered a c old new (Refused r) = RefusedWith r (At a (Calls c)) old × (is_memory r ≡ false → new ≡ old)
+Unanswered a c old new NoMemory = new ≡ old
 Unanswered a c old new NoAnswer = Called a c old new None
 
 -- what a `set_lock` comes to

@@ -1,6 +1,6 @@
 //! What may happen in a world, and why it is refused.
-ghost use Rattle.std.specs.Prelude.{◌≡◌};
-ghost use Rattle.cluster_world.specs.Events.{node_event, is_leave};
+ghost use Rattle.std.specs.Prelude.{◌≡◌, IfOk};
+ghost use Rattle.cluster_world.specs.Events.{is_leave};
 
 use link::LinkFault;
 use node_core::{Answer, Call, StepFault};
@@ -21,11 +21,11 @@ pub enum Event {
     Leave,
 }
 
-/// The same call. It takes no memory.
-fn call_copy(call: &Call) -> Call
-    ensures { result ≡ call.now }
+/// The same call. Only named nodes take memory.
+pub(crate) fn call_copy(call: &Call) -> Result<Call, AllocError>
+    ensures { IfOk result (λ copy. copy ≡ call.now) }
 {
-    match call {
+    Ok(match call {
         Call::Spawn => Call::Spawn,
         Call::Whereis(name) => Call::Whereis(name.copy()),
         Call::RegisteredNames => Call::RegisteredNames,
@@ -33,28 +33,16 @@ fn call_copy(call: &Call) -> Call
         Call::ReRegister(name, owner) => Call::ReRegister(name.copy(), owner.copy()),
         Call::Unregister(name) => Call::Unregister(name.copy()),
         Call::SetLock(holder, id, nodes, retries) => {
-            Call::SetLock(holder.copy(), id.copy(), nodes.copy(), retries.copy())
+            Call::SetLock(holder.copy(), id.copy(), nodes.copy()?, retries.copy())
         }
         Call::DelLock(holder, id, nodes) => {
-            Call::DelLock(holder.copy(), id.copy(), nodes.copy())
+            Call::DelLock(holder.copy(), id.copy(), nodes.copy()?)
         }
         Call::Join(contact) => Call::Join(contact.copy()),
-    }
+    })
 }
 
 impl Event {
-    /// The same, as the node has it. It takes no memory.
-    pub(crate) fn at_node(&self) -> node_core::Event
-        ensures { result ≡ node_event self.now }
-    {
-        match self {
-            Event::Call(call) => node_core::Event::Call(call_copy(call)),
-            Event::Retry => node_core::Event::Retry,
-            Event::Exit(process) => node_core::Event::Exit(process.copy()),
-            Event::Leave => node_core::Event::Leave,
-        }
-    }
-
     /// Whether the node leaves.
     pub(crate) fn is_leave(&self) -> bool
         ensures { result ≡ is_leave self.now }

@@ -25,6 +25,9 @@ pub enum SeatFault {
     /// isn't said, and the world isn't to be used any more.
     #[error("{0}")]
     Refused(Refusal),
+    /// There was no memory for the call itself. Nothing was played.
+    #[error("no_memory")]
+    NoMemory,
     /// No answer came. The call goes on waiting in the world.
     #[error("no_answer")]
     NoAnswer,
@@ -212,7 +215,10 @@ impl<'a, N: Names<Memory = Global>> LockSeat for WorldSeat<'a, N> {
         nodes: &Nodes,
         retries: Retries,
     ) -> Result<bool, SeatFault> {
-        let call = Call::SetLock(self.holder.copy(), id.copy(), nodes.copy(), retries);
+        let Ok(nodes) = nodes.copy() else {
+            return Err(SeatFault::NoMemory);
+        };
+        let call = Call::SetLock(self.holder.copy(), id.copy(), nodes, retries);
         let granted = self.call(call)?;
         self.replies
             .push_reserved(LockReply::Set(id.copy(), granted));
@@ -220,7 +226,10 @@ impl<'a, N: Names<Memory = Global>> LockSeat for WorldSeat<'a, N> {
     }
 
     fn del_lock(&mut self, id: &LockId, nodes: &Nodes) -> Result<(), SeatFault> {
-        let call = Call::DelLock(self.holder.copy(), id.copy(), nodes.copy());
+        let Ok(nodes) = nodes.copy() else {
+            return Err(SeatFault::NoMemory);
+        };
+        let call = Call::DelLock(self.holder.copy(), id.copy(), nodes);
         self.call(call)?;
         self.replies.push_reserved(LockReply::Deleted(id.copy()));
         Ok(())

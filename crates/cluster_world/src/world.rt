@@ -2,12 +2,12 @@
 ghost use Rattle.std.specs.Prelude.{◌≡◌};
 ghost use Rattle.cluster_world.specs.Seen.{is_holding};
 
-use crate::events::{Event, Refusal, RunEnd, WorldEvent};
+use crate::events::{Event, Refusal, RunEnd, WorldEvent, call_copy};
 use crate::history::enter_all;
 use crate::post::post;
 use link::Mesh;
 use name_table::Names;
-use node_core::{Answer, Call, Letter, NodeCore};
+use node_core::{Answer, Call, Letter, NodeCore, StepFault};
 use std::alloc::Global;
 use std::marker::Model;
 use term::{NodeName, NodeSet};
@@ -65,7 +65,8 @@ impl<N: Names<Memory = Global>> World<N> {
     ghost use Rattle.term.specs.NodeSets.{set_of};
     ghost use Rattle.cluster_world.specs.Held.{IsWhole};
     ghost use Rattle.cluster_world.specs.Cores.{core_of};
-    ghost use Rattle.cluster_world.specs.Events.{knows_contact};
+    ghost use Rattle.cluster_world.specs.Events.{knows_contact, node_event};
+    ghost use Rattle.node_events.specs.declared.events.Event.TheVariants as at_node;
     ghost use Rattle.cluster_world.specs.Seen.{opening_of, seen};
     ghost use Rattle.cluster_world.specs.Refusals.{is_memory};
     ghost use Rattle.cluster_world.specs.Steps.{Moves, FailsAt};
@@ -117,6 +118,37 @@ impl<N: Names<Memory = Global>> World<N> {
         }
     }
 
+    /// Why the world refuses a call for which there is no memory: for that only where it has nothing else against it.
+    fn refusal(&self, node: &NodeName, call: &Call) -> Refusal
+        ensures { FailsAt result node.now (at_node.Call call.now) self.now }
+    {
+        let Some(index) = self.nodes.position(node) else {
+            return Refusal::NoSuchNode;
+        };
+        let has_left = self.links.is_closed(node);
+        if has_left {
+            return Refusal::NodeLeft;
+        }
+        let fault = self.cores[index].call_refusal(call);
+        Refusal::from(fault.unwrap_or(StepFault::Memory))
+    }
+
+    /// An event as the core of its node has it.
+    fn own_event(&self, node: &NodeName, event: &Event) -> Result<node_core::Event, Refusal>
+        ensures ok { IfOk result (λ own. own ≡ node_event event.now) }
+        ensures refused { IfErr result (λ refusal. FailsAt refusal node.now (node_event event.now) self.now) }
+    {
+        Ok(match event {
+            Event::Call(call) => match call_copy(call) {
+                Ok(copy) => node_core::Event::Call(copy),
+                Err(_) => return Err(self.refusal(node, call)),
+            },
+            Event::Retry => node_core::Event::Retry,
+            Event::Exit(process) => node_core::Event::Exit(process.copy()),
+            Event::Leave => node_core::Event::Leave,
+        })
+    }
+
     /// An event of a node is played. All links towards one that leaves are closed.
     fn happen(&mut self, node: &NodeName, event: &Event) -> Result<Vec<Answer>, Refusal>
         ensures kept { Keeps self.old self.new }
@@ -127,7 +159,8 @@ impl<N: Names<Memory = Global>> World<N> {
         if !self.knows_contact(event) {
             return Err(Refusal::NoSuchNode);
         }
-        let answers = self.step(node, &event.at_node())?;
+        let own = self.own_event(node, event)?;
+        let answers = self.step(node, &own)?;
         if event.is_leave() {
             self.close_out(node);
         }

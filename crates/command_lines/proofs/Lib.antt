@@ -1,3 +1,4 @@
 pub mod Texts
 mod Counts
 mod Refused
+mod Targets

@@ -1,5 +1,5 @@
 -- The texts of a lock call that say whom it asks, and how often.
-use Rattle.std.specs.Prelude.{ℕ, ◌≡◌, ◌≢◌, ◌<◌, ◌^◌, codes, List}
+use Rattle.std.specs.Prelude.{ℕ, ◌≡◌, ◌≢◌, ◌<◌, ◌^◌, codes, length, List, Option, Some, None, IfSome}
 use Rattle.std.specs.Fmt.{decimal}
 use Rattle.protocol_model.specs.Node.{Target, Retries}
 use Rattle.term.specs.declared.faults.TextFault.{TextFault}
@@ -8,6 +8,15 @@ use Rattle.term.specs.NodeLists.{SpellsNodes, RefusesNodes}
 -- the text for all members
 abbrev pub all_members : List ℕ
 all_members = codes "all"
+
+-- whom a call asks that names these nodes, or none
+abbrev pub target_in : Option (List ℕ) → Target
+target_in None = Target.All
+target_in (Some nodes) = Target.Named nodes
+
+-- the nodes are at least one, where some are named
+abbrev pub NamesSome : Option (List ℕ) → Type 0
+NamesSome named = IfSome named (λ nodes. 0 < length nodes)
 
 -- the text spells whom a call asks: `all` alone is all members, also where a node is called so
 abbrev pub SpellsTarget : List ℕ → Target → Type 0

@@ -47,7 +47,7 @@ pub fn read_task(alloc: Global, line: &Line) -> Result<Result<Task, LineFault>, 
     match text_of(line) {
         Ok(text) => {
             let words = words_of(alloc, text)?;
-            Ok(read_words(&words))
+            read_words(alloc, &words)
         }
         Err(fault) => Ok(Err(fault)),
     }

@@ -1,19 +1,20 @@
 //! The lines that are read: an arm for each. They stand by the number of their texts.
-ghost use Rattle.std.specs.Prelude.{◌≡◌, map, ◌∷◌, [], MatchResult};
+ghost use Rattle.std.specs.Prelude.{◌≡◌, map, ◌∷◌, [], MatchResult, IfOk};
 ghost use Rattle.protocol_model.specs.Event.{Exiting, SetLock, DelLock};
 ghost use Rattle.term.specs.Spelling.{SpellsText, SpellsPid};
 ghost use Rattle.transaction.specs.Calls.{target_of, retries_of};
 ghost use Rattle.node_events.specs.Seen.{call_of};
 ghost use Rattle.command_lines.specs.Commands.{asked_by, line_in};
-ghost use Rattle.command_lines.specs.LockTexts.{SpellsTarget};
+ghost use Rattle.command_lines.specs.LockTexts.{SpellsTarget, NamesSome, target_in};
 ghost use Rattle.command_lines.specs.Grammar.{WordsAsk, FirstRefused, at_node, call_at, Node as ANode, Name as AName, Pid as APid, Resource as AResource, Requester as ARequester, Nodes as SomeNodes};
 
 use crate::faults::LineFault;
 use crate::lock_texts::{parse_retries, parse_target};
 use cluster_world::{Call, Event, WorldEvent};
+use std::alloc::{AllocError, Global};
 use term::{
-    LockId, Name, NodeName, Pid, TextFault, parse_name, parse_node, parse_pid, parse_requester,
-    parse_resource,
+    LockId, Name, NodeName, NodeSet, Pid, TextFault, parse_name, parse_node, parse_pid,
+    parse_requester, parse_resource,
 };
 use transaction::{Nodes, Retries};
 
@@ -44,22 +45,48 @@ fn exit(process: Pid) -> Task
     Task::Play(WorldEvent::At(process.node.copy(), Event::Exit(process)))
 }
 
-/// A call of a process for a lock, at its node.
-fn set_lock(holder: Pid, id: LockId, nodes: Nodes, retries: Retries) -> Task
-    ensures { line_in result ≡ call_at holder.node
-        (SetLock holder id.resource id.requester (target_of nodes) (retries_of retries)) }
+/// The nodes that a lock call asks: those that it names, or all members.
+fn nodes_of(alloc: Global, named: Option<NodeSet>) -> Result<Nodes, AllocError>
+    requires { NamesSome named }
+    ensures { IfOk result (λ nodes. target_of nodes ≡ target_in named) }
 {
-    call(
+    match named {
+        Some(named) => Ok(Nodes::named(alloc, named)?.unwrap_or(Nodes::All)),
+        None => Ok(Nodes::All),
+    }
+}
+
+/// A call of a process for a lock, at its node.
+fn set_lock(
+    alloc: Global,
+    holder: Pid,
+    id: LockId,
+    named: Option<NodeSet>,
+    retries: Retries,
+) -> Result<Task, AllocError>
+    requires { NamesSome named }
+    ensures { IfOk result (λ task. line_in task ≡ call_at holder.node
+        (SetLock holder id.resource id.requester (target_in named) (retries_of retries))) }
+{
+    let nodes = nodes_of(alloc, named)?;
+    Ok(call(
         holder.node.copy(),
         Call::SetLock(holder, id, nodes, retries),
-    )
+    ))
 }
 
 /// A call of a process that gives a lock back, at its node.
-fn del_lock(holder: Pid, id: LockId, nodes: Nodes) -> Task
-    ensures { line_in result ≡ call_at holder.node (DelLock holder id.resource id.requester (target_of nodes)) }
+fn del_lock(
+    alloc: Global,
+    holder: Pid,
+    id: LockId,
+    named: Option<NodeSet>,
+) -> Result<Task, AllocError>
+    requires { NamesSome named }
+    ensures { IfOk result (λ task. line_in task ≡ call_at holder.node (DelLock holder id.resource id.requester (target_in named))) }
 {
-    call(holder.node.copy(), Call::DelLock(holder, id, nodes))
+    let nodes = nodes_of(alloc, named)?;
+    Ok(call(holder.node.copy(), Call::DelLock(holder, id, nodes)))
 }
 
 /// The values of three texts, or the fault of the first that spells none.
@@ -70,16 +97,16 @@ fn node_name_and_pid(node: &str, name: &str, pid: &str) -> Result<(NodeName, Nam
     Ok((parse_node(node)?, parse_name(name)?, parse_pid(pid)?))
 }
 
-/// The holder, the id and the nodes of a lock call, or the fault of the first text that spells none.
+/// The holder, the id and the named nodes of a lock call, or the fault of the first text that spells none.
 fn holder_id_and_nodes(
     holder: &str,
     resource: &str,
     requester: &str,
     nodes: &str,
-) -> Result<(Pid, LockId, Nodes), TextFault>
+) -> Result<(Pid, LockId, Option<NodeSet>), TextFault>
     ensures { MatchResult result
         (λ v. SpellsPid holder.now v.0 × SpellsText resource.now v.1.resource × SpellsText requester.now v.1.requester
-        × SpellsTarget nodes.now (target_of v.2))
+        × SpellsTarget nodes.now (target_in v.2))
         (FirstRefused (APid ∷ AResource ∷ ARequester ∷ SomeNodes ∷ [])
         (holder.now ∷ resource.now ∷ requester.now ∷ nodes.now ∷ [])) }
 {
@@ -149,61 +176,68 @@ fn with_three(word: &str, text: &str, next: &str, last: &str) -> Result<Task, Li
 
 /// What a word with four texts asks for.
 fn with_four(
+    alloc: Global,
     word: &str,
     holder: &str,
     resource: &str,
     requester: &str,
     nodes: &str,
-) -> Result<Task, LineFault>
-    ensures { WordsAsk (word.now ∷ holder.now ∷ resource.now ∷ requester.now ∷ nodes.now ∷ []) (asked_by result) }
+) -> Result<Result<Task, LineFault>, AllocError>
+    ensures { IfOk result (λ task. WordsAsk (word.now ∷ holder.now ∷ resource.now ∷ requester.now ∷ nodes.now ∷ []) (asked_by task)) }
 {
     match word {
-        "del_lock" => {
-            let (holder, id, nodes) = holder_id_and_nodes(holder, resource, requester, nodes)?;
-            Ok(del_lock(holder, id, nodes))
-        }
-        _ => Err(LineFault::BadLine),
+        "del_lock" => match holder_id_and_nodes(holder, resource, requester, nodes) {
+            Ok((holder, id, named)) => Ok(Ok(del_lock(alloc, holder, id, named)?)),
+            Err(fault) => Ok(Err(LineFault::Text(fault))),
+        },
+        _ => Ok(Err(LineFault::BadLine)),
     }
 }
 
 /// What a word with five texts asks for. The retries are read first: no other text is looked at where they are wrong.
 fn with_five(
+    alloc: Global,
     word: &str,
     holder: &str,
     resource: &str,
     requester: &str,
     nodes: &str,
     retries: &str,
-) -> Result<Task, LineFault>
-    ensures { WordsAsk (word.now ∷ holder.now ∷ resource.now ∷ requester.now ∷ nodes.now ∷ retries.now ∷ []) (asked_by result) }
+) -> Result<Result<Task, LineFault>, AllocError>
+    ensures { IfOk result (λ task. WordsAsk (word.now ∷ holder.now ∷ resource.now ∷ requester.now ∷ nodes.now ∷ retries.now ∷ []) (asked_by task)) }
 {
     match word {
         "set_lock" => {
             let Some(retries) = parse_retries(retries) else {
-                return Err(LineFault::BadLine);
+                return Ok(Err(LineFault::BadLine));
             };
-            let (holder, id, nodes) = holder_id_and_nodes(holder, resource, requester, nodes)?;
-            Ok(set_lock(holder, id, nodes, retries))
+            match holder_id_and_nodes(holder, resource, requester, nodes) {
+                Ok((holder, id, named)) => Ok(Ok(set_lock(alloc, holder, id, named, retries)?)),
+                Err(fault) => Ok(Err(LineFault::Text(fault))),
+            }
         }
-        _ => Err(LineFault::BadLine),
+        _ => Ok(Err(LineFault::BadLine)),
     }
 }
 
 /// What words ask for.
-pub(crate) fn read_words(words: &[&str]) -> Result<Task, LineFault>
-    ensures { WordsAsk (map (λ word. word.now) words.now) (asked_by result) }
+pub(crate) fn read_words(
+    alloc: Global,
+    words: &[&str],
+) -> Result<Result<Task, LineFault>, AllocError>
+    ensures { IfOk result (λ task. WordsAsk (map (λ word. word.now) words.now) (asked_by task)) }
 {
     match words {
-        [word] => bare(word),
-        [word, text] => with_one(word, text),
-        [word, text, next] => with_two(word, text, next),
-        [word, text, next, last] => with_three(word, text, next, last),
+        [word] => Ok(bare(word)),
+        [word, text] => Ok(with_one(word, text)),
+        [word, text, next] => Ok(with_two(word, text, next)),
+        [word, text, next, last] => Ok(with_three(word, text, next, last)),
         [word, holder, resource, requester, nodes] => {
-            with_four(word, holder, resource, requester, nodes)
+            with_four(alloc, word, holder, resource, requester, nodes)
         }
-        [word, holder, resource, requester, nodes, retries] => {
-            with_five(word, holder, resource, requester, nodes, retries)
-        }
-        _ => Err(LineFault::BadLine),
+        [word, holder, resource, requester, nodes, retries] => with_five(
+            alloc, word, holder, resource, requester, nodes, retries,
+        ),
+        _ => Ok(Err(LineFault::BadLine)),
     }
 }

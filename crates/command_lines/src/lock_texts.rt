@@ -1,23 +1,21 @@
 //! The texts of a lock call that say whom it asks, and how often.
 ghost use Rattle.std.specs.Prelude.{◌≡◌, ℕ, MatchOption, MatchResult, slice_index};
 ghost use Rattle.std.specs.Int.{is_in_range};
-ghost use Rattle.transaction.specs.Calls.{target_of, retries_of};
-ghost use Rattle.command_lines.specs.LockTexts.{SpellsTarget, RefusesTarget, SpellsCount, SpellsRetries, SpellsNoRetries};
+ghost use Rattle.transaction.specs.Calls.{retries_of};
+ghost use Rattle.command_lines.specs.LockTexts.{target_in, SpellsTarget, RefusesTarget, SpellsCount, SpellsRetries, SpellsNoRetries};
 
-use term::{TextFault, parse_nodes};
-use transaction::{Nodes, Retries};
+use term::{NodeSet, TextFault, parse_nodes};
+use transaction::Retries;
 
-/// Reads whom a lock call asks: `all` for all members, else names of nodes parted by commas. A node that is called `all` is
-/// named beside another one, or twice.
-pub fn parse_target(text: &str) -> Result<Nodes, TextFault>
-    ensures { MatchResult result (λ nodes. SpellsTarget text.now (target_of nodes)) (RefusesTarget text.now) }
+/// Reads which nodes a lock call names: none for `all`, which asks all members, else names of nodes parted by commas. A node
+/// that is called `all` is named beside another one, or twice.
+pub fn parse_target(text: &str) -> Result<Option<NodeSet>, TextFault>
+    ensures { MatchResult result (λ named. SpellsTarget text.now (target_in named)) (RefusesTarget text.now) }
 {
     if text == "all" {
-        return Ok(Nodes::All);
+        return Ok(None);
     }
-    let nodes = parse_nodes(text)?;
-    // A text that spells a set names a node, so the fault never comes.
-    Nodes::named(nodes).ok_or(TextFault::Empty)
+    Ok(Some(parse_nodes(text)?))
 }
 
 /// Whether the digits begin with one of 1 to 9.

@@ -1,9 +1,10 @@
 //! Lock calls.
-ghost use Rattle.std.specs.Prelude.{◌≡◌};
+ghost use Rattle.std.specs.Prelude.{◌≡◌, IfOk};
 ghost use Rattle.protocol_model.specs.Event.{is_waiting_call};
 ghost use Rattle.lock_calls.specs.Calls.{phase_of};
 
 use locker::Round;
+use std::alloc::AllocError;
 use term::{LockId, NodeSet, Pid};
 use transaction::{Nodes, Retries};
 
@@ -56,17 +57,17 @@ pub struct LockCall {
 }
 
 impl LockCall {
-    /// The same call. It takes no memory.
-    pub fn copy(&self) -> Self
-        ensures { result ≡ self.now }
+    /// The same call. Only named nodes take memory.
+    pub fn copy(&self) -> Result<Self, AllocError>
+        ensures { IfOk result (λ copy. copy ≡ self.now) }
     {
-        LockCall {
+        Ok(LockCall {
             holder: self.holder.copy(),
             number: self.number,
             id: self.id.copy(),
-            nodes: self.nodes.copy(),
+            nodes: self.nodes.copy()?,
             retries: self.retries.copy(),
             phase: self.phase.copy(),
-        }
+        })
     }
 }

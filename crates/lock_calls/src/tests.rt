@@ -71,7 +71,7 @@ fn tells_whether_one_waits(rt: HostRuntime) -> Result<(), Fail> {
     let mut calls = LockCalls::new(rt.alloc(), a.copy());
     calls.put(call_of(p, 1, CallPhase::Deleting(members.copy()))?)?;
     let asking = call_of(q.copy(), 2, CallPhase::Asking(Round::begin(&members)))?;
-    calls.put(asking.copy())?;
+    calls.put(asking.copy()?)?;
     assert!(rt; !calls.has_waiting());
     calls.put(call_of(q, 2, CallPhase::Waiting)?)?;
     assert!(rt; calls.has_waiting());

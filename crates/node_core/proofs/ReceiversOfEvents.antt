@@ -190,16 +190,16 @@ module _ (h : Held) (whole : IsWhole h) (rising : is_rising h.table ≡ true) wh
     said.members,
     said.told,
     said.rising,
-    said.members boss (both (set_of body.members boss) _
-        (greatest-within n (staying (set_of body.members) (set_of body.told) (begun (node_of h)))
+    said.members boss (both (set_of body.value.members boss) _
+        (greatest-within n (staying (set_of body.value.members) (set_of body.value.told) (begun (node_of h)))
         h.name (below_bound h.world h.name (whole.members h.name whole.self))
-        (stays (set_of body.members h.name) (set_of h.told h.name) (set_of body.told h.name) said.self whole.here
+        (stays (set_of body.value.members h.name) (set_of h.told h.name) (set_of body.value.told h.name) said.self whole.here
         said.here))),
   )
     where
       boss : ℕ
       boss = greatest n
-          (staying (set_of body.members) (set_of body.told) (begun (node_of h)))
+          (staying (set_of body.value.members) (set_of body.value.told) (begun (node_of h)))
 
       both : (b d : Bool) → (b && d) ≡ true → b ≡ true
       both true d e = refl

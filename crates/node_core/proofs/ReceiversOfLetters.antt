@@ -47,8 +47,8 @@ abbrev pub HasBoss : ℕ → Nodes → ℕ → Letter → Turn → Type 0
 HasBoss n world f (Admit body) u =
     (world body.joiner ≡ true) × (world (greatest n (with_node body.joiner u.node.replica.members)) ≡ true)
 HasBoss n world f (Welcome body) u =
-    AreOf world (set_of body.members) × AreOf world (set_of body.told) × (is_rising body.pairs.items ≡ true)
-    × (world (greatest n (staying (set_of body.members) (set_of body.told) u)) ≡ true)
+    AreOf world (set_of body.value.members) × AreOf world (set_of body.value.told) × (is_rising body.value.pairs.items ≡ true)
+    × (world (greatest n (staying (set_of body.value.members) (set_of body.value.told) u)) ≡ true)
 HasBoss n world f Down u = world (greatest n (without_node f u.node.replica.members)) ≡ true
 HasBoss n world f _ u = Unit {0}
 
@@ -203,8 +203,8 @@ module _ {n a : ℕ} {world : Nodes} where
     reads_letter f JoinRefused u e boss W = is_refused f u.node.current u W
     reads_letter f (Admit body) u e boss W =
         admits f body.joiner body.puts.items body.kills.items u e boss.0 boss.1 W
-    reads_letter f (Welcome body) u e boss W = is_welcome f (set_of body.members) body.pairs.items (set_of body.told)
-        body.kills.items u.node.current u e boss.0 boss.1 boss.2 boss.3 W
+    reads_letter f (Welcome body) u e boss W = is_welcome f (set_of body.value.members) body.value.pairs.items (set_of body.value.told)
+        body.value.kills.items u.node.current u e boss.0 boss.1 boss.2 boss.3 W
     reads_letter f Down u e boss W = bereaves f u e boss W
 
     pub receives : (f : ℕ) (l : Letter) (u : Turn) → world f ≡ true → HasBoss n world f l u → IsWithin n a world u

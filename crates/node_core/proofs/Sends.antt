@@ -1,5 +1,5 @@
 -- What a step sends, as the protocol has it.
-use Rattle.std.proofs.Common.{ℕ, Bool, true, false, zero, suc, ◌==◌, ◌≡◌, ◌<◌, List, [], ◌∷◌, ◌++◌, length, get_or, ◌+◌, map, refl, sym, ap, ◌∙◌, inl, inr, arith}
+use Rattle.std.proofs.Common.{ℕ, Bool, true, false, zero, suc, ◌==◌, ◌≡◌, ◌<◌, List, [], ◌∷◌, ◌++◌, length, get_or, map, refl, sym, ap, ◌∙◌, inl, inr, arith}
 use Rattle.std.specs.Prelude.{◌||◌, All}
 use Rattle.std.proofs.lemmas.Bool.{cases_eq, eq-eqb, ne_eqb}
 use Rattle.std.proofs.lemmas.List.{map-append}
@@ -7,7 +7,7 @@ use Rattle.protocol_model.specs.Turn.{Send, send, send_all}
 use Rattle.term.specs.NodeSets.{IsNodeSet, set_of}
 use Rattle.boss_order.proofs.Sets.{nodes_of-set_of}
 use Rattle.node_events.specs.declared.events.Letter.{Letter}
-use Rattle.node_events.specs.Made.{Made, sent, SendsAll, each}
+use Rattle.node_events.specs.Made.{Made, sent, SendsAll}
 use Rattle.node_core.specs.Held.{Held, bound_of, IsWithin}
 use Rattle.node_events.specs.Letters.{send_of, letter_of}
 use Rattle.node_core.specs.Seen.{turn_of}

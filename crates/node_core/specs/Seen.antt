@@ -10,57 +10,6 @@ use Rattle.locker.specs.Held.{seen}
 use Rattle.lock_calls.specs.Held.{seen as calls_seen}
 use Rattle.transaction.specs.declared.op.Op.{Op}
 use Rattle.transaction.specs.Ops.{op_of}
-use Rattle.node_events.specs.declared.events.Call.TheVariants.{
-  Spawn,
-  Whereis,
-  RegisteredNames,
-  Register,
-  ReRegister,
-  Unregister,
-  SetLock as SetsLock,
-  DelLock as DeletesLock,
-  Join as JoinBy,
-}
-use Rattle.node_events.specs.declared.events.Entry.TheVariants.{
-  Name,
-  Strike,
-  Exit,
-  Done,
-  Read,
-  Left,
-  Told,
-  Joined as HasJoined,
-  NotMember as IsRefused,
-  ContactLeft as LostContact,
-}
-use Rattle.node_events.specs.declared.events.Reply.TheVariants.{
-  Yes,
-  No,
-  Ok,
-  UnknownNode,
-  True,
-  False,
-  Joined,
-  NotMember,
-  ContactLeft,
-  Pid,
-  Undefined,
-  Names,
-}
-use Rattle.node_events.specs.declared.events.StepFault.TheVariants.{
-  NotLive,
-  Busy,
-  Reserved,
-  UnknownNode as UnknownMember,
-  AlreadyJoined,
-  NoSuchProcess,
-  AlreadyExited,
-  SerialsSpent,
-  NothingToRetry,
-  HoldsLock,
-  CallsSpent,
-  Memory,
-}
 use Rattle.node_core.specs.declared.node.Phase.{Phase}
 use Rattle.node_core.specs.declared.node.Phase.TheVariants.{Asking, Waiting, Writing, Joining}
 use Rattle.node_events.specs.Letters.{send_of}

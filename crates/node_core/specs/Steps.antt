@@ -47,7 +47,7 @@ IsOther world a f = (set_of world f ≡ true) × ((f == a) ≡ false)
 abbrev pub IsSaidBy : List ℕ → ℕ → ℕ → Letter → Type 0
 IsSaidBy world a f (JoinAsk pairs) = set_of world f ≡ true
 IsSaidBy world a f (Admit body) = set_of world body.joiner ≡ true
-IsSaidBy world a f (Welcome body) = IsWelcomeTo world a body
+IsSaidBy world a f (Welcome body) = IsWelcomeTo world a body.value
 IsSaidBy world a f Down = IsOther world a f
 IsSaidBy world a f _ = Unit {0}
 

@@ -32,7 +32,7 @@ letter_of Applied = AnyLetter.Applied
 letter_of (JoinAsk pairs) = AnyLetter.JoinAsk pairs.items
 letter_of JoinRefused = AnyLetter.JoinRefused
 letter_of (Admit body) = admit_letter body
-letter_of (Welcome body) = welcome_letter body
+letter_of (Welcome body) = welcome_letter body.value
 letter_of Down = AnyLetter.Down
 
 -- a letter with its receiver

@@ -33,8 +33,8 @@ pub enum Letter {
     JoinRefused,
     /// A node joins, and is to be admitted.
     Admit(Admission),
-    /// The receiver has joined.
-    Welcome(Welcome),
+    /// The receiver has joined. What it says is large and rare, and lies in memory of its own, so that other letters are small.
+    Welcome(Box<Welcome>),
     /// The sender has left.
     Down,
 }
@@ -67,7 +67,10 @@ impl Letter {
             Letter::JoinAsk(pairs) => Letter::JoinAsk(copied_pairs(pairs)?),
             Letter::JoinRefused => Letter::JoinRefused,
             Letter::Admit(admission) => Letter::Admit(admission.copy()?),
-            Letter::Welcome(welcome) => Letter::Welcome(welcome.copy()?),
+            Letter::Welcome(welcome) => {
+                let alloc: Global = *welcome.pairs.allocator();
+                Letter::Welcome(Box::new(alloc, welcome.copy()?)?)
+            }
             Letter::Down => Letter::Down,
         })
     }

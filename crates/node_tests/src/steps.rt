@@ -99,11 +99,11 @@ fn part(text: &str) -> Result<(&str, &str), Fail> {
 }
 
 /// The nodes that a text names, or all.
-fn nodes_of(text: &str) -> Result<Nodes, Fail> {
+fn nodes_of(alloc: Global, text: &str) -> Result<Nodes, Fail> {
     if text == "all" {
         return Ok(Nodes::All);
     }
-    match Nodes::named(parse_nodes(text)?) {
+    match Nodes::named(alloc, parse_nodes(text)?)? {
         Some(nodes) => Ok(nodes),
         None => Err(Fail::from("no node")),
     }
@@ -119,17 +119,17 @@ fn retries_of(text: &str) -> Retries {
 }
 
 /// The call of a process for a lock: the process, the resource, the requester, the nodes and, of a `set_lock`, the retries.
-fn lock_call(kind: &str, text: &str) -> Result<Call, Fail> {
+fn lock_call(alloc: Global, kind: &str, text: &str) -> Result<Call, Fail> {
     let (holder, text) = part(text)?;
     let (resource, text) = part(text)?;
     let (requester, text) = part(text)?;
     let holder = parse_pid(holder)?;
     let id = lock_id(resource, requester)?;
     if kind == "del_lock" {
-        return Ok(Call::DelLock(holder, id, nodes_of(text)?));
+        return Ok(Call::DelLock(holder, id, nodes_of(alloc, text)?));
     }
     let (nodes, retries) = part(text)?;
-    Ok(Call::SetLock(holder, id, nodes_of(nodes)?, retries_of(retries)))
+    Ok(Call::SetLock(holder, id, nodes_of(alloc, nodes)?, retries_of(retries)))
 }
 
 /// An event of one word.
@@ -152,7 +152,7 @@ fn event(alloc: Global, text: &str) -> Result<Event, Fail> {
         "whereis" => Event::Call(Call::Whereis(parse_name(rest)?)),
         "unregister" => Event::Call(Call::Unregister(parse_name(rest)?)),
         "register" | "re_register" => Event::Call(put(kind, rest)?),
-        "set_lock" | "del_lock" => Event::Call(lock_call(kind, rest)?),
+        "set_lock" | "del_lock" => Event::Call(lock_call(alloc, kind, rest)?),
         "join" => Event::Call(Call::Join(parse_node(rest)?)),
         "exit" => Event::Exit(parse_pid(rest)?),
         _ => Event::FromPeer(parse_node(rest)?, letter(alloc, kind)?),

@@ -1,16 +1,20 @@
 //! Whom a lock call asks, and how often.
-ghost use Rattle.std.specs.Prelude.{◌≡◌, ◌==◌, ◌<◌, length, None, Some, if◌then◌else◌};
+ghost use Rattle.std.specs.Prelude.{◌≡◌, ◌==◌, ◌<◌, length, None, Some, if◌then◌else◌, IfOk, nat_eq};
+ghost use Rattle.std.specs.Cmp.Rules.{comparing};
+ghost use Rattle.std.specs.Cmp.Lexicographic.{pointwise};
+ghost use Rattle.std.proofs.Common.{rules};
 ghost use Rattle.protocol_model.specs.Client.{is_spent, one_less};
 ghost use Rattle.transaction.specs.declared.nodes.Nodes.TheVariants.{Named};
 ghost use Rattle.transaction.specs.Calls.{retries_of};
 
+use std::alloc::{AllocError, Global};
 use std::marker::Model;
 use term::NodeSet;
 
-/// The nodes that a lock call names, at least one.
-#[derive(Debug, PartialEq, Eq, Drop)]
+/// The nodes that a lock call names, at least one. A set of nodes is large and few calls name one, so it lies in memory of its own.
+#[derive(Debug, Drop)]
 pub struct NamedNodes {
-    nodes: NodeSet,
+    nodes: Box<NodeSet>,
 }
 
 impl Model for NamedNodes {
@@ -18,21 +22,20 @@ impl Model for NamedNodes {
 
     ghost Value = { List ℕ };
 
-    ghost view = { λ n. n.nodes };
+    ghost view = { λ n. n.nodes.value };
 
-    ghost invariant = { λ n. 0 < length n.nodes };
-
-    ghost inverse = { λ v. record { nodes = v } };
+    ghost invariant = { λ n. 0 < length n.nodes.value };
 }
 
 impl NamedNodes {
-    /// The same nodes. It takes no memory.
-    pub fn copy(&self) -> Self
-        ensures { result ≡ self.now }
+    /// The same nodes, in memory of their own.
+    pub fn copy(&self) -> Result<Self, AllocError>
+        ensures { IfOk result (λ copy. copy ≡ self.now) }
     {
-        NamedNodes {
-            nodes: self.nodes.copy(),
-        }
+        let alloc = *Box::allocator(&self.nodes);
+        Ok(NamedNodes {
+            nodes: Box::new(alloc, self.nodes.as_ref().copy())?,
+        })
     }
 
     /// The set of them, which isn't empty.
@@ -40,8 +43,22 @@ impl NamedNodes {
         ensures nodes { result.now ≡ self.now }
         ensures some { 0 < length self.now }
     {
-        &self.nodes
+        self.nodes.as_ref()
     }
+}
+
+impl PartialEq for NamedNodes {
+    ghost eq = { pointwise nat_eq };
+
+    ghost laws = { Prim.search (comparing, rules) };
+
+    fn eq(&self, other: &Self) -> bool {
+        *self.as_set() == *other.as_set()
+    }
+}
+
+impl Eq for NamedNodes {
+    ghost laws = { Prim.search (comparing, rules) };
 }
 
 /// The nodes that a lock call asks.
@@ -55,23 +72,25 @@ pub enum Nodes {
 
 impl Nodes {
     /// The nodes of a set. `None`: the set is empty.
-    pub fn named(nodes: NodeSet) -> Option<Self>
-        ensures { result ≡ (if length nodes == 0 then None else Some (Named nodes)) }
+    pub fn named(alloc: Global, nodes: NodeSet) -> Result<Option<Self>, AllocError>
+        ensures { IfOk result (λ named. named ≡ (if length nodes == 0 then None else Some (Named nodes))) }
     {
         if nodes.is_empty() {
-            return None;
+            return Ok(None);
         }
-        Some(Nodes::Named(NamedNodes { nodes }))
+        Ok(Some(Nodes::Named(NamedNodes {
+            nodes: Box::new(alloc, nodes)?,
+        })))
     }
 
-    /// The same nodes. It takes no memory.
-    pub fn copy(&self) -> Self
-        ensures { result ≡ self.now }
+    /// The same nodes. Only named ones take memory.
+    pub fn copy(&self) -> Result<Self, AllocError>
+        ensures { IfOk result (λ copy. copy ≡ self.now) }
     {
-        match self {
+        Ok(match self {
             Nodes::All => Nodes::All,
-            Nodes::Named(named) => Nodes::Named(named.copy()),
-        }
+            Nodes::Named(named) => Nodes::Named(named.copy()?),
+        })
     }
 }
 

@@ -170,8 +170,8 @@ fn nests(rt: HostRuntime) -> Result<(), Fail> {
 
 #[test]
 fn names_at_least_one_node(rt: HostRuntime) -> Result<(), Fail> {
-    assert!(rt; Nodes::named(NodeSet::empty()).is_none());
-    let named = match Nodes::named(NodeSet::one(parse_node("a")?)) {
+    assert!(rt; Nodes::named(rt.alloc(), NodeSet::empty())?.is_none());
+    let named = match Nodes::named(rt.alloc(), NodeSet::one(parse_node("a")?))? {
         Some(Nodes::Named(nodes)) => nodes.as_set().contains(&parse_node("a")?),
         _ => false,
     };

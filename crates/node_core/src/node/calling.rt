@@ -8,7 +8,7 @@ use term::{LockId, NodeName, Pid, Resource};
 use transaction::{NameCall, Nodes, Op, Retries};
 
 impl<N: Names<Memory = Global>> NodeCore<N> {
-    ghost use Rattle.std.specs.Prelude.{◌≡◌, ◌+◌, false, ◌==◌, true, None, Some, [], ◌∷◌, OnOk, IfOk, IfErr};
+    ghost use Rattle.std.specs.Prelude.{◌≡◌, ◌+◌, false, ◌==◌, true, None, Some, [], ◌∷◌, OnOk, OnErr, IfOk, IfErr};
     ghost use Rattle.registry_model.specs.Process.{Text};
     ghost use Rattle.registry_model.specs.Call.{seen_in};
     ghost use Rattle.registry_model.specs.History.{Entry as AnyEntry};
@@ -29,8 +29,8 @@ impl<N: Names<Memory = Global>> NodeCore<N> {
     ghost use Rattle.node_events.specs.Seen.{call_of, look_of, reply_of};
     ghost use Rattle.node_core.specs.Steps.{Keeps, Makes, IsAskedWithin, refusal_of, cause_of};
 
-    /// Why a call is refused, if it is.
-    pub(super) fn call_refusal(&self, call: &Call) -> Option<StepFault>
+    /// Why a call would be refused as things are, if it would be. Want of memory isn't foreseen.
+    pub fn call_refusal(&self, call: &Call) -> Option<StepFault>
         ensures { refusal_of (Calls call.now) self.now ≡ cause_of result }
     {
         match call {
@@ -112,26 +112,34 @@ impl<N: Names<Memory = Global>> NodeCore<N> {
     }
 
     /// A lock call under the next number.
-    fn new_call(&mut self, holder: &Pid, id: &LockId, nodes: &Nodes, retries: Retries) -> LockCall
+    fn new_call(
+        &mut self,
+        holder: &Pid,
+        id: &LockId,
+        nodes: &Nodes,
+        retries: Retries,
+    ) -> Result<LockCall, AllocError>
         requires { (self.old.last_call == last_u32) ≡ false }
-        ensures state { self.new ≡ record self.old { last_call = self.old.last_call + 1 } }
-        ensures call { result ≡ record {
+        ensures state { OnOk result (self.new ≡ record self.old { last_call = self.old.last_call + 1 }) }
+        ensures call { IfOk result (λ call. call ≡ record {
           holder = holder.now;
           number = self.old.last_call + 1;
           id = id.now;
           nodes = nodes.now;
           retries = retries;
           phase = Waiting;
-        } }
+        }) }
+        ensures unchanged { OnErr result (self.new ≡ self.old) }
     {
-        LockCall {
+        let nodes = nodes.copy()?;
+        Ok(LockCall {
             holder: holder.copy(),
             number: self.next_call(),
             id: id.copy(),
-            nodes: nodes.copy(),
+            nodes,
             retries,
             phase: CallPhase::Waiting,
-        }
+        })
     }
 
     /// A new process.
@@ -216,11 +224,11 @@ impl<N: Names<Memory = Global>> NodeCore<N> {
             }
             Call::Unregister(name) => self.enqueue(NameCall::Unregister(name.copy()))?,
             Call::SetLock(holder, id, nodes, retries) => {
-                let call = self.new_call(holder, id, nodes, retries.copy());
+                let call = self.new_call(holder, id, nodes, retries.copy())?;
                 self.try_lock(turn, call)?
             }
             Call::DelLock(holder, id, nodes) => {
-                let call = self.new_call(holder, id, nodes, Retries::Times(0));
+                let call = self.new_call(holder, id, nodes, Retries::Times(0))?;
                 self.delete_lock(turn, call)?
             }
             Call::Join(contact) => self.enqueue_join(contact)?,

@@ -192,7 +192,7 @@ impl<N: Names<Memory = Global>> NodeCore<N> {
             &self.told,
             settled,
         )?;
-        turn.send(joiner.copy(), Letter::Welcome(welcome))?;
+        turn.send(joiner.copy(), Letter::Welcome(Box::new(alloc, welcome)?))?;
         self.registrar
             .await_from(&and_one(&self.world, &self.members, &joiner));
         self.phase = Phase::Writing(asked, None);

@@ -89,7 +89,7 @@ impl<N: Names<Memory = Global>> NodeCore<N> {
         ensures turn { OnOk result (Makes (λ n a u. loss_of n a gone.now (call_of holder.now u.node.calls) u) self.old turn.old self.new turn.new) }
         ensures kept { Keeps self.old self.new }
     {
-        let Some(call) = self.lock_call(holder) else {
+        let Some(call) = self.lock_call(holder)? else {
             return Ok(());
         };
         let CallPhase::Asking(round) = &call.phase else {

@@ -10,9 +10,9 @@ use term::{NodeName, NodeSet, Pid};
 use transaction::Nodes;
 
 impl<N: Names<Memory = Global>> NodeCore<N> {
-    ghost use Rattle.std.specs.Prelude.{◌≡◌, ℕ, ◌<◌, length, IfSome, OnOk};
+    ghost use Rattle.std.specs.Prelude.{◌≡◌, ℕ, ◌<◌, length, IfSome, IfOk, OnOk};
     ghost use Rattle.std.specs.Option.{option_map};
-    ghost use Rattle.protocol_model.specs.Node.{targets, call_of};
+    ghost use Rattle.protocol_model.specs.Node.{targets, call_of, drop_call};
     ghost use Rattle.protocol_model.specs.Client.{close_call, ask_lock, try_lock, give_lock, refuse_lock, go_on_lock, hear_lock, delete_lock, owe_less, retry_locks};
     ghost use Rattle.protocol_model.specs.Letter.{Letter as AnyLetter};
     ghost use Rattle.term.specs.NodeSets.{set_of};
@@ -26,14 +26,17 @@ impl<N: Names<Memory = Global>> NodeCore<N> {
     ghost use Rattle.node_events.specs.Letters.{letter_of};
     ghost use Rattle.node_core.specs.Steps.{Keeps, Makes};
 
-    /// The call of a process, if it has one. It takes no memory.
-    pub(super) fn lock_call(&self, holder: &Pid) -> Option<LockCall>
-        ensures call { option_map as_call result ≡ call_of holder.now (calls_seen self.now.calls) }
-        ensures own { IfSome result (IsOwnCall self.now) }
-        ensures within { IfSome result (λ call. IsCallWithin self.now.world (as_call call).phase) }
+    /// The call of a process, if it has one, with its nodes in memory of their own.
+    pub(super) fn lock_call(&self, holder: &Pid) -> Result<Option<LockCall>, AllocError>
+        ensures call { IfOk result (λ call. option_map as_call call ≡ call_of holder.now (calls_seen self.now.calls)) }
+        ensures own { IfOk result (λ call. IfSome call (IsOwnCall self.now)) }
+        ensures within { IfOk result (λ call. IfSome call (λ call. IsCallWithin self.now.world (as_call call).phase)) }
         ensures ordered { AreOrdered self.now.calls.node (calls_seen self.now.calls) }
     {
-        self.calls.get(holder).map(LockCall::copy)
+        match self.calls.get(holder) {
+            Some(call) => Ok(Some(call.copy()?)),
+            None => Ok(None),
+        }
     }
 
     /// The nodes that a lock call asks, as the members are now.
@@ -54,6 +57,15 @@ impl<N: Names<Memory = Global>> NodeCore<N> {
         Letter::SetLock(call.id.copy(), call.holder.copy())
     }
 
+    /// The process has no call any more.
+    fn end_call(&mut self, holder: &Pid)
+        ensures calls { calls_seen self.new.calls ≡ drop_call holder.now (calls_seen self.old.calls) }
+        ensures others { self.new ≡ record self.old { calls = self.new.calls } }
+        ensures ordered { AreOrdered self.old.calls.node (calls_seen self.old.calls) }
+    {
+        self.calls.take(holder);
+    }
+
     /// The call ends with this answer.
     fn close_call(
         &mut self,
@@ -65,7 +77,7 @@ impl<N: Names<Memory = Global>> NodeCore<N> {
         ensures kept { Keeps self.old self.new }
         ensures ordered { AreOrdered self.old.calls.node (calls_seen self.old.calls) }
     {
-        self.calls.take(&call.holder);
+        self.end_call(&call.holder);
         let reply = if granted { Reply::True } else { Reply::False };
         turn.answer(self.answer(call.number, reply))
     }
@@ -167,7 +179,7 @@ impl<N: Names<Memory = Global>> NodeCore<N> {
         ensures turn { OnOk result (Makes (λ n a u. hear_lock n a from.now granted (call_of holder.now u.node.calls) u) self.old turn.old self.new turn.new) }
         ensures kept { Keeps self.old self.new }
     {
-        let Some(call) = self.lock_call(holder) else {
+        let Some(call) = self.lock_call(holder)? else {
             return Ok(());
         };
         let CallPhase::Asking(round) = &call.phase else {
@@ -213,7 +225,7 @@ impl<N: Names<Memory = Global>> NodeCore<N> {
         ensures turn { OnOk result (Makes (λ n a u. owe_less n a from.now (call_of holder.now u.node.calls) u) self.old turn.old self.new turn.new) }
         ensures kept { Keeps self.old self.new }
     {
-        let Some(mut call) = self.lock_call(holder) else {
+        let Some(mut call) = self.lock_call(holder)? else {
             return Ok(());
         };
         let CallPhase::Deleting(owing) = &mut call.phase else {
@@ -233,7 +245,7 @@ impl<N: Names<Memory = Global>> NodeCore<N> {
         ensures turn { OnOk result (Makes (λ n a u. retry_of n a (call_of holder.now u.node.calls) u) self.old turn.old self.new turn.new) }
         ensures kept { Keeps self.old self.new }
     {
-        let Some(mut call) = self.lock_call(holder) else {
+        let Some(mut call) = self.lock_call(holder)? else {
             return Ok(());
         };
         if !call.phase.is_waiting() {

@@ -154,7 +154,7 @@ impl<N: Names<Memory = Global>> NodeCore<N> {
             Letter::JoinAsk(pairs) => self.asked_to_admit(turn, from, pairs),
             Letter::JoinRefused => self.refused_join(turn, from),
             Letter::Admit(admission) => self.admit_joiner(turn, from, admission),
-            Letter::Welcome(welcome) => self.welcome(turn, from, welcome),
+            Letter::Welcome(welcome) => self.welcome(turn, from, welcome.as_ref()),
             Letter::Down => self.bereave(turn, from),
         }
     }

@@ -42,12 +42,13 @@ pub(super) fn letter(alloc: Global, kind: &str) -> Result<Letter, Fail> {
         "welcome" => {
             let mut kills = Vec::new(alloc);
             kills.push(parse_pid("a.1")?)?;
-            Letter::Welcome(Welcome {
+            let welcome = Welcome {
                 members: parse_nodes("a,b")?,
                 pairs: owned(alloc)?,
                 told: NodeSet::empty(),
                 kills,
-            })
+            };
+            Letter::Welcome(Box::new(alloc, welcome)?)
         }
         _ => return Err(Fail::from("no letter")),
     })

@@ -11,11 +11,11 @@ use Rattle.cluster_world.proofs.seat.WorldSeatLockSeat.del_lock.Goals as goal
 
 pub returns : goal.returns
 returns g c =
-    let call : DelLock c.copy.result c.copy-2.result c.copy-3.result
+    let call : DelLock c.copy-2.result c.copy-3.result c.in-Ok.nodes
     ≡ DelLock c.args.self.now.holder c.args.id.now c.args.nodes.now =
-    ap (λ (p : Process). DelLock p c.copy-2.result c.copy-3.result) c.copy.ensures
-    ∙ ap (λ (i : LockId). DelLock c.args.self.now.holder i c.copy-3.result) c.copy-2.ensures
-    ∙ ap (λ (ns : Nodes). DelLock c.args.self.now.holder c.args.id.now ns) c.copy-3.ensures in (
+    ap (λ (p : Process). DelLock p c.copy-3.result c.in-Ok.nodes) c.copy-2.ensures
+    ∙ ap (λ (i : LockId). DelLock c.args.self.now.holder i c.in-Ok.nodes) c.copy-3.ensures
+    ∙ ap (λ (ns : Nodes). DelLock c.args.self.now.holder c.args.id.now ns) c.in-Ok.ensures in (
       record {
         replies = c.push_reserved.ensures.items
             ∙ ap (λ (l : List LockReply). l ++ Deleted c.copy-4.result ∷ []) c.call.ensures.replies

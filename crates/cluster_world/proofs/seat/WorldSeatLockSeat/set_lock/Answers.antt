@@ -11,11 +11,11 @@ use Rattle.cluster_world.proofs.seat.WorldSeatLockSeat.set_lock.Goals as goal
 
 pub returns : goal.returns
 returns g c =
-    let call : SetLock c.copy.result c.copy-2.result c.copy-3.result c.args.retries
+    let call : SetLock c.copy-2.result c.copy-3.result c.in-Ok.nodes c.args.retries
     ≡ SetLock c.args.self.now.holder c.args.id.now c.args.nodes.now c.args.retries =
-    ap (λ (p : Process). SetLock p c.copy-2.result c.copy-3.result c.args.retries) c.copy.ensures
-    ∙ ap (λ (i : LockId). SetLock c.args.self.now.holder i c.copy-3.result c.args.retries) c.copy-2.ensures
-    ∙ ap (λ (ns : Nodes). SetLock c.args.self.now.holder c.args.id.now ns c.args.retries) c.copy-3.ensures in (
+    ap (λ (p : Process). SetLock p c.copy-3.result c.in-Ok.nodes c.args.retries) c.copy-2.ensures
+    ∙ ap (λ (i : LockId). SetLock c.args.self.now.holder i c.in-Ok.nodes c.args.retries) c.copy-3.ensures
+    ∙ ap (λ (ns : Nodes). SetLock c.args.self.now.holder c.args.id.now ns c.args.retries) c.in-Ok.ensures in (
       record {
         replies = c.push_reserved.ensures.items
             ∙ ap (λ (l : List LockReply). l ++ Set c.copy-4.result c.in_ok-granted.granted ∷ []) c.call.ensures.replies

@@ -3,7 +3,7 @@ use Rattle.node_events.specs.declared.events.Call.TheVariants.{Whereis, Register
 use Rattle.node_events.specs.Seen.{call_of}
 use Rattle.node_core.specs.Steps.{IsAskedWithin}
 use Rattle.node_core.proofs.Calls.{calls, sets, deletes}
-use Rattle.node_core.proofs.node.NodeCore.call.Goals.{in-Spawn+in_ok-spawn-in-Spawn, in-Whereis+in_ok-look_up-in-Whereis, in-RegisteredNames+in_ok-look_up-in-RegisteredNames, in-Register+in_ok-enqueue-in-Register, in-ReRegister+in_ok-enqueue-in-ReRegister, in-Unregister+in_ok-enqueue-in-Unregister, in-SetLock+in_ok-try_lock-in-SetLock, in-DelLock+in_ok-delete_lock-in-DelLock, in-Join+in_ok-enqueue_join-in-Join}
+use Rattle.node_core.proofs.node.NodeCore.call.Goals.{in-Spawn+in_ok-spawn-in-Spawn, in-Whereis+in_ok-look_up-in-Whereis, in-RegisteredNames+in_ok-look_up-in-RegisteredNames, in-Register+in_ok-enqueue-in-Register, in-ReRegister+in_ok-enqueue-in-ReRegister, in-Unregister+in_ok-enqueue-in-Unregister, in-SetLock+in_ok-call-in-SetLock+in_ok-try_lock-in-SetLock, in-DelLock+in_ok-call-in-DelLock+in_ok-delete_lock-in-DelLock, in-Join+in_ok-enqueue_join-in-Join}
 use Rattle.node_core.proofs.node.NodeCore.call.Goals as goal
 
 pub returns-clause-turn : goal.returns-clause-turn
@@ -31,17 +31,17 @@ returns-clause-turn g c = λ asked.
           calls c.args.call.now (call_of (Unregister w.copy-in-Unregister.result))
           (ap call_of w.in-Unregister.is ∙ cc (name)) w.self-is w.turn-is
           (w.in_ok-enqueue-in-Unregister.ensures.turn c.args.turn.now)
-      | in-SetLock+in_ok-try_lock-in-SetLock w ↦ let retries = w.copy-in-SetLock.ensures in
+      | in-SetLock+in_ok-call-in-SetLock+in_ok-try_lock-in-SetLock w ↦ let retries = w.copy-in-SetLock.ensures in
           calls c.args.call.now (call_of c.args.call.now) refl w.self-is w.turn-is
-          (sets c.args.self.now w.new_call-call.new.self w.try_lock.new.self c.args.turn.now w.try_lock.new.turn
-          w.new_call-call.result w.in-SetLock.holder w.in-SetLock.id w.in-SetLock.nodes w.copy-in-SetLock.result
-          w.new_call-call.ensures.state w.new_call-call.ensures.call c.args.call.now
+          (sets c.args.self.now w.new_call.new.self w.try_lock.new.self c.args.turn.now w.try_lock.new.turn
+          w.in_ok-call-in-SetLock.call w.in-SetLock.holder w.in-SetLock.id w.in-SetLock.nodes w.copy-in-SetLock.result
+          w.in_ok-call-in-SetLock.ensures.state w.in_ok-call-in-SetLock.ensures.call c.args.call.now
           (w.in-SetLock.is ∙ cc (retries)) c.requires w.in_ok-try_lock-in-SetLock.ensures.turn)
-      | in-DelLock+in_ok-delete_lock-in-DelLock w ↦
+      | in-DelLock+in_ok-call-in-DelLock+in_ok-delete_lock-in-DelLock w ↦
           calls c.args.call.now (call_of c.args.call.now) refl w.self-is w.turn-is
-          (deletes c.args.self.now w.new_call-call-in-DelLock.new.self w.delete_lock.new.self c.args.turn.now
-          w.delete_lock.new.turn w.new_call-call-in-DelLock.result w.in-DelLock.holder w.in-DelLock.id
-          w.in-DelLock.nodes _ w.new_call-call-in-DelLock.ensures.state w.new_call-call-in-DelLock.ensures.call
+          (deletes c.args.self.now w.new_call-in-DelLock.new.self w.delete_lock.new.self c.args.turn.now
+          w.delete_lock.new.turn w.in_ok-call-in-DelLock.call w.in-DelLock.holder w.in-DelLock.id
+          w.in-DelLock.nodes _ w.in_ok-call-in-DelLock.ensures.state w.in_ok-call-in-DelLock.ensures.call
           c.args.call.now w.in-DelLock.is refl c.requires w.in_ok-delete_lock-in-DelLock.ensures.turn)
       | in-Join+in_ok-enqueue_join-in-Join w ↦
           calls c.args.call.now _ (ap call_of w.in-Join.is) w.self-is w.turn-is

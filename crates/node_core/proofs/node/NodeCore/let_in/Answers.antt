@@ -1,5 +1,6 @@
-use Rattle.std.proofs.Common.{true, ◌≡◌, sym, subst}
+use Rattle.std.proofs.Common.{true, ◌≡◌, ◌∙◌, ap, sym, subst}
 use Rattle.term.specs.NodeSets.{set_of}
+use Rattle.exchange.specs.Bodies.{welcome_letter}
 use Rattle.node_core.specs.Held.{Held}
 use Rattle.node_core.proofs.Joining.{room_for, lets_in}
 use Rattle.node_core.proofs.node.NodeCore.let_in.Goals as goal
@@ -17,5 +18,5 @@ returns-clause-turn g c = λ pairs admitting.
     pairs c.self.view_is c.self.invariant
     (subst (λ (h : Held). set_of h.world c.args.joiner ≡ true) (sym c.self.view_is) c.requires.joiner)
     c.send_all.ensures.set c.and_one.ensures c.await_from.ensures c.copy.ensures c.copy-2.ensures c.in_ok-enter.ensures
-    c.in_ok-admission.ensures c.in_ok-send_all.ensures.letters c.in_ok-welcome.ensures.letter c.copy-3.ensures
+    c.in_ok-admission.ensures c.in_ok-send_all.ensures.letters (ap welcome_letter c.in_ok-new.ensures.ok ∙ c.in_ok-welcome.ensures.letter) c.copy-3.ensures
     c.in_ok-send.ensures admitting

@@ -1,17 +1,22 @@
-use Rattle.std.proofs.Common.{◌≡◌, rules}
-use Rattle.std.specs.Option.{option_map}
+use Rattle.std.proofs.Common.{Some, ap, ◌∙◌}
 use Rattle.protocol_model.specs.Node.{call_of}
+use Rattle.lock_calls.specs.declared.call.LockCall.{LockCall}
 use Rattle.lock_calls.specs.Calls.{as_call}
 use Rattle.lock_calls.specs.Held.{seen}
+use Rattle.node_core.specs.Held.{Held}
 use Rattle.node_core.proofs.Locking.{found_own, found_within}
 use Rattle.node_core.proofs.node.NodeCore.lock_call.Goals as goal
 
-pub returns-clause-own : goal.returns-clause-own
-returns-clause-own g c =
-    let is : option_map as_call c.map.result ≡ call_of c.args.holder.now (seen c.args.self.now.calls) = search rules in
-    found_own _ c.args.self.now c.args.holder.now c.map.result c.self.view_is c.self.invariant c.get.ensures.ordered is
+pub returns-in_ok-copy-in-Some-clause-own : goal.returns-in_ok-copy-in-Some-clause-own
+returns-in_ok-copy-in-Some-clause-own g c =
+    found_own _ c.args.self.now c.args.holder.now (Some c.in_ok-copy-in-Some.field-0) c.self.view_is c.self.invariant
+    c.get.ensures.ordered
+    (ap (λ (x : LockCall). Some (as_call x)) c.in_ok-copy-in-Some.ensures ∙ c.in-Some.ensures.call
+    ∙ ap (λ (h : Held). call_of c.args.holder.now (seen h.calls)) c.self.view_is)
 
-pub returns-clause-within : goal.returns-clause-within
-returns-clause-within g c =
-    let is : option_map as_call c.map.result ≡ call_of c.args.holder.now (seen c.args.self.now.calls) = search rules in
-    found_within _ c.args.self.now c.args.holder.now c.map.result c.self.view_is c.self.invariant is
+pub returns-in_ok-copy-in-Some-clause-within : goal.returns-in_ok-copy-in-Some-clause-within
+returns-in_ok-copy-in-Some-clause-within g c =
+    found_within _ c.args.self.now c.args.holder.now (Some c.in_ok-copy-in-Some.field-0) c.self.view_is
+    c.self.invariant
+    (ap (λ (x : LockCall). Some (as_call x)) c.in_ok-copy-in-Some.ensures ∙ c.in-Some.ensures.call
+    ∙ ap (λ (h : Held). call_of c.args.holder.now (seen h.calls)) c.self.view_is)
