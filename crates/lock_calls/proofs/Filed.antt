@@ -1,13 +1,12 @@
 -- Calls that stand under the serials of their processes: what is found, put and removed there is what the protocol
 -- finds, puts and drops.
-use Rattle.std.proofs.Common.{ℕ, Bool, true, false, Result, Ok, Err, ◌==◌, ◌≡◌, ◌<◌, Some, None, List, [], ◌∷◌, refl, sym, ap, subst, ◌∙◌, inl, inr, arith, is_eq, nat_cmp}
+use Rattle.std.proofs.Common.{ℕ, Bool, true, false, ◌==◌, ◌≡◌, ◌<◌, Some, None, List, [], ◌∷◌, refl, sym, ap, subst, ◌∙◌, inl, inr, arith, is_eq, nat_cmp}
 use Rattle.std.specs.Prelude.{not, ◌||◌, cond, map, All}
 use Rattle.std.specs.BTreeMap.{insert_entry, is_at}
 use Rattle.std.specs.List.{AllByRecursion, list_any}
 use Rattle.std.specs.List.Sorted.{IsStrictlySortedBy}
 use Rattle.std.specs.Map.{keys_of, values_of, lookup, remove_entry}
 use Rattle.std.specs.Option.{option_map}
-use Rattle.std.specs.Result.{OnErr}
 use Rattle.std.specs.declared.cmp.Ordering.TheVariants.{Less}
 use Rattle.std.proofs.lemmas.Bool.{cases_eq, cases_order, eq-eqb, eqb-true, ne_eqb, lt-ltb, le-ltb}
 use Rattle.std.proofs.lemmas.List.Elements.{All-cons, All-head, All-tail, All-nil}
@@ -230,8 +229,3 @@ module _ (a s : ℕ) (es : Entries) (h : Held) (c : LockCall)
       subst (λ (k : Held). call_of c.holder (seen k) ≡ None) view
       (subst (λ (p : Process). call_of p (calls_in es) ≡ None) holder_is
       (sym (call_of-filed a s es of) ∙ ap (option_map as_call) absent))
-
--- what is so of the failed and of the other results is so of the failed
-pub on_err_given : {X E P : Type 0} (r : Result X E) → P → OnErr r P
-on_err_given (Ok x) h = tt
-on_err_given (Err e) h = h

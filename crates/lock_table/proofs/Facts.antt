@@ -30,11 +30,6 @@ pub on_none_given : {X P : Type 0} (r : Option X) → P → IfNone r P
 on_none_given None h = h
 on_none_given (Some x) h = tt
 
--- what is so of the failed and of the other results is so of the failed
-pub on_err_given : {X E P : Type 0} (r : Result X E) → P → OnErr r P
-on_err_given (Ok x) h = tt
-on_err_given (Err e) h = h
-
 -- what is so of the failed, or of the others, by the answer of `is_err`
 pub err_from : {X E : Type 0} (r : Result X E) → is_err r ≡ true → (P : Type 0) → OnErr r P → P
 err_from (Ok x) e P h = cc

@@ -1,5 +1,5 @@
 -- The names of a node's processes are taken out on both sides of the index.
-use Rattle.std.proofs.Common.{ℕ, Bool, true, false, ◌==◌, ◌≡◌, ◌<◌, Option, Some, None, List, [], ◌∷◌, length, filter, refl, sym, ap, ◌∙◌, BTreeSet}
+use Rattle.std.proofs.Common.{ℕ, Bool, true, false, ◌==◌, ◌≡◌, ◌<◌, Option, Some, None, [], ◌∷◌, length, filter, refl, sym, ap, ◌∙◌, BTreeSet}
 use Rattle.std.specs.Prelude.{if◌then◌else◌, not}
 use Rattle.std.specs.List.{IsDistinct}
 use Rattle.std.specs.Map.{keys_of}

@@ -1,6 +1,6 @@
 -- Writes of the index: a name more or less for a process. And the owners, as names are forgotten one by one.
-use Rattle.std.proofs.Common.{Bool, true, false, ◌==◌, ◌≡◌, ◌<◌, Option, Some, None, Result, Ok, Err, List, [], ◌∷◌, length, refl, sym, subst, ap, ◌∙◌, arith, nat_cmp, BTreeSet}
-use Rattle.std.specs.Prelude.{if◌then◌else◌, OnErr}
+use Rattle.std.proofs.Common.{Bool, true, false, ◌==◌, ◌≡◌, ◌<◌, Option, Some, None, List, [], ◌∷◌, length, refl, sym, subst, ap, ◌∙◌, arith, nat_cmp, BTreeSet}
+use Rattle.std.specs.Prelude.{if◌then◌else◌}
 use Rattle.std.specs.BTreeMap.{is_at}
 use Rattle.std.specs.BTreeSet.{contains}
 use Rattle.std.specs.List.{list_any}
@@ -11,11 +11,6 @@ use Rattle.std.proofs.lemmas.Map.Steps.{set_value_same}
 use Rattle.registry_model.specs.Process.{Text, Process, is_process}
 use Rattle.name_table.specs.Index.{Owners, Owned, owner_of, names_of, is_among, HaveNames, Lists, Unlists}
 use Rattle.name_table.proofs.Agreement.{Writes, at_is, some_from_contains, lists_by, unlists_by, have_names}
-
--- what holds at any result holds at a refusal
-pub on_err_given : {X E P : Type 0} (r : Result X E) → P → OnErr r P
-on_err_given (Ok x) h = tt
-on_err_given (Err e) h = h
 
 -- a set without keys has no name
 pub contains-empty : (names : BTreeSet Text) (y : Text) → names.keys ≡ [] → contains nat_cmp names y ≡ false

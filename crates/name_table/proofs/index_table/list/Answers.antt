@@ -1,11 +1,13 @@
 use Rattle.std.proofs.Common.{◌∙◌, sym, ap, subst, is_some}
 use Rattle.std.specs.Option.{option_copied_mut}
+use Rattle.std.proofs.lemmas.Result.{err_from_is_err_and}
 use Rattle.name_table.specs.Index.{HaveNames}
-use Rattle.name_table.proofs.Listing.{on_err_given, writes_to, written_back, lists_more, lists_first, have_names-listed}
+use Rattle.name_table.proofs.Listing.{writes_to, written_back, lists_more, lists_first, have_names-listed}
 use Rattle.name_table.proofs.index_table.list.Goals as goal
 
 pub returns-in_err-insert-clause-err : goal.returns-in_err-insert-clause-err
-returns-in_err-insert-clause-err g c = on_err_given c.from_residual.result
+returns-in_err-insert-clause-err g c =
+    rw (err_from_is_err_and c.from_residual.result c.from_residual.ensures.1).1
     (written_back c.args.owned.now.entries _ c.args.owner.now c.in-Some.names.now c.insert.new.self
     c.in-Some.ensures.value (c.get_mut.follows.holds c.insert.new.self).0 c.in_err-insert.ensures.err)
 

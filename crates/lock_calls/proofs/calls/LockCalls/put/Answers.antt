@@ -1,17 +1,18 @@
 use Rattle.std.proofs.Common.{ap, sym, subst, ◌∙◌, ℕ, List, map}
 use Rattle.std.specs.Prelude.{All}
 use Rattle.std.specs.Map.{values_of}
+use Rattle.std.proofs.lemmas.Result.{err_from_is_err_and}
 use Rattle.lock_calls.specs.declared.call.LockCall.{LockCall}
 use Rattle.lock_calls.specs.Calls.{as_call}
 use Rattle.lock_calls.specs.Held.{IsOf}
 use Rattle.lock_calls.proofs.Among.{put_among}
-use Rattle.lock_calls.proofs.Filed.{filed-put, put_call-own, call_of-absent, on_err_given}
+use Rattle.lock_calls.proofs.Filed.{filed-put, put_call-own, call_of-absent}
 use Rattle.lock_calls.proofs.Ordered.{ordered_in}
 use Rattle.lock_calls.proofs.calls.LockCalls.put.Goals as goal
 
 pub returns-in_err-insert-clause-err : goal.returns-in_err-insert-clause-err
 returns-in_err-insert-clause-err c =
-    on_err_given c.from_residual.result
+    rw (err_from_is_err_and c.from_residual.result c.from_residual.ensures.1).1
     (call_of-absent c.self.inside.node _ c.self.inside.calls.entries c.args.self.now c.args.call c.self.view_is
     (ap (λ (d : LockCall). d.holder.serial) c.call.view_is) c.self.invariant.of c.requires.own
     c.in_err-insert.ensures.absent)

@@ -1,11 +1,12 @@
 use Rattle.std.proofs.Common.{◌≡◌, ◌∙◌, ◌+◌, sym, ap, subst, arith, Option, Some}
 use Rattle.std.specs.BTreeMap.{BTreeMap, Updates, insert_entry}
+use Rattle.std.proofs.lemmas.Result.{err_from_is_err_and}
 use Rattle.protocol_model.specs.Letter.{Id}
 use Rattle.lock_table.specs.Filed.{IsFiled, key_cmp, listed}
 use Rattle.lock_table.specs.declared.grant.Held.{Held}
 use Rattle.lock_table.specs.declared.grant.Key.{Key}
 use Rattle.lock_table.specs.Verdicts.{verdict_of}
-use Rattle.lock_table.proofs.Facts.{err_from, ok_from, on_err_given}
+use Rattle.lock_table.proofs.Facts.{err_from, ok_from}
 use Rattle.lock_table.proofs.Asking.{asked-first, asked-full, asked-more, at_most, filed-first, filed-more, first_grant, free-first, free-held, indexed-filed, indexed-undone, refused_other, verdict-full}
 use Rattle.lock_table.proofs.Steps.{indexed-written, kept-same}
 use Rattle.lock_table.proofs.table.LockTable.ask.Goals as goal
@@ -65,7 +66,7 @@ returns-in_default-checked_add-clause-err c =
 
 pub returns-in_err-insert-in-None-clause-err : goal.returns-in_err-insert-in-None-clause-err
 returns-in_err-insert-in-None-clause-err c =
-    on_err_given c.from_residual.result
+    rw (err_from_is_err_and c.from_residual.result c.from_residual.ensures.1).1
     (rw (← c.self.view_is)
     (first_grant c.self.inside.next c.self.inside.grants c.self.invariant.0 c.args.id c.args.holder c.of-key.result
     c.of-key.ensures c.in_default.ensures.none c.in-None.ensures.value))
