@@ -18,5 +18,6 @@ returns-clause-turn g c = λ pairs admitting.
     pairs c.self.view_is c.self.invariant
     (subst (λ (h : Held). set_of h.world c.args.joiner ≡ true) (sym c.self.view_is) c.requires.joiner)
     c.send_all.ensures.set c.and_one.ensures c.await_from.ensures c.copy.ensures c.copy-2.ensures c.in_ok-enter.ensures
-    c.in_ok-admission.ensures c.in_ok-send_all.ensures.letters (ap welcome_letter c.in_ok-new.ensures.ok ∙ c.in_ok-welcome.ensures.letter) c.copy-3.ensures
+    c.in_ok-admission.ensures c.in_ok-send_all.ensures.letters
+    (ap welcome_letter c.in_ok-new.ensures.ok ∙ c.in_ok-welcome.ensures.letter) c.copy-3.ensures
     c.in_ok-send.ensures admitting

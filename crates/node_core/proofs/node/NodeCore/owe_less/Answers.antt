@@ -12,9 +12,11 @@ pub returns-then-is_empty-clause-turn : goal.returns-then-is_empty-clause-turn
 returns-then-is_empty-clause-turn g c =
     on_ok_weaker c.close_call.result
     (owes_none c.args.self.now c.args.turn.now c.in-Some.call c.args.holder.now c.args.from.now c.in-Deleting.owing
-    c.remove.new.self c.is_empty.result (sym (ap (option_map as_call) c.in-Some.is) ∙ c.in_ok-call.ensures.call) c.in-Deleting.is
+    c.remove.new.self c.is_empty.result (sym (ap (option_map as_call) c.in-Some.is) ∙ c.in_ok-call.ensures.call)
+    c.in-Deleting.is
     (sym c.remove.ensures.held ∙ c.if-not-remove.false) c.remove.ensures.others c.is_empty.ensures
-    (MatchOption-at_some _ _ c.in-Some.call c.in-Some.is c.in_ok-call.ensures.within) c.close_call.new.self c.close_call.new.turn c.if-is_empty.true)
+    (MatchOption-at_some _ _ c.in-Some.call c.in-Some.is c.in_ok-call.ensures.within)
+    c.close_call.new.self c.close_call.new.turn c.if-is_empty.true)
     c.close_call.ensures.turn
 
 pub invariant_of-self : goal.invariant_of-self
@@ -31,7 +33,9 @@ pub returns-clause-turn : goal.returns-clause-turn
 returns-clause-turn g c =
     on_ok_weaker c.put.result
     (owes_some c.args.self.now c.args.turn.now c.in-Some.call c.args.holder.now c.args.from.now c.in-Deleting.owing
-    c.remove.new.self c.is_empty.result (sym (ap (option_map as_call) c.in-Some.is) ∙ c.in_ok-call.ensures.call) c.in-Deleting.is
+    c.remove.new.self c.is_empty.result (sym (ap (option_map as_call) c.in-Some.is) ∙ c.in_ok-call.ensures.call)
+    c.in-Deleting.is
     (sym c.remove.ensures.held ∙ c.if-not-remove.false) c.remove.ensures.others c.is_empty.ensures
-    (MatchOption-at_some _ _ c.in-Some.call c.in-Some.is c.in_ok-call.ensures.within) _ c.put.new.self c.self.view_is c.if-is_empty.false)
+    (MatchOption-at_some _ _ c.in-Some.call c.in-Some.is c.in_ok-call.ensures.within)
+    _ c.put.new.self c.self.view_is c.if-is_empty.false)
     c.put.ensures.ok
