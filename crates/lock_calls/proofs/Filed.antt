@@ -5,7 +5,7 @@ use Rattle.std.specs.Prelude.{not, ◌||◌, cond, map, All}
 use Rattle.std.specs.BTreeMap.{insert_entry, is_at}
 use Rattle.std.specs.List.{AllByRecursion, list_any}
 use Rattle.std.specs.List.Sorted.{IsStrictlySortedBy}
-use Rattle.std.specs.Map.{keys_of, values_of, lookup, remove_entry}
+use Rattle.std.specs.Map.{keys_of, values_of, lookup, remove_entry, set_value}
 use Rattle.std.specs.Option.{option_map}
 use Rattle.std.specs.declared.cmp.Ordering.TheVariants.{Less}
 use Rattle.std.proofs.lemmas.Bool.{cases_eq, cases_order, eq-eqb, eqb-true, ne_eqb, lt-ltb, le-ltb}
@@ -17,14 +17,7 @@ use Rattle.lock_calls.specs.declared.call.LockCall.{LockCall}
 use Rattle.protocol_model.specs.Event.{is_waiting_call}
 use Rattle.lock_calls.specs.Calls.{as_call, phase_of}
 use Rattle.lock_calls.specs.Held.{Held, seen, IsOf}
-
--- calls under serials
-abbrev Entries : Type 0
-Entries = List (ℕ × LockCall)
-
--- the calls as the protocol has them
-abbrev calls_in : Entries → List AnyCall
-calls_in es = map as_call (values_of es)
+use Rattle.lock_calls.proofs.Ordered.{Entries, calls_in, less_than}
 
 -- the process of node a that has this serial
 abbrev process_at : ℕ → ℕ → Process
@@ -127,6 +120,36 @@ drop_call-elsewhere a p (e ∷ es) h other =
     rw (is_process-elsewhere a p e (All-head (IsOf a) e es h) other)
     (ap (λ (cs : List AnyCall). as_call e.1 ∷ cs)
     (drop_call-elsewhere a p es (All-tail (IsOf a) e es h) other))
+
+-- no call stands under a serial where all stand under greater ones
+unfound : (s n : ℕ) (es : Entries) → s < n → AllByRecursion (λ k. nat_cmp n k ≡ Less) (keys_of es)
+    → lookup (is_at (nat_cmp s)) es ≡ None
+unfound s n [] less above = refl
+unfound s n (e ∷ es) less above =
+    let beyond : n < e.0 = less_than n e.0 above.0 in
+    rw (at_is s e.0, ne_eqb e.0 s (λ i. absurd (omega arith))) (unfound s n es less above.1)
+
+-- a call that is written over another stands as if it had been put
+pub written-put : (s : ℕ) (c d : LockCall) (es : Entries) → IsStrictlySortedBy nat_cmp (keys_of es)
+    → Some d ≡ lookup (is_at (nat_cmp s)) es
+    → set_value (is_at (nat_cmp s)) es c ≡ insert_entry nat_cmp es s c
+written-put s c d [] rising found = absurd (cc found)
+written-put s c d (e ∷ es) rising found = elim (cases_order s e.0) [
+  | inl i ↦ rw (le-ltb s e.0 (omega arith), eq-eqb s e.0 i) refl
+  | inr (inl l) ↦ absurd (none_and_some (beside (ne_eqb e.0 s (λ i. absurd (omega arith)))
+      ∙ unfound s e.0 es l (sorted_head nat_cmp e.0 (keys_of es) rising)))
+  | inr (inr g) ↦
+      let later : (e.0 == s) ≡ false = ne_eqb e.0 s (λ i. absurd (omega arith)) in
+      rw (le-ltb s e.0 (omega arith), ne_eqb s e.0 (λ i. absurd (omega arith)))
+      (ap (λ (rest : Entries). e ∷ rest)
+      (written-put s c d es (sorted_tail nat_cmp e.0 (keys_of es) rising) (beside later)))
+]
+  where
+    beside : (e.0 == s) ≡ false → Some d ≡ lookup (is_at (nat_cmp s)) es
+    beside other = found ∙ ap (λ (b : Bool). cond b (Some e.1) (lookup (is_at (nat_cmp s)) es)) (at_is s e.0 ∙ other)
+
+    none_and_some : Some d ≡ None → ⊥
+    none_and_some i = cc i
 
 -- calls stay filed where one is put or removed
 pub filed-insert_entry : (a s : ℕ) (c : LockCall) (es : Entries) → IsOf a (s, c) → All (IsOf a) es

@@ -16,14 +16,14 @@ use Rattle.lock_calls.specs.Calls.{as_call}
 use Rattle.lock_calls.specs.Held.{Held, seen, IsOf, AreOrdered}
 
 -- calls under serials
-abbrev Entries : Type 0
+abbrev pub Entries : Type 0
 Entries = List (ℕ × LockCall)
 
 -- the calls as the protocol has them
-abbrev calls_in : Entries → List AnyCall
+abbrev pub calls_in : Entries → List AnyCall
 calls_in es = map as_call (values_of es)
 
-less_than : (s k : ℕ) → nat_cmp s k ≡ Less → s < k
+pub less_than : (s k : ℕ) → nat_cmp s k ≡ Less → s < k
 less_than s k h = grind (arith, nat_tests)
 
 -- what is so of each filed call is so of it as the protocol has it

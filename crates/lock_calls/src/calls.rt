@@ -8,6 +8,7 @@ ghost use Rattle.lock_calls.specs.Calls.{as_call};
 ghost use Rattle.lock_calls.specs.Held.{none_at, seen, AreOrdered};
 
 use crate::call::LockCall;
+use crate::kept::KeptCall;
 use std::alloc::{AllocError, Global};
 use std::collections::BTreeMap;
 use std::marker::Model;
@@ -16,8 +17,9 @@ use term::{NodeName, Pid};
 /// The unanswered lock calls of one node, by the serials of the processes that made them.
 #[derive(Drop)]
 pub struct LockCalls {
+    alloc: Global,
     node: NodeName,
-    calls: BTreeMap<u32, LockCall>,
+    calls: BTreeMap<u32, KeptCall>,
 }
 
 impl Model for LockCalls {
@@ -37,6 +39,7 @@ impl LockCalls {
         ensures { result ≡ none_at node }
     {
         LockCalls {
+            alloc,
             node,
             calls: BTreeMap::new(alloc),
         }
@@ -51,7 +54,8 @@ impl LockCalls {
         if holder.node != self.node {
             return None;
         }
-        self.calls.get(&holder.serial)
+        let kept = self.calls.get(&holder.serial)?;
+        Some(kept.call())
     }
 
     /// Puts a call of a process of the node, in place of the one that the process has. `AllocError`: there is no memory
@@ -66,7 +70,13 @@ impl LockCalls {
         ensures err { OnErr result (call_of call.holder (seen self.old) ≡ None) }
         ensures ordered { AreOrdered self.old.node (seen self.old) }
     {
-        self.calls.insert(call.holder.serial, call)?;
+        let serial = call.holder.serial;
+        if let Some(kept) = self.calls.get_mut(&serial) {
+            kept.set(call);
+            return Ok(());
+        }
+        let kept = KeptCall::new(self.alloc, call)?;
+        self.calls.insert(serial, kept)?;
         Ok(())
     }
 
@@ -82,14 +92,17 @@ impl LockCalls {
         if holder.node != self.node {
             return None;
         }
-        self.calls.remove(&holder.serial)
+        let kept = self.calls.remove(&holder.serial)?;
+        Some(kept.into_call())
     }
 
     /// Whether some call waits for a retry. It looks at one call after another.
     pub fn has_waiting(&self) -> bool
         ensures { result ≡ list_any (λ c. is_waiting_call c.phase) (seen self.now) }
     {
-        self.calls.values().any(|call| call.phase.is_waiting())
+        self.calls
+            .values()
+            .any(|kept| kept.call().phase.is_waiting())
     }
 
     /// The processes that have a call, rising by serial.
@@ -99,7 +112,7 @@ impl LockCalls {
     {
         self.calls
             .values()
-            .map(|call| call.holder.copy())
+            .map(|kept| kept.call().holder.copy())
             .collect(alloc)
     }
 }

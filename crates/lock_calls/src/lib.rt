@@ -5,6 +5,7 @@
 
 mod call;
 mod calls;
+mod kept;
 
 pub use call::{CallPhase, LockCall};
 pub use calls::LockCalls;
