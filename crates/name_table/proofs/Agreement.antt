@@ -1,21 +1,13 @@
 -- The index agrees with the owners: what one write of it lists, and that the changes of both keep the agreement.
-use Rattle.std.proofs.Common.{Bool, true, false, ◌==◌, ◌≡◌, ◌<◌, Option, Some, None, List, [], ◌∷◌, length, refl, sym, ap, ◌∙◌, inl, inr, arith, nat_cmp, BTreeSet}
+use Rattle.std.proofs.Common.{Bool, true, false, ◌==◌, ◌≡◌, ◌<◌, Option, Some, None, List, [], ◌∷◌, length, refl, sym, ap, ◌∙◌, arith, nat_cmp, BTreeSet}
 use Rattle.std.specs.Prelude.{if◌then◌else◌, not, ◌&&◌, ◌||◌}
 use Rattle.std.specs.BTreeMap.{is_at}
 use Rattle.std.specs.BTreeSet.{contains}
 use Rattle.std.specs.List.{list_any}
-use Rattle.std.proofs.lemmas.Bool.{cases_order, eq-eqb, ne_eqb, eqb-true, lt-ltb, le-ltb}
+use Rattle.std.proofs.lemmas.Bool.{eqb-true}
 use Rattle.registry_model.specs.Process.{Text, Process, is_process}
 use Rattle.registry_model.proofs.Lists.{is_process-true}
 use Rattle.name_table.specs.Index.{Owners, Owned, owner_of, names_of, is_owner, is_among, is_listed, HaveNames, Agrees, Lists, Unlists, Forgets}
-
--- the test of a set at one name
-pub at_is : (x y : Text) → is_at (nat_cmp x) y ≡ (x == y)
-at_is x y = elim (cases_order x y) [
-  | inl i ↦ rw (le-ltb x y (omega arith), eq-eqb x y i) refl
-  | inr (inl l) ↦ rw (lt-ltb x y l, ne_eqb x y (λ i. absurd (omega arith))) refl
-  | inr (inr g) ↦ rw (le-ltb x y (omega arith), ne_eqb x y (λ i. absurd (omega arith))) refl
-]
 
 -- a set that has a name isn't empty
 pub some_from_contains : (names : BTreeSet Text) (x : Text) → contains nat_cmp names x ≡ true → 0 < length names.keys
@@ -41,35 +33,22 @@ listed old new p names h y q = ap (is_among y) (h q) ∙ go (is_process p q)
 
 -- a name more
 pub lists_by : (old new : Owned) (p : Process) (x : Text) (names : BTreeSet Text) → Writes p (Some names) old new →
-    ((y : Text) → contains nat_cmp names y ≡ (if is_at (nat_cmp x) y then true else is_listed y p old)) →
-    Lists p x old new
+    ((y : Text) → contains nat_cmp names y ≡ ((x == y) || is_listed y p old)) → Lists p x old new
 lists_by old new p x names h k y q = listed old new p (Some names) h y q ∙ go (is_process p q) refl
   where
-    at : (b : Bool) → (if b then true else is_listed y p old) ≡ (b || is_listed y p old)
-    at true = refl
-    at false = refl
-
     go : (b : Bool) → is_process p q ≡ b →
         (if b then contains nat_cmp names y else is_listed y q old) ≡ ((b && (x == y)) || is_listed y q old)
-    go true i =
-        k y ∙ ap (λ (b : Bool). if b then true else is_listed y p old) (at_is x y) ∙ at (x == y)
-        ∙ ap (λ (r : Process). (x == y) || is_listed y r old) (is_process-true p q i)
+    go true i = k y ∙ ap (λ (r : Process). (x == y) || is_listed y r old) (is_process-true p q i)
     go false i = refl
 
 -- a name less, where the names of the process are these
 pub unlists_by : (old new : Owned) (p : Process) (x : Text) (names : Option (BTreeSet Text)) → Writes p names old new →
-    ((y : Text) → is_among y names ≡ (if is_at (nat_cmp x) y then false else is_listed y p old)) → Unlists p x old new
+    ((y : Text) → is_among y names ≡ (not (x == y) && is_listed y p old)) → Unlists p x old new
 unlists_by old new p x names h k y q = listed old new p names h y q ∙ go (is_process p q) refl
   where
-    at : (b : Bool) → (if b then false else is_listed y p old) ≡ (not b && is_listed y p old)
-    at true = refl
-    at false = refl
-
     go : (b : Bool) → is_process p q ≡ b →
         (if b then is_among y names else is_listed y q old) ≡ (not (b && (x == y)) && is_listed y q old)
-    go true i =
-        k y ∙ ap (λ (b : Bool). if b then false else is_listed y p old) (at_is x y) ∙ at (x == y)
-        ∙ ap (λ (r : Process). not (x == y) && is_listed y r old) (is_process-true p q i)
+    go true i = k y ∙ ap (λ (r : Process). not (x == y) && is_listed y r old) (is_process-true p q i)
     go false i = refl
 
 -- after a write each process has names, where the one written has some

@@ -1,15 +1,14 @@
 -- The table of an index: who has a name in it, what a change of it is, and the least name of a process.
-use Rattle.std.proofs.Common.{ℕ, Bool, true, false, ◌==◌, ◌≡◌, ◌≤◌, Option, Some, None, [], ◌∷◌, filter, fold, refl, sym, subst, ap, ◌∙◌, inl, inr, arith, nat_cmp}
+use Rattle.std.proofs.Common.{ℕ, Bool, true, false, ◌==◌, ◌≡◌, ◌≤◌, Option, Some, None, [], ◌∷◌, filter, fold, refl, sym, subst, ap, ◌∙◌, inl, inr, arith}
 use Rattle.std.specs.Prelude.{if◌then◌else◌, not}
-use Rattle.std.specs.BTreeMap.{insert_entry}
 use Rattle.std.specs.List.{IsDistinct, AllByRecursion}
 use Rattle.std.specs.Map.{keys_of}
-use Rattle.std.proofs.lemmas.Bool.{cases_eq, cases_order, eq-eqb, ne_eqb, lt-ltb, le-ltb}
+use Rattle.std.proofs.lemmas.Bool.{cases_eq, cases_order, eq-eqb, ne_eqb, lt-ltb}
 use Rattle.registry_model.specs.Process.{Text, Process, is_process}
-use Rattle.registry_model.specs.Table.{Pair, Table, is_below, is_rising, get, put, remove, strike, without}
+use Rattle.registry_model.specs.Table.{Table, is_below, is_rising, get, put, remove, strike, without}
 use Rattle.registry_model.proofs.Tables.{is_rising-parts, is_rising-put, is_rising-remove, is_rising-strike, is_rising-without, get-below, get-put, get-remove, get-strike, get-without, get-front, get-behind, if_kept, or_else, same_table}
 use Rattle.name_table.specs.Owners.{name_of}
-use Rattle.name_table.specs.Index.{Owners, owner_of, table_of, pairs_of, put_in_turn, is_owner}
+use Rattle.name_table.specs.Index.{Owners, owner_of, table_of, put_in_turn, is_owner}
 
 -- who has a name
 pub get-table_of : (es : Owners) (y : Text) → get y (table_of es) ≡ owner_of y es
@@ -181,19 +180,3 @@ name_of-least p (e ∷ t) x r o l = elim (cases_order x e.name) [
     go true k g h = absurd (g (l e.name (ap (is_owner p) (get-front e t) ∙ k)))
     go false k g h = h (ap (is_owner p) (sym (get-behind e t x (λ i. g (omega (arith, i))))) ∙ o)
         (λ y m. l y (ap (is_owner p) (get-behind e t y (behind y m)) ∙ m))
-
--- a sorted map takes a name as a table does
-pub pairs_of-insert : (es : Owners) (x : Text) (p : Process) →
-    pairs_of (insert_entry nat_cmp es x p) ≡ put x p (pairs_of es)
-pairs_of-insert [] x p = refl
-pairs_of-insert (e ∷ es) x p = elim (cases_order x e.0) [
-  | inl i ↦ rw (le-ltb x e.0 (omega arith), eq-eqb x e.0 i, eq-eqb e.0 x (sym i))
-      (ap (λ (y : Text). let f : Pair = record { name = y; owner = p } in f ∷ pairs_of es) (sym i))
-  | inr (inl l) ↦ rw (lt-ltb x e.0 l, ne_eqb e.0 x (λ i. absurd (omega arith))) refl
-  | inr (inr g) ↦ rw (
-    le-ltb x e.0 (omega arith),
-    ne_eqb x e.0 (λ i. absurd (omega arith)),
-    ne_eqb e.0 x (λ i. absurd (omega arith)),
-  )
-      (ap (λ (t : Table). let f : Pair = record { name = e.0; owner = e.1 } in f ∷ t) (pairs_of-insert es x p))
-]

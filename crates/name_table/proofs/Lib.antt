@@ -3,8 +3,9 @@ mod Departures
 mod Index
 mod Least
 mod Listing
+mod NameSets
 mod Owners
 mod Places
 mod Puts
-mod Sorted
+mod Sorting
 mod Turns

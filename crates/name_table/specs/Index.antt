@@ -70,3 +70,11 @@ Unlists p x old new = (y : Text) (q : Process) →
 -- nobody has these names, and each other name has whom it had
 abbrev pub Forgets : BTreeSet Text → Owners → Owners → Type 0
 Forgets names old new = (y : Text) → owner_of y new ≡ (if contains nat_cmp names y then None else owner_of y old)
+
+-- the set has this name too, and all others as before
+abbrev pub Gains : Text → BTreeSet Text → BTreeSet Text → Type 0
+Gains x old new = (y : Text) → contains nat_cmp new y ≡ ((x == y) || contains nat_cmp old y)
+
+-- the set has this name no more, and all others as before
+abbrev pub Loses : Text → BTreeSet Text → BTreeSet Text → Type 0
+Loses x old new = (y : Text) → contains nat_cmp new y ≡ (not (x == y) && contains nat_cmp old y)

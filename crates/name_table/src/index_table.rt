@@ -1,13 +1,13 @@
 //! A table that is found by hashing.
-ghost use Rattle.std.specs.Prelude.{◌≡◌, [], IfOk, OnOk, OnErr};
+ghost use Rattle.std.specs.Prelude.{◌≡◌, [], map, IfOk, OnOk, OnErr};
 ghost use Rattle.registry_model.specs.Table.{put, remove, strike, names};
 ghost use Rattle.name_table.specs.Index.{table_of, pairs_of, HaveNames, Lists, Unlists, Forgets};
 
 use crate::change::{Change, Pair};
+use crate::name_set::NameSet;
 use crate::names::Names;
 use indexmap::IndexMap;
 use std::alloc::{AllocError, Allocator};
-use std::collections::{BTreeMap, BTreeSet};
 use std::hash::{BuildHasherDefault, FoldHasher};
 use std::marker::Model;
 use term::{Name, NodeName, Pid};
@@ -16,7 +16,10 @@ use term::{Name, NodeName, Pid};
 type Owners<A> = IndexMap<Name, Pid, BuildHasherDefault<FoldHasher>, A>;
 
 /// The names of each process that owns one.
-type Owned<A> = IndexMap<Pid, BTreeSet<Name, A>, BuildHasherDefault<FoldHasher>, A>;
+type Owned<A> = IndexMap<Pid, NameSet<A>, BuildHasherDefault<FoldHasher>, A>;
+
+/// A name with its owner, where they stand in a map.
+type Entry<'a> = (&'a Name, &'a Pid);
 
 /// A table of names that finds a name, and the names of a process, by hashing: what a look-up or a change of one
 /// name costs doesn't grow with the table. A list of all names is sorted when it is asked for.
@@ -51,8 +54,7 @@ fn list<A: Allocator + Copy + Drop>(
         names.insert(name.copy())?;
         return Ok(());
     }
-    let mut names = BTreeSet::new(*owned.allocator());
-    names.insert(name.copy())?;
+    let names = NameSet::one(*owned.allocator(), name.copy());
     owned.insert(owner.copy(), names)?;
     Ok(())
 }
@@ -71,47 +73,39 @@ fn unlist<A: Allocator + Copy + Drop>(owned: &mut Owned<A>, owner: &Pid, name: &
 }
 
 /// These names have no owner from now on. It takes no memory.
-fn forget<A: Allocator>(owners: &mut Owners<A>, mut names: BTreeSet<Name, A>)
+fn forget<A: Allocator + Copy + Drop>(owners: &mut Owners<A>, mut names: NameSet<A>)
     ensures { Forgets names owners.old.entries owners.new.entries }
 {
-    while let Some(name) = names.pop_first() {
+    while let Some(name) = names.pop() {
         owners.swap_remove(&name);
     }
 }
 
-/// The owners of all names, rising by name.
-fn sorted<A: Allocator + Copy>(owners: &Owners<A>) -> Result<BTreeMap<Name, Pid, A>, AllocError>
-    ensures { IfOk result (λ sorted. pairs_of sorted.entries ≡ table_of owners.now.entries) }
+/// The entries of a map, rising by name. They are sorted where they stand: only what leads to them is moved.
+fn sorted<'a, A: Allocator + Copy>(owners: &'a Owners<A>) -> Result<Vec<Entry<'a>, A>, AllocError>
+    ensures { IfOk result (λ sorted. map (λ e. record { name = e.0.now; owner = e.1.now }) sorted.items ≡ table_of owners.now.entries) }
 {
-    let mut sorted = BTreeMap::new(*owners.allocator());
-    for (name, owner) in owners {
-        sorted.insert(name.copy(), owner.copy())?;
-    }
+    let mut sorted: Vec<Entry<'a>, A> = owners.iter().collect(*owners.allocator())?;
+    sorted.sort_by(|left, right| left.0.cmp(right.0))?;
     Ok(sorted)
 }
 
-/// The names of a sorted map.
-fn names_in<A: Allocator, B: Allocator>(
-    alloc: B,
-    sorted: &BTreeMap<Name, Pid, A>,
-) -> Result<Vec<Name, B>, AllocError>
-    ensures { IfOk result (λ list. list.items ≡ names (pairs_of sorted.now.entries)) }
+/// The names of these entries.
+fn names_in<A: Allocator>(alloc: A, entries: &[Entry<'_>]) -> Result<Vec<Name, A>, AllocError>
+    ensures { IfOk result (λ list. list.items ≡ map (λ e. e.0.now) entries.now) }
 {
-    sorted.keys().map(|name| name.copy()).collect(alloc)
+    entries.iter().map(|entry| entry.0.copy()).collect(alloc)
 }
 
-/// The pairs of a sorted map.
-fn pairs_in<A: Allocator, B: Allocator>(
-    alloc: B,
-    sorted: &BTreeMap<Name, Pid, A>,
-) -> Result<Vec<Pair, B>, AllocError>
-    ensures { IfOk result (λ pairs. pairs.items ≡ pairs_of sorted.now.entries) }
+/// The pairs of these entries.
+fn pairs_in<A: Allocator>(alloc: A, entries: &[Entry<'_>]) -> Result<Vec<Pair, A>, AllocError>
+    ensures { IfOk result (λ pairs. pairs.items ≡ map (λ e. record { name = e.0.now; owner = e.1.now }) entries.now) }
 {
-    sorted
+    entries
         .iter()
-        .map(|(name, owner)| Pair {
-            name: name.copy(),
-            owner: owner.copy(),
+        .map(|entry| Pair {
+            name: entry.0.copy(),
+            owner: entry.1.copy(),
         })
         .collect(alloc)
 }
@@ -208,7 +202,7 @@ impl<A: Allocator + Copy + Drop> Names for IndexTable<A> {
 
     fn owned_by(&self, owner: &Pid) -> Option<Name> {
         let names = self.owned.get(owner)?;
-        let least = names.first()?;
+        let least = names.least()?;
         Some(least.copy())
     }
 

@@ -5,6 +5,7 @@
 mod change;
 mod index_table;
 mod list_table;
+mod name_set;
 mod names;
 
 pub use change::{Change, Pair};

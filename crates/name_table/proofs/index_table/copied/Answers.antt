@@ -1,4 +1,5 @@
 use Rattle.std.proofs.Common.{ap, sym, ◌∙◌, fold}
+use Rattle.std.proofs.Math.Path.{ap₂}
 use Rattle.registry_model.specs.Process.{Text, Process}
 use Rattle.registry_model.specs.Table.{Table, put}
 use Rattle.name_table.proofs.Index.{put_in_turn-table_of}
@@ -20,3 +21,8 @@ returns g c =
     sym (ap (fold (λ (t : Table) (e : Text × Process). put e.0 e.1 t) c.loop-name.copy) c.in-None.ensures.steps.0)
     ∙ c.loop-name.invariant
     ∙ put_in_turn-table_of c.args.owners.now.entries c.into_iter-name-iterator.ensures.into_iter_gives.4
+
+pub loop-name-init : goal.loop-name-init
+loop-name-init g c =
+    ap₂ (fold (λ (t : Table) (e : Text × Process). put e.0 e.1 t)) c.new-copy.ensures
+    c.into_iter-name-iterator.ensures.into_iter_gives.0

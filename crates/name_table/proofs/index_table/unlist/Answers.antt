@@ -11,7 +11,7 @@ returns-then-is_empty-clause-unlisted g c =
     unlists_last c.args.owned.now.entries _ c.args.owner.now c.args.name.now c.in-Some.names.now c.remove.new.self k
     (nil_from_length c.remove.new.self.keys (c.is_empty.ensures.0 c.if-is_empty.true))
     (writes_over _ _ _ c.args.owner.now (Some c.remove.new.self) None (h.3 (sym (ap is_some k))).0
-    c.swap_remove.ensures.updates.0) c.remove.ensures.updates.0
+    c.swap_remove.ensures.updates.0) c.remove.ensures
 
 pub returns-then-is_empty-clause-named : goal.returns-then-is_empty-clause-named
 returns-then-is_empty-clause-named g c =
@@ -26,7 +26,7 @@ returns-else-is_empty-clause-unlisted g c =
     let k = c.in-Some.ensures.value in
     let h = c.get_mut.follows.holds c.remove.new.self in
     unlists_one c.args.owned.now.entries _ c.args.owner.now c.args.name.now c.in-Some.names.now c.remove.new.self k
-    (h.3 (sym (ap is_some k))).0 c.remove.ensures.updates.0
+    (h.3 (sym (ap is_some k))).0 c.remove.ensures
 
 pub returns-else-is_empty-clause-named : goal.returns-else-is_empty-clause-named
 returns-else-is_empty-clause-named g c =
