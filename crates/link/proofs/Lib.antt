@@ -1,3 +1,4 @@
+mod Inboxes
 pub mod Places
 mod Waiting
 mod Writes

@@ -1,12 +1,12 @@
 -- The first link on which a letter waits.
-use Rattle.std.proofs.Common.{ℕ, true, ◌≡◌, ◌<◌, ◌+◌, ◌*◌, Option, Some, None, List, [], ◌∷◌, length, get_or, refl, sym, subst, ap, ◌∙◌, inl, inr, arith}
+use Rattle.std.proofs.Common.{ℕ, true, false, ◌≡◌, ◌≤◌, ◌<◌, ◌+◌, ◌*◌, Option, Some, None, List, [], ◌∷◌, length, get_or, refl, sym, subst, ap, ◌∙◌, inl, inr, arith}
 use Rattle.std.specs.Prelude.{◌⊎◌}
-use Rattle.std.proofs.lemmas.Bool.{cases_order}
+use Rattle.std.proofs.lemmas.Bool.{cases_eq, cases_order}
 use Rattle.std.proofs.lemmas.Grind.{get_or_default_zero}
 use Rattle.std.proofs.lemmas.List.Kept.{AllPairs-from_increasing}
 use Rattle.protocol_model.specs.Links.{is_nil}
 use Rattle.link.specs.declared.mesh.TheConstants.{MOST_NODES}
-use Rattle.link.specs.Held.{Held, IsWhole, place, link_at, WaitsFrom, IsFirst, WaitsFirst}
+use Rattle.link.specs.Held.{Held, IsWhole, place, link_at, seen, WaitsFrom, IsFirst, WaitsFirst, WaitsTowards}
 use Rattle.term.proofs.NodePlaces.{place-Some}
 use Rattle.link.proofs.Places.{place-get_or, link_at-Some}
 
@@ -14,6 +14,11 @@ use Rattle.link.proofs.Places.{place-get_or, link_at-Some}
 pub is_nil-true : {L : Type 0} (ls : List L) → is_nil ls ≡ true → ls ≡ []
 is_nil-true [] e = refl
 is_nil-true (l ∷ ls) e = cc
+
+-- a copy of what stands at this place
+pub copy_at : {xs ys : List ℕ} {x y : ℕ} (i : ℕ) → xs ≡ ys → x ≡ y → y ≡ get_or xs i y → x ≡ get_or ys i x
+copy_at {xs} {ys} {x} {y} i e c r = c ∙ r ∙ ap (λ (zs : List ℕ). get_or zs i y) e
+    ∙ ap (λ (z : ℕ). get_or ys i z) (sym c)
 
 -- no link between two places has a letter
 pub waits_nowhere : {L : Type 0} (h : Held L)
@@ -95,3 +100,42 @@ waits_at h i j f t whole within before here from to =
     subst (λ (x : ℕ). WaitsFirst (Some (x, t)) h) (sym (from ∙ get_or_default_zero h.nodes i f within))
     (subst (λ (y : ℕ). WaitsFirst (Some (get_or h.nodes i 0, y)) h) (sym (to ∙ get_or_default_zero h.nodes j t here.0))
     (waits_here h i j whole within before here))
+
+-- no letter waits for this node from the first i nodes
+abbrev pub NoneFrom : {L : Type 0} → ℕ → ℕ → Held L → Type 0
+NoneFrom i t h = (k : ℕ) → k < i → (seen h).queue (get_or h.nodes k 0) t ≡ []
+
+-- nor from the next
+pub none_more : {L : Type 0} (h : Held L) (t i f : ℕ) → NoneFrom i t h → i < length h.nodes → f ≡ get_or h.nodes i f
+    → is_nil ((seen h).queue f t) ≡ true → NoneFrom (i + 1) t h
+none_more h t i f none within is empty k less = elim (cases_eq k i) [
+  | inl same ↦ ap (λ (j : ℕ). (seen h).queue (get_or h.nodes j 0) t) same
+      ∙ ap (λ (x : ℕ). (seen h).queue x t) (sym (is ∙ get_or_default_zero h.nodes i f within))
+      ∙ is_nil-true ((seen h).queue f t) empty
+  | inr other ↦ none k (omega arith)
+]
+
+-- a stranger has sent none, and what no node of these has sent waits from none of them
+none_of : {L : Type 0} (h : Held L) (t i x : ℕ) → NoneFrom i t h → ((k : ℕ) → place x h.nodes ≡ Some k → k < i)
+    → (seen h).queue x t ≡ []
+none_of h t i x none below = go (place x h.nodes) refl
+  where
+    go : (p : Option ℕ) → place x h.nodes ≡ p → link_at (place x h.nodes) (place t h.nodes) h.links ≡ []
+    go None e = ap (λ (r : Option ℕ). link_at r (place t h.nodes) h.links) e
+    go (Some k) e = ap (λ (y : ℕ). (seen h).queue y t) (sym (place-Some x h.nodes k e).1) ∙ none k (below k e)
+
+-- no node has sent one
+pub none_towards : {L : Type 0} (h : Held L) (t i : ℕ) → NoneFrom i t h → length h.nodes ≤ i → WaitsTowards t None h
+none_towards h t i none all x = none_of h t i x none (λ k e. omega (arith, (place-Some x h.nodes k e).0))
+
+-- the node at this place is the least that has
+pub least_towards : {L : Type 0} (h : Held L) (t i f : ℕ) → IsWhole h → NoneFrom i t h → i < length h.nodes
+    → f ≡ get_or h.nodes i f → is_nil ((seen h).queue f t) ≡ false → WaitsTowards t (Some f) h
+least_towards h t i f whole none within is waits = (
+  waits,
+  λ x less. none_of h t i x none (λ k e. stands_before h whole x f k i e here less),
+)
+  where
+    here : place f h.nodes ≡ Some i
+    here = ap (λ (x : ℕ). place x h.nodes) (is ∙ get_or_default_zero h.nodes i f within)
+        ∙ place-get_or h.nodes i whole.rising within

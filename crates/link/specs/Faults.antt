@@ -1,7 +1,7 @@
 -- When a link is refused.
 use Rattle.std.specs.Prelude.{ℕ, Bool, true, false, ◌&&◌, ◌≡◌, []}
 use Rattle.link.specs.declared.faults.LinkFault.{LinkFault}
-use Rattle.link.specs.declared.faults.LinkFault.TheVariants.{NoSuchNode, EmptyLink, Memory}
+use Rattle.link.specs.declared.faults.LinkFault.TheVariants.{NoSuchNode, EmptyLink, Full, Memory}
 use Rattle.link.specs.Held.{Held, has, seen}
 
 -- both ends are nodes of the mesh
@@ -12,16 +12,26 @@ joins f t h = has f h && has t h
 abbrev pub IsUnsent : {L : Type 0} → LinkFault → ℕ → ℕ → Held L → Type 0
 IsUnsent NoSuchNode f t h = joins f t h ≡ false
 IsUnsent EmptyLink f t h = ⊥
+IsUnsent Full f t h = ⊥
 IsUnsent Memory f t h = (joins f t h ≡ true) × ((seen h).closed t ≡ false)
 
 -- why none is taken
 abbrev pub IsUndelivered : {L : Type 0} → LinkFault → ℕ → ℕ → Held L → Type 0
 IsUndelivered NoSuchNode f t h = joins f t h ≡ false
 IsUndelivered EmptyLink f t h = (joins f t h ≡ true) × ((seen h).queue f t ≡ [])
+IsUndelivered Full f t h = ⊥
 IsUndelivered Memory f t h = ⊥
 
 -- why a node isn't closed out
 abbrev pub IsNotClosed : {L : Type 0} → LinkFault → ℕ → Held L → Type 0
 IsNotClosed NoSuchNode a h = has a h ≡ false
 IsNotClosed EmptyLink a h = ⊥
+IsNotClosed Full a h = ⊥
 IsNotClosed Memory a h = ⊥
+
+-- why a mesh isn't lent as a node's end
+abbrev pub IsNoEnd : {L : Type 0} → LinkFault → ℕ → Held L → Type 0
+IsNoEnd NoSuchNode a h = has a h ≡ false
+IsNoEnd EmptyLink a h = ⊥
+IsNoEnd Full a h = ⊥
+IsNoEnd Memory a h = ⊥

@@ -63,3 +63,8 @@ IsFirst f t h = (x y : ℕ) → (x < f) ⊎ ((x ≡ f) × (y < t)) → (seen h).
 abbrev pub WaitsFirst : {L : Type 0} → Option (ℕ × ℕ) → Held L → Type 0
 WaitsFirst None h = (x y : ℕ) → (seen h).queue x y ≡ []
 WaitsFirst (Some (f, t)) h = (is_nil ((seen h).queue f t) ≡ false) × IsFirst f t h
+
+-- the least node from which a letter waits for this one
+abbrev pub WaitsTowards : {L : Type 0} → ℕ → Option ℕ → Held L → Type 0
+WaitsTowards t None h = (x : ℕ) → (seen h).queue x t ≡ []
+WaitsTowards t (Some f) h = (is_nil ((seen h).queue f t) ≡ false) × ((x : ℕ) → x < f → (seen h).queue x t ≡ [])

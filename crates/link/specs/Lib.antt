@@ -1,2 +1,5 @@
 pub mod Faults
 pub mod Held
+pub mod Mailboxes
+pub mod MeshEnds
+pub mod Rule

@@ -10,6 +10,9 @@ pub enum LinkFault {
     /// Nothing is on the link.
     #[error("empty_link")]
     EmptyLink,
+    /// The inbox has no room, or its thread has ended. Inboxes between threads alone answer it: a mesh has always room.
+    #[error("full")]
+    Full,
     /// Memory was refused.
     #[error("memory")]
     Memory,

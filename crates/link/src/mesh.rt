@@ -91,7 +91,7 @@ impl<L: Drop> Mesh<L> {
     ghost use Rattle.std.specs.Option.{option_copied};
     ghost use Rattle.std.specs.List.Sorted.{IsStrictlyIncreasing};
     ghost use Rattle.protocol_model.specs.Links.{no_letters, posted, taken, closed_out, is_nil};
-    ghost use Rattle.link.specs.Held.{place, has, seen, only_to, WaitsFrom, WaitsFirst};
+    ghost use Rattle.link.specs.Held.{place, has, seen, only_to, WaitsFrom, WaitsFirst, WaitsTowards};
     ghost use Rattle.link.specs.Faults.{joins, IsUnsent, IsUndelivered, IsNotClosed};
 
     /// Links without letters between these nodes, which rise.
@@ -109,7 +109,7 @@ impl<L: Drop> Mesh<L> {
     }
 
     /// The place of a node.
-    fn place(&self, node: &NodeName) -> Option<usize>
+    pub(crate) fn place(&self, node: &NodeName) -> Option<usize>
         ensures { result ≡ place node.now self.now.nodes }
     {
         place_of(self.nodes.as_slice(), node)
@@ -198,6 +198,19 @@ impl<L: Drop> Mesh<L> {
         for receiver in 0..self.nodes.len() {
             if !self.links[sender * MOST_NODES + receiver].is_empty() {
                 return Some(receiver);
+            }
+        }
+        None
+    }
+
+    /// The least node from which a letter waits for this one.
+    pub(crate) fn first_sender(&self, to: &NodeName) -> Option<NodeName>
+        ensures { WaitsTowards to.now result self.now }
+    {
+        for place in 0..self.nodes.len() {
+            let from = &self.nodes[place];
+            if !self.is_empty(from, to) {
+                return Some(from.copy());
             }
         }
         None

@@ -1,4 +1,7 @@
 //! Meshes of a few nodes.
+mod ends;
+mod inboxes;
+
 use crate::{LinkFault, MOST_NODES, Mesh, are_rising};
 use std::alloc::Global;
 use std::test::Fail;
@@ -86,6 +89,7 @@ fn prints_faults(rt: HostRuntime) -> Result<(), Fail> {
     for (fault, text) in [
         (LinkFault::NoSuchNode, "no_such_node"),
         (LinkFault::EmptyLink, "empty_link"),
+        (LinkFault::Full, "full"),
         (LinkFault::Memory, "memory"),
     ] {
         assert_eq!(rt; format!(in rt.alloc(); "{fault}")?.as_str(), text);

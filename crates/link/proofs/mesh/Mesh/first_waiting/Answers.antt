@@ -1,11 +1,7 @@
-use Rattle.std.proofs.Common.{Option, Some, ◌≡◌, List, ℕ, length, ap, sym, subst, ◌∙◌, get_or, arith}
+use Rattle.std.proofs.Common.{Option, Some, ℕ, length, ap, subst, arith}
 use Rattle.link.specs.Held.{Held, IsWhole, WaitsFrom}
-use Rattle.link.proofs.Waiting.{waits_at}
+use Rattle.link.proofs.Waiting.{copy_at, waits_at}
 use Rattle.link.proofs.mesh.Mesh.first_waiting.Goals as goal
-
--- a copy of what stands at this place
-read : {xs ys : List ℕ} {x y : ℕ} (i : ℕ) → xs ≡ ys → x ≡ y → y ≡ get_or xs i y → x ≡ get_or ys i x
-read {xs} {ys} {x} {y} i e c r = c ∙ r ∙ ap (λ (zs : List ℕ). get_or zs i y) e ∙ ap (λ (z : ℕ). get_or ys i z) (sym c)
 
 pub returns-in-Some : goal.returns-in-Some
 returns-in-Some g c =
@@ -16,5 +12,5 @@ returns-in-Some g c =
     subst (λ (o : Option ℕ). WaitsFrom c.loop-sender.sender o h) c.in-Some.is c.first_receiver.ensures in
     waits_at h c.loop-sender.sender c.in-Some.receiver c.copy.result c.copy-in-Some.result whole
     (omega (arith, c.loop-sender-test.true, c.len-sender-end.ensures, ap length nodes)) c.loop-sender.invariant here
-    (read c.loop-sender.sender nodes c.copy.ensures c.index.ensures)
-    (read c.in-Some.receiver nodes c.copy-in-Some.ensures c.index-in-Some.ensures)
+    (copy_at c.loop-sender.sender nodes c.copy.ensures c.index.ensures)
+    (copy_at c.in-Some.receiver nodes c.copy-in-Some.ensures c.index-in-Some.ensures)
