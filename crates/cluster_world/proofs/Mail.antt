@@ -120,6 +120,7 @@ only_memory on_link.NoSuchNode a t h k same known f =
     never : true ≡ false → NoSuchNode ≡ Memory
     never e = cc
 only_memory on_link.EmptyLink a t h k same known f = absurd f
+only_memory on_link.Full a t h k same known f = absurd f
 only_memory on_link.Memory a t h k same known f = refl
 
 -- links stay fit when a letter is posted

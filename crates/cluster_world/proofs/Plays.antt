@@ -271,6 +271,7 @@ pub shuts : (a : ℕ) (h k : Mesh Letter) (r : Result Unit LinkFault) → has a 
 shuts a h k (Ok x) known ok err = ok
 shuts a h k (Err on_link.NoSuchNode) known ok err = cc (known, err)
 shuts a h k (Err on_link.EmptyLink) known ok err = absurd err
+shuts a h k (Err on_link.Full) known ok err = absurd err
 shuts a h k (Err on_link.Memory) known ok err = absurd err
 
 -- so is one of the world, which stays whole
@@ -359,6 +360,7 @@ module _ (h : Held) (whole : IsWhole h) (f t : ℕ) where
     refuses_on on_link.NoSuchNode e = refused_up false (receiver_is false e)
     refuses_on on_link.EmptyLink (e, q) = refused_up true (receiver_is true e)
         ∙ ap (λ (ls : List Letter). if is_nil (map letter_of ls) then Some AnyRefusal.EmptyLink else None) q
+    refuses_on on_link.Full e = absurd e
     refuses_on on_link.Memory e = absurd e
 
     module _ (letter : Letter) (links : Mesh Letter) (known : joins f t h.links ≡ true)

@@ -27,7 +27,7 @@ use Rattle.node_events.specs.Letters.{letter_of, send_of}
 use Rattle.node_core.specs.Joining.{join_number_of}
 use Rattle.node_core.specs.Seen.{node_of, turn_by}
 use Rattle.node_events.specs.Seen.{entry_by, fault_of, is_memory as node_memory}
-use Rattle.node_core.specs.Steps.{Steps, IsSaidBy, IsHeardWithin, GoWithin, cause_of, refusal_of as node_refusal}
+use Rattle.node_core.specs.Steps.{Steps, IsSaidBy, IsHeardWithin, GoWithin, refusal_of as node_refusal}
 use Rattle.cluster_world.specs.Links.{mapped, letters_to, AreFit}
 use Rattle.cluster_world.specs.Held.{Held, IsWhole}
 use Rattle.world_history.specs.declared.entry.HistoryEntry.{HistoryEntry}
@@ -266,11 +266,6 @@ module _ (h : Held) (whole : IsWhole h) (a i : ℕ) (core : Core) (there : place
         world = world_is;
         answers = refl;
       }
-
--- a cause that is foreseen is a fault, and where none is only memory can be wanting
-pub fault_or_memory : (o : Option StepFault) → cause_of o ≡ fault_of (unwrap_or o Memory)
-fault_or_memory None = refl
-fault_or_memory (Some fault) = refl
 
 -- the world runs out of memory where its node does
 pub same_memory : (fault : StepFault) → is_memory (refusal_by fault) ≡ false → node_memory fault ≡ false

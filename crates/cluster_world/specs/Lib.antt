@@ -9,6 +9,7 @@ pub mod Steps
 pub mod Starting
 pub mod Playing
 pub mod Agreeing
+pub mod Causes
 pub mod Excluding
 pub mod Counting
 pub mod Seats

@@ -41,10 +41,11 @@ refusal_by by_node.HoldsLock = HoldsLock
 refusal_by by_node.CallsSpent = CallsSpent
 refusal_by by_node.Memory = Memory
 
--- where the link refuses
+-- where the link refuses. A mesh is never full: no world comes to this case
 abbrev pub refusal_on : LinkFault → Refusal
 refusal_on on_link.NoSuchNode = NoSuchNode
 refusal_on on_link.EmptyLink = EmptyLink
+refusal_on on_link.Full = Memory
 refusal_on on_link.Memory = Memory
 
 -- memory was refused

@@ -1,5 +1,5 @@
 //! What may happen in a world, and why it is refused.
-ghost use Rattle.std.specs.Prelude.{◌≡◌, IfOk};
+ghost use Rattle.std.specs.Prelude.{◌≡◌};
 ghost use Rattle.cluster_world.specs.Events.{is_leave};
 
 use link::LinkFault;
@@ -19,27 +19,6 @@ pub enum Event {
     Exit(Pid),
     /// The node leaves the world: it says so to all others, and no event of its own comes any more.
     Leave,
-}
-
-/// The same call. Only named nodes take memory.
-pub(crate) fn call_copy(call: &Call) -> Result<Call, AllocError>
-    ensures { IfOk result (λ copy. copy ≡ call.now) }
-{
-    Ok(match call {
-        Call::Spawn => Call::Spawn,
-        Call::Whereis(name) => Call::Whereis(name.copy()),
-        Call::RegisteredNames => Call::RegisteredNames,
-        Call::Register(name, owner) => Call::Register(name.copy(), owner.copy()),
-        Call::ReRegister(name, owner) => Call::ReRegister(name.copy(), owner.copy()),
-        Call::Unregister(name) => Call::Unregister(name.copy()),
-        Call::SetLock(holder, id, nodes, retries) => {
-            Call::SetLock(holder.copy(), id.copy(), nodes.copy()?, retries.copy())
-        }
-        Call::DelLock(holder, id, nodes) => {
-            Call::DelLock(holder.copy(), id.copy(), nodes.copy()?)
-        }
-        Call::Join(contact) => Call::Join(contact.copy()),
-    })
 }
 
 impl Event {
@@ -143,6 +122,7 @@ impl From<StepFault> for Refusal {
     }
 }
 
+/// A mesh is never full, so the third case doesn't come; where room is refused it reads as memory that is.
 impl From<LinkFault> for Refusal {
     ghost use Rattle.cluster_world.specs.Refusals.{refusal_on};
 
@@ -152,7 +132,7 @@ impl From<LinkFault> for Refusal {
         match fault {
             LinkFault::NoSuchNode => Refusal::NoSuchNode,
             LinkFault::EmptyLink => Refusal::EmptyLink,
-            LinkFault::Memory => Refusal::Memory,
+            LinkFault::Full | LinkFault::Memory => Refusal::Memory,
         }
     }
 }

@@ -2,12 +2,13 @@
 ghost use Rattle.std.specs.Prelude.{◌≡◌};
 ghost use Rattle.cluster_world.specs.Seen.{is_holding};
 
-use crate::events::{Event, Refusal, RunEnd, WorldEvent, call_copy};
+use crate::cause::Cause;
+use crate::events::{Event, Refusal, RunEnd, WorldEvent};
 use crate::history::enter_all;
 use crate::post::post;
 use link::Mesh;
 use name_table::Names;
-use node_core::{Answer, Call, Letter, NodeCore, StepFault};
+use node_core::{Answer, Call, Letter, NodeCore};
 use std::alloc::Global;
 use std::marker::Model;
 use term::{NodeName, NodeSet};
@@ -65,8 +66,8 @@ impl<N: Names<Memory = Global>> World<N> {
     ghost use Rattle.term.specs.NodeSets.{set_of};
     ghost use Rattle.cluster_world.specs.Held.{IsWhole};
     ghost use Rattle.cluster_world.specs.Cores.{core_of};
-    ghost use Rattle.cluster_world.specs.Events.{knows_contact, node_event};
-    ghost use Rattle.node_events.specs.declared.events.Event.TheVariants as at_node;
+    ghost use Rattle.cluster_world.specs.Events.{knows_contact};
+    ghost use Rattle.cluster_world.specs.Causes.{event_by};
     ghost use Rattle.cluster_world.specs.Seen.{opening_of, seen};
     ghost use Rattle.cluster_world.specs.Refusals.{is_memory};
     ghost use Rattle.cluster_world.specs.Steps.{Moves, FailsAt};
@@ -75,11 +76,11 @@ impl<N: Names<Memory = Global>> World<N> {
     ghost use Rattle.cluster_world.specs.Excluding.{Excludes};
 
     /// A node takes the step of an event: its letters go onto their links, and its entries into the history.
-    fn step(&mut self, node: &NodeName, event: &node_core::Event) -> Result<Vec<Answer>, Refusal>
-        requires { IsHeardWithin self.old.nodes node.now event.now }
+    fn step(&mut self, node: &NodeName, cause: &Cause) -> Result<Vec<Answer>, Refusal>
+        requires { IsHeardWithin self.old.nodes node.now (event_by cause.now) }
         ensures kept { Keeps self.old self.new }
-        ensures ok { IfOk result (λ answers. Moves node.now event.now self.old self.new answers.items) }
-        ensures refused { IfErr result (λ refusal. FailsAt refusal node.now event.now self.old) }
+        ensures ok { IfOk result (λ answers. Moves node.now (event_by cause.now) self.old self.new answers.items) }
+        ensures refused { IfErr result (λ refusal. FailsAt refusal node.now (event_by cause.now) self.old) }
         ensures unchanged { IfErr result (λ refusal. is_memory refusal ≡ false → self.new ≡ self.old) }
         ensures whole { IsWhole self.old }
     {
@@ -92,7 +93,7 @@ impl<N: Names<Memory = Global>> World<N> {
         let mut letters = Vec::new(*self.cores.allocator());
         let core = &mut self.cores[place];
         let join = core.join_number().unwrap_or(0);
-        let answers = core.step(event, &mut letters)?;
+        let answers = cause.step(core, &mut letters)?;
         post(&mut self.links, node, letters)?;
         let entries = self.cores[place].entered();
         enter_all(&mut self.history, entries, &self.cores, node, join)?;
@@ -118,37 +119,6 @@ impl<N: Names<Memory = Global>> World<N> {
         }
     }
 
-    /// Why the world refuses a call for which there is no memory: for that only where it has nothing else against it.
-    fn refusal(&self, node: &NodeName, call: &Call) -> Refusal
-        ensures { FailsAt result node.now (at_node.Call call.now) self.now }
-    {
-        let Some(index) = self.nodes.position(node) else {
-            return Refusal::NoSuchNode;
-        };
-        let has_left = self.links.is_closed(node);
-        if has_left {
-            return Refusal::NodeLeft;
-        }
-        let fault = self.cores[index].call_refusal(call);
-        Refusal::from(fault.unwrap_or(StepFault::Memory))
-    }
-
-    /// An event as the core of its node has it.
-    fn own_event(&self, node: &NodeName, event: &Event) -> Result<node_core::Event, Refusal>
-        ensures ok { IfOk result (λ own. own ≡ node_event event.now) }
-        ensures refused { IfErr result (λ refusal. FailsAt refusal node.now (node_event event.now) self.now) }
-    {
-        Ok(match event {
-            Event::Call(call) => match call_copy(call) {
-                Ok(copy) => node_core::Event::Call(copy),
-                Err(_) => return Err(self.refusal(node, call)),
-            },
-            Event::Retry => node_core::Event::Retry,
-            Event::Exit(process) => node_core::Event::Exit(process.copy()),
-            Event::Leave => node_core::Event::Leave,
-        })
-    }
-
     /// An event of a node is played. All links towards one that leaves are closed.
     fn happen(&mut self, node: &NodeName, event: &Event) -> Result<Vec<Answer>, Refusal>
         ensures kept { Keeps self.old self.new }
@@ -159,8 +129,7 @@ impl<N: Names<Memory = Global>> World<N> {
         if !self.knows_contact(event) {
             return Err(Refusal::NoSuchNode);
         }
-        let own = self.own_event(node, event)?;
-        let answers = self.step(node, &own)?;
+        let answers = self.step(node, &Cause::of(event))?;
         if event.is_leave() {
             self.close_out(node);
         }
@@ -181,8 +150,8 @@ impl<N: Names<Memory = Global>> World<N> {
             return Err(Refusal::NodeLeft);
         }
         let letter = self.links.deliver(sender, receiver)?;
-        let event = node_core::Event::FromPeer(sender.copy(), letter);
-        self.step(receiver, &event)
+        let read = node_core::Event::FromPeer(sender.copy(), letter);
+        self.step(receiver, &Cause::Event(read))
     }
 
     /// Plays one event, and gives what its step answers. A refused event changes nothing; only where `Memory` is refused is the

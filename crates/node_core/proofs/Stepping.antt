@@ -4,6 +4,7 @@ use Rattle.registry_model.specs.Table.{is_rising}
 use Rattle.protocol_model.specs.Event.{Event as AnyEvent}
 use Rattle.protocol_model.specs.Turn.{begun}
 use Rattle.term.specs.NodeSets.{set_of}
+use Rattle.node_events.specs.declared.events.Answer.{Answer}
 use Rattle.node_events.specs.declared.events.Letter.{Letter}
 use Rattle.node_events.specs.declared.events.Event.{Event}
 use Rattle.node_events.specs.declared.events.Event.TheVariants.{Call, FromPeer, Retry, Exit, Leave}
@@ -57,13 +58,12 @@ steps (FromPeer f l) h k u before after accepted kept made letters whole rising 
     turn_numbered number k u ∙ ap (numbered number) (made said).turn
     ∙ receive_numbered (bound_of h.world) h.name number f (letter_of l) (begun (node_of h)))
 
--- the same, where these are what the step began with, and what it came to
-pub steps_from : (e : Event) (h k k0 : Held) (t u u0 : Made) (before after : List (ℕ × Letter)) → t ≡ nothing → k ≡ k0
-    → u ≡ u0 → refusal_of e h ≡ None → Keeps h k0
-    → Takes e h t k0 u0 → after ≡ before ++ u.letters → IsWhole h → is_rising h.table ≡ true
-    → Steps e h (record k { entered = u.entries }) before after u.answers
-steps_from e h k k0 t u u0 before after begun same_node same_turn accepted kept made letters whole rising =
-    steps e h k u before after accepted (subst (λ (x : Held). Keeps h x) (sym same_node) kept)
-    (subst (λ (x : Made). Takes e h nothing k x) (sym same_turn)
-    (subst (λ (x : Held). Takes e h nothing x u0) (sym same_node)
-    (subst (λ (x : Made). Takes e h x k0 u0) begun made))) letters whole rising
+-- the same, where the turn began with nothing, and this is what the step left
+pub steps_from : (e : Event) (h k left : Held) (t u : Made) (before after : List (ℕ × Letter)) (answers : List Answer)
+    → t ≡ nothing → refusal_of e h ≡ None → Keeps h k → Takes e h t k u → after ≡ before ++ u.letters
+    → left ≡ record k { entered = u.entries } → answers ≡ u.answers → IsWhole h → is_rising h.table ≡ true
+    → Steps e h left before after answers
+steps_from e h k left t u before after answers begun accepted kept made letters is_left are whole rising =
+    subst (λ (x : Held). Steps e h x before after answers) (sym is_left)
+    (subst (λ (l : List Answer). Steps e h (record k { entered = u.entries }) before after l) (sym are)
+    (steps e h k u before after accepted kept (subst (λ (x : Made). Takes e h x k u) begun made) letters whole rising))

@@ -14,7 +14,7 @@ use lock_calls::LockCalls;
 use lock_table::LockTable;
 use locker::Round;
 use name_table::Names;
-use node_events::{Answer, Entry, Event, Letter, Reply, StepFault, Turn};
+use node_events::{Answer, Call, Entry, Event, Letter, Reply, StepFault, Turn};
 use std::alloc::{AllocError, Global};
 use std::marker::Model;
 use term::{NodeName, NodeSet};
@@ -96,7 +96,7 @@ impl<N: Names> Model for NodeCore<N> {
 }
 
 impl<N: Names<Memory = Global>> NodeCore<N> {
-    ghost use Rattle.std.specs.Prelude.{false, None, is_some, OnOk, OnErr, IfOk, IfErr};
+    ghost use Rattle.std.specs.Prelude.{false, true, None, is_some, ◌++◌, OnOk, OnErr, IfOk, IfErr};
     ghost use Rattle.std.specs.Option.{option_copied};
     ghost use Rattle.protocol_model.specs.Node.{holds_global};
     ghost use Rattle.node_core.specs.Held.{IsWhole};
@@ -106,6 +106,9 @@ impl<N: Names<Memory = Global>> NodeCore<N> {
     ghost use Rattle.node_core.specs.Steps.{Steps, Keeps, Takes, refusal_of, cause_of};
     ghost use Rattle.protocol_model.specs.Event.{can_retry, is_waiting};
     ghost use Rattle.node_core.specs.Joining.{join_number_of};
+    ghost use Rattle.node_events.specs.declared.events.Event.TheVariants.{Call as Calls};
+    ghost use Rattle.node_events.specs.Made.{nothing};
+    ghost use Rattle.registry_model.specs.Table.{is_rising};
 
     /// Takes the step of an event: gives its answers, and puts its letters, each with its receiver, behind those that are
     /// there. They go to nodes of its world and say what their readers rely on, where what it reads does. A refused event
@@ -126,10 +129,54 @@ impl<N: Names<Memory = Global>> NodeCore<N> {
         if let Some(fault) = self.refusal(event) {
             return Err(fault);
         }
-        // A welcome relies on the names of its sponsor's table rising.
-        self.table.rising();
-        let mut turn = Turn::begin(*self.entered.allocator());
+        let mut turn = self.begin();
         self.take(&mut turn, event)?;
+        Ok(self.end(turn, letters)?)
+    }
+
+    /// Takes the step of a client's call, as `step` does of the event that it is, so that nobody copies a call to have it taken.
+    pub fn ask(
+        &mut self,
+        call: &Call,
+        letters: &mut Vec<(NodeName, Letter)>,
+    ) -> Result<Vec<Answer>, StepFault>
+        ensures name { self.new.name ≡ self.old.name }
+        ensures world { self.new.world ≡ self.old.world }
+        ensures ok { IfOk result (λ answers. Steps (Calls call.now) self.old self.new letters.old.items letters.new.items answers.items) }
+        ensures refused { IfErr result (λ fault. refusal_of (Calls call.now) self.old ≡ fault_of fault) }
+        ensures unchanged { IfErr result (λ fault. is_memory fault ≡ false → self.new ≡ self.old) }
+        ensures unsent { OnErr result (letters.new.items ≡ letters.old.items) }
+    {
+        if let Some(fault) = self.call_refusal(call) {
+            return Err(fault);
+        }
+        let mut turn = self.begin();
+        self.take_call(&mut turn, call)?;
+        Ok(self.end(turn, letters)?)
+    }
+
+    /// A step begins, and has made nothing yet. A welcome relies on the names of its sponsor's table rising.
+    fn begin(&self) -> Turn
+        ensures nothing { result ≡ nothing }
+        ensures rising { is_rising self.now.table ≡ true }
+        ensures whole { IsWhole self.now }
+    {
+        self.table.rising();
+        Turn::begin(*self.entered.allocator())
+    }
+
+    /// A step ends: its letters go behind those that are there, its entries are kept, and its answers are given.
+    fn end(
+        &mut self,
+        turn: Turn,
+        letters: &mut Vec<(NodeName, Letter)>,
+    ) -> Result<Vec<Answer>, AllocError>
+        ensures letters { OnOk result (letters.new.items ≡ letters.old.items ++ turn.letters) }
+        ensures entries { OnOk result (self.new ≡ record self.old { entered = turn.entries }) }
+        ensures answers { IfOk result (λ answers. answers.items ≡ turn.answers) }
+        ensures unsent { OnErr result (letters.new.items ≡ letters.old.items) }
+        ensures kept { Keeps self.old self.new }
+    {
         let Turn {
             letters: mut sent,
             entries,
@@ -140,6 +187,18 @@ impl<N: Names<Memory = Global>> NodeCore<N> {
         Ok(answers)
     }
 
+    /// What a call does that isn't refused. The registrar may start behind it.
+    fn take_call(&mut self, turn: &mut Turn, call: &Call) -> Result<(), StepFault>
+        requires { refusal_of (Calls call.now) self.old ≡ None }
+        ensures turn { OnOk result (Takes (Calls call.now) self.old turn.old self.new turn.new) }
+        ensures memory { IfErr result (λ fault. fault ≡ Memory) }
+        ensures kept { Keeps self.old self.new }
+    {
+        self.call(turn, call)?;
+        self.start(turn)?;
+        Ok(())
+    }
+
     /// What an event does that isn't refused.
     fn take(&mut self, turn: &mut Turn, event: &Event) -> Result<(), StepFault>
         requires { refusal_of event.now self.old ≡ None }
@@ -148,7 +207,7 @@ impl<N: Names<Memory = Global>> NodeCore<N> {
         ensures kept { Keeps self.old self.new }
     {
         match event {
-            Event::Call(call) => self.call(turn, call)?,
+            Event::Call(call) => return self.take_call(turn, call),
             Event::Retry => {
                 self.retry_global(turn)?;
                 self.retry_locks(turn)?;

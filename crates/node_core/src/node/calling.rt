@@ -29,8 +29,8 @@ impl<N: Names<Memory = Global>> NodeCore<N> {
     ghost use Rattle.node_events.specs.Seen.{call_of, look_of, reply_of};
     ghost use Rattle.node_core.specs.Steps.{Keeps, Makes, IsAskedWithin, refusal_of, cause_of};
 
-    /// Why a call would be refused as things are, if it would be; want of memory aside.
-    pub fn call_refusal(&self, call: &Call) -> Option<StepFault>
+    /// Why a call is refused, if it is.
+    pub(super) fn call_refusal(&self, call: &Call) -> Option<StepFault>
         ensures { refusal_of (Calls call.now) self.now ≡ cause_of result }
     {
         match call {

@@ -4,6 +4,7 @@ use Rattle.term.specs.NodeSets.{set_of}
 use Rattle.node_events.specs.declared.events.Event.{Event as NodeEvent}
 use Rattle.node_core.specs.Steps.{IsHeardWithin}
 use Rattle.cluster_world.specs.declared.events.WorldEvent.TheVariants.{At}
+use Rattle.cluster_world.specs.Causes.{event_by}
 use Rattle.cluster_world.specs.Held.{Held}
 use Rattle.cluster_world.specs.Playing.{Played, RefusedWith}
 use Rattle.cluster_world.specs.Steps.{Moves, FailsAt}
@@ -13,26 +14,18 @@ use Rattle.cluster_world.proofs.world.World.happen.Goals.{then-is_leave, else-is
 
 pub step-requires : goal.step-requires
 step-requires g c =
-    subst (λ (e : NodeEvent). IsHeardWithin c.args.self.now.nodes c.args.node.now e) (sym c.in_ok-own.ensures.ok)
+    subst (λ (e : NodeEvent). IsHeardWithin c.args.self.now.nodes c.args.node.now e) (sym c.of.ensures)
     (own_hears c.args.self.now.nodes c.args.node.now c.args.event.now
     (sym c.knows_contact.ensures ∙ c.if-not-knows_contact.false))
 
 pub returns-in_err-answers-clause-refused : goal.returns-in_err-answers-clause-refused
 returns-in_err-answers-clause-refused g c =
-    let p = err_from_is_err_and c.from_residual-in_err-answers.result c.from_residual-in_err-answers.ensures.1 in
+    let p = err_from_is_err_and c.from_residual.result c.from_residual.ensures.1 in
     let refused : RefusedWith c.in_err-answers.field-0.0 (At c.args.node.now c.args.event.now) c.args.self.now =
     refuses_own c.args.self.now c.args.node.now c.args.event.now
     (sym c.knows_contact.ensures ∙ c.if-not-knows_contact.false) c.in_err-answers.field-0.0
-    (subst (λ (e : NodeEvent). FailsAt c.in_err-answers.field-0.0 c.args.node.now e c.args.self.now) c.in_ok-own.ensures.ok
+    (subst (λ (e : NodeEvent). FailsAt c.in_err-answers.field-0.0 c.args.node.now e c.args.self.now) c.of.ensures
     c.in_err-answers.ensures.refused) in
-    rw (p.1, p.2) refused
-
-pub returns-in_err-own-clause-refused : goal.returns-in_err-own-clause-refused
-returns-in_err-own-clause-refused g c =
-    let p = err_from_is_err_and c.from_residual.result c.from_residual.ensures.1 in
-    let refused : RefusedWith c.in_err-own.field-0.0 (At c.args.node.now c.args.event.now) c.args.self.now =
-    refuses_own c.args.self.now c.args.node.now c.args.event.now
-    (sym c.knows_contact.ensures ∙ c.if-not-knows_contact.false) c.in_err-own.field-0.0 c.in_err-own.ensures.refused in
     rw (p.1, p.2) refused
 
 pub close_out-requires : goal.close_out-requires
@@ -56,10 +49,10 @@ returns-clause-kept g c = elim c.if-is_leave.branch [
 
 pub returns-clause-ok : goal.returns-clause-ok
 returns-clause-ok g c =
-    let moves : Moves c.args.node.now c.in_ok-own.own c.args.self.now c.step.new.self c.in_ok-answers.answers.items =
+    let moves : Moves c.args.node.now (event_by c.of.result) c.args.self.now c.step.new.self c.in_ok-answers.answers.items =
     c.in_ok-answers.ensures.ok in
     let own = subst (λ (e : NodeEvent). Moves c.args.node.now e c.args.self.now c.step.new.self
-    c.in_ok-answers.answers.items) c.in_ok-own.ensures.ok moves in
+    c.in_ok-answers.answers.items) c.of.ensures moves in
     elim c.if-is_leave.branch [
       | then-is_leave w ↦
           subst (λ (k : Held). Played (At c.args.node.now c.args.event.now) c.args.self.now k []

@@ -8,6 +8,7 @@ use Rattle.node_core.specs.Seen.{node_of}
 use Rattle.node_events.specs.Seen.{entry_by}
 use Rattle.node_core.specs.Steps.{IsHeardWithin}
 use Rattle.cluster_world.specs.declared.events.Refusal.TheVariants.{NodeLeft, Memory}
+use Rattle.cluster_world.specs.Causes.{event_by}
 use Rattle.cluster_world.specs.Held.{Held}
 use Rattle.world_history.specs.Histories.{entry_of}
 use Rattle.cluster_world.specs.Histories.{number_at}
@@ -24,7 +25,7 @@ returns-in_default-clause-refused g c =
 
 pub returns-then-is_closed-clause-refused : goal.returns-then-is_closed-clause-refused
 returns-then-is_closed-clause-refused g c =
-    subst (λ (k : Held). FailsAt NodeLeft c.args.node.now c.args.event.now k) c.self.view_is (
+    subst (λ (k : Held). FailsAt NodeLeft c.args.node.now (event_by c.args.cause.now) k) c.self.view_is (
       known_place c.self.inside.nodes c.args.node.now c.in-Some.place (sym c.position.ensures ∙ c.in-Some.is),
       sym c.is_closed.ensures ∙ c.if-is_closed.true,
     )
@@ -33,18 +34,18 @@ pub invariant_of-self : goal.invariant_of-self
 invariant_of-self g c =
     whole_with _ c.self.invariant c.args.node.now c.in-Some.place c.index_mut-core.result.now
     (sym c.position.ensures ∙ c.in-Some.is)
-    c.index_mut-core.ensures.value c.step.new.self c.self.inside.links c.self.inside.history c.step.ensures.name
+    c.index_mut-core.ensures.value c.step.new.core c.self.inside.links c.self.inside.history c.step.ensures.name
     c.step.ensures.world refl c.self.invariant.fit
 
 pub returns-in_err-answers-clause-refused : goal.returns-in_err-answers-clause-refused
 returns-in_err-answers-clause-refused g c =
     let p = err_from_is_err_and c.from_residual.result c.from_residual.ensures.1 in
-    let failed : FailsAt (refusal_by c.in_err-answers.field-0.0) c.args.node.now c.args.event.now c.args.self.now =
-    subst (λ (k : Held). FailsAt (refusal_by c.in_err-answers.field-0.0) c.args.node.now c.args.event.now k)
+    let failed : FailsAt (refusal_by c.in_err-answers.field-0.0) c.args.node.now (event_by c.args.cause.now) c.args.self.now =
+    subst (λ (k : Held). FailsAt (refusal_by c.in_err-answers.field-0.0) c.args.node.now (event_by c.args.cause.now) k)
     c.self.view_is
     (fails _ c.self.invariant c.args.node.now c.in-Some.place c.index_mut-core.result.now
     (sym c.position.ensures ∙ c.in-Some.is)
-    c.index_mut-core.ensures.value (sym c.is_closed.ensures ∙ c.if-is_closed.false) c.args.event.now c.in_err-answers.field-0.0 c.in_err-answers.ensures.refused) in
+    c.index_mut-core.ensures.value (sym c.is_closed.ensures ∙ c.if-is_closed.false) (event_by c.args.cause.now) c.in_err-answers.field-0.0 c.in_err-answers.ensures.refused) in
     rw (p.1, p.2) failed
 
 pub returns-in_err-answers-clause-unchanged : goal.returns-in_err-answers-clause-unchanged
@@ -52,25 +53,25 @@ returns-in_err-answers-clause-unchanged g c =
     let p = err_from_is_err_and c.from_residual.result c.from_residual.ensures.1 in
     rw (p.1, p.2) (λ kept. unchanged _ c.self.invariant c.args.node.now c.in-Some.place c.index_mut-core.result.now
     (sym c.position.ensures ∙ c.in-Some.is)
-    c.index_mut-core.ensures.value c.step.new.self (c.in_err-answers.ensures.unchanged
+    c.index_mut-core.ensures.value c.step.new.core (c.in_err-answers.ensures.unchanged
     (same_memory c.in_err-answers.field-0.0 kept)) ∙ c.self.view_is)
 
 pub invariant_of-self-in_err-post : goal.invariant_of-self-in_err-post
 invariant_of-self-in_err-post g c =
     whole_posted _ c.self.invariant c.args.node.now c.in-Some.place c.index_mut-core.result.now
     (sym c.position.ensures ∙ c.in-Some.is)
-    c.index_mut-core.ensures.value c.step.new.self c.post.new.links c.self.inside.history c.step.ensures.name
+    c.index_mut-core.ensures.value c.step.new.core c.post.new.links c.self.inside.history c.step.ensures.name
     c.step.ensures.world
     c.post.ensures.nodes c.post.ensures.fit
 
 pub returns-in_err-post-clause-refused : goal.returns-in_err-post-clause-refused
 returns-in_err-post-clause-refused g c =
     let p = err_from_is_err_and c.from_residual-in_err-post.result c.from_residual-in_err-post.ensures.1 in
-    let failed : FailsAt Memory c.args.node.now c.args.event.now c.args.self.now =
-    subst (λ (k : Held). FailsAt Memory c.args.node.now c.args.event.now k) c.self.view_is
+    let failed : FailsAt Memory c.args.node.now (event_by c.args.cause.now) c.args.self.now =
+    subst (λ (k : Held). FailsAt Memory c.args.node.now (event_by c.args.cause.now) k) c.self.view_is
     (fails_behind _ c.self.invariant c.args.node.now c.in-Some.place c.index_mut-core.result.now
     (sym c.position.ensures ∙ c.in-Some.is)
-    c.index_mut-core.ensures.value (sym c.is_closed.ensures ∙ c.if-is_closed.false) c.args.event.now c.step.new.self c.new-letters.result.items c.step.new.letters.items
+    c.index_mut-core.ensures.value (sym c.is_closed.ensures ∙ c.if-is_closed.false) (event_by c.args.cause.now) c.step.new.core c.new-letters.result.items c.step.new.letters.items
     c.in_ok-answers.answers.items
     c.in_ok-answers.ensures.ok) in
     rw (p.1, p.2, c.in_err-post.ensures.err) failed
@@ -79,18 +80,18 @@ pub invariant_of-self-in_err-enter_all : goal.invariant_of-self-in_err-enter_all
 invariant_of-self-in_err-enter_all g c =
     whole_posted _ c.self.invariant c.args.node.now c.in-Some.place c.index_mut-core.result.now
     (sym c.position.ensures ∙ c.in-Some.is)
-    c.index_mut-core.ensures.value c.step.new.self c.post.new.links c.enter_all.new.history c.step.ensures.name
+    c.index_mut-core.ensures.value c.step.new.core c.post.new.links c.enter_all.new.history c.step.ensures.name
     c.step.ensures.world
     c.post.ensures.nodes c.post.ensures.fit
 
 pub returns-in_err-enter_all-clause-refused : goal.returns-in_err-enter_all-clause-refused
 returns-in_err-enter_all-clause-refused g c =
     let p = err_from_is_err_and c.from_residual-in_err-enter_all.result c.from_residual-in_err-enter_all.ensures.1 in
-    let failed : FailsAt Memory c.args.node.now c.args.event.now c.args.self.now =
-    subst (λ (k : Held). FailsAt Memory c.args.node.now c.args.event.now k) c.self.view_is
+    let failed : FailsAt Memory c.args.node.now (event_by c.args.cause.now) c.args.self.now =
+    subst (λ (k : Held). FailsAt Memory c.args.node.now (event_by c.args.cause.now) k) c.self.view_is
     (fails_behind _ c.self.invariant c.args.node.now c.in-Some.place c.index_mut-core.result.now
     (sym c.position.ensures ∙ c.in-Some.is)
-    c.index_mut-core.ensures.value (sym c.is_closed.ensures ∙ c.if-is_closed.false) c.args.event.now c.step.new.self c.new-letters.result.items c.step.new.letters.items
+    c.index_mut-core.ensures.value (sym c.is_closed.ensures ∙ c.if-is_closed.false) (event_by c.args.cause.now) c.step.new.core c.new-letters.result.items c.step.new.letters.items
     c.in_ok-answers.answers.items
     c.in_ok-answers.ensures.ok) in
     rw (p.1, p.2) failed
@@ -99,7 +100,7 @@ pub invariant_of-self-2 : goal.invariant_of-self-2
 invariant_of-self-2 g c =
     whole_posted _ c.self.invariant c.args.node.now c.in-Some.place c.index_mut-core.result.now
     (sym c.position.ensures ∙ c.in-Some.is)
-    c.index_mut-core.ensures.value c.step.new.self c.post.new.links c.enter_all.new.history c.step.ensures.name
+    c.index_mut-core.ensures.value c.step.new.core c.post.new.links c.enter_all.new.history c.step.ensures.name
     c.step.ensures.world
     c.post.ensures.nodes c.post.ensures.fit
 
@@ -108,14 +109,14 @@ returns-clause-ok g c =
     let behind : Held = record {
       nodes = c.self.inside.nodes;
       cluster = c.self.inside.cluster;
-      cores = set c.self.inside.cores.items c.in-Some.place c.step.new.self;
+      cores = set c.self.inside.cores.items c.in-Some.place c.step.new.core;
       links = c.post.new.links;
       history = c.enter_all.new.history;
     } in
-    subst (λ (k : Held). Moves c.args.node.now c.args.event.now k behind c.in_ok-answers.answers.items) c.self.view_is
+    subst (λ (k : Held). Moves c.args.node.now (event_by c.args.cause.now) k behind c.in_ok-answers.answers.items) c.self.view_is
     (moves _ c.self.invariant c.args.node.now c.in-Some.place c.index_mut-core.result.now
     (sym c.position.ensures ∙ c.in-Some.is)
-    c.index_mut-core.ensures.value (sym c.is_closed.ensures ∙ c.if-is_closed.false) c.args.event.now c.step.new.self c.new-letters.result.items c.step.new.letters.items
+    c.index_mut-core.ensures.value (sym c.is_closed.ensures ∙ c.if-is_closed.false) (event_by c.args.cause.now) c.step.new.core c.new-letters.result.items c.step.new.letters.items
     c.in_ok-answers.answers.items
     c.post.new.links c.enter_all.new.history c.unwrap_or-join.result c.new-letters.ensures.items
     c.in_ok-answers.ensures.ok c.in_ok-post.ensures.ok
@@ -129,23 +130,23 @@ returns-clause-ok g c =
     ++ map (entry_by (number_at behind.cores c.args.node.now c.unwrap_or-join.result)) es)
     (c.entered-entries.ensures ∙ ap (λ (k : Core). k.entered)
     (stands_there _ c.self.invariant c.args.node.now c.in-Some.place c.index_mut-core.result.now
-    (sym c.position.ensures ∙ c.in-Some.is) c.index_mut-core.ensures.value c.step.new.self c.index.result.now
+    (sym c.position.ensures ∙ c.in-Some.is) c.index_mut-core.ensures.value c.step.new.core c.index.result.now
     c.index.ensures))))
 
 pub post-requires-clause-joined : goal.post-requires-clause-joined
 post-requires-clause-joined g c =
     joined _ c.self.invariant c.args.node.now c.in-Some.place c.index_mut-core.result.now
     (sym c.position.ensures ∙ c.in-Some.is)
-    c.index_mut-core.ensures.value c.args.event.now c.step.new.self c.new-letters.result.items c.step.new.letters.items
+    c.index_mut-core.ensures.value (event_by c.args.cause.now) c.step.new.core c.new-letters.result.items c.step.new.letters.items
     c.in_ok-answers.answers.items
     c.new-letters.ensures.items c.in_ok-answers.ensures.ok
-    (subst (λ (k : Held). IsHeardWithin k.nodes c.args.node.now c.args.event.now) (sym c.self.view_is) c.requires)
+    (subst (λ (k : Held). IsHeardWithin k.nodes c.args.node.now (event_by c.args.cause.now)) (sym c.self.view_is) c.requires)
 
 pub post-requires-clause-said : goal.post-requires-clause-said
 post-requires-clause-said g c =
     said _ c.self.invariant c.args.node.now c.in-Some.place c.index_mut-core.result.now
     (sym c.position.ensures ∙ c.in-Some.is)
-    c.index_mut-core.ensures.value c.args.event.now c.step.new.self c.new-letters.result.items c.step.new.letters.items
+    c.index_mut-core.ensures.value (event_by c.args.cause.now) c.step.new.core c.new-letters.result.items c.step.new.letters.items
     c.in_ok-answers.answers.items
     c.new-letters.ensures.items c.in_ok-answers.ensures.ok
-    (subst (λ (k : Held). IsHeardWithin k.nodes c.args.node.now c.args.event.now) (sym c.self.view_is) c.requires)
+    (subst (λ (k : Held). IsHeardWithin k.nodes c.args.node.now (event_by c.args.cause.now)) (sym c.self.view_is) c.requires)
