@@ -1,0 +1,86 @@
+//! What waits for one receiver.
+ghost use Rattle.std.specs.Prelude.{◌≡◌, [], ◌∷◌, ◌++◌, OnOk, OnErr, IfErr};
+ghost use Rattle.protocol_model.specs.Links.{is_nil};
+ghost use Rattle.link.specs.declared.faults.LinkFault.TheVariants.{Memory};
+ghost use Rattle.tray.specs.Draining.{Drained};
+
+use link::{LinkFault, Post, Unsent};
+use std::alloc::Global;
+use std::collections::VecDeque;
+use std::marker::Model;
+use term::NodeName;
+
+/// The letters for one receiver, the oldest first.
+#[derive(Drop)]
+pub(crate) struct Slot<L> {
+    receiver: NodeName,
+    letters: VecDeque<L>,
+}
+
+impl<L> Model for Slot<L> {
+    ghost use Rattle.tray.specs.Held.{Waiting};
+
+    ghost Value = { Waiting L };
+
+    ghost view = { λ s. record { receiver = s.receiver; letters = s.letters.items } };
+}
+
+impl<L> Slot<L> {
+    /// No letter for this receiver. It takes no memory.
+    pub(crate) fn new(alloc: Global, receiver: NodeName) -> Self
+        ensures { result ≡ record { receiver = receiver; letters = [] } }
+    {
+        Slot {
+            receiver,
+            letters: VecDeque::new(alloc),
+        }
+    }
+
+    /// Whose letters they are.
+    pub(crate) fn receiver(&self) -> &NodeName
+        ensures { result.now ≡ self.now.receiver }
+    {
+        &self.receiver
+    }
+
+    /// Whether none waits.
+    pub(crate) fn is_empty(&self) -> bool
+        ensures { result ≡ is_nil self.now.letters }
+    {
+        self.letters.is_empty()
+    }
+
+    /// A letter more, behind the others.
+    pub(crate) fn push(&mut self, letter: L) -> Result<(), Unsent<L>>
+        ensures ok { OnOk result (self.new ≡ record self.old { letters = self.old.letters ++ letter ∷ [] }) }
+        ensures unchanged { OnErr result (self.new ≡ self.old) }
+        ensures err { IfErr result (λ unsent. unsent ≡ record { fault = Memory; letter = letter }) }
+    {
+        match self.letters.push_back(letter) {
+            Ok(()) => Ok(()),
+            Err(refused) => Err(Unsent {
+                fault: LinkFault::Memory,
+                letter: refused.value,
+            }),
+        }
+    }
+}
+
+impl<L: Drop> Slot<L> {
+    /// Sends the letters, the oldest first, until one is handed back.
+    pub(crate) fn drain<E: Post<L>>(&mut self, post: &mut E)
+        ensures receiver { self.new.receiver ≡ self.old.receiver }
+        ensures drained { Drained E.posts E.refuses self.old.receiver self.old.letters (E.state post.old) self.new.letters (E.state post.new) }
+    {
+        for _ in 0..self.letters.len() {
+            let Some(letter) = self.letters.pop_front() else {
+                break;
+            };
+            let Err(unsent) = post.send(&self.receiver, letter) else {
+                continue;
+            };
+            self.letters.push_front_reserved(unsent.letter);
+            return;
+        }
+    }
+}
