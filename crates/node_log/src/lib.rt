@@ -1,0 +1,15 @@
+//! What a node's thread leaves behind: the log of its steps, and what its seats were answered.
+#![tactic(auto)]
+
+mod entry;
+mod log;
+mod node_end;
+mod transcript;
+
+pub use entry::{LoggedEntry, LoggedEvent};
+pub use log::Log;
+pub use node_end::NodeEnd;
+pub use transcript::{SeatEntry, Transcript};
+
+#[cfg(test)]
+mod tests;

@@ -1,0 +1,15 @@
+//! What a node's thread gives back.
+use crate::log::Log;
+use name_table::Names;
+use term::NodeName;
+
+/// What the thread of a node gives back when it ends.
+#[derive(Debug, Drop)]
+pub struct NodeEnd<N: Names> {
+    /// The log of its steps. It says whose it is.
+    pub log: Log,
+    /// The table of the node, as its last step left it.
+    pub table: N,
+    /// Whether the thread ended without an accepted leave and without being asked to.
+    pub ended_alone: bool,
+}
