@@ -13,7 +13,7 @@ use term::NodeName;
 
 /// What a node takes a step for. A call is lent, since a copy of one may take memory.
 #[derive(Drop)]
-pub(crate) enum Cause<'a> {
+pub enum Cause<'a> {
     /// A client calls.
     Call(&'a Call),
     /// Another event.
@@ -22,7 +22,7 @@ pub(crate) enum Cause<'a> {
 
 impl<'a> Cause<'a> {
     /// An event at a node, as its core takes it.
-    pub(crate) fn of(event: &'a Event) -> Self
+    pub fn of(event: &'a Event) -> Self
         ensures { event_by result ≡ node_event event.now }
     {
         match event {
@@ -34,7 +34,7 @@ impl<'a> Cause<'a> {
     }
 
     /// The core takes the step.
-    pub(crate) fn step<N: Names<Memory = Global>>(
+    pub fn step<N: Names<Memory = Global>>(
         &self,
         core: &mut NodeCore<N>,
         letters: &mut Vec<(NodeName, Letter)>,

@@ -9,7 +9,7 @@ use term::{NodeName, Pid};
 use thiserror::Error;
 
 /// What may happen at a node, beside the delivery of a letter.
-#[derive(Debug, Drop)]
+#[derive(Debug, PartialEq, Eq, Drop)]
 pub enum Event {
     /// A client calls.
     Call(Call),
@@ -31,7 +31,7 @@ impl Event {
 }
 
 /// What may happen in a world.
-#[derive(Debug, Drop)]
+#[derive(Debug, PartialEq, Eq, Drop)]
 pub enum WorldEvent {
     /// An event at a node.
     At(NodeName, Event),

@@ -10,6 +10,7 @@ mod seat;
 mod start;
 mod world;
 
+pub use cause::Cause;
 pub use events::{Event, Refusal, RunEnd, StartFault, WorldEvent};
 pub use node_core::{Answer, Call, Look, NameCall, Reply};
 pub use seat::{SeatFault, WorldSeat};

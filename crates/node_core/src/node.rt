@@ -17,7 +17,7 @@ use name_table::Names;
 use node_events::{Answer, Call, Entry, Event, Letter, Reply, StepFault, Turn};
 use std::alloc::{AllocError, Global};
 use std::marker::Model;
-use term::{NodeName, NodeSet};
+use term::{NodeName, NodeSet, Pid};
 use transaction::{Op, Registrar};
 
 /// Where the current operation stands. Where there is none, this says nothing.
@@ -98,7 +98,7 @@ impl<N: Names> Model for NodeCore<N> {
 impl<N: Names<Memory = Global>> NodeCore<N> {
     ghost use Rattle.std.specs.Prelude.{false, true, None, is_some, ◌++◌, OnOk, OnErr, IfOk, IfErr};
     ghost use Rattle.std.specs.Option.{option_copied};
-    ghost use Rattle.protocol_model.specs.Node.{holds_global};
+    ghost use Rattle.protocol_model.specs.Node.{call_of, holds_global};
     ghost use Rattle.node_core.specs.Held.{IsWhole};
     ghost use Rattle.node_core.specs.Seen.{node_of};
     ghost use Rattle.node_events.specs.Seen.{fault_of, is_memory};
@@ -235,7 +235,7 @@ impl<N: Names<Memory = Global>> NodeCore<N> {
     }
 
     /// Whether some refused round waits for a retry.
-    fn can_retry(&self) -> bool
+    pub fn can_retry(&self) -> bool
         ensures { result ≡ can_retry (node_of self.now) }
     {
         self.is_waiting() || self.calls.has_waiting()
@@ -321,6 +321,21 @@ impl<N: Names<Memory = Global>> NodeCore<N> {
         ensures { result ≡ holds_global (node_of self.now) }
     {
         self.is_at_work() && matches!(self.phase, Phase::Writing(..))
+    }
+
+    /// Whether a process has a lock call that isn't answered.
+    pub fn has_lock_call(&self, holder: &Pid) -> bool
+        ensures { result ≡ is_some (call_of holder.now (node_of self.now).calls) }
+    {
+        self.calls.get(holder).is_some()
+    }
+
+    /// Its table, where the node isn't used any more.
+    pub fn into_table(self) -> N
+        ensures { N.contents result ≡ self.table }
+    {
+        let NodeCore { table, .. } = self;
+        table
     }
 
     /// What its last step entered into the history, the oldest entry first.
