@@ -13,7 +13,7 @@ use Rattle.protocol_model.specs.Calling.{event}
 use Rattle.protocol_model.specs.Reading.{receive}
 use Rattle.protocol_model.specs.World.{World, WorldEvent as AnyWorldEvent, in_world, left, other, refusal, accepted, happens, answers, turn_of, heard, apply, opened, join_number}
 use Rattle.term.specs.NodeSets.{set_of}
-use Rattle.link.specs.Faults.{joins, IsUndelivered, IsNotClosed}
+use Rattle.link.specs.Faults.{joins, IsUndelivered, IsStranger}
 use Rattle.link.specs.Held.{Held as Mesh, place, has, closed_at, seen as links_of}
 use Rattle.link.specs.declared.faults.LinkFault.{LinkFault}
 use Rattle.link.specs.declared.faults.LinkFault.TheVariants as on_link
@@ -266,7 +266,7 @@ module _ (old mid : Held) (a : ℕ) (e : Event) (given : List Answer) (known : k
 
 -- a node of the mesh is closed out
 pub shuts : (a : ℕ) (h k : Mesh Letter) (r : Result Unit LinkFault) → has a h ≡ true
-    → OnOk r (links_of k ≡ closed_out a (links_of h)) → IfErr r (λ fault. IsNotClosed fault a h)
+    → OnOk r (links_of k ≡ closed_out a (links_of h)) → IfErr r (λ fault. IsStranger fault a h)
     → links_of k ≡ closed_out a (links_of h)
 shuts a h k (Ok x) known ok err = ok
 shuts a h k (Err on_link.NoSuchNode) known ok err = cc (known, err)

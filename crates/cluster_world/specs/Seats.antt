@@ -4,9 +4,11 @@ use Rattle.registry_model.specs.Process.{Process}
 use Rattle.registry_model.specs.Call.{Reply as AnyReply, True, False}
 use Rattle.protocol_model.specs.Event.{Event as AnyEvent, Answer as AnyAnswer}
 use Rattle.protocol_model.specs.World.{Opening, World, WorldEvent as AnyWorldEvent, refusal, happens, answers, run, all_answers, next_delivery}
+use Rattle.transaction.specs.Calls.{is_named}
 use Rattle.transaction.specs.declared.reply.LockReply.{LockReply}
 use Rattle.node_events.specs.declared.events.Answer.{Answer}
 use Rattle.node_events.specs.declared.events.Call.{Call}
+use Rattle.node_events.specs.declared.events.Call.TheVariants.{SetLock, DelLock}
 use Rattle.node_events.specs.Seen.{answer_of, call_of}
 use Rattle.cluster_world.specs.declared.events.Event.TheVariants.{Call as Calls}
 use Rattle.cluster_world.specs.declared.events.Refusal.TheVariants.{Memory}
@@ -100,11 +102,17 @@ pub record Called (a : ℕ) (c : Call) (old new : Held) (verdict : Option Bool) 
   pub excludes : Excludes events old new
   pub counts : Counts (call_of c) verdict events old new
 
+-- whether a lock call names the nodes that it asks
+abbrev pub names_nodes : Call → Bool
+names_nodes (SetLock p id nodes retries) = is_named nodes
+names_nodes (DelLock p id nodes) = is_named nodes
+names_nodes _ = false
+
 -- why a call got no reply: it was refused as the protocol refuses it, which changes nothing; or it was accepted, and
--- memory was refused; or there was no memory to make it; or no answer came
+-- memory was refused; or it names nodes and there was no memory to make it; or no answer came
 abbrev pub Unanswered : ℕ → Call → Held → Held → SeatFault → Type 0
 Unanswered a c old new (Refused r) = RefusedWith r (At a (Calls c)) old × (is_memory r ≡ false → new ≡ old)
-Unanswered a c old new NoMemory = new ≡ old
+Unanswered a c old new NoMemory = (new ≡ old) × (names_nodes c ≡ true)
 Unanswered a c old new NoAnswer = Called a c old new None
 
 -- what a `set_lock` comes to

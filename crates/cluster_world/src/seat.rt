@@ -25,7 +25,7 @@ pub enum SeatFault {
     /// isn't said, and the world isn't to be used any more.
     #[error("{0}")]
     Refused(Refusal),
-    /// There was no memory for the call itself. Nothing was played.
+    /// There was no memory for the call itself, which names the nodes that it asks. Nothing was played.
     #[error("no_memory")]
     NoMemory,
     /// No answer came. The call goes on waiting in the world.

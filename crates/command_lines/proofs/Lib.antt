@@ -2,3 +2,4 @@ pub mod Texts
 mod Counts
 mod Refused
 mod Targets
+mod Words

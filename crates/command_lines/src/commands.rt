@@ -7,7 +7,7 @@ use crate::faults::LineFault;
 use crate::grammar::{Task, read_words};
 use std::alloc::{AllocError, Global};
 use std::str;
-use text_lines::{Line, words_of};
+use text_lines::{Line, first_words};
 
 /// Whether each byte is below 128.
 fn all_ascii(bytes: &[u8]) -> bool
@@ -40,15 +40,13 @@ pub fn text_of(line: &Line) -> Result<&str, LineFault>
     }
 }
 
-/// What a line asks for, or why it is refused.
+/// What a line asks for, or why it is refused. No line of the grammar has seven words, so a longer one reads as its first seven.
+#[tactic(auto, using(crate::proofs::Words::first_words_ask))]
 pub fn read_task(alloc: Global, line: &Line) -> Result<Result<Task, LineFault>, AllocError>
     ensures { IfOk result (λ task. (bytes : List ℕ) → IsKept bytes line.now → LineAsks bytes (asked_by task)) }
 {
     match text_of(line) {
-        Ok(text) => {
-            let words = words_of(alloc, text)?;
-            read_words(alloc, &words)
-        }
+        Ok(text) => read_words(alloc, &first_words(text)),
         Err(fault) => Ok(Err(fault)),
     }
 }

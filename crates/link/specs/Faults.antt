@@ -22,16 +22,9 @@ IsUndelivered EmptyLink f t h = (joins f t h ≡ true) × ((seen h).queue f t �
 IsUndelivered Full f t h = ⊥
 IsUndelivered Memory f t h = ⊥
 
--- why a node isn't closed out
-abbrev pub IsNotClosed : {L : Type 0} → LinkFault → ℕ → Held L → Type 0
-IsNotClosed NoSuchNode a h = has a h ≡ false
-IsNotClosed EmptyLink a h = ⊥
-IsNotClosed Full a h = ⊥
-IsNotClosed Memory a h = ⊥
-
--- why a mesh isn't lent as a node's end
-abbrev pub IsNoEnd : {L : Type 0} → LinkFault → ℕ → Held L → Type 0
-IsNoEnd NoSuchNode a h = has a h ≡ false
-IsNoEnd EmptyLink a h = ⊥
-IsNoEnd Full a h = ⊥
-IsNoEnd Memory a h = ⊥
+-- a node is none of the mesh, which is the one fault of a call that names a node alone
+abbrev pub IsStranger : {L : Type 0} → LinkFault → ℕ → Held L → Type 0
+IsStranger NoSuchNode a h = has a h ≡ false
+IsStranger EmptyLink a h = ⊥
+IsStranger Full a h = ⊥
+IsStranger Memory a h = ⊥

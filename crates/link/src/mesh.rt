@@ -92,7 +92,7 @@ impl<L: Drop> Mesh<L> {
     ghost use Rattle.std.specs.List.Sorted.{IsStrictlyIncreasing};
     ghost use Rattle.protocol_model.specs.Links.{no_letters, posted, taken, closed_out, is_nil};
     ghost use Rattle.link.specs.Held.{place, has, seen, only_to, WaitsFrom, WaitsFirst, WaitsTowards};
-    ghost use Rattle.link.specs.Faults.{joins, IsUnsent, IsUndelivered, IsNotClosed};
+    ghost use Rattle.link.specs.Faults.{joins, IsUnsent, IsUndelivered, IsStranger};
 
     /// Links without letters between these nodes, which rise.
     pub fn new(alloc: Global, nodes: &[NodeName]) -> Result<Mesh<L>, AllocError>
@@ -180,7 +180,7 @@ impl<L: Drop> Mesh<L> {
         ensures known { OnOk result (has node.now self.old ≡ true) }
         ensures ok { OnOk result (seen self.new ≡ closed_out node.now (seen self.old)) }
         ensures unchanged { OnErr result (self.new ≡ self.old) }
-        ensures err { IfErr result (λ fault. IsNotClosed fault node.now self.old) }
+        ensures err { IfErr result (λ fault. IsStranger fault node.now self.old) }
     {
         let Some(receiver) = self.place(node) else {
             return Err(LinkFault::NoSuchNode);

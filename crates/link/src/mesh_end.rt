@@ -18,7 +18,7 @@ impl<L: Drop> Mesh<L> {
     ghost use Rattle.std.specs.Prelude.{◌≡◌, true, OnOk, IfOk, IfErr};
     ghost use Rattle.std.specs.Borrow.{RestsIfErr};
     ghost use Rattle.link.specs.contracts.mesh.Mesh.{the_row};
-    ghost use Rattle.link.specs.Faults.{IsNoEnd};
+    ghost use Rattle.link.specs.Faults.{IsStranger};
     ghost use Rattle.link.specs.Held.{has};
     ghost use Rattle.link.specs.MeshEnds.{node_of, mesh_of, lender_of};
 
@@ -29,7 +29,7 @@ impl<L: Drop> Mesh<L> {
         ensures known { OnOk result (has node.now self.old ≡ true) }
         ensures node { IfOk result (λ end. node_of end ≡ node.now) }
         ensures mesh { IfOk result (λ end. mesh_of end ≡ self.old) }
-        ensures err { IfErr result (λ fault. IsNoEnd fault node.now self.old) }
+        ensures err { IfErr result (λ fault. IsStranger fault node.now self.old) }
     {
         if self.place(node).is_none() {
             return Err(LinkFault::NoSuchNode);

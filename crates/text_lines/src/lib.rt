@@ -8,5 +8,5 @@ mod writing;
 
 pub use faults::{ScriptFault, WriteFault};
 pub use lines::{Line, is_blank, read_line};
-pub use words::words_of;
+pub use words::{MOST_WORDS, first_words, words_of};
 pub use writing::write_text;

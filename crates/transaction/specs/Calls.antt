@@ -1,4 +1,5 @@
 -- Lock calls, as the protocol has them.
+use Rattle.std.specs.Prelude.{Bool, true, false}
 use Rattle.protocol_model.specs.Node.{Target, Retries as AnyRetries}
 use Rattle.transaction.specs.declared.nodes.Nodes.{Nodes}
 use Rattle.transaction.specs.declared.nodes.Nodes.TheVariants.{All, Named}
@@ -8,6 +9,11 @@ use Rattle.transaction.specs.declared.nodes.Retries.TheVariants.{Times, Endless}
 abbrev pub target_of : Nodes → Target
 target_of All = Target.All
 target_of (Named ns) = Target.Named ns
+
+-- whether it is a list of nodes
+abbrev pub is_named : Nodes → Bool
+is_named All = false
+is_named (Named ns) = true
 
 abbrev pub retries_of : Retries → AnyRetries
 retries_of (Times n) = AnyRetries.Times n

@@ -1,11 +1,11 @@
 //! Whom a lock call asks, and how often.
-ghost use Rattle.std.specs.Prelude.{◌≡◌, ◌==◌, ◌<◌, length, None, Some, if◌then◌else◌, IfOk, nat_eq};
+ghost use Rattle.std.specs.Prelude.{◌≡◌, ◌==◌, ◌<◌, length, true, None, Some, if◌then◌else◌, IfOk, OnErr, nat_eq};
 ghost use Rattle.std.specs.Cmp.Rules.{comparing};
 ghost use Rattle.std.specs.Cmp.Lexicographic.{pointwise};
 ghost use Rattle.std.proofs.Common.{rules};
 ghost use Rattle.protocol_model.specs.Client.{is_spent, one_less};
 ghost use Rattle.transaction.specs.declared.nodes.Nodes.TheVariants.{Named};
-ghost use Rattle.transaction.specs.Calls.{retries_of};
+ghost use Rattle.transaction.specs.Calls.{is_named, retries_of};
 
 use std::alloc::{AllocError, Global};
 use std::marker::Model;
@@ -85,7 +85,8 @@ impl Nodes {
 
     /// The same nodes. Only named ones take memory.
     pub fn copy(&self) -> Result<Self, AllocError>
-        ensures { IfOk result (λ copy. copy ≡ self.now) }
+        ensures copy { IfOk result (λ copy. copy ≡ self.now) }
+        ensures named { OnErr result (is_named self.now ≡ true) }
     {
         Ok(match self {
             Nodes::All => Nodes::All,

@@ -15,7 +15,7 @@ returns g c =
     ≡ DelLock c.args.self.now.holder c.args.id.now c.args.nodes.now =
     ap (λ (p : Process). DelLock p c.copy-3.result c.in-Ok.nodes) c.copy-2.ensures
     ∙ ap (λ (i : LockId). DelLock c.args.self.now.holder i c.in-Ok.nodes) c.copy-3.ensures
-    ∙ ap (λ (ns : Nodes). DelLock c.args.self.now.holder c.args.id.now ns) c.in-Ok.ensures in (
+    ∙ ap (λ (ns : Nodes). DelLock c.args.self.now.holder c.args.id.now ns) c.in-Ok.ensures.copy in (
       record {
         replies = c.push_reserved.ensures.items
             ∙ ap (λ (l : List LockReply). l ++ Deleted c.copy-4.result ∷ []) c.call.ensures.replies

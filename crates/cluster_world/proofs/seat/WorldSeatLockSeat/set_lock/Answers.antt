@@ -15,7 +15,7 @@ returns g c =
     ≡ SetLock c.args.self.now.holder c.args.id.now c.args.nodes.now c.args.retries =
     ap (λ (p : Process). SetLock p c.copy-3.result c.in-Ok.nodes c.args.retries) c.copy-2.ensures
     ∙ ap (λ (i : LockId). SetLock c.args.self.now.holder i c.in-Ok.nodes c.args.retries) c.copy-3.ensures
-    ∙ ap (λ (ns : Nodes). SetLock c.args.self.now.holder c.args.id.now ns c.args.retries) c.in-Ok.ensures in (
+    ∙ ap (λ (ns : Nodes). SetLock c.args.self.now.holder c.args.id.now ns c.args.retries) c.in-Ok.ensures.copy in (
       record {
         replies = c.push_reserved.ensures.items
             ∙ ap (λ (l : List LockReply). l ++ Set c.copy-4.result c.in_ok-granted.granted ∷ []) c.call.ensures.replies
