@@ -1,0 +1,26 @@
+use Rattle.std.proofs.Common.{true, false, refl, sym, ◌∙◌}
+use Rattle.node_loop.proofs.Faults.{retry_stands}
+use Rattle.node_loop.proofs.Turning.{retries}
+use Rattle.node_loop.proofs.node_loop.NodeLoop.idle.Goals as goal
+
+pub returns-in-Ended : goal.returns-in-Ended
+returns-in-Ended g c =
+    retries c.args.self.now c.set_worked.new.self c.can_step-worked.result c.set_worked.ensures c.can_step-worked.ensures
+    false c.attempt.new.self (sym c.has_retry.ensures ∙ c.if-not-has_retry.false)
+    (record { between = c.attempt.new.self; went = false; comes = c.in-Ended.ensures; behind = (refl, refl) })
+
+pub returns-in-Made : goal.returns-in-Made
+returns-in-Made g c =
+    retries c.args.self.now c.set_worked.new.self c.can_step-worked.result c.set_worked.ensures c.can_step-worked.ensures
+    c.leave_if_free-in-Made.result c.leave_if_free-in-Made.new.self (sym c.has_retry.ensures ∙ c.if-not-has_retry.false)
+    (record {
+      between = c.attempt.new.self;
+      went = true;
+      comes = c.in-Made.ensures;
+      behind = c.leave_if_free-in-Made.ensures;
+    })
+
+pub returns-in-Refused : goal.returns-in-Refused
+returns-in-Refused g c =
+    absurd (retry_stands c.set_worked.new.self c.in-Refused.field-0 (sym c.has_retry.ensures ∙ c.if-not-has_retry.false)
+    c.in-Refused.ensures.2 c.in-Refused.ensures.1)

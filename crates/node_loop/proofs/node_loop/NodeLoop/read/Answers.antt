@@ -1,0 +1,30 @@
+use Rattle.std.proofs.Common.{ℕ, None, refl, ap, subst}
+use Rattle.node_events.specs.declared.events.Event.TheVariants.{FromPeer}
+use Rattle.node_loop.specs.declared.waiting.Course.TheVariants.{AtOnce}
+use Rattle.node_loop.specs.Held.{Looping}
+use Rattle.node_loop.specs.Steps.{by_letter}
+use Rattle.node_loop.specs.Items.{Reads}
+use Rattle.node_loop.proofs.Concluding.{goes, stepped, begun, at_false}
+use Rattle.node_loop.proofs.node_loop.NodeLoop.read.Goals as goal
+
+pub returns : goal.returns
+returns g c =
+    let a : Looping = record {
+      core = c.self.inside.core;
+      world = c.self.inside.world;
+      log = c.self.inside.log;
+      tray = c.self.inside.tray;
+      desk = c.self.inside.desk;
+      stamp = c.self.inside.stamp;
+      left = c.self.inside.left;
+      worked = c.self.inside.worked;
+    } in
+    subst (λ (x : Looping). Reads c.args.from c.args.stamped x c.conclude.result c.conclude.new.self) c.self.view_is
+    (at_false _ _ c.self.inside.left c.if-self.false
+    (goes (by_letter c.args.from c.args.stamped a) a c.step.new.self c.begin_delivery.new.self c.in-Some.stamp None AtOnce
+    c.in-Ok.answers.items c.step.new.letters.items c.conclude.new.self c.conclude.result
+    (stepped _ _ _ _ _ _ _ (ap (λ (n : ℕ). FromPeer n c.args.stamped.letter) c.copy.ensures) c.new-letters.ensures.items
+    c.in-Ok.ensures.ok)
+    (begun _ _ _ _ _ _ _ _ c.in-Ok-begin_delivery.ensures.node c.in-Ok-begin_delivery.ensures.ok c.in-Some.ensures refl
+    refl)
+    c.in-Some.ensures refl refl c.conclude.ensures))

@@ -1,0 +1,39 @@
+use Rattle.std.proofs.Common.{inl, inr, subst}
+use Rattle.node_loop.specs.Held.{Looping}
+use Rattle.node_loop.specs.Turned.{Turned}
+use Rattle.node_loop.proofs.node_loop.NodeLoop.turn.Goals as goal
+
+pub returns-in_default : goal.returns-in_default
+returns-in_default g c =
+    subst
+    (λ (x : Looping). Turned g.E.Post.posts g.E.Post.refuses g.E.Inbox.takes g.E.Inbox.misses x (g.E.Station.state c.args.end.now) c.idle.result c.idle.new.self (g.E.Station.state c.take.new.self))
+    c.self.view_is (record {
+      tray = c.drain.new.self;
+      between = g.E.Station.state c.drain.new.post;
+      drained = c.drain.ensures;
+      turned = inr (record { missed = c.in_default.ensures.1; still = c.in_default.ensures.0; idles = c.idle.ensures });
+    })
+
+pub returns-in_default-found : goal.returns-in_default-found
+returns-in_default-found g c =
+    let h = rw c.in_default-found.is at c.in-Ok.ensures in
+    subst
+    (λ (x : Looping). Turned g.E.Post.posts g.E.Post.refuses g.E.Inbox.takes g.E.Inbox.misses x (g.E.Station.state c.args.end.now) c.idle-in_default-found.result c.idle-in_default-found.new.self (g.E.Station.state c.take.new.self))
+    c.self.view_is (record {
+      tray = c.drain.new.self;
+      between = g.E.Station.state c.drain.new.post;
+      drained = c.drain.ensures;
+      turned = inr (record { missed = h.1; still = h.0; idles = c.idle-in_default-found.ensures });
+    })
+
+pub returns : goal.returns
+returns g c =
+    let h = rw c.in-Some.is at c.in-Ok.ensures in
+    subst
+    (λ (x : Looping). Turned g.E.Post.posts g.E.Post.refuses g.E.Inbox.takes g.E.Inbox.misses x (g.E.Station.state c.args.end.now) c.work.result c.work.new.self (g.E.Station.state c.take.new.self))
+    c.self.view_is (record {
+      tray = c.drain.new.self;
+      between = g.E.Station.state c.drain.new.post;
+      drained = c.drain.ensures;
+      turned = inl (record { from = c.in-Some.from; item = c.in-Some.item; taken = h; works = c.work.ensures });
+    })

@@ -1,0 +1,50 @@
+-- What a node's loop holds.
+use Rattle.std.specs.Prelude.{ℕ, Bool, ◌&&◌, ◌||◌, not, is_some, List, [], ◌∷◌}
+use Rattle.std.specs.List.{list_all}
+use Rattle.protocol_model.specs.Links.{is_nil}
+use Rattle.protocol_model.specs.Node.{holds_global}
+use Rattle.protocol_model.specs.Event.{can_retry}
+use Rattle.node_events.specs.declared.events.Letter.{Letter}
+use Rattle.node_core.specs.Held.{Held}
+use Rattle.node_core.specs.Seen.{node_of}
+use Rattle.tray.specs.Held.{Waiting, with_letter}
+use Rattle.node_log.specs.Entries.{Logged}
+use Rattle.node_loop.specs.declared.item.Item.{Item}
+use Rattle.node_loop.specs.declared.item.Item.TheVariants.{Letter as LetterItem}
+use Rattle.node_loop.specs.Desks.{Kept, first_leave}
+
+pub record Looping : Type 0 where
+  pub core : Held
+  pub world : List ℕ  -- all nodes, rising
+  pub log : Logged
+  pub tray : List (Waiting Item)
+  pub desk : Kept
+  pub stamp : ℕ  -- of the last step
+  pub left : Bool
+  pub worked : Bool  -- the last turn took an item or tried a step
+
+-- a refused round waits to be tried again
+abbrev pub has_retry : Looping → Bool
+has_retry l = not l.left && can_retry (node_of l.core)
+
+-- a leave waits
+abbrev pub has_leave : Looping → Bool
+has_leave l = not l.left && is_some (first_leave l.desk.leaves)
+
+-- one waits that can be accepted now
+abbrev pub is_free_to_leave : Looping → Bool
+is_free_to_leave l = has_leave l && not (holds_global (node_of l.core))
+
+-- it has a step to make, if it takes none
+abbrev pub can_step : Looping → Bool
+can_step l = has_retry l || is_free_to_leave l
+
+-- something waits to be sent or to be tried
+abbrev pub owes : Looping → Bool
+owes l = not (list_all (λ w. is_nil w.letters) l.tray) || has_retry l || has_leave l
+
+-- the letters of a step with this stamp, each behind those that wait for its receiver
+abbrev pub with_letters : ℕ → List (ℕ × Letter) → List (Waiting Item) → List (Waiting Item)
+with_letters stamp [] tray = tray
+with_letters stamp (s ∷ ss) tray =
+    with_letters stamp ss (with_letter s.0 (LetterItem (record { stamp = stamp; letter = s.1 })) tray)

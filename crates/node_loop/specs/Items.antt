@@ -1,0 +1,91 @@
+-- What a node's loop does with an item, or where it finds none.
+use Rattle.std.specs.Prelude.{ℕ, Bool, true, false, ◌≡◌, ◌⊎◌, Option, None, Err, List, [], ◌∷◌, ◌++◌, MatchBool}
+use Rattle.node_events.specs.declared.events.StepFault.{StepFault}
+use Rattle.node_events.specs.Seen.{fault_of, is_memory}
+use Rattle.node_core.specs.Steps.{refusal_of}
+use Rattle.cluster_world.specs.declared.events.Event.{Event}
+use Rattle.cluster_world.specs.declared.events.Event.TheVariants.{Retry, Leave}
+use Rattle.cluster_world.specs.Events.{node_event, is_leave, knows_contact}
+use Rattle.node_loop.specs.declared.item.Item.{Item}
+use Rattle.node_loop.specs.declared.item.Item.TheVariants as item
+use Rattle.node_loop.specs.declared.item.Stamped.{Stamped}
+use Rattle.node_loop.specs.declared.item.Ticket.{Ticket}
+use Rattle.node_loop.specs.declared.replies.TaskFault.{TaskFault}
+use Rattle.node_loop.specs.declared.replies.TaskFault.TheVariants.{NoSuchNode, NodeLeft, Step}
+use Rattle.node_loop.specs.Told.{tell}
+use Rattle.node_loop.specs.Desks.{left_by}
+use Rattle.node_loop.specs.Held.{Looping, has_retry, is_free_to_leave, can_step}
+use Rattle.node_loop.specs.Steps.{Cause, by_event, by_letter, desk_of, Makes, Ends, Goes}
+
+-- a letter is read, but by a node that has left
+abbrev pub Reads : ℕ → Stamped → Looping → Bool → Looping → Type 0
+Reads from l a going b = MatchBool a.left ((going ≡ true) × (b ≡ a)) (Goes (by_letter from l a) a going b)
+
+-- the owner of the ticket is told so, if there is memory
+abbrev pub Refuses : Option Ticket → TaskFault → Looping → Bool → Looping → Type 0
+Refuses ticket fault a going b =
+    MatchBool going
+    (b ≡ record a { desk = record a.desk { replies = a.desk.replies ++ tell ticket (Err fault) } })
+    (b ≡ a)
+
+-- the leave waits behind the others, if there is memory
+abbrev pub WaitsToLeave : Option Ticket → Looping → Bool → Looping → Type 0
+WaitsToLeave ticket a going b =
+    MatchBool going (b ≡ record a { desk = record a.desk { leaves = a.desk.leaves ++ ticket ∷ [] } }) (b ≡ a)
+
+-- the core takes the step of an event, or it refuses it and the owner of the ticket is told so
+abbrev pub Asks : Option Ticket → Event → Looping → Bool → Looping → Type 0
+Asks ticket e a going b =
+    Goes (by_event ticket e a) a going b
+    ⊎ ((fault : StepFault) × (is_memory fault ≡ false) × (refusal_of (node_event e) a.core ≡ fault_of fault)
+    × Refuses ticket (Step fault) a going b)
+
+-- a task is refused by a node that has left, or where it knows no such contact; a leave waits
+abbrev pub Accepts : Option Ticket → Event → Looping → Bool → Looping → Type 0
+Accepts ticket e a going b =
+    MatchBool a.left (Refuses ticket NodeLeft a going b)
+    (MatchBool (knows_contact a.world e)
+    (MatchBool (is_leave e) (WaitsToLeave ticket a going b) (Asks ticket e a going b))
+    (Refuses ticket NoSuchNode a going b))
+
+abbrev pub Handles : ℕ → Item → Looping → Bool → Looping → Type 0
+Handles from (item.Letter l) a going b = Reads from l a going b
+Handles from (item.Task t) a going b = Accepts t.ticket t.event a going b
+
+-- whose leave is tried
+abbrev pub leaver : List (Option Ticket) → Option Ticket
+leaver [] = None
+leaver (t ∷ ts) = t
+
+abbrev pub by_leave : Looping → Cause
+by_leave a = by_event (leaver a.desk.leaves) Leave a
+
+-- the step of a leave is made, and the node has left
+pub record Departs (a b : Looping) : Type 0 where
+  pub stepped : Looping
+  pub step : Makes (by_leave a) a stepped
+  pub behind : b ≡ record stepped { left = true; desk = left_by stepped.desk }
+
+-- a leave that waits is accepted as soon as it can be
+abbrev pub Leaves : Looping → Bool → Looping → Type 0
+Leaves a going b =
+    MatchBool (is_free_to_leave a)
+    (MatchBool going (Departs a b) (Ends (by_leave a) (λ core answers. left_by (desk_of (by_leave a) a core answers)) a b))
+    ((going ≡ true) × (b ≡ a))
+
+-- this comes first, and then a leave that waits
+pub record Then (first : Looping → Bool → Looping → Type 0) (a : Looping) (going : Bool) (b : Looping) : Type 0 where
+  pub between : Looping
+  pub went : Bool
+  pub comes : first a went between
+  pub behind : MatchBool went (Leaves between going b) ((going ≡ false) × (b ≡ between))
+
+-- an item was taken
+abbrev pub Works : ℕ → Item → Looping → Bool → Looping → Type 0
+Works from i a going b = Then (Handles from i) (record a { worked = true }) going b
+
+-- none was found: a refused round is tried again
+abbrev pub Idles : Looping → Bool → Looping → Type 0
+Idles a going b =
+    let now : Looping = record a { worked = can_step a } in
+    MatchBool (has_retry a) (Then (Goes (by_event None Retry a)) now going b) (Leaves now going b)

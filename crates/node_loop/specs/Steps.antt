@@ -1,0 +1,124 @@
+-- The steps of a node's loop.
+use Rattle.std.specs.Prelude.{ℕ, Bool, false, ◌≡◌, ◌+◌, ◌⊎◌, max, Option, None, List, [], ◌∷◌, ◌++◌, MatchBool}
+use Rattle.std.specs.Option.{option_map}
+use Rattle.node_events.specs.declared.events.Answer.{Answer}
+use Rattle.node_events.specs.declared.events.Event.{Event as NodeEvent}
+use Rattle.node_events.specs.declared.events.Event.TheVariants.{FromPeer}
+use Rattle.node_events.specs.declared.events.Letter.{Letter}
+use Rattle.node_events.specs.Seen.{fault_of, is_memory}
+use Rattle.node_core.specs.Held.{Held}
+use Rattle.node_core.specs.Steps.{Steps, refusal_of}
+use Rattle.cluster_world.specs.declared.events.Event.{Event}
+use Rattle.cluster_world.specs.declared.events.WorldEvent.{WorldEvent}
+use Rattle.cluster_world.specs.declared.events.WorldEvent.TheVariants.{At, Deliver}
+use Rattle.cluster_world.specs.Events.{node_event}
+use Rattle.node_log.specs.Entries.{Entry}
+use Rattle.node_log.specs.Logs.{answered}
+use Rattle.node_loop.specs.declared.item.Stamped.{Stamped}
+use Rattle.node_loop.specs.declared.item.Ticket.{Ticket}
+use Rattle.node_loop.specs.declared.stepping.Tried.{Tried}
+use Rattle.node_loop.specs.declared.stepping.Tried.TheVariants.{Made, Refused, Ended}
+use Rattle.node_loop.specs.declared.waiting.Course.{Course}
+use Rattle.node_loop.specs.declared.waiting.Course.TheVariants.{AtOnce}
+use Rattle.node_loop.specs.Waiting.{course_of}
+use Rattle.node_loop.specs.Desks.{Kept, Begins, settled}
+use Rattle.node_loop.specs.Held.{Looping, with_letters}
+
+-- What a step is made for: the event, as the core and the log have it, whose it is, how it is answered, and the stamp of
+-- the letter that is read, or 0
+pub record Cause : Type 0 where
+  pub event : NodeEvent
+  pub logged : WorldEvent
+  pub own : Option Ticket
+  pub course : Course
+  pub seen : ℕ
+
+-- an event of this node
+abbrev pub by_event : Option Ticket → Event → Looping → Cause
+by_event own e a = record {
+  event = node_event e;
+  logged = At a.core.name e;
+  own = own;
+  course = course_of e;
+  seen = 0;
+}
+
+-- a letter from another
+abbrev pub by_letter : ℕ → Stamped → Looping → Cause
+by_letter from l a = record {
+  event = FromPeer from l.letter;
+  logged = Deliver from a.log.node;
+  own = None;
+  course = AtOnce;
+  seen = l.stamp;
+}
+
+-- above the last step's and the letter's
+abbrev pub stamp_of : Cause → Looping → ℕ
+stamp_of k a = max a.stamp k.seen + 1
+
+abbrev pub entry_of : Cause → Looping → List Answer → Entry
+entry_of k a answers = record {
+  stamp = stamp_of k a;
+  seat = option_map (λ t. t.seat) k.own;
+  event = k.logged;
+  answers = answers;
+}
+
+-- the desk behind the step
+abbrev pub desk_of : Cause → Looping → Held → List Answer → Kept
+desk_of k a core answers = settled k.course k.own core answers a.desk
+
+-- The core's step is made: its entry is last in the log, its letters are last in the tray, and its answers are told
+pub record Makes (k : Cause) (a b : Looping) : Type 0 where
+  pub answers : List Answer
+  pub sent : List (ℕ × Letter)
+  pub step : Steps k.event a.core b.core [] sent answers
+  pub log : b.log ≡ record a.log { entries = a.log.entries ++ entry_of k a answers ∷ [] }
+  pub stamp : b.stamp ≡ stamp_of k a
+  pub tray : b.tray ≡ with_letters (stamp_of k a) sent a.tray
+  pub desk : b.desk ≡ desk_of k a b.core answers
+  pub world : b.world ≡ a.world
+  pub left : b.left ≡ a.left
+  pub worked : b.worked ≡ a.worked
+
+-- the thread ends before the step stands in the log: nobody is told anything
+pub record Rests (a b : Looping) : Type 0 where
+  pub name : b.core.name ≡ a.core.name
+  pub log : b.log ≡ a.log
+  pub replies : b.desk.replies ≡ a.desk.replies
+
+-- The thread ends when the core's step is made and stands in the log. The first of those are told who are to be
+pub record Begun (k : Cause) (due : Held → List Answer → Kept) (a b : Looping) : Type 0 where
+  pub answers : List Answer
+  pub sent : List (ℕ × Letter)
+  pub step : Steps k.event a.core b.core [] sent answers
+  pub log : b.log ≡ record a.log { entries = a.log.entries ++ entry_of k a answers ∷ [] }
+  pub replies : Begins b.desk.replies (due b.core answers).replies
+
+-- the thread ends within a step
+abbrev pub Ends : Cause → (Held → List Answer → Kept) → Looping → Looping → Type 0
+Ends k due a b = Rests a b ⊎ Begun k due a b
+
+-- a step is made, or the thread ends within it
+abbrev pub Goes : Cause → Looping → Bool → Looping → Type 0
+Goes k a going b = MatchBool going (Makes k a b) (Ends k (desk_of k a) a b)
+
+-- so, or the core refuses the event and nothing changes
+abbrev pub Tries : Option Ticket → Event → Looping → Tried → Looping → Type 0
+Tries own e a Made b = Makes (by_event own e a) a b
+Tries own e a (Refused fault) b =
+    (b ≡ a) × (is_memory fault ≡ false) × (refusal_of (node_event e) a.core ≡ fault_of fault)
+Tries own e a Ended b = Ends (by_event own e a) (desk_of (by_event own e a) a) a b
+
+-- behind a step that was logged without its answers
+pub record Concludes (given : ℕ) (own : Option Ticket) (course : Course) (answers : List Answer) (sent : List (ℕ × Letter)) (a : Looping) (going : Bool) (b : Looping) : Type 0 where
+  pub core : b.core ≡ a.core
+  pub world : b.world ≡ a.world
+  pub log : b.log ≡ record a.log { entries = answered answers a.log.entries }
+  pub stamp : b.stamp ≡ given
+  pub left : b.left ≡ a.left
+  pub worked : b.worked ≡ a.worked
+  pub told : MatchBool going
+      ((b.desk ≡ settled course own a.core answers a.desk) × (b.tray ≡ with_letters given sent a.tray))
+      (Begins b.desk.replies (settled course own a.core answers a.desk).replies)

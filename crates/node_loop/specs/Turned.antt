@@ -1,0 +1,28 @@
+-- What one turn does, in the words of the node's links.
+use Rattle.std.specs.Prelude.{ℕ, Bool, ◌≡◌, ◌⊎◌, List}
+use Rattle.tray.specs.Held.{Waiting}
+use Rattle.tray.specs.Draining.{DrainedAll}
+use Rattle.node_loop.specs.declared.item.Item.{Item}
+use Rattle.node_loop.specs.Held.{Looping}
+use Rattle.node_loop.specs.Items.{Works, Idles}
+
+module _ {S : Type 0} (posts : S → ℕ → Item → S → Type 0) (refuses : S → ℕ → Item → Type 0) (takes : S → ℕ → Item → S → Type 0) (misses : S → Type 0) where
+  -- an item is taken and handled
+  pub record Took (m : Looping) (r : S) (going : Bool) (b : Looping) (t : S) : Type 0 where
+    pub from : ℕ
+    pub item : Item
+    pub taken : takes r from item t
+    pub works : Works from item m going b
+
+  -- none is found
+  pub record Missed (m : Looping) (r : S) (going : Bool) (b : Looping) (t : S) : Type 0 where
+    pub missed : misses r
+    pub still : t ≡ r
+    pub idles : Idles m going b
+
+  -- the tray is sent as far as it goes, and then an item is taken or none is found
+  pub record Turned (a : Looping) (s : S) (going : Bool) (b : Looping) (t : S) : Type 0 where
+    pub tray : List (Waiting Item)
+    pub between : S
+    pub drained : DrainedAll posts refuses a.tray s tray between
+    pub turned : Took (record a { tray = tray }) between going b t ⊎ Missed (record a { tray = tray }) between going b t

@@ -1,0 +1,29 @@
+//! How a node leaves.
+ghost use Rattle.node_loop.specs.Items.{Leaves};
+
+use crate::node_loop::NodeLoop;
+use crate::stepping::Tried;
+use cluster_world::Event;
+use name_table::Names;
+use std::alloc::Global;
+
+impl<N: Names<Memory = Global>> NodeLoop<N> {
+    /// The first leave that waits is accepted, where one does and the node doesn't hold the global lock. All others who wait
+    /// are told that the node has left.
+    pub(crate) fn leave_if_free(&mut self) -> bool
+        ensures { Leaves self.old result self.new }
+    {
+        if !self.is_free_to_leave() {
+            return true;
+        }
+        let ticket = self.desk.first_leave().flatten();
+        match self.attempt(ticket, Event::Leave) {
+            Tried::Made => {
+                self.left = true;
+                self.desk.leave().is_ok()
+            }
+            Tried::Refused(_) => true,
+            Tried::Ended => false,
+        }
+    }
+}

@@ -1,0 +1,20 @@
+//! One node's loop, without its thread: each turn sends what waits, takes one item from the inbox, and makes its step.
+#![tactic(auto)]
+
+mod desk;
+mod gate;
+mod item;
+mod leaving;
+mod node_loop;
+mod outgoing;
+mod replies;
+mod stepping;
+mod waiting;
+
+pub use gate::{Gate, OpenGate};
+pub use item::{Item, Stamped, Task, Ticket};
+pub use node_loop::NodeLoop;
+pub use replies::{TaskFault, TaskReply};
+
+#[cfg(test)]
+mod tests;

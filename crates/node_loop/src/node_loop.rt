@@ -1,0 +1,144 @@
+//! A node's loop.
+ghost use Rattle.std.specs.Prelude.{◌≡◌, ◌∷◌, [], false, map, IfOk, MatchOption};
+ghost use Rattle.tray.specs.Held.{none_for};
+ghost use Rattle.node_loop.specs.Told.{told_by};
+ghost use Rattle.node_loop.specs.Desks.{empty_desk};
+ghost use Rattle.node_loop.specs.Held.{owes};
+ghost use Rattle.node_loop.specs.Turned.{Turned};
+
+use crate::desk::Desk;
+use crate::gate::Gate;
+use crate::item::Item;
+use crate::replies::TaskReply;
+use link::{Inbox, Post};
+use name_table::Names;
+use node_core::NodeCore;
+use node_log::{Log, NodeEnd};
+use std::alloc::{AllocError, Global};
+use std::marker::Model;
+use term::NodeSet;
+use tray::Tray;
+
+/// What a node's thread works on: the node's core, the log of its steps, the letters that it has to send, those who wait, and
+/// the replies.
+#[derive(Drop)]
+pub struct NodeLoop<N: Names> {
+    pub(crate) alloc: Global,
+    pub(crate) core: NodeCore<N>,
+    pub(crate) world: NodeSet,
+    pub(crate) log: Log,
+    pub(crate) tray: Tray<Item>,
+    pub(crate) desk: Desk,
+    /// The stamp of the last step; 0 before the first.
+    pub(crate) stamp: u64,
+    pub(crate) left: bool,
+    pub(crate) worked: bool,
+}
+
+impl<N: Names> Model for NodeLoop<N> {
+    ghost use Rattle.node_loop.specs.Held.{Looping};
+
+    ghost Value = { Looping };
+
+    ghost view = { λ l. record {
+      core = l.core;
+      world = l.world;
+      log = l.log;
+      tray = l.tray;
+      desk = l.desk;
+      stamp = l.stamp;
+      left = l.left;
+      worked = l.worked;
+    } };
+}
+
+impl<N: Names<Memory = Global>> NodeLoop<N> {
+    /// The loop of a node of this world that hasn't taken a step in it: nothing is logged, nothing is to be sent, nobody waits.
+    pub fn new(alloc: Global, core: NodeCore<N>, world: &NodeSet) -> Result<Self, AllocError>
+        ensures { IfOk result (λ new. new ≡ record {
+          core = core;
+          world = world.now;
+          log = record { node = core.name; entries = [] };
+          tray = map none_for world.now;
+          desk = empty_desk;
+          stamp = 0;
+          left = false;
+          worked = false;
+        }) }
+    {
+        let log = Log::new(alloc, core.name().copy(), world);
+        let tray = Tray::new(alloc, world)?;
+        Ok(NodeLoop {
+            alloc,
+            core,
+            world: world.copy(),
+            log,
+            tray,
+            desk: Desk::new(alloc),
+            stamp: 0,
+            left: false,
+            worked: false,
+        })
+    }
+
+    /// One turn: it sends what waits, takes one item from the inbox, and makes its step; where it finds none, the node tries
+    /// its refused rounds again. A leave that waits is tried behind that. It answers whether the thread goes on: it ends where
+    /// no stamp is left, or where memory was refused. What a turn that ends the thread leaves half done isn't to be used
+    /// any more, but for its log, which has no step that wasn't made, and the replies, each of which is as it is to be.
+    pub fn turn<E: Post<Item> + Inbox<Item>, G: Gate>(&mut self, end: &mut E, gate: &G) -> bool
+        ensures { Turned E.posts E.refuses E.takes E.misses self.old (E.state end.old) result self.new (E.state end.new) }
+    {
+        gate.hold(self.core.name());
+        self.tray.drain(end);
+        let Ok(found) = end.take() else {
+            return self.idle();
+        };
+        let Some((from, item)) = found else {
+            return self.idle();
+        };
+        self.work(from, item)
+    }
+
+    /// The oldest reply, which is taken off the list.
+    pub fn next_reply(&mut self) -> Option<TaskReply>
+        ensures rest { self.new ≡ record self.old { desk = record self.old.desk { replies = self.new.desk.replies } } }
+        ensures oldest { MatchOption result ((self.old.desk.replies ≡ []) × (self.new.desk.replies ≡ [])) (λ reply. self.old.desk.replies ≡ told_by reply ∷ self.new.desk.replies) }
+    {
+        self.desk.next_reply()
+    }
+
+    /// Whether the last turn took an item or tried a step.
+    pub fn worked(&self) -> bool
+        ensures { result ≡ self.now.worked }
+    {
+        self.worked
+    }
+
+    /// Whether a letter waits to be sent, or a refused round or a leave waits to be tried: such a node naps shortly.
+    pub fn owes(&self) -> bool
+        ensures { result ≡ owes self.now }
+    {
+        !self.tray.is_empty() || self.has_retry() || self.has_leave()
+    }
+
+    /// Whether the node has left.
+    pub fn has_left(&self) -> bool
+        ensures { result ≡ self.now.left }
+    {
+        self.left
+    }
+
+    /// What the node's thread gives back, and whether it ended without a leave and without being asked to.
+    pub fn into_end(self, ended_alone: bool) -> NodeEnd<N>
+        ensures log { result.log ≡ self.log }
+        ensures table { N.contents result.table ≡ self.core.table }
+        ensures ended_alone { result.ended_alone ≡ ended_alone }
+    {
+        let NodeLoop { core, log, .. } = self;
+        NodeEnd {
+            log,
+            table: core.into_table(),
+            ended_alone,
+        }
+    }
+}

@@ -1,0 +1,49 @@
+//! Stamps, and the letters of a step.
+ghost use Rattle.std.specs.Prelude.{◌≡◌, ◌+◌, ◌^◌, ◌-◌, [], ◌∷◌, max, OnOk, MatchOption};
+ghost use Rattle.node_loop.specs.Held.{with_letters};
+
+use crate::item::{Item, Stamped};
+use link::LinkFault;
+use node_core::Letter;
+use std::alloc::AllocError;
+use term::NodeName;
+use tray::Tray;
+
+/// The stamp of a step: above that of the last step and that of the letter. There is none above the greatest `u64`.
+pub(crate) fn next_stamp(last: u64, seen: u64) -> Option<u64>
+    ensures { MatchOption result (max last seen ≡ 2 ^ 64 - 1) (λ stamp. stamp ≡ max last seen + 1) }
+{
+    last.max(seen).checked_add(1)
+}
+
+/// Puts a letter of a step into the tray. One to a node that the tray doesn't know vanishes: nobody there could read it.
+fn put_one(
+    tray: &mut Tray<Item>,
+    stamp: u64,
+    to: &NodeName,
+    letter: Letter,
+) -> Result<(), AllocError>
+    ensures { OnOk result (tray.new ≡ with_letters stamp ((to.now, letter) ∷ []) tray.old) }
+{
+    match tray.put(to, Item::Letter(Stamped { stamp, letter })) {
+        Ok(()) => Ok(()),
+        Err(unsent) => match unsent.fault {
+            LinkFault::NoSuchNode => Ok(()),
+            _ => Err(AllocError),
+        },
+    }
+}
+
+/// Puts the letters of a step into the tray, each behind those that wait for its receiver.
+pub(crate) fn put_all(
+    tray: &mut Tray<Item>,
+    stamp: u64,
+    letters: Vec<(NodeName, Letter)>,
+) -> Result<(), AllocError>
+    ensures { OnOk result (tray.new ≡ with_letters stamp letters.items tray.old) }
+{
+    for (to, letter) in letters {
+        put_one(tray, stamp, &to, letter)?;
+    }
+    Ok(())
+}

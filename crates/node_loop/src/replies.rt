@@ -1,0 +1,82 @@
+//! What a node replies to those who asked.
+ghost use Rattle.std.specs.Prelude.{◌≡◌, [], ◌∷◌, ◌++◌, OnOk, OnErr, MatchOption};
+ghost use Rattle.node_loop.specs.Told.{tell, outcome_of, told_by};
+
+use crate::item::Ticket;
+use node_core::{Answer, StepFault};
+use std::alloc::{AllocError, Global};
+use std::collections::VecDeque;
+use std::marker::Model;
+use thiserror::Error;
+
+/// Why a task is refused.
+#[derive(Debug, PartialEq, Eq, Error, Drop)]
+pub enum TaskFault {
+    /// The contact of its join isn't of the world.
+    #[error("no_such_node")]
+    NoSuchNode,
+    /// The node has left.
+    #[error("node_left")]
+    NodeLeft,
+    /// The node's core refuses it; or, as `NotLive`, the process of a lock call died before the answer.
+    #[error("{0}")]
+    Step(StepFault),
+}
+
+/// What comes of a task.
+#[derive(Debug, PartialEq, Eq, Drop)]
+pub struct TaskReply {
+    /// Whose task it is.
+    pub ticket: Ticket,
+    /// The answer to a call, and none to an exit or a leave that was accepted; or why it is refused.
+    pub outcome: Result<Option<Answer>, TaskFault>,
+}
+
+/// The replies that nobody has fetched yet, the oldest first.
+#[derive(Drop)]
+pub(crate) struct Replies {
+    list: VecDeque<TaskReply>,
+}
+
+impl Model for Replies {
+    ghost use Rattle.std.specs.Prelude.{List, map};
+    ghost use Rattle.node_loop.specs.Told.{Told, told_by};
+
+    ghost Value = { List Told };
+
+    ghost view = { λ r. map told_by r.list.items };
+}
+
+impl Replies {
+    /// No reply. It takes no memory.
+    pub(crate) fn new(alloc: Global) -> Self
+        ensures { result ≡ [] }
+    {
+        Replies {
+            list: VecDeque::new(alloc),
+        }
+    }
+
+    /// A reply more, if there is a ticket.
+    pub(crate) fn tell(
+        &mut self,
+        ticket: Option<Ticket>,
+        outcome: Result<Option<Answer>, TaskFault>,
+    ) -> Result<(), AllocError>
+        ensures ok { OnOk result (self.new ≡ self.old ++ tell ticket (outcome_of outcome)) }
+        ensures unchanged { OnErr result (self.new ≡ self.old) }
+    {
+        let Some(ticket) = ticket else {
+            return Ok(());
+        };
+        self.list.push_back(TaskReply { ticket, outcome })?;
+        Ok(())
+    }
+
+    /// The oldest reply, which is taken off.
+    pub(crate) fn next(&mut self) -> Option<TaskReply>
+        ensures { MatchOption result ((self.old ≡ []) × (self.new ≡ [])) (λ reply. self.old ≡ told_by reply ∷ self.new) }
+    {
+        self.list.pop_front()
+    }
+}

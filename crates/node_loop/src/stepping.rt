@@ -1,0 +1,230 @@
+//! The steps of a node's loop.
+ghost use Rattle.std.specs.Prelude.{◌≡◌};
+ghost use Rattle.std.specs.Option.{option_map};
+ghost use Rattle.cluster_world.specs.Events.{is_leave, knows_contact};
+ghost use Rattle.node_loop.specs.Held.{can_step, has_retry, has_leave, is_free_to_leave};
+ghost use Rattle.node_loop.specs.Steps.{Concludes, Tries};
+ghost use Rattle.node_loop.specs.Items.{Refuses, Reads, Accepts, Handles, Idles, Works};
+
+use crate::item::{Item, Stamped, Task, Ticket};
+use crate::node_loop::NodeLoop;
+use crate::outgoing::{next_stamp, put_all};
+use crate::replies::TaskFault;
+use crate::waiting::Course;
+use cluster_world::{Call, Cause, Event, WorldEvent};
+use name_table::Names;
+use node_core::{Answer, Letter, StepFault};
+use std::alloc::Global;
+use term::NodeName;
+
+/// What came of trying a step.
+#[derive(Debug, Drop)]
+pub(crate) enum Tried {
+    /// It was made.
+    Made,
+    /// The core refuses its event, and nothing changed.
+    Refused(StepFault),
+    /// No stamp is left, or memory was refused: the thread ends.
+    Ended,
+}
+
+/// The seat of a ticket.
+fn seat_of(own: Option<Ticket>) -> Option<u32>
+    ensures { result ≡ option_map (λ t. t.seat) own }
+{
+    match own {
+        Some(ticket) => Some(ticket.seat),
+        None => None,
+    }
+}
+
+/// Whether the node leaves.
+fn is_leave(event: &Event) -> bool
+    ensures { result ≡ is_leave event.now }
+{
+    matches!(event, Event::Leave)
+}
+
+impl<N: Names<Memory = Global>> NodeLoop<N> {
+    /// Whether a refused round waits to be tried again.
+    pub(crate) fn has_retry(&self) -> bool
+        ensures { result ≡ has_retry self.now }
+    {
+        !self.left && self.core.can_retry()
+    }
+
+    /// Whether a leave waits.
+    pub(crate) fn has_leave(&self) -> bool
+        ensures { result ≡ has_leave self.now }
+    {
+        !self.left && self.desk.first_leave().is_some()
+    }
+
+    /// Whether a leave waits that can be accepted now.
+    pub(crate) fn is_free_to_leave(&self) -> bool
+        ensures { result ≡ is_free_to_leave self.now }
+    {
+        self.has_leave() && !self.core.holds_global()
+    }
+
+    /// A step of the core was made and logged: its answers are told and logged, and its letters are put into the tray.
+    fn conclude(
+        &mut self,
+        stamp: u64,
+        own: Option<Ticket>,
+        course: Course,
+        answers: Vec<Answer>,
+        letters: Vec<(NodeName, Letter)>,
+    ) -> bool
+        ensures { Concludes stamp own course answers.items letters.items self.old result self.new }
+    {
+        self.stamp = stamp;
+        let told = self
+            .desk
+            .settle(own, course, &self.core, answers.as_slice());
+        self.log.answer(answers);
+        if told.is_err() {
+            return false;
+        }
+        put_all(&mut self.tray, stamp, letters).is_ok()
+    }
+
+    /// Tries the step of an event, of this ticket or of nobody.
+    pub(crate) fn attempt(&mut self, own: Option<Ticket>, event: Event) -> Tried
+        ensures { Tries own event self.old result self.new }
+    {
+        let Some(stamp) = next_stamp(self.stamp, 0) else {
+            return Tried::Ended;
+        };
+        let course = Course::of(&event);
+        let mut letters = Vec::new(self.alloc);
+        let answers = match Cause::of(&event).step(&mut self.core, &mut letters) {
+            Ok(answers) => answers,
+            Err(StepFault::Memory) => return Tried::Ended,
+            Err(fault) => return Tried::Refused(fault),
+        };
+        let event = WorldEvent::At(self.core.name().copy(), event);
+        let Ok(()) = self.log.begin(stamp, seat_of(own), event) else {
+            return Tried::Ended;
+        };
+        if self.conclude(stamp, own, course, answers, letters) {
+            Tried::Made
+        } else {
+            Tried::Ended
+        }
+    }
+
+    /// A letter is read. A node that has left drops it.
+    fn read(&mut self, from: NodeName, stamped: Stamped) -> bool
+        ensures { Reads from stamped self.old result self.new }
+    {
+        if self.left {
+            return true;
+        }
+        let Stamped {
+            stamp: sent,
+            letter,
+        } = stamped;
+        let Some(stamp) = next_stamp(self.stamp, sent) else {
+            return false;
+        };
+        let mut letters = Vec::new(self.alloc);
+        let event = node_core::Event::FromPeer(from.copy(), letter);
+        let Ok(answers) = self.core.step(&event, &mut letters) else {
+            return false;
+        };
+        let Ok(()) = self.log.begin_delivery(stamp, &from) else {
+            return false;
+        };
+        self.conclude(stamp, None, Course::AtOnce, answers, letters)
+    }
+
+    /// A task is refused, and the ticket is told so.
+    fn refuse(&mut self, ticket: Option<Ticket>, fault: TaskFault) -> bool
+        ensures { Refuses ticket fault self.old result self.new }
+    {
+        self.desk.refuse(ticket, fault).is_ok()
+    }
+
+    /// Whether the contact of an event is of the world, if it has one.
+    fn knows_contact(&self, event: &Event) -> bool
+        ensures { result ≡ knows_contact self.now.world event.now }
+    {
+        match event {
+            Event::Call(Call::Join(contact)) => self.world.contains(contact),
+            _ => true,
+        }
+    }
+
+    /// A task is taken: it is refused, or it waits, or its step is made.
+    fn accept(&mut self, task: Task) -> bool
+        ensures { Accepts task.ticket task.event self.old result self.new }
+    {
+        let Task { ticket, event } = task;
+        if self.left {
+            return self.refuse(ticket, TaskFault::NodeLeft);
+        }
+        if !self.knows_contact(&event) {
+            return self.refuse(ticket, TaskFault::NoSuchNode);
+        }
+        if is_leave(&event) {
+            return self.desk.wait_to_leave(ticket).is_ok();
+        }
+        match self.attempt(ticket, event) {
+            Tried::Made => true,
+            Tried::Refused(fault) => self.refuse(ticket, TaskFault::Step(fault)),
+            Tried::Ended => false,
+        }
+    }
+
+    /// An item is handled.
+    fn handle(&mut self, from: NodeName, item: Item) -> bool
+        ensures { Handles from item self.old result self.new }
+    {
+        match item {
+            Item::Letter(stamped) => self.read(from, stamped),
+            Item::Task(task) => self.accept(task),
+        }
+    }
+
+    /// An item was taken: it is handled, and then a leave that waits.
+    pub(crate) fn work(&mut self, from: NodeName, item: Item) -> bool
+        ensures { Works from item self.old result self.new }
+    {
+        self.worked = true;
+        if !self.handle(from, item) {
+            return false;
+        }
+        self.leave_if_free()
+    }
+
+    /// The turn tries a step, or it doesn't.
+    fn set_worked(&mut self, worked: bool)
+        ensures { self.new ≡ record self.old { worked = worked } }
+    {
+        self.worked = worked;
+    }
+
+    /// Whether it has a step to try, if it takes none.
+    fn can_step(&self) -> bool
+        ensures { result ≡ can_step self.now }
+    {
+        self.has_retry() || self.is_free_to_leave()
+    }
+
+    /// None was taken: refused rounds are tried again, and then a leave that waits.
+    pub(crate) fn idle(&mut self) -> bool
+        ensures { Idles self.old result self.new }
+    {
+        let worked = self.can_step();
+        self.set_worked(worked);
+        if !self.has_retry() {
+            return self.leave_if_free();
+        }
+        match self.attempt(None, Event::Retry) {
+            Tried::Ended => false,
+            Tried::Made => self.leave_if_free(),
+            Tried::Refused(_) => true,
+        }
+    }
+}
