@@ -1,0 +1,130 @@
+-- What a replay comes to, put together.
+use Rattle.std.proofs.Common.{ℕ, true, false, [], get_or, ◌≡◌, ◌∙◌, inl, inr, Some, List, ◌++◌, length, map, sym, ap, subst}
+use Rattle.std.proofs.lemmas.Option.{slice_get-map, slice_get-get_or}
+use Rattle.std.specs.List.{slice_get}
+use Rattle.std.specs.Option.{option_map}
+use Rattle.std.specs.Prelude.{All}
+use Rattle.term.specs.NodeSets.{set_of}
+use Rattle.cluster_world.specs.Held.{Held}
+use Rattle.cluster_world.specs.Playing.{Keeps}
+use Rattle.cluster_world.specs.Seen.{opening_of, seen}
+use Rattle.cluster_world.specs.Starting.{Opens, repeats}
+use Rattle.cluster_world.specs.Agreeing.{AgreesAfter}
+use Rattle.cluster_world.specs.Excluding.{ExclusionAfter}
+use Rattle.node_log.specs.Entries.{Entry, Logged}
+use Rattle.node_log.specs.declared.node_end.NodeEnd.{NodeEnd}
+use Rattle.node_log.specs.declared.transcript.Transcript.{Transcript}
+use Rattle.replay.specs.declared.faults.CloseFault.{CloseFault}
+use Rattle.replay.specs.declared.faults.CloseFault.TheVariants.{Torn, LeftInHold, Stranger, Memory}
+use Rattle.replay.specs.Ends.{End, logs_of, is_lesser, EndedWell, HasTableOf}
+use Rattle.replay.specs.Least.{AllSuch, IsLeastOther}
+use Rattle.replay.specs.Playing.{IsRun}
+use Rattle.replay.specs.Replaying.{AreAll, IsFault, IsLeastEnd, PlaysOut, Replayed, RunsThrough, StopsLogs}
+use Rattle.replay.specs.Steps.{log_of}
+use Rattle.replay.specs.Transcripts.{Fits, has_lesser_seat}
+use Rattle.replay.proofs.Merging.{log_is, set_of-at}
+
+some_one : {X : Type 0} (x y : X) → Some x ≡ Some y → x ≡ y
+some_one x y e = cc
+
+-- what opened so is so still
+still_opens : (cluster lone : List ℕ) (old new : Held) → Opens cluster lone old → Keeps old new → Opens cluster lone new
+still_opens cluster lone old new O K = record {
+  nodes = λ c. ap (λ (ns : List ℕ). set_of ns c) K.nodes ∙ O.nodes c;
+  joined = λ c. ap (λ (ns : List ℕ). set_of ns c) K.cluster ∙ O.joined c;
+}
+
+pub as_many : {X : Type 0} (Q : X → Type 0) (xs : List X) (n : ℕ) → n ≡ length xs → AllSuch Q xs n → AreAll Q xs
+as_many Q xs n e h = subst (AllSuch Q xs) e h
+
+module _ (cluster lone : List ℕ) (ends : List End) (ts : List Transcript) where
+  -- the logs stop
+  pub stopped : (old : Held) (fault : CloseFault) → Opens cluster lone old → AreAll EndedWell ends
+      → StopsLogs fault (logs_of ends) (opening_of old) → IsFault cluster lone ends ts fault
+  stopped old (Torn a k) O well h = (well, inl (record { opening = old; opens = O; stuck = h }))
+  stopped old (LeftInHold a) O well h = absurd h
+  stopped old (Stranger seat) O well h = absurd h
+  stopped old Memory O well h = well
+
+  -- all was played
+  pub out : (old new : Held) (events : ℕ) → Opens cluster lone old → (R : RunsThrough (logs_of ends) events old new)
+      → PlaysOut cluster lone (logs_of ends) R.steps new
+  out old new events O R = record { opens = still_opens cluster lone old new O R.kept; merged = R.merged; run = R.run }
+
+  least_end_is : (Q : End → Type 0) (n k : ℕ) (a : ℕ) (e : End) → n ≡ length ends → IsLeastOther Q is_lesser ends n k
+      → slice_get ends k ≡ Some e → e.log.node ≡ a → IsLeastEnd Q ends a
+  least_end_is Q n k a e same L here whose = record {
+    place = k;
+    least = subst (λ (m : ℕ). IsLeastOther Q is_lesser ends m k) same L;
+    whose = ap (λ (f : End). f.log.node) (some_one L.item e (sym L.here ∙ here)) ∙ whose;
+  }
+
+  pub alone : (n k a : ℕ) (e : End) → n ≡ length ends → IsLeastOther EndedWell is_lesser ends n k → slice_get ends k ≡ Some e
+      → e.log.node ≡ a → IsFault cluster lone ends ts (LeftInHold a)
+  alone n k a e same L here whose = least_end_is EndedWell n k a e same L here whose
+
+  -- all was played and compared
+  pub replayed : (old new : Held) (events : ℕ) → Opens cluster lone old → RunsThrough (logs_of ends) events old new
+      → AreAll EndedWell ends → AreAll (HasTableOf (seen new)) ends → AreAll (Fits (logs_of ends) ts) ts
+      → Replayed cluster lone ends ts events new
+  replayed old new events O R well tables fits = record {
+    steps = R.steps;
+    out = out old new events O R;
+    count = R.count;
+    ended = well;
+    tables = tables;
+    transcripts = fits;
+  }
+
+  -- all was played, and a table is another one
+  pub other_table : (old new : Held) (events n k a at : ℕ) (e : End) → Opens cluster lone old
+      → repeats (map (λ (l : Logged). l.node) (logs_of ends)) ≡ false → RunsThrough (logs_of ends) events old new
+      → AreAll EndedWell ends → n ≡ length ends → IsLeastOther (HasTableOf (seen new)) is_lesser ends n k
+      → slice_get ends k ≡ Some e → e.log.node ≡ a → at ≡ length e.log.entries → IsFault cluster lone ends ts (Torn a at)
+  other_table old new events n k a at e O once R well same L here whose long = (
+    well,
+    inr (record {
+      steps = R.steps;
+      world = new;
+      out = out old new events O R;
+      other = least_end_is (HasTableOf (seen new)) n k a e same L here whose;
+      place = long
+          ∙ sym (ap (λ (es : List Entry). length es) (log_is (logs_of ends) once k e.log
+          (slice_get-map (λ (f : End). f.log) ends k ∙ ap (option_map (λ (f : End). f.log)) here)))
+          ∙ ap (λ (c : ℕ). length (log_of c (logs_of ends))) whose;
+    }),
+  )
+
+  -- all was played, the tables are the world's, and a transcript doesn't fit
+  pub stranger : (old new : Held) (events k seat : ℕ) (t : Transcript) → Opens cluster lone old
+      → RunsThrough (logs_of ends) events old new → AreAll EndedWell ends → AreAll (HasTableOf (seen new)) ends
+      → IsLeastOther (Fits (logs_of ends) ts) has_lesser_seat ts (length ts) k → slice_get ts k ≡ Some t → t.seat ≡ seat
+      → IsFault cluster lone ends ts (Stranger seat)
+  stranger old new events k seat t O R well tables L here whose = (
+    well,
+    record {
+      steps = R.steps;
+      world = new;
+      out = out old new events O R;
+      tables = tables;
+      place = k;
+      least = L;
+      whose = ap (λ (u : Transcript). u.seat) (some_one L.item t (sym L.here ∙ here)) ∙ whose;
+    },
+  )
+
+-- a world that was started is the run of no steps
+pub opened_run : (h : Held) → AgreesAfter [] h → ExclusionAfter (opening_of h) [] (seen h) → IsRun [] h
+opened_run h A E = record { takes = tt; agrees = A; excludes = E }
+
+-- the node of an end is one of the world
+pub of_world : {N M : Type 0} (cluster lone : List ℕ) (es : List (NodeEnd N M)) (old new : Held) (events : ℕ) (logs : List Logged)
+    → Opens cluster lone old → RunsThrough logs events old new
+    → ((c : ℕ) → set_of (map (λ (e : NodeEnd N M). e.log.node) es) c ≡ set_of (cluster ++ lone) c)
+    → All (λ (e : NodeEnd N M). set_of new.nodes e.log.node ≡ true) es
+of_world {N} {M} cluster lone es old new events logs O R each k d l =
+    (still_opens cluster lone old new O R.kept).nodes (get_or es k d).log.node
+    ∙ sym (each (get_or es k d).log.node)
+    ∙ set_of-at (map (λ (e : NodeEnd N M). e.log.node) es) k (get_or es k d).log.node
+    (slice_get-map (λ (e : NodeEnd N M). e.log.node) es k
+    ∙ ap (option_map (λ (e : NodeEnd N M). e.log.node)) (slice_get-get_or es k d l))

@@ -1,0 +1,67 @@
+use Rattle.std.proofs.Common.{◌∙◌, length, map, sym, ap, subst, rules}
+use Rattle.std.proofs.lemmas.List.{length-map}
+use Rattle.cluster_world.specs.Seen.{seen}
+use Rattle.cluster_world.specs.Starting.{repeats}
+use Rattle.node_log.specs.declared.transcript.Transcript.{Transcript}
+use Rattle.replay.specs.declared.faults.CloseFault.TheVariants.{Memory}
+use Rattle.replay.specs.Ends.{end_of, logs_of, is_lesser, EndedWell, HasTableOf}
+use Rattle.replay.specs.Least.{LeastOther}
+use Rattle.replay.specs.Replaying.{IsFault}
+use Rattle.replay.proofs.Ends.{end_at, same_node, same_length}
+use Rattle.replay.proofs.Playing.{nodes_are}
+use Rattle.replay.proofs.Replaying.{as_many, alone, stopped, replayed, other_table, stranger, of_world}
+use Rattle.replay.proofs.Sameness.{item_at}
+use Rattle.replay.proofs.run.replay.Goals as goal
+
+pub returns-in-Some-clause-refused : goal.returns-in-Some-clause-refused
+returns-in-Some-clause-refused g c =
+    alone c.args.cluster.now c.args.lone.now (map (end_of g.N.Names.contents) c.args.ends.now) c.args.transcripts.now _
+    c.in-Some.place c.copy.result (end_of g.N.Names.contents c.index-ends-place.result)
+    (sym (length-map c.args.ends.now (end_of g.N.Names.contents))) c.in-Some.ensures
+    (end_at g.N.Names.contents c.args.ends.now c.in-Some.place c.index-ends-place.result c.in-Some.ensures.within
+    c.index-ends-place.is) (sym (c.copy.ensures ∙ c.node.ensures ∙ sym (same_node _ _ c.index-ends-place.is)))
+
+pub returns-in_default-start-clause-refused : goal.returns-in_default-start-clause-refused
+returns-in_default-start-clause-refused g c =
+    as_many EndedWell (map (end_of g.N.Names.contents) c.args.ends.now) _
+    (sym (length-map c.args.ends.now (end_of g.N.Names.contents))) c.in_default.ensures
+
+pub returns-in_err-events-clause-refused : goal.returns-in_err-events-clause-refused
+returns-in_err-events-clause-refused g c =
+    let fault : IsFault c.args.cluster.now c.args.lone.now (map (end_of g.N.Names.contents) c.args.ends.now) c.args.transcripts.now c.in_err-events.field-0.0 =
+    stopped c.args.cluster.now c.args.lone.now (map (end_of g.N.Names.contents) c.args.ends.now) c.args.transcripts.now c.in-Ok.world c.in_err-events.field-0.0
+    c.in-Ok.ensures.nodes (as_many EndedWell (map (end_of g.N.Names.contents) c.args.ends.now) _ (sym (length-map c.args.ends.now (end_of g.N.Names.contents))) c.in_default.ensures) c.in_err-events.ensures.stopped in
+    search rules
+
+pub least_other_table-requires : goal.least_other_table-requires
+least_other_table-requires g c =
+    of_world c.args.cluster.now c.args.lone.now c.args.ends.now c.in-Ok.world c.play_logs.new.world c.in_ok-events.events
+    (logs_of (map (end_of g.N.Names.contents) c.args.ends.now)) c.in-Ok.ensures.nodes c.in_ok-events.ensures.ok c.requires.each
+
+pub returns-in_err-place-clause-refused : goal.returns-in_err-place-clause-refused
+returns-in_err-place-clause-refused g c =
+    let fault : IsFault c.args.cluster.now c.args.lone.now (map (end_of g.N.Names.contents) c.args.ends.now) c.args.transcripts.now Memory = (as_many EndedWell (map (end_of g.N.Names.contents) c.args.ends.now) _ (sym (length-map c.args.ends.now (end_of g.N.Names.contents))) c.in_default.ensures) in search rules
+
+pub returns-in-Some-2-clause-refused : goal.returns-in-Some-2-clause-refused
+returns-in-Some-2-clause-refused g c =
+    let least = (subst (LeastOther (HasTableOf (seen c.play_logs.new.world)) is_lesser (map (end_of g.N.Names.contents) c.args.ends.now) (length c.args.ends.now)) c.in-Some-2.is c.in_ok-place.ensures) in
+    other_table c.args.cluster.now c.args.lone.now (map (end_of g.N.Names.contents) c.args.ends.now) c.args.transcripts.now c.in-Ok.world c.play_logs.new.world c.in_ok-events.events _ c.in-Some-2.place c.copy-in-Some-2.result c.len.result
+    (end_of g.N.Names.contents c.index-ends-place-in-Some-2.result) c.in-Ok.ensures.nodes (ap repeats (nodes_are g.N.Names.contents c.args.ends.now) ∙ c.requires.once) c.in_ok-events.ensures.ok (as_many EndedWell (map (end_of g.N.Names.contents) c.args.ends.now) _ (sym (length-map c.args.ends.now (end_of g.N.Names.contents))) c.in_default.ensures)
+    (sym (length-map c.args.ends.now (end_of g.N.Names.contents))) least
+    (end_at g.N.Names.contents c.args.ends.now c.in-Some-2.place c.index-ends-place-in-Some-2.result least.within
+    c.index-ends-place-in-Some-2.is)
+    (sym (c.copy-in-Some-2.ensures ∙ c.node-in-Some-2.ensures ∙ sym (same_node _ _ c.index-ends-place-in-Some-2.is)))
+    (c.len.ensures ∙ sym (same_length _ _ c.index-ends-place-in-Some-2.is))
+
+pub returns-in-Some-least_stranger-clause-refused : goal.returns-in-Some-least_stranger-clause-refused
+returns-in-Some-least_stranger-clause-refused g c =
+    stranger c.args.cluster.now c.args.lone.now (map (end_of g.N.Names.contents) c.args.ends.now) c.args.transcripts.now c.in-Ok.world c.play_logs.new.world c.in_ok-events.events c.in-Some-least_stranger.place _
+    c.index-transcripts-place.result c.in-Ok.ensures.nodes c.in_ok-events.ensures.ok (as_many EndedWell (map (end_of g.N.Names.contents) c.args.ends.now) _ (sym (length-map c.args.ends.now (end_of g.N.Names.contents))) c.in_default.ensures)
+    (as_many (HasTableOf (seen c.play_logs.new.world)) (map (end_of g.N.Names.contents) c.args.ends.now) _ (sym (length-map c.args.ends.now (end_of g.N.Names.contents))) (subst (LeastOther (HasTableOf (seen c.play_logs.new.world)) is_lesser (map (end_of g.N.Names.contents) c.args.ends.now) (length c.args.ends.now)) c.in_default-2.is c.in_ok-place.ensures)) c.in-Some-least_stranger.ensures
+    (item_at c.args.transcripts.now c.in-Some-least_stranger.place c.index-transcripts-place.result
+    c.in-Some-least_stranger.ensures.within c.index-transcripts-place.is) (ap (λ (t : Transcript). t.seat) c.index-transcripts-place.is)
+
+pub returns-clause-ok : goal.returns-clause-ok
+returns-clause-ok g c =
+    replayed c.args.cluster.now c.args.lone.now (map (end_of g.N.Names.contents) c.args.ends.now) c.args.transcripts.now c.in-Ok.world c.play_logs.new.world c.in_ok-events.events c.in-Ok.ensures.nodes c.in_ok-events.ensures.ok (as_many EndedWell (map (end_of g.N.Names.contents) c.args.ends.now) _ (sym (length-map c.args.ends.now (end_of g.N.Names.contents))) c.in_default.ensures)
+    (as_many (HasTableOf (seen c.play_logs.new.world)) (map (end_of g.N.Names.contents) c.args.ends.now) _ (sym (length-map c.args.ends.now (end_of g.N.Names.contents))) (subst (LeastOther (HasTableOf (seen c.play_logs.new.world)) is_lesser (map (end_of g.N.Names.contents) c.args.ends.now) (length c.args.ends.now)) c.in_default-2.is c.in_ok-place.ensures)) c.in_default-least_stranger.ensures

@@ -1,0 +1,31 @@
+-- What the threads of nodes left behind.
+use Rattle.std.specs.Prelude.{Bool, false, ◌≡◌, nat_lt, List, map}
+use Rattle.registry_model.specs.Table.{Table}
+use Rattle.protocol_model.specs.World.{World}
+use Rattle.node_log.specs.declared.node_end.NodeEnd.{NodeEnd}
+use Rattle.node_log.specs.Entries.{Logged}
+
+-- the log of a node, its last table, and whether its thread ended without a leave and unasked
+pub record End : Type 0 where
+  pub log : Logged
+  pub table : Table
+  pub ended_alone : Bool
+
+-- the end, where this says what names a table has
+abbrev pub end_of : {N M : Type 0} → (N → Table) → NodeEnd N M → End
+end_of contents e = record { log = e.log; table = contents e.table; ended_alone = e.ended_alone }
+
+abbrev pub logs_of : List End → List Logged
+logs_of ends = map (λ e. e.log) ends
+
+-- ends are ordered by their nodes
+abbrev pub is_lesser : End → End → Bool
+is_lesser e f = nat_lt e.log.node f.log.node
+
+-- the thread ended as it should
+abbrev pub EndedWell : End → Type 0
+EndedWell e = e.ended_alone ≡ false
+
+-- the table is that of the node in this world
+abbrev pub HasTableOf : World → End → Type 0
+HasTableOf w e = e.table ≡ (w.node e.log.node).replica.table

@@ -1,0 +1,9 @@
+pub mod Steps
+pub mod Reading
+pub mod Merging
+pub mod Playing
+pub mod Moves
+pub mod Least
+pub mod Ends
+pub mod Transcripts
+pub mod Replaying

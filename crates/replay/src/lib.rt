@@ -1,0 +1,18 @@
+//! Plays the logs of closed nodes on a world: a run of threads that is played to its end was one of the world's.
+#![tactic(auto)]
+
+mod closed;
+mod equal;
+mod faults;
+mod merge;
+mod player;
+mod run;
+mod tables;
+mod transcripts;
+
+pub use closed::Closed;
+pub use faults::CloseFault;
+pub use run::replay;
+
+#[cfg(test)]
+mod tests;

@@ -1,0 +1,114 @@
+//! Steps that a world plays.
+ghost use Rattle.std.specs.Prelude.{◌≡◌, ◌==◌, Some, IfOk, IfErr, OnOk, MatchBool, [], ◌∷◌};
+ghost use Rattle.protocol_model.specs.World.{place};
+ghost use Rattle.cluster_world.specs.Events.{event_of};
+ghost use Rattle.cluster_world.specs.Agreeing.{Agrees};
+ghost use Rattle.cluster_world.specs.Excluding.{Excludes};
+ghost use Rattle.cluster_world.specs.Playing.{Keeps, Played, RefusedWith};
+ghost use Rattle.cluster_world.specs.Seen.{opening_of, seen};
+ghost use Rattle.node_log.specs.Logs.{event_of as logged_event, entry_of};
+ghost use Rattle.replay.specs.Merging.{Rises};
+ghost use Rattle.replay.specs.Moves.{Moves, Refuses, StopsReader, MovesReader};
+ghost use Rattle.replay.specs.Reading.{head_of};
+
+use crate::equal::same_answers;
+use crate::faults::CloseFault;
+use crate::merge::Reader;
+use cluster_world::{Answer, Refusal, World, WorldEvent};
+use name_table::Names;
+use node_log::{LoggedEntry, LoggedEvent};
+use std::alloc::{AllocError, Global};
+use term::NodeName;
+
+/// Whether an event is one of this node.
+fn is_own(node: &NodeName, event: &WorldEvent) -> bool
+    ensures { result ≡ (place (event_of event.now) == node.now) }
+{
+    match event {
+        WorldEvent::At(place, _) | WorldEvent::Deliver(_, place) => *place == *node,
+    }
+}
+
+/// Plays the event of a step.
+fn play_logged<N: Names<Memory = Global>>(
+    world: &mut World<N>,
+    node: &NodeName,
+    event: &LoggedEvent<'_>,
+) -> Result<Vec<Answer>, Refusal>
+    ensures kept { Keeps world.old world.new }
+    ensures agrees { IfOk result (λ answers. Agrees (logged_event node.now event.now ∷ []) answers.items world.old world.new) }
+    ensures excludes { IfOk result (λ _. Excludes (logged_event node.now event.now ∷ []) world.old world.new) }
+    ensures ok { IfOk result (λ answers. Played (logged_event node.now event.now) world.old world.new [] answers.items) }
+    ensures refused { IfErr result (λ refusal. RefusedWith refusal (logged_event node.now event.now) world.old) }
+{
+    match event {
+        LoggedEvent::Delivery(sender) => {
+            world.play(&WorldEvent::Deliver(sender.copy(), node.copy()))
+        }
+        LoggedEvent::Other(event) => world.play(event),
+    }
+}
+
+/// Whether an event in the log of a node is one of that node.
+fn is_own_logged(node: &NodeName, event: &LoggedEvent<'_>) -> bool
+    ensures { result ≡ (place (event_of (logged_event node.now event.now)) == node.now) }
+{
+    match event {
+        LoggedEvent::Delivery(_) => true,
+        LoggedEvent::Other(event) => is_own(node, event),
+    }
+}
+
+/// Plays a step of a node, and tells whether it is one that the world takes. What the world is where it isn't, isn't said.
+fn takes<N: Names<Memory = Global>>(
+    world: &mut World<N>,
+    node: &NodeName,
+    entry: &LoggedEntry<'_>,
+) -> Result<bool, AllocError>
+    ensures { IfOk result (λ taken. MatchBool taken
+        (Moves (record { node = node.now; entry = entry_of node.now entry.now }) world.old world.new)
+        (Refuses (record { node = node.now; entry = entry_of node.now entry.now }) world.old)) }
+{
+    if !is_own_logged(node, &entry.event) {
+        return Ok(false);
+    }
+    match play_logged(world, node, &entry.event) {
+        Ok(answers) => Ok(same_answers(answers.as_slice(), entry.answers)),
+        Err(Refusal::Memory) => Err(AllocError),
+        Err(_) => Ok(false),
+    }
+}
+
+/// Whether the stamp of what is read next is above that of the entry before.
+fn rises(reader: &Reader<'_>, entry: &LoggedEntry<'_>) -> bool
+    requires { head_of reader.now ≡ Some (entry_of reader.now.log.now.node entry.now) }
+    ensures { MatchBool result (Rises reader.now.log.now.entries reader.now.at) (Rises reader.now.log.now.entries reader.now.at → ⊥) }
+{
+    let Some(before) = reader.at.checked_sub(1) else {
+        return true;
+    };
+    match reader.log.get(before) {
+        Some(before) => before.stamp < entry.stamp,
+        None => true,
+    }
+}
+
+/// The world takes the step that is read next.
+pub(crate) fn play_next<N: Names<Memory = Global>>(
+    world: &mut World<N>,
+    reader: &Reader<'_>,
+) -> Result<(), CloseFault>
+    ensures ok { OnOk result (MovesReader reader.now world.old world.new) }
+    ensures stopped { IfErr result (λ fault. StopsReader fault reader.now world.old) }
+{
+    let Some(entry) = reader.head() else {
+        return Ok(());
+    };
+    if rises(reader, &entry) && takes(world, reader.node(), &entry)? {
+        return Ok(());
+    }
+    Err(CloseFault::Torn {
+        node: reader.node().copy(),
+        at: reader.at,
+    })
+}

@@ -1,0 +1,80 @@
+//! Plays the logs of closed nodes on a world.
+ghost use Rattle.std.specs.Prelude.{◌≡◌, ◌++◌, ◌<◌, ℕ, [], false, None, Some, length, map, IfOk, IfErr, slice_get};
+ghost use Rattle.term.specs.NodeSets.{set_of};
+ghost use Rattle.cluster_world.specs.Seen.{opening_of};
+ghost use Rattle.cluster_world.specs.Playing.{Keeps};
+ghost use Rattle.cluster_world.specs.Starting.{repeats, start_refused};
+ghost use Rattle.replay.specs.Ends.{end_of, logs_of};
+ghost use Rattle.replay.specs.Playing.{IsRun};
+ghost use Rattle.replay.specs.Replaying.{RunsThrough, StopsLogs, Replayed, IsFault};
+
+use crate::closed::Closed;
+use crate::faults::CloseFault;
+use crate::merge::{advance, next_place, open};
+use crate::player::play_next;
+use crate::tables::{least_alone, least_other_table};
+use crate::transcripts::least_stranger;
+use cluster_world::World;
+use name_table::Names;
+use node_log::{NodeEnd, Transcript};
+use std::alloc::Global;
+use term::NodeName;
+
+/// Plays the logs, merged by stamp and then node, on a world that has just opened, and gives the number of their steps.
+fn play_logs<N: Names<Memory = Global>>(
+    alloc: Global,
+    world: &mut World<N>,
+    ends: &[NodeEnd<N>],
+) -> Result<u64, CloseFault>
+    requires once { repeats (map (λ e. e.log.node) ends.now) ≡ false }
+    requires opens { IsRun [] world.old }
+    ensures ok { IfOk result (λ events. RunsThrough (logs_of (map (end_of N.contents) ends.now)) events world.old world.new) }
+    ensures stopped { IfErr result (λ fault. StopsLogs fault (logs_of (map (end_of N.contents) ends.now)) (opening_of world.old)) }
+{
+    let mut readers = open(alloc, ends)?;
+    for events in 0..u64::MAX {
+        let Some(place) = next_place(readers.as_slice()) else {
+            return Ok(events);
+        };
+        play_next(world, &readers[place])?;
+        advance(&mut readers, place);
+    }
+    // No memory holds so many steps.
+    Err(CloseFault::Memory)
+}
+
+/// Plays the logs of a closed cluster's nodes, merged by stamp and then node, on a world that is started with the same lists, and
+/// compares all answers, the nodes' last tables and what seats were answered. Where that succeeds, the run of the threads was one of
+/// the world's. `CloseFault` says what is refused, and in which order.
+pub fn replay<N: Names<Memory = Global>>(
+    alloc: Global,
+    cluster: &[NodeName],
+    lone: &[NodeName],
+    ends: &[NodeEnd<N>],
+    transcripts: &[Transcript],
+) -> Result<Closed<N>, CloseFault>
+    requires lists { start_refused cluster.now lone.now ≡ None }
+    requires once { repeats (map (λ e. e.log.node) ends.now) ≡ false }
+    requires each { (c : ℕ) → set_of (map (λ e. e.log.node) ends.now) c ≡ set_of (cluster.now ++ lone.now) c }
+    ensures ok { IfOk result (λ closed. Replayed cluster.now lone.now (map (end_of N.contents) ends.now) transcripts.now closed.events closed.world) }
+    ensures refused { IfErr result (λ fault. IsFault cluster.now lone.now (map (end_of N.contents) ends.now) transcripts.now fault) }
+{
+    if let Some(place) = least_alone(ends) {
+        return Err(CloseFault::LeftInHold(ends[place].log.node().copy()));
+    }
+    let Ok(mut world) = World::start(alloc, cluster, lone) else {
+        return Err(CloseFault::Memory);
+    };
+    let events = play_logs(alloc, &mut world, ends)?;
+    if let Some(place) = least_other_table(alloc, &world, ends)? {
+        let log = &ends[place].log;
+        return Err(CloseFault::Torn {
+            node: log.node().copy(),
+            at: log.len(),
+        });
+    }
+    if let Some(place) = least_stranger(ends, transcripts) {
+        return Err(CloseFault::Stranger(transcripts[place].seat));
+    }
+    Ok(Closed { events, world })
+}
