@@ -137,10 +137,11 @@ fn replays_a_run(rt: HostRuntime) -> Result<(), Fail> {
 /// Whether a replay of node a alone is torn at this place.
 fn is_torn(alloc: Global, end: NodeEnd<Table>, place: usize) -> Result<bool, Fail> {
     let a = parse_node("a")?;
-    Ok(match replayed(alloc, end, &[])? {
-        Err(CloseFault::Torn { node, at }) => node == a && at == place,
-        _ => false,
-    })
+    let none: [Transcript; 0] = [];
+    let Err(CloseFault::Torn { node, at }) = replayed(alloc, end, &none)? else {
+        return Ok(false);
+    };
+    Ok(node == a && at == place)
 }
 
 #[test]
