@@ -15,6 +15,3 @@ pub use gate::{Gate, OpenGate};
 pub use item::{Item, Stamped, Task, Ticket};
 pub use node_loop::NodeLoop;
 pub use replies::{TaskFault, TaskReply};
-
-#[cfg(test)]
-mod tests;

@@ -213,19 +213,3 @@ fn a_second_transcript_is_a_strangers(rt: HostRuntime) -> Result<(), Fail> {
     assert!(rt; is_stranger(rt.alloc(), registered(rt.alloc())?, &transcripts)?);
     Ok(())
 }
-
-#[test]
-fn merges_by_stamp_and_then_node(rt: HostRuntime) -> Result<(), Fail> {
-    let nodes = [parse_node("a")?, parse_node("b")?];
-    let (mut first, mut second) = (
-        log_of(rt.alloc(), &nodes[0])?,
-        log_of(rt.alloc(), &nodes[1])?,
-    );
-    spawn(rt.alloc(), &mut first, 2, "a.1")?;
-    spawn(rt.alloc(), &mut second, 1, "b.1")?;
-    spawn(rt.alloc(), &mut second, 2, "b.3")?;
-    let ends = [end_of(rt.alloc(), second), end_of(rt.alloc(), first)];
-    let fault = replay(rt.alloc(), &nodes, &[], &ends, &[]);
-    assert!(rt; matches!(&fault, Err(CloseFault::Torn { node, at: 1 }) if *node == nodes[1]));
-    Ok(())
-}

@@ -1,0 +1,11 @@
+-- What contracts see of a caller.
+use Rattle.std.specs.Prelude.{ℕ}
+use Rattle.node_threads.specs.declared.caller.Caller.{Caller}
+
+-- the node that it asks
+abbrev pub name_of : Caller → ℕ
+name_of c = c.node
+
+-- the slot of its replies
+abbrev pub slot_of : Caller → ℕ
+slot_of c = c.slot

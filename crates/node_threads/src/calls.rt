@@ -1,0 +1,26 @@
+//! Copies of calls: a transcript keeps one of each call that was answered.
+ghost use Rattle.std.specs.Prelude.{◌≡◌, IfOk};
+
+use cluster_world::Call;
+use std::alloc::AllocError;
+
+/// The same call. Only a lock call that names its nodes takes memory.
+pub(crate) fn copied_call(call: &Call) -> Result<Call, AllocError>
+    ensures { IfOk result (λ copy. copy ≡ call.now) }
+{
+    Ok(match call {
+        Call::Spawn => Call::Spawn,
+        Call::Whereis(name) => Call::Whereis(name.copy()),
+        Call::RegisteredNames => Call::RegisteredNames,
+        Call::Register(name, owner) => Call::Register(name.copy(), owner.copy()),
+        Call::ReRegister(name, owner) => Call::ReRegister(name.copy(), owner.copy()),
+        Call::Unregister(name) => Call::Unregister(name.copy()),
+        Call::SetLock(holder, id, nodes, retries) => {
+            Call::SetLock(holder.copy(), id.copy(), nodes.copy()?, retries.copy())
+        }
+        Call::DelLock(holder, id, nodes) => {
+            Call::DelLock(holder.copy(), id.copy(), nodes.copy()?)
+        }
+        Call::Join(contact) => Call::Join(contact.copy()),
+    })
+}

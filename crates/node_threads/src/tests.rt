@@ -1,0 +1,2 @@
+//! Ends of lines between nodes.
+mod ends;
