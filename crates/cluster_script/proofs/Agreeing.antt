@@ -1,11 +1,13 @@
--- The headline holds behind the lines of a script.
+-- The headline holds behind the lines of a script, and nothing is left over there.
 use Rattle.std.proofs.Common.{◌≡◌, List, [], ◌∷◌, Result, Ok, Err, refl, sym, ap, ◌∙◌, subst}
+use Rattle.protocol_model.specs.Leftovers.{NothingIsLeft}
 use Rattle.protocol_model.specs.Script.{Line}
 use Rattle.protocol_model.specs.World.{Opening, World, opening_world, run}
 use Rattle.cluster_world.specs.Agreeing.{HeadlineAfter}
 use Rattle.cluster_world.proofs.Agreeing.{run-append, headline_after}
+use Rattle.cluster_world.proofs.Leftovers.{nothing_left_after}
 use Rattle.command_lines.specs.declared.faults.LineFault.{LineFault}
-use Rattle.cluster_script.specs.Script.{behind, behind_all, events_by, events_by_all, LinesAgree}
+use Rattle.cluster_script.specs.Script.{behind, behind_all, events_by, events_by_all, LinesAgree, LinesLeaveNothing}
 
 module _ (o : Opening) where
   -- the world behind a line is what its events make
@@ -26,3 +28,8 @@ module _ (o : Opening) where
   pub lines_agree : (asked : List (Result Line LineFault)) → LinesAgree o asked
   lines_agree asked = subst (λ (w : World). HeadlineAfter o (events_by_all o (opening_world o) asked) w)
       (sym (behind_all_run (opening_world o) asked)) (headline_after o (events_by_all o (opening_world o) asked))
+
+  -- nothing is left over there
+  pub lines_leave_nothing : (asked : List (Result Line LineFault)) → LinesLeaveNothing o asked
+  lines_leave_nothing asked = subst (λ (w : World). NothingIsLeft o (events_by_all o (opening_world o) asked) w)
+      (sym (behind_all_run (opening_world o) asked)) (nothing_left_after o (events_by_all o (opening_world o) asked))

@@ -24,7 +24,7 @@ use Rattle.text_lines.specs.Lines.{spoken, count_of_all, LosesLines}
 use Rattle.text_lines.proofs.Known.{spoken-append, count_of_all-append, LosesLines-trans, LosesInto-behind, GoesPastFor-behind}
 use Rattle.cluster_script.specs.Script.{AllAsk, LineOpens, PrintsOn, PrintsSpoken, opening_for}
 use Rattle.cluster_script.specs.Played.{LosesNext, StopsReading}
-use Rattle.cluster_script.proofs.Agreeing.{lines_agree}
+use Rattle.cluster_script.proofs.Agreeing.{lines_agree, lines_leave_nothing}
 
 -- one more text
 pub AllSpell-push : (ts : List (List ℕ)) (ns : List ℕ) (t : List ℕ) (n : ℕ) → AllSpell ts ns → SpellsText t n
@@ -172,7 +172,13 @@ module _ (input mid rest : Option (List ℕ)) (most mid_left : ℕ) (front : Lis
   nothing = (
     opening_for cluster [],
     (Ok cluster, o, (Ok [], LoneOpens-none cluster [] refl r, refl)),
-    ([], tt, refl, lines_agree (opening_for cluster []) []),
+    (
+      [],
+      tt,
+      refl,
+      lines_agree (opening_for cluster []) [],
+      lines_leave_nothing (opening_for cluster []) [],
+    ),
   )
 
   both : (ls more : List (List ℕ)) → spoken ls ≡ more → spoken (front ++ ls) ≡ line ∷ more

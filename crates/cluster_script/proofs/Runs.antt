@@ -16,7 +16,7 @@ use Rattle.text_lines.specs.Lines.{spoken, LosesLines, LosesInto, count_of_all, 
 use Rattle.command_lines.specs.Printing.{Shown, Refuses, error_line, word_of}
 use Rattle.text_lines.specs.Lines.{HasLines}
 use Rattle.text_lines.specs.Writing.{AppendsPart, stop_of}
-use Rattle.cluster_script.proofs.Agreeing.{lines_agree}
+use Rattle.cluster_script.proofs.Agreeing.{lines_agree, lines_leave_nothing}
 use Rattle.cluster_script.specs.Script.{AllAsk, shown_all, Prints, PrintsOn, PrintsSpoken, OpensNone, EndsRefused, Ran, Stopped, StoppedBetween, StoppedWithin, LineOpens, lone_line, played, opening_for}
 use Rattle.cluster_script.specs.Headers.{OpensHeaders, OpensLone, StopsOpening, asked_first}
 use Rattle.cluster_script.specs.declared.header.Headers.TheVariants.{Open, Ended}
@@ -193,6 +193,7 @@ module _ (input rest : Option (List ℕ)) (most left : ℕ) (bound : most ≤ 10
         ap (λ (p : Opening). shown_all p (seen world) (asked_first task ++ asked)) q.2.0
             ∙ ap (λ (w : World). shown_all (opening_for cluster q.0) w (asked_first task ++ asked)) q.2.1,
         lines_agree (opening_for cluster q.0) (asked_first task ++ asked),
+        lines_leave_nothing (opening_for cluster q.0) (asked_first task ++ asked),
       ),
     )
 

@@ -4,6 +4,7 @@ use Rattle.std.specs.List.{list_all}
 use Rattle.std.specs.Io.KnownBytes.{Appends}
 use Rattle.protocol_model.specs.World.{Opening, World, WorldEvent, opening_world, run}
 use Rattle.protocol_model.specs.Script.{Line, events_in, printed}
+use Rattle.protocol_model.specs.Leftovers.{NothingIsLeft}
 use Rattle.term.specs.declared.faults.TextFault.{TextFault}
 use Rattle.term.specs.Spelling.{SpellsText, RefusesText}
 use Rattle.cluster_world.specs.Agreeing.{HeadlineAfter}
@@ -144,12 +145,16 @@ Opens l ls r = (cluster : Result (List ℕ) LineFault) × LineOpens l cluster ×
 abbrev pub LinesAgree : Opening → List (Result Line LineFault) → Type 0
 LinesAgree o asked = HeadlineAfter o (events_by_all o (opening_world o) asked) (behind_all o (opening_world o) asked)
 
--- the lines behind the headers are played on a world that opened so, behind which the headline holds; if there is none,
--- nothing is
+-- and nothing is left over there
+abbrev pub LinesLeaveNothing : Opening → List (Result Line LineFault) → Type 0
+LinesLeaveNothing o asked = NothingIsLeft o (events_by_all o (opening_world o) asked) (behind_all o (opening_world o) asked)
+
+-- the lines behind the headers are played on a world that opened so, behind which the headline holds and nothing is left
+-- over; if there is none, nothing is
 abbrev pub Follows : Result Opening LineFault → List (List ℕ) → List Shown → Type 0
 Follows (Err f) ls out = out ≡ Refuses f ∷ []
 Follows (Ok o) ls out = (asked : List (Result Line LineFault)) × AllAsk ls asked
-    × (out ≡ shown_all o (opening_world o) asked) × LinesAgree o asked
+    × (out ≡ shown_all o (opening_world o) asked) × LinesAgree o asked × LinesLeaveNothing o asked
 
 -- what is printed for lines of which none is empty: without a first line there is none that opens a world
 abbrev pub PrintsSpoken : List (List ℕ) → List Shown → Type 0

@@ -154,7 +154,7 @@ fn read_behind<R: Read, W: Write>(
         (StopsReading (reader_remaining R.remaining reader.old) (reader_remaining R.remaining reader.new) left.old) }
     ensures kept { Keeps (W.contents writer.old) (W.contents writer.new) }
 {
-    match next_line(alloc, reader, writer, left)? {
+    match next_line(alloc, Vec::new(alloc), reader, writer, left)? {
         Some(line) => Ok(open_lone(alloc, cluster, &line)?),
         None => Ok(Headers::Ended),
     }
@@ -175,7 +175,7 @@ pub(crate) fn read_headers<R: Read, W: Write>(
         (StopsOpening (reader_remaining R.remaining reader.old) (reader_remaining R.remaining reader.new) left.old) }
     ensures kept { Keeps (W.contents writer.old) (W.contents writer.new) }
 {
-    let Some(line) = next_line(alloc, reader, writer, left)? else {
+    let Some(line) = next_line(alloc, Vec::new(alloc), reader, writer, left)? else {
         return Ok(Headers::Refused(LineFault::BadLine));
     };
     match open_cluster(alloc, &line)? {

@@ -1,12 +1,12 @@
 //! What a script shows of a node.
 ghost use Rattle.std.specs.Prelude.{◌≡◌, IfOk, Ok, is_some, option_map, string_bytes};
 ghost use Rattle.protocol_model.specs.Script.{TableAt, MembersAt};
-ghost use Rattle.command_lines.specs.Printing.{refusal_word};
+ghost use Rattle.command_lines.specs.Printing.{error_line, refusal_word};
 ghost use Rattle.text_lines.specs.Writing.{Writes};
 ghost use Rattle.cluster_script.specs.Played.{PlaysOrStops, IsShown, table_of, members_of, hidden_by, line_or_refusal};
 
 use crate::header::ScriptWorld;
-use command_lines::{members_line, table_line, write_error};
+use command_lines::{members_line, table_line};
 use name_table::Names;
 use std::alloc::{AllocError, Global};
 use std::io::Write;
@@ -48,14 +48,14 @@ fn line_of_members(
     Ok(Some(members_line(alloc, members.as_slice())?))
 }
 
-/// The word for which a node isn't shown.
-fn hidden_word(world: &ScriptWorld, node: &NodeName) -> &'static str
-    ensures { result.now ≡ refusal_word (hidden_by world.now node.now) }
+/// The line for a node that isn't shown.
+fn hidden_line(world: &ScriptWorld, node: &NodeName) -> &'static str
+    ensures { result.now ≡ error_line (refusal_word (hidden_by world.now node.now)) }
 {
     if world.has_left(node) {
-        "node_left"
+        "error node_left\n"
     } else {
-        "no_such_node"
+        "error no_such_node\n"
     }
 }
 
@@ -77,7 +77,7 @@ fn write_shown<W: Write>(
             Ok(true)
         }
         None => {
-            write_error(writer, hidden_word(world, node))?;
+            write_text(writer, hidden_line(world, node).as_bytes())?;
             Ok(false)
         }
     }

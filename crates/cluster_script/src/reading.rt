@@ -10,9 +10,10 @@ use std::io::{BufReader, Read, Write};
 use text_lines::{Line, ScriptFault, is_blank, read_line};
 
 /// Reads on to the next line that isn't empty. `left` says how many more lines may come. What was written is handed on
-/// before the reader waits.
+/// before the reader waits. The line is kept in the memory of `room`.
 pub(crate) fn next_line<R: Read, W: Write>(
     alloc: Global,
+    mut room: Vec<u8>,
     reader: &mut BufReader<R, Global>,
     writer: &mut W,
     left: &mut u32,
@@ -24,11 +25,12 @@ pub(crate) fn next_line<R: Read, W: Write>(
     ensures kept { Keeps (W.contents writer.old) (W.contents writer.new) }
 {
     loop {
-        let Some(line) = read_line(alloc, reader, writer, left)? else {
+        let Some(line) = read_line(room, reader, writer, left)? else {
             return Ok(None);
         };
         if !is_blank(&line) {
             return Ok(Some(line));
         }
+        room = line.into_room(alloc);
     }
 }

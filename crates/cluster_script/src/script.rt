@@ -18,7 +18,7 @@ use crate::header::{Headers, ScriptWorld, read_headers};
 use crate::looking::{show_members, show_table};
 use crate::reading::next_line;
 use cluster_world::{Answer, Event, WorldEvent};
-use command_lines::{LineFault, Task, answer_line, read_task, refusal_word, write_error};
+use command_lines::{LineFault, Task, answer_line, read_task, refusal_line};
 use std::alloc::Global;
 use std::io::{BufReader, Read, Write};
 use term::NodeName;
@@ -71,10 +71,10 @@ fn play_event<W: Write>(
             Ok(true)
         }
         Err(refusal) => {
-            let Some(word) = refusal_word(&refusal) else {
+            let Some(line) = refusal_line(&refusal) else {
                 return Err(WriteFault::Memory);
             };
-            write_error(writer, word)?;
+            write_text(writer, line.as_bytes())?;
             Ok(false)
         }
     }
@@ -88,7 +88,7 @@ fn end_settle<W: Write>(alloc: Global, writer: &mut W, is_settled: bool) -> Resu
     if is_settled {
         write_text(writer, b"settled\n")?;
     } else {
-        write_error(writer, "settle_limit")?;
+        write_text(writer, b"error settle_limit\n")?;
     }
     Ok(is_settled)
 }
@@ -141,7 +141,7 @@ fn play_task<W: Write>(
         Ok(Task::Table(node)) => show_table(alloc, writer, world, &node),
         Ok(Task::Members(node)) => show_members(alloc, writer, world, &node),
         Err(fault) => {
-            write_error(writer, fault.word())?;
+            write_text(writer, fault.line().as_bytes())?;
             Ok(false)
         }
     }
@@ -167,10 +167,12 @@ fn play_lines<R: Read, W: Write>(
         left.old left.new world.old world.new (W.contents writer.old) (W.contents writer.new) result }
 {
     let mut is_fine = true;
-    while let Some(line) = next_line(alloc, reader, writer, left)? {
+    let mut room = Vec::new(alloc);
+    while let Some(line) = next_line(alloc, room, reader, writer, left)? {
         let task = read_task(alloc, &line)?;
         let fine = play_task(alloc, writer, world, task)?;
         is_fine = both(is_fine, fine);
+        room = line.into_room(alloc);
     }
     Ok(is_fine)
 }
@@ -225,7 +227,7 @@ pub fn run_script<R: Read, W: Write>(
         }
         Headers::Ended => Ok(true),
         Headers::Refused(fault) => {
-            write_error(writer, fault.word())?;
+            write_text(writer, fault.line().as_bytes())?;
             Ok(false)
         }
     }

@@ -10,6 +10,7 @@ mod Deliveries
 mod Starting
 pub mod Agreeing
 pub mod Excluding
+pub mod Leftovers
 mod Running
 mod Verdicts
 mod Winning

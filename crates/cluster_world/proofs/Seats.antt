@@ -23,6 +23,7 @@ use Rattle.cluster_world.specs.Seen.{opening_of, seen}
 use Rattle.cluster_world.specs.Agreeing.{Agrees}
 use Rattle.cluster_world.proofs.Agreeing.{same_opening, agrees}
 use Rattle.cluster_world.proofs.Excluding.{excludes}
+use Rattle.cluster_world.proofs.Leftovers.{leaves_nothing}
 use Rattle.cluster_world.proofs.Verdicts.{verdict_in-append}
 use Rattle.cluster_world.proofs.Counting.{counts}
 use Rattle.cluster_world.proofs.Running.{run-push, answers-push, accepts_all-push}
@@ -277,6 +278,7 @@ module _ (a : ℕ) (c : Call) (old mid : Held) (now : List Answer) (P : Played (
     answered = answered;
     agrees = agreed;
     excludes = excludes es given old new agreed;
+    leaves_nothing = leaves_nothing es given old new agreed;
     counts = counts es given old new v W (call_of c) a (are, answered);
   }
     where

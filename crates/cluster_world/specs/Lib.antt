@@ -11,5 +11,6 @@ pub mod Playing
 pub mod Agreeing
 pub mod Causes
 pub mod Excluding
+pub mod Leftovers
 pub mod Counting
 pub mod Seats

@@ -44,6 +44,7 @@ impl<'a> Cause<'a> {
         ensures ok { IfOk result (λ answers. Steps (event_by self.now) core.old core.new letters.old.items letters.new.items answers.items) }
         ensures refused { IfErr result (λ fault. refusal_of (event_by self.now) core.old ≡ fault_of fault) }
         ensures unchanged { IfErr result (λ fault. is_memory fault ≡ false → core.new ≡ core.old) }
+        ensures unsent { OnErr result (letters.new.items ≡ letters.old.items) }
     {
         match self {
             Cause::Call(call) => core.ask(call, letters),

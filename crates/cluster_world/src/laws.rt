@@ -1,6 +1,7 @@
 //! What holds of every world, whatever is played on it.
 ghost use Rattle.cluster_world.specs.Agreeing.{EveryWorldAgrees};
 ghost use Rattle.cluster_world.specs.Excluding.{EveryWorldExcludes, NeverBothHold};
+ghost use Rattle.cluster_world.specs.Leftovers.{EveryWorldLeavesNothing};
 
 /// The headline, of every world and of every list of events: all answers to name calls and joins are those of one sequential registry
 /// that takes the granted operations in lock order, and whenever the lock is free, the tables are that registry's, less the names on
@@ -14,6 +15,14 @@ pub fn headline_of_every_world()
 /// there, and not at all once it is dead or its node has left.
 pub fn exclusion_of_every_world()
     ensures { EveryWorldExcludes }
+{}
+
+/// Nothing is left over, in any world and behind any list of events: whenever no letter waits on a link to a running node, its lock
+/// table has exactly the clients' locks that were granted and not given back, none of a process that died and nobody's global lock,
+/// and who is dead in the registry is dead at its node; once no operation waits for a retry either, no running node has a name of a
+/// dead process.
+pub fn nothing_is_left_in_any_world()
+    ensures { EveryWorldLeavesNothing }
 {}
 
 /// Two requesters whose granted locks on one resource asked a common running node never both hold it there.

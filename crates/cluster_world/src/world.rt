@@ -74,6 +74,7 @@ impl<N: Names<Memory = Global>> World<N> {
     ghost use Rattle.cluster_world.specs.Playing.{Keeps, Played, RefusedWith, ran_out, Ran, WaitsOn};
     ghost use Rattle.cluster_world.specs.Agreeing.{Agrees};
     ghost use Rattle.cluster_world.specs.Excluding.{Excludes};
+    ghost use Rattle.cluster_world.specs.Leftovers.{LeavesNothing};
 
     /// A node takes the step of an event: its letters go onto their links, and its entries into the history.
     fn step(&mut self, node: &NodeName, cause: &Cause) -> Result<Vec<Answer>, Refusal>
@@ -160,13 +161,16 @@ impl<N: Names<Memory = Global>> World<N> {
     /// Whatever was played on a world since it opened, the headline holds behind that and this event: the answers to name
     /// calls and joins are those of one sequential registry that takes the granted operations in lock order, and whenever the
     /// lock is free, the tables are that registry's, less the names on nodes that a node was told have left. So does the
-    /// exclusion of clients' locks: at a running node no resource is held under two requesters.
+    /// exclusion of clients' locks: at a running node no resource is held under two requesters. And nothing is left over: once no
+    /// letter waits, running nodes have the clients' locks that were granted and not given back, and no others.
     pub fn play(&mut self, event: &WorldEvent) -> Result<Vec<Answer>, Refusal>
         ensures kept { Keeps self.old self.new }
         ensures agrees { IfOk result (λ answers. Agrees (event.now ∷ []) answers.items self.old self.new) }
         ensures excludes { IfOk result (λ _. Excludes (event.now ∷ []) self.old self.new) }
+        ensures leaves_nothing { IfOk result (λ _. LeavesNothing (event.now ∷ []) self.old self.new) }
         ensures still_agrees { IfErr result (λ refusal. is_memory refusal ≡ false → Agrees [] [] self.old self.new) }
         ensures still_excludes { IfErr result (λ refusal. is_memory refusal ≡ false → Excludes [] self.old self.new) }
+        ensures still_leaves_nothing { IfErr result (λ refusal. is_memory refusal ≡ false → LeavesNothing [] self.old self.new) }
         ensures ok { IfOk result (λ answers. Played event.now self.old self.new [] answers.items) }
         ensures refused { IfErr result (λ refusal. RefusedWith refusal event.now self.old) }
         ensures unchanged { IfErr result (λ refusal. is_memory refusal ≡ false → self.new ≡ self.old) }
@@ -192,11 +196,13 @@ impl<N: Names<Memory = Global>> World<N> {
 
     /// Plays events in order, up to the first that is refused. That one changes nothing, and those behind it aren't looked
     /// at. Where `Memory` is refused, what it counts as played was played, with these answers, and the world isn't to be used
-    /// any more. The headline and the exclusion of clients' locks hold behind what was played, as they do behind one event.
+    /// any more. The headline, the exclusion of clients' locks and that nothing is left over hold behind what was played, as they
+    /// do behind one event.
     pub fn run(&mut self, events: &[WorldEvent]) -> RunEnd
         ensures ran { Ran events.now self.old self.new result.played result.answers.items result.refusal }
         ensures agrees { ran_out result.refusal ≡ false → Agrees (take result.played events.now) result.answers.items self.old self.new }
         ensures excludes { ran_out result.refusal ≡ false → Excludes (take result.played events.now) self.old self.new }
+        ensures leaves_nothing { ran_out result.refusal ≡ false → LeavesNothing (take result.played events.now) self.old self.new }
     {
         self.play_all(events)
     }

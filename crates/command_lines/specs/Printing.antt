@@ -45,11 +45,6 @@ refusal_word Refusal.NothingToRetry = codes "nothing_to_retry"
 refusal_word Refusal.HoldsLock = codes "holds_lock"
 refusal_word Refusal.CallsSpent = codes "calls_spent"
 
--- the word of a refusal, unless memory was refused
-abbrev pub IsWordOf : WorldRefusal → Option (List ℕ) → Type 0
-IsWordOf r None = is_memory r ≡ true
-IsWordOf r (Some word) = (any : Refusal) × (refusal_of r ≡ Some any) × (word ≡ refusal_word any)
-
 -- a process: the name of its node, a dot and its serial
 abbrev pub pid_text : Process → List ℕ
 pid_text p = bytes_of p.node ++ dot ∷ decimal p.serial
@@ -85,6 +80,11 @@ ended text = text ++ 10 ∷ []
 -- a refusal
 abbrev pub error_line : List ℕ → List ℕ
 error_line word = ended (codes "error " ++ word)
+
+-- the line of a refusal, unless memory was refused
+abbrev pub IsLineOf : WorldRefusal → Option (List ℕ) → Type 0
+IsLineOf r None = is_memory r ≡ true
+IsLineOf r (Some line) = (any : Refusal) × (refusal_of r ≡ Some any) × (line ≡ error_line (refusal_word any))
 
 -- a line that is printed
 pub data Shown : Type 0 where

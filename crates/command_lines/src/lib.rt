@@ -11,4 +11,4 @@ pub use commands::{read_task, text_of};
 pub use faults::LineFault;
 pub use grammar::Task;
 pub use lock_texts::{parse_retries, parse_target};
-pub use printing::{answer_line, members_line, refusal_word, table_line, write_error};
+pub use printing::{answer_line, members_line, refusal_line, table_line};

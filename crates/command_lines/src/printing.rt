@@ -3,15 +3,12 @@ ghost use Rattle.std.specs.Prelude.{◌≡◌, ◌++◌, IfOk, OnOk, string_byte
 ghost use Rattle.protocol_model.specs.Script.{Said, TableIs, MembersAre};
 ghost use Rattle.node_events.specs.Seen.{answer_of as any_answer, reply_of as any_reply};
 ghost use Rattle.command_lines.specs.Printing as print;
-ghost use Rattle.text_lines.specs.Writing.{Writes};
 
 use cluster_world::{Answer, Refusal, Reply};
 use name_table::Pair;
 use std::alloc::{AllocError, Global};
 use std::fmt::Write as _;
-use std::io::Write;
 use term::{Name, NodeName};
-use text_lines::{WriteFault, write_text};
 
 /// Puts the text of names behind a text, in their order.
 fn push_names(text: &mut String, names: &[Name]) -> Result<(), AllocError>
@@ -83,34 +80,25 @@ pub fn members_line(alloc: Global, members: &[NodeName]) -> Result<String, Alloc
     Ok(line)
 }
 
-/// The word of a refusal, unless it is want of memory.
-pub fn refusal_word(refusal: &Refusal) -> Option<&'static str>
-    ensures { print.IsWordOf refusal.now (option_map (λ word. word.now) result) }
+/// The line of a refusal, unless it is want of memory.
+pub fn refusal_line(refusal: &Refusal) -> Option<&'static str>
+    ensures { print.IsLineOf refusal.now (option_map (λ line. line.now) result) }
 {
     match refusal {
-        Refusal::NoSuchNode => Some("no_such_node"),
-        Refusal::NodeLeft => Some("node_left"),
-        Refusal::EmptyLink => Some("empty_link"),
-        Refusal::NotLive(_) => Some("not_live"),
-        Refusal::Busy(_) => Some("busy"),
-        Refusal::Reserved => Some("reserved"),
-        Refusal::UnknownNode => Some("unknown_node"),
-        Refusal::AlreadyJoined => Some("already_joined"),
-        Refusal::NoSuchProcess => Some("no_such_process"),
-        Refusal::AlreadyExited => Some("already_exited"),
-        Refusal::SerialsSpent => Some("serials_spent"),
-        Refusal::NothingToRetry => Some("nothing_to_retry"),
-        Refusal::HoldsLock => Some("holds_lock"),
-        Refusal::CallsSpent => Some("calls_spent"),
+        Refusal::NoSuchNode => Some("error no_such_node\n"),
+        Refusal::NodeLeft => Some("error node_left\n"),
+        Refusal::EmptyLink => Some("error empty_link\n"),
+        Refusal::NotLive(_) => Some("error not_live\n"),
+        Refusal::Busy(_) => Some("error busy\n"),
+        Refusal::Reserved => Some("error reserved\n"),
+        Refusal::UnknownNode => Some("error unknown_node\n"),
+        Refusal::AlreadyJoined => Some("error already_joined\n"),
+        Refusal::NoSuchProcess => Some("error no_such_process\n"),
+        Refusal::AlreadyExited => Some("error already_exited\n"),
+        Refusal::SerialsSpent => Some("error serials_spent\n"),
+        Refusal::NothingToRetry => Some("error nothing_to_retry\n"),
+        Refusal::HoldsLock => Some("error holds_lock\n"),
+        Refusal::CallsSpent => Some("error calls_spent\n"),
         Refusal::Memory => None,
     }
-}
-
-/// Writes the line of a refusal.
-pub fn write_error<W: Write>(writer: &mut W, word: &str) -> Result<(), WriteFault>
-    ensures { Writes (W.contents writer.old) (W.contents writer.new) result (print.error_line word.now) }
-{
-    write_text(writer, b"error ")?;
-    write_text(writer, word.as_bytes())?;
-    write_text(writer, b"\n")
 }

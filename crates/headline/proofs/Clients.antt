@@ -6,7 +6,7 @@ use Rattle.client_locks.proofs.Tallies.{exclusion_from}
 use Rattle.headline.proofs.Together.{All, all_opens, all_keeps, widens}
 
 -- what clients' locks rest on
-grounds : (o : Opening) → Grounds o (All o)
+pub grounds : (o : Opening) → Grounds o (All o)
 grounds o = record {
   opens = all_opens o;
   keeps = λ a w r I sorted m. all_keeps o a w r I sorted m;

@@ -26,7 +26,7 @@ use Rattle.protocol_model.specs.World.{Opening, in_world, in_cluster, World, lef
 use Rattle.moves.proofs.Indices.{both, not_false}
 use Rattle.moves.proofs.Invariants.{IsUp}
 use Rattle.walk.proofs.Events.{Accepted, accepted_of, no_cause}
-use Rattle.leftovers.specs.Leftovers.{world, DeathsAreCarriedOut, KnownDeadOwnNothing}
+use Rattle.protocol_model.specs.Leftovers.{world, Always, DeathsAreCarriedOut, KnownDeadOwnNothing}
 use Rattle.leftovers.proofs.Grounds.{Base, replicas, between}
 use Rattle.leftovers.proofs.RestEvents.{accepted-node}
 use Rattle.leftovers.proofs.Extends.{are_harmless, has_kill, kill_later, Adds, adds_then, adds_same, adds_entry, add_send_all, add_start, add_retry, add_try, add_delete, add_retry_all, add_die, kills_by}
@@ -256,7 +256,7 @@ module _ (o : Opening) (w : World) (B : Base o w) where
 doomed_opens : (o : Opening) → Doomed o (opening_world o)
 doomed_opens o p client up dead = cc dead
 
-pub deaths_are_carried_out : DeathsAreCarriedOut
+pub deaths_are_carried_out : Always DeathsAreCarriedOut
 deaths_are_carried_out o es p quiet up client known =
     elim (between o (Families o) (families_keep o) (Doomed o)
     (λ w e b c h D. doomed_next o w b.base e c.base h D) (families_open o) (doomed_opens o) es p client up known) [
@@ -265,7 +265,7 @@ deaths_are_carried_out o es p quiet up client known =
     ]
 
 -- nor has a running node of a settled world a name of such a process
-pub known_dead_own_nothing : KnownDeadOwnNothing
+pub known_dead_own_nothing : Always KnownDeadOwnNothing
 known_dead_own_nothing o es c settled up pair listed client known =
     let departed : left (world o es) pair.owner.node ≡ false =
     no_departed o (world o es) (whole o es) settled.quiet c up pair listed in

@@ -22,6 +22,7 @@ use Rattle.moves.proofs.Sends.{sent_to-all}
 use Rattle.moves.proofs.Invariants.{IsUp}
 use Rattle.lock_sessions.proofs.Base.{popped_queue, popped, after_turn, is_leave, effect-turn, letters_from, taken_first, popped-other}
 use Rattle.client_locks.proofs.Serving.{front_named}
+use Rattle.walk.proofs.Killing.{puts-members}
 use Rattle.leftovers.proofs.Grounds.{Base}
 use Rattle.leftovers.proofs.Parts.{replica_by, locks_by, parts}
 use Rattle.leftovers.proofs.GrantLists.{all_grants, all_filter, all_kept, all_grant, all_give_back}
@@ -109,14 +110,9 @@ puts_told : (puts : Table) (v : Replica) → (fold (λ x e. wrote (Put e.name e.
 puts_told [] v = refl
 puts_told (e ∷ puts) v = puts_told puts (wrote (Put e.name e.owner) v)
 
--- and change no members
-puts_members : (puts : Table) (v : Replica) → (fold (λ x e. wrote (Put e.name e.owner) x) v puts).members ≡ v.members
-puts_members [] v = refl
-puts_members (e ∷ puts) v = puts_members puts (wrote (Put e.name e.owner) v)
-
 pub admitted-group : (j : ℕ) (puts : Table) (v : Replica)
     → (admitted j puts v).members ≡ (if v.told j then v else record v { members = at v.members j true }).members
-admitted-group j puts v = puts_members puts (with_member j v)
+admitted-group j puts v = puts-members puts (with_member j v)
 
 pub admitted-told : (j : ℕ) (puts : Table) (v : Replica) → (admitted j puts v).told ≡ v.told
 admitted-told j puts v = puts_told puts (with_member j v) ∙ go (v.told j)

@@ -15,8 +15,8 @@ use Rattle.client_locks.proofs.Numbers.{num_by}
 use Rattle.client_locks.proofs.Keeping.{clients_keeps}
 use Rattle.client_locks.proofs.Opening.{no_numbers, clients_opens}
 use Rattle.client_locks.proofs.Walking.{State, run_state, opening_state}
-use Rattle.client_locks.proofs.Walking
 use Rattle.client_locks.proofs.RoundNumbers
+use Rattle.headline.proofs.Clients.{grounds}
 use Rattle.headline.proofs.Together
 use Rattle.headline.proofs.Together.{All, all_opens, all_keeps, widens}
 
@@ -59,20 +59,11 @@ module _ (o : Opening) where
   pub heard_joins : (w : World) → Base w → JoinsKnown o w
   heard_joins w B = Together.heard_joins o w B.all
 
-  -- what clients' locks rest on
-  pub lock_grounds : Walking.Grounds o (All o)
-  lock_grounds = record {
-    opens = all_opens o;
-    keeps = λ a w r I sorted m. all_keeps o a w r I sorted m;
-    proper = λ w I. I.proper;
-    wide = λ w I once. widens o w I once;
-  }
-
   -- clients' locks by the numbers of their rounds, after every list of events
   pub lock_state : (es : List WorldEvent)
-      → State o (All o) lock_grounds (run o (opening_world o) es) (λ p id x. RoundNumbers.number o es p id x)
-  lock_state es = run_state o (All o) lock_grounds (opening_world o) es no_numbers
-      (opening_state o (All o) lock_grounds)
+      → State o (All o) (grounds o) (run o (opening_world o) es) (λ p id x. RoundNumbers.number o es p id x)
+  lock_state es = run_state o (All o) (grounds o) (opening_world o) es no_numbers
+      (opening_state o (All o) (grounds o))
 
   -- what each rule keeps holds after every list of events
   module _ (I : World → Type 0)

@@ -25,8 +25,9 @@ use Rattle.client_locks.proofs.Tallies.{numbers_agree}
 use Rattle.protocol_model.proofs.Ids.{is_id_self}
 use Rattle.client_locks.proofs.Ids.{is_process_same, is_process_self}
 use Rattle.headline.proofs.Together.{All}
-use Rattle.leftovers.specs.Leftovers.{world, IsQuiet, HeldLocksStand, LocksAreAsTold, NoEmptyGrants, NobodyKeepsTheGlobalLock, DeadHoldersHoldNothing, FreeLocksAreGranted}
-use Rattle.leftovers.proofs.Grounds.{lock_grounds, lock_state}
+use Rattle.protocol_model.specs.Leftovers.{world, Always, IsQuiet, HeldLocksStand, LocksAreAsTold, NoEmptyGrants, NobodyKeepsTheGlobalLock, DeadHoldersHoldNothing, FreeLocksAreGranted}
+use Rattle.leftovers.proofs.Grounds.{lock_state}
+use Rattle.headline.proofs.Clients.{grounds}
 use Rattle.leftovers.proofs.GrantLists.{all_grants, all_count, all_filter}
 use Rattle.leftovers.proofs.Departures.{none_of}
 use Rattle.leftovers.proofs.Granted.{is_grant_known, suits_holder}
@@ -216,7 +217,7 @@ module _ (o : Opening) (w : World) (W : Whole o w) (Q : IsQuiet o w) where
 -- the numbers of the statement are those of the rounds
 same_number : (o : Opening) (es : List WorldEvent) (p : Process) (id : Id) (c : ℕ)
     → number o es p id c ≡ RoundNumbers.number o es p id c
-same_number o es p id c = numbers_agree o (All o) (lock_grounds o) es p id c
+same_number o es p id c = numbers_agree o (All o) (grounds o) es p id c
 
 module _ (o : Opening) (es : List WorldEvent) where
   num : Numbers
@@ -225,7 +226,7 @@ module _ (o : Opening) (es : List WorldEvent) where
   told : Clients o (world o es) (λ p id x. RoundNumbers.number o es p id x)
   told = (lock_state o es).clients
 
-pub held_locks_stand : HeldLocksStand
+pub held_locks_stand : Always HeldLocksStand
 held_locks_stand o es c up id p = subst (λ (n : ℕ). n ≤ count id p ((world o es).node c).locks)
     (sym (same_number o es p id c)) (go (lives o (world o es) p) refl)
   where
@@ -238,7 +239,7 @@ held_locks_stand o es c up id p = subst (λ (n : ℕ). n ≤ count id p ((world 
       settled_le id (asks p ((world o es).links.queue p.node c)) (count id p ((world o es).node c).locks),
     )
 
-pub locks_are_as_told : LocksAreAsTold
+pub locks_are_as_told : Always LocksAreAsTold
 locks_are_as_told o es c quiet up id p = go (lives o (world o es) p) refl ∙ sym (same_number o es p id c)
   where
     go : (b : Bool) → lives o (world o es) p ≡ b
@@ -250,15 +251,15 @@ locks_are_as_told o es c quiet up id p = go (lives o (world o es) p) refl ∙ sy
         live_counts o (world o es) (whole o es) quiet (λ q i x. RoundNumbers.number o es q i x) (told o es) p id c h
         (l.inside, l.up) up
 
-pub no_empty_grants : NoEmptyGrants
+pub no_empty_grants : Always NoEmptyGrants
 no_empty_grants o es c quiet up g listed = subst (λ (n : ℕ). 0 < n) (locks_are_as_told o es c quiet up g.id g.holder)
     (listed_counts ((world o es).node c).locks g ((whole o es).families.granted c).count listed)
 
-pub nobody_keeps_the_global_lock : NobodyKeepsTheGlobalLock
+pub nobody_keeps_the_global_lock : Always NobodyKeepsTheGlobalLock
 nobody_keeps_the_global_lock o es c b quiet up =
     not_given ((world o es).node c).locks b (no_global_grants o (world o es) (whole o es) quiet c up)
 
-pub dead_holders_hold_nothing : DeadHoldersHoldNothing
+pub dead_holders_hold_nothing : Always DeadHoldersHoldNothing
 dead_holders_hold_nothing o es c quiet up g listed = go (is_gone (world o es) g.holder) refl
   where
     dead : is_gone (world o es) g.holder ≡ true → lives o (world o es) g.holder ≡ false
@@ -293,7 +294,7 @@ find_none {A} test (x ∷ xs) none = go (test x) (none x (Contains-front x xs))
     go true e h = cc e
     go false e h = h
 
-pub free_locks_are_granted : FreeLocksAreGranted
+pub free_locks_are_granted : Always FreeLocksAreGranted
 free_locks_are_granted o es c quiet up id p alone few =
     ap (λ (x : Option Grant). is_none (refused_by id p t x)) (find_none (is_in_the_way id) t clear)
     ∙ ap (λ (b : Bool). is_none (if b then None else Some id)) (lt-ltb (count id p t) last_count

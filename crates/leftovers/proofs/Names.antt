@@ -18,7 +18,7 @@ use Rattle.moves.proofs.Invariants
 use Rattle.moves.proofs.Invariants.{IsUp, Replicas, standing_at}
 use Rattle.join_gates.proofs.Tokens.{Gate, Away, Knock, Wait, Turned, Entering, is_away, knocks, returns, admissions, jobs, asked_for, knocks_of, returns_of, queued_of, is_wait}
 use Rattle.replicas.proofs.States
-use Rattle.leftovers.specs.Leftovers.{world, IsQuiet, DeparturesAreTold, NoNameOnADepartedNode, DeadOwnersOwnNothing}
+use Rattle.protocol_model.specs.Leftovers.{world, Always, IsQuiet, DeparturesAreTold, NoNameOnADepartedNode, DeadOwnersOwnNothing}
 use Rattle.leftovers.proofs.Grounds.{replicas}
 use Rattle.leftovers.proofs.Rest.{WorkRests}
 use Rattle.leftovers.proofs.Started.{Idle}
@@ -27,7 +27,7 @@ use Rattle.leftovers.proofs.Families.{Whole, whole}
 use Rattle.leftovers.proofs.Quiet.{rid, at_ease, registrars}
 use Rattle.client_locks.proofs.Ids.{is_process_self}
 
-pub departures_are_told : DeparturesAreTold
+pub departures_are_told : Always DeparturesAreTold
 departures_are_told o es c d quiet up gone = (rid o (world o es) (whole o es) quiet c d up gone).0
 
 -- what is kept of a filtered list passes, and was there before
@@ -299,10 +299,10 @@ module _ (o : Opening) (w : World) (W : Whole o w) (Q : IsQuiet o w) where
               owner_found (w.node pair.owner.node).replica.table pair (at_home c up pair listed home),
             )
 
-pub no_name_on_a_departed_node : NoNameOnADepartedNode
+pub no_name_on_a_departed_node : Always NoNameOnADepartedNode
 no_name_on_a_departed_node o es c quiet up pair listed = no_departed o (world o es) (whole o es) quiet c up pair listed
 
-pub dead_owners_own_nothing : DeadOwnersOwnNothing
+pub dead_owners_own_nothing : Always DeadOwnersOwnNothing
 dead_owners_own_nothing o es c settled up pair listed =
     ap (λ (b : Bool). b || is_dead ((world o es).node pair.owner.node).watch pair.owner.serial)
     (no_departed o (world o es) (whole o es) settled.quiet c up pair listed)

@@ -16,7 +16,7 @@ use Rattle.client_locks.proofs.Sessions.{View, Live, view}
 use Rattle.client_locks.proofs.Sessions
 use Rattle.client_locks.proofs.Mail.{asks, echoes}
 use Rattle.client_locks.proofs.Clients.{Numbers, Clients, call_at, lives, caller_lives}
-use Rattle.leftovers.specs.Leftovers.{IsQuiet}
+use Rattle.protocol_model.specs.Leftovers.{IsQuiet}
 use Rattle.leftovers.proofs.RoundFacts.{is_to_come, is_before}
 use Rattle.leftovers.proofs.Departures.{IsRid, has_down}
 use Rattle.leftovers.proofs.Rest.{Awaited, RoundRests, WorkRests, PhaseRests}

@@ -1,11 +1,10 @@
 -- What a lock table says to one that asks, and what it has then.
-use Rattle.std.proofs.Common.{ℕ, suc, Bool, true, false, ◌==◌, ◌≡◌, ◌<◌, ◌≤◌, ◌+◌, Option, Some, None, List, [], ◌∷◌, ◌++◌, get_or, refl, sym, ap, subst, ◌∙◌, inl, inr, arith}
-use Rattle.std.specs.Prelude.{◌&&◌, not, if◌then◌else◌, find, All, Contains}
-use Rattle.std.specs.BTreeMap.{BTreeMap, get, is_at, insert_entry}
-use Rattle.std.specs.List.Sorted.{IsStrictlySortedBy}
-use Rattle.std.specs.Map.{keys_of, set_value}
+use Rattle.std.proofs.Common.{ℕ, Bool, true, false, ◌==◌, ◌≡◌, ◌<◌, ◌≤◌, ◌+◌, Option, Some, None, List, [], ◌∷◌, ◌++◌, get_or, refl, sym, ap, subst, ◌∙◌, inl, inr, arith}
+use Rattle.std.specs.Prelude.{◌&&◌, not, if◌then◌else◌, find, All, Contains, IsSome}
+use Rattle.std.specs.BTreeMap.{BTreeMap}
+use Rattle.std.specs.Map.{set_value}
 use Rattle.std.proofs.lemmas.Bool.{eqb-true, eq-eqb, lt-ltb}
-use Rattle.std.proofs.lemmas.List.Elements.{All-contains, All-head, All-tail, All-weaker, Contains-append_right}
+use Rattle.std.proofs.lemmas.List.Elements.{All-contains, All-from_recursion, All-head, All-tail, Contains-append_right}
 use Rattle.std.proofs.lemmas.Map.{none_passes_from_lookup}
 use Rattle.std.proofs.lemmas.Map.Views.{Contains-from_lookup}
 use Rattle.registry_model.specs.Process.{Process, Text}
@@ -13,25 +12,27 @@ use Rattle.protocol_model.specs.Letter.{Id, Global, Client, is_resource}
 use Rattle.protocol_model.specs.LockTable.{Grant, Locks, count, is_grant_of, is_in_the_way, last_count, refused_for}
 use Rattle.protocol_model.proofs.Ids.{is_resource_swap}
 use Rattle.term.specs.declared.lock_id.LockId.{LockId}
-use Rattle.lock_table.specs.Filed.{Entry, IsFiled, IsOpenTo, HasUnder, grant_of, key_cmp, listed}
+use Rattle.lock_table.specs.Filed.{Entry, IsFiled, first_grant, grant_of, held_at, is_key, listed}
 use Rattle.lock_table.specs.Ids.{id_of, requester_of}
+use Rattle.lock_table.specs.Sharers.{IsOpen, IsShared, IsUnder, Shared}
 use Rattle.lock_table.specs.Sound.{IsSound}
 use Rattle.lock_table.specs.Verdicts.{verdict_of, asked, IsFirstGrant}
 use Rattle.lock_table.specs.declared.grant.Key.{Key}
 use Rattle.lock_table.specs.declared.grant.Held.{Held}
 use Rattle.lock_table.specs.declared.grant.Place.{Place}
-use Rattle.lock_table.specs.Index.{IsIndexed, place_at}
+use Rattle.lock_table.specs.Index.{IsIndexed, is_under}
 use Rattle.lock_table.specs.declared.verdict.Verdict.TheVariants.{Refuse}
 use Rattle.lock_table.proofs.Facts.{both}
 use Rattle.lock_table.proofs.Filing.{key_of, found_under, is_in_the_way-entry, never-absent, counted-held}
 use Rattle.lock_table.proofs.Holders.{one_requester}
 use Rattle.lock_table.proofs.Ids.{is_resource-id_of, requester_of-id_of}
-use Rattle.lock_table.proofs.Index.{Sets, SetsAt, indexed-first, indexed-same, number_below, refilled, same_gets, unplaced}
+use Rattle.lock_table.proofs.Index.{Sets}
 use Rattle.lock_table.proofs.Keys.{exact}
-use Rattle.lock_table.proofs.Listed.{All-listed, below-insert, listed-all, listed-insert}
+use Rattle.lock_table.proofs.Listed.{All-listed, listed-all}
 use Rattle.lock_table.proofs.Places.{All-find_none, count-absent, grant-absent}
-use Rattle.lock_table.proofs.Soundness.{sound-push}
-use Rattle.lock_table.proofs.Steps.{count_range, filed-written, grant-more, written-same}
+use Rattle.lock_table.proofs.Removal.{is_under-entry}
+use Rattle.lock_table.proofs.Sharing.{IsOpenTo, open-filed, under-filed}
+use Rattle.lock_table.proofs.Steps.{count_range, grant-more, kept-written, written-same}
 
 find-none : {X : Type 0} (p : X → Bool) (xs : List X) → All (λ x. p x ≡ false) xs → find p xs ≡ None
 find-none p [] h = refl
@@ -80,20 +81,20 @@ refused_under id p t g s at way = go (find (is_in_the_way id) t) refl
         (rw e (ap Refuse same), rw e refl)
 
 -- What is filed, and one that asks
-module _ (n : ℕ) (m : BTreeMap Key Held) (filed : IsFiled n m.entries) (lock : LockId) (p : Process) where
+module _ (n : ℕ) (m : List Entry) (filed : IsFiled n m) (shared : Shared) (sh : IsShared m shared) (lock : LockId)
+    (p : Process) where
   abbrev Table : Locks
-  Table = listed n m.entries
+  Table = listed n m
 
-  listed-entry : (e : Entry) → Contains m.entries e → Contains Table (grant_of e)
+  listed-entry : (e : Entry) → Contains m e → Contains Table (grant_of e)
   listed-entry e at =
-      All-contains (λ (x : Entry). Contains Table (grant_of x)) m.entries e (listed-all n m.entries filed.below) at
+      All-contains (λ (x : Entry). Contains Table (grant_of x)) m e (listed-all n m filed.below) at
 
   -- another requester has the resource
-  pub refused_other : (k : Key) → k ≡ key_of lock p → (r : Text)
-      → HasUnder k.resource m.entries r × ((r == lock.requester) ≡ false)
+  pub refused_other : (r : Text) → IsUnder lock.resource r shared × ((r == lock.requester) ≡ false)
       → (Refuse r ≡ verdict_of (refused_for (id_of lock) p Table)) × (Table ≡ asked (id_of lock) p Table)
-  refused_other k under r found =
-      let h = subst (λ (q : Key). HasUnder q.resource m.entries r) under found.0 in
+  refused_other r found =
+      let h = under-filed m shared sh lock.resource r filed.once found.0 in
       let e = h.0 in
       let way : is_in_the_way (id_of lock) (grant_of e) ≡ true = is_in_the_way-entry lock e
       ∙ rw (eq-eqb e.0.resource lock.resource h.2, h.3, found.1) refl in
@@ -104,20 +105,20 @@ module _ (n : ℕ) (m : BTreeMap Key Held) (filed : IsFiled n m.entries) (lock :
       )
 
   -- none has
-  no_other : IsOpenTo lock.resource m.entries lock.requester
+  no_other : IsOpenTo lock.resource m lock.requester
       → All (λ (e : Entry). ((e.0.resource == lock.resource)
-      && not (e.1.requester == lock.requester)) ≡ false) m.entries
+      && not (e.1.requester == lock.requester)) ≡ false) m
   no_other (inl none) i d l = rw (none i d l) refl
   no_other (inr h) i d l = go (e.0.resource == lock.resource) refl
     where
       e : Entry
-      e = get_or m.entries i d
+      e = get_or m i d
 
       go : (b : Bool) → (e.0.resource == lock.resource) ≡ b → (b && not (e.1.requester == lock.requester)) ≡ false
       go false on = refl
       go true on =
           let same = one_requester Table (grant_of e) (grant_of h.0) filed.sound
-          (listed-all n m.entries filed.below i d l) (listed-entry h.0 h.1)
+          (listed-all n m filed.below i d l) (listed-entry h.0 h.1)
           (is_resource-id_of (record { resource = e.0.resource; requester = e.1.requester })
           (record { resource = h.0.0.resource; requester = h.0.1.requester })
           ∙ eq-eqb e.0.resource h.0.0.resource (eqb-true e.0.resource lock.resource on ∙ sym h.2)) in
@@ -125,30 +126,30 @@ module _ (n : ℕ) (m : BTreeMap Key Held) (filed : IsFiled n m.entries) (lock :
           ∙ requester_of-id_of (record { resource = h.0.0.resource; requester = h.0.1.requester }) ∙ h.3 in
           rw (eq-eqb e.1.requester lock.requester own) refl
 
-  module _ (k : Key) (under : k ≡ key_of lock p) (may : IsOpenTo k.resource m.entries lock.requester) where
+  module _ (may : IsOpen lock.resource lock.requester shared) (k : Key) (under : k ≡ key_of lock p) where
     none_other : All (λ (e : Entry). ((e.0.resource == lock.resource)
-        && not (e.1.requester == lock.requester)) ≡ false) m.entries
-    none_other = no_other (subst (λ (q : Key). IsOpenTo q.resource m.entries lock.requester) under may)
+        && not (e.1.requester == lock.requester)) ≡ false) m
+    none_other = no_other (open-filed m shared sh lock.resource lock.requester filed.once may)
 
     clear : find (is_in_the_way (id_of lock)) Table ≡ None
     clear = find-none (is_in_the_way (id_of lock)) Table
-        (All-listed (λ g. is_in_the_way (id_of lock) g ≡ false) n m.entries
-        (λ i d l. is_in_the_way-entry lock (get_or m.entries i d) ∙ none_other i d l))
+        (All-listed (λ g. is_in_the_way (id_of lock) g ≡ false) n m
+        (λ i d l. is_in_the_way-entry lock (get_or m i d) ∙ none_other i d l))
 
     free : count (id_of lock) p Table < last_count → refused_for (id_of lock) p Table ≡ None
     free room = rw (clear, lt-ltb (count (id_of lock) p Table) last_count room) refl
 
-    module _ (v : Held) (found : Some v ≡ get key_cmp m k) where
-      at : get key_cmp m (key_of lock p) ≡ Some v
+    module _ (v : Held) (found : Some v ≡ held_at m k) where
+      at : held_at m (key_of lock p) ≡ Some v
       at = found_under m lock p k (Some v) under found
 
       pub own : v.requester ≡ lock.requester
       own =
-          let no = All-contains (λ (e : Entry). ((e.0.resource == lock.resource)
-          && not (e.1.requester == lock.requester)) ≡ false) m.entries (key_of lock p, v) none_other
-          (Contains-from_lookup exact (key_of lock p) v m.entries at) in
+          let clear_here = All-contains (λ (e : Entry). ((e.0.resource == lock.resource)
+          && not (e.1.requester == lock.requester)) ≡ false) m (key_of lock p, v) none_other
+          (Contains-from_lookup exact (key_of lock p) v m at) in
           eqb-true v.requester lock.requester
-          (go (lock.resource == lock.resource) (v.requester == lock.requester) (eq-eqb _ _ refl) no)
+          (go (lock.resource == lock.resource) (v.requester == lock.requester) (eq-eqb _ _ refl) clear_here)
         where
           go : (a b : Bool) → a ≡ true → (a && not b) ≡ false → b ≡ true
           go true true i h = refl
@@ -164,7 +165,7 @@ module _ (n : ℕ) (m : BTreeMap Key Held) (filed : IsFiled n m.entries) (lock :
       pub verdict-full : v.count ≡ last_count → Refuse lock.requester ≡ verdict_of (refused_for (id_of lock) p Table)
       verdict-full full = rw (clear, held ∙ full) (ap Refuse (sym (requester_of-id_of lock)))
 
-      pub asked-full : v.count ≡ last_count → (es : List Entry) → es ≡ set_value (is_at (key_cmp k)) m.entries v
+      pub asked-full : v.count ≡ last_count → (es : List Entry) → es ≡ set_value (is_key k) m v
           → listed n es ≡ asked (id_of lock) p Table
       asked-full full es e =
           ap (listed n) (written-same n m filed lock p k under v found es e) ∙ rw (clear, held ∙ full) refl
@@ -172,18 +173,21 @@ module _ (n : ℕ) (m : BTreeMap Key Held) (filed : IsFiled n m.entries) (lock :
       pub free-held : v.count < last_count → refused_for (id_of lock) p Table ≡ None
       free-held room = free (omega (arith, room, held))
 
-      pub filed-more : v.count < last_count → (es : List Entry)
-          → es ≡ set_value (is_at (key_cmp k)) m.entries (record v { count = v.count + 1 }) → IsFiled n es
-      filed-more room es e =
-          filed-written n m filed lock p k under v found own (v.count + 1) es (omega arith) (omega (arith, room)) e
+      pub kept-more : (x : BTreeMap Place Text) → IsIndexed m x → v.count < last_count → (es : List Entry)
+          → es ≡ set_value (is_key k) m (record v { count = v.count + 1 })
+          → (IsSome (held_at m k) → Sets k (Some (record v { count = v.count + 1 })) m es)
+          → IsFiled n es × IsIndexed es x × IsShared es shared
+      kept-more x ix room es e sets =
+          kept-written n m filed lock p k under v found own x shared ix sh (v.count + 1) es (omega arith)
+          (omega (arith, room)) e sets
 
       pub asked-more : v.count < last_count → (es : List Entry)
-          → es ≡ set_value (is_at (key_cmp k)) m.entries (record v { count = v.count + 1 })
+          → es ≡ set_value (is_key k) m (record v { count = v.count + 1 })
           → listed n es ≡ asked (id_of lock) p Table
       asked-more room es e =
           grant-more n m filed lock p k under v found own es e ∙ rw (free-held room) refl
 
-    module _ (absent : None ≡ get key_cmp m k) where
+    module _ (absent : None ≡ held_at m k) where
       none : All (λ g. is_grant_of (id_of lock) p g ≡ false) Table
       none = never-absent n m filed lock p (found_under m lock p k None under absent)
 
@@ -193,63 +197,23 @@ module _ (n : ℕ) (m : BTreeMap Key Held) (filed : IsFiled n m.entries) (lock :
       pub free-first : refused_for (id_of lock) p Table ≡ None
       free-first = free (omega (arith, unheld))
 
-      pub first_grant : IsFirstGrant (id_of lock) p Table
-      first_grant = (rw free-first refl, unheld)
+      pub is_first : IsFirstGrant (id_of lock) p Table
+      is_first = (rw free-first refl, unheld)
 
-      next : n + 1 ≡ suc n
-      next = omega arith
+      -- what filing the first grant requires
+      pub absent_under : All (λ g. is_under k g ≡ false) Table
+      absent_under =
+          All-listed (λ g. is_under k g ≡ false) n m
+          (λ i d l. is_under-entry k (get_or m i d)
+          ∙ All-from_recursion (λ (e : Entry). is_key k e.0 ≡ false) m
+          (none_passes_from_lookup (is_key k) m (sym absent)) i d l)
 
-      listed-first : (es : List Entry)
-          → es ≡ insert_entry key_cmp m.entries k (record { requester = lock.requester; count = 1; number = n })
-          → listed (n + 1) es ≡ Table ++ record { id = id_of lock; holder = p; count = 1 } ∷ []
-      listed-first es e =
-          ap (listed (n + 1)) e
-          ∙ ap (λ (j : ℕ). listed j (insert_entry key_cmp m.entries k
-          (record { requester = lock.requester; count = 1; number = n }))) next
-          ∙ listed-insert k (record { requester = lock.requester; count = 1; number = n }) m.entries
-          (none_passes_from_lookup (is_at (key_cmp k)) m.entries (sym absent)) filed.below
-          ∙ ap (λ (q : Key). Table
-          ++ grant_of (q, record { requester = lock.requester; count = 1; number = n }) ∷ []) under
+      pub clear_first : All (λ g. is_in_the_way (first_grant k lock.requester).id g ≡ false) Table
+      clear_first =
+          subst (λ (q : Key). All (λ g. is_in_the_way (first_grant q lock.requester).id g ≡ false) Table) (sym under)
+          (All-find_none (is_in_the_way (id_of lock)) Table clear)
 
-      pub asked-first : (es : List Entry)
-          → es ≡ insert_entry key_cmp m.entries k (record { requester = lock.requester; count = 1; number = n })
-          → listed (n + 1) es ≡ asked (id_of lock) p Table
-      asked-first es e =
-          listed-first es e ∙ sym (rw free-first (grant-absent (id_of lock) p Table none))
-
-      pub filed-first : (es : List Entry)
-          → es ≡ insert_entry key_cmp m.entries k (record { requester = lock.requester; count = 1; number = n })
-          → IsStrictlySortedBy key_cmp (keys_of es) → IsFiled (n + 1) es
-      filed-first es e rising = record {
-        ordered = rising;
-        below = subst (All (λ (x : Entry). x.1.number < n + 1)) (sym e)
-            (below-insert k (record { requester = lock.requester; count = 1; number = n }) (n + 1) m.entries
-            (omega arith)
-            (All-weaker (λ (x : Entry). x.1.number < n) (λ (x : Entry). x.1.number < n + 1)
-            (λ x l. omega (arith, l)) m.entries filed.below));
-        sound = subst IsSound (sym (listed-first es e))
-            (sound-push (id_of lock) p Table filed.sound (All-find_none (is_in_the_way (id_of lock)) Table clear) none);
-      }
-
-      -- its place is filled, and then it is filed or, for want of memory, its place is emptied again
-      module _ (x y : BTreeMap Place Text) (ix : IsIndexed m x) (a : Place) (at_a : a ≡ place_at p n) (on : Text)
-          (fills : SetsAt a (Some on) x y) where
-        filled : SetsAt (place_at p n) (Some on) x y
-        filled = subst (λ (b : Place). SetsAt b (Some on) x y) at_a fills
-
-        pub indexed-filed : on ≡ k.resource → (old new : BTreeMap Key Held) → old ≡ m
-            → Sets k (Some (record { requester = lock.requester; count = 1; number = n })) old new → IsIndexed new y
-        indexed-filed copied old new same sets =
-            let first : Held = record { requester = lock.requester; count = 1; number = n } in
-            indexed-first m new x y ix k first (sym absent) (number_below n m filed.below)
-            (subst (λ (z : BTreeMap Key Held). Sets k (Some first) z new) same sets)
-            (subst (λ (b : Place). SetsAt b (Some k.resource) x y)
-            (ap (λ (q : Key). place_at q.holder n) (sym under))
-            (subst (λ (r : Text). SetsAt (place_at p n) (Some r) x y) copied filled))
-
-        pub indexed-undone : (new : BTreeMap Key Held) → new.entries ≡ m.entries → (z : BTreeMap Place Text)
-            → (b : Place) → b ≡ place_at p n → SetsAt b None y z → IsIndexed new z
-        indexed-undone new same z b at_b empties =
-            indexed-same m new x z ix (same_gets m new same)
-            (refilled x y z (place_at p n) on (unplaced n m x ix filed.below p) filled
-            (subst (λ (c : Place). SetsAt c None y z) at_b empties))
+      pub asked-first : asked (id_of lock) p Table ≡ Table ++ first_grant k lock.requester ∷ []
+      asked-first =
+          rw free-first (grant-absent (id_of lock) p Table none)
+          ∙ ap (λ (q : Key). Table ++ first_grant q lock.requester ∷ []) (sym under)

@@ -1,5 +1,5 @@
 -- The first grant from a place on, and the grants of a holder or of a node.
-use Rattle.std.proofs.Common.{ℕ, Bool, true, false, ◌==◌, ◌≡◌, ◌<◌, ◌≤◌, Option, Some, None, refl, sym, ap, ◌∙◌, subst, inl, inr, arith, nat_cmp, Ordering}
+use Rattle.std.proofs.Common.{ℕ, Bool, true, false, ◌==◌, ◌≡◌, ◌<◌, ◌≤◌, List, Option, Some, None, refl, sym, ap, ◌∙◌, subst, inl, inr, arith, nat_cmp, Ordering}
 use Rattle.std.specs.Prelude.{All, Contains, IsSome}
 use Rattle.std.specs.BTreeMap.{BTreeMap, get}
 use Rattle.std.specs.Ordering.{is_gt, ordering_then}
@@ -7,16 +7,15 @@ use Rattle.std.specs.declared.cmp.Ordering.TheVariants.{Less, Equal, Greater}
 use Rattle.std.proofs.lemmas.Bool.{cases_order, eqb-true, eq-eqb, lt-ltb, le-ltb}
 use Rattle.std.proofs.lemmas.Cmp.{ranked}
 use Rattle.std.proofs.lemmas.List.Elements.{All-contains, All-weaker}
-use Rattle.std.proofs.lemmas.Map.Views.{All-found, Contains-from_lookup}
+use Rattle.std.proofs.lemmas.Map.Views.{Contains-from_lookup}
 use Rattle.registry_model.specs.Process.{Process, Text, is_process}
 use Rattle.protocol_model.specs.LockTable.{Grant, Locks}
 use Rattle.lock_table.specs.declared.grant.Key.{Key}
-use Rattle.lock_table.specs.declared.grant.Held.{Held}
 use Rattle.lock_table.specs.declared.grant.Place.{Place}
-use Rattle.lock_table.specs.Filed.{Entry, IsFiled, grant_of, key_cmp, listed}
+use Rattle.lock_table.specs.Filed.{Entry, IsFiled, grant_of, held_at, listed}
 use Rattle.lock_table.specs.Index.{IsFirstFrom, IsFrom, IsIndexed, IsListedUnder, IsNoneFrom, place_at, place_cmp}
 use Rattle.lock_table.proofs.Changes.{same_process}
-use Rattle.lock_table.proofs.Keys.{exact, is_at-key_self, key_total}
+use Rattle.lock_table.proofs.Keys.{All-held, exact, is_key_self}
 use Rattle.lock_table.proofs.Listed.{All-listed, listed-all}
 use Rattle.lock_table.proofs.Removal.{is_under-entry}
 
@@ -78,19 +77,19 @@ begins h q node serial =
     ]
 
 -- What is filed, and where it stands
-module _ (n : ℕ) (m : BTreeMap Key Held) (x : BTreeMap Place Text)
-    (good : IsFiled n m.entries × IsIndexed m x) where
+module _ (n : ℕ) (m : List Entry) (x : BTreeMap Place Text)
+    (good : IsFiled n m × IsIndexed m x) where
   abbrev Table : Locks
-  Table = listed n m.entries
+  Table = listed n m
 
   -- what stands somewhere is listed
   pub listed_under : (a : Place) (k : Key) → IsFirstFrom x a k → IsListedUnder k Table
   listed_under a k first =
       let h = good.1.filed (place_at k.holder first.0) k.resource first.1 in (
         grant_of (k, h.0),
-        All-contains (λ (y : Entry). Contains Table (grant_of y)) m.entries (k, h.0)
-            (listed-all n m.entries good.0.below) (Contains-from_lookup exact k h.0 m.entries h.1),
-        is_under-entry k (k, h.0) ∙ is_at-key_self k,
+        All-contains (λ (y : Entry). Contains Table (grant_of y)) m (k, h.0)
+            (listed-all n m good.0.below) (Contains-from_lookup exact k h.0 m h.1),
+        is_under-entry k (k, h.0) ∙ is_key_self k,
       )
 
   -- where nothing stands of some holders, they have no grants
@@ -100,11 +99,11 @@ module _ (n : ℕ) (m : BTreeMap Key Held) (x : BTreeMap Place Text)
 
     unheld : ((q : Place) → test q.holder ≡ true → get place_cmp x q ≡ None) → NoneHolds
     unheld none =
-        All-listed (λ (g : Grant). test g.holder ≡ false) n m.entries
-        (All-weaker (λ (e : Entry). get key_cmp m e.0 ≡ Some e.1) (λ (e : Entry). test e.0.holder ≡ false)
-        one m.entries (All-found key_total m good.0.ordered))
+        All-listed (λ (g : Grant). test g.holder ≡ false) n m
+        (All-weaker (λ (e : Entry). held_at m e.0 ≡ Some e.1) (λ (e : Entry). test e.0.holder ≡ false)
+        one m (All-held m good.0.once))
       where
-        one : (e : Entry) → get key_cmp m e.0 ≡ Some e.1 → test e.0.holder ≡ false
+        one : (e : Entry) → held_at m e.0 ≡ Some e.1 → test e.0.holder ≡ false
         one e f = go (test e.0.holder) refl
           where
             go : (b : Bool) → test e.0.holder ≡ b → test e.0.holder ≡ false

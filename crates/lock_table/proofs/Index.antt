@@ -2,7 +2,6 @@
 use Rattle.std.proofs.Common.{ℕ, Bool, true, false, ◌==◌, ◌≡◌, ◌<◌, Option, Some, None, List, refl, sym, ap, ◌∙◌, subst, arith, nat_cmp}
 use Rattle.std.specs.Prelude.{◌&&◌, cond, All}
 use Rattle.std.specs.BTreeMap.{BTreeMap, get, is_at}
-use Rattle.std.specs.Map.{lookup}
 use Rattle.std.specs.Ordering.{ordering_then}
 use Rattle.std.proofs.lemmas.Bool.{eqb-true, eq-eqb}
 use Rattle.std.proofs.lemmas.List.Elements.{All-contains}
@@ -11,11 +10,11 @@ use Rattle.registry_model.specs.Process.{Process, Text, is_process}
 use Rattle.lock_table.specs.declared.grant.Key.{Key}
 use Rattle.lock_table.specs.declared.grant.Held.{Held}
 use Rattle.lock_table.specs.declared.grant.Place.{Place}
-use Rattle.lock_table.specs.Filed.{Entry, key_cmp}
+use Rattle.lock_table.specs.Filed.{Entry, held_at, is_key}
 use Rattle.lock_table.specs.Index.{IsIndexed, place_at, place_cmp}
 use Rattle.lock_table.proofs.Changes.{same_process}
 use Rattle.lock_table.proofs.Facts.{both}
-use Rattle.lock_table.proofs.Keys.{exact, is_at-key_self, is_eq-nat, is_eq-then}
+use Rattle.lock_table.proofs.Keys.{exact, is_key_self, is_eq-nat, is_eq-then}
 
 -- a place is found where it has this holder and this number
 is_at-place : (p q : Place) → is_at (place_cmp p) q ≡ (is_process q.holder p.holder && (q.number == p.number))
@@ -53,36 +52,26 @@ same_value : {X : Type 0} (o : Option X) (a b : X) → o ≡ Some a → o ≡ So
 same_value o a b e f = cc (e, f)
 
 -- n has w at the key k, and at the other keys what m has
-abbrev pub Sets : Key → Option Held → BTreeMap Key Held → BTreeMap Key Held → Type 0
-Sets k w m n = (q : Key) → get key_cmp n q ≡ cond (is_at (key_cmp k) q) w (get key_cmp m q)
+abbrev pub Sets : Key → Option Held → List Entry → List Entry → Type 0
+Sets k w m n = (q : Key) → held_at n q ≡ cond (is_key k q) w (held_at m q)
 
 -- y has r at the place p, and at the other places what x has
 abbrev pub SetsAt : Place → Option Text → BTreeMap Place Text → BTreeMap Place Text → Type 0
 SetsAt p r x y = (q : Place) → get place_cmp y q ≡ cond (is_at (place_cmp p) q) r (get place_cmp x q)
 
-module _ (m n : BTreeMap Key Held) (x y : BTreeMap Place Text) (ix : IsIndexed m x) where
-  -- nothing changes
-  pub indexed-same : ((q : Key) → get key_cmp n q ≡ get key_cmp m q)
-      → ((q : Place) → get place_cmp y q ≡ get place_cmp x q) → IsIndexed n y
-  indexed-same f g = record {
-    placed = λ k v e. g (place_at k.holder v.number) ∙ ix.placed k v (sym (f k) ∙ e);
-    filed = λ q r e.
-        let h = ix.filed q r (sym (g q) ∙ e) in
-        (h.0, f (record { resource = r; holder = q.holder }) ∙ h.1, h.2);
-  }
-
+module _ (m n : List Entry) (x y : BTreeMap Place Text) (ix : IsIndexed m x) where
   module _ (k : Key) (v : Held) where
     -- another count
-    module _ (w : Held) (found : get key_cmp m k ≡ Some v) (same : w.number ≡ v.number)
+    module _ (w : Held) (found : held_at m k ≡ Some v) (same : w.number ≡ v.number)
         (sets : Sets k (Some w) m n) where
-      placed_recount : (q : Key) (u : Held) → get key_cmp n q ≡ Some u
+      placed_recount : (q : Key) (u : Held) → held_at n q ≡ Some u
           → get place_cmp x (place_at q.holder u.number) ≡ Some q.resource
-      placed_recount q u e = go (is_at (key_cmp k) q) refl (sets q)
+      placed_recount q u e = go (is_key k q) refl (sets q)
         where
-          go : (b : Bool) → is_at (key_cmp k) q ≡ b → get key_cmp n q ≡ cond b (Some w) (get key_cmp m q)
+          go : (b : Bool) → is_key k q ≡ b → held_at n q ≡ cond b (Some w) (held_at m q)
               → get place_cmp x (place_at q.holder u.number) ≡ Some q.resource
           go true i f =
-              let here = same_value (get key_cmp n q) w u f e in
+              let here = same_value (held_at n q) w u f e in
               let numbers : v.number ≡ u.number = sym same ∙ ap (λ (h : Held). h.number) here in
               subst (λ (z : Key). get place_cmp x (place_at z.holder u.number) ≡ Some z.resource) (exact k q i)
               (subst (λ (j : ℕ). get place_cmp x (place_at k.holder j) ≡ Some k.resource) numbers
@@ -90,19 +79,19 @@ module _ (m n : BTreeMap Key Held) (x y : BTreeMap Place Text) (ix : IsIndexed m
           go false i f = ix.placed q u (sym f ∙ e)
 
       filed_recount : (q : Place) (r : Text) → get place_cmp x q ≡ Some r
-          → (u : Held) × (get key_cmp n (record { resource = r; holder = q.holder }) ≡ Some u) × (u.number ≡ q.number)
-      filed_recount q r e = go (is_at (key_cmp k) z) refl (sets z)
+          → (u : Held) × (held_at n (record { resource = r; holder = q.holder }) ≡ Some u) × (u.number ≡ q.number)
+      filed_recount q r e = go (is_key k z) refl (sets z)
         where
           z : Key
           z = record { resource = r; holder = q.holder }
 
-          h : (u : Held) × (get key_cmp m z ≡ Some u) × (u.number ≡ q.number)
+          h : (u : Held) × (held_at m z ≡ Some u) × (u.number ≡ q.number)
           h = ix.filed q r e
 
-          go : (b : Bool) → is_at (key_cmp k) z ≡ b → get key_cmp n z ≡ cond b (Some w) (get key_cmp m z)
-              → (u : Held) × (get key_cmp n z ≡ Some u) × (u.number ≡ q.number)
+          go : (b : Bool) → is_key k z ≡ b → held_at n z ≡ cond b (Some w) (held_at m z)
+              → (u : Held) × (held_at n z ≡ Some u) × (u.number ≡ q.number)
           go true i f =
-              let here = same_value (get key_cmp m z) v h.0 (ap (get key_cmp m) (sym (exact k z i)) ∙ found) h.1 in
+              let here = same_value (held_at m z) v h.0 (ap (held_at m) (sym (exact k z i)) ∙ found) h.1 in
               (w, f, same ∙ ap (λ (u : Held). u.number) here ∙ h.2)
           go false i f = (h.0, f ∙ h.1, h.2)
 
@@ -110,21 +99,21 @@ module _ (m n : BTreeMap Key Held) (x y : BTreeMap Place Text) (ix : IsIndexed m
       indexed-recount = record { placed = placed_recount; filed = filed_recount }
 
     -- a first grant
-    module _ (absent : get key_cmp m k ≡ None)
-        (below : (q : Key) (u : Held) → get key_cmp m q ≡ Some u → u.number < v.number)
+    module _ (absent : held_at m k ≡ None)
+        (below : (q : Key) (u : Held) → held_at m q ≡ Some u → u.number < v.number)
         (sets : Sets k (Some v) m n)
         (places : SetsAt (place_at k.holder v.number) (Some k.resource) x y) where
       abbrev NewPlace : Place
       NewPlace = place_at k.holder v.number
 
-      placed_first : (q : Key) (u : Held) → get key_cmp n q ≡ Some u
+      placed_first : (q : Key) (u : Held) → held_at n q ≡ Some u
           → get place_cmp y (place_at q.holder u.number) ≡ Some q.resource
-      placed_first q u e = go (is_at (key_cmp k) q) refl (sets q)
+      placed_first q u e = go (is_key k q) refl (sets q)
         where
-          go : (b : Bool) → is_at (key_cmp k) q ≡ b → get key_cmp n q ≡ cond b (Some v) (get key_cmp m q)
+          go : (b : Bool) → is_key k q ≡ b → held_at n q ≡ cond b (Some v) (held_at m q)
               → get place_cmp y (place_at q.holder u.number) ≡ Some q.resource
           go true i f =
-              let here = same_value (get key_cmp n q) v u f e in
+              let here = same_value (held_at n q) v u f e in
               subst (λ (z : Key). get place_cmp y (place_at z.holder u.number) ≡ Some z.resource) (exact k q i)
               (subst (λ (h : Held). get place_cmp y (place_at k.holder h.number) ≡ Some k.resource) here
               (places NewPlace ∙ rw (is_at-place_self NewPlace) refl))
@@ -143,48 +132,48 @@ module _ (m n : BTreeMap Key Held) (x y : BTreeMap Place Text) (ix : IsIndexed m
               new false j g = g ∙ ix.placed q u (sym f ∙ e)
 
       filed_first : (q : Place) (r : Text) → get place_cmp y q ≡ Some r
-          → (u : Held) × (get key_cmp n (record { resource = r; holder = q.holder }) ≡ Some u) × (u.number ≡ q.number)
+          → (u : Held) × (held_at n (record { resource = r; holder = q.holder }) ≡ Some u) × (u.number ≡ q.number)
       filed_first q r e = go (is_at (place_cmp NewPlace) q) refl (places q)
         where
           z : Key
           z = record { resource = r; holder = q.holder }
 
           go : (b : Bool) → is_at (place_cmp NewPlace) q ≡ b → get place_cmp y q ≡ cond b (Some k.resource) (get place_cmp x q)
-              → (u : Held) × (get key_cmp n z ≡ Some u) × (u.number ≡ q.number)
+              → (u : Held) × (held_at n z ≡ Some u) × (u.number ≡ q.number)
           go true i f =
               let s : NewPlace ≡ q = place_exact NewPlace q i in
               let same : k ≡ z =
               ap (λ (t : Text). record k { resource = t }) (same_value (get place_cmp y q) k.resource r f e)
               ∙ ap (λ (o : Process). record z { holder = o }) (ap (λ (t : Place). t.holder) s) in
-              (v, ap (get key_cmp n) (sym same) ∙ sets k ∙ rw (is_at-key_self k) refl, ap (λ (t : Place). t.number) s)
+              (v, ap (held_at n) (sym same) ∙ sets k ∙ rw (is_key_self k) refl, ap (λ (t : Place). t.number) s)
           go false i f = old (ix.filed q r (sym f ∙ e))
             where
-              old : (u : Held) × (get key_cmp m z ≡ Some u) × (u.number ≡ q.number)
-                  → (u : Held) × (get key_cmp n z ≡ Some u) × (u.number ≡ q.number)
-              old h = new (is_at (key_cmp k) z) refl (sets z)
+              old : (u : Held) × (held_at m z ≡ Some u) × (u.number ≡ q.number)
+                  → (u : Held) × (held_at n z ≡ Some u) × (u.number ≡ q.number)
+              old h = new (is_key k z) refl (sets z)
                 where
-                  new : (b : Bool) → is_at (key_cmp k) z ≡ b → get key_cmp n z ≡ cond b (Some v) (get key_cmp m z)
-                      → (u : Held) × (get key_cmp n z ≡ Some u) × (u.number ≡ q.number)
-                  new true j g = absurd (cc (absent, ap (get key_cmp m) (exact k z j), h.1))
+                  new : (b : Bool) → is_key k z ≡ b → held_at n z ≡ cond b (Some v) (held_at m z)
+                      → (u : Held) × (held_at n z ≡ Some u) × (u.number ≡ q.number)
+                  new true j g = absurd (cc (absent, ap (held_at m) (exact k z j), h.1))
                   new false j g = (h.0, g ∙ h.1, h.2)
 
       pub indexed-first : IsIndexed n y
       indexed-first = record { placed = placed_first; filed = filed_first }
 
     -- a grant is gone
-    module _ (found : get key_cmp m k ≡ Some v) (sets : Sets k None m n)
+    module _ (found : held_at m k ≡ Some v) (sets : Sets k None m n)
         (places : SetsAt (place_at k.holder v.number) None x y) where
       abbrev OldPlace : Place
       OldPlace = place_at k.holder v.number
 
-      placed_gone : (q : Key) (u : Held) → get key_cmp n q ≡ Some u
+      placed_gone : (q : Key) (u : Held) → held_at n q ≡ Some u
           → get place_cmp y (place_at q.holder u.number) ≡ Some q.resource
-      placed_gone q u e = go (is_at (key_cmp k) q) refl (sets q)
+      placed_gone q u e = go (is_key k q) refl (sets q)
         where
           t : Place
           t = place_at q.holder u.number
 
-          go : (b : Bool) → is_at (key_cmp k) q ≡ b → get key_cmp n q ≡ cond b None (get key_cmp m q)
+          go : (b : Bool) → is_key k q ≡ b → held_at n q ≡ cond b None (held_at m q)
               → get place_cmp y t ≡ Some q.resource
           go true i f = absurd (cc (f, e))
           go false i f = new (is_at (place_cmp OldPlace) t) refl (places t)
@@ -203,33 +192,33 @@ module _ (m n : BTreeMap Key Held) (x y : BTreeMap Place Text) (ix : IsIndexed m
                   let same : k ≡ q =
                   ap (λ (r : Text). record k { resource = r }) on
                   ∙ ap (λ (o : Process). record q { holder = o }) (ap (λ (z : Place). z.holder) s) in
-                  let self : is_at (key_cmp k) q ≡ true =
-                  subst (λ (z : Key). is_at (key_cmp k) z ≡ true) same (is_at-key_self k) in
+                  let self : is_key k q ≡ true =
+                  subst (λ (z : Key). is_key k z ≡ true) same (is_key_self k) in
                   absurd (cc (i, self))
               new false j g = g ∙ was
 
       filed_gone : (q : Place) (r : Text) → get place_cmp y q ≡ Some r
-          → (u : Held) × (get key_cmp n (record { resource = r; holder = q.holder }) ≡ Some u) × (u.number ≡ q.number)
+          → (u : Held) × (held_at n (record { resource = r; holder = q.holder }) ≡ Some u) × (u.number ≡ q.number)
       filed_gone q r e = go (is_at (place_cmp OldPlace) q) refl (places q)
         where
           z : Key
           z = record { resource = r; holder = q.holder }
 
           go : (b : Bool) → is_at (place_cmp OldPlace) q ≡ b → get place_cmp y q ≡ cond b None (get place_cmp x q)
-              → (u : Held) × (get key_cmp n z ≡ Some u) × (u.number ≡ q.number)
+              → (u : Held) × (held_at n z ≡ Some u) × (u.number ≡ q.number)
           go true i f = absurd (cc (f, e))
           go false i f = old (ix.filed q r (sym f ∙ e))
             where
-              old : (u : Held) × (get key_cmp m z ≡ Some u) × (u.number ≡ q.number)
-                  → (u : Held) × (get key_cmp n z ≡ Some u) × (u.number ≡ q.number)
-              old h = new (is_at (key_cmp k) z) refl (sets z)
+              old : (u : Held) × (held_at m z ≡ Some u) × (u.number ≡ q.number)
+                  → (u : Held) × (held_at n z ≡ Some u) × (u.number ≡ q.number)
+              old h = new (is_key k z) refl (sets z)
                 where
-                  new : (b : Bool) → is_at (key_cmp k) z ≡ b → get key_cmp n z ≡ cond b None (get key_cmp m z)
-                      → (u : Held) × (get key_cmp n z ≡ Some u) × (u.number ≡ q.number)
+                  new : (b : Bool) → is_key k z ≡ b → held_at n z ≡ cond b None (held_at m z)
+                      → (u : Held) × (held_at n z ≡ Some u) × (u.number ≡ q.number)
                   new true j g =
                       let same : k ≡ z = exact k z j in
                       let here : v ≡ h.0 =
-                      same_value (get key_cmp m z) v h.0 (ap (get key_cmp m) (sym same) ∙ found) h.1 in
+                      same_value (held_at m z) v h.0 (ap (held_at m) (sym same) ∙ found) h.1 in
                       let s : OldPlace ≡ q =
                       ap (λ (o : Process). place_at o v.number) (ap (λ (t : Key). t.holder) same)
                       ∙ ap (λ (j : ℕ). place_at q.holder j) (ap (λ (u : Held). u.number) here ∙ h.2) in
@@ -241,33 +230,8 @@ module _ (m n : BTreeMap Key Held) (x y : BTreeMap Place Text) (ix : IsIndexed m
       pub indexed-gone : IsIndexed n y
       indexed-gone = record { placed = placed_gone; filed = filed_gone }
 
--- a place is filled and emptied again
-pub refilled : (x y z : BTreeMap Place Text) (p : Place) (r : Text) → get place_cmp x p ≡ None
-    → SetsAt p (Some r) x y → SetsAt p None y z → (q : Place) → get place_cmp z q ≡ get place_cmp x q
-refilled x y z p r absent fills empties q = go (is_at (place_cmp p) q) refl (fills q) (empties q)
-  where
-    go : (b : Bool) → is_at (place_cmp p) q ≡ b → get place_cmp y q ≡ cond b (Some r) (get place_cmp x q)
-        → get place_cmp z q ≡ cond b None (get place_cmp y q) → get place_cmp z q ≡ get place_cmp x q
-    go true i f g = g ∙ sym (ap (get place_cmp x) (sym (place_exact p q i)) ∙ absent)
-    go false i f g = g ∙ f
-
--- what has the entries of a map has its values
-pub same_gets : (m n : BTreeMap Key Held) → n.entries ≡ m.entries → (q : Key) → get key_cmp n q ≡ get key_cmp m q
-same_gets m n e q = ap (λ (es : List Entry). lookup (is_at (key_cmp q)) es) e
-
-pub number_below : (n : ℕ) (m : BTreeMap Key Held) → All (λ (e : Entry). e.1.number < n) m.entries
-    → (q : Key) (u : Held) → get key_cmp m q ≡ Some u → u.number < n
+-- all numbers are below n
+pub number_below : (n : ℕ) (m : List Entry) → All (λ (e : Entry). e.1.number < n) m
+    → (q : Key) (u : Held) → held_at m q ≡ Some u → u.number < n
 number_below n m below q u e =
-    All-contains (λ (x : Entry). x.1.number < n) m.entries (q, u) below (Contains-from_lookup exact q u m.entries e)
-
--- where all numbers are below n, a number from n on has no place
-pub unplaced : (n : ℕ) (m : BTreeMap Key Held) (x : BTreeMap Place Text) → IsIndexed m x
-    → All (λ (e : Entry). e.1.number < n) m.entries → (h : Process) → get place_cmp x (place_at h n) ≡ None
-unplaced n m x ix below h = go (get place_cmp x (place_at h n)) refl
-  where
-    go : (o : Option Text) → get place_cmp x (place_at h n) ≡ o → get place_cmp x (place_at h n) ≡ None
-    go None e = e
-    go (Some r) e =
-        let f = ix.filed (place_at h n) r e in
-        let l : f.0.number < n = number_below n m below (record { resource = r; holder = h }) f.0 f.1 in
-        absurd (omega (arith, l, f.2))
+    All-contains (λ (x : Entry). x.1.number < n) m (q, u) below (Contains-from_lookup exact q u m e)

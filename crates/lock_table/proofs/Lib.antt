@@ -4,6 +4,7 @@ mod Dropping
 mod Facts
 mod Filing
 mod Finding
+mod First
 mod Holders
 mod Ids
 mod Index
@@ -11,5 +12,6 @@ mod Keys
 mod Listed
 mod Places
 mod Removal
+mod Sharing
 mod Soundness
 mod Steps

@@ -1,17 +1,18 @@
 -- The list of the grants that are filed, and what a change of what is filed makes of it.
-use Rattle.std.proofs.Common.{ℕ, zero, suc, Bool, true, false, ◌==◌, ◌≡◌, ◌<◌, ◌≤◌, List, [], ◌∷◌, ◌++◌, get_or, refl, sym, ap, inl, inr, arith, Ordering}
-use Rattle.std.specs.Prelude.{if◌then◌else◌, filter, map, All, Contains}
-use Rattle.std.specs.BTreeMap.{insert_entry, is_at}
-use Rattle.std.specs.Ordering.{match_ordering, is_eq}
-use Rattle.std.specs.declared.cmp.Ordering.TheVariants.{Less, Equal, Greater}
-use Rattle.std.proofs.lemmas.Bool.{cases_order, eq-eqb, ne_eqb}
-use Rattle.std.proofs.lemmas.List.{map-append}
+use Rattle.std.proofs.Common.{ℕ, zero, suc, Bool, true, false, ◌==◌, ◌≡◌, ◌<◌, ◌≤◌, List, [], ◌∷◌, ◌++◌, length, get_or, refl, sym, ap, subst, ◌∙◌, inl, inr, arith}
+use Rattle.std.specs.Prelude.{if◌then◌else◌, ◌⊎◌, filter, map, All, Contains}
+use Rattle.std.specs.List.{AllByRecursion, IsDistinct}
+use Rattle.std.specs.List.Sorted.{IsPermutation}
+use Rattle.std.proofs.lemmas.Bool.{cases_order, eqb-true, eq-eqb, ne_eqb}
+use Rattle.std.proofs.lemmas.Cmp.{nat_eq_equiv}
+use Rattle.std.proofs.lemmas.List.{append-nil, map-append}
 use Rattle.std.proofs.lemmas.List.Elements.{All-nil, All-cons, All-head, All-tail, All-append, All-contains, All-contains_itself, All-weaker, Contains-append_left, Contains-append_right, filter-append}
-use Rattle.std.proofs.lemmas.Map.{NonePasses}
+use Rattle.std.proofs.lemmas.List.Sorted.{All-permutation, Contains-permutation, IsPermutation-map}
+use Rattle.std.proofs.lemmas.Map.Keys.{IsDistinct-head, IsDistinct-tail, IsDistinct-IsPermutation}
 use Rattle.protocol_model.specs.LockTable.{Grant, Locks}
 use Rattle.lock_table.specs.declared.grant.Key.{Key}
 use Rattle.lock_table.specs.declared.grant.Held.{Held}
-use Rattle.lock_table.specs.Filed.{Entry, grant_of, numbered, listed, key_cmp}
+use Rattle.lock_table.specs.Filed.{Entry, grant_of, numbered, numbers_of, listed}
 
 -- What is so of each grant that is filed is so of each that is listed
 module _ (P : Grant → Type 0) where
@@ -130,80 +131,116 @@ module _ (f : Entry → Bool) (h : Grant → Bool) where
   listed-filter (suc n) es all =
       rw (listed-filter n es all, numbered-filter n es all) (sym (filter-append h (listed n es) (numbered n es)))
 
--- A grant is filed under a key that has none
+numbered-none : (k : ℕ) (es : List Entry) → All (λ (e : Entry). (e.1.number == k) ≡ false) es → numbered k es ≡ []
+numbered-none k [] none = refl
+numbered-none k (e ∷ es) none =
+    rw (All-head (λ (x : Entry). (x.1.number == k) ≡ false) e es none)
+    (numbered-none k es (All-tail (λ (x : Entry). (x.1.number == k) ≡ false) e es none))
+
+-- A grant is filed behind the others
 module _ (q : Key) (v : Held) where
-  numbered-insert_other : (k : ℕ) (es : List Entry) → NonePasses (is_at (key_cmp q)) es → (v.number == k) ≡ false
-      → numbered k (insert_entry key_cmp es q v) ≡ numbered k es
-  numbered-insert_other k [] absent other = rw other refl
-  numbered-insert_other k (e ∷ es) absent other =
-      go (key_cmp q e.0) refl (numbered-insert_other k es absent.1 other)
+  numbered-push : (k : ℕ) (es : List Entry)
+      → numbered k (es ++ (q, v) ∷ []) ≡ numbered k es ++ (if v.number == k then grant_of (q, v) ∷ [] else [])
+  numbered-push k [] = refl
+  numbered-push k (e ∷ es) = go (e.1.number == k) (numbered-push k es)
     where
-      go : (o : Ordering) → key_cmp q e.0 ≡ o → numbered k (insert_entry key_cmp es q v) ≡ numbered k es
-          → numbered k (match_ordering o ((q, v) ∷ e ∷ es) ((e.0, v) ∷ es) (e ∷ insert_entry key_cmp es q v))
-          ≡ numbered k (e ∷ es)
-      go Less i r = rw other refl
-      go Equal i r = absurd (cc (ap is_eq i, absent.0))
-      go Greater i r = rw r refl
+      last : Locks
+      last = if v.number == k then grant_of (q, v) ∷ [] else []
 
-  numbered-insert_first : (es : List Entry) → NonePasses (is_at (key_cmp q)) es
-      → All (λ (e : Entry). e.1.number < v.number) es
-      → numbered v.number (insert_entry key_cmp es q v) ≡ grant_of (q, v) ∷ []
-  numbered-insert_first [] absent below = rw (eq-eqb v.number v.number refl) refl
-  numbered-insert_first (e ∷ es) absent below =
-      go (key_cmp q e.0) refl (numbered-insert_first es absent.1)
-    where
-      rest : All (λ (x : Entry). x.1.number < v.number) es
-      rest = All-tail (λ (x : Entry). x.1.number < v.number) e es below
+      go : (b : Bool) → numbered k (es ++ (q, v) ∷ []) ≡ numbered k es ++ last
+          → (if b then grant_of e ∷ numbered k (es ++ (q, v) ∷ []) else numbered k (es ++ (q, v) ∷ []))
+          ≡ (if b then grant_of e ∷ numbered k es else numbered k es) ++ last
+      go true r = ap (λ (t : Locks). grant_of e ∷ t) r
+      go false r = r
 
-      lower : (e.1.number == v.number) ≡ false
-      lower =
-          let l : e.1.number < v.number = All-head (λ (x : Entry). x.1.number < v.number) e es below in
-          ne_eqb e.1.number v.number (λ i. absurd (omega (arith, i, l)))
-
-      none : (fs : List Entry) → All (λ (x : Entry). x.1.number < v.number) fs → numbered v.number fs ≡ []
-      none [] h = refl
-      none (x ∷ fs) h =
-          let l : x.1.number < v.number = All-head (λ (y : Entry). y.1.number < v.number) x fs h in
-          rw (ne_eqb x.1.number v.number (λ i. absurd (omega (arith, i, l))))
-          (none fs (All-tail (λ (y : Entry). y.1.number < v.number) x fs h))
-
-      go : (o : Ordering) → key_cmp q e.0 ≡ o
-          → (All (λ (x : Entry). x.1.number < v.number) es
-          → numbered v.number (insert_entry key_cmp es q v) ≡ grant_of (q, v) ∷ [])
-          → numbered v.number (match_ordering o ((q, v) ∷ e ∷ es) ((e.0, v) ∷ es) (e ∷ insert_entry key_cmp es q v))
-          ≡ grant_of (q, v) ∷ []
-      go Less i r = rw (eq-eqb v.number v.number refl, lower, none es rest) refl
-      go Equal i r = absurd (cc (ap is_eq i, absent.0))
-      go Greater i r = rw lower (r rest)
-
-  listed-insert_other : (n : ℕ) (es : List Entry) → NonePasses (is_at (key_cmp q)) es → n ≤ v.number
-      → listed n (insert_entry key_cmp es q v) ≡ listed n es
-  listed-insert_other zero es absent low = refl
-  listed-insert_other (suc n) es absent low = rw (
-    listed-insert_other n es absent (omega (arith, low)),
-    numbered-insert_other n es absent (ne_eqb v.number n (λ i. absurd (omega (arith, i, low)))),
+  listed-push_other : (n : ℕ) (es : List Entry) → n ≤ v.number → listed n (es ++ (q, v) ∷ []) ≡ listed n es
+  listed-push_other zero es low = refl
+  listed-push_other (suc n) es low = rw (
+    listed-push_other n es (omega (arith, low)),
+    numbered-push n es,
+    ne_eqb v.number n (λ i. absurd (omega (arith, i, low))),
+    append-nil (numbered n es),
   ) refl
 
-  pub listed-insert : (es : List Entry) → NonePasses (is_at (key_cmp q)) es
-      → All (λ (e : Entry). e.1.number < v.number) es
-      → listed (suc v.number) (insert_entry key_cmp es q v) ≡ listed v.number es ++ grant_of (q, v) ∷ []
-  listed-insert es absent below = rw (
-    listed-insert_other v.number es absent (omega arith),
-    numbered-insert_first es absent below,
+  pub listed-push : (es : List Entry) → All (λ (e : Entry). e.1.number < v.number) es
+      → listed (suc v.number) (es ++ (q, v) ∷ []) ≡ listed v.number es ++ grant_of (q, v) ∷ []
+  listed-push es below = rw (
+    listed-push_other v.number es (omega arith),
+    numbered-push v.number es,
+    eq-eqb v.number v.number refl,
+    numbered-none v.number es
+        (All-weaker (λ (e : Entry). e.1.number < v.number) (λ (e : Entry). (e.1.number == v.number) ≡ false)
+        (λ e l. ne_eqb e.1.number v.number (λ i. absurd (omega (arith, i, l)))) es below),
   ) refl
 
-  pub below-insert : (n : ℕ) (es : List Entry) → v.number < n → All (λ (e : Entry). e.1.number < n) es
-      → All (λ (e : Entry). e.1.number < n) (insert_entry key_cmp es q v)
-  below-insert n [] new below = All-cons (λ (e : Entry). e.1.number < n) (q, v) [] new below
-  below-insert n (e ∷ es) new below =
-      go (key_cmp q e.0)
-      (below-insert n es new (All-tail (λ (x : Entry). x.1.number < n) e es below))
+-- Where no number is there twice, the order of what is filed makes no difference
+module _ (k : ℕ) where
+  -- whether the number is there
+  search_number : (es : List Entry)
+      → All (λ (e : Entry). (e.1.number == k) ≡ false) es ⊎ ((x : Entry) × Contains es x × (x.1.number ≡ k))
+  search_number [] = inl (All-nil (λ (e : Entry). (e.1.number == k) ≡ false))
+  search_number (e ∷ es) = go (e.1.number == k) refl (search_number es)
     where
       P : Entry → Type 0
-      P x = x.1.number < n
+      P x = (x.1.number == k) ≡ false
 
-      go : (o : Ordering) → All P (insert_entry key_cmp es q v)
-          → All P (match_ordering o ((q, v) ∷ e ∷ es) ((e.0, v) ∷ es) (e ∷ insert_entry key_cmp es q v))
-      go Less r = All-cons P (q, v) (e ∷ es) new below
-      go Equal r = All-cons P (e.0, v) es new (All-tail P e es below)
-      go Greater r = All-cons P e (insert_entry key_cmp es q v) (All-head P e es below) r
+      go : (b : Bool) → (e.1.number == k) ≡ b → All P es ⊎ ((x : Entry) × Contains es x × (x.1.number ≡ k))
+          → All P (e ∷ es) ⊎ ((x : Entry) × Contains (e ∷ es) x × (x.1.number ≡ k))
+      go true i rest = inr (e, (0, omega arith, refl), eqb-true e.1.number k i)
+      go false i (inl none) = inl (All-cons P e es i none)
+      go false i (inr h) = inr (h.0, Contains-append_right (e ∷ []) es h.0 h.1, h.2)
+
+  none_later : (es : List Entry) → AllByRecursion (λ j. (k == j) ≡ false) (numbers_of es) → numbered k es ≡ []
+  none_later [] apart = refl
+  none_later (e ∷ es) apart =
+      rw (ne_eqb e.1.number k (λ i. absurd (cc (apart.0, eq-eqb k e.1.number (sym i))))) (none_later es apart.1)
+
+  apart_later : (es : List Entry) → AllByRecursion (λ j. (k == j) ≡ false) (numbers_of es) → (i : ℕ) (x : Entry)
+      → i < length es → get_or es i x ≡ x → (k == x.1.number) ≡ false
+  apart_later [] apart i x l at = absurd (omega (arith, l))
+  apart_later (e ∷ es) apart zero x l at = subst (λ (y : Entry). (k == y.1.number) ≡ false) at apart.0
+  apart_later (e ∷ es) apart (suc i) x l at = apart_later es apart.1 i x (omega (arith, l)) at
+
+  numbered-one : (x : Entry) → x.1.number ≡ k → (es : List Entry) → IsDistinct (λ a b. a == b) (numbers_of es)
+      → (i : ℕ) → i < length es → get_or es i x ≡ x → numbered k es ≡ grant_of x ∷ []
+  numbered-one x here [] once i l at = absurd (omega (arith, l))
+  numbered-one x here (e ∷ es) once zero l at = rw (eq-eqb e.1.number k number, none_later es apart)
+      (ap (λ (y : Entry). grant_of y ∷ []) at)
+    where
+      number : e.1.number ≡ k
+      number = ap (λ (y : Entry). y.1.number) at ∙ here
+
+      apart : AllByRecursion (λ j. (k == j) ≡ false) (numbers_of es)
+      apart = subst (λ (m : ℕ). AllByRecursion (λ j. (m == j) ≡ false) (numbers_of es)) number
+          (IsDistinct-head (λ a b. a == b) e.1.number (numbers_of es) once)
+  numbered-one x here (e ∷ es) once (suc i) l at = rw (ne_eqb e.1.number k apart)
+      (numbered-one x here es (IsDistinct-tail (λ a b. a == b) e.1.number (numbers_of es) once) i (omega (arith, l)) at)
+    where
+      apart : e.1.number ≡ k → ⊥
+      apart number =
+          let other = apart_later es (subst (λ (m : ℕ). AllByRecursion (λ j. (m == j) ≡ false) (numbers_of es)) number
+          (IsDistinct-head (λ a b. a == b) e.1.number (numbers_of es) once)) i x (omega (arith, l)) at in
+          absurd (cc (other, eq-eqb k x.1.number (sym here)))
+
+pub once-permuted : (es fs : List Entry) → IsPermutation es fs → IsDistinct (λ a b. a == b) (numbers_of es)
+    → IsDistinct (λ a b. a == b) (numbers_of fs)
+once-permuted es fs moved once =
+    IsDistinct-IsPermutation (λ a b. a == b) (λ a b. nat_eq_equiv.symm a b) (numbers_of es) (numbers_of fs)
+    (IsPermutation-map (λ (e : Entry). e.1.number) es fs moved) once
+
+numbered-permuted : (k : ℕ) (es fs : List Entry) → IsPermutation es fs → IsDistinct (λ a b. a == b) (numbers_of es)
+    → numbered k es ≡ numbered k fs
+numbered-permuted k es fs moved once = elim (search_number k es) [
+  | inl none ↦ numbered-none k es none
+      ∙ sym (numbered-none k fs (All-permutation (λ (e : Entry). (e.1.number == k) ≡ false) es fs moved none))
+  | inr h ↦
+      let at : Contains fs h.0 = Contains-permutation es fs h.0 moved h.1 in
+      numbered-one k h.0 h.2 es once h.1.0 h.1.1 h.1.2
+      ∙ sym (numbered-one k h.0 h.2 fs (once-permuted es fs moved once) at.0 at.1 at.2)
+]
+
+pub listed-permuted : (n : ℕ) (es fs : List Entry) → IsPermutation es fs → IsDistinct (λ a b. a == b) (numbers_of es)
+    → listed n es ≡ listed n fs
+listed-permuted zero es fs moved once = refl
+listed-permuted (suc n) es fs moved once =
+    rw (listed-permuted n es fs moved once, numbered-permuted n es fs moved once) refl

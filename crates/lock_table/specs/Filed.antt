@@ -1,10 +1,8 @@
 -- Grants that are filed by what they are on and who has them, each under a number that rises with the first grants.
-use Rattle.std.specs.Prelude.{ℕ, zero, suc, ◌≡◌, ◌<◌, ◌==◌, ◌⊎◌, false, All, Contains, List, [], ◌∷◌, ◌++◌, if◌then◌else◌}
-use Rattle.std.specs.List.Sorted.{IsStrictlySortedBy}
-use Rattle.std.specs.Map.{keys_of}
-use Rattle.std.specs.Ordering.{nat_cmp, ordering_then}
-use Rattle.std.specs.declared.cmp.Ordering.{Ordering}
-use Rattle.registry_model.specs.Process.{Text}
+use Rattle.std.specs.Prelude.{ℕ, zero, suc, Bool, ◌<◌, ◌==◌, ◌&&◌, All, Option, List, [], ◌∷◌, ◌++◌, map, if◌then◌else◌}
+use Rattle.std.specs.List.{IsDistinct}
+use Rattle.std.specs.Map.{keys_of, lookup}
+use Rattle.registry_model.specs.Process.{Text, is_process}
 use Rattle.protocol_model.specs.LockTable.{Grant, Locks}
 use Rattle.lock_table.specs.Ids.{id_of}
 use Rattle.lock_table.specs.Sound.{IsSound}
@@ -22,6 +20,14 @@ grant_of e = record {
   count = e.1.count;
 }
 
+-- the first grant that is filed under a key in the requester's name
+abbrev pub first_grant : Key → Text → Grant
+first_grant k q = record {
+  id = id_of (record { resource = k.resource; requester = q });
+  holder = k.holder;
+  count = 1;
+}
+
 -- the grants of number k
 abbrev pub numbered : ℕ → List Entry → Locks
 numbered k [] = []
@@ -32,27 +38,20 @@ abbrev pub listed : ℕ → List Entry → Locks
 listed zero es = []
 listed (suc n) es = listed n es ++ numbered n es
 
--- by resource, then by holder
-abbrev pub key_cmp : Key → Key → Ordering
-key_cmp a b =
-    ordering_then (nat_cmp a.resource b.resource)
-    (ordering_then (nat_cmp a.holder.node b.holder.node) (nat_cmp a.holder.serial b.holder.serial))
+-- of the same resource and holder
+abbrev pub is_key : Key → Key → Bool
+is_key a b = (a.resource == b.resource) && is_process a.holder b.holder
 
--- the keys rise, all are numbered below n, and their list is a sound table
+-- what is filed under a key
+abbrev pub held_at : List Entry → Key → Option Held
+held_at es k = lookup (is_key k) es
+
+abbrev pub numbers_of : List Entry → List ℕ
+numbers_of es = map (λ e. e.1.number) es
+
+-- no key and no number is there twice, all are numbered below n, and their list is a sound table
 pub record IsFiled (n : ℕ) (es : List Entry) : Type 0 where
-  pub ordered : IsStrictlySortedBy key_cmp (keys_of es)
+  pub once : IsDistinct is_key (keys_of es)
+  pub numbered_once : IsDistinct (λ a b. a == b) (numbers_of es)
   pub below : All (λ e. e.1.number < n) es
   pub sound : IsSound (listed n es)
-
--- some grant on the resource is in the requester's name
-abbrev pub HasUnder : Text → List Entry → Text → Type 0
-HasUnder resource es requester =
-    (e : Entry) × Contains es e × (e.0.resource ≡ resource) × (e.1.requester ≡ requester)
-
--- no grant is on the resource
-abbrev pub IsNoneOn : Text → List Entry → Type 0
-IsNoneOn resource es = All (λ e. (e.0.resource == resource) ≡ false) es
-
--- no grant on the resource is in another requester's name than this one's
-abbrev pub IsOpenTo : Text → List Entry → Text → Type 0
-IsOpenTo resource es requester = IsNoneOn resource es ⊎ HasUnder resource es requester

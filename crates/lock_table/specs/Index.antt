@@ -1,11 +1,11 @@
 -- Where the grants of each holder stand.
-use Rattle.std.specs.Prelude.{ℕ, Bool, ◌≡◌, ◌==◌, ◌&&◌, true, false, Contains, Some, None, IsSome}
+use Rattle.std.specs.Prelude.{ℕ, Bool, List, ◌≡◌, ◌==◌, ◌&&◌, true, false, Contains, Some, None, IsSome}
 use Rattle.std.specs.BTreeMap.{BTreeMap, get}
 use Rattle.std.specs.Ordering.{nat_cmp, ordering_then, is_gt}
 use Rattle.std.specs.declared.cmp.Ordering.{Ordering}
 use Rattle.registry_model.specs.Process.{Text, Process, is_process}
 use Rattle.protocol_model.specs.LockTable.{Grant, Locks}
-use Rattle.lock_table.specs.Filed.{key_cmp}
+use Rattle.lock_table.specs.Filed.{Entry, held_at}
 use Rattle.lock_table.specs.Ids.{resource_of}
 use Rattle.lock_table.specs.declared.grant.Key.{Key}
 use Rattle.lock_table.specs.declared.grant.Held.{Held}
@@ -22,11 +22,11 @@ abbrev pub place_at : Process → ℕ → Place
 place_at p n = record { holder = p; number = n }
 
 -- each grant stands once, at its holder and its number, and nothing else does
-pub record IsIndexed (grants : BTreeMap Key Held) (by_holder : BTreeMap Place Text) : Type 0 where
-  pub placed : (k : Key) (v : Held) → get key_cmp grants k ≡ Some v
+pub record IsIndexed (grants : List Entry) (by_holder : BTreeMap Place Text) : Type 0 where
+  pub placed : (k : Key) (v : Held) → held_at grants k ≡ Some v
       → get place_cmp by_holder (place_at k.holder v.number) ≡ Some k.resource
   pub filed : (q : Place) (r : Text) → get place_cmp by_holder q ≡ Some r
-      → (v : Held) × (get key_cmp grants (record { resource = r; holder = q.holder }) ≡ Some v) × (v.number ≡ q.number)
+      → (v : Held) × (held_at grants (record { resource = r; holder = q.holder }) ≡ Some v) × (v.number ≡ q.number)
 
 -- place b is a or behind it
 abbrev pub IsFrom : Place → Place → Type 0

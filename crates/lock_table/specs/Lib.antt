@@ -1,5 +1,6 @@
 pub mod Filed
 pub mod Ids
 pub mod Index
+pub mod Sharers
 pub mod Sound
 pub mod Verdicts

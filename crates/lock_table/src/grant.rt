@@ -3,8 +3,8 @@ ghost use Rattle.std.specs.Prelude.{◌≡◌};
 
 use term::{LockId, Pid, Requester, Resource};
 
-/// What a grant is filed under: what the lock is on, and who has it. The grants of one resource stand together.
-#[derive(Debug, PartialEq, Eq, PartialOrd, Ord, Drop)]
+/// What a grant is filed under: what the lock is on, and who has it.
+#[derive(Debug, PartialEq, Eq, Hash, Drop)]
 pub(crate) struct Key {
     pub(crate) resource: Resource,
     pub(crate) holder: Pid,

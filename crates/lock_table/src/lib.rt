@@ -3,12 +3,10 @@
 
 mod grant;
 mod laws;
+mod sharers;
 mod table;
 mod verdict;
 
 pub use laws::sound_tables_tell_who_holds;
 pub use table::LockTable;
 pub use verdict::Verdict;
-
-#[cfg(test)]
-mod tests;

@@ -1,15 +1,17 @@
 //! Lock tables.
-ghost use Rattle.std.specs.Prelude.{◌≡◌, ◌==◌, false, not, [], filter, All, IfOk, IfNone, IfSome, OnOk, OnErr};
+ghost use Rattle.std.specs.Prelude.{◌≡◌, ◌==◌, ◌++◌, ◌∷◌, false, not, [], filter, All, IfOk, IfNone, IfSome, OnOk, OnErr};
 ghost use Rattle.registry_model.specs.Process.{is_process};
-ghost use Rattle.protocol_model.specs.LockTable.{count, refused_for, give_back, drop_holder, drop_node};
+ghost use Rattle.protocol_model.specs.LockTable.{count, refused_for, give_back, drop_holder, drop_node, is_in_the_way};
 ghost use Rattle.lock_table.specs.Ids.{id_of};
-ghost use Rattle.lock_table.specs.Filed.{HasUnder, IsNoneOn, IsOpenTo};
+ghost use Rattle.lock_table.specs.Filed.{first_grant};
 ghost use Rattle.lock_table.specs.Index.{IsFirstFrom, IsNoneFrom, IsListedUnder, is_under};
 ghost use Rattle.lock_table.specs.Sound.{IsSound};
 ghost use Rattle.lock_table.specs.Verdicts.{verdict_of, asked, IsFirstGrant};
 
 use crate::grant::{Held, Key, Place};
+use crate::sharers::{Shared, join, leave, other_requester};
 use crate::verdict::Verdict;
+use indexmap::IndexMap;
 use std::alloc::{AllocError, Global};
 use std::collections::BTreeMap;
 use std::marker::Model;
@@ -22,7 +24,8 @@ use term::{LockId, NodeName, Pid, Requester, Resource};
 /// holder that is dropped, or of a node.
 #[derive(Debug, Drop)]
 pub struct LockTable {
-    grants: BTreeMap<Key, Held>,
+    grants: IndexMap<Key, Held>,
+    shared: Shared,
     /// The resource of each grant, where the grant stands among its holder's.
     by_holder: BTreeMap<Place, Resource>,
     /// The number of the next first grant: the grants are listed as their numbers rise.
@@ -33,48 +36,13 @@ impl Model for LockTable {
     ghost use Rattle.protocol_model.specs.LockTable.{Locks};
     ghost use Rattle.lock_table.specs.Filed.{listed, IsFiled};
     ghost use Rattle.lock_table.specs.Index.{IsIndexed};
+    ghost use Rattle.lock_table.specs.Sharers.{IsShared};
 
     ghost Value = { Locks };
 
     ghost view = { λ t. listed t.next t.grants.entries };
 
-    ghost invariant = { λ t. IsFiled t.next t.grants.entries × IsIndexed t.grants t.by_holder };
-}
-
-/// The requester that the resource of a key is under, if it is under any. The resource's grants stand together, so one
-/// of them is the next to the key, on one side or the other.
-fn requester_near(grants: &BTreeMap<Key, Held>, key: &Key) -> Option<Requester>
-    ensures some { IfSome result (HasUnder key.now.resource grants.now.entries) }
-    ensures none { IfNone result (IsNoneOn key.now.resource grants.now.entries) }
-{
-    if let Some((next, held)) = grants.range(key..).next() {
-        if next.resource == key.resource {
-            return Some(held.requester.copy());
-        }
-    }
-    let (last, held) = grants.range(..key).next_back()?;
-    if last.resource == key.resource {
-        Some(held.requester.copy())
-    } else {
-        None
-    }
-}
-
-/// The requester that keeps others from the resource of a key, where it is not this one.
-fn other_requester(
-    grants: &BTreeMap<Key, Held>,
-    key: &Key,
-    requester: &Requester,
-) -> Option<Requester>
-    ensures some { IfSome result (λ other. HasUnder key.now.resource grants.now.entries other × ((other == requester.now) ≡ false)) }
-    ensures none { IfNone result (IsOpenTo key.now.resource grants.now.entries requester.now) }
-{
-    let holding = requester_near(grants, key)?;
-    if holding == *requester {
-        None
-    } else {
-        Some(holding)
-    }
+    ghost invariant = { λ t. IsFiled t.next t.grants.entries × IsIndexed t.grants.entries t.by_holder × IsShared t.grants.entries t.shared.entries };
 }
 
 /// The key of the first grant that stands at a place or behind it.
@@ -95,7 +63,8 @@ impl LockTable {
         ensures { result ≡ [] }
     {
         LockTable {
-            grants: BTreeMap::new(alloc),
+            grants: IndexMap::new(alloc),
+            shared: IndexMap::new(alloc),
             by_holder: BTreeMap::new(alloc),
             next: 0,
         }
@@ -121,10 +90,10 @@ impl LockTable {
         ensures unchanged { OnErr result (self.new ≡ self.old) }
         ensures err { OnErr result (IsFirstGrant (id_of id) holder self.old) }
     {
-        let key = Key::of(&id, &holder);
-        if let Some(other) = other_requester(&self.grants, &key, &id.requester) {
+        if let Some(other) = other_requester(&self.shared, &id.resource, &id.requester) {
             return Ok(Verdict::Refuse(other));
         }
+        let key = Key::of(&id, &holder);
         match self.grants.get_mut(&key) {
             Some(held) => {
                 if held.count == u32::MAX {
@@ -132,26 +101,36 @@ impl LockTable {
                 }
                 held.count += 1;
             }
-            None => {
-                let number = self.next;
-                let Some(next) = number.checked_add(1) else {
-                    return Err(AllocError);
-                };
-                let place = Place::of(&holder, number);
-                self.by_holder.insert(place, key.resource.copy())?;
-                let held = Held {
-                    requester: id.requester,
-                    count: 1,
-                    number,
-                };
-                if self.grants.insert(key, held).is_err() {
-                    self.by_holder.remove(&Place::of(&holder, number));
-                    return Err(AllocError);
-                }
-                self.next = next;
-            }
+            None => self.file(key, id.requester)?,
         }
         Ok(Verdict::Grant)
+    }
+
+    /// Files the first grant of a key, whose resource no other requester has. What can be refused comes before what
+    /// can't, so a refusal changes nothing.
+    fn file(&mut self, key: Key, requester: Requester) -> Result<(), AllocError>
+        requires absent { All (λ g. is_under key g ≡ false) self.old }
+        requires free { All (λ g. is_in_the_way (first_grant key requester).id g ≡ false) self.old }
+        ensures ok { OnOk result (self.new ≡ self.old ++ first_grant key requester ∷ []) }
+        ensures err { OnErr result (self.new ≡ self.old) }
+    {
+        let number = self.next;
+        let Some(next) = number.checked_add(1) else {
+            return Err(AllocError);
+        };
+        self.grants.reserve(1)?;
+        self.shared.reserve(1)?;
+        let place = Place::of(&key.holder, number);
+        self.by_holder.insert(place, key.resource.copy())?;
+        join(&mut self.shared, &key.resource, &requester);
+        let held = Held {
+            requester,
+            count: 1,
+            number,
+        };
+        let _none = self.grants.insert(key, held).unwrap();
+        self.next = next;
+        Ok(())
     }
 
     /// Takes one count of a holder away, where there is one.
@@ -175,8 +154,9 @@ impl LockTable {
     fn remove(&mut self, key: &Key)
         ensures { self.new ≡ filter (λ g. not (is_under key.now g)) self.old }
     {
-        if let Some(held) = self.grants.remove(key) {
+        if let Some(held) = self.grants.swap_remove(key) {
             self.by_holder.remove(&Place::of(&key.holder, held.number));
+            leave(&mut self.shared, &key.resource);
         }
     }
 

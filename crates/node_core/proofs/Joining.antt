@@ -41,7 +41,7 @@ use Rattle.node_events.specs.declared.events.Reply.TheVariants.{Joined as IsJoin
 use Rattle.node_core.specs.declared.node.Phase.TheVariants.{Writing}
 use Rattle.node_events.specs.Made.{Made, sent, SendsAll, entered, answered}
 use Rattle.node_core.specs.Held.{Held, IsWhole, IsWithin, bound_of}
-use Rattle.node_core.specs.Joining.{join_by, kill_one, put_names, IsAdmitting, IsWelcomeTo}
+use Rattle.node_core.specs.Joining.{Welcomes, TellsToAdmit, join_by, kill_one, put_names, IsAdmitting, IsWelcomeTo}
 use Rattle.node_events.specs.Letters.{letter_of}
 use Rattle.node_core.specs.Seen.{node_of, turn_of, current_of}
 use Rattle.node_events.specs.Seen.{answer_of, reply_of, unnumbered}
@@ -353,6 +353,18 @@ writes (Some x) op asked all e =
     ap (λ (y : AnyOp). Current.Writing y (set_of asked) (set_of all) None) same
 
 -- a lone node j is let in by the node h: all are its members and j
+-- a joiner is sent all that a node has
+pub welcomed_by : (h0 h : Held) (j k : ℕ) (s : Settled) (t u : Made) (m : Letter) → h0 ≡ h → letter_of m
+    ≡ AnyLetter.Welcome (with_node j (set_of h0.members)) (put_all s.puts h0.table) (set_of h0.told) s.kills
+    → k ≡ j → u ≡ sent k m t → Welcomes h j s t u
+welcomed_by h0 h j k s t u m same is to sends =
+    subst (λ (x : Held). Welcomes x j s t u) same (m, is, sends ∙ ap (λ (c : ℕ). sent c m t) to)
+
+-- the members are told to admit it
+pub admits_by : (h0 h : Held) (j : ℕ) (s : Settled) (t u : Made) (l : Letter) → h0 ≡ h
+    → letter_of l ≡ AnyLetter.Admit j s.puts s.kills → SendsAll h0.members l t u → TellsToAdmit h j s t u
+admits_by h0 h j s t u l same is sends = subst (λ (x : Held). TellsToAdmit x j s t u) same (l, is, sends)
+
 pub lets_in : (h0 h : Held) (t u v x : Made) (w : Work) (asked all : List ℕ) (a j j1 j2 : ℕ) (l m : Letter)
     (s : Settled) (pairs : Table)
     → h0 ≡ h → IsWhole h0 → set_of h0.world j ≡ true → IsNodeSet h0.members

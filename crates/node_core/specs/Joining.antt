@@ -1,9 +1,11 @@
 -- The rules of joins: what a node needs to know of whom it hears.
 use Rattle.std.specs.Prelude.{ℕ, fold, ◌==◌, ◌≡◌, true, false, Option, Some, None, List, if◌then◌else◌}
 use Rattle.std.specs.Option.{option_map}
-use Rattle.registry_model.specs.Table.{Table, Put, is_rising}
-use Rattle.registry_model.specs.Process.{Process}
+use Rattle.registry_model.specs.Table.{Table, Put, is_rising, put_all}
+use Rattle.registry_model.specs.Process.{Process, with_node}
 use Rattle.registry_model.specs.Registry.{Replica}
+use Rattle.registry_model.specs.Settlement.{Settled}
+use Rattle.protocol_model.specs.Letter.{Letter as AnyLetter}
 use Rattle.protocol_model.specs.Node.{Op, Current, wrote}
 use Rattle.protocol_model.specs.Turn.{Turn}
 use Rattle.protocol_model.specs.Watch.{is_live}
@@ -11,6 +13,9 @@ use Rattle.protocol_model.specs.Calling.{die}
 use Rattle.term.specs.NodeSets.{set_of}
 use Rattle.transaction.specs.Ops.{op_of}
 use Rattle.exchange.specs.declared.bodies.Welcome.{Welcome}
+use Rattle.node_events.specs.declared.events.Letter.{Letter}
+use Rattle.node_events.specs.Letters.{letter_of}
+use Rattle.node_events.specs.Made.{Made, sent, SendsAll}
 use Rattle.node_core.specs.Held.{Held, IsWithin}
 
 -- the number of the join that waits for its contact, if one does
@@ -34,6 +39,16 @@ pub record IsWelcomeTo (world : List ℕ) (a : ℕ) (w : Welcome) : Type 0 where
 -- the current operation is the admission of j, which has these names
 abbrev pub IsAdmitting : Held → ℕ → Table → Type 0
 IsAdmitting h j pairs = option_map op_of h.registrar.current ≡ Some (Op.Admission j pairs)
+
+-- the members are told to admit j
+abbrev pub TellsToAdmit : Held → ℕ → Settled → Made → Made → Type 0
+TellsToAdmit h j s t u = (l : Letter) × (letter_of l ≡ AnyLetter.Admit j s.puts s.kills) × SendsAll h.members l t u
+
+-- j is sent all that the node has, and what is settled
+abbrev pub Welcomes : Held → ℕ → Settled → Made → Made → Type 0
+Welcomes h j s t u = (m : Letter)
+    × (letter_of m ≡ AnyLetter.Welcome (with_node j (set_of h.members)) (put_all s.puts h.table) (set_of h.told) s.kills)
+    × (u ≡ sent j m t)
 
 -- p dies, if it lives here
 abbrev pub kill_one : ℕ → ℕ → Process → Turn → Turn

@@ -17,11 +17,14 @@ use Rattle.node_events.specs.declared.events.Letter.{Letter}
 use Rattle.node_events.specs.declared.events.Letter.TheVariants.{JoinAsk, Admit, Welcome, Down}
 use Rattle.node_events.specs.declared.events.StepFault.{StepFault}
 use Rattle.node_core.specs.Held.{Held, bound_of}
-use Rattle.node_events.specs.Made.{Made}
+use Rattle.node_events.specs.Made.{Made, entered}
+use Rattle.node_events.specs.declared.events.Reply.{Reply}
+use Rattle.node_events.specs.declared.events.Entry.TheVariants.{Name}
+use Rattle.transaction.specs.declared.op.NameCall.{NameCall}
 use Rattle.node_events.specs.Letters.{letter_of}
 use Rattle.node_core.specs.Joining.{IsWelcomeTo}
 use Rattle.node_core.specs.Seen.{node_of, turn_of, turn_by}
-use Rattle.node_events.specs.Seen.{unnumbered, call_of, fault_of}
+use Rattle.node_events.specs.Seen.{unnumbered, call_of, fault_of, reply_of}
 
 -- what no step changes, whatever comes of it
 pub record Keeps (old new : Held) : Type 0 where
@@ -37,6 +40,10 @@ pub record Makes (rule : ℕ → ℕ → Turn → Turn) (h : Held) (t : Made) (k
 -- the same of a rule for the current operation, where there is one
 abbrev pub Works : (AnyOp → ℕ → ℕ → Turn → Turn) → Held → Made → Held → Made → Type 0
 Works rule h t k u = (op : Op) → h.registrar.current ≡ Some op → Makes (rule (op_of op)) h t k u
+
+-- a name call of node a enters what is made, with this reply
+abbrev pub EntersCall : ℕ → ℕ → NameCall → Reply → Made → Made → Type 0
+EntersCall a call c r t u = (s : Reply) × (reply_of s ≡ reply_of r) × (u ≡ entered (Name a call c s) t)
 
 -- another node of the world
 abbrev pub IsOther : List ℕ → ℕ → ℕ → Type 0

@@ -293,6 +293,14 @@ impl<N: Names<Memory = Global>> NodeCore<N> {
         &self.table
     }
 
+    /// The nodes of its world, itself among them.
+    pub fn world(&self) -> &NodeSet
+        ensures world { result.now ≡ self.now.world }
+        ensures whole { IsWhole self.now }
+    {
+        &self.world
+    }
+
     /// Its members, itself among them.
     pub fn members(&self) -> &NodeSet
         ensures members { result.now ≡ self.now.members }

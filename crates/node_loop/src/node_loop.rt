@@ -53,25 +53,26 @@ impl<N: Names> Model for NodeLoop<N> {
 }
 
 impl<N: Names<Memory = Global>> NodeLoop<N> {
-    /// The loop of a node of this world that hasn't taken a step in it: nothing is logged, nothing is to be sent, nobody waits.
-    pub fn new(alloc: Global, core: NodeCore<N>, world: &NodeSet) -> Result<Self, AllocError>
+    /// The loop of a node that hasn't taken a step in it: nothing is logged, nothing is to be sent, nobody waits.
+    pub fn new(alloc: Global, core: NodeCore<N>) -> Result<Self, AllocError>
         ensures { IfOk result (λ new. new ≡ record {
           core = core;
-          world = world.now;
+          world = core.world;
           log = record { node = core.name; entries = [] };
-          tray = map none_for world.now;
+          tray = map none_for core.world;
           desk = empty_desk;
           stamp = 0;
           left = false;
           worked = false;
         }) }
     {
-        let log = Log::new(alloc, core.name().copy(), world);
-        let tray = Tray::new(alloc, world)?;
+        let world = core.world().copy();
+        let log = Log::new(alloc, core.name().copy(), &world);
+        let tray = Tray::new(alloc, &world)?;
         Ok(NodeLoop {
             alloc,
             core,
-            world: world.copy(),
+            world,
             log,
             tray,
             desk: Desk::new(alloc),

@@ -1,1 +1,5 @@
+pub mod Turns
 pub mod Holders
+pub mod Opening
+pub mod Rows
+pub mod Closing

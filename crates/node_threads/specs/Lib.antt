@@ -6,3 +6,6 @@ pub mod Faults
 pub mod Callers
 pub mod Seats
 pub mod Holders
+pub mod Closing
+pub mod Cores
+pub mod Clusters

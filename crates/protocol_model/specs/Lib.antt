@@ -17,6 +17,7 @@ pub mod Fit
 pub mod Answers
 pub mod Headline
 pub mod ClientLocks
+pub mod Leftovers
 pub mod Script
 pub mod RowWords
 pub mod Tests

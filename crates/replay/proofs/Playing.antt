@@ -11,6 +11,7 @@ use Rattle.cluster_world.specs.Excluding.{ExclusionAfter}
 use Rattle.cluster_world.specs.Playing.{Keeps}
 use Rattle.cluster_world.specs.Seen.{opening_of, seen}
 use Rattle.cluster_world.proofs.Agreeing.{same_opening}
+use Rattle.cluster_world.proofs.Leftovers.{nothing_left}
 use Rattle.node_log.specs.Entries.{Entry, Logged}
 use Rattle.replay.specs.declared.merge.Reader.{Reader}
 use Rattle.replay.specs.Merging.{IsNext, Rises, RisesBehind}
@@ -60,11 +61,15 @@ run_on ss s old new R M = record {
   takes = subst (λ (o : Opening). TakesAll o (opening_world o) (ss ++ s ∷ [])) (sym (same_opening old new M.kept))
       (takes_all (opening_of old) (opening_world (opening_of old)) ss s R.takes
       (subst (λ (w : World). Takes (opening_of old) w s) (is_behind ss old R) M.takes));
-  agrees = subst (λ (es : List AnyWorldEvent). AgreesAfter es new) (sym (events_push ss s))
-      (M.agrees (events_in ss) R.agrees.is_run).0;
+  agrees = agrees;
   excludes = subst (λ (es : List AnyWorldEvent). ExclusionAfter (opening_of new) es (seen new)) (sym (events_push ss s))
       (M.excludes (events_in ss) R.agrees.is_run);
+  leaves_nothing = nothing_left (events_in (ss ++ s ∷ [])) new agrees;
 }
+  where
+    agrees : AgreesAfter (events_in (ss ++ s ∷ [])) new
+    agrees = subst (λ (es : List AnyWorldEvent). AgreesAfter es new) (sym (events_push ss s))
+        (M.agrees (events_in ss) R.agrees.is_run).0
 
 -- the world behind these steps of a world that opened so
 pub behind : (logs : List Logged) (old : Held) (events : ℕ) (mid : Held) (rs : List Reader) (S : SoFar logs old events mid rs)

@@ -5,6 +5,7 @@ use Rattle.std.specs.List.{slice_get}
 use Rattle.std.specs.Option.{option_map}
 use Rattle.std.specs.Prelude.{All}
 use Rattle.term.specs.NodeSets.{set_of}
+use Rattle.cluster_world.proofs.Leftovers.{nothing_left}
 use Rattle.cluster_world.specs.Held.{Held}
 use Rattle.cluster_world.specs.Playing.{Keeps}
 use Rattle.cluster_world.specs.Seen.{opening_of, seen}
@@ -115,7 +116,7 @@ module _ (cluster lone : List ℕ) (ends : List End) (ts : List Transcript) wher
 
 -- a world that was started is the run of no steps
 pub opened_run : (h : Held) → AgreesAfter [] h → ExclusionAfter (opening_of h) [] (seen h) → IsRun [] h
-opened_run h A E = record { takes = tt; agrees = A; excludes = E }
+opened_run h A E = record { takes = tt; agrees = A; excludes = E; leaves_nothing = nothing_left [] h A }
 
 -- the node of an end is one of the world
 pub of_world : {N M : Type 0} (cluster lone : List ℕ) (es : List (NodeEnd N M)) (old new : Held) (events : ℕ) (logs : List Logged)

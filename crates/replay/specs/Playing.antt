@@ -1,5 +1,6 @@
 -- Steps that a world plays.
 use Rattle.std.specs.Prelude.{ℕ, ◌≡◌, None, List, [], ◌∷◌, ◌++◌, map, length}
+use Rattle.protocol_model.specs.Leftovers.{NothingIsLeft}
 use Rattle.protocol_model.specs.World.{Opening, World, place, refusal, happens, answers, opening_world, run}
 use Rattle.node_events.specs.Seen.{answer_of}
 use Rattle.node_log.specs.Entries.{Logged}
@@ -21,12 +22,13 @@ abbrev pub TakesAll : Opening → World → List Step → Type 0
 TakesAll o w [] = Unit {0}
 TakesAll o w (s ∷ ss) = Takes o w s × TakesAll o (happens o w (happening s)) ss
 
--- these steps, from its opening on, made the world what it is, and took place in it; the headline and the exclusion of
--- clients' locks hold behind them
+-- these steps, from its opening on, made the world what it is, and took place in it; behind them the headline and the
+-- exclusion of clients' locks hold, and nothing is left over
 pub record IsRun (ss : List Step) (h : Held) : Type 0 where
   pub takes : TakesAll (opening_of h) (opening_world (opening_of h)) ss
   pub agrees : AgreesAfter (events_in ss) h
   pub excludes : ExclusionAfter (opening_of h) (events_in ss) (seen h)
+  pub leaves_nothing : NothingIsLeft (opening_of h) (events_in ss) (seen h)
 
 -- what a world that opened so is behind these steps
 abbrev pub world_behind : Opening → List Step → World

@@ -13,6 +13,3 @@ mod transcripts;
 pub use closed::Closed;
 pub use faults::CloseFault;
 pub use run::replay;
-
-#[cfg(test)]
-mod tests;

@@ -3,6 +3,7 @@ mod departures;
 mod joins;
 mod locks;
 mod names;
+mod nothing_left;
 mod streams;
 
 use cluster_script::run_script;

@@ -43,6 +43,11 @@ abbrev pub IsKept : List ℕ → Line → Type 0
 IsKept line (Text v) = (v.items ≡ line) × (length line ≤ longest_line)
 IsKept line TooLong = longest_line < length line
 
+-- what stands in its memory
+abbrev pub room_of : Line → List ℕ
+room_of (Text v) = v.items
+room_of TooLong = []
+
 -- what is kept of a line of which these bytes were read, and no end: as many as show how long it is
 pub record IsPart (bytes : List ℕ) (part : Part) : Type 0 where
   pub text : part.text.items ≡ take 1025 bytes

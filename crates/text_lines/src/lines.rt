@@ -4,7 +4,7 @@ ghost use Rattle.std.specs.List.{list_all};
 ghost use Rattle.std.specs.Io.KnownBytes.{Keeps, Consumes, IsAtEnd};
 ghost use Rattle.std.specs.Io.Buffered.{reader_remaining};
 ghost use Rattle.text_lines.specs.declared.faults.ScriptFault.TheVariants as fault;
-ghost use Rattle.text_lines.specs.Lines.{IsPart, IsKept, line_of, count_for, count_of, is_blank as blank, most_lines, HasNoFeed, TakesByte, TakesPart, TakesLine, StopsAtByte, StopsAtLine, LosesLines, HasNoLine, longest_part, GrowsByBytes, TakesAtHand};
+ghost use Rattle.text_lines.specs.Lines.{IsPart, IsKept, line_of, count_for, count_of, is_blank as blank, most_lines, HasNoFeed, TakesByte, TakesPart, TakesLine, StopsAtByte, StopsAtLine, LosesLines, HasNoLine, longest_part, GrowsByBytes, TakesAtHand, room_of};
 
 use crate::faults::ScriptFault;
 use memchr::memchr;
@@ -21,6 +21,18 @@ pub enum Line {
     Text(Vec<u8>),
     /// It is longer than a line may be.
     TooLong,
+}
+
+impl Line {
+    /// The memory of the line, as room for the next one.
+    pub fn into_room(self, alloc: Global) -> Vec<u8>
+        ensures { result.items ≡ room_of self }
+    {
+        match self {
+            Line::Text(bytes) => bytes,
+            Line::TooLong => Vec::new(alloc),
+        }
+    }
 }
 
 /// The bytes of a line as far as they were read.
@@ -93,12 +105,13 @@ fn next_byte<R: Read, W: Write>(
 }
 
 impl Part {
-    /// Nothing was read yet.
-    fn new(alloc: Global) -> Self
+    /// Nothing was read yet. What is read goes into `room`, which is emptied first.
+    fn new(mut room: Vec<u8>) -> Self
         ensures { IsPart [] result }
     {
+        room.clear();
         Part {
-            text: Vec::new(alloc),
+            text: room,
             len: 0,
             ends_in_return: false,
         }
@@ -203,9 +216,10 @@ fn read_part<R: Read, W: Write>(
     }
 }
 
-/// The next line of a reader, or none at its end. `left` says how many more lines may come.
+/// The next line of a reader, or none at its end. `left` says how many more lines may come. The line is kept in the memory of
+/// `room`, so that lines one after the other need none of their own; what `room` held is of no account.
 pub fn read_line<R: Read, W: Write>(
-    alloc: Global,
+    room: Vec<u8>,
     reader: &mut BufReader<R, Global>,
     writer: &mut W,
     left: &mut u32,
@@ -217,7 +231,7 @@ pub fn read_line<R: Read, W: Write>(
         (StopsAtLine (reader_remaining R.remaining reader.old) (reader_remaining R.remaining reader.new) left.old) }
     ensures kept { Keeps (W.contents writer.old) (W.contents writer.new) }
 {
-    let mut part = Part::new(alloc);
+    let mut part = Part::new(room);
     let is_ended = read_part(reader, writer, &mut part, *left)?;
     if !is_ended && part.len == 0 {
         return Ok(None);

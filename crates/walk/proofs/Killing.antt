@@ -64,7 +64,7 @@ kill_to-current n a s (p ∷ ps) u = go (is_live a u.node.watch p) (kill_to-curr
     go false h = h u
 
 -- puts change no members
-puts-members : (puts : Table) (v : Replica) → (fold (λ x e. wrote (Put e.name e.owner) x) v puts).members ≡ v.members
+pub puts-members : (puts : Table) (v : Replica) → (fold (λ x e. wrote (Put e.name e.owner) x) v puts).members ≡ v.members
 puts-members [] v = refl
 puts-members (e ∷ puts) v = puts-members puts (wrote (Put e.name e.owner) v)
 

@@ -58,9 +58,11 @@ impl<N: Names<Memory = Global>> NodeCore<N> {
     ghost use Rattle.protocol_model.specs.Deciding.{admit, held};
     ghost use Rattle.protocol_model.specs.Reading.{admitted, welcomed, asked_to_admit, refused_join, welcome, with_member};
     ghost use Rattle.protocol_model.specs.Calling.{kill};
-    ghost use Rattle.node_events.specs.Made.{Made};
+    ghost use Rattle.node_events.specs.Made.{Made, entered};
+    ghost use Rattle.node_events.specs.declared.events.Entry.TheVariants.{Joined as HasJoined};
+    ghost use Rattle.term.specs.NodeSets.{IsNodeSet};
     ghost use Rattle.node_core.specs.Held.{IsWithin};
-    ghost use Rattle.node_core.specs.Joining.{join_by, kill_one, put_names, IsAdmitting, IsWelcomeTo};
+    ghost use Rattle.node_core.specs.Joining.{join_by, kill_one, put_names, IsAdmitting, IsWelcomeTo, TellsToAdmit, Welcomes};
     ghost use Rattle.node_core.specs.Seen.{node_of};
     ghost use Rattle.node_events.specs.Seen.{unnumbered};
     ghost use Rattle.node_core.specs.Steps.{Keeps, Makes};
@@ -162,6 +164,47 @@ impl<N: Names<Memory = Global>> NodeCore<N> {
         turn.answer(self.answer(number, Reply::NotMember))
     }
 
+    /// The join of a lone node enters the history.
+    fn enter_joined(&self, turn: &mut Turn, joiner: &NodeName) -> Result<(), AllocError>
+        ensures { OnOk result (turn.new ≡ entered (HasJoined joiner.now self.now.name) turn.old) }
+    {
+        turn.enter(Entry::Joined(joiner.copy(), self.name.copy()))
+    }
+
+    /// The members are told to admit a lone node.
+    fn tell_to_admit(
+        &self,
+        turn: &mut Turn,
+        joiner: &NodeName,
+        settled: &Settled,
+    ) -> Result<(), AllocError>
+        ensures told { OnOk result (TellsToAdmit self.now joiner.now settled.now turn.old turn.new) }
+        ensures set { OnOk result (IsNodeSet self.now.members) }
+    {
+        let admission = admit_of(*self.entered.allocator(), joiner, settled)?;
+        turn.send_all(&self.members, &Letter::Admit(admission))
+    }
+
+    /// A lone node is sent all that this node has, and what is settled.
+    fn send_welcome(
+        &self,
+        turn: &mut Turn,
+        joiner: &NodeName,
+        settled: &Settled,
+    ) -> Result<(), AllocError>
+        requires joiner { set_of self.now.world joiner.now ≡ true }
+        requires members { IsNodeSet self.now.members }
+        ensures { OnOk result (Welcomes self.now joiner.now settled.now turn.old turn.new) }
+    {
+        let alloc = *self.entered.allocator();
+        // The members and the joiner are of the world, so there is room for all of them.
+        let fits = self.world.len() <= MOST_NODES;
+        prove!(fits);
+        let (table, members, told) = (&self.table, &self.members, &self.told);
+        let welcome = welcome_of(alloc, joiner, table, members, told, settled)?;
+        turn.send(joiner.copy(), Letter::Welcome(Box::new(alloc, welcome)?))
+    }
+
     /// The lock is held: a lone node is let in. The members are to admit it, and it is welcomed with all that this node has.
     pub(super) fn let_in(
         &mut self,
@@ -177,22 +220,9 @@ impl<N: Names<Memory = Global>> NodeCore<N> {
             → OnOk result (Makes (λ n a. admit n a unnumbered joiner pairs (set_of asked) settled.now) self.old turn.old self.new turn.new) }
         ensures kept { Keeps self.old self.new }
     {
-        let alloc = *self.entered.allocator();
-        turn.enter(Entry::Joined(joiner.copy(), self.name.copy()))?;
-        let admission = admit_of(alloc, &joiner, settled)?;
-        turn.send_all(&self.members, &Letter::Admit(admission))?;
-        // The members and the joiner are of the world, so there is room for all of them.
-        let fits = self.world.len() <= MOST_NODES;
-        prove!(fits);
-        let welcome = welcome_of(
-            alloc,
-            &joiner,
-            &self.table,
-            &self.members,
-            &self.told,
-            settled,
-        )?;
-        turn.send(joiner.copy(), Letter::Welcome(Box::new(alloc, welcome)?))?;
+        self.enter_joined(turn, &joiner)?;
+        self.tell_to_admit(turn, &joiner, settled)?;
+        self.send_welcome(turn, &joiner, settled)?;
         self.registrar
             .await_from(&and_one(&self.world, &self.members, &joiner));
         self.phase = Phase::Writing(asked, None);

@@ -37,6 +37,8 @@ impl<N: Names<Memory = Global>> NodeCore<N> {
     ghost use Rattle.protocol_model.specs.Reading.{told_of, lose_current, bereave};
     ghost use Rattle.node_core.specs.Locking.{loss_of};
     ghost use Rattle.node_events.specs.Seen.{unnumbered};
+    ghost use Rattle.node_events.specs.Made.{entered};
+    ghost use Rattle.node_events.specs.declared.events.Entry.TheVariants.{Told};
     ghost use Rattle.node_core.specs.Steps.{IsOther, Keeps, Makes};
 
     /// The node leaves: it says so to every other node of the world.
@@ -50,13 +52,20 @@ impl<N: Names<Memory = Global>> NodeCore<N> {
         turn.send_all(&others, &Letter::Down)
     }
 
+    /// The departure of another node enters the history.
+    fn enter_told(&self, turn: &mut Turn, gone: &NodeName) -> Result<(), AllocError>
+        ensures { OnOk result (turn.new ≡ entered (Told self.now.name gone.now) turn.old) }
+    {
+        turn.enter(Entry::Told(self.name.copy(), gone.copy()))
+    }
+
     /// The departure of another node is entered, and taken in: that node is no member any more, and its names and locks go.
     fn take_in(&mut self, turn: &mut Turn, gone: &NodeName) -> Result<(), AllocError>
         requires { IsOther self.old.world self.old.name gone.now }
         ensures turn { OnOk result (Makes (λ n a. told_of n a unnumbered gone.now) self.old turn.old self.new turn.new) }
         ensures kept { Keeps self.old self.new }
     {
-        turn.enter(Entry::Told(self.name.copy(), gone.copy()))?;
+        self.enter_told(turn, gone)?;
         self.told = and_one(&self.world, &self.told, gone);
         self.members.remove(gone);
         self.table.drop_node(gone);

@@ -6,13 +6,14 @@ use name_table::{Change, Names};
 use node_events::{Answer, Entry, Letter, Reply, Turn};
 use std::alloc::{AllocError, Global};
 use std::mem;
-use term::{LockId, NodeName, NodeSet, Pid};
+use term::{LockId, Name, NodeName, NodeSet, Pid};
 use transaction::{NameCall, Op};
 
 impl<N: Names<Memory = Global>> NodeCore<N> {
-    ghost use Rattle.std.specs.Prelude.{◌≡◌, ℕ, false, Some, OnOk, is_some, IsTrue};
+    ghost use Rattle.std.specs.Prelude.{◌≡◌, ◌||◌, ℕ, false, Some, OnOk, is_some, IsTrue};
     ghost use Rattle.std.specs.Option.{option_map};
     ghost use Rattle.registry_model.specs.Call.{reply_to};
+    ghost use Rattle.registry_model.specs.Table.{get, owns};
     ghost use Rattle.protocol_model.specs.Letter.{Global as GlobalId, Letter as AnyLetter};
     ghost use Rattle.protocol_model.specs.Registrar.{registrar, give_global, answer_op, finish, done, write, give_up, await_less};
     ghost use Rattle.protocol_model.specs.Deciding.{held};
@@ -23,7 +24,7 @@ impl<N: Names<Memory = Global>> NodeCore<N> {
     ghost use Rattle.node_core.specs.Held.{IsWithin};
     ghost use Rattle.node_events.specs.Letters.{letter_of};
     ghost use Rattle.node_events.specs.Seen.{reply_of, unnumbered};
-    ghost use Rattle.node_core.specs.Steps.{Keeps, Makes, Works};
+    ghost use Rattle.node_core.specs.Steps.{Keeps, Makes, Works, EntersCall};
 
     /// The registrar, as the holder of its lock.
     pub(super) fn registrar_pid(&self) -> Pid
@@ -130,26 +131,37 @@ impl<N: Names<Memory = Global>> NodeCore<N> {
         turn.send_all(&self.members, &Letter::Apply(change))
     }
 
+    /// Whether the name has an owner, or the process a name.
+    fn is_taken(&self, name: &Name, owner: &Pid) -> bool
+        ensures { result ≡ (is_some (get name.now self.now.table) || owns owner.now self.now.table) }
+    {
+        self.table.get(name).is_some() || self.table.owned_by(owner).is_some()
+    }
+
     /// The reply to a name call, by the members and the table as they are.
     fn reply_to(&self, call: &NameCall) -> Reply
         ensures reply { reply_of result ≡ reply_to (set_of self.now.members) self.now.table (name_call_of call.now) }
     {
         match call {
-            NameCall::Register(name, owner) => {
-                if !self.members.contains(&owner.node) {
-                    Reply::UnknownNode
-                } else if self.table.get(name).is_some() || self.table.owned_by(owner).is_some() {
-                    Reply::No
-                } else {
-                    Reply::Yes
-                }
-            }
-            NameCall::ReRegister(_, owner) if !self.members.contains(&owner.node) => {
-                Reply::UnknownNode
-            }
-            NameCall::ReRegister(..) => Reply::Yes,
+            NameCall::Register(_, owner) | NameCall::ReRegister(_, owner)
+                if !self.members.contains(&owner.node) => { Reply::UnknownNode }
+            NameCall::Register(name, owner) if self.is_taken(name, owner) => Reply::No,
+            NameCall::Register(..) | NameCall::ReRegister(..) => Reply::Yes,
             NameCall::Unregister(_) => Reply::Ok,
         }
+    }
+
+    /// A name call enters the history, with its reply.
+    fn enter_call(
+        &self,
+        turn: &mut Turn,
+        call: u32,
+        name_call: NameCall,
+        reply: &Reply,
+    ) -> Result<(), AllocError>
+        ensures { OnOk result (EntersCall self.now.name call name_call reply.now turn.old turn.new) }
+    {
+        turn.enter(Entry::Name(self.name.copy(), call, name_call, reply.copy()?))
     }
 
     /// The lock is held: the current name call is decided, and enters the history. It is written where it is granted, and else
@@ -168,8 +180,7 @@ impl<N: Names<Memory = Global>> NodeCore<N> {
     {
         let reply = self.reply_to(&name_call);
         let change = name_call.change();
-        let entry = Entry::Name(self.name.copy(), call, name_call, reply.copy()?);
-        turn.enter(entry)?;
+        self.enter_call(turn, call, name_call, &reply)?;
         match reply {
             Reply::Yes | Reply::Ok => self.write(turn, asked, Some(reply), change),
             _ => self.finish(turn, &asked, Some(reply)),

@@ -48,8 +48,8 @@ returns-then-not-is_blank-clause-read g c =
       LosesNext-behind input mid rest i.0 i.1 i.2 t.3,
     )
 
-pub loop-line-preserved-else-not-is_blank : goal.loop-line-preserved-else-not-is_blank
-loop-line-preserved-else-not-is_blank g c =
+pub loop-line-preserved : goal.loop-line-preserved
+loop-line-preserved g c =
     let input = reader_remaining g.R.Read.remaining c.args.reader.now in
     let mid = reader_remaining g.R.Read.remaining c.loop-line.reader in
     let rest = reader_remaining g.R.Read.remaining c.read_line.new.reader in
@@ -70,8 +70,8 @@ loop-line-preserved-else-not-is_blank g c =
           c.loop-line.invariant.kept c.in_ok-line.ensures.kept;
     }
 
-pub loop-line-smaller-else-not-is_blank : goal.loop-line-smaller-else-not-is_blank
-loop-line-smaller-else-not-is_blank g c =
+pub loop-line-smaller : goal.loop-line-smaller
+loop-line-smaller g c =
     let mid = reader_remaining g.R.Read.remaining c.loop-line.reader in
     let rest = reader_remaining g.R.Read.remaining c.read_line.new.reader in
     let t = subst (λ (o : Option Line). TakesLine mid rest c.loop-line.left c.read_line.new.left o) c.in-Some.is

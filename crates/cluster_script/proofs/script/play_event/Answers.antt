@@ -1,4 +1,4 @@
-use Rattle.std.proofs.Common.{ℕ, List, ◌∙◌, subst, ap, Ok}
+use Rattle.std.proofs.Common.{ℕ, List, ◌∙◌, subst, Ok}
 use Rattle.std.proofs.lemmas.Result.{err_from_is_err_and}
 use Rattle.std.specs.Io.KnownBytes.{Appends}
 use Rattle.std.proofs.KnownBytes.{Appends-trans}
@@ -8,7 +8,7 @@ use Rattle.cluster_world.specs.Seen.{opening_of}
 use Rattle.cluster_script.specs.Played.{okay_text}
 use Rattle.node_events.specs.Seen.{answer_of}
 use Rattle.node_events.specs.declared.events.Answer.{Answer}
-use Rattle.command_lines.specs.Printing.{answers_text, error_line}
+use Rattle.command_lines.specs.Printing.{answers_text}
 use Rattle.text_lines.specs.Writing.{AppendsPart}
 use Rattle.text_lines.proofs.Written.{AppendsPart-behind, AppendsPart-more}
 use Rattle.cluster_script.proofs.Writing.{PlaysOrStops-err}
@@ -61,25 +61,25 @@ returns-in_ok-write_answers-in-Ok g c =
     (g.W.Write.contents c.write_answers.new.writer) (answers_text (map answer_of xs)))
     c.deref.ensures.value c.in_ok-write_answers-in-Ok.ensures))
 
-pub returns-in_err-write_error-in-Err : goal.returns-in_err-write_error-in-Err
-returns-in_err-write_error-in-Err g c =
-    let p = err_from_is_err_and c.from_residual-in_err-write_error-in-Err.result
-    c.from_residual-in_err-write_error-in-Err.ensures.1 in
+pub returns-in_err-write_text-in-Err : goal.returns-in_err-write_text-in-Err
+returns-in_err-write_text-in-Err g c =
+    let p = err_from_is_err_and c.from_residual-in_err-write_text-in-Err.result
+    c.from_residual-in_err-write_text-in-Err.ensures.1 in
     let w = c.in-Some.ensures in
-    let e = ap error_line w.2 ∙ text-refused c.args.world.now c.args.event.now w.0 (c.in-Err.ensures.refused ∙ w.1) in
+    let e = c.as_bytes.ensures.value ∙ w.2 ∙ text-refused c.args.world.now c.args.event.now w.0 (c.in-Err.ensures.refused ∙ w.1) in
     PlaysOrStops-err c.args.world.now c.play.new.self (Ok (Play (event_of c.args.event.now)))
     (g.W.Write.contents c.args.writer.now)
-    (g.W.Write.contents c.write_error.new.writer) c.from_residual-in_err-write_error-in-Err.result p.0 p.1
+    (g.W.Write.contents c.write_text.new.writer) c.from_residual-in_err-write_text-in-Err.result p.0 p.1
     (subst (λ (t : List ℕ). AppendsPart (g.W.Write.contents c.args.writer.now)
-    (g.W.Write.contents c.write_error.new.writer) t) e
-    c.in_err-write_error-in-Err.ensures)
+    (g.W.Write.contents c.write_text.new.writer) t) e
+    c.in_err-write_text-in-Err.ensures)
 
-pub returns-in_ok-write_error-in-Err : goal.returns-in_ok-write_error-in-Err
-returns-in_ok-write_error-in-Err g c =
+pub returns-in_ok-write_text-in-Err : goal.returns-in_ok-write_text-in-Err
+returns-in_ok-write_text-in-Err g c =
     let w = c.in-Some.ensures in
     play-refused c.args.world.now c.play.new.self c.args.event.now w.0 (g.W.Write.contents c.args.writer.now)
-    (g.W.Write.contents c.write_error.new.writer) (c.in-Err.ensures.refused ∙ w.1)
+    (g.W.Write.contents c.write_text.new.writer) (c.in-Err.ensures.refused ∙ w.1)
     (c.in-Err.ensures.unchanged (not_memory c.in-Err.refusal w.0 w.1))
-    (subst (λ (t : List ℕ). Appends (g.W.Write.contents c.args.writer.now) (g.W.Write.contents c.write_error.new.writer)
-    t) (ap error_line w.2)
-    c.in_ok-write_error-in-Err.ensures)
+    (subst (λ (t : List ℕ). Appends (g.W.Write.contents c.args.writer.now) (g.W.Write.contents c.write_text.new.writer)
+    t) (c.as_bytes.ensures.value ∙ w.2)
+    c.in_ok-write_text-in-Err.ensures)

@@ -48,14 +48,6 @@ returns-in_err-fine g c =
     rest t.0 t.1 (asked_by c.in_ok-task.task) t.3 t.4 (c.in_ok-task.ensures t.1 t.2)
     new c.in_err-fine.ensures) refl)
 
-pub loop-line-smaller-in_ok-fine : goal.loop-line-smaller-in_ok-fine
-loop-line-smaller-in_ok-fine g c =
-    let mid = reader_remaining g.R.Read.remaining c.loop-line.reader in
-    let rest = reader_remaining g.R.Read.remaining c.next_line.new.reader in
-    let t = subst (λ (o : Option Line). ReadsOn mid rest c.loop-line.left c.next_line.new.left o)
-    c.in-Some.is c.in_ok-line.ensures.read in
-    less c.loop-line.left c.next_line.new.left t.0 t.1 t.3 t.5
-
 pub loop-line-smaller : goal.loop-line-smaller
 loop-line-smaller g c =
     let mid = reader_remaining g.R.Read.remaining c.loop-line.reader in
@@ -63,27 +55,6 @@ loop-line-smaller g c =
     let t = subst (λ (o : Option Line). ReadsOn mid rest c.loop-line.left c.next_line.new.left o)
     c.in-Some.is c.in_ok-line.ensures.read in
     less c.loop-line.left c.next_line.new.left t.0 t.1 t.3 t.5
-
-pub loop-line-preserved-in_ok-fine : goal.loop-line-preserved-in_ok-fine
-loop-line-preserved-in_ok-fine g c =
-    let input = reader_remaining g.R.Read.remaining c.args.reader.now in
-    let mid = reader_remaining g.R.Read.remaining c.loop-line.reader in
-    let rest = reader_remaining g.R.Read.remaining c.next_line.new.reader in
-    let old = g.W.Write.contents c.args.writer.now in
-    let written = g.W.Write.contents c.loop-line.writer in
-    let same = g.W.Write.contents c.next_line.new.writer in
-    let new = g.W.Write.contents c.play_task.new.writer in
-    let P = PlaysLines-kept input mid c.args.left.now c.loop-line.left
-    c.args.world.now c.loop-line.world old written same c.loop-line.is_fine
-    c.loop-line.invariant c.in_ok-line.ensures.kept in
-    let t = subst (λ (o : Option Line). ReadsOn mid rest c.loop-line.left c.next_line.new.left o)
-    c.in-Some.is c.in_ok-line.ensures.read in
-    let n = PlaysLines-next input mid c.args.left.now c.loop-line.left c.args.world.now c.loop-line.world
-    old same c.loop-line.is_fine P
-    rest t.0 t.1 (asked_by c.in_ok-task.task) t.3 t.4 (c.in_ok-task.ensures t.1 t.2)
-    c.next_line.new.left c.play_task.new.world new c.in_ok-fine.fine t.5 c.in_ok-fine.ensures in
-    subst (λ (b : Bool). PlaysLines [] input rest c.args.left.now c.next_line.new.left c.args.world.now
-    c.play_task.new.world old new b) (sym c.both-is_fine.ensures) n
 
 pub loop-line-preserved : goal.loop-line-preserved
 loop-line-preserved g c =

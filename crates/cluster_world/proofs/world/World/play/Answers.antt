@@ -4,6 +4,7 @@ use Rattle.cluster_world.specs.declared.events.WorldEvent.{WorldEvent}
 use Rattle.cluster_world.specs.Playing.{Played}
 use Rattle.cluster_world.proofs.Agreeing.{agrees_played, agrees_unchanged}
 use Rattle.cluster_world.proofs.Excluding.{excludes}
+use Rattle.cluster_world.proofs.Leftovers.{leaves_nothing}
 use Rattle.cluster_world.proofs.world.World.play.Goals as goal
 
 pub returns-in-At-clause-agrees : goal.returns-in-At-clause-agrees
@@ -48,4 +49,24 @@ returns-in-Deliver-clause-excludes g c =
 pub returns-in-Deliver-clause-still_excludes : goal.returns-in-Deliver-clause-still_excludes
 returns-in-Deliver-clause-still_excludes g c =
     IfErr-weaker c.deliver.result _ _ (λ r A kept. excludes [] [] c.args.self.now c.deliver.new.self (A kept))
+    (returns-in-Deliver-clause-still_agrees g c)
+
+pub returns-in-At-clause-leaves_nothing : goal.returns-in-At-clause-leaves_nothing
+returns-in-At-clause-leaves_nothing g c =
+    IfOk-weaker c.happen.result _ _ (λ answers A. leaves_nothing (c.args.event.now ∷ []) answers.items c.args.self.now
+    c.happen.new.self A) (returns-in-At-clause-agrees g c)
+
+pub returns-in-At-clause-still_leaves_nothing : goal.returns-in-At-clause-still_leaves_nothing
+returns-in-At-clause-still_leaves_nothing g c =
+    IfErr-weaker c.happen.result _ _ (λ r A kept. leaves_nothing [] [] c.args.self.now c.happen.new.self (A kept))
+    (returns-in-At-clause-still_agrees g c)
+
+pub returns-in-Deliver-clause-leaves_nothing : goal.returns-in-Deliver-clause-leaves_nothing
+returns-in-Deliver-clause-leaves_nothing g c =
+    IfOk-weaker c.deliver.result _ _ (λ answers A. leaves_nothing (c.args.event.now ∷ []) answers.items c.args.self.now
+    c.deliver.new.self A) (returns-in-Deliver-clause-agrees g c)
+
+pub returns-in-Deliver-clause-still_leaves_nothing : goal.returns-in-Deliver-clause-still_leaves_nothing
+returns-in-Deliver-clause-still_leaves_nothing g c =
+    IfErr-weaker c.deliver.result _ _ (λ r A kept. leaves_nothing [] [] c.args.self.now c.deliver.new.self (A kept))
     (returns-in-Deliver-clause-still_agrees g c)

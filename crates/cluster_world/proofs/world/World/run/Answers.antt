@@ -1,6 +1,7 @@
 use Rattle.std.proofs.Common.{take}
 use Rattle.cluster_world.proofs.Agreeing.{agrees}
 use Rattle.cluster_world.proofs.Excluding.{excludes}
+use Rattle.cluster_world.proofs.Leftovers.{leaves_nothing}
 use Rattle.cluster_world.proofs.world.World.run.Goals as goal
 
 pub returns-clause-agrees : goal.returns-clause-agrees
@@ -13,4 +14,9 @@ returns-clause-agrees g c = λ kept.
 pub returns-clause-excludes : goal.returns-clause-excludes
 returns-clause-excludes g c = λ kept.
     excludes (take c.play_all.result.played c.args.events.now) c.play_all.result.answers.items c.args.self.now
+    c.play_all.new.self (returns-clause-agrees g c kept)
+
+pub returns-clause-leaves_nothing : goal.returns-clause-leaves_nothing
+returns-clause-leaves_nothing g c = λ kept.
+    leaves_nothing (take c.play_all.result.played c.args.events.now) c.play_all.result.answers.items c.args.self.now
     c.play_all.new.self (returns-clause-agrees g c kept)

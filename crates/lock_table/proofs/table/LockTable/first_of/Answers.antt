@@ -10,13 +10,13 @@ pub returns-in_err-key-clause-none : goal.returns-in_err-key-clause-none
 returns-in_err-key-clause-none c =
     on_none_given c.from_residual.result
     (rw (← c.self.view_is)
-    (none_of c.self.inside.next c.self.inside.grants c.self.inside.by_holder c.self.invariant c.args.holder.now
+    (none_of c.self.inside.next c.self.inside.grants.entries c.self.inside.by_holder (c.self.invariant.0, c.self.invariant.1) c.args.holder.now
     (subst (λ (a : Place). IsNoneFrom c.self.inside.by_holder a) c.of.ensures c.in_err-key.ensures.none)))
 
 pub returns-then-eq-clause-some : goal.returns-then-eq-clause-some
 returns-then-eq-clause-some c = (
   rw (← c.self.view_is)
-      (listed_under c.self.inside.next c.self.inside.grants c.self.inside.by_holder c.self.invariant _ _
+      (listed_under c.self.inside.next c.self.inside.grants.entries c.self.inside.by_holder (c.self.invariant.0, c.self.invariant.1) _ _
       c.in_ok-key.ensures.some),
   same_process _ _ (sym c.eq.ensures ∙ c.if-eq.true),
 )
@@ -24,6 +24,6 @@ returns-then-eq-clause-some c = (
 pub returns-else-eq-clause-none : goal.returns-else-eq-clause-none
 returns-else-eq-clause-none c =
     rw (← c.self.view_is)
-    (none_of-first c.self.inside.next c.self.inside.grants c.self.inside.by_holder c.self.invariant c.args.holder.now
+    (none_of-first c.self.inside.next c.self.inside.grants.entries c.self.inside.by_holder (c.self.invariant.0, c.self.invariant.1) c.args.holder.now
     _ (subst (λ (a : Place). IsFirstFrom c.self.inside.by_holder a c.in_ok-key.key) c.of.ensures
     c.in_ok-key.ensures.some) (sym c.eq.ensures ∙ c.if-eq.false))

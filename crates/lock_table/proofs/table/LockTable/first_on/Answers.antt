@@ -11,7 +11,7 @@ pub returns-in_err-key-clause-none : goal.returns-in_err-key-clause-none
 returns-in_err-key-clause-none c =
     on_none_given c.from_residual.result
     (rw (← c.self.view_is)
-    (none_on c.self.inside.next c.self.inside.grants c.self.inside.by_holder c.self.invariant c.args.node.now
+    (none_on c.self.inside.next c.self.inside.grants.entries c.self.inside.by_holder (c.self.invariant.0, c.self.invariant.1) c.args.node.now
     (subst (λ (a : Place). IsNoneFrom c.self.inside.by_holder a)
     (c.of.ensures ∙ ap (λ (d : ℕ). place_at (record { node = d; serial = 0 }) 0) c.copy.ensures)
     c.in_err-key.ensures.none)))
@@ -19,7 +19,7 @@ returns-in_err-key-clause-none c =
 pub returns-then-eq-clause-some : goal.returns-then-eq-clause-some
 returns-then-eq-clause-some c = (
   rw (← c.self.view_is)
-      (listed_under c.self.inside.next c.self.inside.grants c.self.inside.by_holder c.self.invariant _ _
+      (listed_under c.self.inside.next c.self.inside.grants.entries c.self.inside.by_holder (c.self.invariant.0, c.self.invariant.1) _ _
       c.in_ok-key.ensures.some),
   sym (ap (λ (k : Key). k.holder.node) c.key.view_is) ∙ eqb-true _ _ (sym c.eq.ensures ∙ c.if-eq.true),
 )
@@ -27,7 +27,7 @@ returns-then-eq-clause-some c = (
 pub returns-else-eq-clause-none : goal.returns-else-eq-clause-none
 returns-else-eq-clause-none c =
     rw (← c.self.view_is)
-    (none_on-first c.self.inside.next c.self.inside.grants c.self.inside.by_holder c.self.invariant c.args.node.now
+    (none_on-first c.self.inside.next c.self.inside.grants.entries c.self.inside.by_holder (c.self.invariant.0, c.self.invariant.1) c.args.node.now
     c.in_ok-key.key
     (subst (λ (a : Place). IsFirstFrom c.self.inside.by_holder a c.in_ok-key.key)
     (c.of.ensures ∙ ap (λ (d : ℕ). place_at (record { node = d; serial = 0 }) 0) c.copy.ensures)

@@ -1,23 +1,21 @@
-use Rattle.std.proofs.Common.{true, ◌≡◌, ◌∙◌, ap, sym, subst}
-use Rattle.term.specs.NodeSets.{set_of}
-use Rattle.exchange.specs.Bodies.{welcome_letter}
+use Rattle.std.proofs.Common.{true, ◌≡◌, refl, ap, sym, subst}
+use Rattle.term.specs.NodeSets.{IsNodeSet, set_of}
 use Rattle.node_core.specs.Held.{Held}
-use Rattle.node_core.proofs.Joining.{room_for, lets_in}
+use Rattle.node_core.specs.Joining.{TellsToAdmit, Welcomes}
+use Rattle.node_core.proofs.Joining.{lets_in}
 use Rattle.node_core.proofs.node.NodeCore.let_in.Goals as goal
-
-pub welcome_of-requires : goal.welcome_of-requires
-welcome_of-requires g c =
-    room_for c.self.inside.world c.self.inside.members c.args.joiner c.len-fits.ensures.set c.send_all.ensures.set
-    c.self.invariant.members
-    (subst (λ (h : Held). set_of h.world c.args.joiner ≡ true) (sym c.self.view_is) c.requires.joiner)
 
 pub returns-clause-turn : goal.returns-clause-turn
 returns-clause-turn g c = λ pairs admitting.
-    lets_in _ c.args.self.now c.args.turn.now c.enter.new.self c.send_all.new.self c.send.new.self c.await_from.new.self
-    c.args.asked c.and_one.result c.copy-2.result c.args.joiner c.copy.result c.copy-3.result _ _ c.args.settled.now
+    let told = subst (λ (h : Held). TellsToAdmit h c.args.joiner c.args.settled.now c.enter_joined.new.turn
+    c.tell_to_admit.new.turn) (sym c.self.view_is) c.in_ok-tell_to_admit.ensures.told in
+    let welcome = subst (λ (h : Held). Welcomes h c.args.joiner c.args.settled.now c.tell_to_admit.new.turn
+    c.send_welcome.new.turn) (sym c.self.view_is) c.in_ok-send_welcome.ensures in
+    lets_in _ c.args.self.now c.args.turn.now c.enter_joined.new.turn c.tell_to_admit.new.turn c.send_welcome.new.turn
+    c.await_from.new.self c.args.asked c.and_one.result c.args.self.now.name c.args.joiner c.args.joiner c.args.joiner
+    told.0 welcome.0 c.args.settled.now
     pairs c.self.view_is c.self.invariant
     (subst (λ (h : Held). set_of h.world c.args.joiner ≡ true) (sym c.self.view_is) c.requires.joiner)
-    c.send_all.ensures.set c.and_one.ensures c.await_from.ensures c.copy.ensures c.copy-2.ensures c.in_ok-enter.ensures
-    c.in_ok-admission.ensures c.in_ok-send_all.ensures.letters
-    (ap welcome_letter c.in_ok-new.ensures.ok ∙ c.in_ok-welcome.ensures.letter) c.copy-3.ensures
-    c.in_ok-send.ensures admitting
+    (subst (λ (h : Held). IsNodeSet h.members) (sym c.self.view_is) c.in_ok-tell_to_admit.ensures.set)
+    c.and_one.ensures c.await_from.ensures refl (ap (λ (h : Held). h.name) (sym c.self.view_is))
+    c.in_ok-enter_joined.ensures told.1 told.2 welcome.1 refl welcome.2 admitting

@@ -1,4 +1,4 @@
-use Rattle.std.proofs.Common.{sym, subst}
+use Rattle.std.proofs.Common.{refl, sym, ap, subst}
 use Rattle.node_core.specs.Held.{Held}
 use Rattle.node_core.specs.Steps.{IsOther}
 use Rattle.node_events.specs.Seen.{unnumbered}
@@ -15,5 +15,7 @@ pub returns-clause-turn : goal.returns-clause-turn
 returns-clause-turn g c =
     takes_in _ c.args.gone.now c.remove.new.self c.and_one-self-inside.result _ _ c.self.invariant
     c.remove.ensures.others c.drop_node.ensures c.and_one-self-inside.ensures c.args.self.now c.args.turn.now _
-    c.copy.result c.copy-2.result unnumbered c.self.view_is c.copy.ensures c.copy-2.ensures c.drop_node-2.ensures
-    (subst (λ (h : Held). IsOther h.world h.name c.args.gone.now) (sym c.self.view_is) c.requires) c.in_ok-enter.ensures
+    c.args.self.now.name c.args.gone.now unnumbered c.self.view_is (ap (λ (h : Held). h.name) (sym c.self.view_is)) refl
+    c.drop_node-2.ensures
+    (subst (λ (h : Held). IsOther h.world h.name c.args.gone.now) (sym c.self.view_is) c.requires)
+    c.in_ok-enter_told.ensures

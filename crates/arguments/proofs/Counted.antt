@@ -1,0 +1,60 @@
+-- What is read of the options of `serve`.
+use Rattle.std.proofs.Common.{◌≡◌, ◌∙◌, ◌==◌, ℕ, Bool, cond, true, false, refl, sym, ap, subst, List, [], ◌∷◌, drop, Option, Some, None, Result, Ok, Err, IsErrAnd, IfSome, MatchResult, codes, option_map, pos, unwrap_or, arith}
+use Rattle.std.specs.Str.Parse.{ParsesUnsigned, digits_value, starts_with_minus, without_leading_plus}
+use Rattle.std.proofs.lemmas.Int.{ints}
+use Rattle.clap.specs.Words.{IsSignedIn, ReadsOne, without_minus}
+use Rattle.clap.proofs.CallerReads.{signed_reads}
+use Rattle.arguments.specs.Nodes.{RefusesPlacing}
+use Rattle.arguments.specs.Reading.{CountsConsoles, RefusesValues, Tells, Values}
+use Rattle.arguments.specs.declared.faults.ArgFault.{ArgFault}
+use Rattle.arguments.specs.declared.faults.ArgFault.TheVariants as fault
+use Rattle.arguments.specs.declared.task.ServeOptions.{ServeOptions}
+
+without_minus-cond : (t : List ℕ) → without_minus t ≡ cond (starts_with_minus t) (drop 1 t) t
+without_minus-cond [] = refl
+without_minus-cond (x ∷ xs) = go (x == 45)
+  where
+    go : (b : Bool) → unwrap_or (cond b (Some xs) None) (x ∷ xs) ≡ cond b xs (x ∷ xs)
+    go true = refl
+    go false = refl
+
+-- a number from 1 to 64 has no minus
+no_minus : (t : List ℕ) → IsSignedIn (pos 1) (pos 64) t → without_minus t ≡ t
+no_minus t passed = go (starts_with_minus t) refl
+  where
+    go : (b : Bool) → starts_with_minus t ≡ b → without_minus t ≡ t
+    go true minus =
+        let low = rw minus at passed.2 in
+        absurd (omega (arith, ints))
+    go false minus = without_minus-cond t ∙ ap (λ (b : Bool). cond b (drop 1 t) t) minus
+
+-- the number of consoles, by the text of its option
+pub counted : (E : Type 0) (G : List ℕ → Result ℕ E → Type 0) (given one : Option (List ℕ)) (r : Option ℕ) (n : ℕ)
+    → ((u : List ℕ) (x : Result ℕ E) → G u x → ParsesUnsigned 8 10 u x) → IfSome given (IsSignedIn (pos 1) (pos 64))
+    → one ≡ option_map without_minus given → (one ≡ None → r ≡ None) → ((t : List ℕ) → one ≡ Some t → ReadsOne G t r)
+    → n ≡ unwrap_or r 8 → CountsConsoles given n
+counted E G None one r n only passed text none some is = is ∙ ap (λ (o : Option ℕ). unwrap_or o 8) (none text)
+counted E G (Some t) one r n only passed text none some is =
+    let read = some (without_minus t) text in
+    let got = signed_reads E G 8 1 64 t r read only (omega arith) passed in
+    let parsed = only (without_minus t) (Ok got.0) (subst (λ (x : Option ℕ). ReadsOne G (without_minus t) x) got.1 read) in
+    let number : got.0 ≡ digits_value 10 (without_leading_plus t) =
+    parsed.1 ∙ ap (λ (u : List ℕ). digits_value 10 (without_leading_plus u)) (no_minus t passed) in
+    let same : n ≡ got.0 = is ∙ ap (λ (o : Option ℕ). unwrap_or o 8) got.1 in
+    (rw same got.2, rw same got.3, same ∙ number)
+
+-- lists that are refused are values that are
+pub lists_refused : (v : Values) (list : List ℕ) (lone : Option (List ℕ)) (f : ArgFault) → v (codes "nodes") ≡ Some list → lone ≡ v (codes "lone")
+    → RefusesPlacing list lone f → RefusesValues v f
+lists_refused v list second (fault.Words e) nodes same h = absurd h
+lists_refused v list second (fault.Text f) nodes same h =
+    record { list = list; nodes = nodes; refused = subst (λ o. RefusesPlacing list o (fault.Text f)) same h }
+lists_refused v list second fault.SameNode nodes same h =
+    record { list = list; nodes = nodes; refused = subst (λ o. RefusesPlacing list o fault.SameNode) same h }
+lists_refused v list second fault.TooManyNodes nodes same h =
+    record { list = list; nodes = nodes; refused = subst (λ o. RefusesPlacing list o fault.TooManyNodes) same h }
+
+pub fails_so : (v : Values) (r : Result ServeOptions ArgFault) (f : ArgFault) → IsErrAnd r (λ y. y ≡ f) → RefusesValues v f
+    → MatchResult r (Tells v) (RefusesValues v)
+fails_so v (Ok o) f is h = absurd is
+fails_so v (Err y) f is h = subst (RefusesValues v) (sym is) h

@@ -1,0 +1,4 @@
+mod Words
+mod Taken
+mod Looked
+mod Counted

@@ -1,0 +1,189 @@
+-- What clap has seen to, where it takes the words.
+use Rattle.std.proofs.Common.{◌≡◌, ◌&&◌, ◌||◌, ◌⊎◌, Bool, cond, codes, true, false, not, refl, sym, ap, subst, List, [], ◌∷◌, Option, Some, None, inl, inr, is_some, find, bytes_eq, pos, if◌then◌else◌, MatchResult, Result, Ok, Err, IfSome, option_map, option_and_then, slice_get}
+use Rattle.std.specs.Prelude.{slice_index_or}
+use Rattle.std.specs.Option.{option_map_or}
+use Rattle.clap.specs.Facts.{explicit_source}
+use Rattle.clap.specs.Values.{IsSignedIn, read_as}
+use Rattle.clap.specs.ValueTests.{accepts}
+use Rattle.clap.specs.Lexer.{without_minus}
+use Rattle.clap.specs.Takes.{is_given}
+use Rattle.clap.specs.Kinds.{check_kinds, or_else, value_kinds}
+use Rattle.clap.specs.Faults.{defaults_fault, entered_fault, level_fault, settle_fault, walk_fault}
+use Rattle.clap.specs.Walk.{Row, Text, answers_to, nothing_held, row_text, rows_after, walk, walk_from, settled}
+use Rattle.clap.specs.Simple.{Shape, argument_words, built, entered, label_of, names_of, rows_at, subcommand_of}
+use Rattle.clap.specs.declared.builder.value_parser.ValueParser.TheVariants as vp
+use Rattle.clap.specs.declared.builder.value_parser.Reading.TheVariants.{WithoutMinus}
+use Rattle.clap.specs.declared.error.kind.ErrorKind.{ErrorKind}
+use Rattle.clap.specs.declared.error.kind.ErrorKind.TheVariants as kind
+use Rattle.clap.proofs.ValueTestLemmas.{accepts-Accepts}
+use Rattle.std.proofs.lemmas.Slice.Eq.{bytes_eq-Decides}
+use Rattle.arguments.specs.CommandLine.{program, refusals, serve_shape}
+use Rattle.arguments.specs.Reading.{Asks, AsksIn, HasOptions, IsLooked, Refuses, RefusesIn}
+use Rattle.arguments.specs.CommandLine.{Entered}
+use Rattle.arguments.specs.declared.faults.ArgFault.{ArgFault}
+use Rattle.arguments.specs.declared.faults.ArgFault.TheVariants as fault
+use Rattle.arguments.specs.declared.task.Task.{Task}
+use Rattle.arguments.proofs.Taken.{HasFineRules, StopsFine, find_row, level_rows, nil_both, walk_stops}
+
+-- ---- the options of `serve`
+
+-- a row of `serve`: it has one value, and that of the number of consoles is one of 1 to 64
+record ServeRow (r : Row) : Type 0 where
+  text : Text
+  is : r.values ≡ text ∷ []
+  number : bytes_eq r.id (codes "consoles") ≡ true → (r.reading ≡ WithoutMinus) × IsSignedIn (pos 1) (pos 64) text
+
+-- `serve`, as it is built
+abbrev serve_built : Shape
+serve_built = slice_index_or (built program).subs 1 serve_shape
+
+is_accepted : (b : Bool) (k : ErrorKind) → (if b then [] else k ∷ []) ≡ [] → b ≡ true
+is_accepted true k h = refl
+is_accepted false k h = cc
+
+number_accepted : (v : Text) → or_else (value_kinds false (vp.Signed (pos 1) (pos 64)) v) [] ≡ [] → IsSignedIn (pos 1) (pos 64) v
+number_accepted v h =
+    let parts = nil_both (value_kinds false (vp.Signed (pos 1) (pos 64)) v) [] h in
+    accepts-Accepts false (vp.Signed (pos 1) (pos 64)) v (is_accepted (accepts false (vp.Signed (pos 1) (pos 64)) v) kind.ValueValidation parts.0)
+
+serve_fine : HasFineRules ServeRow serve_built.args_override_self serve_built.rules
+serve_fine = record {
+  once = refl;
+  fine = (
+    inr (record { set = refl; range = refl; fits = λ v h. record { text = v; is = refl; number = λ e. cc } }),
+    (
+      inr (record { set = refl; range = refl; fits = λ v h. record { text = v; is = refl; number = λ e. cc } }),
+      (
+        inr (record { set = refl; range = refl; fits = λ v h. record { text = v; is = refl; number = λ e. cc } }),
+        (
+          inr (record { set = refl; range = refl; fits = λ v h. record { text = v; is = refl; number = λ e. (refl, number_accepted v h) } }),
+          (inl refl, tt),
+        ),
+      ),
+    ),
+  );
+  no_defaults = (refl, (refl, (refl, (refl, (refl, tt)))));
+  no_positional = λ i. refl;
+}
+
+some_value : (o : Option Row) → ((r : Row) → o ≡ Some r → ServeRow r) → option_map_or (λ r. explicit_source r.source) o false ≡ true
+    → is_some (option_and_then (λ (r : Row). slice_get r.values 0) o) ≡ true
+some_value None rows given = cc
+some_value (Some r) rows given =
+    subst (λ (vs : List Text). is_some (slice_get vs 0) ≡ true) (sym (rows r refl).is) refl
+
+number_value : (o : Option Row) → ((r : Row) → o ≡ Some r → ServeRow r × (bytes_eq r.id (codes "consoles") ≡ true))
+    → IfSome (option_and_then (λ (r : Row). slice_get r.values 0) o) (IsSignedIn (pos 1) (pos 64))
+number_value None rows = tt
+number_value (Some r) rows =
+    let row = rows r refl in
+    subst (λ (vs : List Text). IfSome (slice_get vs 0) (IsSignedIn (pos 1) (pos 64))) (sym row.0.is) (row.0.number row.1).1
+
+number_text : (o : Option Row) → ((r : Row) → o ≡ Some r → ServeRow r × (bytes_eq r.id (codes "consoles") ≡ true))
+    → option_and_then row_text o ≡ option_map without_minus (option_and_then (λ (r : Row). slice_get r.values 0) o)
+number_text None rows = refl
+number_text (Some r) rows =
+    let row = rows r refl in
+    ap (λ how. option_map (read_as how) (slice_get r.values 0)) (row.0.number row.1).0
+
+has_both : (a b : Bool) → check_kinds false false ((true && not a) || ((true && not b) || false)) ≡ [] → (a ≡ true) × (b ≡ true)
+has_both true true h = (refl, refl)
+has_both true false h = cc
+has_both false true h = cc
+has_both false false h = cc
+
+options_of : (words : List Text) → level_fault serve_built [] nothing_held words false [] ≡ []
+    → HasOptions (rows_after serve_built.rules [] words)
+options_of words none =
+    let rows = rows_after serve_built.rules [] words in
+    let level = level_rows ServeRow serve_built serve_fine words none in
+    let both = has_both (is_given (codes "listen") rows) (is_given (codes "nodes") rows) level.1 in
+    record {
+      listen = some_value (find (λ r. bytes_eq r.id (codes "listen")) rows) (λ r e. (find_row ServeRow (codes "listen") rows r level.0 e).0) both.0;
+      nodes = some_value (find (λ r. bytes_eq r.id (codes "nodes")) rows) (λ r e. (find_row ServeRow (codes "nodes") rows r level.0 e).0) both.1;
+      consoles = number_value (find (λ r. bytes_eq r.id (codes "consoles")) rows) (λ r e. find_row ServeRow (codes "consoles") rows r level.0 e);
+      digits = number_text (find (λ r. bytes_eq r.id (codes "consoles")) rows) (λ r e. find_row ServeRow (codes "consoles") rows r level.0 e);
+    }
+
+-- ---- the subcommand
+
+-- the first of three that passes, if any does
+first_of_three : (p : Shape → Bool) (a b d : Shape) → (find p (a ∷ b ∷ d ∷ []) ≡ Some a) ⊎ ((find p (a ∷ b ∷ d ∷ []) ≡ Some b)
+    ⊎ (((find p (a ∷ b ∷ d ∷ []) ≡ Some d) × (p d ≡ true)) ⊎ (find p (a ∷ b ∷ d ∷ []) ≡ None)))
+first_of_three p a b d = go (p a) (p b) (p d) refl
+  where
+    go : (x y z : Bool) → p d ≡ z → (cond x (Some a) (cond y (Some b) (cond z (Some d) None)) ≡ Some a)
+        ⊎ ((cond x (Some a) (cond y (Some b) (cond z (Some d) None)) ≡ Some b)
+        ⊎ (((cond x (Some a) (cond y (Some b) (cond z (Some d) None)) ≡ Some d) × (p d ≡ true))
+        ⊎ (cond x (Some a) (cond y (Some b) (cond z (Some d) None)) ≡ None)))
+    go true y z e = inl refl
+    go false true z e = inr (inl refl)
+    go false false true e = inr (inr (inl (refl, e)))
+    go false false false e = inr (inr (inr refl))
+
+abbrev script_built : Shape
+script_built = slice_index_or (built program).subs 0 serve_shape
+
+abbrev help_built : Shape
+help_built = slice_index_or (built program).subs 2 serve_shape
+
+-- the subcommand that was found is `script`, or `serve` with its options
+found_one : (o : Option Shape) (p : Text × List Text) → (bytes_eq p.0 (codes "help") ≡ false)
+    → (o ≡ Some script_built) ⊎ ((o ≡ Some serve_built) ⊎ (((o ≡ Some help_built) × (answers_to p.0 (label_of help_built) ≡ true)) ⊎ (o ≡ None)))
+    → option_map_or (λ s. level_fault s [] nothing_held p.1 false []) o [] ≡ [] → is_some (option_map (λ s. rows_at s p.1) o) ≡ true
+    → IsLooked (option_map (λ s. rows_at s p.1) o)
+found_one o p other (inl is) none some = rw is (inl refl)
+found_one o p other (inr (inl is)) none some =
+    let level = subst (λ (x : Option Shape). option_map_or (λ s. level_fault s [] nothing_held p.1 false []) x [] ≡ []) is none in
+    rw is (inr (rows_after serve_built.rules [] p.1, refl, options_of p.1 level))
+found_one o p other (inr (inr (inl is))) none some = absurd (not_help p.0 other is.1)
+  where
+    not_help : (name : Text) → bytes_eq name (codes "help") ≡ false → (bytes_eq (codes "help") name || false) ≡ true → ⊥
+    not_help name otherwise named = go (bytes_eq (codes "help") name) refl named
+      where
+        go : (b : Bool) → bytes_eq (codes "help") name ≡ b → (b || false) ≡ true → ⊥
+        go true e h =
+            let same : codes "help" ≡ name = (bytes_eq-Decides (codes "help") name).0 e in
+            let bad : bytes_eq (codes "help") (codes "help") ≡ false = subst (λ (t : Text). bytes_eq t (codes "help") ≡ false) (sym same) otherwise in
+            cc
+        go false e h = cc
+found_one o p other (inr (inr (inr is))) none some =
+    let bad : false ≡ true = subst (λ (x : Option Shape). is_some (option_map (λ s. rows_at s p.1) x) ≡ true) is some in
+    cc
+
+entered_one : (stop : Option (Text × List Text)) → StopsFine stop → entered_fault (built program) stop ≡ []
+    → is_some (entered (built program) stop) ≡ true → IsLooked (entered (built program) stop)
+entered_one None fine none some = cc
+entered_one (Some p) fine none some =
+    found_one (find (λ s. answers_to p.0 (label_of s)) (built program).subs) p fine
+    (first_of_three (λ s. answers_to p.0 (label_of s)) script_built serve_built help_built) none some
+
+is_entered : (b : Bool) → check_kinds (not b && false) (not b && true) false ≡ [] → b ≡ true
+is_entered true h = refl
+is_entered false h = cc
+
+-- where clap takes the words, they name `script`, or `serve` with its options
+pub looked : (words : List Text) → refusals words ≡ [] → IsLooked (subcommand_of program words)
+looked words none =
+    let a = built program in
+    let rest = argument_words a words in
+    let end = (walk a.top.rules (names_of a) nothing_held rest).held in
+    let stop = (walk a.top.rules (names_of a) nothing_held rest).stopped in
+    let walking = nil_both (walk_fault a.top (names_of a) (walk_from nothing_held) rest) _ none in
+    let below = nil_both (entered_fault a stop) _ walking.1 in
+    let settling = nil_both (settle_fault a.top.rules a.top.args_override_self end) _ below.1 in
+    let checking = nil_both (defaults_fault (settled a.top.rules end).rows a.top.rules) _ settling.1 in
+    let fine = walk_stops a.top refl (names_of a) (walk_from nothing_held) rest walking.0 tt in
+    entered_one stop fine below.0 (is_entered (is_some (entered a stop)) checking.1)
+
+-- what the words ask for, by what they name
+pub asked_by : (words : List Text) (e : Entered) (r : Result Task ArgFault) → e ≡ subcommand_of program words → refusals words ≡ []
+    → MatchResult r (AsksIn e) (RefusesIn e) → MatchResult r (Asks words) (Refuses words)
+asked_by words e (Ok t) is none h = record { taken = none; asked = subst (λ (x : Entered). AsksIn x t) is h }
+asked_by words e (Err (fault.Words x)) is none h = inl h.1
+asked_by words e (Err (fault.Text f)) is none h =
+    let g = subst (λ (x : Entered). RefusesIn x (fault.Text f)) is h in record { taken = none; serves = g.0; refused = g.1 }
+asked_by words e (Err fault.SameNode) is none h =
+    let g = subst (λ (x : Entered). RefusesIn x fault.SameNode) is h in record { taken = none; serves = g.0; refused = g.1 }
+asked_by words e (Err fault.TooManyNodes) is none h =
+    let g = subst (λ (x : Entered). RefusesIn x fault.TooManyNodes) is h in record { taken = none; serves = g.0; refused = g.1 }

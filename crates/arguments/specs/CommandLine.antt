@@ -1,0 +1,81 @@
+-- The command line of the program, and what its words ask for.
+use Rattle.std.specs.Prelude.{◌≡◌, true, codes, List, [], ◌∷◌, Option, Some, None, pos, option_map, option_and_then}
+use Rattle.clap.specs.Words.{App, Kinds, Row, Rule, Shape, Text, fault_of, first_of, new_app, new_rule, subcommand_of, with_subcommand}
+use Rattle.clap.specs.Simple.{new_shape}
+use Rattle.clap.specs.declared.builder.action.ArgAction.TheVariants.{Set}
+use Rattle.clap.specs.declared.builder.value_parser.ValueParser.TheVariants as parser
+use Rattle.clap.specs.declared.error.kind.ErrorKind.TheVariants as kind
+
+-- an option that takes one value
+abbrev pub one_valued : Text → Rule
+one_valued id = record (new_rule id) { long = Some id; action = Some Set; value_names = 1 }
+
+-- an option that takes one value, and can't be left out
+abbrev pub wanted : Text → Rule
+wanted id = record (one_valued id) { required = true }
+
+-- the option for the number of consoles, which takes a number from 1 to 64
+abbrev pub consoles_rule : Rule
+consoles_rule = record (one_valued (codes "consoles")) { parser = Some (parser.Signed (pos 1) (pos 64)) }
+
+-- the options of `serve`
+abbrev pub serve_rules : List Rule
+serve_rules = wanted (codes "listen") ∷ wanted (codes "nodes") ∷ one_valued (codes "lone") ∷ consoles_rule ∷ []
+
+-- the subcommand `serve` with its options
+abbrev pub serve_shape : Shape
+serve_shape = record (new_shape (codes "serve")) { rules = serve_rules }
+
+-- a command with a version and two subcommands, `script`, which takes no arguments, and `serve`, of which one is wanted
+abbrev pub program : App
+program =
+    let app = with_subcommand (with_subcommand (new_app (codes "cluster_main")) (new_app (codes "script")).top) serve_shape in
+    record app { top = record app.top { has_version = true; subcommand_required = true } }
+
+-- the kinds of error that a parse of words, the program's name first, may give: none where they ask for something
+abbrev pub refusals : List Text → Kinds
+refusals words = fault_of program words
+
+-- the subcommand that a parse entered, by its name, and what was found for its options
+abbrev pub Entered : Type 0
+Entered = Option (Text × List Row)
+
+-- the name of the subcommand
+abbrev pub name_in : Entered → Option Text
+name_in = option_map (λ p. p.0)
+
+-- the value of an option of the subcommand
+abbrev pub value_in : Entered → Text → Option Text
+value_in entered id = option_and_then (λ p. first_of id p.1) entered
+
+-- a line that serves the nodes a and b, with more options behind
+abbrev pub serving : Text → List Text → List Text
+serving name more =
+    name ∷ codes "serve" ∷ codes "--listen" ∷ codes "x:1" ∷ codes "--nodes" ∷ codes "a,b" ∷ more
+
+-- what some words ask for, behind any name of the program
+pub record KnownWords : Type 0 where
+  pub script : (name : Text) → refusals (name ∷ codes "script" ∷ []) ≡ []
+  pub help : (name : Text) → refusals (name ∷ codes "--help" ∷ []) ≡ kind.DisplayHelp ∷ []
+  pub short_help : (name : Text) → refusals (name ∷ codes "-h" ∷ []) ≡ kind.DisplayHelp ∷ []
+  pub version : (name : Text) → refusals (name ∷ codes "--version" ∷ []) ≡ kind.DisplayVersion ∷ []
+  pub nothing : (name : Text) → refusals (name ∷ []) ≡ kind.MissingSubcommand ∷ []
+  pub nonsense : (name : Text) → refusals (name ∷ codes "nonsense" ∷ [])
+      ≡ kind.UnknownArgument ∷ kind.InvalidSubcommand ∷ []
+  pub more : (name : Text) → refusals (name ∷ codes "script" ∷ codes "more" ∷ []) ≡ kind.UnknownArgument ∷ []
+  pub serve_help : (name : Text) → refusals (name ∷ codes "serve" ∷ codes "--help" ∷ []) ≡ kind.DisplayHelp ∷ []
+  pub serve_alone : (name : Text) → refusals (name ∷ codes "serve" ∷ []) ≡ kind.MissingRequiredArgument ∷ []
+  pub serve_without_nodes : (name : Text) → refusals (name ∷ codes "serve" ∷ codes "--listen" ∷ codes "x:1" ∷ [])
+      ≡ kind.MissingRequiredArgument ∷ []
+  pub serve_with_nodes : (name : Text) → refusals (serving name []) ≡ []
+  pub serve_with_consoles : (name : Text) → refusals (serving name (codes "--consoles" ∷ codes "64" ∷ [])) ≡ []
+  pub too_many_consoles : (name : Text) → refusals (serving name (codes "--consoles" ∷ codes "65" ∷ []))
+      ≡ kind.ValueValidation ∷ []
+  pub no_consoles : (name : Text) → refusals (serving name (codes "--consoles=0" ∷ [])) ≡ kind.ValueValidation ∷ []
+  pub lone_twice : (name : Text) → refusals (serving name (codes "--lone=d" ∷ codes "--lone=e" ∷ []))
+      ≡ kind.ArgumentConflict ∷ []
+  pub address : (name : Text) → value_in (subcommand_of program (serving name [])) (codes "listen") ≡ Some (codes "x:1")
+  pub nodes : (name : Text) → value_in (subcommand_of program (serving name [])) (codes "nodes") ≡ Some (codes "a,b")
+  pub no_lone : (name : Text) → value_in (subcommand_of program (serving name [])) (codes "lone") ≡ None
+  pub lone : (name : Text) → value_in (subcommand_of program (serving name (codes "--lone=d" ∷ []))) (codes "lone")
+      ≡ Some (codes "d")

@@ -1,0 +1,58 @@
+-- The nodes that two lists name: those that are joined from the start, and those that stand alone.
+use Rattle.std.specs.Prelude.{◌≡◌, ◌⊎◌, ◌+◌, ◌<◌, ◌≤◌, ℕ, Bool, true, false, List, [], length, Option, Some, None}
+use Rattle.std.specs.List.{list_any}
+use Rattle.term.specs.NodeLists.{SpellsNodes, RefusesNodes}
+use Rattle.term.specs.NodeSets.{most_nodes, set_of}
+use Rattle.term.specs.declared.faults.TextFault.{TextFault}
+use Rattle.arguments.specs.declared.faults.ArgFault.{ArgFault}
+use Rattle.arguments.specs.declared.faults.ArgFault.TheVariants.{Words, Text, SameNode, TooManyNodes}
+
+-- some node stands in both lists
+abbrev pub shares : List ℕ → List ℕ → Bool
+shares cluster lone = list_any (set_of lone) cluster
+
+-- the lone nodes are those that the list spells, and none without a list
+abbrev pub SpellsLone : Option (List ℕ) → List ℕ → Type 0
+SpellsLone None lone = lone ≡ []
+SpellsLone (Some text) lone = SpellsNodes text lone
+
+-- the list of lone nodes is refused for the fault
+abbrev pub RefusesLone : Option (List ℕ) → TextFault → Type 0
+RefusesLone None fault = ⊥
+RefusesLone (Some text) fault = RefusesNodes text fault
+
+-- the two lists spell these sets, which share no node and are not too many together
+pub record PlacesNodes (nodes : List ℕ) (lone_list : Option (List ℕ)) (cluster lone : List ℕ) : Type 0 where
+  pub joined : SpellsNodes nodes cluster
+  pub alone : SpellsLone lone_list lone
+  pub apart : shares cluster lone ≡ false
+  pub fits : length cluster + length lone ≤ most_nodes
+
+-- the two lists spell sets that share a node
+pub record SharesNode (nodes : List ℕ) (lone_list : Option (List ℕ)) : Type 0 where
+  pub cluster : List ℕ
+  pub lone : List ℕ
+  pub joined : SpellsNodes nodes cluster
+  pub alone : SpellsLone lone_list lone
+  pub shared : shares cluster lone ≡ true
+
+-- the two lists spell sets that share no node and are too many together
+pub record HasTooMany (nodes : List ℕ) (lone_list : Option (List ℕ)) : Type 0 where
+  pub cluster : List ℕ
+  pub lone : List ℕ
+  pub joined : SpellsNodes nodes cluster
+  pub alone : SpellsLone lone_list lone
+  pub apart : shares cluster lone ≡ false
+  pub over : most_nodes < length cluster + length lone
+
+-- the first list that spells no set is refused for the fault
+abbrev pub RefusesList : List ℕ → Option (List ℕ) → TextFault → Type 0
+RefusesList nodes lone fault =
+    RefusesNodes nodes fault ⊎ ((cluster : List ℕ) × SpellsNodes nodes cluster × RefusesLone lone fault)
+
+-- the fault of two lists: that of the first that spells no set, else that they share a node, else that they are too many
+abbrev pub RefusesPlacing : List ℕ → Option (List ℕ) → ArgFault → Type 0
+RefusesPlacing _ _ (Words _) = ⊥
+RefusesPlacing nodes lone (Text fault) = RefusesList nodes lone fault
+RefusesPlacing nodes lone SameNode = SharesNode nodes lone
+RefusesPlacing nodes lone TooManyNodes = HasTooMany nodes lone

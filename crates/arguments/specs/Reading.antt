@@ -1,0 +1,78 @@
+-- What the words ask for, and why others are not taken.
+use Rattle.std.specs.Prelude.{◌≡◌, ◌⊎◌, ◌≤◌, ℕ, true, List, [], codes, Option, Some, None, IfSome, is_some, option_map, pos, string_bytes}
+use Rattle.std.specs.Str.Parse.{digits_value, without_leading_plus}
+use Rattle.clap.specs.Words.{HasKind, IsSignedIn, Row, first_of, one_of, subcommand_of, without_minus, Text as Bytes}
+use Rattle.clap.specs.Values.{kind_of}
+use Rattle.clap.specs.declared.error.kind.ErrorKind.TheVariants.{OutOfMemory}
+use Rattle.arguments.specs.CommandLine.{Entered, name_in, program, refusals, value_in}
+use Rattle.arguments.specs.Nodes.{PlacesNodes, RefusesPlacing}
+use Rattle.arguments.specs.declared.faults.ArgFault.{ArgFault}
+use Rattle.arguments.specs.declared.faults.ArgFault.TheVariants.{Words}
+use Rattle.arguments.specs.declared.task.ServeOptions.{ServeOptions}
+use Rattle.arguments.specs.declared.task.Task.{Task}
+use Rattle.arguments.specs.declared.task.Task.TheVariants.{Script, Serve}
+
+-- the value of each option, by its name
+abbrev pub Values : Type 0
+Values = Bytes → Option Bytes
+
+-- how many consoles are taken: the number that is given, from 1 to 64, and 8 where none is
+abbrev pub CountsConsoles : Option Bytes → ℕ → Type 0
+CountsConsoles None n = n ≡ 8
+CountsConsoles (Some digits) n = (1 ≤ n) × (n ≤ 64) × (n ≡ digits_value 10 (without_leading_plus digits))
+
+-- these values tell `serve` so
+pub record Tells (value : Values) (o : ServeOptions) : Type 0 where
+  pub address : value (codes "listen") ≡ Some (string_bytes o.listen)
+  pub list : Bytes
+  pub nodes : value (codes "nodes") ≡ Some list
+  pub placed : PlacesNodes list (value (codes "lone")) o.cluster o.lone
+  pub count : CountsConsoles (value (codes "consoles")) o.consoles
+
+-- the lists that these values give are refused for the fault
+pub record RefusesLists (value : Values) (fault : ArgFault) : Type 0 where
+  pub list : Bytes
+  pub nodes : value (codes "nodes") ≡ Some list
+  pub refused : RefusesPlacing list (value (codes "lone")) fault
+
+-- the values of options that are refused: the lists are, or memory was
+abbrev pub RefusesValues : Values → ArgFault → Type 0
+RefusesValues value (Words e) = kind_of e ≡ OutOfMemory
+RefusesValues value fault = RefusesLists value fault
+
+-- what clap has seen to: the wanted options are there, and the number of consoles is one of 1 to 64 where it is given
+pub record HasOptions (rows : List Row) : Type 0 where
+  pub listen : is_some (first_of (codes "listen") rows) ≡ true
+  pub nodes : is_some (first_of (codes "nodes") rows) ≡ true
+  pub consoles : IfSome (first_of (codes "consoles") rows) (IsSignedIn (pos 1) (pos 64))
+  pub digits : one_of (codes "consoles") rows ≡ option_map without_minus (first_of (codes "consoles") rows)
+
+-- what clap has seen to: a subcommand is named, which is `script`, or `serve` with its options
+abbrev pub IsLooked : Entered → Type 0
+IsLooked entered = (name_in entered ≡ Some (codes "script"))
+    ⊎ ((rows : List Row) × (entered ≡ Some (codes "serve", rows)) × HasOptions rows)
+
+-- the subcommand and its options ask for this
+abbrev pub AsksIn : Entered → Task → Type 0
+AsksIn entered Script = name_in entered ≡ Some (codes "script")
+AsksIn entered (Serve o) = (name_in entered ≡ Some (codes "serve")) × Tells (value_in entered) o
+
+-- the options of `serve` are refused for the fault
+abbrev pub RefusesIn : Entered → ArgFault → Type 0
+RefusesIn entered fault = (name_in entered ≡ Some (codes "serve")) × RefusesValues (value_in entered) fault
+
+-- the words, the program's name first, ask for this
+pub record Asks (words : List Bytes) (task : Task) : Type 0 where
+  pub taken : refusals words ≡ []
+  pub asked : AsksIn (subcommand_of program words) task
+
+-- the words are taken, and the lists of `serve` are refused for the fault
+pub record RefusesNodesOf (words : List Bytes) (fault : ArgFault) : Type 0 where
+  pub taken : refusals words ≡ []
+  pub serves : name_in (subcommand_of program words) ≡ Some (codes "serve")
+  pub refused : RefusesLists (value_in (subcommand_of program words)) fault
+
+-- why the words are not taken: clap refuses them or memory was refused, or else the lists of `serve` are refused
+abbrev pub Refuses : List Bytes → ArgFault → Type 0
+Refuses words (Words e) = HasKind (refusals words) e
+Refuses words fault = RefusesNodesOf words fault

@@ -1,0 +1,89 @@
+//! The command line of the program, as clap reads it.
+ghost use Rattle.std.specs.Prelude.{◌≡◌, false, None, IfOk, [], ◌∷◌};
+ghost use Rattle.clap.specs.Words.{app_of, rule_of};
+ghost use Rattle.clap.specs.declared.builder.command.Command.TheViews.{out-Command as fields_of};
+ghost use Rattle.arguments.specs.CommandLine.{program, consoles_rule, one_valued, serve_shape, wanted};
+
+use clap::{Arg, ArgAction, Command};
+use std::alloc::{AllocError, Global};
+
+/// An option that takes one value, which help calls by this name.
+fn option<'a>(alloc: Global, id: &'a str, value: &'a str, help: &'a str) -> Arg<'a>
+    ensures rule { rule_of result ≡ one_valued id.entry.now }
+    ensures local { result.global ≡ false }
+    ensures parser { result.value_parser ≡ None }
+{
+    Arg::new(alloc, id)
+        .long(id)
+        .action(ArgAction::Set)
+        .value_name(value)
+        .help(help)
+}
+
+/// An option that can't be left out, and takes one value, which help calls by this name.
+fn wanted_option<'a>(alloc: Global, id: &'a str, value: &'a str, help: &'a str) -> Arg<'a>
+    ensures rule { rule_of result ≡ wanted id.entry.now }
+    ensures local { result.global ≡ false }
+{
+    option(alloc, id, value, help).required(true)
+}
+
+/// The option for the number of consoles.
+fn consoles_option<'a>(alloc: Global) -> Arg<'a>
+    ensures rule { rule_of result ≡ consoles_rule }
+    ensures local { result.global ≡ false }
+{
+    option(
+        alloc,
+        "consoles",
+        "N",
+        "How many consoles are taken before the cluster closes, 1 to 64, as 16; 8 without this option",
+    )
+    .value_parser(clap::value_parser!(u8).range(1..=64))
+}
+
+/// The subcommand `serve` with its options.
+fn serve_command<'a>(alloc: Global) -> Result<Command<'a>, AllocError>
+    ensures shape { IfOk result (λ command. app_of command ≡ record { top = serve_shape; subs = [] }) }
+    ensures local { IfOk result (λ command. (fields_of command).has_globals ≡ false) }
+{
+    let listen = wanted_option(
+        alloc,
+        "listen",
+        "ADDR",
+        "The address to listen on, as 127.0.0.1:4370",
+    );
+    let nodes = wanted_option(
+        alloc,
+        "nodes",
+        "LIST",
+        "The nodes that are joined from the start, parted by commas, as a,b,c",
+    );
+    let lone = option(
+        alloc,
+        "lone",
+        "LIST",
+        "The nodes that stand alone at the start, parted by commas, as d,e; none without this option",
+    );
+    Command::new(alloc, "serve")
+        .about("Runs nodes and serves consoles over the network")
+        .arg(listen)?
+        .arg(nodes)?
+        .arg(lone)?
+        .arg(consoles_option(alloc))
+}
+
+/// The command line of the program.
+pub(crate) fn command<'a>(alloc: Global) -> Result<Command<'a>, AllocError>
+    ensures { IfOk result (λ command. app_of command ≡ program) }
+{
+    let script = Command::new(alloc, "script").about(
+        "Plays a script from standard input and prints its answers",
+    );
+    Command::new(alloc, "cluster_main")
+        .about("A verified global name server")
+        .version("0.1.0")
+        .subcommand_required(true)
+        .subcommand(script)?
+        .subcommand(serve_command(alloc)?)
+}

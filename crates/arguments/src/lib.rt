@@ -1,0 +1,15 @@
+//! What the words ask the program for.
+#![tactic(auto)]
+
+mod command_line;
+mod faults;
+mod nodes;
+mod reading;
+mod task;
+
+pub use faults::ArgFault;
+pub use reading::read_args;
+pub use task::{ServeOptions, Task};
+
+#[cfg(test)]
+mod tests;

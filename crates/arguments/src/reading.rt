@@ -1,0 +1,56 @@
+//! What the words ask for.
+ghost use Rattle.std.specs.Prelude.{◌≡◌, MatchResult, map, string_bytes};
+ghost use Rattle.clap.specs.Words.{first_of, found_of, rows_of, subcommand_rows_of};
+ghost use Rattle.arguments.specs.CommandLine.{KnownWords};
+ghost use Rattle.arguments.specs.Reading.{Asks, AsksIn, HasOptions, IsLooked, Refuses, RefusesIn, RefusesValues, Tells};
+
+use crate::command_line::command;
+use crate::faults::ArgFault;
+use crate::nodes::read_nodes;
+use crate::task::{ServeOptions, Task};
+use clap::ArgMatches;
+use std::alloc::Global;
+
+/// How many consoles are taken where the words don't tell.
+const CONSOLES: u8 = 8;
+
+/// Reads the options of `serve`, which clap has looked at before: those that are wanted are there, and the number of
+/// consoles is one of 1 to 64 where it is given.
+fn read_options(alloc: Global, matches: &ArgMatches<'_>) -> Result<ServeOptions, ArgFault>
+    requires { HasOptions (rows_of (found_of matches.now)) }
+    ensures { MatchResult result (Tells (λ id. first_of id (rows_of (found_of matches.now))))
+        (RefusesValues (λ id. first_of id (rows_of (found_of matches.now)))) }
+{
+    let listen = matches.get_str("listen").unwrap();
+    let nodes = matches.get_str("nodes").unwrap();
+    let (cluster, lone) = read_nodes(nodes, matches.get_str("lone"))?;
+    let listen = String::from_str(alloc, listen)?;
+    let consoles = matches.get_one::<u8>("consoles").unwrap_or(CONSOLES);
+    Ok(ServeOptions {
+        listen,
+        cluster,
+        lone,
+        consoles,
+    })
+}
+
+/// Reads what clap found, which has looked at it before.
+fn read_matches(alloc: Global, matches: &ArgMatches<'_>) -> Result<Task, ArgFault>
+    requires { IsLooked (subcommand_rows_of matches.now) }
+    ensures { MatchResult result (AsksIn (subcommand_rows_of matches.now)) (RefusesIn (subcommand_rows_of matches.now)) }
+{
+    match matches.subcommand() {
+        Some(("serve", options)) => Ok(Task::Serve(read_options(alloc, options)?)),
+        _ => Ok(Task::Script),
+    }
+}
+
+/// Reads the words, the first of which is the program's name: what they ask for, or why they are not taken.
+#[tactic(auto, using(crate::proofs::Words::known_words))]
+pub fn read_args(alloc: Global, words: &[String]) -> Result<Task, ArgFault>
+    ensures task { MatchResult result (Asks (map string_bytes words.now)) (Refuses (map string_bytes words.now)) }
+    ensures known { KnownWords }
+{
+    let matches = command(alloc)?.try_get_matches_from(words)?;
+    read_matches(alloc, &matches)
+}

@@ -1,0 +1,6 @@
+use Rattle.leftovers.proofs.Nothing.{nothing_is_left}
+use Rattle.cluster_world.specs.Seen.{opening_with}
+use Rattle.cluster_world.proofs.laws.nothing_is_left_in_any_world.Goals as goal
+
+pub returns : goal.returns
+returns c = λ nodes cluster es. nothing_is_left (opening_with nodes cluster) es

@@ -1,0 +1,20 @@
+-- Nothing is left over in a world.
+use Rattle.std.specs.Prelude.{ℕ, List, ◌++◌}
+use Rattle.protocol_model.specs.Leftovers.{NothingIsLeft, world}
+use Rattle.protocol_model.specs.World.{WorldEvent as AnyWorldEvent}
+use Rattle.cluster_world.specs.declared.events.WorldEvent.{WorldEvent}
+use Rattle.cluster_world.specs.Held.{Held}
+use Rattle.cluster_world.specs.Seen.{opening_with, opening_of, seen}
+use Rattle.cluster_world.specs.Playing.{events_of}
+use Rattle.cluster_world.specs.Agreeing.{IsRunOf}
+
+-- Whatever made the old world what it was, that and then these events made the new one, nothing is left over behind
+-- them all
+abbrev pub LeavesNothing : List WorldEvent → Held → Held → Type 0
+LeavesNothing es old new = (before : List AnyWorldEvent) → IsRunOf before old
+    → NothingIsLeft (opening_of new) (before ++ events_of es) (seen new)
+
+-- So it is in every world, whatever nodes it has and whichever of them are joined at first, after every list of events
+abbrev pub EveryWorldLeavesNothing : Type 0
+EveryWorldLeavesNothing = (nodes cluster : List ℕ) (es : List AnyWorldEvent)
+    → NothingIsLeft (opening_with nodes cluster) es (world (opening_with nodes cluster) es)

@@ -1,0 +1,2 @@
+mod Heeding
+mod Talking

@@ -1,0 +1,90 @@
+-- What a line of a console says.
+use Rattle.std.specs.Prelude.{ℕ, Bool, true, false, ◌≡◌, ◌≢◌, ◌||◌, bytes_eq, codes, List, [], ◌∷◌, Option, Some, None, Result, Ok, Err}
+use Rattle.registry_model.specs.Call.{Register, ReRegister, Unregister, RegisteredNames, Whereis as LooksUp}
+use Rattle.protocol_model.specs.Event.{Event, Calling, Exiting, Leave as Leaving, Spawn, OnName, LookUp, JoinBy}
+use Rattle.protocol_model.specs.Script.{Line}
+use Rattle.node_events.specs.Seen.{call_of}
+use Rattle.command_lines.specs.declared.faults.LineFault.{LineFault}
+use Rattle.command_lines.specs.declared.faults.LineFault.TheVariants.{BadLine}
+use Rattle.command_lines.specs.Grammar.{Node, Name, Pid, Row, row, row_of, at_node, call_at, AsksBy, WordsAsk}
+use Rattle.command_lines.specs.Commands.{unread}
+use Rattle.text_lines.specs.Words.{words}
+use Rattle.console.specs.declared.orders.Order.{Order}
+use Rattle.console.specs.declared.orders.Order.TheVariants.{Call, Whereis, Exit, Leave}
+use Rattle.console.specs.declared.orders.Command.{Command}
+use Rattle.console.specs.declared.orders.Command.TheVariants.{Ask, Quit}
+
+-- what the node is asked, as the protocol has it
+abbrev pub event_in : Order → Event
+event_in (Call c) = Calling (call_of c)
+event_in (Whereis x) = Calling (LookUp (LooksUp x))
+event_in (Exit p) = Exiting p
+event_in Leave = Leaving
+
+-- what node n is asked, as a line of a script asks it, or why the line is refused
+abbrev pub asked_of : ℕ → Result Order LineFault → Result Line LineFault
+asked_of n (Ok o) = Ok (at_node n (event_in o))
+asked_of n (Err f) = Err f
+
+-- the lines that a console has of its own: each asks its node n, which none names
+abbrev pub own_lines : ℕ → List Row
+own_lines n =
+    row (codes "spawn") [] (call_at n Spawn)
+    ∷ row (codes "exit") (Pid ∷ []) (λ p. at_node n (Exiting p))
+    ∷ row (codes "register") (Name ∷ Pid ∷ []) (λ x p. call_at n (OnName (Register x p)))
+    ∷ row (codes "re_register") (Name ∷ Pid ∷ []) (λ x p. call_at n (OnName (ReRegister x p)))
+    ∷ row (codes "unregister") (Name ∷ []) (λ x. call_at n (OnName (Unregister x)))
+    ∷ row (codes "whereis") (Name ∷ []) (λ x. call_at n (LookUp (LooksUp x)))
+    ∷ row (codes "names") [] (call_at n (LookUp RegisteredNames))
+    ∷ row (codes "join") (Node ∷ []) (λ m. call_at n (JoinBy m))
+    ∷ row (codes "leave") [] (at_node n Leaving)
+    ∷ []
+
+-- what a line of its own asks, whichever the console's node is
+abbrev pub AsksOwn : List ℕ → List (List ℕ) → Result Order LineFault → Type 0
+AsksOwn word texts r = (n : ℕ) → AsksBy (row_of word texts (own_lines n)) texts (asked_of n r)
+
+-- the lines that begin so are those of lock calls
+abbrev pub is_lock_word : List ℕ → Bool
+is_lock_word word = bytes_eq word (codes "set_lock") || bytes_eq word (codes "del_lock")
+
+-- what a line of a lock call asks: what it asks in a script, but of the console's node and not of the holder's
+abbrev pub AsksAsScript : List ℕ → List (List ℕ) → Result Order LineFault → Type 0
+AsksAsScript word texts r = (holders : ℕ) × WordsAsk (word ∷ texts) (asked_of holders r)
+
+abbrev pub AsksFor : Bool → List ℕ → List (List ℕ) → Result Order LineFault → Type 0
+AsksFor true word texts r = AsksAsScript word texts r
+AsksFor false word texts r = AsksOwn word texts r
+
+-- what words ask that are no lock call
+abbrev pub OwnAsk : List (List ℕ) → Result Order LineFault → Type 0
+OwnAsk [] r = r ≡ Err BadLine
+OwnAsk (word ∷ texts) r = AsksOwn word texts r
+
+-- words begin as a lock call does
+abbrev pub begins_lock : List (List ℕ) → Bool
+begins_lock [] = false
+begins_lock (word ∷ texts) = is_lock_word word
+
+-- what words ask of the console's node, or why they are refused
+abbrev pub WordsAskNode : List (List ℕ) → Result Order LineFault → Type 0
+WordsAskNode [] r = r ≡ Err BadLine
+WordsAskNode (word ∷ texts) r = AsksFor (is_lock_word word) word texts r
+
+-- the words that end a console
+abbrev pub quit : List (List ℕ)
+quit = codes "quit" ∷ []
+
+-- what words say, or why they are refused
+abbrev pub WordsSay : List (List ℕ) → Result Command LineFault → Type 0
+WordsSay ws (Ok Quit) = ws ≡ quit
+WordsSay ws (Ok (Ask o)) = (ws ≢ quit) × WordsAskNode ws (Ok o)
+WordsSay ws (Err f) = (ws ≢ quit) × WordsAskNode ws (Err f)
+
+abbrev pub SaysUnless : Option LineFault → List ℕ → Result Command LineFault → Type 0
+SaysUnless (Some f) line r = r ≡ Err f
+SaysUnless None line r = WordsSay (words line) r
+
+-- what a line says, or why it is refused: an empty one is a bad line, too
+abbrev pub LineSays : List ℕ → Result Command LineFault → Type 0
+LineSays line r = SaysUnless (unread line) line r

@@ -1,0 +1,6 @@
+pub mod Faults
+pub mod Commands
+pub mod Greetings
+pub mod Outcomes
+pub mod Consoles
+pub mod Seats

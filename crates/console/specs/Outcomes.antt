@@ -1,0 +1,32 @@
+-- What an answer is printed as.
+use Rattle.std.specs.Prelude.{ℕ, codes, List, Option, Some, None, Result, Ok, Err}
+use Rattle.protocol_model.specs.Event.{Refusal}
+use Rattle.node_events.specs.Seen.{reply_of, fault_of}
+use Rattle.node_events.specs.declared.events.Reply.{Reply}
+use Rattle.node_events.specs.declared.events.StepFault.{StepFault}
+use Rattle.node_threads.specs.declared.fault.SeatFault.{SeatFault}
+use Rattle.node_threads.specs.declared.fault.SeatFault.TheVariants.{NoSuchNode, NodeLeft, Closed, SeatsSpent, Step, Memory}
+use Rattle.command_lines.specs.Printing.{ended, error_line, reply_text, refusal_word}
+
+-- the word of the protocol's refusal; there is none where memory was refused
+abbrev pub word_for : Option Refusal → List ℕ
+word_for (Some r) = refusal_word r
+word_for None = codes "memory"
+
+-- the word for which a node refuses an event
+abbrev pub step_word : StepFault → List ℕ
+step_word f = word_for (fault_of f)
+
+-- the word for which a seat refuses what it is asked
+abbrev pub seat_word : SeatFault → List ℕ
+seat_word NoSuchNode = codes "no_such_node"
+seat_word NodeLeft = codes "node_left"
+seat_word Closed = codes "closed"
+seat_word SeatsSpent = codes "seats_spent"
+seat_word (Step f) = step_word f
+seat_word Memory = codes "memory"
+
+-- the line of a reply, or of a refusal
+abbrev pub outcome_text : Result Reply SeatFault → List ℕ
+outcome_text (Ok r) = ended (reply_text (reply_of r))
+outcome_text (Err f) = error_line (seat_word f)

@@ -1,0 +1,28 @@
+//! Who answers what lines ask.
+ghost use Rattle.std.specs.Prelude.{Result};
+ghost use Rattle.node_events.specs.declared.events.Reply.{Reply as AnyReply};
+ghost use Rattle.node_threads.specs.declared.fault.SeatFault.{SeatFault as AnyFault};
+ghost use Rattle.console.specs.declared.orders.Order.{Order as AnyOrder};
+
+use crate::orders::Order;
+use cluster_world::Reply;
+use node_threads::SeatFault;
+use term::NodeName;
+
+/// Who answers what lines ask: a seat, or whatever stands for one.
+pub trait Attendant {
+    /// What contracts see of it.
+    type State;
+
+    ghost state: { Self → Self.State };
+
+    /// An order may be answered so, and leave such a state.
+    ghost answers: { Self.State → AnyOrder → Result AnyReply AnyFault → Self.State → Type 0 };
+
+    /// The node that it speaks for.
+    fn node(&self) -> &NodeName;
+
+    /// Has an order carried out, and gives the reply, or why it is refused.
+    fn ask(&mut self, order: Order) -> Result<Reply, SeatFault>
+        ensures { answers (Self.state self.old) order result (Self.state self.new) };
+}

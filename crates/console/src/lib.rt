@@ -1,0 +1,18 @@
+//! Consoles: each line that is read asks something of a node, and is answered at once.
+#![tactic(auto)]
+
+mod answering;
+mod attendant;
+mod commands;
+mod faults;
+mod greeting;
+mod orders;
+mod outcomes;
+mod serving;
+
+pub use answering::answer_lines;
+pub use attendant::Attendant;
+pub use faults::ConsoleFault;
+pub use greeting::{greet, refuse_seat};
+pub use orders::Order;
+pub use serving::serve;

@@ -1,0 +1,25 @@
+//! What the lines of a console say.
+use cluster_world::Call;
+use term::{Name, Pid};
+
+/// What a line asks of the console's node.
+#[derive(Debug, PartialEq, Eq, Drop)]
+pub enum Order {
+    /// A call, other than a look-up of one name.
+    Call(Call),
+    /// A look-up of a name.
+    Whereis(Name),
+    /// A process dies.
+    Exit(Pid),
+    /// The node leaves.
+    Leave,
+}
+
+/// What a line says.
+#[derive(Drop)]
+pub(crate) enum Command {
+    /// It asks something of the node.
+    Ask(Order),
+    /// It ends the console.
+    Quit,
+}

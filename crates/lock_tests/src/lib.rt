@@ -1,0 +1,5 @@
+//! Tests of lock tables.
+#![tactic(auto)]
+
+#[cfg(test)]
+mod tests;

@@ -1,0 +1,8 @@
+use Rattle.std.proofs.Common.{◌≡◌, length}
+use Rattle.node_threads.proofs.berths.connect.Given as goal
+
+abbrev pub invariant-loop-place : goal.invariant-loop-place
+invariant-loop-place g l = record {
+  names : l.berths ≡ l.fn.berths;
+  ends : l.place-end ≡ length l.fn.berths;
+}

@@ -1,0 +1,26 @@
+-- What closing a cluster comes to.
+use Rattle.std.specs.Prelude.{ℕ, ◌≡◌, ◌⊎◌, List, ◌++◌, map, Result, Ok, Err}
+use Rattle.registry_model.specs.Table.{Table}
+use Rattle.node_log.specs.declared.node_end.NodeEnd.{NodeEnd}
+use Rattle.node_log.specs.declared.transcript.Transcript.{Transcript}
+use Rattle.replay.specs.declared.closed.Closed.{Closed}
+use Rattle.replay.specs.declared.faults.CloseFault.{CloseFault}
+use Rattle.replay.specs.declared.faults.CloseFault.TheVariants.{Memory}
+use Rattle.replay.specs.Ends.{end_of as seen_end}
+use Rattle.replay.specs.Replaying.{Replayed, IsFault}
+
+-- whose end it is
+abbrev pub end_of : {N M : Type 0} → NodeEnd N M → ℕ
+end_of e = e.log.node
+
+module _ {N M : Type 0} (contents : N → Table) (cluster lone : List ℕ) (ts : List Transcript) where
+  -- what a replay of these ends comes to
+  abbrev pub Replays : List (NodeEnd N M) → Result (Closed N M) CloseFault → Type 0
+  Replays ends (Ok closed) = Replayed cluster lone (map (seen_end contents) ends) ts closed.events closed.world
+  Replays ends (Err fault) = IsFault cluster lone (map (seen_end contents) ends) ts fault
+
+  -- the threads gave back one end for each node, and this is what a replay of them comes to; or there was no memory for
+  -- the ends
+  abbrev pub CloseIs : Result (Closed N M) CloseFault → Type 0
+  CloseIs result = ((ends : List (NodeEnd N M)) × (map end_of ends ≡ cluster ++ lone) × Replays ends result)
+      ⊎ (result ≡ Err Memory)

@@ -1,0 +1,165 @@
+//! Nodes whose threads are yet to start.
+ghost use Rattle.std.specs.Prelude.{◌≡◌, true};
+ghost use Rattle.protocol_model.specs.World.{opening_world};
+ghost use Rattle.term.specs.NodeSets.{set_of};
+ghost use Rattle.cluster_world.specs.Seen.{opening_of, seen};
+ghost use Rattle.node_threads.specs.Cores.{OpensIn};
+
+use crate::address::{Address, Opened, open_inbox};
+use crate::bell::Rest;
+use crate::caller::Caller;
+use crate::hub::{Hub, MOST_SEATS};
+use crate::line::Line;
+use crate::parcel::Parcel;
+use crate::ruled_end::RuledEnd;
+use crate::running::{Running, Work};
+use crate::standing::Standing;
+use cluster_world::World;
+use link::Mailbox;
+use name_table::Names;
+use node_core::NodeCore;
+use node_loop::{Gate, Item, NodeLoop};
+use std::alloc::{AllocError, Global};
+use std::marker::Model;
+use std::sync::{Arc, Wait};
+use std::thread::Threads;
+use term::NodeName;
+
+/// A node whose thread is yet to start: where it is reached, and what its thread is to work with. Contracts see the
+/// name of the node.
+#[derive(Drop)]
+pub(crate) struct Berth<N: Names> {
+    address: Address<Item>,
+    mailbox: Mailbox<Parcel<Item>>,
+    rest: Rest,
+    /// To all nodes.
+    lines: Vec<Line<Item>>,
+    /// Asks the node in the name of the cluster.
+    caller: Caller,
+    standing: Arc<Standing, Global>,
+    node: NodeLoop<N>,
+}
+
+impl<N: Names> Model for Berth<N> {
+    ghost use Rattle.std.specs.Prelude.{ℕ, ◌≡◌};
+
+    ghost Value = { ℕ };
+
+    ghost view = { λ b. b.address.node };
+
+    ghost invariant = { λ b. b.node.log.node ≡ b.address.node };
+}
+
+/// The core of a node of this world, as it opens.
+fn core_of<N: Names<Memory = Global>>(
+    alloc: Global,
+    world: &World<N>,
+    node: &NodeName,
+    joined: bool,
+) -> NodeCore<N>
+    requires opening { seen world.now ≡ opening_world (opening_of world.now) }
+    requires known { set_of world.now.nodes node.now ≡ true }
+    ensures { OpensIn world.now node.now joined result }
+{
+    let Some(members) = world.members(node) else {
+        unreachable!()
+    };
+    NodeCore::new(alloc, node.copy(), world.nodes(), members, joined)
+}
+
+impl<N: Names<Memory = Global>> Berth<N> {
+    ghost use Rattle.std.specs.Prelude.{◌≡◌, ◌<◌, true, IfOk};
+
+    /// Opens the inbox of a node, the one at this place among the cluster's, and makes what its thread is to work with, but for the
+    /// lines.
+    pub(crate) fn open(
+        alloc: Global,
+        hub: &Arc<Hub, Global>,
+        yields: u32,
+        world: &World<N>,
+        node: &NodeName,
+        place: u32,
+        joined: bool,
+    ) -> Result<Self, AllocError>
+        requires opening { seen world.now ≡ opening_world (opening_of world.now) }
+        requires known { set_of world.now.nodes node.now ≡ true }
+        requires place { place < 8 }
+        ensures { IfOk result (λ berth. berth ≡ node.now) }
+    {
+        let Opened {
+            mut address,
+            mailbox,
+            rest,
+        } = open_inbox(alloc, node.copy(), yields)?;
+        let standing = Arc::new(alloc, Standing::new())?;
+        let slot = MOST_SEATS + place;
+        let caller = Caller::new(
+            slot,
+            address.line()?,
+            Arc::try_clone(hub)?,
+            Arc::try_clone(&standing)?,
+            hub.rest(slot, yields)?,
+        );
+        let core = core_of(alloc, world, node, joined);
+        let node = NodeLoop::new(alloc, core)?;
+        Ok(Berth {
+            address,
+            mailbox,
+            rest,
+            lines: Vec::new(alloc),
+            caller,
+            standing,
+            node,
+        })
+    }
+
+    /// Starts the thread.
+    pub(crate) fn launch<G, R>(
+        self,
+        rt: &R,
+        gate: &Arc<G, Global>,
+        hub: &Arc<Hub, Global>,
+    ) -> Result<Running<N>, AllocError>
+    where
+        G: Gate + Drop + Send + Sync + 'static,
+        N: Send + 'static,
+        R: Threads + Wait + Drop + Copy + Send + 'static,
+        ensures { IfOk result (λ running. running ≡ self) }
+    {
+        let Berth {
+            address,
+            mailbox,
+            rest,
+            lines,
+            caller,
+            standing,
+            node,
+            ..
+        } = self;
+        let end = RuledEnd::new(*rt, address.node().copy(), lines, mailbox);
+        let work = Work {
+            node,
+            end,
+            rest,
+            gate: Arc::try_clone(gate)?,
+            hub: Arc::try_clone(hub)?,
+            standing,
+        };
+        Running::start(rt, address, caller, work)
+    }
+
+    /// A line more into the node's inbox.
+    pub(crate) fn line(&mut self) -> Result<Line<Item>, AllocError>
+        ensures node { self.new ≡ self.old }
+        ensures receiver { IfOk result (λ line. line.receiver ≡ self.old) }
+    {
+        self.address.line()
+    }
+
+    /// Gives the node its lines.
+    pub(crate) fn connect(&mut self, lines: Vec<Line<Item>>)
+        ensures { self.new ≡ self.old }
+    {
+        self.lines = lines;
+    }
+}

@@ -1,0 +1,274 @@
+//! Clusters: the threads of all nodes, and the seats at them.
+ghost use Rattle.std.specs.Prelude.{◌≡◌, ◌+◌, ◌≤◌, ◌++◌, false, [], None, Err, map, IfOk, IfErr, OnErr, IfSome};
+ghost use Rattle.term.specs.NodeSets.{set_of};
+ghost use Rattle.link.specs.Held.{place};
+ghost use Rattle.protocol_model.specs.World.{opening_world};
+ghost use Rattle.cluster_world.specs.Seen.{opening_of, seen};
+ghost use Rattle.cluster_world.specs.Starting.{start_refused, start_fault_of, Opens};
+ghost use Rattle.node_threads.specs.declared.fault.SeatFault.TheVariants.{NoSuchNode};
+ghost use Rattle.node_threads.specs.Faults.{IsSeatRefused};
+ghost use Rattle.node_threads.specs.Closing.{end_of, CloseIs};
+
+use crate::berth::Berth;
+use crate::berths::{connect, open_all};
+use crate::caller::Caller;
+use crate::fault::SeatFault;
+use crate::hub::{Hub, MOST_SEATS};
+use crate::running::Running;
+use crate::seat::Seat;
+use cluster_world::{StartFault, World};
+use name_table::Names;
+use node_log::{NodeEnd, Transcript};
+use node_loop::Gate;
+use replay::{CloseFault, Closed, replay};
+use std::alloc::{AllocError, Global};
+use std::marker::Model;
+use std::sync::{Arc, Wait};
+use std::thread::Threads;
+use term::NodeName;
+
+/// Owns the threads of all nodes. It can't be dropped: `close` ends it. Contracts see its nodes
+/// and how many seats were made.
+pub struct Cluster<G: Gate + Drop, N: Names> {
+    alloc: Global,
+    gate: Arc<G, Global>,
+    hub: Arc<Hub, Global>,
+    /// How often a thread, or a caller, yields before it sleeps.
+    yields: u32,
+    cluster: Vec<NodeName>,
+    lone: Vec<NodeName>,
+    running: Vec<Running<N>>,
+    /// How many seats were made.
+    seats: u32,
+}
+
+impl<G: Gate + Drop, N: Names> Model for Cluster<G, N> {
+    ghost use Rattle.std.specs.Prelude.{◌≡◌, ◌≤◌, ◌++◌, None};
+    ghost use Rattle.cluster_world.specs.Starting.{start_refused};
+    ghost use Rattle.node_threads.specs.Clusters.{Crewed};
+
+    ghost Value = { Crewed };
+
+    ghost view = { λ c. record { cluster = c.cluster.items; lone = c.lone.items; seats = c.seats } };
+
+    ghost invariant = { λ c. (start_refused c.cluster.items c.lone.items ≡ None)
+        × (c.running.items ≡ c.cluster.items ++ c.lone.items) × (c.seats ≤ 64) };
+}
+
+/// The same nodes, in memory of their own.
+fn copied(alloc: Global, nodes: &[NodeName]) -> Result<Vec<NodeName>, AllocError>
+    ensures { IfOk result (λ copy. copy.items ≡ nodes.now) }
+{
+    nodes.iter().map(|node| node.copy()).collect(alloc)
+}
+
+/// The place of a node among those that run.
+fn place_of<N: Names<Memory = Global> + Send + 'static>(
+    running: &[Running<N>],
+    node: &NodeName,
+) -> Option<usize>
+    ensures { result ≡ place node.now running.now }
+{
+    running.iter().position(|one| one.node() == node)
+}
+
+/// Starts the threads of these nodes. Where one can't be started, those that were are ended again.
+fn launch_all<G, N, R>(
+    rt: &R,
+    alloc: Global,
+    gate: &Arc<G, Global>,
+    hub: &Arc<Hub, Global>,
+    berths: Vec<Berth<N>>,
+) -> Result<Vec<Running<N>>, AllocError>
+where
+    G: Gate + Drop + Send + Sync + 'static,
+    N: Names<Memory = Global> + Send + 'static,
+    R: Threads + Wait + Drop + Copy + Send + 'static,
+    ensures { IfOk result (λ running. running.items ≡ berths.items) }
+{
+    let mut running = Vec::new(alloc);
+    let mut whole = true;
+    for berth in berths {
+        if whole
+            && running.reserve(1).is_ok()
+            && let Ok(one) = berth.launch(rt, gate, hub)
+        {
+            running.push_reserved(one);
+        } else {
+            whole = false;
+        }
+    }
+    if whole {
+        Ok(running)
+    } else {
+        end_all(rt, alloc, hub, running);
+        Err(AllocError)
+    }
+}
+
+/// Asks these threads to end, and waits until all have. Gives what they left behind, where there is memory for it.
+fn end_all<N, R>(
+    rt: &R,
+    alloc: Global,
+    hub: &Hub,
+    running: Vec<Running<N>>,
+) -> Option<Vec<NodeEnd<N>>>
+where
+    N: Names<Memory = Global> + Send + 'static,
+    R: Threads,
+    ensures { IfSome result (λ ends. map end_of ends.items ≡ running.items) }
+{
+    hub.close();
+    for one in &running {
+        one.ring();
+    }
+    let mut ends = Vec::new(alloc);
+    let mut whole = true;
+    for one in running {
+        let end = one.join(rt);
+        if ends.push(end).is_err() {
+            whole = false;
+        }
+    }
+    if whole { Some(ends) } else { None }
+}
+
+impl<G, N> Cluster<G, N>
+where
+    G: Gate + Drop + Send + Sync + 'static,
+    N: Names<Memory = Global> + Send + 'static,
+{
+    ghost use Rattle.node_threads.specs.Clusters.{nodes_in};
+
+    /// Starts a thread for each node: those of `cluster` are joined with each other, and each of `lone` stands for itself. It is
+    /// refused as `World::start` is, in the same order; `Memory` also where a thread can't be had. The gate is held before each
+    /// step of a node. A thread that finds nothing to do yields `yields` times before it sleeps.
+    pub fn start<R>(
+        rt: &R,
+        alloc: Global,
+        cluster: &[NodeName],
+        lone: &[NodeName],
+        gate: G,
+        yields: u32,
+    ) -> Result<Self, StartFault>
+    where
+        R: Threads + Wait + Drop + Copy + Send + 'static,
+        ensures cluster { IfOk result (λ made. made.cluster ≡ cluster.now) }
+        ensures lone { IfOk result (λ made. made.lone ≡ lone.now) }
+        ensures seats { IfOk result (λ made. made.seats ≡ 0) }
+        ensures ok { IfOk result (λ _. start_refused cluster.now lone.now ≡ None) }
+        ensures err { IfErr result (λ fault. start_refused cluster.now lone.now ≡ start_fault_of fault) }
+    {
+        let world = World::<N>::start(alloc, cluster, lone)?;
+        Ok(Self::of_world(rt, alloc, &world, cluster, lone, gate, yields)?)
+    }
+
+    /// The cluster of a world that has just been started with these lists.
+    fn of_world<R>(
+        rt: &R,
+        alloc: Global,
+        world: &World<N>,
+        cluster: &[NodeName],
+        lone: &[NodeName],
+        gate: G,
+        yields: u32,
+    ) -> Result<Self, AllocError>
+    where
+        R: Threads + Wait + Drop + Copy + Send + 'static,
+        requires lists { start_refused cluster.now lone.now ≡ None }
+        requires opening { seen world.now ≡ opening_world (opening_of world.now) }
+        requires opens { Opens cluster.now lone.now world.now }
+        ensures cluster { IfOk result (λ made. made.cluster ≡ cluster.now) }
+        ensures lone { IfOk result (λ made. made.lone ≡ lone.now) }
+        ensures seats { IfOk result (λ made. made.seats ≡ 0) }
+    {
+        let hub = Arc::new(alloc, Hub::new(alloc)?)?;
+        let gate = Arc::new(alloc, gate)?;
+        let joined = copied(alloc, cluster)?;
+        let others = copied(alloc, lone)?;
+        let mut berths = Vec::new(alloc);
+        open_all(alloc, &hub, yields, world, cluster, true, &mut berths)?;
+        open_all(alloc, &hub, yields, world, lone, false, &mut berths)?;
+        connect(alloc, berths.as_mut_slice())?;
+        let running = launch_all(rt, alloc, &gate, &hub, berths)?;
+        Ok(Cluster {
+            alloc,
+            gate,
+            hub,
+            yields,
+            cluster: joined,
+            lone: others,
+            running,
+            seats: 0,
+        })
+    }
+
+    /// A new seat at a node, also at one that has left. Seats are numbered from 0 on as they are made. `NoSuchNode`: the node isn't of
+    /// the cluster. `SeatsSpent`: 64 seats were made.
+    pub fn seat(&mut self, node: &NodeName) -> Result<Seat, SeatFault>
+        ensures ok { IfOk result (λ seat. seat ≡ record { seat = self.old.seats; node = node.now; entries = [] }) }
+        ensures made { IfOk result (λ _. self.new.seats ≡ self.old.seats + 1) }
+        ensures refused { IfErr result (λ fault. IsSeatRefused fault (set_of (nodes_in self.old) node.now) (self.old.seats)) }
+        ensures unmade { OnErr result (self.new.seats ≡ self.old.seats) }
+        ensures nodes { (self.new.cluster ≡ self.old.cluster) × (self.new.lone ≡ self.old.lone) }
+    {
+        let Some(place) = place_of(self.running.as_slice(), node) else {
+            return Err(SeatFault::NoSuchNode);
+        };
+        if self.seats >= MOST_SEATS {
+            return Err(SeatFault::SeatsSpent);
+        }
+        let rest = self.hub.rest(self.seats, self.yields)?;
+        let hub = Arc::try_clone(&self.hub)?;
+        let standing = self.running[place].standing()?;
+        let line = self.running[place].line()?;
+        let caller = Caller::new(self.seats, line, hub, standing, rest);
+        self.seats += 1;
+        Ok(Seat::new(self.alloc, caller))
+    }
+
+    /// A node leaves. It waits until that is so, behind the hold of the global lock where the node holds it. `NoSuchNode`: the node
+    /// isn't of the cluster. `NodeLeft`: it has left before. `Closed`: its thread ended without a leave.
+    pub fn leave<R: Wait>(&mut self, rt: &R, node: &NodeName) -> Result<(), SeatFault>
+        ensures seats { self.new.seats ≡ self.old.seats }
+        ensures nodes { (self.new.cluster ≡ self.old.cluster) × (self.new.lone ≡ self.old.lone) }
+        ensures stranger { set_of (nodes_in self.old) node.now ≡ false → result ≡ Err NoSuchNode }
+    {
+        let Some(place) = place_of(self.running.as_slice(), node) else {
+            return Err(SeatFault::NoSuchNode);
+        };
+        self.running[place].leave(rt)
+    }
+
+    /// Asks all threads to end, waits until they have, and replays what they left behind on a world, with these transcripts of
+    /// seats. Where it answers `Ok` the run of the threads was one of the world's. Calls that still wait at a seat are answered
+    /// `Closed`.
+    pub fn close<R: Threads>(
+        self,
+        rt: &R,
+        transcripts: &[Transcript],
+    ) -> Result<Closed<N>, CloseFault>
+        ensures { CloseIs N.contents self.cluster self.lone transcripts.now result }
+    {
+        let Cluster {
+            alloc,
+            gate: _gate,
+            hub,
+            yields: _yields,
+            cluster,
+            lone,
+            running,
+            seats: _seats,
+        } = self;
+        let Some(ends) = end_all(rt, alloc, &hub, running) else {
+            return Err(CloseFault::Memory);
+        };
+        replay(
+            alloc,
+            cluster.as_slice(),
+            lone.as_slice(),
+            ends.as_slice(),
+            transcripts,
+        )
+    }
+}

@@ -1,0 +1,220 @@
+//! The thread of one node.
+ghost use denote.Param.Send.{IsSend, IsSync};
+ghost use Rattle.std.specs.Prelude.{◌≡◌, IfOk, OnOk};
+ghost use Rattle.node_threads.specs.Closing.{end_of};
+
+use crate::address::Address;
+use crate::bell::Rest;
+use crate::caller::Caller;
+use crate::fault::SeatFault;
+use crate::hub::Hub;
+use crate::line::Line;
+use crate::ruled_end::RuledEnd;
+use crate::standing::Standing;
+use cluster_world::Event;
+use link::{Inbox, Post};
+use name_table::Names;
+use node_log::NodeEnd;
+use node_loop::{Gate, Item, NodeLoop};
+use std::alloc::{AllocError, Global};
+use std::marker::Model;
+use std::snapshot::Snapshot;
+use std::sync::{Arc, Wait};
+use std::thread;
+use std::thread::{Promise, PromisedHandle, Threads};
+use term::NodeName;
+
+/// That what a thread gives back is of this node.
+#[derive(Drop)]
+pub(crate) struct EndOf(Snapshot<NodeName>);
+
+impl<N: Names> Promise<NodeEnd<N>> for EndOf {
+    ghost use Rattle.node_threads.specs.Closing.{end_of};
+
+    ghost kept_by = { λ promise end. end_of end ≡ promise.0.value };
+}
+
+/// A node whose thread runs: where it is reached, how it stands, and the thread. Contracts see the name of the node.
+#[derive(Drop)]
+pub(crate) struct Running<N: Names> {
+    address: Address<Item>,
+    /// Asks it in the name of the cluster.
+    caller: Caller,
+    standing: Arc<Standing, Global>,
+    handle: PromisedHandle<NodeEnd<N>, EndOf>,
+}
+
+impl<N: Names> Model for Running<N> {
+    ghost use Rattle.std.specs.Prelude.{ℕ, ◌≡◌};
+
+    ghost Value = { ℕ };
+
+    ghost view = { λ r. r.address.node };
+
+    ghost invariant = { λ r. r.handle.promise.0.value ≡ r.address.node };
+}
+
+/// What a node's thread works with.
+#[derive(Drop)]
+pub(crate) struct Work<G: Gate + Drop, N: Names, R: Wait + Drop> {
+    pub(crate) node: NodeLoop<N>,
+    pub(crate) end: RuledEnd<R, Item>,
+    pub(crate) rest: Rest,
+    pub(crate) gate: Arc<G, Global>,
+    pub(crate) hub: Arc<Hub, Global>,
+    pub(crate) standing: Arc<Standing, Global>,
+}
+
+/// Hands out what the node answers.
+fn hand_out<N: Names<Memory = Global>, R: Wait>(rt: &R, hub: &Hub, node: &mut NodeLoop<N>)
+    ensures { node.new.log.node ≡ node.old.log.node }
+{
+    for _ in rt.forever() {
+        let Some(reply) = node.next_reply() else {
+            return;
+        };
+        hub.lay(rt, reply);
+    }
+}
+
+/// One turn of a node is its own.
+fn turn<E: Post<Item> + Inbox<Item>, G: Gate, N: Names<Memory = Global>>(
+    node: &mut NodeLoop<N>,
+    end: &mut E,
+    gate: &G,
+) -> bool
+    ensures { node.new.log.node ≡ node.old.log.node }
+{
+    node.turn(end, gate)
+}
+
+/// The node takes one turn after another, until it is asked to end or can't go on. Replies are handed out behind each turn. Where a
+/// turn did nothing the thread rests, and naps shortly where the node has something to try again. Says whether it ends without a
+/// leave and without being asked to.
+fn turns<E: Post<Item> + Inbox<Item>, G: Gate, N: Names<Memory = Global>, R: Wait>(
+    rt: &R,
+    node: &mut NodeLoop<N>,
+    end: &mut E,
+    rest: &mut Rest,
+    gate: &G,
+    hub: &Hub,
+    standing: &Standing,
+) -> bool
+    ensures { node.new.log.node ≡ node.old.log.node }
+{
+    for _ in rt.forever() {
+        if hub.is_closing() {
+            return false;
+        }
+        let goes_on = turn(node, end, gate);
+        hand_out(rt, hub, node);
+        if node.has_left() {
+            standing.leave();
+        }
+        if !goes_on {
+            return !node.has_left() && !hub.is_closing();
+        }
+        if node.worked() {
+            rest.worked();
+        } else {
+            rest.rest(rt, node.owes());
+        }
+    }
+    unreachable!()
+}
+
+/// A node's thread, from its first turn to its end.
+fn run<G: Gate + Drop, N: Names<Memory = Global>, R: Wait + Drop>(
+    rt: &R,
+    work: Work<G, N, R>,
+) -> NodeEnd<N>
+    ensures { end_of result ≡ work.node.log.node }
+{
+    let Work {
+        mut node,
+        mut end,
+        mut rest,
+        gate,
+        hub,
+        standing,
+    } = work;
+    let ended_alone = turns(rt, &mut node, &mut end, &mut rest, &*gate, &hub, &standing);
+    standing.end();
+    hub.ring();
+    node.into_end(ended_alone)
+}
+
+impl<N: Names<Memory = Global> + Send + 'static> Running<N> {
+    /// Starts the thread of a node. What it works with is the node's.
+    pub(crate) fn start<G, R>(
+        rt: &R,
+        address: Address<Item>,
+        caller: Caller,
+        work: Work<G, N, R>,
+    ) -> Result<Self, AllocError>
+    where
+        G: Gate + Drop + Send + Sync + 'static,
+        R: Threads + Wait + Drop + Copy + Send + 'static,
+        requires { work.node.log.node ≡ address.node }
+        ensures { IfOk result (λ running. running ≡ address.node) }
+    {
+        let standing = Arc::try_clone(&work.standing)?;
+        let promise = EndOf(Snapshot::of(address.node()));
+        let own = *rt;
+        let handle = thread::spawn_with(
+            rt,
+            promise,
+            move || -> NodeEnd<N>
+                requires { IsSend N.row × IsSend G.row × IsSend R.row × IsSync G.row }
+                ensures { end_of result ≡ work.node.log.node }
+            { run(&own, work) },
+        )?;
+        Ok(Running {
+            address,
+            caller,
+            standing,
+            handle,
+        })
+    }
+
+    /// Its node.
+    pub(crate) fn node(&self) -> &NodeName
+        ensures { result.now ≡ self.now }
+    {
+        self.address.node()
+    }
+
+    /// A line more into its inbox.
+    pub(crate) fn line(&mut self) -> Result<Line<Item>, AllocError>
+        ensures line { IfOk result (λ line. line.receiver ≡ self.old) }
+        ensures node { self.new ≡ self.old }
+    {
+        self.address.line()
+    }
+
+    /// Asks the node to leave, in the name of the cluster, and waits until it has.
+    pub(crate) fn leave<R: Wait>(&mut self, rt: &R) -> Result<(), SeatFault>
+        ensures node { self.new ≡ self.old }
+    {
+        self.caller.ask(rt, Event::Leave)?;
+        Ok(())
+    }
+
+    /// How its thread stands.
+    pub(crate) fn standing(&self) -> Result<Arc<Standing, Global>, AllocError> {
+        Arc::try_clone(&self.standing)
+    }
+
+    /// Wakes its thread.
+    pub(crate) fn ring(&self) {
+        self.address.ring();
+    }
+
+    /// Waits until its thread has ended, and gives what it left behind.
+    pub(crate) fn join<R: Threads>(self, rt: &R) -> NodeEnd<N>
+        ensures { end_of result ≡ self }
+    {
+        let Running { handle, .. } = self;
+        handle.join(rt)
+    }
+}

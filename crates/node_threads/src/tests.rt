@@ -1,2 +1,0 @@
-//! Ends of lines between nodes.
-mod ends;

@@ -1,0 +1,5 @@
+//! Tests of replays.
+#![tactic(auto)]
+
+#[cfg(test)]
+mod tests;

@@ -1,0 +1,95 @@
+//! Transactions at the seats of lock holders.
+use super::{Small, expect, finish, nodes};
+use cluster_world::Call;
+use node_core::{Nodes, Retries};
+use node_log::Transcript;
+use node_loop::OpenGate;
+use node_threads::{Cluster, HolderSeat, SeatFault};
+use std::alloc::Global;
+use std::sync::Wait;
+use std::test::Fail;
+use term::{LockId, Pid, parse_node, parse_pid, parse_requester, parse_resource};
+use transaction::{Outcome, TransFault, trans};
+
+/// One holder works under a lock, while another gets none.
+fn works<R: Wait>(
+    rt: &R,
+    alloc: Global,
+    cluster: &mut Small<OpenGate>,
+) -> Result<Vec<Transcript>, Fail> {
+    let mut one = cluster.seat(&parse_node("a")?)?;
+    let mut two = cluster.seat(&parse_node("b")?)?;
+    one.call(rt, Call::Spawn)?;
+    two.call(rt, Call::Spawn)?;
+    let (ours, theirs) = (lock("p")?, lock("q")?);
+    let (us, them) = (parse_pid("a.1")?, parse_pid("b.1")?);
+    let mut held = HolderSeat::new(&mut one, us, rt);
+    let mut refused = HolderSeat::new(&mut two, them, rt);
+    let done = trans(
+        &mut held,
+        &ours,
+        &Nodes::All,
+        Retries::Endless,
+        |_held: &mut HolderSeat<'_, R>| {
+            let inner = trans(
+                &mut refused,
+                &theirs,
+                &Nodes::All,
+                Retries::Times(0),
+                |_held: &mut HolderSeat<'_, R>| 7u32,
+            );
+            matches!(inner, Ok(Outcome::Aborted))
+        },
+    );
+    expect(
+        matches!(done, Ok(Outcome::Done(true))),
+        "it didn't work under the lock",
+    )?;
+    let after = trans(
+        &mut refused,
+        &theirs,
+        &Nodes::All,
+        Retries::Times(0),
+        |_held: &mut HolderSeat<'_, R>| 7u32,
+    );
+    expect(
+        matches!(after, Ok(Outcome::Done(7))),
+        "the lock wasn't given back",
+    )?;
+    let stranger = trans(
+        &mut HolderSeat::new(&mut one, parse_pid("b.1")?, rt),
+        &ours,
+        &Nodes::All,
+        Retries::Endless,
+        |_held: &mut HolderSeat<'_, R>| 7u32,
+    );
+    expect(
+        matches!(stranger, Err(TransFault::Set(SeatFault::Step(_)))),
+        "another node's process got a lock",
+    )?;
+    let mut transcripts = Vec::new(alloc);
+    transcripts.push(one.into_transcript())?;
+    transcripts.push(two.into_transcript())?;
+    Ok(transcripts)
+}
+
+/// The lock of a requester on resource r.
+fn lock(requester: &str) -> Result<LockId, Fail> {
+    Ok(LockId {
+        resource: parse_resource("r")?,
+        requester: parse_requester(requester)?,
+    })
+}
+
+#[test]
+fn holders_work_under_their_locks(rt: HostRuntime) -> Result<(), Fail> {
+    let alloc = rt.alloc();
+    let both = nodes(alloc, "a b")?;
+    let Ok(mut cluster) = Cluster::start(&rt, alloc, both.as_slice(), &[], OpenGate, 0) else {
+        return Err(Fail::from("no cluster"));
+    };
+    let played = works(&rt, alloc, &mut cluster);
+    let closed = finish(&rt, cluster, played)?;
+    assert!(rt; closed.events > 8);
+    Ok(())
+}
