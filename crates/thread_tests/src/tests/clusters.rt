@@ -41,7 +41,13 @@ fn a_node_answers_and_its_run_is_replayed(rt: HostRuntime) -> Result<(), Fail> {
     Ok(())
 }
 
-/// Names a process at one node, and looks it up at another until it is found there.
+/// Looks a name up, which this process is to have.
+fn finds<R: Wait>(rt: &R, seat: &mut Seat, name: &str, owner: &str) -> Result<(), Fail> {
+    let found = seat.whereis(rt, &parse_name(name)?)?;
+    expect(found == Some(parse_pid(owner)?), "another owner")
+}
+
+/// Names a process at each of two nodes, and looks both up at both.
 fn named_at_both<R: Wait>(
     rt: &R,
     alloc: Global,
@@ -53,10 +59,8 @@ fn named_at_both<R: Wait>(
     name_process(rt, &mut one, "a.1", "x")?;
     name_process(rt, &mut two, "b.1", "y")?;
     for (name, owner) in [("x", "a.1"), ("y", "b.1")] {
-        for seat in [&mut one, &mut two] {
-            let found = seat.whereis(rt, &parse_name(name)?)?;
-            expect(found == Some(parse_pid(owner)?), "another owner")?;
-        }
+        finds(rt, &mut one, name, owner)?;
+        finds(rt, &mut two, name, owner)?;
     }
     let refused = one.call(rt, Call::Join(parse_node("z")?));
     expect(

@@ -4,12 +4,56 @@ use cluster_world::Call;
 use node_core::{Nodes, Retries};
 use node_log::Transcript;
 use node_loop::OpenGate;
-use node_threads::{Cluster, HolderSeat, SeatFault};
+use node_threads::{Cluster, HolderSeat, Seat, SeatFault};
 use std::alloc::Global;
 use std::sync::Wait;
 use std::test::Fail;
 use term::{LockId, Pid, parse_node, parse_pid, parse_requester, parse_resource};
 use transaction::{Outcome, TransFault, trans};
+
+/// Answers seven under a lock, at the seat of its holder.
+fn seven<R: Wait>(
+    rt: &R,
+    seat: &mut Seat,
+    holder: Pid,
+    id: &LockId,
+    retries: Retries,
+) -> Result<Outcome<u32>, TransFault<u32, SeatFault>> {
+    let mut held = HolderSeat::new(seat, holder, rt);
+    trans(
+        &mut held,
+        id,
+        &Nodes::All,
+        retries,
+        |_held: &mut HolderSeat<'_, R>| 7u32,
+    )
+}
+
+/// Whether the first holder works under its lock while the second gets none.
+fn works_alone<R: Wait>(
+    rt: &R,
+    one: &mut Seat,
+    two: &mut Seat,
+    holders: (Pid, Pid),
+    ids: (&LockId, &LockId),
+) -> bool {
+    let (us, them) = holders;
+    let (ours, theirs) = ids;
+    let mut held = HolderSeat::new(one, us, rt);
+    let done = trans(
+        &mut held,
+        ours,
+        &Nodes::All,
+        Retries::Endless,
+        |_held: &mut HolderSeat<'_, R>| {
+            matches!(
+                seven(rt, two, them, theirs, Retries::Times(0)),
+                Ok(Outcome::Aborted)
+            )
+        },
+    );
+    matches!(done, Ok(Outcome::Done(true)))
+}
 
 /// One holder works under a lock, while another gets none.
 fn works<R: Wait>(
@@ -23,46 +67,16 @@ fn works<R: Wait>(
     two.call(rt, Call::Spawn)?;
     let (ours, theirs) = (lock("p")?, lock("q")?);
     let (us, them) = (parse_pid("a.1")?, parse_pid("b.1")?);
-    let mut held = HolderSeat::new(&mut one, us, rt);
-    let mut refused = HolderSeat::new(&mut two, them, rt);
-    let done = trans(
-        &mut held,
-        &ours,
-        &Nodes::All,
-        Retries::Endless,
-        |_held: &mut HolderSeat<'_, R>| {
-            let inner = trans(
-                &mut refused,
-                &theirs,
-                &Nodes::All,
-                Retries::Times(0),
-                |_held: &mut HolderSeat<'_, R>| 7u32,
-            );
-            matches!(inner, Ok(Outcome::Aborted))
-        },
-    );
     expect(
-        matches!(done, Ok(Outcome::Done(true))),
+        works_alone(rt, &mut one, &mut two, (us, them), (&ours, &theirs)),
         "it didn't work under the lock",
     )?;
-    let after = trans(
-        &mut refused,
-        &theirs,
-        &Nodes::All,
-        Retries::Times(0),
-        |_held: &mut HolderSeat<'_, R>| 7u32,
-    );
+    let after = seven(rt, &mut two, them, &theirs, Retries::Times(0));
     expect(
         matches!(after, Ok(Outcome::Done(7))),
         "the lock wasn't given back",
     )?;
-    let stranger = trans(
-        &mut HolderSeat::new(&mut one, parse_pid("b.1")?, rt),
-        &ours,
-        &Nodes::All,
-        Retries::Endless,
-        |_held: &mut HolderSeat<'_, R>| 7u32,
-    );
+    let stranger = seven(rt, &mut one, parse_pid("b.1")?, &ours, Retries::Endless);
     expect(
         matches!(stranger, Err(TransFault::Set(SeatFault::Step(_)))),
         "another node's process got a lock",
