@@ -23,7 +23,7 @@ use Rattle.lock_calls.proofs.Ordered.{Entries, calls_in, less_than}
 abbrev process_at : ℕ → ℕ → Process
 process_at a s = record { node = a; serial = s }
 
-at_is : (s k : ℕ) → is_at (nat_cmp s) k ≡ (k == s)
+pub at_is : (s k : ℕ) → is_at (nat_cmp s) k ≡ (k == s)
 at_is s k = elim (cases_order s k) [
   | inl i ↦ rw (le-ltb s k (omega arith), eq-eqb s k i, eq-eqb k s (sym i)) refl
   | inr (inl l) ↦ rw (lt-ltb s k l, ne_eqb k s (λ i. absurd (omega arith))) refl

@@ -1,3 +1,4 @@
 mod Among
 mod Filed
 mod Ordered
+pub mod Standing

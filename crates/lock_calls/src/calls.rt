@@ -6,6 +6,7 @@ ghost use Rattle.protocol_model.specs.Node.{call_of, put_call, drop_call};
 ghost use Rattle.protocol_model.specs.Event.{is_waiting_call};
 ghost use Rattle.lock_calls.specs.Calls.{as_call};
 ghost use Rattle.lock_calls.specs.Held.{none_at, seen, AreOrdered};
+ghost use Rattle.lock_calls.specs.Standing.{stands_by, answered, given_up};
 
 use crate::call::LockCall;
 use crate::kept::KeptCall;
@@ -78,6 +79,35 @@ impl LockCalls {
         let kept = KeptCall::new(self.alloc, call)?;
         self.calls.insert(serial, kept)?;
         Ok(())
+    }
+
+    /// Tells the round of a process's call, where the process has a call whose round asks, of a node's answer. It takes no memory.
+    pub fn answer(&mut self, holder: &Pid, from: &NodeName, granted: bool)
+        ensures node { self.new.node ≡ self.old.node }
+        ensures calls { seen self.new ≡ stands_by (answered from.now granted) (call_of holder.now (seen self.old)) (seen self.old) }
+    {
+        if holder.node != self.node {
+            return;
+        }
+        let Some(kept) = self.calls.get_mut(&holder.serial) else {
+            return;
+        };
+        kept.answer(from, granted);
+    }
+
+    /// Tells the deletion of a process's call, where the process has a call that is one, that a node has given the lock up. It
+    /// takes no memory.
+    pub fn give_up(&mut self, holder: &Pid, from: &NodeName)
+        ensures node { self.new.node ≡ self.old.node }
+        ensures calls { seen self.new ≡ stands_by (given_up from.now) (call_of holder.now (seen self.old)) (seen self.old) }
+    {
+        if holder.node != self.node {
+            return;
+        }
+        let Some(kept) = self.calls.get_mut(&holder.serial) else {
+            return;
+        };
+        kept.give_up(from);
     }
 
     /// Takes the call of a process out, if it has one.

@@ -1,6 +1,7 @@
 -- The marks of nodes by their places.
-use Rattle.std.proofs.Common.{ℕ, Bool, false, ◌==◌, ◌≡◌, ◌≤◌, ◌-◌, Option, Some, None, List, length, get_or, set, map, refl, sym, ap, ◌∙◌, get_or-set_same, get_or-set_other, arith}
-use Rattle.std.specs.Prelude.{not, is_some, ◌&&◌, if◌then◌else◌}
+use Rattle.std.proofs.Common.{ℕ, Bool, false, suc, ◌==◌, ◌≡◌, ◌<◌, ◌≤◌, ◌-◌, Option, Some, None, List, [], ◌∷◌, length, take, get_or, set, map, refl, sym, ap, ◌∙◌, get_or-set_same, get_or-set_other, arith}
+use Rattle.std.specs.Prelude.{not, is_some, ◌&&◌, ◌||◌, if◌then◌else◌}
+use Rattle.std.specs.List.{list_any}
 use Rattle.std.proofs.Math.Path.{fun_ext}
 use Rattle.std.proofs.Math.ListN.{get_or-map}
 use Rattle.registry_model.specs.Process.{at}
@@ -13,6 +14,7 @@ use Rattle.boss_order.proofs.Others.{set_of-others}
 use Rattle.locker.specs.declared.mark.Mark.{Mark}
 use Rattle.locker.specs.declared.mark.Mark.TheVariants.{Later, Owes, Granted, Refused, Lost, Gone}
 use Rattle.locker.specs.Held.{Held, IsRound, as_mark, place, mark_at, seen}
+use Rattle.term.proofs.NodeSets.{position-there}
 use Rattle.term.proofs.NodePlaces.{place-Some, one_place}
 use Rattle.locker.proofs.Places.{set_of-place, place-boss}
 
@@ -72,3 +74,27 @@ mark_at-asked_too old new e None = refl
 mark_at-asked_too old new e (Some i) =
     sym (get_or-map as_mark new i Gone) ∙ ap (λ (ms : List protocol.Mark). get_or ms i protocol.Gone) e
     ∙ get_or-map (λ m. asked_too (as_mark m)) old i Gone
+
+-- each node's mark stands at its place
+mark_at-place : (h : Held) → IsRound h → (i : ℕ) → i < length h.nodes
+    → (seen h).mark (get_or h.nodes i 0) ≡ as_mark (get_or h.marks i Gone)
+mark_at-place h whole i inside = mark_at-Some (place (get_or h.nodes i 0) h.nodes) i h.marks
+    (position-there h.nodes i (get_or h.nodes i 0) whole.set.rising (record { inside = inside; is = refl }))
+
+-- marks that stand in the order of their nodes are asked as the nodes are
+any_marked : (q : protocol.Mark → Bool) (f : ℕ → protocol.Mark) (xs : List ℕ) (ms : List Mark)
+    → length xs ≤ length ms
+    → ((i : ℕ) → i < length xs → f (get_or xs i 0) ≡ as_mark (get_or ms i Gone))
+    → list_any (λ m. q (as_mark m)) (take (length xs) ms) ≡ list_any (λ c. q (f c)) xs
+any_marked q f [] ms long is = refl
+any_marked q f (x ∷ xs) [] long is = absurd (omega (arith, long))
+any_marked q f (x ∷ xs) (m ∷ ms) long is =
+    ap (λ (k : protocol.Mark). q k || list_any (λ m. q (as_mark m)) (take (length xs) ms)) (sym (is 0 (omega arith)))
+    ∙ ap (λ (b : Bool). q (f x) || b)
+    (any_marked q f xs ms (omega (arith, long)) (λ i inside. is (suc i) (omega (arith, inside))))
+
+-- the same of a round's
+pub any_mark : (h : Held) → IsRound h → (q : protocol.Mark → Bool)
+    → list_any (λ m. q (as_mark m)) (take (length h.nodes) h.marks) ≡ list_any (λ c. q ((seen h).mark c)) h.nodes
+any_mark h whole q = any_marked q (seen h).mark h.nodes h.marks (omega (arith, whole.set.fits, whole.room))
+    (mark_at-place h whole)

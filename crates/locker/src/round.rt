@@ -1,6 +1,7 @@
 //! A lock round, and what it makes of each answer.
 ghost use Rattle.std.specs.Prelude.{◌≡◌, map};
-ghost use Rattle.protocol_model.specs.Round.{asked_too};
+ghost use Rattle.std.specs.List.{list_any};
+ghost use Rattle.protocol_model.specs.Round.{asked_too, is_owes, is_refused};
 ghost use Rattle.locker.specs.Held.{as_mark};
 
 use crate::ending::Ending;
@@ -35,11 +36,24 @@ fn ask_the_rest(marks: &mut [Mark])
     }
 }
 
+/// Whether some answer is owed.
+fn is_some_owed(marks: &[Mark]) -> bool
+    ensures { result ≡ list_any (λ mark. is_owes (as_mark mark)) marks.now }
+{
+    marks.iter().any(|mark| matches!(mark, Mark::Owes))
+}
+
+/// Whether some answer is a refusal.
+fn is_some_refused(marks: &[Mark]) -> bool
+    ensures { result ≡ list_any (λ mark. is_refused (as_mark mark)) marks.now }
+{
+    marks.iter().any(|mark| matches!(mark, Mark::Refused))
+}
+
 impl Round {
-    ghost use Rattle.std.specs.Prelude.{ℕ, ◌≡◌, ◌<◌, length, All, IfSome};
-    ghost use Rattle.std.specs.List.{list_any, list_all};
+    ghost use Rattle.std.specs.Prelude.{ℕ, ◌≡◌, ◌<◌, ◌==◌, length, take, All, IfSome};
+    ghost use Rattle.std.specs.List.{list_all};
     ghost use Rattle.protocol_model.specs.Round as protocol;
-    ghost use Rattle.protocol_model.specs.Round.{is_refused};
     ghost use Rattle.term.specs.NodeSets.{IsNodeSet, set_of};
     ghost use Rattle.boss_order.specs.Boss.{boss_of, others_of};
     ghost use Rattle.locker.specs.Held.{IsRound, as_mark, as_known, place, seen, is_settled};
@@ -84,6 +98,16 @@ impl Round {
         match self.place(node) {
             Some(place) => Some(self.marks[place]),
             None => None,
+        }
+    }
+
+    /// Whether the node is the boss.
+    fn is_boss(&self, node: &NodeName) -> bool
+        ensures { result ≡ (node.now == boss_of self.now.nodes) }
+    {
+        match self.nodes.greatest() {
+            Some(boss) => *node == *boss,
+            None => false,
         }
     }
 
@@ -136,7 +160,7 @@ impl Round {
     pub fn opens(&self, node: &NodeName, granted: bool) -> bool
         ensures { result ≡ protocol.opens node.now granted (seen self.now) }
     {
-        granted && *node == boss(&self.nodes) && self.owes(node)
+        granted && self.is_boss(node) && matches!(self.boss_mark(), Mark::Owes)
     }
 
     /// Takes the answer of a node in. One that isn't owed changes nothing.
@@ -165,11 +189,19 @@ impl Round {
         }
     }
 
+    /// What is known of each node, in the order of the nodes.
+    fn marks_of_all(&self) -> &[Mark]
+        ensures value { result.now ≡ take (length self.now.nodes) self.now.marks }
+        ensures round { IsRound self.now }
+    {
+        &self.marks[..self.nodes.len()]
+    }
+
     /// Whether some node owes an answer.
     fn is_owed(&self) -> bool
         ensures { result ≡ list_any (protocol.owes (seen self.now)) self.now.nodes }
     {
-        self.nodes.as_slice().iter().any(|node| self.owes(node))
+        is_some_owed(self.marks_of_all())
     }
 
     /// Whether it is known how the round ends: the boss refused, or went down before it answered, or granted and
@@ -189,10 +221,7 @@ impl Round {
     fn is_refused(&self) -> bool
         ensures { result ≡ list_any (λ c. is_refused ((seen self.now).mark c)) self.now.nodes }
     {
-        self.nodes
-            .as_slice()
-            .iter()
-            .any(|node| matches!(self.mark_of(node), Some(Mark::Refused)))
+        is_some_refused(self.marks_of_all())
     }
 
     /// The growth check: whether each of these members was asked.

@@ -34,7 +34,8 @@ use Rattle.node_core.specs.Locking.{loss_of}
 use Rattle.node_core.specs.Seen.{node_of, turn_of}
 use Rattle.node_core.specs.Steps.{Makes, IsOther}
 use Rattle.node_core.proofs.Sends.{sent_all_is}
-use Rattle.node_core.proofs.Rules.{followed, entered_is, without_is, less_within}
+use Rattle.node_core.proofs.Rules.{followed, entered_is, less_within}
+use Rattle.lock_calls.proofs.Standing.{without_is}
 use Rattle.node_core.proofs.Locking.{made_as}
 use Rattle.node_core.proofs.Gone.{told_within, told_is}
 

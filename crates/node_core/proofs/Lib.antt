@@ -16,6 +16,7 @@ mod Judging
 mod Opening
 mod Each
 mod Locking
+mod CallEnds
 mod Gone
 mod Leaving
 mod Numbers

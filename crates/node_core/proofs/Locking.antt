@@ -3,24 +3,19 @@ use Rattle.std.proofs.Common.{ℕ, Bool, true, false, ◌==◌, ◌≡◌, ◌<�
 use Rattle.std.specs.Prelude.{not, nat_lt, if◌then◌else◌, All, IfSome, OnOk, OnErr}
 use Rattle.std.specs.Option.{option_map}
 use Rattle.std.proofs.Math.Path.{fun_ext}
-use Rattle.std.proofs.lemmas.Bool.{eq-eqb, ne_eqb, eqb-true, le-ltb}
+use Rattle.std.proofs.lemmas.Bool.{ne_eqb}
 use Rattle.std.proofs.lemmas.List.Elements.{All-nil, All-cons, All-head, All-tail, All-same, All-filter}
-use Rattle.registry_model.specs.Process.{Process, is_process, Nodes, without_node as without}
-use Rattle.registry_model.specs.Call.{True, False}
+use Rattle.registry_model.specs.Process.{Process, is_process, Nodes}
 use Rattle.protocol_model.specs.Letter.{Letter as AnyLetter}
 use Rattle.protocol_model.specs.Node.{LockPhase, LockCall as AnyCall, call_of, put_call, drop_call, targets}
-use Rattle.protocol_model.specs.Round.{Round, begin, greatest, is_empty, is_over, asked as asked_by, ending, Ending as AnyEnding, Held as IsHeld, GiveBack as GiveBackTo}
-use Rattle.protocol_model.specs.Turn.{Turn, send, send_all, keep_call, reply_with, become}
-use Rattle.protocol_model.specs.Client.{in_phase, is_spent, close_call, ask_lock, try_lock, give_lock, refuse_lock, end_lock_by, go_on_lock, owe_less, owe_less_in, ask_back, delete_lock}
-use Rattle.walk.proofs.Calls.{is_process-same}
+use Rattle.protocol_model.specs.Round.{Round, begin, greatest, is_empty}
+use Rattle.protocol_model.specs.Turn.{Turn, send, send_all, keep_call, become}
+use Rattle.protocol_model.specs.Client.{in_phase, close_call, ask_lock, try_lock, give_lock, ask_back, delete_lock}
 use Rattle.term.specs.NodeSets.{IsNodeSet, set_of, without_node}
 use Rattle.lock_table.specs.Ids.{id_of}
-use Rattle.locker.specs.declared.ending.Ending.{Ending}
-use Rattle.locker.specs.declared.ending.Ending.TheVariants.{Held as Holds, GiveBack}
 use Rattle.locker.specs.Held.{Held as HeldRound, seen}
-use Rattle.locker.specs.Ends.{EndsAs}
 use Rattle.locker.proofs.Marks.{asked-seen}
-use Rattle.transaction.specs.Calls.{target_of, retries_of}
+use Rattle.transaction.specs.Calls.{target_of}
 use Rattle.lock_calls.specs.declared.call.CallPhase.{CallPhase}
 use Rattle.lock_calls.specs.declared.call.CallPhase.TheVariants.{Asking, Deleting}
 use Rattle.lock_calls.specs.declared.call.LockCall.{LockCall}
@@ -33,9 +28,8 @@ use Rattle.node_events.specs.Letters.{letter_of}
 use Rattle.node_core.specs.Seen.{turn_of}
 use Rattle.node_core.specs.Steps.{Makes}
 use Rattle.node_core.proofs.Sends.{sent_is, sent_all_is, all_below}
-use Rattle.node_core.proofs.Rules.{followed, nobody_is, without_is, less_within}
+use Rattle.node_core.proofs.Rules.{nobody_is, less_within}
 use Rattle.transaction.specs.Work.{is_nobody}
-use Rattle.node_core.proofs.Rounds.{held_end, failed_end}
 
 -- what is so of all calls, and of one more, is so once that is put
 pub All-put_call : (P : AnyCall → Type 0) (c : AnyCall) (xs : List AnyCall) → P c → All P xs → All P (put_call c xs)
@@ -93,7 +87,7 @@ found_within h0 h p o same whole =
         found_of (λ d. IsCallWithin h0.world d.phase) p (calls_seen h0.calls) (as_call c) (sym e) whole.called
 
 -- the node with other calls of its processes
-whole_with : (h : Held) (k : LockCalls) → IsWhole h → k.node ≡ h.calls.node
+pub whole_with : (h : Held) (k : LockCalls) → IsWhole h → k.node ≡ h.calls.node
     → All (λ c. IsCallWithin h.world c.phase) (calls_seen k) → IsWhole (record h { calls = k })
 whole_with h k whole node called = record {
   self = whole.self;
@@ -204,7 +198,7 @@ asks_lock h0 h t u c k b l r xs same within boss is begun made put =
     below = all_below h0.world xs (subst (λ (x : Held). IsWithin x.world xs) (sym same) within)
 
 -- no nodes of the world are an empty set
-none_left : (world xs : List ℕ) → IsWithin world xs → (length xs == 0) ≡ is_empty (bound_of world) (set_of xs)
+pub none_left : (world xs : List ℕ) → IsWithin world xs → (length xs == 0) ≡ is_empty (bound_of world) (set_of xs)
 none_left world xs within = go xs ∙ sym (nobody_is (bound_of world) xs (all_below world xs within))
   where
     go : (ys : List ℕ) → (length ys == 0) ≡ is_nobody ys
@@ -282,170 +276,3 @@ gives_lock h t u c cs l set within is made = record {
   turn = sent_all_is h t u cs l made set within
       ∙ ap (λ (x : AnyLetter). send_all (bound_of h.world) (set_of cs) x (turn_of h t)) is;
 }
-
--- a call that was put is dropped
-drop_put : (a : ℕ) (c : AnyCall) (xs : List AnyCall) → c.holder.node ≡ a → All (λ d. d.holder.node ≡ a) xs
-    → drop_call c.holder (put_call c xs) ≡ drop_call c.holder xs
-drop_put a c [] own all = ap (λ (b : Bool). if not b then c ∷ [] else []) (is_process-same c.holder)
-drop_put a c (d ∷ xs) own all =
-    go (nat_lt c.holder.serial d.holder.serial) (c.holder.serial == d.holder.serial) refl
-    (drop_put a c xs own (All-tail (λ e. e.holder.node ≡ a) d xs all))
-  where
-    p : Process
-    p = c.holder
-
-    first : (ys : List AnyCall) → drop_call p (c ∷ ys) ≡ drop_call p ys
-    first ys = ap (λ (b : Bool). if not b then c ∷ drop_call p ys else drop_call p ys) (is_process-same p)
-
-    same : (p.serial == d.holder.serial) ≡ true → is_process d.holder p ≡ true
-    same e = ap (λ (q : Process). is_process d.holder q) (
-        ap (λ (m : ℕ). record p { node = m }) (own ∙ sym (All-head (λ x. x.holder.node ≡ a) d xs all))
-        ∙ ap (λ (m : ℕ). record d.holder { serial = m }) (eqb-true p.serial d.holder.serial e))
-        ∙ is_process-same d.holder
-
-    go : (t e : Bool) → (p.serial == d.holder.serial) ≡ e → drop_call p (put_call c xs) ≡ drop_call p xs
-        → drop_call p (if t then c ∷ d ∷ xs else (if e then c ∷ xs else d ∷ put_call c xs)) ≡ drop_call p (d ∷ xs)
-    go true e is r = first (d ∷ xs)
-    go false true is r = first xs
-        ∙ sym (ap (λ (b : Bool). if not b then d ∷ drop_call p xs else drop_call p xs) (same is))
-    go false false is r = ap (λ (ys : List AnyCall). if not (is_process d.holder p) then d ∷ ys else ys) r
-
--- a call takes the place of itself in another phase
-put_again : (s t : LockPhase) (c : AnyCall) (xs : List AnyCall)
-    → put_call (in_phase t c) (in_phase s c ∷ xs) ≡ in_phase t c ∷ xs
-put_again s t c xs =
-    rw (le-ltb c.holder.serial c.holder.serial (omega arith), eq-eqb c.holder.serial c.holder.serial refl) refl
-
--- a call that was put is put anew
-put_put : (s t : LockPhase) (c : AnyCall) (xs : List AnyCall)
-    → put_call (in_phase t c) (put_call (in_phase s c) xs) ≡ put_call (in_phase t c) xs
-put_put s t c [] = put_again s t c []
-put_put s t c (d ∷ xs) =
-    go (nat_lt c.holder.serial d.holder.serial) (c.holder.serial == d.holder.serial) refl refl (put_put s t c xs)
-  where
-    go : (l e : Bool) → nat_lt c.holder.serial d.holder.serial ≡ l → (c.holder.serial == d.holder.serial) ≡ e
-        → put_call (in_phase t c) (put_call (in_phase s c) xs) ≡ put_call (in_phase t c) xs
-        → put_call (in_phase t c) (if l then in_phase s c ∷ d ∷ xs else (if e then in_phase s c ∷ xs else d
-        ∷ put_call (in_phase s c) xs))
-        ≡ (if l then in_phase t c ∷ d ∷ xs else (if e then in_phase t c ∷ xs else d ∷ put_call (in_phase t c) xs))
-    go true e i j r = put_again s t c (d ∷ xs)
-    go false true i j r = put_again s t c xs
-    go false false i j r = rw (i, j) (ap (λ (ys : List AnyCall). d ∷ ys) r)
-
--- the round of a call stands so now; over: it is over
-module _ (h : Held) (t : Made) (c : LockCall) (r : HeldRound) (over : Bool) (within : IsWithin h.world r.nodes)
-    (ends : (n : ℕ) → All (λ d. d < n) r.nodes → over ≡ is_over n (seen r)) where
-  abbrev n0 : ℕ
-  n0 = bound_of h.world
-
-  abbrev now : AnyCall
-  now = in_phase (LockPhase.Asking (seen r)) (as_call c)
-
-  abbrev turn0 : Turn
-  turn0 = turn_of h t
-
-  below : All (λ d. d < n0) r.nodes
-  below = all_below h.world r.nodes within
-
-  by_over : over ≡ is_over n0 (seen r)
-  by_over = ends n0 below
-
-  -- what comes of it
-  abbrev goes : Bool → Turn
-  goes b = if b
-      then end_lock_by n0 h.name (ending n0 (asked_by (seen r)) (seen r)) now (keep_call now turn0)
-      else keep_call now turn0
-
-  -- it goes on
-  pub goes_on_lock : (h0 : Held) (k : LockCalls) → h0 ≡ h → over ≡ false
-      → calls_seen k ≡ put_call now (calls_seen h0.calls)
-      → Makes (λ n a. go_on_lock n a (as_call c) (seen r)) h t (record h0 { calls = k }) t
-  goes_on_lock h0 k same going put = made_as (keeps h0 h t k now same put) (ap goes (sym going ∙ by_over))
-
-  -- it ends so
-  ends_lock : (x : AnyEnding) → over ≡ true → ending n0 (asked_by (seen r)) (seen r) ≡ x
-      → end_lock_by n0 h.name x now (keep_call now turn0) ≡ goes (is_over n0 (seen r))
-  ends_lock x is f = ap (λ (y : AnyEnding). end_lock_by n0 h.name y now (keep_call now turn0)) (sym f)
-      ∙ ap goes (sym is ∙ by_over)
-
-  module _ (e : Ending) (xs : List ℕ) (all_asked : xs ≡ r.nodes) (are_asked : set_of xs ≡ asked_by (seen r))
-      (is_end : (n : ℕ) → All (λ d. d < n) r.nodes → All (λ d. d < n) xs
-      → EndsAs e (ending n (set_of xs) (seen r))) where
-    end_here : EndsAs e (ending n0 (asked_by (seen r)) (seen r))
-    end_here = subst (λ (s : Nodes). EndsAs e (ending n0 s (seen r))) are_asked
-        (is_end n0 below (subst (λ (ys : List ℕ). All (λ d. d < n0) ys) (sym all_asked) below))
-
-    -- the lock is held
-    pub ends_held_lock : (k : Held) (u : Made) (a : ℕ) → over ≡ true → e ≡ Holds → c.holder.node ≡ a
-        → All (λ d. d.holder.node ≡ a) (calls_seen h.calls)
-        → Makes (λ n a. close_call n a (as_call c) true) h t k u
-        → Makes (λ n a. go_on_lock n a (as_call c) (seen r)) h t k u
-    ends_held_lock k u a is held own all M = made_as M (
-        ap (λ (cs : List AnyCall). reply_with h.name c.number True (calls_now cs turn0))
-        (sym (drop_put a now (calls_seen h.calls) own all))
-        ∙ ends_lock IsHeld is
-        (held_end _ (subst (λ (x : Ending). EndsAs x (ending n0 (asked_by (seen r)) (seen r))) held end_here)))
-
-    -- it is refused, and these get their grants back
-    pub ends_failed_lock : (k : Held) (u v : Made) (ys : List ℕ) (a : ℕ) → over ≡ true → e ≡ GiveBack ys
-        → c.holder.node ≡ a → All (λ d. d.holder.node ≡ a) (calls_seen h.calls)
-        → Makes (λ n a. give_lock n a (as_call c) (set_of ys)) h t h u
-        → Makes (λ n a. refuse_lock n a (as_call c)) h u k v
-        → Makes (λ n a. go_on_lock n a (as_call c) (seen r)) h t k v
-    ends_failed_lock k u v ys a is failed own all G R = made_as (followed G R) (
-        refuses (is_spent (retries_of c.retries))
-        ∙ ends_lock (GiveBackTo (set_of ys)) is
-        (failed_end ys _ (subst (λ (x : Ending). EndsAs x (ending n0 (asked_by (seen r)) (seen r))) failed end_here)))
-      where
-        given : Turn
-        given = give_lock n0 h.name (as_call c) (set_of ys) turn0
-
-        refuses : (b : Bool)
-            → (if b then close_call n0 h.name (as_call c) false given else keep_call (in_phase LockPhase.Waiting
-            (as_call c)) given)
-            ≡ (if b then close_call n0 h.name now false (keep_call now given) else keep_call
-            (in_phase LockPhase.Waiting now) (keep_call now given))
-        refuses true = ap (λ (cs : List AnyCall). reply_with h.name c.number False (calls_now cs given))
-            (sym (drop_put a now (calls_seen h.calls) own all))
-        refuses false = ap (λ (cs : List AnyCall). calls_now cs given)
-            (sym (put_put (LockPhase.Asking (seen r)) LockPhase.Waiting (as_call c) (calls_seen h.calls)))
-
--- f gives the lock of a deletion up; less: who is left; b: nobody is
-module _ (h : Held) (t : Made) (c : LockCall) (p : Process) (f : ℕ) (owing less : List ℕ) (b : Bool)
-    (found : Some (as_call c) ≡ call_of p (calls_seen h.calls)) (deleting : c.phase ≡ Deleting owing)
-    (owed : set_of owing f ≡ true) (without_f : less ≡ without_node owing f) (is : b ≡ (length less == 0))
-    (within : IsCallWithin h.world (phase_of c.phase)) where
-  abbrev left : Nodes
-  left = without f (set_of owing)
-
-  left_is : set_of less ≡ left
-  left_is = ap set_of without_f ∙ without_is owing f
-
-  -- what comes of it
-  abbrev owes_now : Bool → Turn
-  owes_now e = if e
-      then close_call (bound_of h.world) h.name (as_call c) true (turn_of h t)
-      else keep_call (in_phase (LockPhase.Deleting left) (as_call c)) (turn_of h t)
-
-  owes_less : owes_now b ≡ owe_less (bound_of h.world) h.name f (call_of p (calls_seen h.calls)) (turn_of h t)
-  owes_less =
-      ap owes_now (is ∙ none_left h.world less (owing_within h.world c owing less f deleting without_f within)
-      ∙ ap (is_empty (bound_of h.world)) left_is)
-      ∙ ap (λ (e : Bool). if e then owes_now (is_empty (bound_of h.world) left) else turn_of h t) (sym owed)
-      ∙ ap (λ (x : CallPhase). owe_less_in (bound_of h.world) h.name f (phase_of x) (as_call c) (turn_of h t))
-      (sym deleting)
-      ∙ ap (λ (o : Option AnyCall). owe_less (bound_of h.world) h.name f o (turn_of h t)) found
-
-  -- the deletion is answered
-  pub owes_none : (k : Held) (u : Made) → b ≡ true → Makes (λ n a. close_call n a (as_call c) true) h t k u
-      → Makes (λ n a w. owe_less n a f (call_of p w.node.calls) w) h t k u
-  owes_none k u none M = made_as M (ap owes_now (sym none) ∙ owes_less)
-
-  -- it waits for the others
-  pub owes_some : (h0 : Held) (k : LockCalls) → h0 ≡ h → b ≡ false
-      → calls_seen k ≡ put_call (as_call (record c { phase = Deleting less })) (calls_seen h0.calls)
-      → Makes (λ n a w. owe_less n a f (call_of p w.node.calls) w) h t (record h0 { calls = k }) t
-  owes_some h0 k same some put =
-      made_as (keeps h0 h t k (as_call (record c { phase = Deleting less })) same put)
-      (ap (λ (s : Nodes). keep_call (in_phase (LockPhase.Deleting s) (as_call c)) (turn_of h t)) left_is
-      ∙ ap owes_now (sym some) ∙ owes_less)

@@ -19,6 +19,7 @@ use Rattle.boss_order.proofs.Sets.{set_of-filter}
 use Rattle.protocol_model.specs.Deciding.{held}
 use Rattle.name_table.specs.declared.change.Change.{Change}
 use Rattle.name_table.specs.Changes.{change_of}
+use Rattle.lock_calls.proofs.Standing.{without_is}
 use Rattle.term.specs.NodeSets.{IsNodeSet, set_of, without_node}
 use Rattle.transaction.specs.declared.op.NameCall.{NameCall}
 use Rattle.transaction.specs.declared.op.Op.{Op}
@@ -178,16 +179,6 @@ grants h0 h k t u v asked i c r s change same cur reply yes_ changes copied made
 pub granted_by : (r : Reply) → (r ≡ Yes) ⊎ (r ≡ Ok) → is_grant (reply_of r) ≡ true
 granted_by r (inl e) = ap (λ (x : Reply). is_grant (reply_of x)) e
 granted_by r (inr e) = ap (λ (x : Reply). is_grant (reply_of x)) e
-
--- whether one of many nodes is another
-pub without_is : (xs : List ℕ) (f : ℕ) → set_of (without_node xs f) ≡ at (set_of xs) f false
-without_is xs f = fun_ext (λ c. set_of-filter (λ m. not (m == f)) xs c ∙ go (c == f) (set_of xs c))
-  where
-    go : (b s : Bool) → (s && not b) ≡ (if b then false else s)
-    go true true = refl
-    go true false = refl
-    go false true = refl
-    go false false = refl
 
 -- nobody is left below n
 nobody_left : (n : ℕ) → is_empty n (set_of []) ≡ true

@@ -22,7 +22,7 @@ impl<N: Names<Memory = Global>> NodeCore<N> {
     ghost use Rattle.lock_calls.specs.Held.{AreOrdered, seen as calls_seen};
     ghost use Rattle.transaction.specs.Calls.{target_of};
     ghost use Rattle.node_core.specs.Held.{IsWithin, IsCallWithin, IsOwnCall};
-    ghost use Rattle.node_core.specs.Locking.{retry_of};
+    ghost use Rattle.node_core.specs.Locking.{retry_of, end_of, deleted_of};
     ghost use Rattle.node_events.specs.Letters.{letter_of};
     ghost use Rattle.node_core.specs.Steps.{Keeps, Makes};
 
@@ -154,17 +154,10 @@ impl<N: Names<Memory = Global>> NodeCore<N> {
         ensures turn { OnOk result (Makes (λ n a. go_on_lock n a (as_call call) (seen round)) self.old turn.old self.new turn.new) }
         ensures kept { Keeps self.old self.new }
     {
-        if !round.is_over() {
-            call.phase = CallPhase::Asking(round);
-            return self.calls.put(call);
-        }
-        match round.finish(&round.asked()) {
-            Ending::Held => self.close_call(turn, &call, true),
-            Ending::GiveBack(granted) => {
-                self.give_lock(turn, &call, &granted)?;
-                self.refuse_lock(turn, call)
-            }
-        }
+        let holder = call.holder.copy();
+        call.phase = CallPhase::Asking(round);
+        self.calls.put(call)?;
+        self.end_lock(turn, &holder)
     }
 
     /// A node answers the round of a process's call, if there is one: the rest are asked where it is the boss's grant,
@@ -179,7 +172,7 @@ impl<N: Names<Memory = Global>> NodeCore<N> {
         ensures turn { OnOk result (Makes (λ n a u. hear_lock n a from.now granted (call_of holder.now u.node.calls) u) self.old turn.old self.new turn.new) }
         ensures kept { Keeps self.old self.new }
     {
-        let Some(call) = self.lock_call(holder)? else {
+        let Some(call) = self.calls.get(holder) else {
             return Ok(());
         };
         let CallPhase::Asking(round) = &call.phase else {
@@ -188,10 +181,34 @@ impl<N: Names<Memory = Global>> NodeCore<N> {
         if !round.owes(from) {
             return Ok(());
         }
-        let mut round = round.copy();
-        self.ask_rest(turn, &round, from, granted, &Self::lock_letter(&call))?;
-        round.answer(from, granted);
-        self.go_on_lock(turn, call, round)
+        self.ask_rest(turn, round, from, granted, &Self::lock_letter(call))?;
+        self.calls.answer(holder, from, granted);
+        self.end_lock(turn, holder)
+    }
+
+    /// The round of a process's call ends, where it is over.
+    fn end_lock(&mut self, turn: &mut Turn, holder: &Pid) -> Result<(), AllocError>
+        ensures turn { OnOk result (Makes (λ n a u. end_of n a (call_of holder.now u.node.calls) u) self.old turn.old self.new turn.new) }
+        ensures kept { Keeps self.old self.new }
+    {
+        let Some(call) = self.calls.get(holder) else {
+            return Ok(());
+        };
+        let CallPhase::Asking(round) = &call.phase else {
+            return Ok(());
+        };
+        if !round.is_over() {
+            return Ok(());
+        }
+        let ending = round.finish(&round.asked());
+        let call = call.copy()?;
+        match ending {
+            Ending::Held => self.close_call(turn, &call, true),
+            Ending::GiveBack(granted) => {
+                self.give_lock(turn, &call, &granted)?;
+                self.refuse_lock(turn, call)
+            }
+        }
     }
 
     /// A `del_lock` goes to the members, or to those named nodes that are members; where there are none it is answered
@@ -225,19 +242,35 @@ impl<N: Names<Memory = Global>> NodeCore<N> {
         ensures turn { OnOk result (Makes (λ n a u. owe_less n a from.now (call_of holder.now u.node.calls) u) self.old turn.old self.new turn.new) }
         ensures kept { Keeps self.old self.new }
     {
-        let Some(mut call) = self.lock_call(holder)? else {
+        let Some(call) = self.calls.get(holder) else {
             return Ok(());
         };
-        let CallPhase::Deleting(owing) = &mut call.phase else {
+        let CallPhase::Deleting(owing) = &call.phase else {
             return Ok(());
         };
-        if !owing.remove(from) {
+        if !owing.contains(from) {
             return Ok(());
         }
-        if owing.is_empty() {
-            return self.close_call(turn, &call, true);
+        self.calls.give_up(holder, from);
+        self.end_deletion(turn, holder)
+    }
+
+    /// A process's call is answered, where it is a deletion that waits for nobody.
+    fn end_deletion(&mut self, turn: &mut Turn, holder: &Pid) -> Result<(), AllocError>
+        ensures turn { OnOk result (Makes (λ n a u. deleted_of n a (call_of holder.now u.node.calls) u) self.old turn.old self.new turn.new) }
+        ensures kept { Keeps self.old self.new }
+    {
+        let Some(call) = self.calls.get(holder) else {
+            return Ok(());
+        };
+        let CallPhase::Deleting(owing) = &call.phase else {
+            return Ok(());
+        };
+        if !owing.is_empty() {
+            return Ok(());
         }
-        self.calls.put(call)
+        let call = call.copy()?;
+        self.close_call(turn, &call, true)
     }
 
     /// The refused call of a process, if it has one, uses one retry and is tried again.

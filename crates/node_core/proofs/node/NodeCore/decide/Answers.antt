@@ -1,6 +1,5 @@
-use Rattle.std.proofs.Common.{◌∙◌, ap, refl}
+use Rattle.std.proofs.Common.{refl}
 use Rattle.std.proofs.lemmas.Result.{on_ok_weaker}
-use Rattle.node_core.specs.Held.{Held}
 use Rattle.node_core.specs.Steps.{EntersCall}
 use Rattle.node_events.specs.Seen.{unnumbered}
 use Rattle.node_core.proofs.Rules.{grants, granted_by}

@@ -1,41 +1,37 @@
-use Rattle.std.proofs.Common.{ap, sym, subst, ◌∙◌}
-use Rattle.std.specs.Option.{option_map}
-use Rattle.std.proofs.lemmas.Option.{MatchOption-at_some}
+use Rattle.std.proofs.Common.{Some, sym, subst, ◌≡◌, ◌∙◌}
+use Rattle.std.specs.Prelude.{All}
 use Rattle.std.proofs.lemmas.Result.{on_ok_weaker}
-use Rattle.lock_calls.specs.declared.call.CallPhase.TheVariants.{Deleting}
-use Rattle.lock_calls.specs.Calls.{as_call, phase_of}
-use Rattle.node_core.specs.Held.{Held, IsCallWithin}
-use Rattle.node_core.proofs.Locking.{whole_put, owing_within, owes_none, owes_some}
+use Rattle.lock_calls.specs.Calls.{as_call}
+use Rattle.lock_calls.specs.Held.{seen}
+use Rattle.lock_calls.specs.Standing.{given_up}
+use Rattle.node_core.specs.Held.{Held}
+use Rattle.node_core.proofs.Locking.{found_within, found_own}
+use Rattle.node_core.proofs.CallEnds.{same_found, found_is, whole_stood, give_up_within, owes_less}
 use Rattle.node_core.proofs.node.NodeCore.owe_less.Goals as goal
-
-pub returns-then-is_empty-clause-turn : goal.returns-then-is_empty-clause-turn
-returns-then-is_empty-clause-turn g c =
-    on_ok_weaker c.close_call.result
-    (owes_none c.args.self.now c.args.turn.now c.in-Some.call c.args.holder.now c.args.from.now c.in-Deleting.owing
-    c.remove.new.self c.is_empty.result (sym (ap (option_map as_call) c.in-Some.is) ∙ c.in_ok-call.ensures.call)
-    c.in-Deleting.is
-    (sym c.remove.ensures.held ∙ c.if-not-remove.false) c.remove.ensures.others c.is_empty.ensures
-    (MatchOption-at_some _ _ c.in-Some.call c.in-Some.is c.in_ok-call.ensures.within)
-    c.close_call.new.self c.close_call.new.turn c.if-is_empty.true)
-    c.close_call.ensures.turn
 
 pub invariant_of-self : goal.invariant_of-self
 invariant_of-self g c =
-    whole_put _ c.put.new.self (record c.in-Some.call { phase = Deleting c.remove.new.self }) c.put.result
-    c.self.invariant
-    (owing_within c.self.inside.world c.in-Some.call c.in-Deleting.owing c.remove.new.self c.args.from.now
-    c.in-Deleting.is c.remove.ensures.others
-    (subst (λ (h : Held). IsCallWithin h.world (phase_of c.in-Some.call.phase)) (sym c.self.view_is)
-    (MatchOption-at_some _ _ c.in-Some.call c.in-Some.is c.in_ok-call.ensures.within)))
-    c.put.ensures.node c.put.ensures.ok c.put.ensures.unchanged
+    let found = same_found _ c.args.self.now c.args.holder.now (as_call c.in-Some.call.now) c.self.view_is
+    c.in-Some.ensures.call in
+    whole_stood _ c.args.self.now c.in-Some.call.now c.args.holder.now c.give_up.new.self
+    (given_up c.args.from.now) c.self.view_is found c.give_up.ensures.calls c.self.invariant
+    c.give_up.ensures.node
+    (give_up_within _ c.args.self.now c.in-Some.call.now c.in-Deleting.owing c.args.from.now
+    c.self.view_is c.in-Deleting.is
+    (found_within _ c.args.self.now c.args.holder.now (Some c.in-Some.call.now) c.self.view_is c.self.invariant found))
 
 pub returns-clause-turn : goal.returns-clause-turn
 returns-clause-turn g c =
-    on_ok_weaker c.put.result
-    (owes_some c.args.self.now c.args.turn.now c.in-Some.call c.args.holder.now c.args.from.now c.in-Deleting.owing
-    c.remove.new.self c.is_empty.result (sym (ap (option_map as_call) c.in-Some.is) ∙ c.in_ok-call.ensures.call)
-    c.in-Deleting.is
-    (sym c.remove.ensures.held ∙ c.if-not-remove.false) c.remove.ensures.others c.is_empty.ensures
-    (MatchOption-at_some _ _ c.in-Some.call c.in-Some.is c.in_ok-call.ensures.within)
-    _ c.put.new.self c.self.view_is c.if-is_empty.false)
-    c.put.ensures.ok
+    let found = same_found _ c.args.self.now c.args.holder.now (as_call c.in-Some.call.now) c.self.view_is
+    c.in-Some.ensures.call in
+    let own = found_own _ c.args.self.now c.args.holder.now (Some c.in-Some.call.now) c.self.view_is c.self.invariant
+    c.in-Some.ensures.ordered found in
+    on_ok_weaker c.end_deletion.result
+    (owes_less _ c.args.self.now c.end_deletion.new.self c.args.turn.now c.end_deletion.new.turn
+    c.in-Some.call.now c.args.holder.now c.args.from.now c.args.self.now.name c.in-Deleting.owing c.give_up.new.self
+    c.self.view_is (found_is c.args.holder.now _ (as_call c.in-Some.call.now) found) found c.in-Deleting.is
+    (sym c.contains.ensures ∙ c.if-not-contains.false) own.0
+    (subst (λ (h : Held). All (λ d. d.holder.node ≡ h.name) (seen h.calls)) c.self.view_is
+    (subst (λ n. All (λ d. d.holder.node ≡ n) (seen c.self.inside.calls)) c.self.invariant.calls
+    c.in-Some.ensures.ordered.own)) c.give_up.ensures.calls)
+    c.end_deletion.ensures.turn
