@@ -49,6 +49,7 @@ module _ (k : Cause) (a : Looping) (core : Held) (log : Logged) (s : ℕ) (own :
     tray = c.told.1 ∙ ap (λ (n : ℕ). with_letters n sent a.tray) e;
     desk = c.told.0 ∙ desk_path o q c.core;
     world = c.world;
+    wait = c.wait;
     left = c.left;
     worked = c.worked;
   }

@@ -1,10 +1,10 @@
 -- What is tried where no item is found, and which leave.
-use Rattle.std.proofs.Common.{◌≡◌, Bool, true, false, Option, Some, None, List, [], ◌∷◌, refl, sym, ap, subst, ◌∙◌}
+use Rattle.std.proofs.Common.{◌≡◌, ◌==◌, ◌&&◌, ◌-◌, Bool, true, false, Option, Some, None, List, [], ◌∷◌, refl, sym, ap, subst, ◌∙◌}
 use Rattle.std.specs.Option.{option_flatten}
 use Rattle.cluster_world.specs.declared.events.Event.TheVariants.{Retry}
 use Rattle.node_loop.specs.declared.item.Ticket.{Ticket}
 use Rattle.node_loop.specs.Desks.{first_leave}
-use Rattle.node_loop.specs.Held.{Looping, has_retry, can_step}
+use Rattle.node_loop.specs.Held.{Looping, has_retry, is_due, can_step}
 use Rattle.node_loop.specs.Steps.{by_event, Goes}
 use Rattle.node_loop.specs.Items.{leaver, Leaves, Then, Idles}
 use Rattle.node_loop.proofs.Concluding.{at_true, at_false}
@@ -15,15 +15,23 @@ first_is [] = refl
 first_is (None ∷ ts) = refl
 first_is (Some t ∷ ts) = refl
 
-module _ (a m : Looping) (w : Bool) (set : m ≡ record a { worked = w }) (is : w ≡ can_step a) where
-  now_is : m ≡ record a { worked = can_step a }
-  now_is = set ∙ ap (λ (x : Bool). record a { worked = x }) is
+both_left : (x y : Bool) → (x && y) ≡ true → x ≡ true
+both_left true y e = refl
+both_left false y e = cc
 
-  pub retries : (going : Bool) (b : Looping) → has_retry m ≡ true → Then (Goes (by_event None Retry m)) m going b → Idles a going b
+module _ (a m : Looping) (w : Bool) (set : m ≡ record a { worked = w; wait = a.wait - 1 }) (is : w ≡ can_step a) where
+  now_is : m ≡ record a { worked = can_step a; wait = a.wait - 1 }
+  now_is = set ∙ ap (λ (x : Bool). record a { worked = x; wait = a.wait - 1 }) is
+
+  -- what is due then waits still
+  pub due_waits : is_due a ≡ true → has_retry m ≡ true
+  due_waits e = ap (λ (x : Looping). has_retry x) set ∙ both_left (has_retry a) (a.wait == 0) e
+
+  pub retries : (going : Bool) (b : Looping) → is_due a ≡ true → Then (Goes (by_event None Retry m)) m going b → Idles a going b
   retries going b e h =
-      at_true _ _ (has_retry a) (ap has_retry (sym now_is) ∙ e)
+      at_true _ _ (is_due a) e
       (subst (λ (x : Looping). Then (Goes (by_event None Retry x)) x going b) now_is h)
 
-  pub rests : (going : Bool) (b : Looping) → has_retry m ≡ false → Leaves m going b → Idles a going b
+  pub rests : (going : Bool) (b : Looping) → is_due a ≡ false → Leaves m going b → Idles a going b
   rests going b e h =
-      at_false _ _ (has_retry a) (ap has_retry (sym now_is) ∙ e) (subst (λ (x : Looping). Leaves x going b) now_is h)
+      at_false _ _ (is_due a) e (subst (λ (x : Looping). Leaves x going b) now_is h)

@@ -1,5 +1,5 @@
 -- What a node's loop holds.
-use Rattle.std.specs.Prelude.{ℕ, Bool, ◌&&◌, ◌||◌, not, is_some, List, [], ◌∷◌}
+use Rattle.std.specs.Prelude.{ℕ, Bool, ◌==◌, ◌&&◌, ◌||◌, not, is_some, List, [], ◌∷◌}
 use Rattle.std.specs.List.{list_all}
 use Rattle.protocol_model.specs.Links.{is_nil}
 use Rattle.protocol_model.specs.Node.{holds_global}
@@ -19,6 +19,7 @@ pub record Looping : Type 0 where
   pub log : Logged
   pub tray : List (Waiting Item)
   pub desk : Kept
+  pub wait : ℕ  -- for how many empty turns a refused round gives way to rivals
   pub stamp : ℕ  -- of the last step
   pub left : Bool
   pub worked : Bool  -- the last turn took an item or tried a step
@@ -26,6 +27,14 @@ pub record Looping : Type 0 where
 -- a refused round waits to be tried again
 abbrev pub has_retry : Looping → Bool
 has_retry l = not l.left && can_retry (node_of l.core)
+
+-- and gives way to rivals no longer
+abbrev pub is_due : Looping → Bool
+is_due l = has_retry l && (l.wait == 0)
+
+-- it gives way for so many empty turns at most
+abbrev pub most_turns : ℕ
+most_turns = 1024
 
 -- a leave waits
 abbrev pub has_leave : Looping → Bool
@@ -37,7 +46,7 @@ is_free_to_leave l = has_leave l && not (holds_global (node_of l.core))
 
 -- it has a step to make, if it takes none
 abbrev pub can_step : Looping → Bool
-can_step l = has_retry l || is_free_to_leave l
+can_step l = is_due l || is_free_to_leave l
 
 -- something waits to be sent or to be tried
 abbrev pub owes : Looping → Bool

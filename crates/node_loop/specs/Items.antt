@@ -1,5 +1,5 @@
 -- What a node's loop does with an item, or where it finds none.
-use Rattle.std.specs.Prelude.{ℕ, Bool, true, false, ◌≡◌, ◌⊎◌, Option, None, Err, List, [], ◌∷◌, ◌++◌, MatchBool}
+use Rattle.std.specs.Prelude.{ℕ, Bool, true, false, ◌≡◌, ◌≤◌, ◌-◌, ◌⊎◌, Option, None, Err, List, [], ◌∷◌, ◌++◌, MatchBool}
 use Rattle.node_events.specs.declared.events.StepFault.{StepFault}
 use Rattle.node_events.specs.Seen.{fault_of, is_memory}
 use Rattle.node_core.specs.Steps.{refusal_of}
@@ -14,7 +14,7 @@ use Rattle.node_loop.specs.declared.replies.TaskFault.{TaskFault}
 use Rattle.node_loop.specs.declared.replies.TaskFault.TheVariants.{NoSuchNode, NodeLeft, Step}
 use Rattle.node_loop.specs.Told.{tell}
 use Rattle.node_loop.specs.Desks.{left_by}
-use Rattle.node_loop.specs.Held.{Looping, has_retry, is_free_to_leave, can_step}
+use Rattle.node_loop.specs.Held.{Looping, is_due, most_turns, is_free_to_leave, can_step}
 use Rattle.node_loop.specs.Steps.{Cause, by_event, by_letter, desk_of, Makes, Ends, Goes}
 
 -- a letter is read, but by a node that has left
@@ -80,12 +80,19 @@ pub record Then (first : Looping → Bool → Looping → Type 0) (a : Looping) 
   pub comes : first a went between
   pub behind : MatchBool went (Leaves between going b) ((going ≡ false) × (b ≡ between))
 
--- an item was taken
-abbrev pub Works : ℕ → Item → Looping → Bool → Looping → Type 0
-Works from i a going b = Then (Handles from i) (record a { worked = true }) going b
+-- by a letter a refused round may get another time to wait, and by a task it doesn't
+abbrev pub Hears : Item → Looping → Looping → Type 0
+Hears (item.Letter l) a b = (b ≡ record a { wait = b.wait }) × (b.wait ≤ most_turns)
+Hears (item.Task t) a b = b ≡ a
 
--- none was found: a refused round is tried again
+-- an item was taken
+pub record Works (from : ℕ) (i : Item) (a : Looping) (going : Bool) (b : Looping) : Type 0 where
+  pub hearing : Looping
+  pub hears : Hears i (record a { worked = true }) hearing
+  pub handles : Then (Handles from i) hearing going b
+
+-- None was found: a refused round is tried again where it is due. Where it isn't, it is so after as many empty turns as it waits
 abbrev pub Idles : Looping → Bool → Looping → Type 0
 Idles a going b =
-    let now : Looping = record a { worked = can_step a } in
-    MatchBool (has_retry a) (Then (Goes (by_event None Retry a)) now going b) (Leaves now going b)
+    let now : Looping = record a { worked = can_step a; wait = a.wait - 1 } in
+    MatchBool (is_due a) (Then (Goes (by_event None Retry a)) now going b) (Leaves now going b)

@@ -78,6 +78,7 @@ pub record Makes (k : Cause) (a b : Looping) : Type 0 where
   pub stamp : b.stamp ≡ stamp_of k a
   pub tray : b.tray ≡ with_letters (stamp_of k a) sent a.tray
   pub desk : b.desk ≡ desk_of k a b.core answers
+  pub wait : b.wait ≡ a.wait
   pub world : b.world ≡ a.world
   pub left : b.left ≡ a.left
   pub worked : b.worked ≡ a.worked
@@ -117,6 +118,7 @@ pub record Concludes (given : ℕ) (own : Option Ticket) (course : Course) (answ
   pub world : b.world ≡ a.world
   pub log : b.log ≡ record a.log { entries = answered answers a.log.entries }
   pub stamp : b.stamp ≡ given
+  pub wait : b.wait ≡ a.wait
   pub left : b.left ≡ a.left
   pub worked : b.worked ≡ a.worked
   pub told : MatchBool going

@@ -1,6 +1,7 @@
 //! One node's loop, without its thread: each turn sends what waits, takes one item from the inbox, and makes its step.
 #![tactic(auto)]
 
+mod courtesy;
 mod desk;
 mod gate;
 mod item;
@@ -8,6 +9,7 @@ mod leaving;
 mod node_loop;
 mod outgoing;
 mod replies;
+mod ring;
 mod stepping;
 mod waiting;
 

@@ -6,10 +6,12 @@ ghost use Rattle.node_loop.specs.Desks.{empty_desk};
 ghost use Rattle.node_loop.specs.Held.{owes};
 ghost use Rattle.node_loop.specs.Turned.{Turned};
 
+use crate::courtesy::Courtesy;
 use crate::desk::Desk;
 use crate::gate::Gate;
 use crate::item::Item;
 use crate::replies::TaskReply;
+use crate::ring::Ring;
 use link::{Inbox, Post};
 use name_table::Names;
 use node_core::NodeCore;
@@ -29,6 +31,7 @@ pub struct NodeLoop<N: Names> {
     pub(crate) log: Log,
     pub(crate) tray: Tray<Item>,
     pub(crate) desk: Desk,
+    pub(crate) courtesy: Courtesy,
     /// The stamp of the last step; 0 before the first.
     pub(crate) stamp: u64,
     pub(crate) left: bool,
@@ -46,6 +49,7 @@ impl<N: Names> Model for NodeLoop<N> {
       log = l.log;
       tray = l.tray;
       desk = l.desk;
+      wait = l.courtesy;
       stamp = l.stamp;
       left = l.left;
       worked = l.worked;
@@ -61,6 +65,7 @@ impl<N: Names<Memory = Global>> NodeLoop<N> {
           log = record { node = core.name; entries = [] };
           tray = map none_for core.world;
           desk = empty_desk;
+          wait = 0;
           stamp = 0;
           left = false;
           worked = false;
@@ -69,6 +74,8 @@ impl<N: Names<Memory = Global>> NodeLoop<N> {
         let world = core.world().copy();
         let log = Log::new(alloc, core.name().copy(), &world);
         let tray = Tray::new(alloc, &world)?;
+        let own = world.position(core.name()).unwrap_or(0);
+        let courtesy = Courtesy::new(Ring::new(world.len(), own));
         Ok(NodeLoop {
             alloc,
             core,
@@ -76,6 +83,7 @@ impl<N: Names<Memory = Global>> NodeLoop<N> {
             log,
             tray,
             desk: Desk::new(alloc),
+            courtesy,
             stamp: 0,
             left: false,
             worked: false,
@@ -83,7 +91,7 @@ impl<N: Names<Memory = Global>> NodeLoop<N> {
     }
 
     /// One turn: it sends what waits, takes one item from the inbox, and makes its step; where it finds none, the node tries
-    /// its refused rounds again. A leave that waits is tried behind that. It answers whether the thread goes on: it ends where
+    /// its refused rounds again, unless it gives way to rivals still. A leave that waits is tried behind that. It answers whether the thread goes on: it ends where
     /// no stamp is left, or where memory was refused. What a turn that ends the thread leaves half done isn't to be used
     /// any more, but for its log, which has no step that wasn't made, and the replies, each of which is as it is to be.
     pub fn turn<E: Post<Item> + Inbox<Item>, G: Gate>(&mut self, end: &mut E, gate: &G) -> bool

@@ -1,10 +1,10 @@
 //! The steps of a node's loop.
-ghost use Rattle.std.specs.Prelude.{◌≡◌};
+ghost use Rattle.std.specs.Prelude.{◌≡◌, ◌-◌};
 ghost use Rattle.std.specs.Option.{option_map};
 ghost use Rattle.cluster_world.specs.Events.{is_leave, knows_contact};
-ghost use Rattle.node_loop.specs.Held.{can_step, has_retry, has_leave, is_free_to_leave};
+ghost use Rattle.node_loop.specs.Held.{can_step, has_retry, is_due, has_leave, is_free_to_leave};
 ghost use Rattle.node_loop.specs.Steps.{Concludes, Tries};
-ghost use Rattle.node_loop.specs.Items.{Refuses, Reads, Accepts, Handles, Idles, Works};
+ghost use Rattle.node_loop.specs.Items.{Refuses, Reads, Accepts, Handles, Hears, Idles, Works};
 
 use crate::item::{Item, Stamped, Task, Ticket};
 use crate::node_loop::NodeLoop;
@@ -51,6 +51,13 @@ impl<N: Names<Memory = Global>> NodeLoop<N> {
         ensures { result ≡ has_retry self.now }
     {
         !self.left && self.core.can_retry()
+    }
+
+    /// Whether one waits that gives way to rivals no longer.
+    fn is_due(&self) -> bool
+        ensures { result ≡ is_due self.now }
+    {
+        self.has_retry() && self.courtesy.is_over()
     }
 
     /// Whether a leave waits.
@@ -187,38 +194,53 @@ impl<N: Names<Memory = Global>> NodeLoop<N> {
         }
     }
 
+    /// A letter may tell how long a refused round has to wait.
+    fn hear(&mut self, from: &NodeName, item: &Item)
+        ensures { Hears item.now self.old self.new }
+    {
+        if let Item::Letter(stamped) = item {
+            // A stranger has none, and counts as one behind all others.
+            let nodes = self.world.len();
+            let place = self.world.position(from).unwrap_or(nodes);
+            self.courtesy.hear(place, &stamped.letter);
+        }
+    }
+
     /// An item was taken: it is handled, and then a leave that waits.
     pub(crate) fn work(&mut self, from: NodeName, item: Item) -> bool
         ensures { Works from item self.old result self.new }
     {
         self.worked = true;
+        self.hear(&from, &item);
         if !self.handle(from, item) {
             return false;
         }
         self.leave_if_free()
     }
 
-    /// The turn tries a step, or it doesn't.
-    fn set_worked(&mut self, worked: bool)
-        ensures { self.new ≡ record self.old { worked = worked } }
+    /// The turn found no item. It tries a step, or it doesn't.
+    fn miss(&mut self, worked: bool)
+        ensures { self.new ≡ record self.old { worked = worked; wait = self.old.wait - 1 } }
     {
         self.worked = worked;
+        self.courtesy.pass_turn();
     }
 
     /// Whether it has a step to try, if it takes none.
     fn can_step(&self) -> bool
         ensures { result ≡ can_step self.now }
     {
-        self.has_retry() || self.is_free_to_leave()
+        self.is_due() || self.is_free_to_leave()
     }
 
-    /// None was taken: refused rounds are tried again, and then a leave that waits.
+    /// None was taken: refused rounds are tried again, unless they give way to rivals still, and then a leave that waits.
     pub(crate) fn idle(&mut self) -> bool
         ensures { Idles self.old result self.new }
     {
+        let is_due = self.is_due();
         let worked = self.can_step();
-        self.set_worked(worked);
-        if !self.has_retry() {
+        self.miss(worked);
+        if !is_due {
             return self.leave_if_free();
         }
         match self.attempt(None, Event::Retry) {

@@ -1,5 +1,5 @@
 -- A turn is one of its node.
-use Rattle.std.proofs.Common.{◌≡◌, ◌⊎◌, inl, inr, ⊎_elim, ℕ, Bool, true, false, Option, None, List, refl, ap, ◌∙◌, MatchBool}
+use Rattle.std.proofs.Common.{◌≡◌, ◌-◌, ◌⊎◌, inl, inr, ⊎_elim, ℕ, Bool, true, false, Option, None, List, refl, ap, ◌∙◌, MatchBool}
 use Rattle.node_events.specs.declared.events.Answer.{Answer}
 use Rattle.cluster_world.specs.declared.events.Event.{Event}
 use Rattle.cluster_world.specs.declared.events.Event.TheVariants.{Retry}
@@ -11,9 +11,9 @@ use Rattle.node_loop.specs.declared.item.Stamped.{Stamped}
 use Rattle.node_loop.specs.declared.item.Ticket.{Ticket}
 use Rattle.node_loop.specs.declared.replies.TaskFault.{TaskFault}
 use Rattle.node_loop.specs.Desks.{Kept, left_by}
-use Rattle.node_loop.specs.Held.{Looping, has_retry, is_free_to_leave, can_step}
+use Rattle.node_loop.specs.Held.{Looping, is_due, is_free_to_leave, can_step}
 use Rattle.node_loop.specs.Steps.{Cause, by_event, by_letter, desk_of, Makes, Ends, Goes}
-use Rattle.node_loop.specs.Items.{Reads, Refuses, WaitsToLeave, Asks, Accepts, Handles, by_leave, Departs, Leaves, Then, Works, Idles}
+use Rattle.node_loop.specs.Items.{Reads, Refuses, WaitsToLeave, Asks, Accepts, Handles, by_leave, Departs, Leaves, Then, Hears, Works, Idles}
 use Rattle.node_loop.specs.Turned.{Took, Missed, Turned}
 
 -- the log is the same node's
@@ -86,6 +86,10 @@ module _ (a b : Looping) where
       at_free true false h = ends _ _ h
       at_free false going h = same h.1
 
+hears : (i : Item) (a b : Looping) → Hears i a b → Same a b
+hears (item.Letter l) a b h = ap (λ l. l.log.node) h.0
+hears (item.Task t) a b h = same a b h
+
 -- one thing comes first, and then a leave that waits
 behind : (first : Looping → Bool → Looping → Type 0) (a : Looping) (going : Bool) (b : Looping)
     → ((went : Bool) (m : Looping) → first a went m → Same a m) → Then first a going b → Same a b
@@ -97,10 +101,10 @@ behind first a going b is h = at_went h.went (is h.went h.between h.comes) h.beh
     at_went false s l = same h.between b l.1 ∙ s
 
 idles : (a b : Looping) (going : Bool) → Idles a going b → Same a b
-idles a b going h = at_retry (has_retry a) h
+idles a b going h = at_retry (is_due a) h
   where
     now : Looping
-    now = record a { worked = can_step a }
+    now = record a { worked = can_step a; wait = a.wait - 1 }
 
     at_retry : (retries : Bool)
         → MatchBool retries (Then (Goes (by_event None Retry a)) now going b) (Leaves now going b) → Same a b
@@ -117,6 +121,9 @@ module _ {S : Type 0} (posts : S → ℕ → Item → S → Type 0) (refused : S
 
       at_end : Took posts refused takes misses mid h.between going b t ⊎ Missed posts refused takes misses mid h.between going b t
           → Same a b
-      at_end (inl took) = behind (Handles took.from took.item) (record mid { worked = true }) going b
-          (λ went m w. handles (record mid { worked = true }) m took.from took.item went w) took.works
+      at_end (inl took) =
+          let heard : Looping = took.works.hearing in
+          behind (Handles took.from took.item) heard going b (λ went m w. handles heard m took.from took.item went w)
+          took.works.handles
+          ∙ hears took.item (record mid { worked = true }) heard took.works.hears
       at_end (inr missed) = idles mid b going missed.idles

@@ -12,6 +12,7 @@ use std::thread::Threads;
 use term::{NodeName, parse_name, parse_node, parse_pid};
 
 mod clusters;
+mod crowds;
 mod gates;
 mod holders;
 mod leaves;

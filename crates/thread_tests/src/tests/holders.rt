@@ -68,7 +68,7 @@ fn works<R: Wait>(
     let (ours, theirs) = (lock("p")?, lock("q")?);
     let (us, them) = (parse_pid("a.1")?, parse_pid("b.1")?);
     expect(
-        works_alone(rt, &mut one, &mut two, (us, them), (&ours, &theirs)),
+        works_alone(rt, &mut one, &mut two, (us, them.copy()), (&ours, &theirs)),
         "it didn't work under the lock",
     )?;
     let after = seven(rt, &mut two, them, &theirs, Retries::Times(0));

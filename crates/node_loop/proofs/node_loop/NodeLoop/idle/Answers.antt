@@ -1,18 +1,19 @@
-use Rattle.std.proofs.Common.{true, false, refl, sym, ◌∙◌}
+use Rattle.std.proofs.Common.{true, false, refl, sym, ap, ◌∙◌}
+use Rattle.node_loop.specs.Held.{Looping, has_retry}
 use Rattle.node_loop.proofs.Faults.{retry_stands}
-use Rattle.node_loop.proofs.Turning.{retries}
+use Rattle.node_loop.proofs.Turning.{retries, due_waits}
 use Rattle.node_loop.proofs.node_loop.NodeLoop.idle.Goals as goal
 
 pub returns-in-Ended : goal.returns-in-Ended
 returns-in-Ended g c =
-    retries c.args.self.now c.set_worked.new.self c.can_step-worked.result c.set_worked.ensures c.can_step-worked.ensures
-    false c.attempt.new.self (sym c.has_retry.ensures ∙ c.if-not-has_retry.false)
+    retries c.args.self.now c.miss.new.self c.can_step-worked.result c.miss.ensures c.can_step-worked.ensures false
+    c.attempt.new.self (sym c.is_due-is_due.ensures ∙ c.if-not-is_due.false)
     (record { between = c.attempt.new.self; went = false; comes = c.in-Ended.ensures; behind = (refl, refl) })
 
 pub returns-in-Made : goal.returns-in-Made
 returns-in-Made g c =
-    retries c.args.self.now c.set_worked.new.self c.can_step-worked.result c.set_worked.ensures c.can_step-worked.ensures
-    c.leave_if_free-in-Made.result c.leave_if_free-in-Made.new.self (sym c.has_retry.ensures ∙ c.if-not-has_retry.false)
+    retries c.args.self.now c.miss.new.self c.can_step-worked.result c.miss.ensures c.can_step-worked.ensures
+    c.leave_if_free-in-Made.result c.leave_if_free-in-Made.new.self (sym c.is_due-is_due.ensures ∙ c.if-not-is_due.false)
     (record {
       between = c.attempt.new.self;
       went = true;
@@ -22,5 +23,7 @@ returns-in-Made g c =
 
 pub returns-in-Refused : goal.returns-in-Refused
 returns-in-Refused g c =
-    absurd (retry_stands c.set_worked.new.self c.in-Refused.field-0 (sym c.has_retry.ensures ∙ c.if-not-has_retry.false)
+    absurd (retry_stands c.miss.new.self c.in-Refused.field-0
+    (due_waits c.args.self.now c.miss.new.self c.can_step-worked.result c.miss.ensures c.can_step-worked.ensures
+    (sym c.is_due-is_due.ensures ∙ c.if-not-is_due.false))
     c.in-Refused.ensures.2 c.in-Refused.ensures.1)

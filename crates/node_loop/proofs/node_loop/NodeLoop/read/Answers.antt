@@ -15,6 +15,7 @@ returns g c =
       log = c.self.inside.log;
       tray = c.self.inside.tray;
       desk = c.self.inside.desk;
+      wait = c.self.inside.courtesy;
       stamp = c.self.inside.stamp;
       left = c.self.inside.left;
       worked = c.self.inside.worked;

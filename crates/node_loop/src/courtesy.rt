@@ -1,0 +1,166 @@
+//! When a refused round is tried again.
+ghost use Rattle.std.specs.Prelude.{◌≡◌, ◌-◌, ◌==◌, ◌≤◌};
+ghost use Rattle.node_loop.specs.Held.{most_turns};
+
+use crate::ring::Ring;
+use node_core::Letter;
+use std::marker::Model;
+use term::{LockId, Resource};
+
+/// For so many empty turns a refused round waits at most.
+const MOST_TURNS: u32 = 1_024;
+
+/// For so many it waits for each rival that goes first, and where it knows of nobody who is in its way.
+const TURNS_FOR_ONE: u32 = 16;
+
+/// How long a refused round of the node gives way to those of others. It sees in the letters that are read when the global lock is
+/// granted here and when it is given back. While another holds it the round waits; when that gives it back, the rivals go on in the
+/// order of a ring that begins behind it. What is heard in no letter ends the wait too: each empty turn makes it shorter by one.
+/// Contracts see how many more it lasts.
+#[derive(Drop)]
+pub(crate) struct Courtesy {
+    ring: Ring,
+    turns: u32,
+    /// The place of the node that holds the lock here.
+    holder: Option<usize>,
+    /// How many others gave the lock back since a round was refused, and one more; 0 where none was.
+    waited: usize,
+}
+
+impl Model for Courtesy {
+    ghost use Rattle.std.specs.Prelude.{ℕ, ◌≤◌};
+    ghost use Rattle.node_loop.specs.Held.{most_turns};
+
+    ghost Value = { ℕ };
+
+    ghost view = { λ c. c.turns };
+
+    ghost invariant = { λ c. c.turns ≤ most_turns };
+}
+
+/// Whether a lock is the one that the nodes' registrars ask for.
+fn is_global(id: &LockId) -> bool {
+    id.resource == Resource::global()
+}
+
+impl Courtesy {
+    /// No round waits, and no rival is known.
+    pub(crate) fn new(ring: Ring) -> Self
+        ensures { result ≡ 0 }
+    {
+        Courtesy {
+            ring,
+            turns: 0,
+            holder: None,
+            waited: 0,
+        }
+    }
+
+    /// Whether a refused round waits no longer.
+    pub(crate) fn is_over(&self) -> bool
+        ensures { result ≡ (self.now == 0) }
+    {
+        self.turns == 0
+    }
+
+    /// A turn finds no item.
+    pub(crate) fn pass_turn(&mut self)
+        ensures { self.new ≡ self.old - 1 }
+    {
+        if self.turns == 1 {
+            // What ends the wait is no letter: nothing seen before counts any more.
+            self.holder = None;
+        }
+        self.turns = self.turns.saturating_sub(1);
+    }
+
+    /// A refused round waits for so many turns, or for as many as it may.
+    fn wait(&mut self, turns: u32)
+        ensures { self.new ≤ most_turns }
+    {
+        self.turns = turns.min(MOST_TURNS);
+    }
+
+    /// Whether all have had the lock twice since a round was refused: it gives way to nobody any more.
+    fn is_passed_over(&self) -> bool {
+        self.waited > self.ring.len().saturating_mul(2)
+    }
+
+    /// A round of the node's own is refused.
+    fn hear_refusal(&mut self, id: &LockId)
+        ensures { self.new ≤ most_turns }
+    {
+        if !is_global(id) {
+            let turns = self.turns;
+            return self.wait(turns.max(TURNS_FOR_ONE));
+        }
+        self.waited = self.waited.max(1);
+        let turns = match self.holder {
+            Some(_) => MOST_TURNS,
+            None => TURNS_FOR_ONE,
+        };
+        self.wait(turns);
+    }
+
+    /// A node asks for the lock. Where nobody holds it here, it is granted.
+    fn hear_asked(&mut self, from: usize)
+        ensures { self.new ≤ most_turns }
+    {
+        if self.holder.is_some() {
+            return;
+        }
+        self.holder = Some(from);
+        if self.turns > 0 && from != self.ring.own() {
+            self.wait(MOST_TURNS);
+        }
+    }
+
+    /// The node itself gives the lock back. Where a round of it was refused, it only had some grants.
+    fn end_hold(&mut self)
+        ensures { self.new ≤ most_turns }
+    {
+        if self.turns == 0 {
+            self.waited = 0;
+        }
+    }
+
+    /// A node gives the lock back, or has left.
+    fn hear_given_back(&mut self, from: usize)
+        ensures { self.new ≤ most_turns }
+    {
+        if self.holder != Some(from) {
+            return;
+        }
+        self.holder = None;
+        self.ring.pass_to(from);
+        if from == self.ring.own() {
+            return self.end_hold();
+        }
+        if self.waited > 0 {
+            self.waited = self.waited.saturating_add(1);
+        }
+        let rivals = if self.is_passed_over() {
+            0
+        } else {
+            self.ring.rivals_behind(from)
+        };
+        self.wait(TURNS_FOR_ONE.saturating_mul(rivals));
+    }
+
+    /// A letter is about to be read that came from the node at this place.
+    pub(crate) fn hear(&mut self, from: usize, letter: &Letter)
+        ensures { self.new ≤ most_turns }
+    {
+        let turns = self.turns;
+        match letter {
+            Letter::LockAnswer(id, _, false) => self.hear_refusal(id),
+            Letter::SetLock(id, _) if is_global(id) => self.hear_asked(from),
+            Letter::GiveBack(id, ..) if is_global(id) => self.hear_given_back(from),
+            Letter::Down => self.hear_given_back(from),
+            Letter::GiveBack(..) | Letter::ReleaseOf(_) => {
+                self.wait(turns.min(TURNS_FOR_ONE));
+            }
+            _ => {}
+        }
+    }
+}
