@@ -1,0 +1,5 @@
+pub mod Faults
+pub mod Attending
+pub mod Ending
+pub mod Served
+pub mod Serving

@@ -1,0 +1,13 @@
+//! Clusters of threads that are served to consoles over TCP.
+#![tactic(auto)]
+
+mod attending;
+mod desk;
+mod ending;
+mod faults;
+mod served;
+mod serving;
+mod taking;
+
+pub use faults::ServeFault;
+pub use serving::run_serve;
