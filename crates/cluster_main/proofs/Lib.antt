@@ -1,2 +1,3 @@
-mod Words
-mod Shown
+mod Answered
+mod Placed
+mod Written

@@ -1,29 +1,32 @@
 -- What the program does, and its status.
-use Rattle.std.specs.Prelude.{ℕ, ◌≡◌, ◌≢◌, ◌⊎◌, Bool, List, [], ◌∷◌, Option, Some, None, Result, Ok, Err, MatchResult, if◌then◌else◌}
+use Rattle.std.specs.Prelude.{ℕ, ◌≡◌, ◌≢◌, ◌⊎◌, Bool, codes, List, [], ◌∷◌, Option, Some, None, Result, Ok, Err, MatchResult, if◌then◌else◌}
 use Rattle.std.specs.Io.KnownBytes.{Keeps}
-use Rattle.clap.specs.Words.{IsAmong, Kinds, Text}
+use Rattle.clap.specs.Words.{IsAmong, Kinds, Text, subcommand_of}
 use Rattle.clap.specs.declared.error.kind.ErrorKind.{ErrorKind}
-use Rattle.clap.specs.declared.error.kind.ErrorKind.TheVariants as kind
 use Rattle.cluster_script.specs.Script.{Ran, Stopped}
 use Rattle.text_lines.specs.declared.faults.ScriptFault.{ScriptFault}
-use Rattle.cluster_main.specs.Arguments.{refusals}
+use Rattle.arguments.specs.CommandLine.{Entered, name_in, program, refusals, value_in}
+use Rattle.arguments.specs.Reading.{RefusesLists, Tells, Values}
+use Rattle.arguments.specs.declared.faults.ArgFault.{ArgFault}
+use Rattle.arguments.specs.declared.task.ServeOptions.{ServeOptions}
+use Rattle.cluster_main.specs.Refusing.{IsTold, status_for}
+use Rattle.cluster_main.specs.Serving.{Serves, served_status}
+use Rattle.cluster_main.specs.declared.serving.Served.{Served}
 
 -- the status for a script that was played: 0 where it ended with no fault and printed no refusal, and else 1
 abbrev pub status_of : Result Bool ScriptFault → ℕ
 status_of (Ok fine) = if fine then 0 else 1
 status_of (Err f) = 1
 
--- the status for words that ask for no script: 0 for help or the version, 2 for wrong ones, 1 for want of memory
-abbrev pub status_for : ErrorKind → ℕ
-status_for kind.DisplayHelp = 0
-status_for kind.DisplayVersion = 0
-status_for kind.OutOfMemory = 1
-status_for _ = 2
-
 -- What the program reads, and what it prints, each where it is known: before and behind
 pub record Streams : Type 0 where
   pub input : Option (List ℕ)
   pub rest : Option (List ℕ)
+  pub old : Option (List ℕ)
+  pub new : Option (List ℕ)
+
+-- What it tells on standard error, where that is known: before and behind
+pub record Told : Type 0 where
   pub old : Option (List ℕ)
   pub new : Option (List ℕ)
 
@@ -49,12 +52,36 @@ pub record DoesNothing (s : Streams) : Type 0 where
   pub unread : Keeps s.input s.rest
   pub unprinted : Keeps s.old s.new
 
+-- consoles were served, with the address and the nodes that these values tell, and nothing is read
+pub record ServesConsoles (value : Values) (s : Streams) (status : ℕ) : Type 0 where
+  pub options : ServeOptions
+  pub served : Served
+  pub told : Tells value options
+  pub unread : Keeps s.input s.rest
+  pub serves : Serves options s.old s.new served
+  pub status_is : status ≡ served_status served
+
+-- the lists of nodes that these values give were refused, and the word for it was told
+pub record TellsWord (value : Values) (s : Streams) (told : Told) (status : ℕ) : Type 0 where
+  pub fault : ArgFault
+  pub refused : RefusesLists value fault
+  pub unread : Keeps s.input s.rest
+  pub answered : IsTold fault s.old s.new told.old told.new status
+
+-- what is done for a subcommand: a script is played, and nothing told on standard error; or consoles are served, unless the
+-- lists of nodes are refused
+abbrev pub DoesTask : Entered → Streams → Told → ℕ → Type 0
+DoesTask entered s told status =
+    ((name_in entered ≡ Some (codes "script")) × PlaysScript s status × Keeps told.old told.new)
+    ⊎ ((name_in entered ≡ Some (codes "serve"))
+    × (ServesConsoles (value_in entered) s status ⊎ TellsWord (value_in entered) s told status))
+
 -- what is done for words whose parse may give these kinds
-abbrev pub DoesFor : Kinds → Streams → ℕ → Type 0
-DoesFor [] s status = PlaysScript s status
-DoesFor (k ∷ ks) s status = ShowsText (k ∷ ks) s status
+abbrev pub DoesFor : List Text → Kinds → Streams → Told → ℕ → Type 0
+DoesFor words [] s told status = DoesTask (subcommand_of program words) s told status
+DoesFor words (k ∷ ks) s told status = ShowsText (k ∷ ks) s status
 
 -- what the program does for its words, or for none where one is no text; or memory was refused for reading them
-abbrev pub Does : Option (List Text) → Streams → ℕ → Type 0
-Does None s status = DoesNothing s × (status ≡ 2)
-Does (Some words) s status = DoesFor (refusals words) s status ⊎ (DoesNothing s × (status ≡ 1))
+abbrev pub Does : Option (List Text) → Streams → Told → ℕ → Type 0
+Does None s told status = DoesNothing s × (status ≡ 2)
+Does (Some words) s told status = DoesFor words (refusals words) s told status ⊎ (DoesNothing s × (status ≡ 1))

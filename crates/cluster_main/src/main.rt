@@ -1,31 +1,44 @@
-//! The program: plays a script of cluster-wide names.
+//! The program: plays a script of cluster-wide names, or serves nodes to consoles over the network.
 #![tactic(auto)]
 
 mod answering;
-mod arguments;
+mod lines;
+mod playing;
+mod refusing;
+mod serving;
+mod words;
 
 use answering::answer;
-use arguments::read_words;
-use std::io::{self, BufReader, BufWriter};
+use std::io::{self, BufReader, BufWriter, Write};
+use std::net::{Net, TcpListener, TcpStream};
 use std::process::ExitCode;
+use std::rt::Env;
+use std::sync::Wait;
+use std::thread::Threads;
+use words::read_words;
 
 /// Reads the arguments and does what they ask for, and gives the status.
-fn run(rt: &HostRuntime) -> io::Result<u8> {
+fn run<H, E>(rt: &H, errors: &mut E) -> io::Result<u8>
+where
+    H: Env + Input + Print + AllocGlobal + Threads + Wait,
+    H: Net<Listener = TcpListener, Stream = TcpStream> + Drop + Copy + Send + Sync + 'static,
+    E: Write,
+{
     let words = read_words(rt.alloc(), rt)?;
     let mut reader = BufReader::new(rt.alloc(), rt.reader())?;
     let mut writer = BufWriter::new(rt.alloc(), io::writer(rt))?;
-    let mut errors = rt.stderr();
     Ok(answer(
+        rt,
         rt.alloc(),
         words.as_deref(),
         &mut reader,
         &mut writer,
-        &mut errors,
+        errors,
     ))
 }
 
 fn main(rt: HostRuntime) -> ExitCode {
-    ExitCode::from(run(&rt).unwrap_or(1))
+    ExitCode::from(run(&rt, &mut rt.stderr()).unwrap_or(1))
 }
 
 #[cfg(test)]

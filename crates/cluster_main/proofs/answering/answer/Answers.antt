@@ -1,10 +1,37 @@
-use Rattle.std.proofs.Common.{map, string_bytes}
+use Rattle.std.proofs.Common.{List, inl, map, string_bytes, subst}
 use Rattle.std.proofs.KnownBytes.{Keeps-refl}
-use Rattle.cluster_main.specs.Arguments.{refusals}
-use Rattle.cluster_main.specs.Answering.{Streams}
-use Rattle.cluster_main.proofs.Shown.{shown}
 use Rattle.std.specs.Io.Buffered.{reader_remaining}
+use Rattle.clap.specs.Words.{Text, subcommand_of}
+use Rattle.arguments.specs.CommandLine.{program, value_in}
+use Rattle.arguments.specs.Reading.{Asks}
+use Rattle.cluster_main.specs.Answering.{Streams, Told}
+use Rattle.cluster_main.proofs.Answered.{refused, served}
+use Rattle.cluster_main.proofs.Placed.{placed}
 use Rattle.cluster_main.proofs.answering.answer.Goals as goal
+
+pub serve-requires-after_bounds : goal.serve-requires-after_bounds
+serve-requires-after_bounds g c κs within =
+    let words : List Text = map string_bytes c.in-Some.words.now in
+    let task = subst (Asks words) c.in-Ok-Serve.field-0-is c.in-Ok-Serve.ensures.task in
+    placed (value_in (subcommand_of program words)) c.in-Ok-Serve.options task.asked.1
+
+pub returns-in-Ok-Serve : goal.returns-in-Ok-Serve
+returns-in-Ok-Serve g c =
+    let s : Streams = record {
+      input = reader_remaining g.R.Read.remaining c.args.reader.now;
+      rest = reader_remaining g.R.Read.remaining c.args.reader.now;
+      old = g.W.Write.contents c.args.writer.now;
+      new = g.W.Write.contents c.serve.new.writer;
+    } in
+    let told : Told = record {
+      old = g.E.Write.contents c.args.errors.now;
+      new = g.E.Write.contents c.serve.new.errors;
+    } in
+    let words : List Text = map string_bytes c.in-Some.words.now in
+    let task = subst (Asks words) c.in-Ok-Serve.field-0-is c.in-Ok-Serve.ensures.task in
+    let d = served words c.in-Ok-Serve.options c.serve.result s told c.status.result task
+    (Keeps-refl (reader_remaining g.R.Read.remaining c.args.reader.now)) c.serve.ensures c.status.ensures in
+    rw c.in-Some.is (inl d)
 
 pub returns-in-Err : goal.returns-in-Err
 returns-in-Err g c =
@@ -12,9 +39,12 @@ returns-in-Err g c =
       input = reader_remaining g.R.Read.remaining c.args.reader.now;
       rest = reader_remaining g.R.Read.remaining c.args.reader.now;
       old = g.W.Write.contents c.args.writer.now;
-      new = g.W.Write.contents c.show.new.writer;
+      new = g.W.Write.contents c.refuse.new.writer;
     } in
-    let d = shown (refusals (map string_bytes c.in-Some.words.now)) c.in-Err.error s c.show.result c.in-Err.ensures.task
-    (Keeps-refl (reader_remaining g.R.Read.remaining c.args.reader.now)) c.show.ensures.status
-    c.show.ensures.unprinted in
+    let told : Told = record {
+      old = g.E.Write.contents c.args.errors.now;
+      new = g.E.Write.contents c.refuse.new.errors;
+    } in
+    let d = refused (map string_bytes c.in-Some.words.now) c.in-Err.fault s told c.refuse.result c.in-Err.ensures.task
+    (Keeps-refl (reader_remaining g.R.Read.remaining c.args.reader.now)) c.refuse.ensures in
     rw c.in-Some.is d

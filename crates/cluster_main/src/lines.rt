@@ -1,0 +1,31 @@
+//! Lines that are written.
+ghost use Rattle.std.specs.Prelude.{◌++◌};
+ghost use Rattle.std.specs.Io.KnownBytes.{Keeps};
+ghost use Rattle.text_lines.specs.Writing.{Writes};
+ghost use Rattle.command_lines.specs.Printing.{ended};
+
+use std::io::Write;
+use text_lines::{WriteFault, write_text};
+
+/// Writes a line of two texts. After a fault a part of it was written.
+pub(crate) fn write_line<W: Write>(
+    writer: &mut W,
+    first: &str,
+    second: &str,
+) -> Result<(), WriteFault>
+    ensures { Writes (W.contents writer.old) (W.contents writer.new) result (ended (first.now ++ second.now)) }
+{
+    write_text(writer, first.as_bytes())?;
+    write_text(writer, second.as_bytes())?;
+    write_text(writer, b"\n")
+}
+
+/// Hands on what was written.
+pub(crate) fn hand_on<W: Write>(writer: &mut W) -> Result<(), WriteFault>
+    ensures { Keeps (W.contents writer.old) (W.contents writer.new) }
+{
+    match writer.flush() {
+        Ok(()) => Ok(()),
+        Err(_) => Err(WriteFault::Writer),
+    }
+}

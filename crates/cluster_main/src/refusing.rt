@@ -1,0 +1,45 @@
+//! What the program does for words that ask for nothing that it could do.
+ghost use Rattle.std.specs.Prelude.{◌≡◌, ◌≢◌, ◌⊎◌};
+ghost use Rattle.std.specs.Io.KnownBytes.{Keeps};
+ghost use Rattle.clap.specs.Values.{kind_of};
+ghost use Rattle.cluster_main.specs.Refusing.{IsRefused, status_for};
+
+use crate::lines::write_line;
+use arguments::ArgFault;
+use clap::Error;
+use clap::error::ErrorKind;
+use std::io::Write;
+
+/// Shows help or the version, or tells of an error, and gives the status: also where that can't be told.
+fn show<W: Write, E: Write>(error: &Error, writer: &mut W, errors: &mut E) -> u8
+    ensures status { (result ≡ status_for (kind_of error.now)) ⊎ ((status_for (kind_of error.now) ≡ 0) × (result ≡ 1)) }
+    ensures unprinted { status_for (kind_of error.now) ≢ 0 → Keeps (W.contents writer.old) (W.contents writer.new) }
+{
+    match error.kind() {
+        ErrorKind::DisplayHelp | ErrorKind::DisplayVersion => {
+            if write!(writer, "{error}").is_err() || writer.flush().is_err() {
+                1
+            } else {
+                0
+            }
+        }
+        kind => {
+            let _ = write!(errors, "{error}");
+            if kind == ErrorKind::OutOfMemory { 1 } else { 2 }
+        }
+    }
+}
+
+/// Tells why the words are not taken, and gives the status: also where that can't be told.
+pub(crate) fn refuse<W: Write, E: Write>(fault: &ArgFault, writer: &mut W, errors: &mut E) -> u8
+    ensures { IsRefused fault.now (W.contents writer.old) (W.contents writer.new)
+        (E.contents errors.old) (E.contents errors.new) result }
+{
+    if let ArgFault::Words(error) = fault {
+        return show(error, writer, errors);
+    }
+    if let Some(word) = fault.word() {
+        let _ = write_line(errors, "error ", word);
+    }
+    2
+}

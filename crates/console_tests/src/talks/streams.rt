@@ -1,0 +1,96 @@
+//! Readers and writers that fail.
+use std::io::{self, Error, ErrorKind, Read, Write};
+
+/// A reader that is interrupted once, gives so many bytes at a time, and fails behind its last.
+#[derive(Drop)]
+pub(crate) struct Torn<'a> {
+    bytes: &'a [u8],
+    step: usize,
+    is_interrupted: bool,
+}
+
+impl<'a> Torn<'a> {
+    /// A reader of these bytes.
+    pub(crate) fn new(bytes: &'a [u8], step: usize) -> Self {
+        Torn {
+            bytes,
+            step,
+            is_interrupted: false,
+        }
+    }
+}
+
+impl<'a> Read for Torn<'a> {
+    fn read(&mut self, buf: &mut [u8]) -> io::Result<usize> {
+        if !self.is_interrupted {
+            self.is_interrupted = true;
+            return Err(Error::from(ErrorKind::Interrupted));
+        }
+        if self.bytes.is_empty() {
+            return Err(Error::from(ErrorKind::BrokenPipe));
+        }
+        let count = self.step.min(buf.len());
+        self.bytes.read(&mut buf[..count])
+    }
+}
+
+/// A writer that is interrupted once, fails where it has no room for another byte, and fails to hand on so much.
+#[derive(Drop)]
+pub(crate) struct Full {
+    pub(crate) taken: Vec<u8>,
+    pub(crate) room: usize,
+    is_interrupted: bool,
+}
+
+impl Full {
+    /// A writer into this memory that takes so many bytes.
+    pub(crate) fn new(taken: Vec<u8>, room: usize) -> Self {
+        Full {
+            taken,
+            room,
+            is_interrupted: false,
+        }
+    }
+}
+
+impl Write for Full {
+    fn write(&mut self, buf: &[u8]) -> io::Result<usize> {
+        if !self.is_interrupted {
+            self.is_interrupted = true;
+            return Err(Error::from(ErrorKind::Interrupted));
+        }
+        if self.room == 0 {
+            return Err(Error::from(ErrorKind::BrokenPipe));
+        }
+        let count = buf.len().min(self.room);
+        self.taken.extend_from_slice(&buf[..count])?;
+        self.room -= count;
+        Ok(count)
+    }
+
+    fn flush(&mut self) -> io::Result<()> {
+        Ok(())
+    }
+}
+
+/// A writer that takes all, and hands on so often.
+#[derive(Drop)]
+pub(crate) struct Shy {
+    pub(crate) taken: Vec<u8>,
+    pub(crate) flushes: usize,
+}
+
+impl Write for Shy {
+    fn write(&mut self, buf: &[u8]) -> io::Result<usize> {
+        self.taken.extend_from_slice(buf)?;
+        Ok(buf.len())
+    }
+
+    fn flush(&mut self) -> io::Result<()> {
+        if self.flushes == 0 {
+            return Err(Error::from(ErrorKind::BrokenPipe));
+        }
+        self.flushes -= 1;
+        Ok(())
+    }
+}
