@@ -1,0 +1,103 @@
+//! A served cluster, and consoles of it.
+use std::fs;
+use std::io::{BufRead, BufReader, Error, ErrorKind, Read, Result, Write};
+use std::net::{TcpListener, TcpStream};
+use std::process::{Child, Command, Stdio};
+
+/// The names of nodes.
+pub const NODES: [&str; 8] = ["a", "b", "c", "d", "e", "f", "g", "h"];
+
+/// A cluster that a process of its own serves.
+pub struct Served {
+    child: Child,
+    output: BufReader<std::process::ChildStdout>,
+    address: String,
+}
+
+impl Served {
+    /// Serves a cluster of so many nodes to so many consoles.
+    pub fn start(program: &str, nodes: usize, consoles: usize) -> Result<Served> {
+        // A port that is free now, and likely still is when it is listened on.
+        let address = TcpListener::bind("127.0.0.1:0")?.local_addr()?.to_string();
+        let mut child = Command::new(program)
+            .args(["serve", "--listen", &address, "--nodes", &NODES[..nodes].join(",")])
+            .args(["--consoles", &consoles.to_string()])
+            .stdout(Stdio::piped())
+            .spawn()?;
+        let mut output = BufReader::new(child.stdout.take().expect("a pipe"));
+        let mut line = String::new();
+        output.read_line(&mut line)?;
+        if line != format!("listening {address}\n") {
+            return Err(Error::new(ErrorKind::Other, format!("it printed {line:?}")));
+        }
+        Ok(Served { child, output, address })
+    }
+
+    /// The CPU time that it took so far.
+    pub fn cpu_seconds(&self) -> Result<f64> {
+        let stat = fs::read_to_string(format!("/proc/{}/stat", self.child.id()))?;
+        let fields: Vec<&str> = stat.rsplit(')').next().unwrap_or("").split_whitespace().collect();
+        let ticks: f64 = fields[11].parse::<f64>().unwrap_or(0.0) + fields[12].parse::<f64>().unwrap_or(0.0);
+        Ok(ticks / 100.0)
+    }
+
+    /// How many megabytes of memory it has.
+    pub fn megabytes(&self) -> Result<f64> {
+        let statm = fs::read_to_string(format!("/proc/{}/statm", self.child.id()))?;
+        let pages: f64 = statm.split_whitespace().nth(1).and_then(|word| word.parse().ok()).unwrap_or(0.0);
+        Ok(pages * 4096.0 / 1e6)
+    }
+
+    /// Waits until it has closed, as it must.
+    pub fn finish(mut self) -> Result<()> {
+        let mut line = String::new();
+        self.output.read_to_string(&mut line)?;
+        let status = self.child.wait()?;
+        if !line.starts_with("closed ") || !status.success() {
+            return Err(Error::new(ErrorKind::Other, format!("it ended with {line:?}")));
+        }
+        Ok(())
+    }
+}
+
+/// A console of a cluster.
+pub struct Console {
+    reader: BufReader<TcpStream>,
+    writer: TcpStream,
+}
+
+impl Console {
+    /// A console at a node.
+    pub fn attach(served: &Served, node: &str) -> Result<Console> {
+        let writer = TcpStream::connect(&served.address)?;
+        writer.set_nodelay(true)?;
+        let reader = BufReader::new(writer.try_clone()?);
+        let mut console = Console { reader, writer };
+        console.expect(&format!("attach {node}"), "ok")?;
+        Ok(console)
+    }
+
+    /// The answer of a line.
+    pub fn ask(&mut self, line: &str) -> Result<String> {
+        self.writer.write_all(format!("{line}\n").as_bytes())?;
+        let mut answer = String::new();
+        self.reader.read_line(&mut answer)?;
+        answer.truncate(answer.trim_end().len());
+        Ok(answer)
+    }
+
+    /// Asks a line that is to have this answer.
+    pub fn expect(&mut self, line: &str, wanted: &str) -> Result<()> {
+        let answer = self.ask(line)?;
+        if answer == wanted {
+            Ok(())
+        } else {
+            Err(Error::new(ErrorKind::Other, format!("{line:?} was answered {answer:?}")))
+        }
+    }
+
+    /// Ends it.
+    pub fn quit(mut self) -> Result<()> {
+        self.expect("quit", "ok")
+    }
+}
