@@ -48,15 +48,16 @@ impl Served {
         Ok(pages * 4096.0 / 1e6)
     }
 
-    /// Waits until it has closed, as it must.
-    pub fn finish(mut self) -> Result<()> {
+    /// Waits until it has closed, as it must: how many events its run had.
+    pub fn finish(mut self) -> Result<u64> {
         let mut line = String::new();
         self.output.read_to_string(&mut line)?;
         let status = self.child.wait()?;
-        if !line.starts_with("closed ") || !status.success() {
-            return Err(Error::new(ErrorKind::Other, format!("it ended with {line:?}")));
+        let events = line.strip_prefix("closed ").and_then(|rest| rest.trim_end().parse().ok());
+        match events {
+            Some(events) if status.success() => Ok(events),
+            _ => Err(Error::new(ErrorKind::Other, format!("it ended with {line:?}"))),
         }
-        Ok(())
     }
 }
 

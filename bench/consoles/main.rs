@@ -1,76 +1,84 @@
 //! Measures a served cluster from its consoles, beside bare pairs in the same run: an echo server over loopback, and two
-//! threads over plain channels. The first argument is the program, the second for how many seconds eight consoles call.
+//! threads over plain channels. The first argument is the program. Behind it a number says for how many seconds eight consoles
+//! call, and words choose parts; all are measured where there is none.
 mod cluster;
+mod figures;
+mod gone;
 mod load;
+mod loops;
 mod pairs;
+mod table;
 
 use cluster::{Console, Served, NODES};
+use figures::micros;
+use pairs::Trips;
 use std::env;
-use std::io::Result;
+use std::io::{Error, ErrorKind, Result};
 use std::time::{Duration, Instant};
-
-/// How many calls a measure of one console makes.
-const CALLS: u32 = 2000;
 
 /// For how long rivals register and unregister.
 const RIVALRY: Duration = Duration::from_secs(5);
 
+/// The words for the parts, in the order in which they are measured.
+const PARTS: [&str; 6] = ["table", "loops", "rivals", "gone", "idle", "load"];
+
+/// What is to be measured.
+struct Wishes {
+    program: String,
+    /// For how many seconds eight consoles call; with none they don't.
+    seconds: u64,
+    /// The words of the chosen parts; all are where there is no word.
+    parts: Vec<String>,
+}
+
+impl Wishes {
+    /// What the arguments wish. A word that is no part is refused, since a misspelt one would else choose nothing and say nothing.
+    fn read(mut words: impl Iterator<Item = String>) -> Result<Wishes> {
+        let program = words.next().unwrap_or_else(|| "./cluster_main".into());
+        let mut wishes = Wishes { program, seconds: 60, parts: Vec::new() };
+        for word in words {
+            if let Ok(seconds) = word.parse() {
+                wishes.seconds = seconds;
+            } else if PARTS.contains(&word.as_str()) {
+                wishes.parts.push(word);
+            } else {
+                let told = format!("{word:?} is neither a number of seconds nor one of {}", PARTS.join(", "));
+                return Err(Error::new(ErrorKind::InvalidInput, told));
+            }
+        }
+        Ok(wishes)
+    }
+
+    fn include(&self, part: &str) -> bool {
+        self.parts.is_empty() || self.parts.iter().any(|word| word == part)
+    }
+}
+
 fn main() -> Result<()> {
-    let mut words = env::args().skip(1);
-    let program = words.next().unwrap_or_else(|| "./cluster_main".into());
-    let seconds = words.next().and_then(|word| word.parse().ok()).unwrap_or(60);
-    let echo = pairs::echo_round_trip(CALLS)?;
-    let channel = pairs::channel_round_trip(CALLS);
-    println!("echo over loopback            {:8.1} us", micros(echo));
-    println!("two threads over channels     {:8.1} us", micros(channel));
-    one_console(&program, echo, channel)?;
-    for count in [2, 4, 8] {
-        rivals(&program, count)?;
-    }
-    idle(&program)?;
-    load::eight_consoles(&program, Duration::from_secs(seconds))
-}
-
-fn micros(time: Duration) -> f64 {
-    time.as_secs_f64() * 1e6
-}
-
-/// The time of one of so many calls.
-fn of_each(calls: u32, mut call: impl FnMut(u32) -> Result<()>) -> Result<Duration> {
-    for number in 0..calls / 10 {
-        call(number)?;
-    }
-    let start = Instant::now();
-    for number in 0..calls {
-        call(number)?;
-    }
-    Ok(start.elapsed() / calls)
-}
-
-/// What a look-up and a registration cost one console, by the number of nodes.
-fn one_console(program: &str, echo: Duration, channel: Duration) -> Result<()> {
-    for count in [1, 2, 4, 8] {
-        let served = Served::start(program, count, 1)?;
-        let mut console = Console::attach(&served, NODES[0])?;
-        let process = console.ask("spawn")?;
-        let look_up = of_each(CALLS, |_| console.expect("whereis x", "undefined"))?;
-        let register = of_each(CALLS, |_| {
-            console.expect(&format!("register x {process}"), "yes")?;
-            console.expect("unregister x", "ok")
-        })? / 2;
-        let beyond = register.saturating_sub(look_up);
-        println!(
-            "nodes {count}: whereis {:8.1} us ({:.2} echoes)   register {:8.1} us ({:.2} echoes, {:.1} channel trips beyond a whereis)",
-            micros(look_up),
-            look_up.as_secs_f64() / echo.as_secs_f64(),
-            micros(register),
-            register.as_secs_f64() / echo.as_secs_f64(),
-            beyond.as_secs_f64() / channel.as_secs_f64(),
-        );
-        console.quit()?;
-        served.finish()?;
+    let wishes = Wishes::read(env::args().skip(1))?;
+    let trips = Trips::measure(table::CALLS)?;
+    println!("echo over loopback            {:8.1} us", micros(trips.echo));
+    println!("two threads over channels     {:8.1} us", micros(trips.channel));
+    for part in PARTS {
+        if wishes.include(part) {
+            measure(part, &wishes, &trips)?;
+        }
     }
     Ok(())
+}
+
+/// Measures a part.
+fn measure(part: &str, wishes: &Wishes, trips: &Trips) -> Result<()> {
+    let program = &wishes.program;
+    match part {
+        "table" => table::free(program, trips),
+        "loops" => table::beside_loops(program, trips),
+        "rivals" => [2, 4, 8].into_iter().try_for_each(|count| rivals(program, count)),
+        "gone" => [2, 4, 8].into_iter().try_for_each(|nodes| gone::exit_to_gone(program, nodes, trips)),
+        "idle" => idle(program),
+        _ if wishes.seconds == 0 => Ok(()),
+        _ => load::eight_consoles(program, Duration::from_secs(wishes.seconds)),
+    }
 }
 
 /// How many registrations so many consoles make, each at a node and with a name of its own.
@@ -129,5 +137,6 @@ fn idle(program: &str) -> Result<()> {
     let taken = served.cpu_seconds()? - before;
     println!("eight idle nodes: {:.2} % of one core", taken * 10.0);
     console.quit()?;
-    served.finish()
+    served.finish()?;
+    Ok(())
 }

@@ -12,6 +12,7 @@ use std::io::{BufReader, Read, Write};
 use std::net::{Net, TcpListener, TcpStream};
 use std::sync::Wait;
 use std::thread::Threads;
+use std::time::Clock;
 
 /// Does what the words ask for, the first of which is the program's name, and gives the status. They are none where an
 /// argument is no text.
@@ -24,7 +25,7 @@ pub fn answer<H, R, W, E>(
     errors: &mut E,
 ) -> u8
 where
-    H: Threads + Wait + Net<Listener = TcpListener, Stream = TcpStream>,
+    H: Threads + Wait + Clock + Net<Listener = TcpListener, Stream = TcpStream>,
     H: Drop + Copy + Send + Sync + 'static,
     R: Read,
     W: Write,

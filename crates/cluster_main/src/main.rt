@@ -15,12 +15,13 @@ use std::process::ExitCode;
 use std::rt::Env;
 use std::sync::Wait;
 use std::thread::Threads;
+use std::time::Clock;
 use words::read_words;
 
 /// Reads the arguments and does what they ask for, and gives the status.
 fn run<H, E>(rt: &H, errors: &mut E) -> io::Result<u8>
 where
-    H: Env + Input + Print + AllocGlobal + Threads + Wait,
+    H: Env + Input + Print + AllocGlobal + Threads + Wait + Clock,
     H: Net<Listener = TcpListener, Stream = TcpStream> + Drop + Copy + Send + Sync + 'static,
     E: Write,
 {

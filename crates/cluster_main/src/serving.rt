@@ -11,6 +11,7 @@ use std::io::Write;
 use std::net::{Net, TcpListener, TcpStream};
 use std::sync::Wait;
 use std::thread::Threads;
+use std::time::Clock;
 use text_lines::WriteFault;
 
 /// What it came to that consoles were to be served.
@@ -53,7 +54,7 @@ fn serve_at<H, W>(
     writer: &mut W,
 ) -> Served
 where
-    H: Threads + Wait + Drop + Copy + Send + Sync + 'static,
+    H: Threads + Wait + Clock + Drop + Copy + Send + Sync + 'static,
     W: Write,
     requires { IsPlaced options.now }
     ensures { Serves options.now (W.contents writer.old) (W.contents writer.new) result }
@@ -81,7 +82,7 @@ pub(crate) fn serve<H, W, E>(
     errors: &mut E,
 ) -> Served
 where
-    H: Threads + Wait + Net<Listener = TcpListener, Stream = TcpStream>,
+    H: Threads + Wait + Clock + Net<Listener = TcpListener, Stream = TcpStream>,
     H: Drop + Copy + Send + Sync + 'static,
     W: Write,
     E: Write,

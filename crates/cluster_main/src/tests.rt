@@ -8,6 +8,7 @@ use std::net::{Net, TcpListener, TcpStream};
 use std::sync::Wait;
 use std::test::Fail;
 use std::thread::Threads;
+use std::time::Clock;
 
 mod consoles;
 mod refusals;
@@ -56,7 +57,7 @@ pub(crate) struct Outcome {
 /// Runs the program on an input.
 pub(crate) fn run<H>(rt: &H, alloc: Global, words: &[&[u8]], input: &[u8]) -> Result<Outcome, Fail>
 where
-    H: Threads + Wait + Net<Listener = TcpListener, Stream = TcpStream>,
+    H: Threads + Wait + Clock + Net<Listener = TcpListener, Stream = TcpStream>,
     H: Drop + Copy + Send + Sync + 'static,
 {
     let words = read_words(alloc, &Call { words })?;
@@ -82,7 +83,7 @@ where
 /// Runs the program with words that are parted by blanks, behind its name and without an input.
 pub(crate) fn run_line<H>(rt: &H, alloc: Global, line: &str) -> Result<Outcome, Fail>
 where
-    H: Threads + Wait + Net<Listener = TcpListener, Stream = TcpStream>,
+    H: Threads + Wait + Clock + Net<Listener = TcpListener, Stream = TcpStream>,
     H: Drop + Copy + Send + Sync + 'static,
 {
     let mut words = Vec::new(alloc);

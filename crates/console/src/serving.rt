@@ -16,17 +16,18 @@ use node_threads::{Seat, SeatFault};
 use std::alloc::Global;
 use std::io::{BufReader, Read, Write};
 use std::sync::Wait;
+use std::time::Clock;
 use term::{Name, NodeName};
 
 /// A seat that answers what lines ask.
 #[derive(Drop)]
-struct SeatDesk<'a, H: Wait> {
+struct SeatDesk<'a, H: Wait + Clock> {
     rt: &'a H,
     seat: Seat,
 }
 
 /// Looks a name up from a seat.
-fn look_up<H: Wait>(rt: &H, seat: &mut Seat, name: &Name) -> Result<Reply, SeatFault>
+fn look_up<H: Wait + Clock>(rt: &H, seat: &mut Seat, name: &Name) -> Result<Reply, SeatFault>
     ensures { SeatAnswers seat.old (Whereis name.now) result seat.new }
 {
     match seat.whereis(rt, name)? {
@@ -35,7 +36,7 @@ fn look_up<H: Wait>(rt: &H, seat: &mut Seat, name: &Name) -> Result<Reply, SeatF
     }
 }
 
-impl<'a, H: Wait> Attendant for SeatDesk<'a, H> {
+impl<'a, H: Wait + Clock> Attendant for SeatDesk<'a, H> {
     ghost use Rattle.console.specs.Seats.{SeatAnswers};
 
     type State = Seat;
@@ -66,7 +67,7 @@ impl<'a, H: Wait> Attendant for SeatDesk<'a, H> {
 
 /// Serves a console from a seat: each line that is read is answered, as `answer_lines` says, until `quit` or the end of the
 /// input. The transcript is the seat's, also after a fault: what it had, and an entry for each order that was carried out.
-pub fn serve<R: Read, W: Write, H: Wait>(
+pub fn serve<R: Read, W: Write, H: Wait + Clock>(
     rt: &H,
     alloc: Global,
     reader: &mut BufReader<R, Global>,

@@ -20,8 +20,9 @@ module _ {S : Type 0} (posts : S → ℕ → Item → S → Type 0) (refuses : S
     pub still : t ≡ r
     pub idles : Idles m going b
 
-  -- the tray is sent as far as it goes, and then an item is taken or none is found
-  pub record Turned (a : Looping) (s : S) (going : Bool) (b : Looping) (t : S) : Type 0 where
+  -- the gate held it until it might go on; the tray is sent as far as it goes, and then an item is taken or none is found
+  pub record Turned (held : ℕ → Type 0) (a : Looping) (s : S) (going : Bool) (b : Looping) (t : S) : Type 0 where
+    pub asked : held a.core.name
     pub tray : List (Waiting Item)
     pub between : S
     pub drained : DrainedAll posts refuses a.tray s tray between

@@ -23,8 +23,8 @@ pub(crate) struct Courtesy {
     turns: u32,
     /// The place of the node that holds the lock here.
     holder: Option<usize>,
-    /// How many others gave the lock back since a round was refused, and one more; 0 where none was.
-    waited: usize,
+    /// How many others gave the lock back since a round was refused; none where none was.
+    waited: Option<usize>,
 }
 
 impl Model for Courtesy {
@@ -52,7 +52,7 @@ impl Courtesy {
             ring,
             turns: 0,
             holder: None,
-            waited: 0,
+            waited: None,
         }
     }
 
@@ -83,7 +83,8 @@ impl Courtesy {
 
     /// Whether all have had the lock twice since a round was refused: it gives way to nobody any more.
     fn is_passed_over(&self) -> bool {
-        self.waited > self.ring.len().saturating_mul(2)
+        let most = self.ring.len().saturating_mul(2);
+        self.waited.is_some_and(|others| others >= most)
     }
 
     /// A round of the node's own is refused.
@@ -94,7 +95,7 @@ impl Courtesy {
             let turns = self.turns;
             return self.wait(turns.max(TURNS_FOR_ONE));
         }
-        self.waited = self.waited.max(1);
+        self.waited = self.waited.or(Some(0));
         let turns = match self.holder {
             Some(_) => MOST_TURNS,
             None => TURNS_FOR_ONE,
@@ -120,7 +121,7 @@ impl Courtesy {
         ensures { self.new ≤ most_turns }
     {
         if self.turns == 0 {
-            self.waited = 0;
+            self.waited = None;
         }
     }
 
@@ -136,8 +137,8 @@ impl Courtesy {
         if from == self.ring.own() {
             return self.end_hold();
         }
-        if self.waited > 0 {
-            self.waited = self.waited.saturating_add(1);
+        if let Some(others) = self.waited {
+            self.waited = Some(others.saturating_add(1));
         }
         let rivals = if self.is_passed_over() {
             0

@@ -90,12 +90,13 @@ impl<N: Names<Memory = Global>> NodeLoop<N> {
         })
     }
 
-    /// One turn: it sends what waits, takes one item from the inbox, and makes its step; where it finds none, the node tries
-    /// its refused rounds again, unless it gives way to rivals still. A leave that waits is tried behind that. It answers whether the thread goes on: it ends where
-    /// no stamp is left, or where memory was refused. What a turn that ends the thread leaves half done isn't to be used
-    /// any more, but for its log, which has no step that wasn't made, and the replies, each of which is as it is to be.
+    /// One turn: it asks the gate, sends what waits, takes one item from the inbox, and makes its step; where it finds none,
+    /// the node tries its refused rounds again, unless it gives way to rivals still. A leave that waits is tried behind that.
+    /// It answers whether the thread goes on: it ends where no stamp is left, or where memory was refused. What a turn that
+    /// ends the thread leaves half done isn't to be used any more, but for its log, which has no step that wasn't made, and
+    /// the replies, each of which is as it is to be.
     pub fn turn<E: Post<Item> + Inbox<Item>, G: Gate>(&mut self, end: &mut E, gate: &G) -> bool
-        ensures { Turned E.posts E.refuses E.takes E.misses self.old (E.state end.old) result self.new (E.state end.new) }
+        ensures { Turned E.posts E.refuses E.takes E.misses (G.held gate.now) self.old (E.state end.old) result self.new (E.state end.new) }
     {
         gate.hold(self.core.name());
         self.tray.drain(end);

@@ -1,4 +1,5 @@
 //! The ring of rivals.
+use term::MOST_NODES;
 
 /// So often a rival may be passed over until it is thought to ask no more.
 const MOST_PASSES: u8 = 8;
@@ -11,7 +12,7 @@ pub(crate) struct Ring {
     /// The place of the node itself.
     own: usize,
     /// How often each may yet be passed over.
-    passes: [u8; 8],
+    passes: [u8; MOST_NODES],
     /// Who held the lock last.
     last: usize,
 }
@@ -22,7 +23,7 @@ impl Ring {
         Ring {
             len,
             own,
-            passes: [0; 8],
+            passes: [0; MOST_NODES],
             last: own,
         }
     }

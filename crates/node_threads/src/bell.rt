@@ -3,13 +3,19 @@ use std::alloc::{AllocError, Global};
 use std::sync::{Arc, Wait};
 use std::thread;
 use std::thread::Parker;
-use std::time::Duration;
+use std::time::{Clock, Duration, Instant};
 
 /// How long a thread sleeps at most, in microseconds. A ring ends a sleep; this is the net below it.
 const NET: u64 = 100_000;
 
 /// How long a thread sleeps, in microseconds, that is to try something again: nobody rings when an inbox gets room.
 const NAP: u64 = 50;
+
+/// A yield that takes longer, in microseconds, gave the core to somebody else than the threads of a cluster.
+const LONG_YIELD: u64 = 200;
+
+/// For so many sleeps a thread yields no more after a long yield.
+const WARY_SLEEPS: u32 = 8_192;
 
 /// Wakes one thread. Who sends to it has a bell of it.
 #[derive(Drop)]
@@ -25,6 +31,8 @@ pub(crate) struct Rest {
     yields: u32,
     /// How many have, since the last one that found something.
     quiet: u32,
+    /// For how many sleeps it yields no more, since a yield took long.
+    wary: u32,
 }
 
 impl Bell {
@@ -46,6 +54,7 @@ impl Bell {
             parker: Arc::try_clone(&self.parker)?,
             yields,
             quiet: 0,
+            wary: 0,
         })
     }
 
@@ -63,14 +72,29 @@ impl Rest {
         self.quiet = 0;
     }
 
+    /// Yields the core. Where others than the cluster's threads want the cores, a yield gives one away for milliseconds, while a
+    /// thread that sleeps is woken at once: so a long one is the last for a while.
+    fn pause<C: Clock>(&mut self, clock: &C) {
+        let start = Instant::now(clock);
+        thread::yield_now();
+        let Ok(start) = start else {
+            return;
+        };
+        if let Ok(taken) = start.elapsed(clock)
+            && taken > Duration::from_micros(LONG_YIELD)
+        {
+            self.wary = WARY_SLEEPS;
+        }
+    }
+
     /// Call it after a turn that found nothing, and then look at everything again, since it may return for no reason. `owes`
     /// says that something is to be tried again.
-    pub(crate) fn rest<R: Wait>(&mut self, rt: &R, owes: bool) {
-        if self.quiet < self.yields {
+    pub(crate) fn rest<R: Wait + Clock>(&mut self, rt: &R, owes: bool) {
+        if self.quiet < self.yields && self.wary == 0 {
             self.quiet += 1;
-            thread::yield_now();
-            return;
+            return self.pause(rt);
         }
+        self.wary = self.wary.saturating_sub(1);
         let micros = if owes { NAP } else { NET };
         self.parker.park_timeout(rt, Duration::from_micros(micros));
     }

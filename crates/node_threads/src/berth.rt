@@ -23,6 +23,7 @@ use std::alloc::{AllocError, Global};
 use std::marker::Model;
 use std::sync::{Arc, Wait};
 use std::thread::Threads;
+use std::time::Clock;
 use term::NodeName;
 
 /// A node whose thread is yet to start: where it is reached, and what its thread is to work with. Contracts see the
@@ -123,7 +124,7 @@ impl<N: Names<Memory = Global>> Berth<N> {
     where
         G: Gate + Drop + Send + Sync + 'static,
         N: Send + 'static,
-        R: Threads + Wait + Drop + Copy + Send + 'static,
+        R: Threads + Wait + Clock + Drop + Copy + Send + 'static,
         ensures { IfOk result (λ running. running ≡ self) }
     {
         let Berth {

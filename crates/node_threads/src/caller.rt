@@ -11,6 +11,7 @@ use cluster_world::{Answer, Event};
 use node_loop::{Item, Task, TaskFault, TaskReply, Ticket};
 use std::alloc::Global;
 use std::sync::{Arc, Wait};
+use std::time::Clock;
 use term::NodeName;
 
 /// Asks the thread of one node, one event after another, and waits for each reply.
@@ -76,7 +77,11 @@ impl Caller {
     }
 
     /// Asks for an event, waits until the node has taken it, or refused it, and gives what was answered.
-    pub(crate) fn ask<R: Wait>(&mut self, rt: &R, event: Event) -> Result<Option<Answer>, SeatFault>
+    pub(crate) fn ask<R: Wait + Clock>(
+        &mut self,
+        rt: &R,
+        event: Event,
+    ) -> Result<Option<Answer>, SeatFault>
         ensures slot { slot_of self.new ≡ slot_of self.old }
         ensures node { name_of self.new ≡ name_of self.old }
     {
@@ -113,7 +118,7 @@ impl Caller {
     }
 
     /// Sends an item as soon as there is room for it.
-    fn send<R: Wait>(&mut self, rt: &R, item: Item) -> Result<(), SeatFault>
+    fn send<R: Wait + Clock>(&mut self, rt: &R, item: Item) -> Result<(), SeatFault>
         ensures slot { slot_of self.new ≡ slot_of self.old }
         ensures node { name_of self.new ≡ name_of self.old }
     {
@@ -133,7 +138,7 @@ impl Caller {
     }
 
     /// Waits for the reply to a ticket. Replies to others, which this caller has given up, are dropped.
-    fn outcome<R: Wait>(
+    fn outcome<R: Wait + Clock>(
         &mut self,
         rt: &R,
         ticket: Ticket,

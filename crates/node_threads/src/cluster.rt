@@ -25,6 +25,7 @@ use std::alloc::{AllocError, Global};
 use std::marker::Model;
 use std::sync::{Arc, Wait};
 use std::thread::Threads;
+use std::time::Clock;
 use term::NodeName;
 
 /// Owns the threads of all nodes. It can't be dropped: `close` ends it. Contracts see its nodes
@@ -83,7 +84,7 @@ fn launch_all<G, N, R>(
 where
     G: Gate + Drop + Send + Sync + 'static,
     N: Names<Memory = Global> + Send + 'static,
-    R: Threads + Wait + Drop + Copy + Send + 'static,
+    R: Threads + Wait + Clock + Drop + Copy + Send + 'static,
     ensures { IfOk result (λ running. running.items ≡ berths.items) }
 {
     let mut running = Vec::new(alloc);
@@ -152,7 +153,7 @@ where
         yields: u32,
     ) -> Result<Self, StartFault>
     where
-        R: Threads + Wait + Drop + Copy + Send + 'static,
+        R: Threads + Wait + Clock + Drop + Copy + Send + 'static,
         ensures cluster { IfOk result (λ made. made.cluster ≡ cluster.now) }
         ensures lone { IfOk result (λ made. made.lone ≡ lone.now) }
         ensures seats { IfOk result (λ made. made.seats ≡ 0) }
@@ -174,7 +175,7 @@ where
         yields: u32,
     ) -> Result<Self, AllocError>
     where
-        R: Threads + Wait + Drop + Copy + Send + 'static,
+        R: Threads + Wait + Clock + Drop + Copy + Send + 'static,
         requires lists { start_refused cluster.now lone.now ≡ None }
         requires opening { seen world.now ≡ opening_world (opening_of world.now) }
         requires opens { Opens cluster.now lone.now world.now }
@@ -229,7 +230,7 @@ where
 
     /// A node leaves. It waits until that is so, behind the hold of the global lock where the node holds it. `NoSuchNode`: the node
     /// isn't of the cluster. `NodeLeft`: it has left before. `Closed`: its thread ended without a leave.
-    pub fn leave<R: Wait>(&mut self, rt: &R, node: &NodeName) -> Result<(), SeatFault>
+    pub fn leave<R: Wait + Clock>(&mut self, rt: &R, node: &NodeName) -> Result<(), SeatFault>
         ensures seats { self.new.seats ≡ self.old.seats }
         ensures nodes { (self.new.cluster ≡ self.old.cluster) × (self.new.lone ≡ self.old.lone) }
         ensures stranger { set_of (nodes_in self.old) node.now ≡ false → result ≡ Err NoSuchNode }

@@ -7,6 +7,7 @@ use crate::fault::SeatFault;
 use crate::seat::Seat;
 use cluster_world::{Call, Reply};
 use std::sync::Wait;
+use std::time::Clock;
 use term::{LockId, Pid};
 use transaction::{LockSeat, Nodes, Retries};
 
@@ -19,14 +20,14 @@ fn is_granted(reply: &Reply) -> bool
 
 /// The seat of one lock holder over a seat at a node: its calls are the seat's, and wait as those do.
 #[derive(Drop)]
-pub struct HolderSeat<'a, R: Wait> {
+pub struct HolderSeat<'a, R: Wait + Clock> {
     /// The seat, which may be used between calls.
     pub seat: &'a mut Seat,
     holder: Pid,
     rt: &'a R,
 }
 
-impl<'a, R: Wait> HolderSeat<'a, R> {
+impl<'a, R: Wait + Clock> HolderSeat<'a, R> {
     ghost use Rattle.node_threads.specs.Holders.{holder_of};
 
     /// The seat of this holder. Who it is isn't asked before a call is made.
@@ -39,7 +40,7 @@ impl<'a, R: Wait> HolderSeat<'a, R> {
     }
 }
 
-impl<'a, R: Wait> LockSeat for HolderSeat<'a, R> {
+impl<'a, R: Wait + Clock> LockSeat for HolderSeat<'a, R> {
     ghost use Rattle.transaction.specs.Counts.{set_replies, deletion_replies};
     ghost use Rattle.node_events.specs.declared.events.Call.TheVariants.{SetLock, DelLock};
     ghost use Rattle.node_threads.specs.Holders.{holder_of, replies_of, Grows, SetsLock, DeletesLock};

@@ -22,6 +22,7 @@ use std::snapshot::Snapshot;
 use std::sync::{Arc, Wait};
 use std::thread;
 use std::thread::{Promise, PromisedHandle, Threads};
+use std::time::Clock;
 use term::NodeName;
 
 /// That what a thread gives back is of this node.
@@ -91,7 +92,7 @@ fn turn<E: Post<Item> + Inbox<Item>, G: Gate, N: Names<Memory = Global>>(
 /// The node takes one turn after another, until it is asked to end or can't go on. Replies are handed out behind each turn. Where a
 /// turn did nothing the thread rests, and naps shortly where the node has something to try again. Says whether it ends without a
 /// leave and without being asked to.
-fn turns<E: Post<Item> + Inbox<Item>, G: Gate, N: Names<Memory = Global>, R: Wait>(
+fn turns<E: Post<Item> + Inbox<Item>, G: Gate, N: Names<Memory = Global>, R: Wait + Clock>(
     rt: &R,
     node: &mut NodeLoop<N>,
     end: &mut E,
@@ -124,7 +125,7 @@ fn turns<E: Post<Item> + Inbox<Item>, G: Gate, N: Names<Memory = Global>, R: Wai
 }
 
 /// A node's thread, from its first turn to its end.
-fn run<G: Gate + Drop, N: Names<Memory = Global>, R: Wait + Drop>(
+fn run<G: Gate + Drop, N: Names<Memory = Global>, R: Wait + Clock + Drop>(
     rt: &R,
     work: Work<G, N, R>,
 ) -> NodeEnd<N>
@@ -154,7 +155,7 @@ impl<N: Names<Memory = Global> + Send + 'static> Running<N> {
     ) -> Result<Self, AllocError>
     where
         G: Gate + Drop + Send + Sync + 'static,
-        R: Threads + Wait + Drop + Copy + Send + 'static,
+        R: Threads + Wait + Clock + Drop + Copy + Send + 'static,
         requires { work.node.log.node ≡ address.node }
         ensures { IfOk result (λ running. running ≡ address.node) }
     {
@@ -193,7 +194,7 @@ impl<N: Names<Memory = Global> + Send + 'static> Running<N> {
     }
 
     /// Asks the node to leave, in the name of the cluster, and waits until it has.
-    pub(crate) fn leave<R: Wait>(&mut self, rt: &R) -> Result<(), SeatFault>
+    pub(crate) fn leave<R: Wait + Clock>(&mut self, rt: &R) -> Result<(), SeatFault>
         ensures node { self.new ≡ self.old }
     {
         self.caller.ask(rt, Event::Leave)?;

@@ -14,6 +14,7 @@ use node_log::{SeatEntry, Transcript};
 use std::alloc::Global;
 use std::marker::Model;
 use std::sync::Wait;
+use std::time::Clock;
 use term::{Name, NodeName, Pid};
 
 /// One caller's place at a node, with the transcript of what it was answered. It may go to another thread. Contracts see its
@@ -34,7 +35,7 @@ impl Model for Seat {
 }
 
 /// Asks for a call, and gives its answer.
-fn ask_call<R: Wait>(rt: &R, caller: &mut Caller, call: Call) -> Result<Answer, SeatFault>
+fn ask_call<R: Wait + Clock>(rt: &R, caller: &mut Caller, call: Call) -> Result<Answer, SeatFault>
     ensures slot { slot_of caller.new ≡ slot_of caller.old }
     ensures node { name_of caller.new ≡ name_of caller.old }
 {
@@ -81,7 +82,7 @@ impl Seat {
     /// changes. `Memory`: nothing was asked, or it was and the reply is a list of names. `NodeLeft`: the node has left.
     /// `NoSuchNode`: the contact of a join isn't of the cluster. `Step`: the node refuses the call. `Closed`: the node's thread
     /// ended without a leave, or the cluster was closed; whether the call was made then isn't known.
-    pub fn call<R: Wait>(&mut self, rt: &R, call: Call) -> Result<Reply, SeatFault>
+    pub fn call<R: Wait + Clock>(&mut self, rt: &R, call: Call) -> Result<Reply, SeatFault>
         ensures ok { IfOk result (λ reply. Answered call reply self.old self.new) }
         ensures err { OnErr result (self.new ≡ self.old) }
     {
@@ -95,7 +96,11 @@ impl Seat {
     }
 
     /// Looks a name up in the node's table: a call as any other, which stands in the transcript.
-    pub fn whereis<R: Wait>(&mut self, rt: &R, name: &Name) -> Result<Option<Pid>, SeatFault>
+    pub fn whereis<R: Wait + Clock>(
+        &mut self,
+        rt: &R,
+        name: &Name,
+    ) -> Result<Option<Pid>, SeatFault>
         ensures ok { IfOk result (λ owner. Answered (Whereis name.now) (owner_reply owner) self.old self.new) }
         ensures err { OnErr result (self.new ≡ self.old) }
     {
@@ -115,7 +120,7 @@ impl Seat {
 
     /// A process of the node dies. It waits until that is so, and the exit then stands last in the transcript. It is refused as
     /// `call` is.
-    pub fn exit<R: Wait>(&mut self, rt: &R, process: &Pid) -> Result<(), SeatFault>
+    pub fn exit<R: Wait + Clock>(&mut self, rt: &R, process: &Pid) -> Result<(), SeatFault>
         ensures ok { OnOk result (self.new ≡ with_entry (Exit process.now) None self.old) }
         ensures err { OnErr result (self.new ≡ self.old) }
     {
@@ -129,7 +134,7 @@ impl Seat {
 
     /// The seat's own node leaves. It waits until that is so, behind the hold of the global lock where the node holds it, and the
     /// leave then stands last in the transcript. It is refused as `call` is.
-    pub fn leave<R: Wait>(&mut self, rt: &R) -> Result<(), SeatFault>
+    pub fn leave<R: Wait + Clock>(&mut self, rt: &R) -> Result<(), SeatFault>
         ensures ok { OnOk result (self.new ≡ with_entry Leave None self.old) }
         ensures err { OnErr result (self.new ≡ self.old) }
     {

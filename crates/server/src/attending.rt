@@ -11,6 +11,7 @@ use node_threads::Seat;
 use std::alloc::Global;
 use std::io::{BufReader, Read, Write};
 use std::sync::Wait;
+use std::time::Clock;
 use term::{NodeName, NodeSet};
 
 /// The transcript of a console that has ended, well or with a fault.
@@ -24,7 +25,7 @@ fn transcript_of(ended: Result<Transcript, (ConsoleFault, Transcript)>) -> Trans
 }
 
 /// Serves a console at its seat, and keeps the transcript, also after a fault.
-fn serve_at<H: Wait, R: Read, W: Write>(
+fn serve_at<H: Wait + Clock, R: Read, W: Write>(
     rt: &H,
     alloc: Global,
     reader: &mut BufReader<R, Global>,
@@ -40,7 +41,7 @@ fn serve_at<H: Wait, R: Read, W: Write>(
 }
 
 /// Gets a console a seat at its node, and serves it there; or tells it why it gets none.
-fn attend_at<H: Wait, R: Read, W: Write>(
+fn attend_at<H: Wait + Clock, R: Read, W: Write>(
     rt: &H,
     alloc: Global,
     reader: &mut BufReader<R, Global>,
@@ -62,7 +63,7 @@ fn attend_at<H: Wait, R: Read, W: Write>(
 }
 
 /// Greets a console, gets it a seat at the node that it names, and serves it there: what is left of it, if it got a seat.
-pub(crate) fn attend<H: Wait, R: Read, W: Write>(
+pub(crate) fn attend<H: Wait + Clock, R: Read, W: Write>(
     rt: &H,
     alloc: Global,
     reader: &mut BufReader<R, Global>,

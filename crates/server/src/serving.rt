@@ -18,6 +18,7 @@ use std::io::Write;
 use std::net::TcpListener;
 use std::sync::Wait;
 use std::thread::Threads;
+use std::time::Clock;
 use term::{NodeName, NodeSet};
 
 /// A cluster that is served: its tables hash, and no turn of its nodes is held back.
@@ -57,7 +58,7 @@ fn serve_consoles<R>(
     cluster: &mut ServedCluster,
 ) -> Result<Vec<Transcript>, TakeFault>
 where
-    R: Threads + Wait + Drop + Copy + Send + Sync + 'static,
+    R: Threads + Wait + Clock + Drop + Copy + Send + Sync + 'static,
     ensures nodes { (cluster.new.cluster ≡ cluster.old.cluster) × (cluster.new.lone ≡ cluster.old.lone) }
     ensures served { IfOk result (λ transcripts. All IsServed transcripts.items) }
 {
@@ -121,7 +122,7 @@ pub fn run_serve<R, W>(
     writer: &mut W,
 ) -> Result<bool, ServeFault>
 where
-    R: Threads + Wait + Drop + Copy + Send + Sync + 'static,
+    R: Threads + Wait + Clock + Drop + Copy + Send + Sync + 'static,
     W: Write,
     requires { start_refused cluster.now lone.now ≡ None }
     ensures { ServesCluster cluster.now lone.now (W.contents writer.old) (W.contents writer.new) result }

@@ -11,6 +11,7 @@ use std::net::{TcpListener, TcpStream};
 use std::sync::Wait;
 use std::thread;
 use std::thread::{JoinHandle, Threads};
+use std::time::Clock;
 use term::NodeSet;
 
 /// The thread of a console, which gives what the console leaves behind.
@@ -30,7 +31,7 @@ pub(crate) struct Door<R: Drop> {
 }
 
 /// Serves the console at the other end of a connection.
-fn attend_stream<H: Wait>(
+fn attend_stream<H: Wait + Clock>(
     rt: &H,
     alloc: Global,
     stream: TcpStream,
@@ -50,7 +51,7 @@ fn accept(listener: &TcpListener) -> Result<Option<TcpStream>, TakeFault> {
     }
 }
 
-impl<R: Threads + Wait + Drop + Copy + Send + Sync + 'static> Door<R> {
+impl<R: Threads + Wait + Clock + Drop + Copy + Send + Sync + 'static> Door<R> {
     /// Starts the thread of a console.
     fn start_console(&self, stream: TcpStream) -> Result<ConsoleThread, AllocError> {
         let asker = self.asker.another()?;

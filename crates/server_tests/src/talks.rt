@@ -11,6 +11,7 @@ use std::net::{Net, Shutdown, SocketAddr, TcpListener, TcpStream};
 use std::sync::Wait;
 use std::test::Fail;
 use std::thread::{Threads, join};
+use std::time::Clock;
 use term::{NodeName, parse_node};
 
 mod ends;
@@ -67,7 +68,7 @@ fn serve_nodes<R>(
     written: &mut Vec<u8>,
 ) -> Result<bool, ServeFault>
 where
-    R: Threads + Wait + Drop + Copy + Send + Sync + 'static,
+    R: Threads + Wait + Clock + Drop + Copy + Send + Sync + 'static,
 {
     let Startable { cluster, lone, .. } = nodes;
     run_serve(
@@ -134,6 +135,7 @@ pub(crate) fn serve_to<R>(
 where
     R: Threads
         + Wait
+        + Clock
         + Net<Listener = TcpListener, Stream = TcpStream>
         + Drop
         + Copy

@@ -9,6 +9,7 @@ use std::alloc::Global;
 use std::sync::Wait;
 use std::test::Fail;
 use std::thread::Threads;
+use std::time::Clock;
 use term::{NodeName, parse_name, parse_node, parse_pid};
 
 mod clusters;
@@ -53,7 +54,7 @@ where
 }
 
 /// Spawns a process, which is to be this one, and registers this name for it.
-pub(crate) fn name_process<R: Wait>(
+pub(crate) fn name_process<R: Wait + Clock>(
     rt: &R,
     seat: &mut Seat,
     process: &str,

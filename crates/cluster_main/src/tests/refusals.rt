@@ -5,11 +5,12 @@ use std::net::{Net, TcpListener, TcpStream};
 use std::sync::Wait;
 use std::test::Fail;
 use std::thread::Threads;
+use std::time::Clock;
 
 /// Whether the words are refused: nothing is read or printed, and the error is told.
 fn is_refused<H>(rt: &H, alloc: Global, words: &[&[u8]]) -> Result<bool, Fail>
 where
-    H: Threads + Wait + Net<Listener = TcpListener, Stream = TcpStream>,
+    H: Threads + Wait + Clock + Net<Listener = TcpListener, Stream = TcpStream>,
     H: Drop + Copy + Send + Sync + 'static,
 {
     let outcome = run(rt, alloc, words, b"cluster a\nspawn a\n")?;

@@ -8,6 +8,7 @@ use std::net::{Net, TcpListener, TcpStream};
 use std::sync::Wait;
 use std::test::Fail;
 use std::thread::Threads;
+use std::time::Clock;
 
 /// A writer that fails.
 #[derive(Drop)]
@@ -26,7 +27,7 @@ impl Write for Shut {
 /// The status where nothing can be written.
 fn status_unwritten<H>(rt: &H, alloc: Global, words: &[&[u8]]) -> Result<u8, Fail>
 where
-    H: Threads + Wait + Net<Listener = TcpListener, Stream = TcpStream>,
+    H: Threads + Wait + Clock + Net<Listener = TcpListener, Stream = TcpStream>,
     H: Drop + Copy + Send + Sync + 'static,
 {
     let words = read_words(alloc, &Call { words })?;

@@ -11,6 +11,7 @@ use std::io::{BufReader, Cursor, Read, Write};
 use std::sync::Wait;
 use std::test::Fail;
 use std::thread::Threads;
+use std::time::Clock;
 use term::{NodeName, parse_node};
 
 /// A cluster whose tables are lists.
@@ -33,7 +34,7 @@ struct Ended {
 }
 
 /// Has a console at a seat answer what a reader gives.
-fn attend<H: Wait, R: Read + Drop, W: Write>(
+fn attend<H: Wait + Clock, R: Read + Drop, W: Write>(
     rt: &H,
     alloc: Global,
     reader: R,
@@ -54,7 +55,7 @@ fn attend<H: Wait, R: Read + Drop, W: Write>(
 }
 
 /// Has a console at the node a answer these lines with this text, and gives its transcript.
-fn answers<H: Wait>(
+fn answers<H: Wait + Clock>(
     rt: &H,
     alloc: Global,
     cluster: &mut Small,
@@ -128,7 +129,11 @@ fn nodes_tell_their_refusals(rt: HostRuntime) -> Result<(), Fail> {
 }
 
 /// What a console at the node a leaves behind whose reader fails, and one whose writer does.
-fn torn<H: Wait>(rt: &H, alloc: Global, cluster: &mut Small) -> Result<Vec<Transcript>, Fail> {
+fn torn<H: Wait + Clock>(
+    rt: &H,
+    alloc: Global,
+    cluster: &mut Small,
+) -> Result<Vec<Transcript>, Fail> {
     let mut written = Vec::new(alloc);
     let seat = cluster.seat(&parse_node("a")?)?;
     let reader = Torn::new(b"spawn\nspawn\nspa", 4);

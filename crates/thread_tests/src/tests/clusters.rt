@@ -8,10 +8,11 @@ use replay::CloseFault;
 use std::alloc::Global;
 use std::sync::Wait;
 use std::test::Fail;
+use std::time::Clock;
 use term::{parse_name, parse_node, parse_pid};
 
 /// Names a process at its only node, and looks the name up.
-fn named<R: Wait>(
+fn named<R: Wait + Clock>(
     rt: &R,
     alloc: Global,
     cluster: &mut Small<OpenGate>,
@@ -42,13 +43,13 @@ fn a_node_answers_and_its_run_is_replayed(rt: HostRuntime) -> Result<(), Fail> {
 }
 
 /// Looks a name up, which this process is to have.
-fn finds<R: Wait>(rt: &R, seat: &mut Seat, name: &str, owner: &str) -> Result<(), Fail> {
+fn finds<R: Wait + Clock>(rt: &R, seat: &mut Seat, name: &str, owner: &str) -> Result<(), Fail> {
     let found = seat.whereis(rt, &parse_name(name)?)?;
     expect(found == Some(parse_pid(owner)?), "another owner")
 }
 
 /// Names a process at each of two nodes, and looks both up at both.
-fn named_at_both<R: Wait>(
+fn named_at_both<R: Wait + Clock>(
     rt: &R,
     alloc: Global,
     cluster: &mut Small<OpenGate>,

@@ -10,6 +10,7 @@ use std::sync::{Arc, Wait};
 use std::test::Fail;
 use std::thread;
 use std::thread::Threads;
+use std::time::Clock;
 use term::{Name, NodeName, parse_name, parse_node};
 
 /// How often each rival registers its name.
@@ -19,7 +20,7 @@ const TURNS: u32 = 5;
 const EXITS: u32 = 4_200;
 
 /// Spawns a process from a seat, and registers and unregisters a name for it. Whether each call was answered as it is to be.
-fn take_turns<R: Wait>(rt: &R, seat: &mut Seat, name: &Name) -> Result<bool, SeatFault> {
+fn take_turns<R: Wait + Clock>(rt: &R, seat: &mut Seat, name: &Name) -> Result<bool, SeatFault> {
     let Reply::Pid(process) = seat.call(rt, Call::Spawn)? else {
         return Ok(false);
     };
@@ -34,13 +35,13 @@ fn take_turns<R: Wait>(rt: &R, seat: &mut Seat, name: &Name) -> Result<bool, Sea
 }
 
 /// One rival, and what its seat was answered.
-fn rival<R: Wait>(rt: &R, mut seat: Seat, name: &Name) -> (bool, Transcript) {
+fn rival<R: Wait + Clock>(rt: &R, mut seat: Seat, name: &Name) -> (bool, Transcript) {
     let done = matches!(take_turns(rt, &mut seat, name), Ok(true));
     (done, seat.into_transcript())
 }
 
 /// Takes turns at each node, from a seat in a thread of its own.
-fn rivals<R: Threads + Wait + Copy + Send + 'static>(
+fn rivals<R: Threads + Wait + Clock + Copy + Send + 'static>(
     rt: &R,
     alloc: Global,
     cluster: &mut Small<OpenGate>,
@@ -77,10 +78,11 @@ fn rivals_all_get_their_turns(rt: HostRuntime) -> Result<(), Fail> {
     Ok(())
 }
 
-/// Whether a node may step, and whether it waited in vain.
+/// Whether a node may step, whether it was held before it might, and whether it waited in vain.
 #[derive(Drop)]
 struct Flags {
     open: AtomicBool,
+    held: AtomicBool,
     late: AtomicBool,
 }
 
@@ -91,27 +93,39 @@ struct Barrier {
     flags: Arc<Flags, Global>,
 }
 
+/// Waits until a flag is set, but not for ever. Whether it was.
+fn wait_for(flag: &AtomicBool) -> bool {
+    for _ in 0..100_000_000u32 {
+        if flag.load(Ordering::SeqCst) {
+            return true;
+        }
+        thread::yield_now();
+    }
+    false
+}
+
 impl Gate for Barrier {
+    ghost held = { λ gate node. Unit {0} };
+
     fn hold(&self, node: &NodeName) {
-        if *node != self.node {
+        let flags = &*self.flags;
+        if *node != self.node || flags.open.load(Ordering::SeqCst) {
             return;
         }
-        for _ in 0..100_000_000u32 {
-            if self.flags.open.load(Ordering::SeqCst) {
-                return;
-            }
-            thread::yield_now();
+        flags.held.store(true, Ordering::SeqCst);
+        if !wait_for(&flags.open) {
+            flags.late.store(true, Ordering::SeqCst);
         }
-        self.flags.late.store(true, Ordering::SeqCst);
     }
 }
 
-/// Processes of one node exit, each of which the other is told of, before that may step. Then a name is registered at both.
-fn exits<R: Wait>(
+/// Processes of one node exit, each of which the other is told of, while that is held. Then it may step, and a name is registered at
+/// both.
+fn exits<R: Wait + Clock>(
     rt: &R,
     alloc: Global,
     cluster: &mut Small<Barrier>,
-    open: &AtomicBool,
+    flags: &Flags,
 ) -> Result<Vec<Transcript>, Fail> {
     let mut seat = cluster.seat(&parse_node("a")?)?;
     for _ in 0..EXITS {
@@ -120,7 +134,9 @@ fn exits<R: Wait>(
         };
         seat.exit(rt, &process)?;
     }
-    open.store(true, Ordering::SeqCst);
+    // A thread that starts late isn't held by an open gate.
+    expect(wait_for(&flags.held), "the node wasn't held")?;
+    flags.open.store(true, Ordering::SeqCst);
     // The request for the lock goes behind all that was sent before it.
     name_process(rt, &mut seat, "a.4201", "x")?;
     let mut transcripts = Vec::new(alloc);
@@ -136,6 +152,7 @@ fn nothing_is_lost_before_a_full_inbox(rt: HostRuntime) -> Result<(), Fail> {
         alloc,
         Flags {
             open: AtomicBool::new(false),
+            held: AtomicBool::new(false),
             late: AtomicBool::new(false),
         },
     )?;
@@ -146,10 +163,11 @@ fn nothing_is_lost_before_a_full_inbox(rt: HostRuntime) -> Result<(), Fail> {
     let Ok(mut cluster) = Cluster::start(&rt, alloc, both.as_slice(), &[], gate, 0) else {
         return Err(Fail::from("no cluster"));
     };
-    let played = exits(&rt, alloc, &mut cluster, &flags.open);
+    let played = exits(&rt, alloc, &mut cluster, &flags);
     // The node mustn't wait for ever where something went wrong.
     flags.open.store(true, Ordering::SeqCst);
     let closed = finish(&rt, cluster, played)?;
+    assert!(rt; flags.held.load(Ordering::SeqCst));
     assert!(rt; !flags.late.load(Ordering::SeqCst));
     // Each process was spawned, exited, and was heard of at the other node.
     assert!(rt; closed.events > 3 * 4_200);

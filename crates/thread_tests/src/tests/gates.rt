@@ -10,6 +10,7 @@ use std::sync::{Arc, Wait};
 use std::test::Fail;
 use std::thread;
 use std::thread::Threads;
+use std::time::Clock;
 use term::NodeName;
 
 /// Which nodes have come to the gate, and whether one of them waited in vain.
@@ -27,6 +28,8 @@ struct Meeting {
 }
 
 impl Gate for Meeting {
+    ghost held = { λ gate node. Unit {0} };
+
     fn hold(&self, node: &NodeName) {
         let flags = &*self.flags;
         let place = flags.nodes.iter().position(|other| other == node);
@@ -44,13 +47,13 @@ impl Gate for Meeting {
 }
 
 /// Spawns a process from a seat.
-fn spawn_at<R: Wait>(rt: &R, mut seat: Seat) -> (bool, Transcript) {
+fn spawn_at<R: Wait + Clock>(rt: &R, mut seat: Seat) -> (bool, Transcript) {
     let spawned = matches!(seat.call(rt, Call::Spawn), Ok(Reply::Pid(_)));
     (spawned, seat.into_transcript())
 }
 
 /// Spawns a process at each node, from a seat in a thread of its own.
-fn spawn_at_all<R: Threads + Wait + Copy + Send + 'static>(
+fn spawn_at_all<R: Threads + Wait + Clock + Copy + Send + 'static>(
     rt: &R,
     alloc: Global,
     cluster: &mut Small<Meeting>,

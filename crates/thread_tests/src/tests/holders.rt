@@ -8,11 +8,12 @@ use node_threads::{Cluster, HolderSeat, Seat, SeatFault};
 use std::alloc::Global;
 use std::sync::Wait;
 use std::test::Fail;
+use std::time::Clock;
 use term::{LockId, Pid, parse_node, parse_pid, parse_requester, parse_resource};
 use transaction::{Outcome, TransFault, trans};
 
 /// Answers seven under a lock, at the seat of its holder.
-fn seven<R: Wait>(
+fn seven<R: Wait + Clock>(
     rt: &R,
     seat: &mut Seat,
     holder: Pid,
@@ -30,7 +31,7 @@ fn seven<R: Wait>(
 }
 
 /// Whether the first holder works under its lock while the second gets none.
-fn works_alone<R: Wait>(
+fn works_alone<R: Wait + Clock>(
     rt: &R,
     one: &mut Seat,
     two: &mut Seat,
@@ -56,7 +57,7 @@ fn works_alone<R: Wait>(
 }
 
 /// One holder works under a lock, while another gets none.
-fn works<R: Wait>(
+fn works<R: Wait + Clock>(
     rt: &R,
     alloc: Global,
     cluster: &mut Small<OpenGate>,

@@ -10,6 +10,7 @@ use std::sync::Wait;
 use std::test::Fail;
 use std::thread;
 use std::thread::Threads;
+use std::time::Clock;
 use term::{LockId, TextFault, parse_name, parse_node, parse_pid, parse_requester, parse_resource};
 
 /// The call of a process for the lock of this requester on resource r.
@@ -22,7 +23,7 @@ fn lock(process: &str, requester: &str, retries: Retries) -> Result<Call, TextFa
 }
 
 /// What `a.2` is answered that asks for the lock, after it wasn't busy any more; none where it stays busy.
-fn wait_for_lock<R: Wait>(rt: &R, seat: &mut Seat) -> Option<Result<Reply, SeatFault>> {
+fn wait_for_lock<R: Wait + Clock>(rt: &R, seat: &mut Seat) -> Option<Result<Reply, SeatFault>> {
     for _ in 0..1_000_000u32 {
         match seat.call(rt, lock("a.2", "q", Retries::Endless).ok()?) {
             Err(SeatFault::Step(StepFault::Busy(_))) => thread::yield_now(),
@@ -44,7 +45,7 @@ enum Ending {
 }
 
 /// One process has a lock for which another waits, until that exits or its node leaves. The call then ends so.
-fn waits_in_vain<R: Threads + Wait + Copy + Send + 'static>(
+fn waits_in_vain<R: Threads + Wait + Clock + Copy + Send + 'static>(
     rt: &R,
     alloc: Global,
     cluster: &mut Small<OpenGate>,
@@ -88,7 +89,7 @@ fn waits_in_vain<R: Threads + Wait + Copy + Send + 'static>(
 }
 
 /// Ends the wait, and says whether the node has left then.
-fn end_wait<R: Wait>(
+fn end_wait<R: Wait + Clock>(
     rt: &R,
     cluster: &mut Small<OpenGate>,
     seat: &mut Seat,
@@ -137,7 +138,7 @@ fn a_waiting_call_ends_with_its_process_or_its_node(rt: HostRuntime) -> Result<(
 }
 
 /// A name is registered in a thread of its own while its node is asked to leave: that waits behind the hold.
-fn leaves_behind_a_hold<R: Threads + Wait + Copy + Send + 'static>(
+fn leaves_behind_a_hold<R: Threads + Wait + Clock + Copy + Send + 'static>(
     rt: &R,
     alloc: Global,
     cluster: &mut Small<OpenGate>,

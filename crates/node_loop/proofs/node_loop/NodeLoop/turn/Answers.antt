@@ -6,8 +6,9 @@ use Rattle.node_loop.proofs.node_loop.NodeLoop.turn.Goals as goal
 pub returns-in_default : goal.returns-in_default
 returns-in_default g c =
     subst
-    (λ (x : Looping). Turned g.E.Post.posts g.E.Post.refuses g.E.Inbox.takes g.E.Inbox.misses x (g.E.Station.state c.args.end.now) c.idle.result c.idle.new.self (g.E.Station.state c.take.new.self))
+    (λ (x : Looping). Turned g.E.Post.posts g.E.Post.refuses g.E.Inbox.takes g.E.Inbox.misses (g.G.Gate.held c.args.gate.now) x (g.E.Station.state c.args.end.now) c.idle.result c.idle.new.self (g.E.Station.state c.take.new.self))
     c.self.view_is (record {
+      asked = subst (g.G.Gate.held c.args.gate.now) c.name.ensures.name c.hold.ensures;
       tray = c.drain.new.self;
       between = g.E.Station.state c.drain.new.post;
       drained = c.drain.ensures;
@@ -18,8 +19,9 @@ pub returns-in_default-found : goal.returns-in_default-found
 returns-in_default-found g c =
     let h = rw c.in_default-found.is at c.in-Ok.ensures in
     subst
-    (λ (x : Looping). Turned g.E.Post.posts g.E.Post.refuses g.E.Inbox.takes g.E.Inbox.misses x (g.E.Station.state c.args.end.now) c.idle-in_default-found.result c.idle-in_default-found.new.self (g.E.Station.state c.take.new.self))
+    (λ (x : Looping). Turned g.E.Post.posts g.E.Post.refuses g.E.Inbox.takes g.E.Inbox.misses (g.G.Gate.held c.args.gate.now) x (g.E.Station.state c.args.end.now) c.idle-in_default-found.result c.idle-in_default-found.new.self (g.E.Station.state c.take.new.self))
     c.self.view_is (record {
+      asked = subst (g.G.Gate.held c.args.gate.now) c.name.ensures.name c.hold.ensures;
       tray = c.drain.new.self;
       between = g.E.Station.state c.drain.new.post;
       drained = c.drain.ensures;
@@ -30,8 +32,9 @@ pub returns : goal.returns
 returns g c =
     let h = rw c.in-Some.is at c.in-Ok.ensures in
     subst
-    (λ (x : Looping). Turned g.E.Post.posts g.E.Post.refuses g.E.Inbox.takes g.E.Inbox.misses x (g.E.Station.state c.args.end.now) c.work.result c.work.new.self (g.E.Station.state c.take.new.self))
+    (λ (x : Looping). Turned g.E.Post.posts g.E.Post.refuses g.E.Inbox.takes g.E.Inbox.misses (g.G.Gate.held c.args.gate.now) x (g.E.Station.state c.args.end.now) c.work.result c.work.new.self (g.E.Station.state c.take.new.self))
     c.self.view_is (record {
+      asked = subst (g.G.Gate.held c.args.gate.now) c.name.ensures.name c.hold.ensures;
       tray = c.drain.new.self;
       between = g.E.Station.state c.drain.new.post;
       drained = c.drain.ensures;

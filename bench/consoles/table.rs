@@ -1,0 +1,97 @@
+//! What a look-up and a registration cost one console, by the number of nodes: with the machine free, and beside endless loops.
+use crate::cluster::{Console, Served, NODES};
+use crate::figures::{made_by, median, micros, of_each, RUNS};
+use crate::loops::Loops;
+use crate::pairs::Trips;
+use std::io::Result;
+use std::time::Duration;
+
+/// How many calls a measure makes.
+pub const CALLS: u32 = 2000;
+
+/// How many calls a measure makes beside endless loops, where each may take a millisecond or more.
+const CALLS_BESIDE_LOOPS: u32 = 200;
+
+/// What one console finds in a run.
+struct Costs {
+    look_up: Duration,
+    register: Duration,
+    /// What a registration takes beyond a look-up of the same run: both go through the same socket and the same seat, so what is
+    /// left is what the nodes do.
+    beyond: Duration,
+    /// How many events a registration makes.
+    events: f64,
+}
+
+/// What one run of so many nodes costs.
+fn costs_of_run(program: &str, nodes: usize, calls: u32) -> Result<Costs> {
+    let served = Served::start(program, nodes, 1)?;
+    let mut console = Console::attach(&served, NODES[0])?;
+    let process = console.ask("spawn")?;
+    let look_up = of_each(calls, || console.expect("whereis x", "undefined"))?;
+    let register = of_each(calls, || {
+        console.expect(&format!("register x {process}"), "yes")?;
+        console.expect("unregister x", "ok")
+    })? / 2;
+    console.quit()?;
+    let events = events_of_each(served.finish()?, calls);
+    Ok(Costs { look_up, register, beyond: register.saturating_sub(look_up), events })
+}
+
+/// How many events a registration made, where a run had so many in all: each look-up is one, and the spawn is one.
+fn events_of_each(all: u64, calls: u32) -> f64 {
+    let before = 1 + made_by(calls);
+    let registrations = 2 * made_by(calls);
+    (all as f64 - f64::from(before)) / f64::from(registrations)
+}
+
+/// The median of each cost, on its own, of several runs.
+fn costs(program: &str, nodes: usize, calls: u32) -> Result<Costs> {
+    let runs = (0..RUNS).map(|_| costs_of_run(program, nodes, calls)).collect::<Result<Vec<Costs>>>()?;
+    Ok(Costs {
+        look_up: median(runs.iter().map(|run| run.look_up).collect()),
+        register: median(runs.iter().map(|run| run.register).collect()),
+        beyond: median(runs.iter().map(|run| run.beyond).collect()),
+        events: median(runs.iter().map(|run| run.events).collect()),
+    })
+}
+
+/// The table with the machine free, and how many events a registration makes.
+pub fn free(program: &str, trips: &Trips) -> Result<()> {
+    let mut events = Vec::new();
+    for nodes in [1, 2, 4, 8] {
+        let costs = costs(program, nodes, CALLS)?;
+        println!(
+            "nodes {nodes}: whereis {:8.1} us ({:.2} echoes)   register {:8.1} us ({:.2} echoes, {:.1} channel trips beyond a whereis)",
+            micros(costs.look_up),
+            trips.in_echoes(costs.look_up),
+            micros(costs.register),
+            trips.in_echoes(costs.register),
+            trips.in_channel_trips(costs.beyond),
+        );
+        events.push((nodes, costs.events));
+    }
+    for (nodes, events) in events {
+        println!("nodes {nodes}: {events:.1} events a registration");
+    }
+    Ok(())
+}
+
+/// The table while two endless loops take two cores. It is told in the channel trips of the free machine, so that it compares with
+/// the free table; what the bare pairs take beside the loops says how much of the difference isn't the nodes'.
+pub fn beside_loops(program: &str, trips: &Trips) -> Result<()> {
+    let _loops = Loops::start();
+    let slowed = Trips::measure(CALLS_BESIDE_LOOPS)?;
+    println!("beside two loops: echo over loopback        {:8.1} us", micros(slowed.echo));
+    println!("beside two loops: two threads over channels {:8.1} us", micros(slowed.channel));
+    for nodes in [2, 4, 8] {
+        let costs = costs(program, nodes, CALLS_BESIDE_LOOPS)?;
+        println!(
+            "beside two loops, nodes {nodes}: whereis {:8.1} us   register {:8.1} us ({:.1} channel trips beyond a whereis)",
+            micros(costs.look_up),
+            micros(costs.register),
+            trips.in_channel_trips(costs.beyond),
+        );
+    }
+    Ok(())
+}
