@@ -3,6 +3,7 @@ use std::fs;
 use std::io::{BufRead, BufReader, Error, ErrorKind, Read, Result, Write};
 use std::net::{TcpListener, TcpStream};
 use std::process::{Child, Command, Stdio};
+use std::thread;
 
 /// The names of nodes.
 pub const NODES: [&str; 8] = ["a", "b", "c", "d", "e", "f", "g", "h"];
@@ -61,6 +62,15 @@ impl Served {
     }
 }
 
+/// That a line had the answer that it is to have.
+fn check(line: &str, answer: &str, wanted: &str) -> Result<()> {
+    if answer == wanted {
+        Ok(())
+    } else {
+        Err(Error::new(ErrorKind::Other, format!("{line:?} was answered {answer:?}")))
+    }
+}
+
 /// A console of a cluster.
 pub struct Console {
     reader: BufReader<TcpStream>,
@@ -90,11 +100,23 @@ impl Console {
     /// Asks a line that is to have this answer.
     pub fn expect(&mut self, line: &str, wanted: &str) -> Result<()> {
         let answer = self.ask(line)?;
-        if answer == wanted {
-            Ok(())
-        } else {
-            Err(Error::new(ErrorKind::Other, format!("{line:?} was answered {answer:?}")))
+        check(line, &answer, wanted)
+    }
+
+    /// Sends all lines ahead of the first answer, each so many times and in turn, and reads the answers that they are to have.
+    pub fn expect_all(&mut self, lines: &[(String, &str)], times: u32) -> Result<()> {
+        let once: String = lines.iter().map(|(line, _)| format!("{line}\n")).collect();
+        let text = once.repeat(times as usize);
+        let mut writer = self.writer.try_clone()?;
+        // Answers are read meanwhile, since no socket has room for all that is sent.
+        let sender = thread::spawn(move || writer.write_all(text.as_bytes()));
+        let mut answer = String::new();
+        for (line, wanted) in (0..times).flat_map(|_| lines) {
+            answer.clear();
+            self.reader.read_line(&mut answer)?;
+            check(line, answer.trim_end(), wanted)?;
         }
+        sender.join().expect("the sender panicked")
     }
 
     /// Ends it.

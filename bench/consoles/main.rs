@@ -20,7 +20,7 @@ use std::time::{Duration, Instant};
 const RIVALRY: Duration = Duration::from_secs(5);
 
 /// The words for the parts, in the order in which they are measured.
-const PARTS: [&str; 6] = ["table", "loops", "rivals", "gone", "idle", "load"];
+const PARTS: [&str; 7] = ["table", "ahead", "loops", "rivals", "gone", "idle", "load"];
 
 /// What is to be measured.
 struct Wishes {
@@ -72,6 +72,7 @@ fn measure(part: &str, wishes: &Wishes, trips: &Trips) -> Result<()> {
     let program = &wishes.program;
     match part {
         "table" => table::free(program, trips),
+        "ahead" => table::ahead(program, trips),
         "loops" => table::beside_loops(program, trips),
         "rivals" => [2, 4, 8].into_iter().try_for_each(|count| rivals(program, count)),
         "gone" => [2, 4, 8].into_iter().try_for_each(|nodes| gone::exit_to_gone(program, nodes, trips)),

@@ -1,10 +1,10 @@
 //! What a look-up and a registration cost one console, by the number of nodes: with the machine free, and beside endless loops.
 use crate::cluster::{Console, Served, NODES};
-use crate::figures::{made_by, median, micros, of_each, RUNS};
+use crate::figures::{made_by, median, micros, of_each, warm_up_of, RUNS};
 use crate::loops::Loops;
 use crate::pairs::Trips;
 use std::io::Result;
-use std::time::Duration;
+use std::time::{Duration, Instant};
 
 /// How many calls a measure makes.
 pub const CALLS: u32 = 2000;
@@ -45,9 +45,31 @@ fn events_of_each(all: u64, calls: u32) -> f64 {
     (all as f64 - f64::from(before)) / f64::from(registrations)
 }
 
+/// What one run of so many nodes costs where the console sends its lines ahead: nothing waits for a socket between two calls, so
+/// this is what a program pays that calls a node from within.
+fn costs_of_run_ahead(program: &str, nodes: usize, calls: u32) -> Result<Costs> {
+    let served = Served::start(program, nodes, 1)?;
+    let mut console = Console::attach(&served, NODES[0])?;
+    let process = console.ask("spawn")?;
+    let look_up = of_all(&mut console, &[("whereis x".into(), "undefined")], calls)?;
+    let registrations = [(format!("register x {process}"), "yes"), ("unregister x".into(), "ok")];
+    let register = of_all(&mut console, &registrations, calls)? / 2;
+    console.quit()?;
+    let events = events_of_each(served.finish()?, calls);
+    Ok(Costs { look_up, register, beyond: register.saturating_sub(look_up), events })
+}
+
+/// The time of one of so many rounds of these lines, which are sent ahead.
+fn of_all(console: &mut Console, lines: &[(String, &str)], rounds: u32) -> Result<Duration> {
+    console.expect_all(lines, warm_up_of(rounds))?;
+    let start = Instant::now();
+    console.expect_all(lines, rounds)?;
+    Ok(start.elapsed() / rounds)
+}
+
 /// The median of each cost, on its own, of several runs.
-fn costs(program: &str, nodes: usize, calls: u32) -> Result<Costs> {
-    let runs = (0..RUNS).map(|_| costs_of_run(program, nodes, calls)).collect::<Result<Vec<Costs>>>()?;
+fn medians(run: impl Fn() -> Result<Costs>) -> Result<Costs> {
+    let runs = (0..RUNS).map(|_| run()).collect::<Result<Vec<Costs>>>()?;
     Ok(Costs {
         look_up: median(runs.iter().map(|run| run.look_up).collect()),
         register: median(runs.iter().map(|run| run.register).collect()),
@@ -56,19 +78,33 @@ fn costs(program: &str, nodes: usize, calls: u32) -> Result<Costs> {
     })
 }
 
+/// Tells what both cost, with `place` before it.
+fn tell(place: &str, costs: &Costs, trips: &Trips) {
+    println!(
+        "{place}: whereis {:8.1} us ({:.2} echoes)   register {:8.1} us ({:.2} echoes, {:.1} channel trips beyond a whereis)",
+        micros(costs.look_up),
+        trips.in_echoes(costs.look_up),
+        micros(costs.register),
+        trips.in_echoes(costs.register),
+        trips.in_channel_trips(costs.beyond),
+    );
+}
+
+/// The table with the machine free, where lines are sent ahead.
+pub fn ahead(program: &str, trips: &Trips) -> Result<()> {
+    for nodes in [1, 2, 4, 8] {
+        let costs = medians(|| costs_of_run_ahead(program, nodes, CALLS))?;
+        tell(&format!("sent ahead, nodes {nodes}"), &costs, trips);
+    }
+    Ok(())
+}
+
 /// The table with the machine free, and how many events a registration makes.
 pub fn free(program: &str, trips: &Trips) -> Result<()> {
     let mut events = Vec::new();
     for nodes in [1, 2, 4, 8] {
-        let costs = costs(program, nodes, CALLS)?;
-        println!(
-            "nodes {nodes}: whereis {:8.1} us ({:.2} echoes)   register {:8.1} us ({:.2} echoes, {:.1} channel trips beyond a whereis)",
-            micros(costs.look_up),
-            trips.in_echoes(costs.look_up),
-            micros(costs.register),
-            trips.in_echoes(costs.register),
-            trips.in_channel_trips(costs.beyond),
-        );
+        let costs = medians(|| costs_of_run(program, nodes, CALLS))?;
+        tell(&format!("nodes {nodes}"), &costs, trips);
         events.push((nodes, costs.events));
     }
     for (nodes, events) in events {
@@ -85,7 +121,7 @@ pub fn beside_loops(program: &str, trips: &Trips) -> Result<()> {
     println!("beside two loops: echo over loopback        {:8.1} us", micros(slowed.echo));
     println!("beside two loops: two threads over channels {:8.1} us", micros(slowed.channel));
     for nodes in [2, 4, 8] {
-        let costs = costs(program, nodes, CALLS_BESIDE_LOOPS)?;
+        let costs = medians(|| costs_of_run(program, nodes, CALLS_BESIDE_LOOPS))?;
         println!(
             "beside two loops, nodes {nodes}: whereis {:8.1} us   register {:8.1} us ({:.1} channel trips beyond a whereis)",
             micros(costs.look_up),

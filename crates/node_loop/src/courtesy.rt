@@ -5,7 +5,7 @@ ghost use Rattle.node_loop.specs.Held.{most_turns};
 use crate::ring::Ring;
 use node_core::Letter;
 use std::marker::Model;
-use term::{LockId, Resource};
+use term::{LockId, NodeName, NodeSet, Resource};
 
 /// For so many empty turns a refused round waits at most.
 const MOST_TURNS: u32 = 1_024;
@@ -41,6 +41,11 @@ impl Model for Courtesy {
 /// Whether a lock is the one that the nodes' registrars ask for.
 fn is_global(id: &LockId) -> bool {
     id.resource == Resource::global()
+}
+
+/// The place of a node. A stranger has none, and counts as one behind all others.
+fn place_in(world: &NodeSet, node: &NodeName) -> usize {
+    world.position(node).unwrap_or(world.len())
 }
 
 impl Courtesy {
@@ -148,16 +153,18 @@ impl Courtesy {
         self.wait(TURNS_FOR_ONE.saturating_mul(rivals));
     }
 
-    /// A letter is about to be read that came from the node at this place.
-    pub(crate) fn hear(&mut self, from: usize, letter: &Letter)
+    /// A letter is about to be read that came from this node of the world.
+    pub(crate) fn hear(&mut self, world: &NodeSet, from: &NodeName, letter: &Letter)
         ensures { self.new ≤ most_turns }
     {
         let turns = self.turns;
         match letter {
             Letter::LockAnswer(id, _, false) => self.hear_refusal(id),
-            Letter::SetLock(id, _) if is_global(id) => self.hear_asked(from),
-            Letter::GiveBack(id, ..) if is_global(id) => self.hear_given_back(from),
-            Letter::Down => self.hear_given_back(from),
+            Letter::SetLock(id, _) if is_global(id) => self.hear_asked(place_in(world, from)),
+            Letter::GiveBack(id, ..) if is_global(id) => {
+                self.hear_given_back(place_in(world, from));
+            }
+            Letter::Down => self.hear_given_back(place_in(world, from)),
             Letter::GiveBack(..) | Letter::ReleaseOf(_) => {
                 self.wait(turns.min(TURNS_FOR_ONE));
             }

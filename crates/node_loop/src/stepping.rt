@@ -199,10 +199,7 @@ impl<N: Names<Memory = Global>> NodeLoop<N> {
         ensures { Hears item.now self.old self.new }
     {
         if let Item::Letter(stamped) = item {
-            // A stranger has none, and counts as one behind all others.
-            let nodes = self.world.len();
-            let place = self.world.position(from).unwrap_or(nodes);
-            self.courtesy.hear(place, &stamped.letter);
+            self.courtesy.hear(&self.world, from, &stamped.letter);
         }
     }
 

@@ -14,8 +14,11 @@ const NAP: u64 = 50;
 /// A yield that takes longer, in microseconds, gave the core to somebody else than the threads of a cluster.
 const LONG_YIELD: u64 = 200;
 
-/// For so many sleeps a thread yields no more after a long yield.
-const WARY_SLEEPS: u32 = 8_192;
+/// For so many sleeps a thread yields no more after a long yield, if it had none lately.
+const FEWEST_WARY_SLEEPS: u32 = 16;
+
+/// For so many at most, where one long yield follows another.
+const MOST_WARY_SLEEPS: u32 = 8_192;
 
 /// Wakes one thread. Who sends to it has a bell of it.
 #[derive(Drop)]
@@ -33,6 +36,8 @@ pub(crate) struct Rest {
     quiet: u32,
     /// For how many sleeps it yields no more, since a yield took long.
     wary: u32,
+    /// For how many it won't after the next long yield.
+    caution: u32,
 }
 
 impl Bell {
@@ -55,6 +60,7 @@ impl Bell {
             yields,
             quiet: 0,
             wary: 0,
+            caution: FEWEST_WARY_SLEEPS,
         })
     }
 
@@ -72,6 +78,17 @@ impl Rest {
         self.quiet = 0;
     }
 
+    /// A yield took long: none is made for a while, and for four times as long after the next one.
+    fn grow_wary(&mut self) {
+        self.wary = self.caution;
+        self.caution = self.caution.saturating_mul(4).min(MOST_WARY_SLEEPS);
+    }
+
+    /// A yield took no time: what a long one taught is forgotten little by little.
+    fn calm_down(&mut self) {
+        self.caution = self.caution.saturating_sub(1).max(FEWEST_WARY_SLEEPS);
+    }
+
     /// Yields the core. Where others than the cluster's threads want the cores, a yield gives one away for milliseconds, while a
     /// thread that sleeps is woken at once: so a long one is the last for a while.
     fn pause<C: Clock>(&mut self, clock: &C) {
@@ -83,7 +100,9 @@ impl Rest {
         if let Ok(taken) = start.elapsed(clock)
             && taken > Duration::from_micros(LONG_YIELD)
         {
-            self.wary = WARY_SLEEPS;
+            self.grow_wary();
+        } else {
+            self.calm_down();
         }
     }
 

@@ -30,7 +30,8 @@ pub(crate) struct Door<R: Drop> {
     pub(crate) asker: Asker,
 }
 
-/// Serves the console at the other end of a connection.
+/// Serves the console at the other end of a connection. Each answer is sent at once, also where lines were sent ahead and the answer
+/// before isn't acknowledged yet; a connection that can't be told so is served all the same.
 fn attend_stream<H: Wait + Clock>(
     rt: &H,
     alloc: Global,
@@ -38,6 +39,7 @@ fn attend_stream<H: Wait + Clock>(
     nodes: &NodeSet,
     asker: Asker,
 ) -> Option<Served> {
+    let _ = stream.set_nodelay(true);
     let mut reader = BufReader::new(alloc, &stream).ok()?;
     attend(rt, alloc, &mut reader, &mut &stream, nodes, asker)
 }

@@ -17,6 +17,7 @@ mod crowds;
 mod gates;
 mod holders;
 mod leaves;
+mod rings;
 
 /// A cluster whose tables are lists.
 pub(crate) type Small<G> = Cluster<G, ListTable<Global>>;
