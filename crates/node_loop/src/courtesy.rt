@@ -15,16 +15,20 @@ const TURNS_FOR_ONE: u32 = 16;
 
 /// How long a refused round of the node gives way to those of others. It sees in the letters that are read when the global lock is
 /// granted here and when it is given back. While another holds it the round waits; when that gives it back, the rivals go on in the
-/// order of a ring that begins behind it. What is heard in no letter ends the wait too: each empty turn makes it shorter by one.
+/// order of a ring that begins behind it. A refused lock call of a client waits twice as long each time, until a lock of some client
+/// is heard to be given back. What is heard in no letter ends the wait too: each empty turn makes it shorter by one.
 /// Contracts see how many more it lasts.
 #[derive(Drop)]
 pub(crate) struct Courtesy {
     ring: Ring,
+    /// How many turns the wait lasts yet: that of a round for the global lock where one was refused, else that of clients.
     turns: u32,
     /// The place of the node that holds the lock here.
     holder: Option<usize>,
-    /// How many others gave the lock back since a round was refused; none where none was.
+    /// How many others gave the lock back since a round for it was refused; none where none was.
     waited: Option<usize>,
+    /// How many turns the next refused lock call of a client waits.
+    patience: u32,
 }
 
 impl Model for Courtesy {
@@ -58,6 +62,7 @@ impl Courtesy {
             turns: 0,
             holder: None,
             waited: None,
+            patience: TURNS_FOR_ONE,
         }
     }
 
@@ -72,7 +77,7 @@ impl Courtesy {
     pub(crate) fn pass_turn(&mut self)
         ensures { self.new ≡ self.old - 1 }
     {
-        if self.turns == 1 {
+        if self.turns == 1 && self.is_for_global() {
             // What ends the wait is no letter: nothing seen before counts any more.
             self.holder = None;
         }
@@ -86,10 +91,39 @@ impl Courtesy {
         self.turns = turns.min(MOST_TURNS);
     }
 
+    /// Whether a round for the global lock was refused, whose wait counts before that of clients.
+    fn is_for_global(&self) -> bool {
+        self.waited.is_some()
+    }
+
     /// Whether all have had the lock twice since a round was refused: it gives way to nobody any more.
     fn is_passed_over(&self) -> bool {
         let most = self.ring.len().saturating_mul(2);
         self.waited.is_some_and(|others| others >= most)
+    }
+
+    /// A lock call of a client is refused. Who holds the lock may do so for long: so it is tried again later each time.
+    fn hear_client_refused(&mut self)
+        ensures { self.new ≤ most_turns }
+    {
+        if self.is_for_global() {
+            return;
+        }
+        let turns = self.turns.max(self.patience);
+        self.patience = self.patience.saturating_mul(2).min(MOST_TURNS);
+        self.wait(turns);
+    }
+
+    /// Locks of clients may be free: calls that wait for one are tried soon.
+    fn hear_client_freed(&mut self)
+        ensures { self.new ≤ most_turns }
+    {
+        self.patience = TURNS_FOR_ONE;
+        if self.is_for_global() {
+            return;
+        }
+        let turns = self.turns;
+        self.wait(turns.min(TURNS_FOR_ONE));
     }
 
     /// A round of the node's own is refused.
@@ -97,8 +131,7 @@ impl Courtesy {
         ensures { self.new ≤ most_turns }
     {
         if !is_global(id) {
-            let turns = self.turns;
-            return self.wait(turns.max(TURNS_FOR_ONE));
+            return self.hear_client_refused();
         }
         self.waited = self.waited.or(Some(0));
         let turns = match self.holder {
@@ -116,7 +149,7 @@ impl Courtesy {
             return;
         }
         self.holder = Some(from);
-        if self.turns > 0 && from != self.ring.own() {
+        if self.turns > 0 && self.is_for_global() && from != self.ring.own() {
             self.wait(MOST_TURNS);
         }
     }
@@ -142,9 +175,10 @@ impl Courtesy {
         if from == self.ring.own() {
             return self.end_hold();
         }
-        if let Some(others) = self.waited {
-            self.waited = Some(others.saturating_add(1));
-        }
+        let Some(others) = self.waited else {
+            return;
+        };
+        self.waited = Some(others.saturating_add(1));
         let rivals = if self.is_passed_over() {
             0
         } else {
@@ -157,17 +191,18 @@ impl Courtesy {
     pub(crate) fn hear(&mut self, world: &NodeSet, from: &NodeName, letter: &Letter)
         ensures { self.new ≤ most_turns }
     {
-        let turns = self.turns;
         match letter {
             Letter::LockAnswer(id, _, false) => self.hear_refusal(id),
             Letter::SetLock(id, _) if is_global(id) => self.hear_asked(place_in(world, from)),
             Letter::GiveBack(id, ..) if is_global(id) => {
                 self.hear_given_back(place_in(world, from));
             }
-            Letter::Down => self.hear_given_back(place_in(world, from)),
-            Letter::GiveBack(..) | Letter::ReleaseOf(_) => {
-                self.wait(turns.min(TURNS_FOR_ONE));
+            Letter::Down => {
+                self.hear_given_back(place_in(world, from));
+                self.hear_client_freed();
             }
+            // One that asks for no acknowledgement only undoes what a refused call was granted.
+            Letter::GiveBack(_, _, true) | Letter::ReleaseOf(_) => self.hear_client_freed(),
             _ => {}
         }
     }

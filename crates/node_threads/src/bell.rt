@@ -11,6 +11,12 @@ const NET: u64 = 100_000;
 /// How long a thread sleeps, in microseconds, that is to try something again: nobody rings when an inbox gets room.
 const NAP: u64 = 50;
 
+/// How many such naps it takes, one after another, until they get longer.
+const NAPS: u32 = 128;
+
+/// How long it sleeps then, in microseconds: what it is to try may not be had for long, and what frees it mostly rings.
+const LONG_NAP: u64 = 1_000;
+
 /// A yield that takes longer, in microseconds, gave the core to somebody else than the threads of a cluster.
 const LONG_YIELD: u64 = 200;
 
@@ -32,7 +38,7 @@ pub(crate) struct Rest {
     parker: Arc<Parker, Global>,
     /// How many turns may find nothing, one after another, before the thread sleeps.
     yields: u32,
-    /// How many have, since the last one that found something.
+    /// How many have since the last one that found something.
     quiet: u32,
     /// For how many sleeps it yields no more, since a yield took long.
     wary: u32,
@@ -106,15 +112,24 @@ impl Rest {
         }
     }
 
+    /// How long a thread naps, in microseconds, that is to try something again.
+    fn nap(&self) -> u64 {
+        if self.quiet <= self.yields.saturating_add(NAPS) {
+            NAP
+        } else {
+            LONG_NAP
+        }
+    }
+
     /// Call it after a turn that found nothing, and then look at everything again, since it may return for no reason. `owes`
     /// says that something is to be tried again.
     pub(crate) fn rest<R: Wait + Clock>(&mut self, rt: &R, owes: bool) {
-        if self.quiet < self.yields && self.wary == 0 {
-            self.quiet += 1;
+        self.quiet = self.quiet.saturating_add(1);
+        if self.quiet <= self.yields && self.wary == 0 {
             return self.pause(rt);
         }
         self.wary = self.wary.saturating_sub(1);
-        let micros = if owes { NAP } else { NET };
+        let micros = if owes { self.nap() } else { NET };
         self.parker.park_timeout(rt, Duration::from_micros(micros));
     }
 }

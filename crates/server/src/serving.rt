@@ -24,9 +24,9 @@ use term::{NodeName, NodeSet};
 /// A cluster that is served: its tables hash, and no turn of its nodes is held back.
 type ServedCluster = Cluster<OpenGate, IndexTable<Global>>;
 
-/// How often a node's thread, or a seat, that finds nothing to do yields before it sleeps: some tens of microseconds, for which a
-/// node stays awake between the letters of a registration.
-const YIELDS: u32 = 200;
+/// How often a node's thread, or a seat, that finds nothing to do yields before it sleeps. That takes longer than a registration, so
+/// a node is awake when its next letter comes.
+const YIELDS: u32 = 500;
 
 /// The set of all these nodes, of which there are eight at most.
 fn set_of_all(cluster: &[NodeName], lone: &[NodeName]) -> NodeSet {

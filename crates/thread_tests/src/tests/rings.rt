@@ -10,11 +10,27 @@ use std::time::{Clock, Duration, Instant};
 use term::{parse_name, parse_node};
 
 /// How often a name is looked up.
-const LOOK_UPS: u64 = 400;
+const LOOK_UPS: u64 = 200;
 
-/// How many seconds that may take at most. A sleep that no ring ends lasts for a tenth of one, so where one side rings no bell this is
-/// a quarter of what they take.
-const MOST_SECONDS: u64 = 10;
+/// How many seconds that may take at most. A sleep that no ring ends lasts for a tenth of one, so where one side rings no bell it takes
+/// twenty.
+const MOST_SECONDS: u64 = 5;
+
+/// How long the caller lingers between two calls, in microseconds, so that the node falls asleep.
+const LINGER: u64 = 300;
+
+/// Lingers, and doesn't sleep.
+fn linger<R: Clock>(rt: &R) {
+    let Ok(start) = Instant::now(rt) else {
+        return;
+    };
+    for _ in 0..1_000_000u32 {
+        match start.elapsed(rt) {
+            Ok(taken) if taken < Duration::from_micros(LINGER) => {}
+            _ => return,
+        }
+    }
+}
 
 /// Looks a name up that nobody has, again and again. The node sleeps before each call, and the seat before each reply.
 fn look_ups<R: Wait + Clock>(
@@ -25,6 +41,7 @@ fn look_ups<R: Wait + Clock>(
     let mut seat = cluster.seat(&parse_node("a")?)?;
     let name = parse_name("x")?;
     for _ in 0..LOOK_UPS {
+        linger(rt);
         let found = seat.whereis(rt, &name)?;
         expect(found.is_none(), "an owner of no name")?;
     }
