@@ -88,13 +88,28 @@ impl Console {
         Ok(console)
     }
 
-    /// The answer of a line.
-    pub fn ask(&mut self, line: &str) -> Result<String> {
-        self.writer.write_all(format!("{line}\n").as_bytes())?;
+    /// Sends a line, whose answer is read later.
+    pub fn send(&mut self, line: &str) -> Result<()> {
+        self.writer.write_all(format!("{line}\n").as_bytes())
+    }
+
+    /// The next answer.
+    fn answer(&mut self) -> Result<String> {
         let mut answer = String::new();
         self.reader.read_line(&mut answer)?;
         answer.truncate(answer.trim_end().len());
         Ok(answer)
+    }
+
+    /// The answer of a line.
+    pub fn ask(&mut self, line: &str) -> Result<String> {
+        self.send(line)?;
+        self.answer()
+    }
+
+    /// Reads an answer that is to be this one.
+    pub fn hear(&mut self, wanted: &str) -> Result<()> {
+        check("a line that was sent before", &self.answer()?, wanted)
     }
 
     /// Asks a line that is to have this answer.

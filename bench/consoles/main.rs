@@ -7,6 +7,7 @@ mod gone;
 mod load;
 mod loops;
 mod pairs;
+mod standby;
 mod table;
 
 use cluster::{Console, Served, NODES};
@@ -20,7 +21,7 @@ use std::time::{Duration, Instant};
 const RIVALRY: Duration = Duration::from_secs(5);
 
 /// The words for the parts, in the order in which they are measured.
-const PARTS: [&str; 7] = ["table", "ahead", "loops", "rivals", "gone", "idle", "load"];
+const PARTS: [&str; 8] = ["table", "ahead", "loops", "rivals", "gone", "standby", "idle", "load"];
 
 /// What is to be measured.
 struct Wishes {
@@ -76,6 +77,7 @@ fn measure(part: &str, wishes: &Wishes, trips: &Trips) -> Result<()> {
         "loops" => table::beside_loops(program, trips),
         "rivals" => [2, 4, 8].into_iter().try_for_each(|count| rivals(program, count)),
         "gone" => [2, 4, 8].into_iter().try_for_each(|nodes| gone::exit_to_gone(program, nodes, trips)),
+        "standby" => [2, 8].into_iter().try_for_each(|nodes| standby::wait_and_take_over(program, nodes)),
         "idle" => idle(program),
         _ if wishes.seconds == 0 => Ok(()),
         _ => load::eight_consoles(program, Duration::from_secs(wishes.seconds)),
