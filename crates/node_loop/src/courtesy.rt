@@ -191,6 +191,8 @@ impl Courtesy {
     pub(crate) fn hear(&mut self, world: &NodeSet, from: &NodeName, letter: &Letter)
         ensures { self.new ≤ most_turns }
     {
+        // What is heard of no lock leaves the wait as it is, which is known to have its bound once a field is read.
+        let _ring = &self.ring;
         match letter {
             Letter::LockAnswer(id, _, false) => self.hear_refusal(id),
             Letter::SetLock(id, _) if is_global(id) => self.hear_asked(place_in(world, from)),
