@@ -77,7 +77,10 @@ fn measure(part: &str, wishes: &Wishes, trips: &Trips) -> Result<()> {
         "loops" => table::beside_loops(program, trips),
         "rivals" => [2, 4, 8].into_iter().try_for_each(|count| rivals(program, count)),
         "gone" => [2, 4, 8].into_iter().try_for_each(|nodes| gone::exit_to_gone(program, nodes, trips)),
-        "standby" => [2, 8].into_iter().try_for_each(|nodes| standby::wait_and_take_over(program, nodes)),
+        "standby" => {
+            [2, 8].into_iter().try_for_each(|nodes| standby::wait_and_take_over(program, nodes))?;
+            standby::wait_behind_rivals(program)
+        }
         "idle" => idle(program),
         _ if wishes.seconds == 0 => Ok(()),
         _ => load::eight_consoles(program, Duration::from_secs(wishes.seconds)),

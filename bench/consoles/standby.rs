@@ -1,6 +1,7 @@
 //! What a standby costs that waits for the lock of its leader, and how soon it has it.
 use crate::cluster::{Console, Served, NODES};
 use crate::figures::{median, micros};
+use crate::{registrations, RIVALRY};
 use std::io::Result;
 use std::thread;
 use std::time::{Duration, Instant};
@@ -69,6 +70,34 @@ pub fn wait_and_take_over(program: &str, nodes: usize) -> Result<()> {
         "nodes {nodes}: a standby that waits {:.1} % of one core, has the lock {:.1} us after it is given back; {events} events in all",
         taken / WAIT.as_secs_f64() * 100.0,
         micros(median(changes)),
+    );
+    Ok(())
+}
+
+/// A leader at the first node and a standby at the second, while both nodes register names, and behind that: the part of a core that they
+/// take once nobody registers any more and the standby still waits.
+pub fn wait_behind_rivals(program: &str) -> Result<()> {
+    let served = Served::start(program, 2, 4)?;
+    let mut leader = Caller::attach(&served, NODES[0])?;
+    let mut standby = Caller::attach(&served, NODES[1])?;
+    leader.ask_to_lead()?;
+    leader.hear()?;
+    standby.ask_to_lead()?;
+    let made: u64 = registrations(&served, 2)?.iter().sum();
+    thread::sleep(SHORT_WAIT);
+    let before = served.cpu_seconds()?;
+    thread::sleep(WAIT);
+    let taken = served.cpu_seconds()? - before;
+    leader.ask_to_step_down()?;
+    leader.hear()?;
+    standby.hear()?;
+    leader.console.quit()?;
+    standby.console.quit()?;
+    served.finish()?;
+    println!(
+        "nodes 2: a standby that waits beside {:.0} registrations a second, and behind them {:.1} % of one core",
+        made as f64 / RIVALRY.as_secs_f64(),
+        taken / WAIT.as_secs_f64() * 100.0,
     );
     Ok(())
 }

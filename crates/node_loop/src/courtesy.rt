@@ -21,11 +21,13 @@ const TURNS_FOR_ONE: u32 = 16;
 #[derive(Drop)]
 pub(crate) struct Courtesy {
     ring: Ring,
-    /// How many turns the wait lasts yet: that of a round for the global lock where one was refused, else that of clients.
+    /// How many turns the wait lasts yet: that of a refused round for the global lock where there is one, else that of clients.
     turns: u32,
+    /// Whether a round for the global lock was refused and hasn't been tried again yet.
+    is_refused: bool,
     /// The place of the node that holds the lock here.
     holder: Option<usize>,
-    /// How many others gave the lock back since a round for it was refused; none where none was.
+    /// How many others gave the lock back since a round of the operation that wants it was refused first; none where none was.
     waited: Option<usize>,
     /// How many turns the next refused lock call of a client waits.
     patience: u32,
@@ -60,6 +62,7 @@ impl Courtesy {
         Courtesy {
             ring,
             turns: 0,
+            is_refused: false,
             holder: None,
             waited: None,
             patience: TURNS_FOR_ONE,
@@ -73,11 +76,14 @@ impl Courtesy {
         self.turns == 0
     }
 
-    /// A turn finds no item.
+    /// A turn finds no item. Where no wait was left before it, a refused round is tried again in it.
     pub(crate) fn pass_turn(&mut self)
         ensures { self.new ≡ self.old - 1 }
     {
-        if self.turns == 1 && self.is_for_global() {
+        if self.turns == 0 {
+            self.is_refused = false;
+        }
+        if self.turns == 1 && self.is_refused {
             // What ends the wait is no letter: nothing seen before counts any more.
             self.holder = None;
         }
@@ -91,22 +97,18 @@ impl Courtesy {
         self.turns = turns.min(MOST_TURNS);
     }
 
-    /// Whether a round for the global lock was refused, whose wait counts before that of clients.
-    fn is_for_global(&self) -> bool {
-        self.waited.is_some()
-    }
-
     /// Whether all have had the lock twice since a round was refused: it gives way to nobody any more.
     fn is_passed_over(&self) -> bool {
         let most = self.ring.len().saturating_mul(2);
         self.waited.is_some_and(|others| others >= most)
     }
 
-    /// A lock call of a client is refused. Who holds the lock may do so for long: so it is tried again later each time.
+    /// A lock call of a client is refused. Who holds the lock may do so for long: so it is tried again later each time. Where a
+    /// round for the global lock waits, too, both are tried again when that wait is over.
     fn hear_client_refused(&mut self)
         ensures { self.new ≤ most_turns }
     {
-        if self.is_for_global() {
+        if self.is_refused {
             return;
         }
         let turns = self.turns.max(self.patience);
@@ -119,7 +121,7 @@ impl Courtesy {
         ensures { self.new ≤ most_turns }
     {
         self.patience = TURNS_FOR_ONE;
-        if self.is_for_global() {
+        if self.is_refused {
             return;
         }
         let turns = self.turns;
@@ -133,6 +135,7 @@ impl Courtesy {
         if !is_global(id) {
             return self.hear_client_refused();
         }
+        self.is_refused = true;
         self.waited = self.waited.or(Some(0));
         let turns = match self.holder {
             Some(_) => MOST_TURNS,
@@ -149,16 +152,16 @@ impl Courtesy {
             return;
         }
         self.holder = Some(from);
-        if self.turns > 0 && self.is_for_global() && from != self.ring.own() {
+        if self.turns > 0 && self.is_refused && from != self.ring.own() {
             self.wait(MOST_TURNS);
         }
     }
 
-    /// The node itself gives the lock back. Where a round of it was refused, it only had some grants.
+    /// The node itself gives the lock back: its operation is done, unless a round was refused, which only had some grants.
     fn end_hold(&mut self)
         ensures { self.new ≤ most_turns }
     {
-        if self.turns == 0 {
+        if !self.is_refused {
             self.waited = None;
         }
     }
@@ -175,10 +178,12 @@ impl Courtesy {
         if from == self.ring.own() {
             return self.end_hold();
         }
-        let Some(others) = self.waited else {
+        if let Some(others) = self.waited {
+            self.waited = Some(others.saturating_add(1));
+        }
+        if !self.is_refused {
             return;
-        };
-        self.waited = Some(others.saturating_add(1));
+        }
         let rivals = if self.is_passed_over() {
             0
         } else {
