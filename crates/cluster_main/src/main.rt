@@ -18,6 +18,10 @@ use std::thread::Threads;
 use std::time::Clock;
 use words::read_words;
 
+/// How many bytes are read or written at once. By the default, which is an eighth of it, a script of short lines spends a good part of
+/// its time in system calls.
+const BUFFER_SIZE: usize = 64 * 1024;
+
 /// Reads the arguments and does what they ask for, and gives the status.
 fn run<H, E>(rt: &H, errors: &mut E) -> io::Result<u8>
 where
@@ -26,8 +30,8 @@ where
     E: Write,
 {
     let words = read_words(rt.alloc(), rt)?;
-    let mut reader = BufReader::new(rt.alloc(), rt.reader())?;
-    let mut writer = BufWriter::new(rt.alloc(), io::writer(rt))?;
+    let mut reader = BufReader::with_capacity(rt.alloc(), BUFFER_SIZE, rt.reader())?;
+    let mut writer = BufWriter::with_capacity(rt.alloc(), BUFFER_SIZE, io::writer(rt))?;
     Ok(answer(
         rt,
         rt.alloc(),
