@@ -18,8 +18,7 @@ use std::thread::Threads;
 use std::time::Clock;
 use words::read_words;
 
-/// How many bytes are read or written at once. By the default, which is an eighth of it, a script of short lines spends a good part of
-/// its time in system calls.
+/// How many bytes are read or written at once: eight times the default, so that a long script makes an eighth of the system calls.
 const BUFFER_SIZE: usize = 64 * 1024;
 
 /// Reads the arguments and does what they ask for, and gives the status.
