@@ -1,7 +1,7 @@
 -- What it comes to that the program plays a line, or reads on to the next one.
-use Rattle.std.specs.Prelude.{ℕ, Bool, ◌≡◌, ◌+◌, List, [], ◌∷◌, ◌++◌, Option, Some, None, is_some, map, MatchResult, Result, Ok, Err, if◌then◌else◌}
+use Rattle.std.specs.Prelude.{ℕ, Bool, ◌≡◌, ◌⊎◌, ◌+◌, List, [], ◌∷◌, ◌++◌, Option, Some, None, is_some, map, MatchResult, Result, Ok, Err, if◌then◌else◌}
 use Rattle.std.specs.List.{list_all}
-use Rattle.std.specs.Io.KnownBytes.{Appends}
+use Rattle.std.specs.Io.KnownBytes.{Appends, Keeps}
 use Rattle.registry_model.specs.Process.{nodes_of}
 use Rattle.protocol_model.specs.Event.{Refusal, NoSuchNode, NodeLeft}
 use Rattle.protocol_model.specs.Script.{Line as ScriptLine, Output, Settled, SettleLimit, TableIs, MembersAre, okay, shown_at}
@@ -14,8 +14,10 @@ use Rattle.command_lines.specs.declared.faults.LineFault.{LineFault}
 use Rattle.text_lines.specs.declared.faults.ScriptFault.{ScriptFault}
 use Rattle.text_lines.specs.declared.faults.ScriptFault.TheVariants.{Read, TooManyLines}
 use Rattle.text_lines.specs.declared.faults.WriteFault.{WriteFault}
+use Rattle.text_lines.specs.declared.faults.WriteFault.TheVariants.{Memory}
 use Rattle.text_lines.specs.declared.lines.Line.{Line}
 use Rattle.text_lines.specs.Lines.{spoken, count_of_all, IsKept, LosesLines, LosesInto, HasNoLine, IsWithinLine, MayEndIn, GoesPastFor}
+use Rattle.command_lines.specs.Commands.{LineAsks}
 use Rattle.command_lines.specs.Printing.{Shows, answers_text, shown_text, is_fine, is_fine_output, output_line, error_line, refusal_word}
 use Rattle.text_lines.specs.Writing.{AppendsPart}
 use Rattle.cluster_script.specs.Script.{settle_limit, behind, behind_all, shown, shown_all, AllAsk}
@@ -35,6 +37,12 @@ pub record PlaysLine (old new : Held) (asked : Result ScriptLine LineFault) (bef
 abbrev pub PlaysOrStops : Held → Held → Result ScriptLine LineFault → Option (List ℕ) → Option (List ℕ) → Result Bool WriteFault → Type 0
 PlaysOrStops old new asked before after (Ok fine) = PlaysLine old new asked before after fine
 PlaysOrStops old new asked before after (Err f) = AppendsPart before after (shown_on old asked)
+
+-- a line was read, and played or stopped at; or memory was refused before it was read, and nothing was written
+abbrev pub PlaysRead : List ℕ → Held → Held → Option (List ℕ) → Option (List ℕ) → Result Bool WriteFault → Type 0
+PlaysRead line old new before after r =
+    ((asked : Result ScriptLine LineFault) × LineAsks line asked × PlaysOrStops old new asked before after r)
+    ⊎ ((r ≡ Err Memory) × Keeps before after)
 
 -- what an accepted event prints before its answers
 abbrev pub okay_text : Opening → WorldEvent → List ℕ

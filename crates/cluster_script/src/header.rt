@@ -4,13 +4,14 @@ ghost use Rattle.std.specs.Io.KnownBytes.{Keeps};
 ghost use Rattle.std.specs.Io.Buffered.{reader_remaining};
 ghost use Rattle.text_lines.specs.Lines.{IsKept, most_lines};
 ghost use Rattle.text_lines.specs.Words.{words};
+ghost use Rattle.command_lines.specs.Commands.{LineAsks, asked_by};
 ghost use Rattle.cluster_script.specs.Script.{made_of, texts_behind, lone_line, ReadsTexts};
 ghost use Rattle.cluster_script.specs.Headers.{ReadsHeader, Starts, StartsCluster, OpensCluster, OpensLone, ReadsLone, ReadsHeaders, StopsOpening};
 ghost use Rattle.cluster_script.specs.Played.{StopsReading};
 
 use crate::reading::next_line;
 use cluster_world::{StartFault, World};
-use command_lines::{LineFault, Task, read_task, text_of};
+use command_lines::{LineFault, Task, ran_out, read_task, text_of};
 use name_table::IndexTable;
 use std::alloc::{AllocError, Global};
 use std::io::{BufReader, Read, Write};
@@ -122,6 +123,17 @@ fn read_lone(
     }
 }
 
+/// What the line behind the `cluster` line asks for, where it is no `lone` line.
+fn read_first(alloc: Global, line: &Line) -> Result<Result<Task, LineFault>, AllocError>
+    ensures { IfOk result (λ task. (bytes : List ℕ) → IsKept bytes line.now → LineAsks bytes (asked_by task)) }
+{
+    let task = read_task(alloc, line);
+    if ran_out(&task) {
+        return Err(AllocError);
+    }
+    Ok(task)
+}
+
 /// What the line behind the `cluster` line makes of its cluster.
 fn open_lone(alloc: Global, cluster: Cluster, line: &Line) -> Result<Headers, AllocError>
     requires { Starts cluster.nodes.items [] (Ok cluster.world) }
@@ -134,7 +146,7 @@ fn open_lone(alloc: Global, cluster: Cluster, line: &Line) -> Result<Headers, Al
             Err(fault) => Ok(Headers::Refused(fault)),
         },
         Some(Err(fault)) => Ok(Headers::Refused(LineFault::Text(fault))),
-        None => Ok(Headers::Open(world, Some(read_task(alloc, line)?))),
+        None => Ok(Headers::Open(world, Some(read_first(alloc, line)?))),
     }
 }
 

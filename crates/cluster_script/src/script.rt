@@ -6,23 +6,23 @@ ghost use Rattle.protocol_model.specs.Script as script;
 ghost use Rattle.protocol_model.specs.World.{WorldEvent as AnyEvent};
 ghost use Rattle.node_events.specs.Seen.{answer_of as any_answer};
 ghost use Rattle.cluster_world.specs.Events.{event_of as any_event};
-ghost use Rattle.command_lines.specs.Commands.{asked_by};
-ghost use Rattle.text_lines.specs.Lines.{most_lines};
+ghost use Rattle.command_lines.specs.Commands.{asked_by, line_in};
+ghost use Rattle.text_lines.specs.Lines.{IsKept, most_lines};
 ghost use Rattle.command_lines.specs.Printing as print;
 ghost use Rattle.text_lines.specs.Writing.{Writes};
 ghost use Rattle.cluster_script.specs.Script.{Ran, Stopped};
-ghost use Rattle.cluster_script.specs.Played.{PlaysOrStops, PlaysAll, Delivers, WritesOkay, settle_end};
+ghost use Rattle.cluster_script.specs.Played.{PlaysOrStops, PlaysRead, PlaysAll, Delivers, WritesOkay, settle_end};
 ghost use Rattle.cluster_script.specs.Headers.{asked_first};
 
 use crate::header::{Headers, ScriptWorld, read_headers};
 use crate::looking::{show_members, show_table};
 use crate::reading::next_line;
 use cluster_world::{Answer, Event, WorldEvent};
-use command_lines::{LineFault, Task, answer_line, read_task, refusal_line};
+use command_lines::{LineFault, Task, answer_line, ran_out, read_task, refusal_line};
 use std::alloc::Global;
 use std::io::{BufReader, Read, Write};
 use term::NodeName;
-use text_lines::{ScriptFault, WriteFault, write_text};
+use text_lines::{Line, ScriptFault, WriteFault, write_text};
 
 /// The most deliveries of one `settle`.
 const SETTLE_LIMIT: u32 = 100_000;
@@ -126,25 +126,56 @@ fn settle<W: Write>(
     end_settle(alloc, writer, world.waiting().is_none())
 }
 
+/// Plays a task, and writes what it prints: whether no refusal is printed.
+fn play_asked<W: Write>(
+    alloc: Global,
+    writer: &mut W,
+    world: &mut ScriptWorld,
+    task: &Task,
+) -> Result<bool, WriteFault>
+    ensures { PlaysOrStops world.old world.new (Ok (line_in task.now)) (W.contents writer.old) (W.contents writer.new) result }
+{
+    match task {
+        Task::Play(event) => play_event(alloc, writer, world, event),
+        Task::Settle => settle(alloc, writer, world),
+        Task::Table(node) => show_table(alloc, writer, world, node),
+        Task::Members(node) => show_members(alloc, writer, world, node),
+    }
+}
+
 /// Plays what a line asks for, and writes what it prints: whether no refusal is printed.
 fn play_task<W: Write>(
     alloc: Global,
     writer: &mut W,
     world: &mut ScriptWorld,
-    task: Result<Task, LineFault>,
+    task: &Result<Task, LineFault>,
 ) -> Result<bool, WriteFault>
-    ensures { PlaysOrStops world.old world.new (asked_by task) (W.contents writer.old) (W.contents writer.new) result }
+    ensures { PlaysOrStops world.old world.new (asked_by task.now) (W.contents writer.old) (W.contents writer.new) result }
 {
     match task {
-        Ok(Task::Play(event)) => play_event(alloc, writer, world, &event),
-        Ok(Task::Settle) => settle(alloc, writer, world),
-        Ok(Task::Table(node)) => show_table(alloc, writer, world, &node),
-        Ok(Task::Members(node)) => show_members(alloc, writer, world, &node),
+        Ok(task) => play_asked(alloc, writer, world, task),
         Err(fault) => {
             write_text(writer, fault.line().as_bytes())?;
             Ok(false)
         }
     }
+}
+
+/// Reads what a line asks for, plays it and writes what it prints: whether no refusal is printed.
+fn play_line<W: Write>(
+    alloc: Global,
+    writer: &mut W,
+    world: &mut ScriptWorld,
+    line: &Line,
+) -> Result<bool, WriteFault>
+    ensures { (bytes : List ℕ) → IsKept bytes line.now
+        → PlaysRead bytes world.old world.new (W.contents writer.old) (W.contents writer.new) result }
+{
+    let task = read_task(alloc, line);
+    if ran_out(&task) {
+        return Err(WriteFault::Memory);
+    }
+    play_task(alloc, writer, world, &task)
 }
 
 /// Whether both hold.
@@ -169,8 +200,7 @@ fn play_lines<R: Read, W: Write>(
     let mut is_fine = true;
     let mut room = Vec::new(alloc);
     while let Some(line) = next_line(alloc, room, reader, writer, left)? {
-        let task = read_task(alloc, &line)?;
-        let fine = play_task(alloc, writer, world, task)?;
+        let fine = play_line(alloc, writer, world, &line)?;
         is_fine = both(is_fine, fine);
         room = line.into_room(alloc);
     }
@@ -193,7 +223,7 @@ fn play_all<R: Read, W: Write>(
     let Some(task) = first else {
         return play_lines(alloc, reader, writer, world, left);
     };
-    let is_fine = play_task(alloc, writer, world, task)?;
+    let is_fine = play_task(alloc, writer, world, &task)?;
     let others = play_lines(alloc, reader, writer, world, left)?;
     Ok(both(is_fine, others))
 }

@@ -11,7 +11,7 @@ use Rattle.cluster_world.specs.declared.events.StartFault.TheVariants as start
 use Rattle.cluster_world.specs.declared.events.Refusal.{Refusal as WorldRefusal}
 use Rattle.cluster_world.specs.Refusals.{refusal_of, is_memory}
 use Rattle.command_lines.specs.declared.faults.LineFault.{LineFault}
-use Rattle.command_lines.specs.declared.faults.LineFault.TheVariants.{BadLine, LineTooLong, NotAscii, Text, Start}
+use Rattle.command_lines.specs.declared.faults.LineFault.TheVariants.{BadLine, LineTooLong, NotAscii, Text, Start, Memory}
 
 -- the word for which a line is refused before it is played
 abbrev pub word_of : LineFault → List ℕ
@@ -27,6 +27,7 @@ word_of (Start start.NoNode) = codes "no_node"
 word_of (Start start.SameNode) = codes "same_node"
 word_of (Start start.TooManyNodes) = codes "too_many_nodes"
 word_of (Start start.Memory) = codes "memory"
+word_of Memory = codes "memory"
 
 -- the word for which the world or a node refuses an event
 abbrev pub refusal_word : Refusal → List ℕ

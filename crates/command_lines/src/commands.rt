@@ -1,11 +1,12 @@
 //! What a line asks for.
-ghost use Rattle.std.specs.Prelude.{◌≡◌, IfOk, MatchResult, MatchOption, true, false, List, ℕ, Some, None};
+ghost use Rattle.std.specs.Prelude.{◌≡◌, ◌≢◌, MatchBool, MatchResult, MatchOption, true, false, List, ℕ, Some, None, Err};
 ghost use Rattle.text_lines.specs.Lines.{IsKept};
+ghost use Rattle.command_lines.specs.declared.faults.LineFault.TheVariants.{Memory};
 ghost use Rattle.command_lines.specs.Commands.{LineAsks, asked_by, unread, is_ascii};
 
 use crate::faults::LineFault;
 use crate::grammar::{Task, read_words};
-use std::alloc::{AllocError, Global};
+use std::alloc::Global;
 use std::str;
 use text_lines::{Line, first_words};
 
@@ -41,12 +42,20 @@ pub fn text_of(line: &Line) -> Result<&str, LineFault>
 }
 
 /// What a line asks for, or why it is refused. No line of the grammar has seven words, so a longer one reads as its first seven.
+/// Only a lock call that names nodes takes memory; where that is refused the fault is `Memory`, and nothing is said of the line.
 #[tactic(auto, using(crate::proofs::Words::first_words_ask))]
-pub fn read_task(alloc: Global, line: &Line) -> Result<Result<Task, LineFault>, AllocError>
-    ensures { IfOk result (λ task. (bytes : List ℕ) → IsKept bytes line.now → LineAsks bytes (asked_by task)) }
+pub fn read_task(alloc: Global, line: &Line) -> Result<Task, LineFault>
+    ensures { result ≢ Err Memory → (bytes : List ℕ) → IsKept bytes line.now → LineAsks bytes (asked_by result) }
 {
-    match text_of(line) {
-        Ok(text) => read_words(alloc, &first_words(text)),
-        Err(fault) => Ok(Err(fault)),
+    read_words(alloc, &first_words(text_of(line)?))
+}
+
+/// Whether a line couldn't be read for want of memory.
+pub fn ran_out(task: &Result<Task, LineFault>) -> bool
+    ensures { MatchBool result (task.now ≡ Err Memory) (task.now ≢ Err Memory) }
+{
+    match task {
+        Ok(_) => false,
+        Err(fault) => matches!(fault, LineFault::Memory),
     }
 }

@@ -1,9 +1,10 @@
 //! Why a line is refused before it is played.
 ghost use Rattle.std.specs.Prelude.{◌≡◌};
 ghost use Rattle.command_lines.specs.Printing.{word_of, error_line};
-ghost use Rattle.command_lines.specs.declared.faults.LineFault.TheVariants.{Text};
+ghost use Rattle.command_lines.specs.declared.faults.LineFault.TheVariants.{Text, Memory};
 
 use cluster_world::StartFault;
+use std::alloc::AllocError;
 use term::TextFault;
 
 /// Why a line is refused before it is played.
@@ -19,6 +20,16 @@ pub enum LineFault {
     Text(TextFault),
     /// There can't be a world of these nodes. Want of memory is no such cause: it ends the script.
     Start(StartFault),
+    /// Memory was refused while it was read, which ends the script or console.
+    Memory,
+}
+
+impl From<AllocError> for LineFault {
+    ghost from_gives = { λ _ e. e ≡ Memory };
+
+    fn from(_: AllocError) -> Self {
+        LineFault::Memory
+    }
 }
 
 impl From<TextFault> for LineFault {
@@ -46,7 +57,7 @@ impl LineFault {
             LineFault::Start(StartFault::NoNode) => "error no_node\n",
             LineFault::Start(StartFault::SameNode) => "error same_node\n",
             LineFault::Start(StartFault::TooManyNodes) => "error too_many_nodes\n",
-            LineFault::Start(StartFault::Memory) => "error memory\n",
+            LineFault::Start(StartFault::Memory) | LineFault::Memory => "error memory\n",
         }
     }
 }

@@ -1,10 +1,11 @@
 //! The lines that are read: an arm for each. They stand by the number of their texts.
-ghost use Rattle.std.specs.Prelude.{◌≡◌, map, ◌∷◌, [], MatchResult, IfOk};
+ghost use Rattle.std.specs.Prelude.{◌≡◌, ◌≢◌, map, ◌∷◌, [], Err, MatchResult, IfOk};
 ghost use Rattle.protocol_model.specs.Event.{Exiting, SetLock, DelLock};
 ghost use Rattle.term.specs.Spelling.{SpellsText, SpellsPid};
 ghost use Rattle.transaction.specs.Calls.{target_of, retries_of};
 ghost use Rattle.node_events.specs.Seen.{call_of};
 ghost use Rattle.command_lines.specs.Commands.{asked_by, line_in};
+ghost use Rattle.command_lines.specs.declared.faults.LineFault.TheVariants.{Memory};
 ghost use Rattle.command_lines.specs.LockTexts.{SpellsTarget, NamesSome, target_in};
 ghost use Rattle.command_lines.specs.Grammar.{WordsAsk, FirstRefused, at_node, call_at, Node as ANode, Name as AName, Pid as APid, Resource as AResource, Requester as ARequester, Nodes as SomeNodes};
 
@@ -182,15 +183,15 @@ fn with_four(
     resource: &str,
     requester: &str,
     nodes: &str,
-) -> Result<Result<Task, LineFault>, AllocError>
-    ensures { IfOk result (λ task. WordsAsk (word.now ∷ holder.now ∷ resource.now ∷ requester.now ∷ nodes.now ∷ []) (asked_by task)) }
+) -> Result<Task, LineFault>
+    ensures { result ≢ Err Memory → WordsAsk (word.now ∷ holder.now ∷ resource.now ∷ requester.now ∷ nodes.now ∷ []) (asked_by result) }
 {
     match word {
-        "del_lock" => match holder_id_and_nodes(holder, resource, requester, nodes) {
-            Ok((holder, id, named)) => Ok(Ok(del_lock(alloc, holder, id, named)?)),
-            Err(fault) => Ok(Err(LineFault::Text(fault))),
-        },
-        _ => Ok(Err(LineFault::BadLine)),
+        "del_lock" => {
+            let (holder, id, named) = holder_id_and_nodes(holder, resource, requester, nodes)?;
+            Ok(del_lock(alloc, holder, id, named)?)
+        }
+        _ => Err(LineFault::BadLine),
     }
 }
 
@@ -203,41 +204,37 @@ fn with_five(
     requester: &str,
     nodes: &str,
     retries: &str,
-) -> Result<Result<Task, LineFault>, AllocError>
-    ensures { IfOk result (λ task. WordsAsk (word.now ∷ holder.now ∷ resource.now ∷ requester.now ∷ nodes.now ∷ retries.now ∷ []) (asked_by task)) }
+) -> Result<Task, LineFault>
+    ensures { result ≢ Err Memory
+        → WordsAsk (word.now ∷ holder.now ∷ resource.now ∷ requester.now ∷ nodes.now ∷ retries.now ∷ []) (asked_by result) }
 {
     match word {
         "set_lock" => {
             let Some(retries) = parse_retries(retries) else {
-                return Ok(Err(LineFault::BadLine));
+                return Err(LineFault::BadLine);
             };
-            match holder_id_and_nodes(holder, resource, requester, nodes) {
-                Ok((holder, id, named)) => Ok(Ok(set_lock(alloc, holder, id, named, retries)?)),
-                Err(fault) => Ok(Err(LineFault::Text(fault))),
-            }
+            let (holder, id, named) = holder_id_and_nodes(holder, resource, requester, nodes)?;
+            Ok(set_lock(alloc, holder, id, named, retries)?)
         }
-        _ => Ok(Err(LineFault::BadLine)),
+        _ => Err(LineFault::BadLine),
     }
 }
 
 /// What words ask for.
-pub(crate) fn read_words(
-    alloc: Global,
-    words: &[&str],
-) -> Result<Result<Task, LineFault>, AllocError>
-    ensures { IfOk result (λ task. WordsAsk (map (λ word. word.now) words.now) (asked_by task)) }
+pub(crate) fn read_words(alloc: Global, words: &[&str]) -> Result<Task, LineFault>
+    ensures { result ≢ Err Memory → WordsAsk (map (λ word. word.now) words.now) (asked_by result) }
 {
     match words {
-        [word] => Ok(bare(word)),
-        [word, text] => Ok(with_one(word, text)),
-        [word, text, next] => Ok(with_two(word, text, next)),
-        [word, text, next, last] => Ok(with_three(word, text, next, last)),
+        [word] => bare(word),
+        [word, text] => with_one(word, text),
+        [word, text, next] => with_two(word, text, next),
+        [word, text, next, last] => with_three(word, text, next, last),
         [word, holder, resource, requester, nodes] => {
             with_four(alloc, word, holder, resource, requester, nodes)
         }
         [word, holder, resource, requester, nodes, retries] => with_five(
             alloc, word, holder, resource, requester, nodes, retries,
         ),
-        _ => Ok(Err(LineFault::BadLine)),
+        _ => Err(LineFault::BadLine),
     }
 }

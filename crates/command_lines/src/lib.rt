@@ -7,7 +7,7 @@ mod grammar;
 mod lock_texts;
 mod printing;
 
-pub use commands::{read_task, text_of};
+pub use commands::{ran_out, read_task, text_of};
 pub use faults::LineFault;
 pub use grammar::Task;
 pub use lock_texts::{parse_retries, parse_target};

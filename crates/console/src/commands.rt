@@ -8,7 +8,7 @@ ghost use Rattle.console.specs.Commands.{LineSays, WordsAskNode, AsksOwn, AsksAs
 
 use crate::orders::{Command, Order};
 use cluster_world::{Call, Event, WorldEvent};
-use command_lines::{LineFault, Task, read_task, text_of};
+use command_lines::{LineFault, Task, ran_out, read_task, text_of};
 use std::alloc::{AllocError, Global};
 use term::{parse_name, parse_node, parse_pid};
 use text_lines::{Line, first_words};
@@ -111,7 +111,11 @@ fn read_order(
         → map (λ word. word.now) words.now ≡ take 7 (words_in bytes) → WordsAskNode (words_in bytes) order) }
 {
     if is_lock_call(words) {
-        Ok(read_lock_call(read_task(alloc, line)?))
+        let task = read_task(alloc, line);
+        if ran_out(&task) {
+            return Err(AllocError);
+        }
+        Ok(read_lock_call(task))
     } else {
         Ok(read_own(words))
     }

@@ -1,4 +1,5 @@
 mod Parts
 mod AtHand
+mod Cuts
 pub mod Known
 pub mod Written

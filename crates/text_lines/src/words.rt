@@ -1,6 +1,7 @@
 //! The words of a line.
 ghost use Rattle.std.specs.Prelude.{◌≡◌, IfOk, map, take};
-ghost use Rattle.text_lines.specs.Words.{words};
+ghost use Rattle.std.specs.List.{position, before_first, after_first};
+ghost use Rattle.text_lines.specs.Words.{words, is_space};
 
 use arrayvec::ArrayVec;
 use std::alloc::{AllocError, Global};
@@ -17,15 +18,36 @@ pub fn words_of<'a>(alloc: Global, line: &'a str) -> Result<Vec<&'a str>, AllocE
         .collect(alloc)
 }
 
+/// The place of the first space, if there is one.
+fn first_space(bytes: &[u8]) -> Option<usize>
+    ensures { result ≡ position is_space bytes.now }
+{
+    bytes.iter().position(|byte| *byte == b' ')
+}
+
+/// A text cut at its first space: what stands before it, and what stands behind it. Where it has none, that is all and nothing.
+fn cut<'a>(text: &'a str) -> (&'a str, &'a str)
+    ensures before { result.0.now ≡ before_first is_space text.now }
+    ensures behind { result.1.now ≡ after_first is_space text.now }
+{
+    match first_space(text.as_bytes()) {
+        Some(place) => (&text[..place], &text[place + 1..]),
+        None => (text, ""),
+    }
+}
+
 /// The first seven words of a line, or all of them where it has no more. They take no memory.
 pub fn first_words<'a>(line: &'a str) -> ArrayVec<&'a str, MOST_WORDS>
     ensures { map (λ word. word.now) result.items ≡ take 7 (words line.now) }
 {
     let mut first = ArrayVec::new();
-    for word in line.split(' ').filter(|part| !part.is_empty()) {
-        if first.try_push(word).is_err() {
+    let mut rest = line;
+    while !rest.is_empty() {
+        let (word, behind) = cut(rest);
+        if !word.is_empty() && first.try_push(word).is_err() {
             break;
         }
+        rest = behind;
     }
     first
 }

@@ -51,8 +51,8 @@ returns-in-Some-Err c = λ bytes k.
 
 pub returns : goal.returns
 returns c = λ bytes k.
-    OpensLone-none c.args.cluster.nodes.items bytes _ c.args.cluster.world c.in_ok-read_task-in-None.field-0
+    OpensLone-none c.args.cluster.nodes.items bytes _ c.args.cluster.world c.in_ok-read_first-in-None.field-0
     c.world.view_is
     (subst (λ (x : Option (Result (Vec NodeName Global) TextFault)). ReadsHeader (lone_line bytes)
     (option_map (made_of items) x)) c.in-None.is (c.in_ok-lone.ensures bytes k))
-    c.requires (c.in_ok-read_task-in-None.ensures bytes k)
+    c.requires (c.in_ok-read_first-in-None.ensures bytes k)

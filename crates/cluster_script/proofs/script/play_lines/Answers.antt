@@ -1,9 +1,11 @@
-use Rattle.std.proofs.Common.{◌≡◌, ◌+◌, ◌<◌, ℕ, Bool, List, [], ◌∷◌, Option, ◌∙◌, subst, sym, arith, refl}
+use Rattle.std.proofs.Common.{◌≡◌, ◌+◌, ◌<◌, ◌⊎◌, inl, inr, ℕ, Bool, List, [], ◌∷◌, Option, Result, Ok, Err, ◌∙◌, ap, subst, sym, arith, refl}
 use Rattle.std.proofs.lemmas.Result.{err_from_is_err_and}
 use Rattle.text_lines.specs.declared.lines.Line.{Line}
 use Rattle.text_lines.specs.declared.faults.ScriptFault.{ScriptFault}
+use Rattle.text_lines.specs.declared.faults.WriteFault.{WriteFault}
+use Rattle.text_lines.specs.declared.faults.WriteFault.TheVariants.{Memory}
+use Rattle.text_lines.specs.Writing.{stop_of}
 use Rattle.text_lines.specs.Lines.{spoken, count_of_all}
-use Rattle.command_lines.specs.Commands.{asked_by}
 use Rattle.cluster_script.specs.Played.{ReadsOn, PlaysLines, StopsPlaying}
 use Rattle.text_lines.proofs.Known.{count_of_all-some}
 use Rattle.cluster_script.proofs.Scripts.{PlaysLines-start, PlaysLines-next, PlaysSome-next, PlaysLines-blank, PlaysLines-kept, StopsPlaying-next, PlaysAll-err, StopsPlaying-reading, StopsPlaying-writing}
@@ -20,6 +22,11 @@ less most left ls line s e =
     cons_nil : (l : List ℕ) → l ∷ [] ≡ [] → ⊥
     cons_nil l h = cc
 
+-- in either case
+either : {A B P : Type 0} → A ⊎ B → (A → P) → (B → P) → P
+either (inl a) f g = f a
+either (inr b) f g = g b
+
 pub loop-line-init : goal.loop-line-init
 loop-line-init g c =
     let input = reader_remaining g.R.Read.remaining c.args.reader.now in
@@ -34,7 +41,7 @@ returns-in_err-fine g c =
     let old = g.W.Write.contents c.args.writer.now in
     let written = g.W.Write.contents c.loop-line.writer in
     let same = g.W.Write.contents c.next_line.new.writer in
-    let new = g.W.Write.contents c.play_task.new.writer in
+    let new = g.W.Write.contents c.play_line.new.writer in
     let P = PlaysLines-kept input mid c.args.left.now c.loop-line.left
     c.args.world.now c.loop-line.world old written same c.loop-line.is_fine
     c.loop-line.invariant c.in_ok-line.ensures.kept in
@@ -42,11 +49,22 @@ returns-in_err-fine g c =
     let t = subst (λ (o : Option Line). ReadsOn mid rest c.loop-line.left c.next_line.new.left o)
     c.in-Some.is c.in_ok-line.ensures.read in
     PlaysAll-err [] _ _ _ _ _ _ _ _ c.from_residual-in_err-fine.result p.0 p.1
-    (StopsPlaying-writing [] _ rest _ _ _ _ c.in_err-fine.field-0.0 p.0 p.2
+    (either (c.in_err-fine.ensures t.1 t.2)
+    (λ q. StopsPlaying-writing [] _ rest _ _ _ _ c.in_err-fine.field-0.0 p.0 p.2
     (PlaysSome-next input mid c.args.left.now c.loop-line.left c.args.world.now c.loop-line.world
     old same c.loop-line.is_fine P
-    rest t.0 t.1 (asked_by c.in_ok-task.task) t.3 t.4 (c.in_ok-task.ensures t.1 t.2)
-    new c.in_err-fine.ensures) refl)
+    rest t.0 t.1 q.0 t.3 t.4 q.1
+    new q.2) refl)
+    (λ q. subst (λ (f : ScriptFault). StopsPlaying [] input rest c.args.left.now c.args.world.now old new f)
+    (sym (p.2 ∙ ap stop_of (memory c.in_err-fine.field-0.0 q.0)))
+    (StopsPlaying-next input mid c.args.left.now c.loop-line.left
+    c.args.world.now c.loop-line.world old new c.loop-line.is_fine
+    (PlaysLines-kept input mid c.args.left.now c.loop-line.left
+    c.args.world.now c.loop-line.world old same new c.loop-line.is_fine P q.1)
+    rest t.6)))
+  where
+    memory : (f : WriteFault) → ◌≡◌ {A = Result Bool WriteFault} (Err f) (Err Memory) → f ≡ Memory
+    memory f e = cc
 
 pub loop-line-smaller : goal.loop-line-smaller
 loop-line-smaller g c =
@@ -64,18 +82,23 @@ loop-line-preserved g c =
     let old = g.W.Write.contents c.args.writer.now in
     let written = g.W.Write.contents c.loop-line.writer in
     let same = g.W.Write.contents c.next_line.new.writer in
-    let new = g.W.Write.contents c.play_task.new.writer in
+    let new = g.W.Write.contents c.play_line.new.writer in
     let P = PlaysLines-kept input mid c.args.left.now c.loop-line.left
     c.args.world.now c.loop-line.world old written same c.loop-line.is_fine
     c.loop-line.invariant c.in_ok-line.ensures.kept in
     let t = subst (λ (o : Option Line). ReadsOn mid rest c.loop-line.left c.next_line.new.left o)
     c.in-Some.is c.in_ok-line.ensures.read in
-    let n = PlaysLines-next input mid c.args.left.now c.loop-line.left c.args.world.now c.loop-line.world
+    let n = either (c.in_ok-fine.ensures t.1 t.2)
+    (λ q. PlaysLines-next input mid c.args.left.now c.loop-line.left c.args.world.now c.loop-line.world
     old same c.loop-line.is_fine P
-    rest t.0 t.1 (asked_by c.in_ok-task.task) t.3 t.4 (c.in_ok-task.ensures t.1 t.2)
-    c.next_line.new.left c.play_task.new.world new c.in_ok-fine.fine t.5 c.in_ok-fine.ensures in
+    rest t.0 t.1 q.0 t.3 t.4 q.1
+    c.next_line.new.left c.play_line.new.world new c.in_ok-fine.fine t.5 q.2)
+    (λ q. absurd (never c.in_ok-fine.fine q.0)) in
     subst (λ (b : Bool). PlaysLines [] input rest c.args.left.now c.next_line.new.left c.args.world.now
-    c.play_task.new.world old new b) (sym c.both-is_fine.ensures) n
+    c.play_line.new.world old new b) (sym c.both-is_fine.ensures) n
+  where
+    never : (fine : Bool) → ◌≡◌ {A = Result Bool WriteFault} (Ok fine) (Err Memory) → ⊥
+    never fine e = cc
 
 pub returns : goal.returns
 returns g c =
@@ -114,24 +137,3 @@ returns-in_err-line g c =
     PlaysAll-err [] _ _ _ _ _ _ _ _ c.from_residual.result p.0 p.1
     (subst (λ (f : ScriptFault). StopsPlaying [] input rest c.args.left.now c.args.world.now old
     same f) (sym p.2) s)
-
-pub returns-in_err-task : goal.returns-in_err-task
-returns-in_err-task g c =
-    let input = reader_remaining g.R.Read.remaining c.args.reader.now in
-    let mid = reader_remaining g.R.Read.remaining c.loop-line.reader in
-    let rest = reader_remaining g.R.Read.remaining c.next_line.new.reader in
-    let old = g.W.Write.contents c.args.writer.now in
-    let written = g.W.Write.contents c.loop-line.writer in
-    let same = g.W.Write.contents c.next_line.new.writer in
-    let p = err_from_is_err_and c.from_residual-in_err-task.result c.from_residual-in_err-task.ensures.1 in
-    let t = subst (λ (o : Option Line). ReadsOn mid rest c.loop-line.left c.next_line.new.left o)
-    c.in-Some.is c.in_ok-line.ensures.read in
-    let P = PlaysLines-kept input mid c.args.left.now c.loop-line.left
-    c.args.world.now c.loop-line.world old written same c.loop-line.is_fine
-    c.loop-line.invariant c.in_ok-line.ensures.kept in
-    PlaysAll-err [] _ _ _ _ _ _ _ _ c.from_residual-in_err-task.result p.0 p.1
-    (subst (λ (f : ScriptFault). StopsPlaying [] input rest c.args.left.now
-    c.args.world.now old same f) (sym p.2)
-    (StopsPlaying-next input mid c.args.left.now c.loop-line.left
-    c.args.world.now c.loop-line.world old same c.loop-line.is_fine P
-    rest t.6))

@@ -1,8 +1,8 @@
-use Rattle.std.proofs.Common.{rules, tests, lit<, arith, ◌≡◌, ◌∙◌, ℕ, List, Bor, true, Result, Ok, Err, OnErr, is_err, sym, ap, map, take, length, refl}
-use Rattle.std.proofs.lemmas.List.{take_all}
-use Rattle.std.proofs.lemmas.Iterator.Consumers.{YieldsList-at, YieldsList-end, YieldsList-from_filter, YieldsList-so_far}
-use Rattle.std.proofs.lemmas.Iterator.Splits.{YieldsList-from_str_split}
-use Rattle.text_lines.specs.Words.{words, is_word}
+use Rattle.std.proofs.Common.{rules, tests, arith, ◌≡◌, ◌∙◌, ℕ, List, Bor, ◌++◌, true, false, Result, Ok, Err, OnErr, OnOk, IsOk, is_err, sym, ap, map, take, length}
+use Rattle.std.proofs.lemmas.List.{take-append-le, take_all, map-append, length-map}
+use Rattle.text_lines.specs.Words.{words}
+use Rattle.text_lines.proofs.Cuts.{taken_with, taken_without}
+use Rattle.text_lines.proofs.words.first_words.Goals.{else-not-is_empty-via-then-not-is_empty+else-is_err, else-not-is_empty-via-else-not-is_empty}
 use Rattle.text_lines.proofs.words.first_words.Goals as goal
 
 -- where there is an error, this holds
@@ -10,39 +10,56 @@ on_err : {T E P : Type 0} (r : Result T E) → is_err r ≡ true → OnErr r P �
 on_err (Ok x) e p = cc
 on_err (Err x) e p = p
 
+-- where there is none, this does
+on_ok : {T E P : Type 0} (r : Result T E) → is_err r ≡ false → OnOk r P → P
+on_ok (Ok x) e p = p
+on_ok (Err x) e p = cc
+
+is_ok : {T E : Type 0} (r : Result T E) → is_err r ≡ false → IsOk r
+is_ok (Ok x) e = search rules
+is_ok (Err x) e = cc
+
 -- the texts that are referred to
 abbrev texts : List (Bor (List ℕ)) → List (List ℕ)
 texts = map (λ word. word.now)
 
-pub returns-in-None : goal.returns-in-None
-returns-in-None c =
-    let end =
-    YieldsList-end
-    (YieldsList-at c.into_iter-word-iterator.ensures.into_iter_gives
-    (YieldsList-from_filter _ is_word
-    (YieldsList-at c.filter-word-items.ensures.source
-    (YieldsList-from_str_split 32 c.args.line.now (lit< tt) c.split.ensures.text c.split.ensures.has_more
-    c.split.ensures.pattern))
-    c.filter-word-items.ensures.closure (λ x r q k. search (rules, tests))))
-    _ _ c.loop-word.yielded_by _ _ refl c.in-None.ensures.steps in
-    ap texts c.loop-word.invariant.taken
-    ∙ (end.0
-    ∙ sym (take_all 7 (words c.args.line.now)
-    (omega (arith, end.1, ap length c.loop-word.invariant.taken, c.loop-word.invariant.room))))
+pub loop-rest-preserved : goal.loop-rest-preserved
+loop-rest-preserved c = elim c.else-not-is_empty.branch [
+  | else-not-is_empty-via-then-not-is_empty+else-is_err w ↦
+      let pushed = ap (λ first. first.items) w.first-is ∙ on_ok _ (sym w.if-is_err.ensures.value) w.try_push.ensures.ok in
+      record {
+        text = search rules;
+        room =
+            omega (
+              arith,
+              ap length (ap (λ first. first.items) w.first-is),
+              on_ok _ (sym w.if-is_err.ensures.value) w.try_push.ensures.len,
+              w.try_push.ensures.variant.0 (is_ok _ (sym w.if-is_err.ensures.value)),
+            );
+        taken =
+            ap (λ items. texts items ++ words c.cut.result.1.now) pushed
+            ∙ (ap (λ taken. taken ++ words c.cut.result.1.now) (map-append (λ word. word.now) c.loop-rest.first.items _)
+            ∙ taken_with (texts c.loop-rest.first.items) _ c.loop-rest.rest.now c.cut.result.0.now c.cut.result.1.now
+            c.loop-rest.invariant.taken c.cut.ensures.before c.cut.ensures.behind (grind (arith, tests, w.if-not-is_empty.ensures)));
+      }
+  | else-not-is_empty-via-else-not-is_empty w ↦
+      let kept = ap (λ first. first.items) w.first-is in
+      record {
+        text = search rules;
+        room = omega (arith, ap length kept, c.loop-rest.invariant.room);
+        taken =
+            ap (λ items. texts items ++ words c.cut.result.1.now) kept
+            ∙ taken_without (texts c.loop-rest.first.items) _ c.loop-rest.rest.now c.cut.result.0.now c.cut.result.1.now
+            c.loop-rest.invariant.taken c.cut.ensures.before c.cut.ensures.behind (grind (arith, tests, w.if-not-is_empty.ensures));
+      }
+]
 
 pub returns-then-is_err : goal.returns-then-is_err
 returns-then-is_err c =
-    let far =
-    YieldsList-so_far
-    (YieldsList-at c.into_iter-word-iterator.ensures.into_iter_gives
-    (YieldsList-from_filter _ is_word
-    (YieldsList-at c.filter-word-items.ensures.source
-    (YieldsList-from_str_split 32 c.args.line.now (lit< tt) c.split.ensures.text c.split.ensures.has_more
-    c.split.ensures.pattern))
-    c.filter-word-items.ensures.closure (λ x r q k. search (rules, tests))))
-    _ _ c.loop-word.yielded_by in
-    let kept : c.try_push.new.self ≡ c.loop-word.first = on_err _ (sym c.if-is_err.ensures.value) c.try_push.ensures.err in
-    let full : length c.loop-word.first.items ≡ 7 = on_err _ (sym c.if-is_err.ensures.value) c.try_push.ensures.full in
+    let kept : c.try_push.new.self ≡ c.loop-rest.first = on_err _ (sym c.if-is_err.ensures.value) c.try_push.ensures.err in
+    let full : length c.loop-rest.first.items ≡ 7 = on_err _ (sym c.if-is_err.ensures.value) c.try_push.ensures.full in
+    let count : length (texts c.loop-rest.first.items) ≡ 7 = length-map c.loop-rest.first.items (λ word. word.now) ∙ full in
     rw kept
-    (ap texts c.loop-word.invariant.taken
-    ∙ (far ∙ ap (λ (n : ℕ). take n (words c.args.line.now)) (sym (ap length c.loop-word.invariant.taken) ∙ full)))
+    (sym (take_all 7 (texts c.loop-rest.first.items) (omega (arith, count)))
+    ∙ (sym (take-append-le 7 (texts c.loop-rest.first.items) (words c.loop-rest.rest.now) (omega (arith, count)))
+    ∙ ap (take 7) c.loop-rest.invariant.taken))

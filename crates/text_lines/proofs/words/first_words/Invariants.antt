@@ -1,8 +1,15 @@
-use Rattle.std.proofs.Common.{◌≡◌, ◌≤◌, length}
+use Rattle.std.proofs.Common.{◌≡◌, ◌++◌, ◌≤◌, map, length}
+use denote.Text.{Utf8}
+use denote.Shadow.{shadow}
+use Rattle.text_lines.specs.Words.{words}
 use Rattle.text_lines.proofs.words.first_words.Given as goal
 
-abbrev pub invariant-loop-word : goal.invariant-loop-word
-invariant-loop-word l = record {
-  taken : l.first.items ≡ l.yielded;
+abbrev pub invariant-loop-rest : goal.invariant-loop-rest
+invariant-loop-rest l = record {
+  text : shadow (Utf8 l.rest);
   room : length l.first.items ≤ 7;
+  taken : map (λ word. word.now) l.first.items ++ words l.rest ≡ words l.fn.line;
 }
+
+abbrev pub decreases-loop-rest : goal.decreases-loop-rest
+decreases-loop-rest l = length l.rest
