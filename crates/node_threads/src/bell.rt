@@ -5,6 +5,10 @@ use std::thread;
 use std::thread::Parker;
 use std::time::{Clock, Duration, Instant};
 
+/// How long the yields of a thread take together, in microseconds, before it sleeps: longer than a registration does where no
+/// other waits, and shorter than one that waits for rivals. Those want the cores.
+const LONGEST_WATCH: u64 = 200;
+
 /// How long a thread sleeps at most, in microseconds. A ring ends a sleep; this is the net below it.
 const NET: u64 = 100_000;
 
@@ -36,10 +40,14 @@ pub(crate) struct Bell {
 #[derive(Drop)]
 pub(crate) struct Rest {
     parker: Arc<Parker, Global>,
-    /// How many turns may find nothing, one after another, before the thread sleeps.
+    /// How often the thread yields at most before it sleeps, where one turn after another finds nothing.
     yields: u32,
-    /// How many have since the last one that found something.
-    quiet: u32,
+    /// How often it has since the last turn that found something.
+    yielded: u32,
+    /// How long these yields took.
+    watched: Duration,
+    /// How often it has slept since then.
+    slept: u32,
     /// For how many sleeps it yields no more, since a yield took long.
     wary: u32,
     /// For how many it won't after the next long yield.
@@ -64,7 +72,9 @@ impl Bell {
         Ok(Rest {
             parker: Arc::try_clone(&self.parker)?,
             yields,
-            quiet: 0,
+            yielded: 0,
+            watched: Duration::ZERO,
+            slept: 0,
             wary: 0,
             caution: FEWEST_WARY_SLEEPS,
         })
@@ -81,7 +91,9 @@ impl Bell {
 impl Rest {
     /// Call it after a turn that found something.
     pub(crate) fn worked(&mut self) {
-        self.quiet = 0;
+        self.yielded = 0;
+        self.watched = Duration::ZERO;
+        self.slept = 0;
     }
 
     /// A yield took long: none is made for a while, and for four times as long after the next one.
@@ -98,37 +110,42 @@ impl Rest {
     /// Yields the core. Where others than the cluster's threads want the cores, a yield gives one away for milliseconds, while a
     /// thread that sleeps is woken at once: so a long one is the last for a while.
     fn pause<C: Clock>(&mut self, clock: &C) {
+        self.yielded = self.yielded.saturating_add(1);
         let start = Instant::now(clock);
         thread::yield_now();
         let Ok(start) = start else {
             return;
         };
-        if let Ok(taken) = start.elapsed(clock)
-            && taken > Duration::from_micros(LONG_YIELD)
-        {
+        let Ok(taken) = start.elapsed(clock) else {
+            return;
+        };
+        self.watched = self.watched.saturating_add(taken);
+        if taken > Duration::from_micros(LONG_YIELD) {
             self.grow_wary();
         } else {
             self.calm_down();
         }
     }
 
+    /// Whether the thread yields once more and doesn't sleep yet.
+    fn is_watching(&self) -> bool {
+        let longest = Duration::from_micros(LONGEST_WATCH);
+        self.wary == 0 && self.yielded < self.yields && self.watched <= longest
+    }
+
     /// How long a thread naps, in microseconds, that is to try something again.
     fn nap(&self) -> u64 {
-        if self.quiet <= self.yields.saturating_add(NAPS) {
-            NAP
-        } else {
-            LONG_NAP
-        }
+        if self.slept <= NAPS { NAP } else { LONG_NAP }
     }
 
     /// Call it after a turn that found nothing, and then look at everything again, since it may return for no reason. `owes`
     /// says that something is to be tried again.
     pub(crate) fn rest<R: Wait + Clock>(&mut self, rt: &R, owes: bool) {
-        self.quiet = self.quiet.saturating_add(1);
-        if self.quiet <= self.yields && self.wary == 0 {
+        if self.is_watching() {
             return self.pause(rt);
         }
         self.wary = self.wary.saturating_sub(1);
+        self.slept = self.slept.saturating_add(1);
         let micros = if owes { self.nap() } else { NET };
         self.parker.park_timeout(rt, Duration::from_micros(micros));
     }
