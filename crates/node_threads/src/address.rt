@@ -35,7 +35,7 @@ impl<L: Drop> Model for Address<L> {
     ghost view = { λ a. record { node = a.node; lines = made_of a.root } };
 }
 
-/// Opens the inbox of a node, whose thread yields so often before it sleeps.
+/// Opens the inbox of a node, whose thread yields so often at most before it sleeps.
 pub(crate) fn open_inbox<L: Drop>(
     alloc: Global,
     node: NodeName,

@@ -34,7 +34,7 @@ pub struct Cluster<G: Gate + Drop, N: Names> {
     alloc: Global,
     gate: Arc<G, Global>,
     hub: Arc<Hub, Global>,
-    /// How often a thread, or a caller, yields before it sleeps.
+    /// How often a thread, or a caller, yields at most before it sleeps.
     yields: u32,
     cluster: Vec<NodeName>,
     lone: Vec<NodeName>,
@@ -143,7 +143,8 @@ where
 
     /// Starts a thread for each node: those of `cluster` are joined with each other, and each of `lone` stands for itself. It is
     /// refused as `World::start` is, in the same order; `Memory` also where a thread can't be had. The gate is held before each
-    /// step of a node. A thread that finds nothing to do yields `yields` times before it sleeps.
+    /// step of a node. A thread that finds nothing to do yields `yields` times at most, and for 200 microseconds or so, before it
+    /// sleeps.
     pub fn start<R>(
         rt: &R,
         alloc: Global,

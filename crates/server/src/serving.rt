@@ -24,8 +24,8 @@ use term::{NodeName, NodeSet};
 /// A cluster that is served: its tables hash, and no turn of its nodes is held back.
 type ServedCluster = Cluster<OpenGate, IndexTable<Global>>;
 
-/// How often a node's thread, or a seat, that finds nothing to do yields before it sleeps. That takes longer than a registration, so
-/// a node is awake when its next letter comes.
+/// How often a node's thread, or a seat, that finds nothing to do yields at most before it sleeps. That mostly takes longer than a
+/// registration, so a node is awake when its next letter comes.
 const YIELDS: u32 = 500;
 
 /// The set of all these nodes, of which there are eight at most.
