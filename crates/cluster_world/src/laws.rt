@@ -17,10 +17,10 @@ pub fn exclusion_of_every_world()
     ensures { EveryWorldExcludes }
 {}
 
-/// Nothing is left over, in any world and behind any list of events: whenever no letter waits on a link to a running node, its lock
-/// table has exactly the clients' locks that were granted and not given back, none of a process that died and nobody's global lock,
-/// and who is dead in the registry is dead at its node; once no operation waits for a retry either, no running node has a name of a
-/// dead process.
+/// Nothing is left over, in any world and behind any list of events: once no letter waits on any link to any running node, each
+/// running node's lock table has exactly the clients' locks that were granted and not given back, none of a process that died and
+/// nobody's global lock, and a process that is dead in the registry is dead at its node, if that runs; once no operation waits for a
+/// retry either, no running node has a name of a dead process.
 pub fn nothing_is_left_in_any_world()
     ensures { EveryWorldLeavesNothing }
 {}

@@ -1,5 +1,6 @@
 //! The watch of one node over its processes: who was spawned, who is dead, and whose names are owed a strike. A step
-//! costs no more for the processes that died before it.
+//! costs no more for the processes that died before it, but that a spawn passes over those ahead that a clash killed
+//! before they were spawned.
 #![tactic(auto)]
 
 mod faults;

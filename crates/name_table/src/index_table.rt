@@ -22,7 +22,8 @@ type Owned<A> = IndexMap<Pid, NameSet<A>, BuildHasherDefault<FoldHasher>, A>;
 type Entry<'a> = (&'a Name, &'a Pid);
 
 /// A table of names that finds a name, and the names of a process, by hashing: what a look-up or a change of one
-/// name costs doesn't grow with the table. A list of all names is sorted when it is asked for.
+/// name costs doesn't grow with the table, but that a put whose map has no room left moves the whole map, as rarely as a
+/// doubled map fills up. A list of all names is sorted when it is asked for.
 #[derive(Drop)]
 pub struct IndexTable<A: Allocator> {
     owners: Owners<A>,

@@ -78,24 +78,38 @@ fn write_one<N: Names>(table: &mut N, turn: u32, number: u32) -> Result<(), Fail
     Ok(())
 }
 
-/// What a table shows after each of 400 random changes, and its copy.
-fn changed<N: Names<Memory = Global>>(alloc: Global, mut table: N) -> Result<String, Fail> {
+/// What a table shows after each of 400 random changes, and what its copy shows in the end.
+fn changed<N: Names<Memory = Global>>(
+    alloc: Global,
+    mut table: N,
+    first: u32,
+) -> Result<String, Fail> {
     let mut text = String::new(alloc);
-    let mut seed = 7_u32;
+    let mut seed = first;
     for turn in 0..400_u32 {
         seed = seed.wrapping_mul(1_664_525).wrapping_add(1_013_904_223);
         write_one(&mut table, turn, seed >> 8)?;
         show(&mut text, alloc, &table)?;
-        table = table.copy(alloc)?;
     }
+    show(&mut text, alloc, &table.copy(alloc)?)?;
     Ok(text)
 }
 
 #[test]
 fn does_as_the_list_does(rt: HostRuntime) -> Result<(), Fail> {
-    let list = changed(rt.alloc(), <ListTable<Global> as Names>::empty(rt.alloc()))?;
-    let index = changed(rt.alloc(), <IndexTable<Global> as Names>::empty(rt.alloc()))?;
-    assert_eq!(rt; list, index);
+    for first in [7_u32, 77, 777] {
+        let list = changed(
+            rt.alloc(),
+            <ListTable<Global> as Names>::empty(rt.alloc()),
+            first,
+        )?;
+        let index = changed(
+            rt.alloc(),
+            <IndexTable<Global> as Names>::empty(rt.alloc()),
+            first,
+        )?;
+        assert_eq!(rt; list, index, "from {first} on");
+    }
     Ok(())
 }
 

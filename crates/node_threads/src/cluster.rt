@@ -143,7 +143,7 @@ where
 
     /// Starts a thread for each node: those of `cluster` are joined with each other, and each of `lone` stands for itself. It is
     /// refused as `World::start` is, in the same order; `Memory` also where a thread can't be had. The gate is held before each
-    /// step of a node. A thread that finds nothing to do yields `yields` times at most, and for 200 microseconds or so, before it
+    /// turn of a node. A thread that finds nothing to do yields `yields` times at most, and for 200 microseconds or so, before it
     /// sleeps.
     pub fn start<R>(
         rt: &R,

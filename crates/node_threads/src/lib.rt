@@ -45,6 +45,7 @@ pub use cluster::Cluster;
 pub use fault::SeatFault;
 pub use holder::HolderSeat;
 pub use line::Line;
+pub use node_log::Transcript;
 pub use node_loop::{Gate, OpenGate};
 pub use parcel::Parcel;
 pub use replay::{CloseFault, Closed};

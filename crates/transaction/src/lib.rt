@@ -4,6 +4,7 @@
 
 mod nodes;
 mod op;
+mod queue;
 mod registrar;
 mod reply;
 mod seat;

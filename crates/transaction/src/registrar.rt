@@ -2,8 +2,8 @@
 ghost use Rattle.std.specs.Prelude.{◌≡◌};
 
 use crate::op::Op;
+use crate::queue::Queue;
 use std::alloc::{AllocError, Global};
-use std::collections::VecDeque;
 use std::marker::Model;
 use term::{NodeName, NodeSet, Pid};
 
@@ -11,7 +11,7 @@ use term::{NodeName, NodeSet, Pid};
 /// they carried it out.
 #[derive(Drop)]
 pub struct Registrar {
-    queue: VecDeque<Op>,
+    queue: Queue,
     current: Option<Op>,
     awaited: NodeSet,
 }
@@ -21,7 +21,7 @@ impl Model for Registrar {
 
     ghost Value = { Work };
 
-    ghost view = { λ r. record { queue = r.queue.items; current = r.current; awaited = r.awaited } };
+    ghost view = { λ r. record { queue = r.queue; current = r.current; awaited = r.awaited } };
 }
 
 impl Registrar {
@@ -38,7 +38,7 @@ impl Registrar {
         ensures { result ≡ idle }
     {
         Registrar {
-            queue: VecDeque::new(alloc),
+            queue: Queue::new(alloc),
             current: None,
             awaited: NodeSet::empty(),
         }
@@ -49,8 +49,7 @@ impl Registrar {
         ensures ok { OnOk result (self.new ≡ enqueued op self.old) }
         ensures err { OnErr result (self.new ≡ self.old) }
     {
-        self.queue.push_back(op)?;
-        Ok(())
+        self.queue.push(op)
     }
 
     /// The current operation, if there is one.
@@ -64,7 +63,7 @@ impl Registrar {
     pub fn has_join(&self) -> bool
         ensures { result ≡ list_any (λ op. is_join (op_of op)) self.now.queue }
     {
-        self.queue.iter().any(|op| matches!(op, Op::Join(..)))
+        self.queue.has_join()
     }
 
     /// Where no operation is current, the strike of this process becomes current, if one is owed, and else the front of the
@@ -78,7 +77,7 @@ impl Registrar {
         }
         self.current = match owed {
             Some(process) => Some(Op::Strike(process)),
-            None => self.queue.pop_front(),
+            None => self.queue.pop(),
         };
         self.current.is_some()
     }

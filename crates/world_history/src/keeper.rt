@@ -9,7 +9,8 @@ ghost use Rattle.world_history.specs.Kept.{reply_in, call_in, entry_in};
 
 use crate::kept::{Decision, Kept, KeptCall, KeptEntry, KeptPid, KeptReply};
 use crate::kept_name::KeptName;
-use node_events::{Entry, Look, Reply};
+use crate::kept_names::KeptNames;
+use node_events::{Entry, Look, NameList, Reply};
 use std::alloc::{AllocError, Global};
 use std::rc::Rc;
 use term::{Name, NodeName, NodeSet, Pid};
@@ -84,6 +85,13 @@ impl Keeper {
         })
     }
 
+    /// Keeps a list of names.
+    fn names(&self, names: &NameList) -> Result<Box<KeptNames>, AllocError>
+        ensures { IfOk result (λ kept. kept.value.names.items ≡ names.now.names.items) }
+    {
+        Ok(Box::new(self.alloc(), KeptNames::keep(self.alloc(), names)?)?)
+    }
+
     /// Keeps a reply.
     fn reply(&self, reply: &Reply) -> Result<KeptReply, AllocError>
         ensures { IfOk result (λ kept. reply_of (reply_in kept) ≡ reply_of reply.now) }
@@ -100,7 +108,7 @@ impl Keeper {
             Reply::ContactLeft => KeptReply::ContactLeft,
             Reply::Pid(process) => KeptReply::Pid(self.process(process)?),
             Reply::Undefined => KeptReply::Undefined,
-            Reply::Names(names) => KeptReply::Names(Box::new(self.alloc(), names.copy()?)?),
+            Reply::Names(names) => KeptReply::Names(self.names(names)?),
         })
     }
 

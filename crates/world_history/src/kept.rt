@@ -6,7 +6,8 @@ ghost use Rattle.world_history.specs.Kept.{reply_in, call_in, entry_in};
 
 use crate::entry::HistoryEntry;
 use crate::kept_name::KeptName;
-use node_events::{Look, NameList, Reply};
+use crate::kept_names::KeptNames;
+use node_events::{Look, Reply};
 use std::alloc::AllocError;
 use std::marker::Model;
 use std::mem::size_of;
@@ -76,7 +77,7 @@ pub(crate) enum KeptReply {
     ContactLeft,
     Pid(KeptPid),
     Undefined,
-    Names(Box<NameList>),
+    Names(Box<KeptNames>),
 }
 
 impl KeptReply {
@@ -96,7 +97,7 @@ impl KeptReply {
             KeptReply::ContactLeft => Reply::ContactLeft,
             KeptReply::Pid(process) => Reply::Pid(process.process()),
             KeptReply::Undefined => Reply::Undefined,
-            KeptReply::Names(names) => Reply::Names(names.copy()?),
+            KeptReply::Names(names) => Reply::Names(names.names()?),
         })
     }
 }

@@ -6,6 +6,7 @@ mod history;
 mod keeper;
 mod kept;
 mod kept_name;
+mod kept_names;
 
 pub use entry::HistoryEntry;
 pub use history::History;

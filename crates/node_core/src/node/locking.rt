@@ -278,12 +278,13 @@ impl<N: Names<Memory = Global>> NodeCore<N> {
         ensures turn { OnOk result (Makes (λ n a u. retry_of n a (call_of holder.now u.node.calls) u) self.old turn.old self.new turn.new) }
         ensures kept { Keeps self.old self.new }
     {
-        let Some(mut call) = self.lock_call(holder)? else {
+        let Some(call) = self.calls.get(holder) else {
             return Ok(());
         };
         if !call.phase.is_waiting() {
             return Ok(());
         }
+        let mut call = call.copy()?;
         call.retries = call.retries.one_less();
         self.try_lock(turn, call)
     }

@@ -22,10 +22,10 @@ fn lock(process: &str, requester: &str, retries: Retries) -> Result<Call, TextFa
     Ok(Call::SetLock(parse_pid(process)?, id, Nodes::All, retries))
 }
 
-/// What `a.2` is answered that asks for the lock, after it wasn't busy any more; none where it stays busy.
+/// What `b.2` is answered that asks for the lock, after it wasn't busy any more; none where it stays busy.
 fn wait_for_lock<R: Wait + Clock>(rt: &R, seat: &mut Seat) -> Option<Result<Reply, SeatFault>> {
     for _ in 0..1_000_000u32 {
-        match seat.call(rt, lock("a.2", "q", Retries::Endless).ok()?) {
+        match seat.call(rt, lock("b.2", "q", Retries::Endless).ok()?) {
             Err(SeatFault::Step(StepFault::Busy(_))) => thread::yield_now(),
             reply => return Some(reply),
         }
@@ -51,12 +51,12 @@ fn waits_in_vain<R: Threads + Wait + Clock + Copy + Send + 'static>(
     cluster: &mut Small<OpenGate>,
     ending: Ending,
 ) -> Result<Vec<Transcript>, Fail> {
-    let a = parse_node("a")?;
-    let mut one = cluster.seat(&a)?;
-    let two = cluster.seat(&a)?;
+    let b = parse_node("b")?;
+    let mut one = cluster.seat(&b)?;
+    let two = cluster.seat(&b)?;
     one.call(rt, Call::Spawn)?;
     one.call(rt, Call::Spawn)?;
-    let granted = one.call(rt, lock("a.1", "p", Retries::Endless)?)?;
+    let granted = one.call(rt, lock("b.1", "p", Retries::Endless)?)?;
     expect(granted == Reply::True, "the first lock wasn't granted")?;
     let own = *rt;
     let Ok(waiting) = thread::spawn(rt, move || {
@@ -75,7 +75,7 @@ fn waits_in_vain<R: Threads + Wait + Clock + Copy + Send + 'static>(
     let expected = if left {
         SeatFault::NodeLeft
     } else {
-        SeatFault::Step(StepFault::NotLive(parse_pid("a.2")?))
+        SeatFault::Step(StepFault::NotLive(parse_pid("b.2")?))
     };
     expect(reply == Err(expected), "the call ended otherwise")?;
     expect(
@@ -88,6 +88,18 @@ fn waits_in_vain<R: Threads + Wait + Clock + Copy + Send + 'static>(
     Ok(transcripts)
 }
 
+/// Waits until the call of `b.2` waits: the process is busy then.
+fn until_busy<R: Wait + Clock>(rt: &R, seat: &mut Seat) -> Result<(), Fail> {
+    for _ in 0..1_000_000u32 {
+        match seat.call(rt, lock("b.2", "q", Retries::Times(0))?) {
+            Err(SeatFault::Step(StepFault::Busy(_))) => return Ok(()),
+            Ok(Reply::False) => thread::yield_now(),
+            _ => return Err(Fail::from("the lock was neither refused nor asked for")),
+        }
+    }
+    Err(Fail::from("the call never waited"))
+}
+
 /// Ends the wait, and says whether the node has left then.
 fn end_wait<R: Wait + Clock>(
     rt: &R,
@@ -95,17 +107,10 @@ fn end_wait<R: Wait + Clock>(
     seat: &mut Seat,
     ending: Ending,
 ) -> Result<bool, Fail> {
-    // The other call waits once its process is busy.
-    for _ in 0..1_000_000u32 {
-        match seat.call(rt, lock("a.2", "q", Retries::Times(0))?) {
-            Err(SeatFault::Step(StepFault::Busy(_))) => break,
-            Ok(Reply::False) => thread::yield_now(),
-            _ => return Err(Fail::from("the lock was neither refused nor asked for")),
-        }
-    }
+    until_busy(rt, seat)?;
     match ending {
         Ending::Exit => {
-            seat.exit(rt, &parse_pid("a.2")?)?;
+            seat.exit(rt, &parse_pid("b.2")?)?;
             Ok(false)
         }
         Ending::Leave => {
@@ -113,8 +118,8 @@ fn end_wait<R: Wait + Clock>(
             Ok(true)
         }
         Ending::ClusterLeave => {
-            cluster.leave(rt, &parse_node("a")?)?;
-            let again = cluster.leave(rt, &parse_node("a")?);
+            cluster.leave(rt, &parse_node("b")?)?;
+            let again = cluster.leave(rt, &parse_node("b")?);
             expect(again == Err(SeatFault::NodeLeft), "it left twice")?;
             let stranger = cluster.leave(rt, &parse_node("z")?);
             expect(stranger == Err(SeatFault::NoSuchNode), "a stranger left")?;
@@ -137,7 +142,12 @@ fn a_waiting_call_ends_with_its_process_or_its_node(rt: HostRuntime) -> Result<(
     Ok(())
 }
 
-/// A name is registered in a thread of its own while its node is asked to leave: that waits behind the hold.
+/// Whether a call was answered so, or its node had left.
+fn is_answered_or_left(found: &Result<Reply, SeatFault>, reply: Reply) -> bool {
+    *found == Ok(reply) || *found == Err(SeatFault::NodeLeft)
+}
+
+/// A name is registered in a thread of its own while its node is asked to leave: that waits behind the hold, where it meets one.
 fn leaves_behind_a_hold<R: Threads + Wait + Clock + Copy + Send + 'static>(
     rt: &R,
     alloc: Global,
@@ -150,15 +160,18 @@ fn leaves_behind_a_hold<R: Threads + Wait + Clock + Copy + Send + 'static>(
     let own = *rt;
     let Ok(naming) = thread::spawn(rt, move || {
         let mut seat = one;
-        let _ = seat.call(&own, Call::Spawn);
-        let _ = seat.call(&own, Call::Register(name, process));
-        seat.into_transcript()
+        let spawned = seat.call(&own, Call::Spawn);
+        let named = seat.call(&own, Call::Register(name, process.copy()));
+        let is_fine = is_answered_or_left(&spawned, Reply::Pid(process))
+            && is_answered_or_left(&named, Reply::Yes);
+        (is_fine, seat.into_transcript())
     }) else {
         return Err(Fail::from("no thread"));
     };
     let left = cluster.leave(rt, &a);
-    let first = naming.join(rt);
+    let (is_fine, first) = naming.join(rt);
     left?;
+    expect(is_fine, "a call ended otherwise")?;
     name_process(rt, &mut two, "b.1", "y")?;
     let mut transcripts = Vec::new(alloc);
     transcripts.push(first)?;
