@@ -10,6 +10,7 @@ function names_held(   i) {
 BEGIN {
   one = kind == "register_alone" || kind == "whereis_alone" || kind == "strike_of_one_name" || kind == "lock_alone"
   one = one || kind == "table_printed" || kind == "refused_line" || kind == "register_falling"
+  one = one || kind == "strike_after_exits" || kind == "exit_of_many_locks" || kind == "names_listed"
   if (one) print "cluster a"
   if (kind == "register_alone") {
     names_held()
@@ -49,14 +50,31 @@ BEGIN {
     for (i = 0; i < calls; i++) {
       printf "register a n%08d a.%d\nregister b n%08d b.%d\nsettle\nretry a\nsettle\nretry b\nsettle\n", i, i + 1, i, i + 1
     }
+  } else if (kind == "strike_after_exits") {
+    for (i = 0; i < held + calls; i++) printf "spawn a\nregister a x%08d a.%d\nsettle\nexit a.%d\nsettle\n", i, i + 1, i + 1
+  } else if (kind == "exit_of_many_locks") {
+    print "spawn a"
+    for (i = 0; i < held; i++) printf "set_lock a.1 r%08d p all 0\nsettle\n", i
+    if (calls) { print "exit a.1"; print "settle" }
+  } else if (kind == "refused_join_in_a_queue") {
+    print "cluster a"; print "lone d"
+    for (i = 0; i < held; i++) printf "register d n%08d d.%d\n", i, i + 1
+    print "join d a"
+    for (i = 0; i < calls; i++) print "join d a"
+  } else if (kind == "names_listed") {
+    names_held()
+    for (i = 0; i < calls; i++) print "names a"
   } else {
+    # The names are held; what is measured is the one join, or the one departure, that moves them.
     mixed = kind == "join_of_mixed_names"
     print "cluster a b"; print "lone d"
-    for (i = 0; i < calls; i++) { printf "re_register a n%08d a.1\n", mixed ? 2 * i : i; settle(i, 100) }
+    for (i = 0; i < held; i++) { printf "re_register a n%08d a.1\n", mixed ? 2 * i : i; settle(i, 100) }
     print "settle"
-    for (i = 0; i < calls; i++) { printf "re_register d n%08d d.1\n", mixed ? 2 * i + 1 : calls + i; settle(i, 100) }
-    print "settle"; print "join d a"; print "settle"
-    if (kind == "departure_of_names") { print "leave d"; print "settle" }
+    for (i = 0; i < held; i++) { printf "re_register d n%08d d.1\n", mixed ? 2 * i + 1 : held + i; settle(i, 100) }
+    print "settle"
+    departs = kind == "departure_of_names"
+    if (departs) { print "join d a"; print "settle" }
+    if (calls) { print (departs ? "leave d" : "join d a"); print "settle" }
     print "members b"
   }
   print "settle"

@@ -21,6 +21,8 @@ struct Costs {
     beyond: Duration,
     /// How many events a registration makes.
     events: f64,
+    /// How many bytes the program's memory grew by for each event of the run.
+    bytes: f64,
 }
 
 /// What one run of so many nodes costs.
@@ -28,14 +30,17 @@ fn costs_of_run(program: &str, nodes: usize, calls: u32) -> Result<Costs> {
     let served = Served::start(program, nodes, 1)?;
     let mut console = Console::attach(&served, NODES[0])?;
     let process = console.ask("spawn")?;
+    let before = served.megabytes()?;
     let look_up = of_each(calls, || console.expect("whereis x", "undefined"))?;
     let register = of_each(calls, || {
         console.expect(&format!("register x {process}"), "yes")?;
         console.expect("unregister x", "ok")
     })? / 2;
+    let grown = served.megabytes()? - before;
     console.quit()?;
-    let events = events_of_each(served.finish()?, calls);
-    Ok(Costs { look_up, register, beyond: register.saturating_sub(look_up), events })
+    let all = served.finish()?;
+    let (events, bytes) = (events_of_each(all, calls), grown * 1e6 / all as f64);
+    Ok(Costs { look_up, register, beyond: register.saturating_sub(look_up), events, bytes })
 }
 
 /// How many events a registration made, where a run had so many in all: each look-up is one, and the spawn is one.
@@ -51,12 +56,15 @@ fn costs_of_run_ahead(program: &str, nodes: usize, calls: u32) -> Result<Costs> 
     let served = Served::start(program, nodes, 1)?;
     let mut console = Console::attach(&served, NODES[0])?;
     let process = console.ask("spawn")?;
+    let before = served.megabytes()?;
     let look_up = of_all(&mut console, &[("whereis x".into(), "undefined")], calls)?;
     let registrations = [(format!("register x {process}"), "yes"), ("unregister x".into(), "ok")];
     let register = of_all(&mut console, &registrations, calls)? / 2;
+    let grown = served.megabytes()? - before;
     console.quit()?;
-    let events = events_of_each(served.finish()?, calls);
-    Ok(Costs { look_up, register, beyond: register.saturating_sub(look_up), events })
+    let all = served.finish()?;
+    let (events, bytes) = (events_of_each(all, calls), grown * 1e6 / all as f64);
+    Ok(Costs { look_up, register, beyond: register.saturating_sub(look_up), events, bytes })
 }
 
 /// The time of one of so many rounds of these lines, which are sent ahead.
@@ -75,17 +83,19 @@ fn medians(run: impl Fn() -> Result<Costs>) -> Result<Costs> {
         register: median(runs.iter().map(|run| run.register).collect()),
         beyond: median(runs.iter().map(|run| run.beyond).collect()),
         events: median(runs.iter().map(|run| run.events).collect()),
+        bytes: median(runs.iter().map(|run| run.bytes).collect()),
     })
 }
 
 /// Tells what both cost, with `place` before it.
 fn tell(place: &str, costs: &Costs, trips: &Trips) {
     println!(
-        "{place}: whereis {:8.1} us ({:.2} echoes)   register {:8.1} us ({:.2} echoes, {:.1} channel trips beyond a whereis)",
+        "{place}: whereis {:8.1} us ({:.2} echoes)   register {:8.1} us ({:.2} echoes, {:.1} channel trips, {:.1} beyond a whereis)",
         micros(costs.look_up),
         trips.in_echoes(costs.look_up),
         micros(costs.register),
         trips.in_echoes(costs.register),
+        trips.in_channel_trips(costs.register),
         trips.in_channel_trips(costs.beyond),
     );
 }
@@ -99,22 +109,22 @@ pub fn ahead(program: &str, trips: &Trips) -> Result<()> {
     Ok(())
 }
 
-/// The table with the machine free, and how many events a registration makes.
+/// The table with the machine free, how many events a registration makes, and the memory that an event takes.
 pub fn free(program: &str, trips: &Trips) -> Result<()> {
     let mut events = Vec::new();
     for nodes in [1, 2, 4, 8] {
         let costs = medians(|| costs_of_run(program, nodes, CALLS))?;
         tell(&format!("nodes {nodes}"), &costs, trips);
-        events.push((nodes, costs.events));
+        events.push((nodes, costs.events, costs.bytes));
     }
-    for (nodes, events) in events {
-        println!("nodes {nodes}: {events:.1} events a registration");
+    for (nodes, events, bytes) in events {
+        println!("nodes {nodes}: {events:.1} events a registration, {bytes:.0} bytes an event");
     }
     Ok(())
 }
 
 /// The table while two endless loops take two cores. It is told in the channel trips of the free machine, so that it compares with
-/// the free table; what the bare pairs take beside the loops says how much of the difference isn't the nodes'.
+/// the free table, and in those beside the loops.
 pub fn beside_loops(program: &str, trips: &Trips) -> Result<()> {
     let _loops = Loops::start();
     let slowed = Trips::measure(CALLS_BESIDE_LOOPS)?;
@@ -123,10 +133,11 @@ pub fn beside_loops(program: &str, trips: &Trips) -> Result<()> {
     for nodes in [2, 4, 8] {
         let costs = medians(|| costs_of_run(program, nodes, CALLS_BESIDE_LOOPS))?;
         println!(
-            "beside two loops, nodes {nodes}: whereis {:8.1} us   register {:8.1} us ({:.1} channel trips beyond a whereis)",
+            "beside two loops, nodes {nodes}: whereis {:8.1} us   register {:8.1} us (beyond a whereis {:.1} channel trips of the free machine, {:.1} beside the loops)",
             micros(costs.look_up),
             micros(costs.register),
             trips.in_channel_trips(costs.beyond),
+            slowed.in_channel_trips(costs.beyond),
         );
     }
     Ok(())
