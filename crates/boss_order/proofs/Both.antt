@@ -1,35 +1,23 @@
 -- What two sets have in common, node by node.
-use Rattle.std.proofs.Common.{ℕ, Bool, true, false, ◌==◌, ◌≡◌, ◌+◌, ◌<◌, List, [], ◌∷◌, ◌++◌, length, get_or, take, refl, sym, ap, ◌∙◌, subst, inl, inr}
+use Rattle.std.proofs.Common.{ℕ, Bool, true, false, ◌==◌, ◌≡◌, ◌+◌, ◌<◌, List, length, get_or, take, refl, sym, ◌∙◌, subst, inl, inr}
 use Rattle.std.specs.Prelude.{not, ◌&&◌, ◌||◌}
+use Rattle.std.proofs.Math.Bool.{or-false, and-true}
 use Rattle.std.proofs.lemmas.Bool.{cases_eq, eq-eqb, ne_eqb}
-use Rattle.std.proofs.lemmas.Grind.{take_at_read}
 use Rattle.term.specs.NodeSets.{set_of, without_node}
-use Rattle.boss_order.proofs.Sets.{set_of-filter, set_of-append}
+use Rattle.boss_order.proofs.Sets.{set_of-filter, set_of-take}
 
 -- the nodes of a list that are among the others, where the first i were looked at
 abbrev pub Looked : List ℕ → List ℕ → ℕ → List ℕ → Type 0
 Looked xs others i kept = (c : ℕ) → set_of kept c ≡ (set_of xs c && (not (set_of (take i xs) c) || set_of others c))
-
-or_no : (b : Bool) → (b || false) ≡ b
-or_no true = refl
-or_no false = refl
-
--- the set of one node more
-one_more : (xs : List ℕ) (i : ℕ) (x : ℕ) → i < length xs → x ≡ get_or xs i x → (c : ℕ)
-    → set_of (take (i + 1) xs) c ≡ (set_of (take i xs) c || (x == c))
-one_more xs i x l e c =
-    ap (λ (ys : List ℕ). set_of ys c) (take_at_read xs i x l).1
-    ∙ ap (λ (y : ℕ). set_of (take i xs ++ y ∷ []) c) (sym e)
-    ∙ set_of-append (take i xs) (x ∷ []) c ∙ ap (λ (b : Bool). set_of (take i xs) c || b) (or_no (x == c))
 
 -- the i-th is among the others, and stays
 pub stays : (xs others kept : List ℕ) (i x : ℕ) → i < length xs → x ≡ get_or xs i x → set_of others x ≡ true
     → Looked xs others i kept → Looked xs others (i + 1) kept
 stays xs others kept i x l e is looked c = elim (cases_eq x c) [
   | inl same ↦
-      rw (looked c, one_more xs i x l e c, eq-eqb x c same, subst (λ (y : ℕ). set_of others y ≡ true) same is)
+      rw (looked c, set_of-take xs i x l e c, eq-eqb x c same, subst (λ (y : ℕ). set_of others y ≡ true) same is)
       (both (set_of xs c) (set_of (take i xs) c))
-  | inr ne ↦ rw (looked c, one_more xs i x l e c, ne_eqb x c ne, or_no (set_of (take i xs) c)) refl
+  | inr ne ↦ rw (looked c, set_of-take xs i x l e c, ne_eqb x c ne, or-false (set_of (take i xs) c)) refl
 ]
   where
     both : (s t : Bool) → (s && (not t || true)) ≡ (s && (not (t || true) || true))
@@ -45,7 +33,7 @@ goes xs others kept i x l e isnt looked c =
       | inl same ↦
           rw (
             looked c,
-            one_more xs i x l e c,
+            set_of-take xs i x l e c,
             eq-eqb x c same,
             eq-eqb c x (sym same),
             subst (λ (y : ℕ). set_of others y ≡ false) same isnt,
@@ -54,18 +42,14 @@ goes xs others kept i x l e isnt looked c =
       | inr ne ↦
           rw (
             looked c,
-            one_more xs i x l e c,
+            set_of-take xs i x l e c,
             ne_eqb x c ne,
             ne_eqb c x (λ q. ne (sym q)),
-            or_no (set_of (take i xs) c),
-          ) (and_yes (set_of xs c && (not (set_of (take i xs) c) || set_of others c)))
+            or-false (set_of (take i xs) c),
+          ) (and-true (set_of xs c && (not (set_of (take i xs) c) || set_of others c)))
     ]
   where
     neither : (s t : Bool) → ((s && (not t || false)) && false) ≡ (s && (not (t || true) || false))
     neither false t = refl
     neither true true = refl
     neither true false = refl
-
-    and_yes : (b : Bool) → (b && true) ≡ b
-    and_yes true = refl
-    and_yes false = refl

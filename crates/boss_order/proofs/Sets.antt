@@ -1,15 +1,16 @@
 -- What the protocol asks of a set of nodes, read off the set's rising list.
-use Rattle.std.proofs.Common.{get_or, ℕ, Bool, true, false, zero, suc, ◌==◌, ◌≡◌, ◌<◌, ◌≤◌, List, [], ◌∷◌, ◌++◌, refl, sym, ap, ◌∙◌, inl, inr, arith}
+use Rattle.std.proofs.Common.{length, get_or, take, ℕ, Bool, true, false, zero, suc, ◌==◌, ◌≡◌, ◌<◌, ◌≤◌, ◌+◌, List, [], ◌∷◌, ◌++◌, refl, sym, ap, ◌∙◌, inl, inr, arith}
 use Rattle.std.specs.Prelude.{nat_lt, not, ◌&&◌, ◌||◌, if◌then◌else◌}
 use Rattle.std.specs.List.{filter, list_any, All, AllPairs}
 use Rattle.std.specs.List.Sorted.{IsStrictlyIncreasing}
 use Rattle.std.proofs.Math.Path.{fun_ext}
 use Rattle.std.proofs.lemmas.Bool.{or_cases, eqb-true, cases_order, eq-eqb, ne_eqb, lt-ltb, le-ltb}
-use Rattle.std.proofs.lemmas.Grind.{common_steps}
+use Rattle.std.proofs.lemmas.Grind.{common_steps, take_at_read}
 use Rattle.std.proofs.lemmas.List.{append-nil}
 use Rattle.std.proofs.lemmas.List.Folds.{list_any_at, list_any-append}
 use Rattle.std.proofs.lemmas.List.Elements.{All-filter}
 use Rattle.std.proofs.lemmas.List.Kept.{AllPairs-from_increasing, IsStrictlyIncreasing-filter}
+use Rattle.std.proofs.Math.Bool.{and-false, or-false}
 use Rattle.registry_model.proofs.Updates.{by_test}
 use Rattle.registry_model.specs.Process.{Nodes, nodes_of}
 use Rattle.protocol_model.specs.Links.{is_nil}
@@ -147,13 +148,9 @@ set_of-kept p c x ys t e =
     by_test c (λ y b. set_of (if p y then y ∷ ys else ys) c ≡ ((b || t) && p c)) (here (p c) refl)
     (λ y ne. there y ne (p y)) x
   where
-    none : (b : Bool) → (b && false) ≡ false
-    none true = refl
-    none false = refl
-
     here : (b : Bool) → p c ≡ b → set_of (if b then c ∷ ys else ys) c ≡ b
     here true q = rw (eq-eqb c c refl) refl
-    here false q = e ∙ ap (λ (b : Bool). t && b) q ∙ none t
+    here false q = e ∙ ap (λ (b : Bool). t && b) q ∙ and-false t
 
     there : (y : ℕ) → (y ≡ c → ⊥) → (b : Bool) → set_of (if b then y ∷ ys else ys) c ≡ (t && p c)
     there y ne true = rw (ne_eqb y c ne) e
@@ -167,6 +164,18 @@ set_of-filter p (x ∷ xs) c = set_of-kept p c x (filter p xs) (set_of xs c) (se
 -- the set of two lists
 pub set_of-append : (xs ys : List ℕ) (c : ℕ) → set_of (xs ++ ys) c ≡ (set_of xs c || set_of ys c)
 set_of-append xs ys c = list_any-append (λ m. m == c) xs ys
+
+-- the set of the first nodes, with the one behind them
+pub set_of-take : (xs : List ℕ) (i : ℕ) (x : ℕ) → i < length xs → x ≡ get_or xs i x → (c : ℕ)
+    → set_of (take (i + 1) xs) c ≡ (set_of (take i xs) c || (x == c))
+set_of-take xs i x l e c =
+    ap (λ (ys : List ℕ). set_of ys c) (take_at_read xs i x l).1
+    ∙ ap (λ (y : ℕ). set_of (take i xs ++ y ∷ []) c) (sym e)
+    ∙ set_of-append (take i xs) (x ∷ []) c ∙ ap (λ (b : Bool). set_of (take i xs) c || b) (or-false (x == c))
+
+-- each node of a list is of its set
+pub set_of-item : (xs : List ℕ) (k d : ℕ) → k < length xs → set_of xs (get_or xs k d) ≡ true
+set_of-item xs k d l = list_any_at (λ m. m == get_or xs k d) xs k d l (eq-eqb _ _ refl)
 
 -- no element passes a test where none is left
 pub is_nil-filter : (p : ℕ → Bool) (xs : List ℕ) → is_nil (filter p xs) ≡ not (list_any p xs)
@@ -199,11 +208,7 @@ passes_within s xs only = fun_ext (λ c. go c (s c) refl)
   where
     go : (c : ℕ) (b : Bool) → s c ≡ b → b ≡ (set_of xs c && b)
     go c true e = rw (only c e) refl
-    go c false e = sym (none (set_of xs c))
-      where
-        none : (b : Bool) → (b && false) ≡ false
-        none true = refl
-        none false = refl
+    go c false e = sym (and-false (set_of xs c))
 
 -- the nodes of a set that lies among these
 pub nodes_of-within : (n : ℕ) (s : Nodes) (xs : List ℕ) → IsStrictlyIncreasing xs → All (λ c. c < n) xs
@@ -230,4 +235,4 @@ pub below-within : (n : ℕ) (xs ys : List ℕ) → All (λ c. c < n) xs → ((c
     → All (λ c. c < n) ys
 below-within n xs ys below only k d l =
     below-set_of n xs (get_or ys k d) below
-    (only (get_or ys k d) (list_any_at (λ m. m == get_or ys k d) ys k d l (eq-eqb _ _ refl)))
+    (only (get_or ys k d) (set_of-item ys k d l))

@@ -1,10 +1,10 @@
 -- Chains of rules at one node, and what they make of the numbers: a chain that answers no lock call `true` and deletes
--- nothing
--- changes none, and one that begins no call counts what it answers `true`.
+-- nothing changes none, and one that begins no call counts what it answers `true`.
 use Rattle.std.proofs.Common.{ℕ, Bool, true, false, ◌==◌, ◌≡◌, Option, Some, None, List, [], ◌∷◌, ◌++◌, refl, sym, ap, ◌∙◌, subst}
 use Rattle.std.specs.Prelude.{not, ◌&&◌, ◌||◌, if◌then◌else◌}
 use Rattle.std.specs.List.{list_any, list_all}
 use Rattle.std.proofs.lemmas.List.Folds.{list_any-append}
+use Rattle.std.proofs.Math.Bool.{and-false}
 use Rattle.registry_model.specs.Process.{Process, is_process}
 use Rattle.registry_model.specs.Call.{True, is_reply}
 use Rattle.protocol_model.specs.Letter.{Id, is_id}
@@ -71,11 +71,7 @@ aside_calm r h = rw (aside_gives_none r h, aside_counts_none r h) refl
 pub won_nothing : (id : Id) (x : ℕ) (ss : List Answer) (k : Option LockCall) → ((b m : ℕ) → any_true b m ss ≡ false)
     → is_won id x ss k ≡ false
 won_nothing id x ss None none = refl
-won_nothing id x ss (Some c) none = rw (none c.holder.node c.number) (go (is_tried id x c))
-  where
-    go : (b : Bool) → (b && false) ≡ false
-    go true = refl
-    go false = refl
+won_nothing id x ss (Some c) none = rw (none c.holder.node c.number) (and-false (is_tried id x c))
 
 -- answers before that are of no use to this call
 pub won_later : (id : Id) (x : ℕ) (xs ys : List Answer) (k : Option LockCall)

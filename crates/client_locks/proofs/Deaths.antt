@@ -4,6 +4,7 @@ use Rattle.std.specs.Prelude.{not, ◌&&◌, ◌||◌, nat_lt, if◌then◌else�
 use Rattle.std.specs.List.{list_any}
 use Rattle.std.proofs.lemmas.List.Folds.{list_any-append}
 use Rattle.std.proofs.lemmas.Bool.{eqb-true, eq-eqb}
+use Rattle.std.proofs.Math.Bool.{or-true}
 use Rattle.registry_model.specs.Process.{Process, Nodes, at}
 use Rattle.registry_model.specs.History.{Entry}
 use Rattle.protocol_model.specs.Letter.{Id, Letter}
@@ -43,11 +44,7 @@ dead_other xs k s ne = list_any-append (λ d. d == s) xs (k ∷ []) ∙ go (list
     go false c e = rw e refl
 
 pub dead_now : (xs : List ℕ) (s : ℕ) → list_any (λ d. d == s) (xs ++ s ∷ []) ≡ true
-dead_now xs s = list_any-append (λ d. d == s) xs (s ∷ []) ∙ rw (eq-eqb s s refl) (go (list_any (λ d. d == s) xs))
-  where
-    go : (b : Bool) → (b || true) ≡ true
-    go true = refl
-    go false = refl
+dead_now xs s = list_any-append (λ d. d == s) xs (s ∷ []) ∙ rw (eq-eqb s s refl) (or-true (list_any (λ d. d == s) xs))
 
 module _ (o : Opening) (a : ℕ) (w : World) (num : Numbers) (C : Clients o w num) where
   -- a process of this node dies

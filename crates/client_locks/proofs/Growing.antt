@@ -1,6 +1,5 @@
 -- What each rule leaves alone or lets grow: who is dead or has left stays so, and calls are numbered upwards. And no
--- operation
--- of a registrar is answered `true`.
+-- operation of a registrar is answered `true`.
 use Rattle.std.proofs.Common.{ℕ, Bool, true, false, ◌==◌, ◌≡◌, ◌≤◌, Option, Some, None, List, [], ◌∷◌, ◌++◌, refl, sym, ap, ◌∙◌, arith}
 use Rattle.std.specs.Prelude.{not, ◌&&◌, ◌||◌, is_some, if◌then◌else◌}
 use Rattle.std.specs.List.{list_any}

@@ -4,6 +4,7 @@ use Rattle.std.specs.Prelude.{◌&&◌, ◌||◌, if◌then◌else◌}
 use Rattle.std.specs.List.{list_all}
 use Rattle.std.proofs.lemmas.List.Folds.{list_any-append}
 use Rattle.std.proofs.lemmas.Bool.{eqb-true, eq-eqb}
+use Rattle.std.proofs.Math.Bool.{and-false, and-true}
 use Rattle.registry_model.specs.Process.{Process, is_process}
 use Rattle.protocol_model.specs.Letter.{Id}
 use Rattle.protocol_model.specs.Node.{LockCall}
@@ -24,12 +25,8 @@ use Rattle.client_locks.proofs.Steps.{is_step, nums_same, calls_aside, calls_fro
 use Rattle.client_locks.proofs.Ongoing.{GoesOnFrom, Step, tries, rests, stepped}
 use Rattle.client_locks.proofs.Chains.{OrderedKept, aside_or_step, aside_gives_none, aside_counts_none, won_later, won_untried, rest_tries, up_before, Distinct, distinct_from, from_heard}
 
-pub and_false : (b : Bool) → (b && false) ≡ false
-and_false true = refl
-and_false false = refl
-
 and_and_false : (b c : Bool) → (b && (c && false)) ≡ false
-and_and_false true c = and_false c
+and_and_false true c = and-false c
 and_and_false false c = refl
 
 module _ (o : Opening) (a : ℕ) (kept : OrderedKept o) where
@@ -140,11 +137,7 @@ module _ (o : Opening) (a : ℕ) (kept : OrderedKept o) where
 
           true_first : any_true S.call.holder.node S.call.number first ≡ S.ended
           true_first = S.answers S.call.holder.node S.call.number ∙ rw
-              (eq-eqb a S.call.holder.node (sym S.home), eq-eqb S.call.number S.call.number refl) (one S.ended)
-            where
-              one : (b : Bool) → (b && true) ≡ b
-              one true = refl
-              one false = refl
+              (eq-eqb a S.call.holder.node (sym S.home), eq-eqb S.call.number S.call.number refl) (and-true S.ended)
 
           true_all : any_true S.call.holder.node S.call.number (first ++ later) ≡
               (S.ended || any_true S.call.holder.node S.call.number later)
@@ -163,11 +156,7 @@ module _ (o : Opening) (a : ℕ) (kept : OrderedKept o) where
               ∙ ap (λ (b : Bool). plus_if (b && is_tried id x S.call) (num p id x)) end
               ∙ sym (ap (λ (b : Bool). plus_if (is_tried id x S.call && b) (num p id x))
               (true_all ∙ ap (λ (b : Bool). b || any_true S.call.holder.node S.call.number later) end)
-              ∙ ap (λ (b : Bool). plus_if b (num p id x)) (one (is_tried id x S.call)))
-            where
-              one : (b : Bool) → (b && true) ≡ b
-              one true = refl
-              one false = refl
+              ∙ ap (λ (b : Bool). plus_if b (num p id x)) (and-true (is_tried id x S.call)))
 
           -- it has ended otherwise: it isn't answered `true` any more
           number_waits : rests S.next ≡ true → Waits S.call.number w1
@@ -199,7 +188,7 @@ module _ (o : Opening) (a : ℕ) (kept : OrderedKept o) where
               (true_all ∙ ap (λ (b : Bool). b || any_true S.call.holder.node S.call.number later) end
               ∙ answered_none rs w1 num S.call.number all k.1 (kept a w r order k.0)
               (replying_keeps o a w r k.0 R) (number_waits rest) S.call.holder.node)
-              ∙ ap (λ (b : Bool). plus_if b (num p id x)) (and_false (is_tried id x S.call)))
+              ∙ ap (λ (b : Bool). plus_if b (num p id x)) (and-false (is_tried id x S.call)))
 
           -- it goes on as the same try
           on : (next : Option LockCall) → ((d : LockCall) → next ≡ Some d → GoesOnFrom S.call d) →
@@ -252,8 +241,8 @@ module _ (o : Opening) (a : ℕ) (kept : OrderedKept o) where
             where
               other : (c : LockCall) → call_at w p ≡ Some c → (t u : Bool) → (a == c.holder.node) ≡ t
                   → (S.call.number == c.number) ≡ u → (S.ended && (t && u)) ≡ false
-              other c e false u et eu = and_false S.ended
-              other c e true false et eu = and_false S.ended
+              other c e false u et eu = and-false S.ended
+              other c e true false et eu = and-false S.ended
               other c e true true et eu =
                   let home_p : p.node ≡ a = ap (λ (q : Process). q.node)
                   (sym (holder_of_call p (w.node p.node).calls c e)) ∙ sym (eqb-true a c.holder.node et) in

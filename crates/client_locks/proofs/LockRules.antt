@@ -2,6 +2,7 @@
 use Rattle.std.proofs.Common.{ℕ, Bool, true, false, ◌==◌, ◌≡◌, Option, Some, None, List, [], ◌∷◌, ◌++◌, refl, sym, ap, ◌∙◌, subst, inl, inr}
 use Rattle.std.specs.Prelude.{not, ◌&&◌, nat_lt, if◌then◌else◌}
 use Rattle.std.proofs.lemmas.Bool.{cases_eq, eqb-true, eq-eqb, ne_eqb, lt-ltb}
+use Rattle.std.proofs.Math.Bool.{and-false}
 use Rattle.registry_model.specs.Process.{Nodes}
 use Rattle.protocol_model.specs.Letter.{Id, Letter}
 use Rattle.protocol_model.specs.Round.{Mark, Out, Later, Owes, Granted, Refused, Lost, Gone, Round, is_out, is_owes, owes, asked, rest, asked_too, opens, answer, mark_down, down}
@@ -146,11 +147,7 @@ module _ (o : Opening) (a : ℕ) (w : World) (num : Numbers) (C : Clients o w nu
       to_ask x m e up ne h = rw (lt-ltb x o.bound (below_bound o w x up), e, h, ne_eqb x r.boss ne, untold x up) refl
 
       not_to_ask : (x : ℕ) → r.mark x ≡ Out → asked_then x ≡ false
-      not_to_ask x e = rw e (none (nat_lt x o.bound))
-        where
-          none : (b : Bool) → (b && false) ≡ false
-          none true = refl
-          none false = refl
+      not_to_ask x e = rw e (and-false (nat_lt x o.bound))
 
       boss_not_asked : opens f g r ≡ true → asked_then f ≡ false
       boss_not_asked e = rw ((both g (f == r.boss) (both (g && (f == r.boss)) (owes r f) e).0).1)

@@ -3,6 +3,7 @@
 use Rattle.std.proofs.Common.{ℕ, Bool, true, false, ◌==◌, ◌≡◌, ◌<◌, ◌+◌, ◌-◌, Option, Some, None, [], ◌∷◌, refl, sym, ap, ◌∙◌, subst, arith}
 use Rattle.std.specs.Prelude.{not, ◌&&◌, nat_lt, if◌then◌else◌, is_none, find, filter}
 use Rattle.std.proofs.lemmas.Bool.Decides.{nat_tests}
+use Rattle.std.proofs.Math.Bool.{and-false}
 use Rattle.registry_model.specs.Process.{Process, is_process}
 use Rattle.protocol_model.specs.Letter.{Id, is_id, is_resource}
 use Rattle.protocol_model.specs.LockTable.{Grant, Locks, is_grant_of, count, is_in_the_way, refused_by, is_free_for, grant, give_back, drop_holder, drop_node}
@@ -113,11 +114,7 @@ count-give_back_other id p j q (g ∷ t) ne = go (is_grant_of id p g) refl (coun
 
 -- another holder's, under whatever id
 pub pair_off : (id : Id) (p : Process) (j : Id) (q : Process) → is_process p q ≡ false → is_pair id p j q ≡ false
-pair_off id p j q e = rw e (none (is_id id j))
-  where
-    none : (b : Bool) → (b && false) ≡ false
-    none true = refl
-    none false = refl
+pair_off id p j q e = rw e (and-false (is_id id j))
 
 -- the counts of the holder itself, by id
 pub count-grant : (id : Id) (p : Process) (t : Locks) (j : Id)

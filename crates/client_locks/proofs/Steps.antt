@@ -2,6 +2,7 @@
 use Rattle.std.proofs.Common.{ℕ, Bool, true, false, ◌==◌, ◌≡◌, Option, Some, None, refl, sym, ap, ◌∙◌, subst}
 use Rattle.std.specs.Prelude.{not, ◌&&◌, ◌||◌, if◌then◌else◌}
 use Rattle.std.proofs.lemmas.Bool.{eqb-true}
+use Rattle.std.proofs.Math.Bool.{or-true}
 use Rattle.registry_model.specs.Process.{Process, is_process, Nodes}
 use Rattle.registry_model.specs.History.{Entry}
 use Rattle.protocol_model.specs.Letter.{Id, Global, Letter}
@@ -44,10 +45,6 @@ is_counting (DeletesLock c) = true
 is_counting (DeletesNothing c) = true
 is_counting _ = false
 
-or_true : (b : Bool) → (b || true) ≡ true
-or_true true = refl
-or_true false = refl
-
 -- the calls after a turn that changed one of them
 pub call_after : (a : ℕ) (t : Option Taken) (u : Turn) (w : World) (q : Process) (next : Option LockCall) → q.node ≡ a
     → ((p : Process) → call_of p u.node.calls ≡ (if is_process q p then next else call_of p (w.node a).calls))
@@ -66,7 +63,7 @@ module _ (o : Opening) (a : ℕ) (w : World) (num : Numbers) where
   gone_now : (q : Process) (u : Turn) → q.node ≡ a → is_dead u.node.watch q.serial ≡ true
       → is_gone (turned a None u w) q ≡ true
   gone_now q u home h = ap (λ (b : Bool). left w q.node || b) (ap (λ (v : Node). is_dead v.watch q.serial)
-      (node_here w a u q.node home) ∙ h) ∙ or_true (left w q.node)
+      (node_here w a u q.node home) ∙ h) ∙ or-true (left w q.node)
 
   exit_home : (p : Process) → May o a w (Exits p) → p.node ≡ a
   exit_home p m = eqb-true p.node a (both (p.node == a) (not (p.serial == 0))

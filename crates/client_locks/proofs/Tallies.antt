@@ -6,7 +6,7 @@ use Rattle.registry_model.specs.Process.{Process}
 use Rattle.protocol_model.specs.Letter.{Id}
 use Rattle.protocol_model.specs.Event.{Answer, Refusal}
 use Rattle.protocol_model.specs.ClientLocks.{Try, gives, is_gone, Tally, tallied, tally_after, tally_from, number, Exclusion}
-use Rattle.protocol_model.specs.World.{Opening, World, WorldEvent, place, opening_world, refusal, happens, accepted, answers, turn_of}
+use Rattle.protocol_model.specs.World.{Opening, World, WorldEvent, place, opening_world, refusal, happens, accepted, answers, turn_of, run}
 use Rattle.moves.proofs.Rules.{answers_by}
 use Rattle.walk.proofs.Walk.{OrderedWalk, walked_in_order}
 use Rattle.walk.proofs.Orders.{ordered_keeps}
@@ -20,12 +20,12 @@ use Rattle.client_locks.proofs.TriedEvents.{Tried, tried}
 use Rattle.client_locks.proofs.Walking.{Grounds, State, event_keeps, opening_state, excluded}
 
 -- at first nothing was tried, and no call is open
-fits_opens : (o : Opening) (p : Process) → Fits (opening_world o) p None
+pub fits_opens : (o : Opening) (p : Process) → Fits (opening_world o) p None
 fits_opens o p = record { own = λ c e d. cc; alone = λ s e q c h k n. cc; below = λ s e. cc }
 
 module _ (o : Opening) (F : World → Type 0) (G : Grounds o F) where
   -- what an accepted event gives and keeps, where the last try of p fits
-  accepted_tried : (w : World) (e : WorldEvent) (num : Numbers) (S : State o F G w num) (p : Process) (t : Option Try)
+  pub accepted_tried : (w : World) (e : WorldEvent) (num : Numbers) (S : State o F G w num) (p : Process) (t : Option Try)
       (fit : Fits w p t) → refusal o w e ≡ None
       → Tried o (ordered_keeps o) w num S.ordered S.replying S.numbered p t fit e (answers o w e) (accepted o w e)
   accepted_tried w e num S p t fit h = subst
@@ -42,26 +42,37 @@ module _ (o : Opening) (F : World → Type 0) (G : Grounds o F) where
       answered = ap (λ (r : Option Refusal). if is_none r then (turn_of o w e).answers else []) h
           ∙ sym walked.walk.answers
 
-  -- after an event the tally has the number by the rounds, and its last try fits
-  tally_keeps : (w : World) (e : WorldEvent) (num : Numbers) → State o F G w num → (k : Tally) (p : Process) (id : Id)
-      (x : ℕ) → Fits w p k.last → k.number ≡ num p id x
-      → ((tally_after o w e p id x k).number ≡ number_after o w e p id x (num p id x))
-      × Fits (happens o w e) p (tally_after o w e p id x k).last
-  tally_keeps w e num S k p id x fit same = go (refusal o w e) refl
+  -- behind an event the last try fits
+  fits_keeps : (w : World) (e : WorldEvent) (num : Numbers) → State o F G w num → (k : Tally) (p : Process) (id : Id)
+      (x : ℕ) → Fits w p k.last → Fits (happens o w e) p (tally_after o w e p id x k).last
+  fits_keeps w e num S k p id x fit = go (refusal o w e) refl
     where
       go : (r : Option Refusal) → refusal o w e ≡ r
-          → ((if is_none r then tallied o w e p id x k else k).number
-          ≡ (if is_none r then RoundNumbers.counted o w e p id x (num p id x) else num p id x))
-          × Fits (if is_none r then accepted o w e else w) p (if is_none r then tallied o w e p id x k else k).last
-      go (Some r) h = (same, fit)
-      go None h =
-          let T : Tried o (ordered_keeps o) w num S.ordered S.replying S.numbered p k.last fit e (answers o w e)
-          (accepted o w e) = accepted_tried w e num S p k.last fit h in (
-            ap (λ (b : Bool). if is_gone (happens o w e) p then 0 else (if b then k.number + 1 else
-                (if gives w e p id x then k.number - 1 else k.number))) (T.won id x)
-                ∙ ap (λ (n : ℕ). RoundNumbers.counted o w e p id x n) same,
-            T.fits,
-          )
+          → Fits (if is_none r then accepted o w e else w) p (if is_none r then tallied o w e p id x k else k).last
+      go (Some r) h = fit
+      go None h = (accepted_tried w e num S p k.last fit h).fits
+
+  -- and behind each list of events
+  pub fits_behind : (es : List WorldEvent) (w : World) (num : Numbers) → State o F G w num → (k : Tally) (p : Process)
+      (id : Id) (x : ℕ) → Fits w p k.last → Fits (run o w es) p (tally_from o w es p id x k).last
+  fits_behind [] w num S k p id x fit = fit
+  fits_behind (e ∷ es) w num S k p id x fit =
+      fits_behind es (happens o w e) (λ q i y. number_after o w e q i y (num q i y)) (event_keeps o F G w e num S)
+      (tally_after o w e p id x k) p id x (fits_keeps w e num S k p id x fit)
+
+  -- after an event the tally has the number by the rounds
+  tally_keeps : (w : World) (e : WorldEvent) (num : Numbers) → State o F G w num → (k : Tally) (p : Process) (id : Id)
+      (x : ℕ) → Fits w p k.last → k.number ≡ num p id x
+      → (tally_after o w e p id x k).number ≡ number_after o w e p id x (num p id x)
+  tally_keeps w e num S k p id x fit same = go (refusal o w e) refl
+    where
+      go : (r : Option Refusal) → refusal o w e ≡ r → (if is_none r then tallied o w e p id x k else k).number
+          ≡ (if is_none r then RoundNumbers.counted o w e p id x (num p id x) else num p id x)
+      go (Some r) h = same
+      go None h = ap (λ (b : Bool). if is_gone (happens o w e) p then 0 else (if b then k.number + 1 else
+          (if gives w e p id x then k.number - 1 else k.number)))
+          ((accepted_tried w e num S p k.last fit h).won id x)
+          ∙ ap (λ (n : ℕ). RoundNumbers.counted o w e p id x n) same
 
   -- so the numbers are one
   same_numbers : (es : List WorldEvent) (w : World) (num : Numbers) → State o F G w num → (k : Tally) (p : Process)
@@ -69,10 +80,9 @@ module _ (o : Opening) (F : World → Type 0) (G : Grounds o F) where
       → (tally_from o w es p id x k).number ≡ number_from o w es p id x (num p id x)
   same_numbers [] w num S k p id x fit same = same
   same_numbers (e ∷ es) w num S k p id x fit same =
-      let K : ((tally_after o w e p id x k).number ≡ number_after o w e p id x (num p id x))
-      × Fits (happens o w e) p (tally_after o w e p id x k).last = tally_keeps w e num S k p id x fit same in
       same_numbers es (happens o w e) (λ q i y. number_after o w e q i y (num q i y)) (event_keeps o F G w e num S)
-      (tally_after o w e p id x k) p id x K.1 K.0
+      (tally_after o w e p id x k) p id x (fits_keeps w e num S k p id x fit)
+      (tally_keeps w e num S k p id x fit same)
 
   -- after every list of events
   pub numbers_agree : (es : List WorldEvent) (p : Process) (id : Id) (x : ℕ)

@@ -6,6 +6,7 @@ use Rattle.std.specs.Prelude.{not, ◌&&◌, ◌||◌, if◌then◌else◌}
 use Rattle.std.specs.List.{list_all}
 use Rattle.std.proofs.lemmas.List.Folds.{list_any-append}
 use Rattle.std.proofs.lemmas.Bool.{eqb-true, eq-eqb}
+use Rattle.std.proofs.Math.Bool.{and-false}
 use Rattle.registry_model.specs.Process.{Text, Process, is_process, Nodes}
 use Rattle.registry_model.specs.Call.{True}
 use Rattle.protocol_model.specs.Round.{Out, Later, Owes, is_out, begin, greatest, asked}
@@ -32,7 +33,6 @@ use Rattle.client_locks.proofs.Answering.{is_true, any_true}
 use Rattle.client_locks.proofs.Steps.{call_after}
 use Rattle.client_locks.proofs.Ongoing.{is_deleting}
 use Rattle.client_locks.proofs.Chains.{is_calm, aside_calm, OrderedKept, calm_answers}
-use Rattle.client_locks.proofs.HeardChains.{and_false}
 use Rattle.client_locks.proofs.Numbering.{aside_hears, Numbered, last_effect, last_chain, beginner_home}
 use Rattle.client_locks.proofs.Told.{all_of_all, retry_calm, chain_of, first_heard}
 use Rattle.client_locks.proofs.Retried.{IsTriedAgain, retry_calls}
@@ -60,7 +60,7 @@ both_lost : (p : Process) (id : Id) (x : ℕ) (ss : List Answer) (t : Option Try
     → is_won p id x ss t ≡ RoundNumbers.is_won id x ss k
 both_lost p id x ss t None new old = lost_without p id x ss t new
 both_lost p id x ss t (Some c) new old = lost_without p id x ss t new
-    ∙ sym (ap (λ (b : Bool). is_tried id x c && b) (old c refl) ∙ and_false (is_tried id x c))
+    ∙ sym (ap (λ (b : Bool). is_tried id x c && b) (old c refl) ∙ and-false (is_tried id x c))
 
 module _ (o : Opening) (kept : OrderedKept o) (w : World) (num : Numbers) (order : Ordered w) (R : Replying w)
     (N : Numbered o w) (p : Process) (t : Option Try) (F : Fits w p t) where

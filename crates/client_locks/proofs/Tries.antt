@@ -6,6 +6,7 @@ use Rattle.std.specs.Prelude.{◌&&◌, ◌||◌, if◌then◌else◌}
 use Rattle.std.specs.List.{list_all}
 use Rattle.std.proofs.lemmas.List.Folds.{list_any-append}
 use Rattle.std.proofs.lemmas.Bool.{eqb-true}
+use Rattle.std.proofs.Math.Bool.{and-false}
 use Rattle.registry_model.specs.Process.{Process, is_process}
 use Rattle.protocol_model.specs.Letter.{Id, is_id}
 use Rattle.protocol_model.specs.Round.{asked}
@@ -26,7 +27,7 @@ use Rattle.client_locks.proofs.Answering.{is_true, any_true, not_true_answers}
 use Rattle.client_locks.proofs.Steps.{is_step, calls_from}
 use Rattle.client_locks.proofs.Ongoing.{is_deleting, GoesOnFrom, Step, tries, rests, stepped}
 use Rattle.client_locks.proofs.Chains.{OrderedKept, aside_or_step, aside_gives_none, won_untried, rest_tries}
-use Rattle.client_locks.proofs.HeardChains.{and_false, Waits, answered_none}
+use Rattle.client_locks.proofs.HeardChains.{Waits, answered_none}
 use Rattle.client_locks.proofs.Numbering.{Numbered, last_effect}
 
 -- the try is that of this call, which asks the nodes of the try, or did so before it was refused
@@ -51,7 +52,7 @@ pub lost_without : (p : Process) (id : Id) (x : ℕ) (ss : List Answer) (t : Opt
     → ((s : Try) → t ≡ Some s → any_true p.node s.number ss ≡ false) → is_won p id x ss t ≡ false
 lost_without p id x ss None none = refl
 lost_without p id x ss (Some s) none = ap (λ (b : Bool). (is_id s.id id && s.asks x) && b) (none s refl)
-    ∙ and_false (is_id s.id id && s.asks x)
+    ∙ and-false (is_id s.id id && s.asks x)
 
 -- a call that waits is tried nowhere
 untried_waiting : (c : LockCall) → is_waiting_call c.phase ≡ true → (id : Id) (x : ℕ) → is_tried id x c ≡ false
@@ -85,7 +86,7 @@ module _ (o : Opening) (a : ℕ) (kept : OrderedKept o) where
       one : suits Hearing r ≡ true → (t : Bool) → is_step r ≡ t → any_true b m (turn_by o a w r).answers ≡ false
       one heard true e =
           let S : Step o a r w num = stepped o a w num order R r e k.0 in
-          S.answers b m ∙ ap (λ (t : Bool). S.ended && (t && (S.call.number == m))) other ∙ and_false S.ended
+          S.answers b m ∙ ap (λ (t : Bool). S.ended && (t && (S.call.number == m))) other ∙ and-false S.ended
       one heard false e = not_true_answers o a w b m r (aside_gives_none r (aside_or_step r heard e)) k.0 R
 
   -- a step of an open call, or a rule of none, keeps the try

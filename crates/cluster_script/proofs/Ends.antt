@@ -9,8 +9,8 @@ use Rattle.text_lines.specs.Lines.{count_of, count_of_all, spoken}
 use Rattle.text_lines.specs.Words.{words}
 use Rattle.command_lines.specs.Commands.{unread}
 use Rattle.std.specs.Prelude.{codes}
-use Rattle.cluster_world.specs.Starting.{start_refused}
-use Rattle.cluster_world.specs.declared.events.StartFault.{StartFault}
+use Rattle.command_lines.specs.Starting.{start_refused}
+use Rattle.command_lines.specs.declared.StartFault.{StartFault}
 use Rattle.command_lines.specs.declared.faults.LineFault.TheVariants.{BadLine, Text, Start}
 use Rattle.command_lines.specs.Printing.{Shown}
 use Rattle.cluster_script.specs.Script.{AllSpell, ReadsTexts, Names, judged, unless_refused, made_of, texts_behind, lone_texts, OpensIn, OpensUnless, LineOpens, LoneOpens, OpensBehind, EndsRefused, PrintsOn, Ran, Stopped, opening_for}

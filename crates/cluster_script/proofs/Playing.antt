@@ -6,18 +6,18 @@ use Rattle.std.specs.Io.KnownBytes.{Appends}
 use Rattle.protocol_model.specs.Event.{Answer as AnyAnswer, Refusal as AnyRefusal}
 use Rattle.protocol_model.specs.World.{Opening, refusal as refused, happens, accepted, answers}
 use Rattle.protocol_model.specs.Script.{Play, Output, Said, Error, played, okay}
-use Rattle.cluster_world.specs.Held.{Held}
-use Rattle.cluster_world.specs.Playing.{Played}
-use Rattle.cluster_world.specs.Seen.{opening_with, opening_of, seen}
-use Rattle.cluster_world.specs.Events.{event_of}
-use Rattle.cluster_world.specs.Refusals.{refusal_of, is_memory}
-use Rattle.node_events.specs.Seen.{answer_of}
-use Rattle.cluster_world.specs.declared.events.Refusal.{Refusal}
-use Rattle.cluster_world.specs.declared.events.Refusal.TheVariants as refusal
-use Rattle.node_events.specs.declared.events.Answer.{Answer}
-use Rattle.cluster_world.specs.declared.events.WorldEvent.{WorldEvent}
-use Rattle.cluster_world.specs.declared.events.Event.TheVariants as event
-use Rattle.cluster_world.specs.declared.events.WorldEvent.TheVariants.{At, Deliver}
+use Rattle.command_lines.specs.Held.{Held}
+use Rattle.command_lines.specs.Playing.{Played}
+use Rattle.command_lines.specs.Seen.{opening_with, opening_of, seen}
+use Rattle.command_lines.specs.Events.{event_of}
+use Rattle.command_lines.specs.Refusals.{refusal_of, is_memory}
+use Rattle.command_lines.specs.NodeEventsSeen.{answer_of}
+use Rattle.command_lines.specs.declared.Refusal.{Refusal}
+use Rattle.command_lines.specs.declared.Refusal.TheVariants as refusal
+use Rattle.command_lines.specs.declared.Answer.{Answer}
+use Rattle.command_lines.specs.declared.WorldEvent.{WorldEvent}
+use Rattle.command_lines.specs.declared.Event.TheVariants as event
+use Rattle.command_lines.specs.declared.WorldEvent.TheVariants.{At, Deliver}
 use Rattle.command_lines.specs.declared.faults.LineFault.{LineFault}
 use Rattle.command_lines.specs.Printing.{answers_text, output_line, shown_text, error_line, word_of, refusal_word, is_fine, Shown, Shows}
 use Rattle.cluster_script.specs.Script.{shown, settle_limit}

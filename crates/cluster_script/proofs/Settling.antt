@@ -1,19 +1,20 @@
 -- Deliveries until no letter waits.
 use Rattle.std.proofs.Common.{ℕ, zero, suc, Bool, true, false, List, [], ◌∷◌, ◌++◌, ◌≡◌, ◌<◌, ◌≤◌, ◌+◌, Option, Some, None, refl, sym, ap, subst, ◌∙◌, append-nil, append_assoc, Result, Ok, Err, map, arith}
-use Rattle.std.specs.Prelude.{◌&&◌, not, is_none, is_some, IfOk}
+use Rattle.std.specs.Prelude.{not, is_none, is_some, IfOk}
 use Rattle.std.specs.List.{list_all}
 use Rattle.std.specs.Io.KnownBytes.{Appends}
 use Rattle.std.proofs.KnownBytes.{Appends-trans, Appends-nil}
+use Rattle.std.proofs.Math.Bool.{and-true}
 use Rattle.protocol_model.specs.Event.{Answer as AnyAnswer}
 use Rattle.protocol_model.specs.World.{Opening, World, WorldEvent as AnyEvent, happens, answers, all_answers, run, settle, next_delivery}
 use Rattle.protocol_model.specs.Script.{Settle, Output, Said, settled}
-use Rattle.cluster_world.specs.Held.{Held}
-use Rattle.cluster_world.specs.Seen.{opening_of, seen}
-use Rattle.cluster_world.specs.Events.{event_of}
-use Rattle.node_events.specs.Seen.{answer_of}
-use Rattle.cluster_world.specs.Playing.{Played, WaitsOn}
-use Rattle.node_events.specs.declared.events.Answer.{Answer}
-use Rattle.cluster_world.specs.declared.events.WorldEvent.{WorldEvent}
+use Rattle.command_lines.specs.Held.{Held}
+use Rattle.command_lines.specs.Seen.{opening_of, seen}
+use Rattle.command_lines.specs.Events.{event_of}
+use Rattle.command_lines.specs.NodeEventsSeen.{answer_of}
+use Rattle.command_lines.specs.Playing.{Played, WaitsOn}
+use Rattle.command_lines.specs.declared.Answer.{Answer}
+use Rattle.command_lines.specs.declared.WorldEvent.{WorldEvent}
 use Rattle.text_lines.specs.declared.faults.WriteFault.{WriteFault}
 use Rattle.command_lines.specs.Printing.{answers_text, output_line, shown_text, is_fine, is_fine_output, Shows}
 use Rattle.text_lines.specs.Writing.{AppendsPart, Writes}
@@ -151,10 +152,6 @@ Said-text-last (s ∷ given) x =
 pub Said-fine-last : (given : List AnyAnswer) (x : Output) → list_all is_fine (map Shows (map Said given ++ x ∷ []))
     ≡ is_fine_output x
 Said-fine-last [] x = and-true (is_fine_output x)
-  where
-    and-true : (t : Bool) → (t && true) ≡ t
-    and-true true = refl
-    and-true false = refl
 Said-fine-last (s ∷ given) x = Said-fine-last given x
 
 -- what `settle` prints

@@ -5,9 +5,9 @@ use Rattle.text_lines.proofs.Written.{AppendsPart-behind, AppendsPart-more}
 use Rattle.std.proofs.lemmas.List.{take-append-drop}
 use Rattle.std.proofs.lemmas.Grind.{take_at_read}
 use Rattle.protocol_model.specs.Script.{Said, Line as ScriptLine}
-use Rattle.cluster_world.specs.Held.{Held}
-use Rattle.node_events.specs.Seen.{answer_of}
-use Rattle.node_events.specs.declared.events.Answer.{Answer}
+use Rattle.command_lines.specs.Held.{Held}
+use Rattle.command_lines.specs.NodeEventsSeen.{answer_of}
+use Rattle.command_lines.specs.declared.Answer.{Answer}
 use Rattle.command_lines.specs.declared.faults.LineFault.{LineFault}
 use Rattle.text_lines.specs.declared.faults.WriteFault.{WriteFault}
 use Rattle.command_lines.specs.Printing.{answers_text, output_line}

@@ -6,10 +6,10 @@ use Rattle.registry_model.specs.Process.{nodes_of}
 use Rattle.protocol_model.specs.Event.{Refusal, NoSuchNode, NodeLeft}
 use Rattle.protocol_model.specs.Script.{Line as ScriptLine, Output, Settled, SettleLimit, TableIs, MembersAre, okay, shown_at}
 use Rattle.protocol_model.specs.World.{Opening, WorldEvent as AnyEvent, left, happens, answers}
-use Rattle.cluster_world.specs.declared.events.WorldEvent.{WorldEvent}
-use Rattle.cluster_world.specs.Events.{event_of}
-use Rattle.cluster_world.specs.Held.{Held}
-use Rattle.cluster_world.specs.Seen.{opening_of, seen}
+use Rattle.command_lines.specs.declared.WorldEvent.{WorldEvent}
+use Rattle.command_lines.specs.Events.{event_of}
+use Rattle.command_lines.specs.Held.{Held}
+use Rattle.command_lines.specs.Seen.{opening_of, seen}
 use Rattle.command_lines.specs.declared.faults.LineFault.{LineFault}
 use Rattle.text_lines.specs.declared.faults.ScriptFault.{ScriptFault}
 use Rattle.text_lines.specs.declared.faults.ScriptFault.TheVariants.{Read, TooManyLines}

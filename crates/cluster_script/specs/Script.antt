@@ -7,14 +7,14 @@ use Rattle.protocol_model.specs.Script.{Line, events_in, printed}
 use Rattle.protocol_model.specs.Leftovers.{NothingIsLeft}
 use Rattle.term.specs.declared.faults.TextFault.{TextFault}
 use Rattle.term.specs.Spelling.{SpellsText, RefusesText}
-use Rattle.cluster_world.specs.Agreeing.{HeadlineAfter}
-use Rattle.cluster_world.specs.Starting.{start_refused}
-use Rattle.cluster_world.specs.Seen.{opening_with}
+use Rattle.command_lines.specs.Agreeing.{HeadlineAfter}
+use Rattle.command_lines.specs.Starting.{start_refused}
+use Rattle.command_lines.specs.Seen.{opening_with}
 use Rattle.command_lines.specs.declared.faults.LineFault.{LineFault}
 use Rattle.command_lines.specs.declared.faults.LineFault.TheVariants.{BadLine, Text, Start}
 use Rattle.text_lines.specs.declared.faults.ScriptFault.{ScriptFault}
 use Rattle.text_lines.specs.declared.faults.ScriptFault.TheVariants.{Read, Write, TooManyLines, Memory}
-use Rattle.cluster_world.specs.declared.events.StartFault.{StartFault}
+use Rattle.command_lines.specs.declared.StartFault.{StartFault}
 use Rattle.text_lines.specs.Lines.{HasLines, spoken, count_of_all, most_lines, LosesLines, LosesInto, HasNoLine, HasNoFeed, IsWithinLine, GoesPast}
 use Rattle.text_lines.specs.Words.{words}
 use Rattle.text_lines.specs.Writing.{AppendsPart}

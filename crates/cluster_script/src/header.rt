@@ -10,8 +10,7 @@ ghost use Rattle.cluster_script.specs.Headers.{ReadsHeader, Starts, StartsCluste
 ghost use Rattle.cluster_script.specs.Played.{StopsReading};
 
 use crate::reading::next_line;
-use cluster_world::{StartFault, World};
-use command_lines::{LineFault, Task, ran_out, read_task, text_of};
+use command_lines::{LineFault, StartFault, Task, World, ran_out, read_task, text_of};
 use name_table::IndexTable;
 use std::alloc::{AllocError, Global};
 use std::io::{BufReader, Read, Write};

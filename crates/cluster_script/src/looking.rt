@@ -61,7 +61,6 @@ fn hidden_line(world: &ScriptWorld, node: &NodeName) -> &'static str
 
 /// Writes what is shown of a node, or why it isn't: whether it is.
 fn write_shown<W: Write>(
-    alloc: Global,
     writer: &mut W,
     world: &ScriptWorld,
     node: &NodeName,
@@ -93,7 +92,7 @@ pub(crate) fn show_table<W: Write>(
     ensures { PlaysOrStops world.now world.now (Ok (TableAt node.now)) (W.contents writer.old) (W.contents writer.new) result }
 {
     let line = line_of_table(alloc, world, node)?;
-    write_shown(alloc, writer, world, node, line)
+    write_shown(writer, world, node, line)
 }
 
 /// Writes the members of a node, or why it is refused: whether it isn't.
@@ -106,5 +105,5 @@ pub(crate) fn show_members<W: Write>(
     ensures { PlaysOrStops world.now world.now (Ok (MembersAt node.now)) (W.contents writer.old) (W.contents writer.new) result }
 {
     let line = line_of_members(alloc, world, node)?;
-    write_shown(alloc, writer, world, node, line)
+    write_shown(writer, world, node, line)
 }

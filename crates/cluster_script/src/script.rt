@@ -4,8 +4,8 @@ ghost use Rattle.std.specs.Io.KnownBytes.{Keeps};
 ghost use Rattle.std.specs.Io.Buffered.{reader_remaining};
 ghost use Rattle.protocol_model.specs.Script as script;
 ghost use Rattle.protocol_model.specs.World.{WorldEvent as AnyEvent};
-ghost use Rattle.node_events.specs.Seen.{answer_of as any_answer};
-ghost use Rattle.cluster_world.specs.Events.{event_of as any_event};
+ghost use Rattle.command_lines.specs.NodeEventsSeen.{answer_of as any_answer};
+ghost use Rattle.command_lines.specs.Events.{event_of as any_event};
 ghost use Rattle.command_lines.specs.Commands.{asked_by, line_in};
 ghost use Rattle.text_lines.specs.Lines.{IsKept, most_lines};
 ghost use Rattle.command_lines.specs.Printing as print;
@@ -17,18 +17,16 @@ ghost use Rattle.cluster_script.specs.Headers.{asked_first};
 use crate::header::{Headers, ScriptWorld, read_headers};
 use crate::looking::{show_members, show_table};
 use crate::reading::next_line;
-use cluster_world::{Answer, Event, WorldEvent};
-use command_lines::{LineFault, Task, answer_line, ran_out, read_task, refusal_line};
+use command_lines::{
+    Answer, Event, LineFault, Task, WorldEvent, answer_line, ran_out, read_task, refusal_line,
+};
 use std::alloc::Global;
 use std::io::{BufReader, Read, Write};
 use term::NodeName;
-use text_lines::{Line, ScriptFault, WriteFault, write_text};
+use text_lines::{Line, MOST_LINES, ScriptFault, WriteFault, write_text};
 
 /// The most deliveries of one `settle`.
 const SETTLE_LIMIT: u32 = 100_000;
-
-/// The most lines of a script.
-const MOST_LINES: u32 = 1_000_000;
 
 /// Writes the lines of answers.
 fn write_answers<W: Write>(
@@ -81,7 +79,7 @@ fn play_event<W: Write>(
 }
 
 /// Writes how `settle` ended.
-fn end_settle<W: Write>(alloc: Global, writer: &mut W, is_settled: bool) -> Result<bool, WriteFault>
+fn end_settle<W: Write>(writer: &mut W, is_settled: bool) -> Result<bool, WriteFault>
     ensures text { Writes (W.contents writer.old) (W.contents writer.new) result (print.output_line (settle_end is_settled)) }
     ensures fine { IfOk result (λ fine. fine ≡ is_settled) }
 {
@@ -119,11 +117,11 @@ fn settle<W: Write>(
 {
     for _ in 0..SETTLE_LIMIT {
         let Some((sender, receiver)) = world.waiting() else {
-            return end_settle(alloc, writer, true);
+            return end_settle(writer, true);
         };
         deliver(alloc, writer, world, sender, receiver)?;
     }
-    end_settle(alloc, writer, world.waiting().is_none())
+    end_settle(writer, world.waiting().is_none())
 }
 
 /// Plays a task, and writes what it prints: whether no refusal is printed.

@@ -13,17 +13,18 @@ use Rattle.protocol_model.specs.Letter.{Id, Client, is_id}
 use Rattle.protocol_model.specs.Node.{Target, Retries, targets}
 use Rattle.protocol_model.specs.ClientLocks.{Try, Tally, try_of, last_try, tally_from, tally_after, number, gives}
 use Rattle.protocol_model.specs.World.{Opening, World, WorldEvent as AnyWorldEvent, opening_world, refusal, happens, answers, run, all_answers}
-use Rattle.walk.proofs.Events.{accepted_of, lock_tested, live_own, none_of}
-use Rattle.client_locks.proofs.Clients.{Numbers, call_at}
-use Rattle.client_locks.proofs.Ids.{is_process_self}
-use Rattle.client_locks.proofs.Opening.{no_numbers}
-use Rattle.client_locks.proofs.RoundNumbers.{number_after, number_from}
-use Rattle.client_locks.proofs.Tries.{Fits}
-use Rattle.client_locks.proofs.Walking.{event_keeps, run_state, opening_state}
-use Rattle.headline.proofs.Together.{All}
-use Rattle.headline.proofs.Theorem.{calls_are_answered_once}
-use Rattle.node_events.specs.declared.events.Answer.{Answer}
-use Rattle.node_events.specs.Seen.{answer_of}
+use Rattle.leftovers.proofs.Events.{accepted_of, lock_tested, live_own, none_of}
+use Rattle.leftovers.proofs.Clients.{Numbers, call_at}
+use Rattle.leftovers.proofs.Ids.{is_process_self}
+use Rattle.leftovers.proofs.Opening.{no_numbers}
+use Rattle.leftovers.proofs.RoundNumbers.{number_after, number_from}
+use Rattle.leftovers.proofs.Tallies.{fits_opens, fits_behind}
+use Rattle.leftovers.proofs.Tries.{Fits}
+use Rattle.leftovers.proofs.Walking.{event_keeps, run_state, opening_state}
+use Rattle.leftovers.proofs.Together.{All}
+use Rattle.leftovers.proofs.Theorem.{calls_are_answered_once}
+use Rattle.node_core.specs.declared.Answer.{Answer}
+use Rattle.node_core.specs.NodeEventsSeen.{answer_of}
 use Rattle.cluster_world.specs.declared.events.WorldEvent.{WorldEvent}
 use Rattle.cluster_world.specs.Held.{Held}
 use Rattle.cluster_world.specs.Seen.{opening_of, seen}
@@ -35,7 +36,7 @@ use Rattle.cluster_world.proofs.Agreeing.{course_answers, all_answers-append}
 use Rattle.cluster_world.proofs.Excluding.{tally-append}
 use Rattle.cluster_world.proofs.Verdicts.{under, is_under}
 use Rattle.cluster_world.proofs.Winning.{is_waited, waits_for, grounds, Behind, IsNow, IsOf, answered_so, waited_so}
-use Rattle.cluster_world.proofs.Spent.{Spent, none_by, fits_behind, spent_step, spent_stays, spent_first}
+use Rattle.cluster_world.proofs.Spent.{Spent, none_by, spent_step, spent_stays, spent_first}
 
 -- what is played while a call waits
 waited_all : (o : Opening) (a k most : ℕ) (w : World) → list_all is_waited (awaiting o a k most w) ≡ true
@@ -184,8 +185,8 @@ module _ (o : Opening) (before : List AnyWorldEvent) (w : World) (is : w ≡ run
 
         fit : Fits w p (tally p i c).last
         fit = subst (λ (v : World). Fits v p (tally p i c).last) (sym is)
-            (fits_behind o before (opening_world o) no_numbers (opening_state o (All o) (grounds o)) p i c nothing
-            (record { own = λ d e x. cc; alone = λ s e x d h y z. cc; below = λ s e. cc }))
+            (fits_behind o (All o) (grounds o) before (opening_world o) no_numbers (opening_state o (All o) (grounds o))
+            nothing p i c (fits_opens o p))
 
         goes : gives w deletion p i c ≡ given
         goes = ap (λ (b : Bool). b && is_id (Client r q) i && targets (w.node p.node).replica.members target c)

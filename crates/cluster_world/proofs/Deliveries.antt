@@ -8,12 +8,12 @@ use Rattle.term.specs.NodeSets.{set_of}
 use Rattle.link.specs.Faults.{joins}
 use Rattle.link.specs.Held.{place, WaitsFirst, seen as links_of}
 use Rattle.link.proofs.Places.{queue-stranger}
-use Rattle.node_events.specs.declared.events.Letter.{Letter}
-use Rattle.node_events.specs.Letters.{letter_of}
+use Rattle.node_core.specs.declared.Letter.{Letter}
+use Rattle.node_core.specs.Letters.{letter_of}
 use Rattle.cluster_world.specs.Held.{Held, IsWhole}
 use Rattle.cluster_world.specs.Playing.{WaitsOn}
 use Rattle.cluster_world.specs.Seen.{opening_of, seen}
-use Rattle.cluster_world.proofs.Nodes.{nodes_are, is_some-place, world_is}
+use Rattle.cluster_world.proofs.Listed.{nodes_are, is_some-place, world_is}
 use Rattle.cluster_world.proofs.Waiting.{next_none, next_first, accepted_waiting}
 
 empty : (ls : List Letter) → is_nil (map letter_of ls) ≡ is_nil ls

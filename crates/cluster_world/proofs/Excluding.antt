@@ -2,9 +2,9 @@
 use Rattle.std.proofs.Common.{ℕ, Bool, true, false, ◌≡◌, ◌<◌, ◌+◌, ◌-◌, Option, Some, None, List, [], ◌∷◌, ◌++◌, refl, sym, subst, arith}
 use Rattle.std.specs.Prelude.{IsTrue, is_none, is_some, not, ◌&&◌, ◌||◌, if◌then◌else◌}
 use Rattle.std.proofs.lemmas.Bool.{and_parts}
-use Rattle.headline.proofs.Clients.{exclusion}
+use Rattle.leftovers.proofs.HeadlineClients.{exclusion}
 use Rattle.registry_model.specs.Process.{Process}
-use Rattle.node_events.specs.declared.events.Answer.{Answer}
+use Rattle.node_core.specs.declared.Answer.{Answer}
 use Rattle.protocol_model.specs.ClientLocks.{Tally, tally_from, tally_after, last_try, is_won, is_gone, gives, Holds}
 use Rattle.protocol_model.specs.Event.{Refusal as AnyRefusal}
 use Rattle.protocol_model.specs.Letter.{Id, is_id}

@@ -7,13 +7,13 @@ use Rattle.protocol_model.specs.Node.{Node, holds_global}
 use Rattle.protocol_model.specs.World.{holder, left}
 use Rattle.link.specs.Held.{Held as Mesh, place}
 use Rattle.link.proofs.Places.{place-get_or}
-use Rattle.node_events.specs.declared.events.Letter.{Letter}
+use Rattle.node_core.specs.declared.Letter.{Letter}
 use Rattle.node_core.specs.Held.{Held as Core}
 use Rattle.node_core.specs.Seen.{node_of}
 use Rattle.cluster_world.specs.Held.{Held, IsWhole}
 use Rattle.cluster_world.specs.Seen.{opening_of, node_with, seen, is_holding}
 use Rattle.cluster_world.proofs.Cores.{name_at, core_here}
-use Rattle.cluster_world.proofs.Nodes.{nodes_are}
+use Rattle.cluster_world.proofs.Listed.{nodes_are}
 use Rattle.cluster_world.proofs.Steps.{name_of}
 
 -- nobody holds among the first i cores

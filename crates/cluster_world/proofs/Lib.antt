@@ -1,8 +1,9 @@
+pub use Rattle.node_core.proofs.Bounds
 mod Results
 mod Mail
 mod Cores
 mod Waiting
-mod Nodes
+pub mod Listed
 mod Steps
 mod Plays
 mod Holding

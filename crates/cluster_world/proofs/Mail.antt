@@ -10,7 +10,7 @@ use Rattle.link.specs.declared.faults.LinkFault.{LinkFault}
 use Rattle.link.specs.declared.faults.LinkFault.TheVariants as on_link
 use Rattle.link.specs.Faults.{joins, IsUnsent}
 use Rattle.link.specs.Held.{Held, place, only_to}
-use Rattle.node_events.specs.declared.events.Letter.{Letter}
+use Rattle.node_core.specs.declared.Letter.{Letter}
 use Rattle.node_core.specs.Steps.{IsSaidBy}
 use Rattle.cluster_world.specs.declared.events.Refusal.TheVariants.{NoSuchNode, Memory}
 use Rattle.cluster_world.specs.Refusals.{refusal_on}

@@ -17,15 +17,15 @@ use Rattle.link.specs.Faults.{joins, IsUndelivered, IsStranger}
 use Rattle.link.specs.Held.{Held as Mesh, place, has, closed_at, seen as links_of}
 use Rattle.link.specs.declared.faults.LinkFault.{LinkFault}
 use Rattle.link.specs.declared.faults.LinkFault.TheVariants as on_link
-use Rattle.node_events.specs.declared.events.Answer.{Answer}
-use Rattle.node_events.specs.declared.events.Call.TheVariants.{Spawn, Whereis, RegisteredNames, Register, ReRegister, Unregister, SetLock, DelLock, Join as JoinBy}
-use Rattle.node_events.specs.declared.events.Call.{Call as ClientCall}
-use Rattle.node_events.specs.declared.events.Event.TheVariants.{FromPeer}
-use Rattle.node_events.specs.declared.events.Letter.{Letter}
+use Rattle.node_core.specs.declared.Answer.{Answer}
+use Rattle.node_core.specs.declared.Call.TheVariants.{Spawn, Whereis, RegisteredNames, Register, ReRegister, Unregister, SetLock, DelLock, Join as JoinBy}
+use Rattle.node_core.specs.declared.Call.{Call as ClientCall}
+use Rattle.node_core.specs.declared.Event.TheVariants.{FromPeer}
+use Rattle.node_core.specs.declared.Letter.{Letter}
 use Rattle.node_core.specs.Held.{Held as Core, bound_of}
-use Rattle.node_events.specs.Letters.{letter_of}
+use Rattle.node_core.specs.Letters.{letter_of}
 use Rattle.node_core.specs.Seen.{node_of}
-use Rattle.node_events.specs.Seen.{answer_of}
+use Rattle.node_core.specs.NodeEventsSeen.{answer_of}
 use Rattle.node_core.specs.Steps.{IsTurn, IsSaidBy, IsAskedWithin, IsHeardWithin, refusal_of as node_refusal}
 use Rattle.cluster_world.specs.declared.events.Event.{Event}
 use Rattle.cluster_world.specs.declared.events.Event.TheVariants.{Call, Retry, Exit, Leave}
@@ -40,7 +40,7 @@ use Rattle.cluster_world.specs.Refusals.{refusal_on, is_memory}
 use Rattle.cluster_world.specs.Seen.{opening_of, node_with, seen}
 use Rattle.cluster_world.specs.Steps.{Stands, Moves, FailsAt}
 use Rattle.cluster_world.proofs.Mail.{mapped-taken, mapped-closed_out, fit_taken, fit_closed}
-use Rattle.cluster_world.proofs.Nodes.{world_is, is_some-place}
+use Rattle.cluster_world.proofs.Listed.{world_is, is_some-place}
 
 -- a call's contact, if it has one, is of the world
 own_asks : (nodes : List ℕ) (c : ClientCall) → knows_contact nodes (Call c) ≡ true → IsAskedWithin nodes c

@@ -5,8 +5,8 @@ use Rattle.std.specs.Prelude.{◌&&◌, is_none}
 use Rattle.std.proofs.lemmas.List.{append_assoc, append-nil}
 use Rattle.protocol_model.specs.Event.{Answer as AnyAnswer, Refusal as AnyRefusal}
 use Rattle.protocol_model.specs.World.{Opening, World, WorldEvent as AnyWorldEvent, refusal, happens, answers, run, all_answers}
-use Rattle.node_events.specs.declared.events.Answer.{Answer}
-use Rattle.node_events.specs.Seen.{answer_of}
+use Rattle.node_core.specs.declared.Answer.{Answer}
+use Rattle.node_core.specs.NodeEventsSeen.{answer_of}
 use Rattle.cluster_world.specs.declared.events.WorldEvent.{WorldEvent}
 use Rattle.cluster_world.specs.Held.{Held}
 use Rattle.cluster_world.specs.Events.{event_of}

@@ -4,9 +4,9 @@ use Rattle.std.specs.Prelude.{Result, Ok, Err, is_some, is_none, ◌&&◌, if◌
 use Rattle.std.proofs.lemmas.List.{append_assoc, append-nil, map-append}
 use Rattle.protocol_model.specs.Event.{Answer as AnyAnswer, Refusal as AnyRefusal}
 use Rattle.protocol_model.specs.World.{Opening, World, WorldEvent as AnyWorldEvent, refusal, happens, answers, run, all_answers}
-use Rattle.node_events.specs.declared.events.Answer.{Answer}
-use Rattle.node_events.specs.declared.events.Call.{Call}
-use Rattle.node_events.specs.Seen.{answer_of, call_of}
+use Rattle.node_core.specs.declared.Answer.{Answer}
+use Rattle.node_core.specs.declared.Call.{Call}
+use Rattle.node_core.specs.NodeEventsSeen.{answer_of, call_of}
 use Rattle.cluster_world.specs.declared.events.Refusal.{Refusal}
 use Rattle.cluster_world.specs.declared.events.Refusal.TheVariants.{NoSuchNode, NodeLeft, EmptyLink, NotLive, Busy, Reserved, UnknownNode, AlreadyJoined, NoSuchProcess, AlreadyExited, SerialsSpent, NothingToRetry, HoldsLock, CallsSpent, Memory}
 use Rattle.cluster_world.specs.declared.events.Event.TheVariants.{Call as Calls}

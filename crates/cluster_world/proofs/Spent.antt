@@ -8,21 +8,19 @@ use Rattle.registry_model.specs.Process.{Process}
 use Rattle.protocol_model.specs.Letter.{Id, Global}
 use Rattle.protocol_model.specs.Watch.{is_dead}
 use Rattle.protocol_model.specs.Node.{LockCall, Target}
-use Rattle.protocol_model.specs.Event.{Call, Event, Answer, Refusal, is_waiting_call}
-use Rattle.protocol_model.specs.ClientLocks.{Try, Tally, try_of, tried_again, is_refused, last_try, is_won, gives, is_gone, tallied, tally_after, tally_from}
-use Rattle.protocol_model.specs.World.{Opening, World, WorldEvent, At, Deliver, place, in_world, left, refusal, happens, accepted, answers, turn_of, run}
-use Rattle.moves.proofs.Rules.{answers_by}
-use Rattle.walk.proofs.Walk.{OrderedWalk, walked_in_order}
-use Rattle.walk.proofs.Orders.{ordered_keeps}
-use Rattle.client_locks.proofs.Answering.{any_true}
-use Rattle.client_locks.proofs.Clients.{Numbers, call_at}
-use Rattle.client_locks.proofs.RoundNumbers
-use Rattle.client_locks.proofs.RoundNumbers.{number_after}
-use Rattle.client_locks.proofs.Told.{chain_of}
-use Rattle.client_locks.proofs.TriedEvents.{Tried, tried}
-use Rattle.client_locks.proofs.Tries.{Fits, lost_without}
-use Rattle.client_locks.proofs.Walking.{event_keeps}
-use Rattle.headline.proofs.Together.{All}
+use Rattle.protocol_model.specs.Event.{Call, Event, is_waiting_call}
+use Rattle.protocol_model.specs.ClientLocks.{Try, Tally, try_of, tried_again, is_refused, last_try, is_won, gives, is_gone, tally_after, tally_from}
+use Rattle.protocol_model.specs.World.{Opening, World, WorldEvent, At, Deliver, in_world, left, refusal, happens, accepted, answers, run}
+use Rattle.leftovers.proofs.Orders.{ordered_keeps}
+use Rattle.leftovers.proofs.Answering.{any_true}
+use Rattle.leftovers.proofs.Clients.{Numbers, call_at}
+use Rattle.leftovers.proofs.RoundNumbers
+use Rattle.leftovers.proofs.RoundNumbers.{number_after}
+use Rattle.leftovers.proofs.Tallies.{accepted_tried}
+use Rattle.leftovers.proofs.TriedEvents.{Tried}
+use Rattle.leftovers.proofs.Tries.{Fits, lost_without}
+use Rattle.leftovers.proofs.Walking.{event_keeps}
+use Rattle.leftovers.proofs.Together.{All}
 use Rattle.cluster_world.specs.Playing.{accepts_all}
 use Rattle.cluster_world.proofs.Winning.{is_plain, is_waited, waited_plain, waited_gives, grounds, Behind, happened, gone_before, counted_so, last_so, IsNow, now_up}
 
@@ -73,37 +71,6 @@ none_by None h = refl
 none_by (Some x) h = cc
 
 module _ (o : Opening) where
-  -- what an accepted event gives and keeps, where the last try of p fits
-  tried_at : (w : World) (num : Numbers) (S : Behind o w num) (e : WorldEvent) (p : Process) (t : Option Try)
-      (fit : Fits w p t) → refusal o w e ≡ None
-      → Tried o (ordered_keeps o) w num S.ordered S.replying S.numbered p t fit e (answers o w e) (accepted o w e)
-  tried_at w num S e p t fit free = subst
-      (λ (ss : List Answer). Tried o (ordered_keeps o) w num S.ordered S.replying S.numbered p t fit e ss
-      (accepted o w e))
-      (sym answered)
-      (tried o (ordered_keeps o) w num S.ordered S.replying S.numbered p t fit e walked.walk.rest walked.walk.may
-      walked.in_order walked.walk.world)
-    where
-      walked : OrderedWalk o w e
-      walked = walked_in_order o w e S.ordered ((grounds o).wide w S.family S.once) free
-
-      answered : answers o w e ≡ answers_by o (place e) (chain_of o w e walked.walk.rest) w
-      answered = ap (λ (r : Option Refusal). if is_none r then (turn_of o w e).answers else []) free
-          ∙ sym walked.walk.answers
-
-  -- behind each list of events the last try fits
-  pub fits_behind : (es : List WorldEvent) (w : World) (num : Numbers) → Behind o w num → (p : Process) (i : Id) (c : ℕ)
-      (k : Tally) → Fits w p k.last → Fits (run o w es) p (tally_from o w es p i c k).last
-  fits_behind [] w num S p i c k fit = fit
-  fits_behind (e ∷ es) w num S p i c k fit =
-      fits_behind es (happens o w e) (λ q x y. number_after o w e q x y (num q x y))
-      (event_keeps o (All o) (grounds o) w e num S) p i c (tally_after o w e p i c k) (go (refusal o w e) refl)
-    where
-      go : (r : Option Refusal) → refusal o w e ≡ r
-          → Fits (if is_none r then accepted o w e else w) p (if is_none r then tallied o w e p i c k else k).last
-      go (Some r) h = fit
-      go None h = (tried_at w num S e p k.last fit h).fits
-
   module _ (p : Process) where
     -- the registrar of p's node, which never has a lock call
     abbrev clerk : Process
@@ -144,7 +111,7 @@ module _ (o : Opening) where
 
         T : Tried o (ordered_keeps o) w num S.ordered S.replying S.numbered clerk (Some (shown m)) fit e
             (answers o w e) (accepted o w e)
-        T = tried_at w num S e clerk (Some (shown m)) fit free
+        T = accepted_tried o (All o) (grounds o) w e num S clerk (Some (shown m)) fit free
 
     -- the try has a number under which nothing comes any more
     abbrev pub Spent : World → Option Try → Type 0

@@ -7,17 +7,18 @@ use Rattle.std.proofs.lemmas.Bool.Decides.{nat_tests}
 use Rattle.std.proofs.lemmas.Grind.{take_at_read}
 use Rattle.std.proofs.lemmas.List.{map-append}
 use Rattle.std.proofs.lemmas.List.Elements.{All-nil, All-map}
+use Rattle.std.proofs.Math.Bool.{and-false, and-true, or-false}
 use Rattle.registry_model.specs.Process.{Nodes, nobody}
 use Rattle.registry_model.specs.Table.{without}
 use Rattle.protocol_model.specs.Links.{Links, no_letters}
 use Rattle.protocol_model.specs.Node.{Node, opening_node}
 use Rattle.protocol_model.specs.World.{in_world, in_cluster, opening_world}
 use Rattle.term.specs.NodeSets.{set_of, with_node, IsNodeSet}
-use Rattle.boss_order.proofs.Sets.{set_of-append}
+use Rattle.boss_order.proofs.Sets.{set_of-append, set_of-item}
 use Rattle.link.specs.Held.{Held as Mesh, seen as links_of}
-use Rattle.node_events.specs.declared.events.Letter.{Letter}
+use Rattle.node_core.specs.declared.Letter.{Letter}
 use Rattle.node_core.specs.Held.{Held as Core, fresh, IsWithin}
-use Rattle.node_events.specs.Letters.{letter_of}
+use Rattle.node_core.specs.Letters.{letter_of}
 use Rattle.node_core.specs.Seen.{node_of}
 use Rattle.node_core.specs.Steps.{IsSaidBy}
 use Rattle.cluster_world.specs.Links.{mapped, AreFit}
@@ -27,27 +28,13 @@ use Rattle.cluster_world.specs.Cores.{core_of}
 use Rattle.world_history.specs.Histories.{entry_of}
 use Rattle.cluster_world.specs.Seen.{opening_with, opening_core, node_with, seen}
 use Rattle.cluster_world.specs.Starting.{Opens}
-use Rattle.cluster_world.proofs.Nodes.{listed, world_is}
+use Rattle.cluster_world.proofs.Listed.{world_is}
 use Rattle.cluster_world.proofs.Steps.{name_of}
-
-or_false : (b : Bool) → (b || false) ≡ b
-or_false true = refl
-or_false false = refl
-
-pub or_assoc : (a b c : Bool) → ((a || b) || c) ≡ (a || (b || c))
-or_assoc true b c = refl
-or_assoc false b c = refl
-
--- one node more was taken
-pub took : (xs : List ℕ) (i n c : ℕ) → i < length xs → n ≡ get_or xs i n → set_of (take (i + 1) xs) c
-    ≡ (set_of (take i xs) c || (n == c))
-took xs i n c l is = ap (λ (ns : List ℕ). set_of ns c) (take_at_read xs i n l).1
-    ∙ set_of-append (take i xs) (get_or xs i n ∷ []) c
-    ∙ ap (λ (b : Bool). set_of (take i xs) c || b) (or_false (get_or xs i n == c) ∙ ap (λ (m : ℕ). m == c) (sym is))
 
 -- a node of the list, alone
 pub one_within : (xs : List ℕ) (i n : ℕ) → i < length xs → n ≡ get_or xs i n → IsWithin xs (n ∷ [])
-one_within xs i n l is c e = ap (set_of xs) (sym (eqb-true n c (sym (or_false (n == c)) ∙ e)) ∙ is) ∙ listed xs i n l
+one_within xs i n l is c e =
+    ap (set_of xs) (sym (eqb-true n c (sym (or-false (n == c)) ∙ e)) ∙ is) ∙ set_of-item xs i n l
 
 -- one core more was made
 pub made : {X Y : Type 0} (f : X → Y) (xs : List X) (i : ℕ) (x : X) → i < length xs → x ≡ get_or xs i x
@@ -131,17 +118,9 @@ module _ (nodes cluster : List ℕ) where
   cluster_is : IsWithin nodes cluster → in_cluster (opening_with nodes cluster) ≡ set_of cluster
   cluster_is within = fun_ext (λ c. go c (set_of cluster c) refl)
     where
-      and_false : (b : Bool) → (b && false) ≡ false
-      and_false true = refl
-      and_false false = refl
-
       go : (c : ℕ) (b : Bool) → set_of cluster c ≡ b → (in_world (opening_with nodes cluster) c && b) ≡ b
       go c true e = ap (λ (s : Nodes). s c && true) (world_is nodes cluster) ∙ ap (λ (b : Bool). b && true) (within c e)
-      go c false e = and_false (in_world (opening_with nodes cluster) c)
-
-  and_true : (b : Bool) → (b && true) ≡ b
-  and_true true = refl
-  and_true false = refl
+      go c false e = and-false (in_world (opening_with nodes cluster) c)
 
   turned : (a c : ℕ) → ((a == c) || false) ≡ ((c == a) && true)
   turned a c = elim (cases_eq a c) [
@@ -163,7 +142,7 @@ module _ (nodes cluster : List ℕ) where
           }
       go true = ap (λ (s : Nodes). record (node_of (fresh a nodes cluster true))
           { replica = record { table = []; members = s; told = nobody; joined = true } })
-          (fun_ext (λ c. sym (and_true (set_of cluster c))))
+          (fun_ext (λ c. sym (and-true (set_of cluster c))))
       go false = ap (λ (s : Nodes). record (node_of (fresh a nodes (a ∷ []) false))
           { replica = record { table = []; members = s; told = nobody; joined = false } })
           (fun_ext (turned a))

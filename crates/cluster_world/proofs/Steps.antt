@@ -17,16 +17,16 @@ use Rattle.term.specs.NodeSets.{set_of}
 use Rattle.link.specs.Held.{Held as Mesh, place, seen as links_of}
 use Rattle.link.specs.Faults.{joins}
 use Rattle.term.proofs.NodePlaces.{place-Some}
-use Rattle.node_events.specs.declared.events.Answer.{Answer}
-use Rattle.node_events.specs.declared.events.Event.{Event as NodeEvent}
-use Rattle.node_events.specs.declared.events.Letter.{Letter}
-use Rattle.node_events.specs.declared.events.StepFault.{StepFault}
-use Rattle.node_events.specs.declared.events.StepFault.TheVariants.{NotLive, Busy, Reserved, UnknownNode, AlreadyJoined, NoSuchProcess, AlreadyExited, SerialsSpent, NothingToRetry, HoldsLock, CallsSpent, Memory}
+use Rattle.node_core.specs.declared.Answer.{Answer}
+use Rattle.node_core.specs.declared.Event.{Event as NodeEvent}
+use Rattle.node_core.specs.declared.Letter.{Letter}
+use Rattle.node_core.specs.declared.StepFault.{StepFault}
+use Rattle.node_core.specs.declared.StepFault.TheVariants.{NotLive, Busy, Reserved, UnknownNode, AlreadyJoined, NoSuchProcess, AlreadyExited, SerialsSpent, NothingToRetry, HoldsLock, CallsSpent, Memory}
 use Rattle.node_core.specs.Held.{Held as Core}
-use Rattle.node_events.specs.Letters.{letter_of, send_of}
+use Rattle.node_core.specs.Letters.{letter_of, send_of}
 use Rattle.node_core.specs.Joining.{join_number_of}
 use Rattle.node_core.specs.Seen.{node_of, turn_by}
-use Rattle.node_events.specs.Seen.{entry_by, fault_of, is_memory as node_memory}
+use Rattle.node_core.specs.NodeEventsSeen.{entry_by, fault_of, is_memory as node_memory}
 use Rattle.node_core.specs.Steps.{Steps, IsSaidBy, IsHeardWithin, GoWithin, refusal_of as node_refusal}
 use Rattle.cluster_world.specs.Links.{mapped, letters_to, AreFit}
 use Rattle.cluster_world.specs.Held.{Held, IsWhole}
@@ -39,7 +39,7 @@ use Rattle.cluster_world.specs.declared.events.Refusal.TheVariants.{Memory as Ou
 use Rattle.cluster_world.specs.Refusals.{refusal_by, is_memory}
 use Rattle.cluster_world.specs.Steps.{Stands, Moves, FailsAt}
 use Rattle.cluster_world.proofs.Cores.{name_at, names-set, core_here, core_wrote, no_core}
-use Rattle.cluster_world.proofs.Nodes.{known_place, no_place, is_some-place}
+use Rattle.cluster_world.proofs.Listed.{known_place, no_place, is_some-place}
 use Rattle.cluster_world.proofs.Mail.{mapped-posted}
 
 abbrev pub name_of : Core → ℕ

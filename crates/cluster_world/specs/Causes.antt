@@ -1,6 +1,6 @@
 -- What a node takes a step for, as it has it.
-use Rattle.node_events.specs.declared.events.Event.{Event as NodeEvent}
-use Rattle.node_events.specs.declared.events.Event.TheVariants as at_node
+use Rattle.node_core.specs.declared.Event.{Event as NodeEvent}
+use Rattle.node_core.specs.declared.Event.TheVariants as at_node
 use Rattle.cluster_world.specs.declared.cause.Cause.{Cause}
 use Rattle.cluster_world.specs.declared.cause.Cause.TheVariants.{Call, Event}
 

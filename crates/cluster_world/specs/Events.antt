@@ -3,10 +3,10 @@ use Rattle.std.specs.Prelude.{ℕ, Bool, true, false, List}
 use Rattle.protocol_model.specs.Event.{Event as AnyEvent}
 use Rattle.protocol_model.specs.World.{WorldEvent as AnyWorldEvent}
 use Rattle.term.specs.NodeSets.{set_of}
-use Rattle.node_events.specs.declared.events.Call.TheVariants.{Join as JoinBy}
-use Rattle.node_events.specs.declared.events.Event.{Event as NodeEvent}
-use Rattle.node_events.specs.declared.events.Event.TheVariants as at_node
-use Rattle.node_events.specs.Seen.{call_of}
+use Rattle.node_core.specs.declared.Call.TheVariants.{Join as JoinBy}
+use Rattle.node_core.specs.declared.Event.{Event as NodeEvent}
+use Rattle.node_core.specs.declared.Event.TheVariants as at_node
+use Rattle.node_core.specs.NodeEventsSeen.{call_of}
 use Rattle.cluster_world.specs.declared.events.Event.{Event}
 use Rattle.cluster_world.specs.declared.events.Event.TheVariants.{Call, Retry, Exit, Leave}
 use Rattle.cluster_world.specs.declared.events.WorldEvent.{WorldEvent}

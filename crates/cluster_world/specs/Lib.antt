@@ -1,3 +1,7 @@
+pub use Rattle.node_core.specs.Held as NodeCoreHeld
+pub use Rattle.node_core.specs.NodeEventsSeen
+pub use Rattle.node_core.specs.Seen as NodeCoreSeen
+pub use Rattle.node_core.specs.Steps as NodeCoreSteps
 pub mod Links
 pub mod Cores
 pub mod Histories

@@ -1,7 +1,7 @@
 -- Links whose letters are seen as others, the letters that go to one node, and what may stand on a link.
 use Rattle.std.specs.Prelude.{ℕ, true, ◌==◌, ◌≡◌, List, [], map, filter, All}
 use Rattle.protocol_model.specs.Links.{Links}
-use Rattle.node_events.specs.declared.events.Letter.{Letter}
+use Rattle.node_core.specs.declared.Letter.{Letter}
 use Rattle.node_core.specs.Steps.{IsSaidBy}
 
 -- the same links, where f says what each letter is

@@ -2,8 +2,8 @@
 use Rattle.std.specs.Prelude.{ℕ, Bool, true, false, ◌&&◌, ◌≡◌, ◌≤◌, Option, Some, None, is_none, List, [], ◌∷◌, ◌++◌, map, take, length}
 use Rattle.std.specs.List.{slice_get}
 use Rattle.protocol_model.specs.World.{Opening, World, refusal, happens, answers, run, all_answers, next_delivery, WorldEvent as AnyWorldEvent, Deliver}
-use Rattle.node_events.specs.declared.events.Answer.{Answer}
-use Rattle.node_events.specs.Seen.{answer_of}
+use Rattle.node_core.specs.declared.Answer.{Answer}
+use Rattle.node_core.specs.NodeEventsSeen.{answer_of}
 use Rattle.cluster_world.specs.declared.events.Refusal.{Refusal}
 use Rattle.cluster_world.specs.declared.events.WorldEvent.{WorldEvent}
 use Rattle.cluster_world.specs.Held.{Held}

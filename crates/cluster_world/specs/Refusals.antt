@@ -3,8 +3,8 @@ use Rattle.std.specs.Prelude.{Bool, true, false, Option, Some, None}
 use Rattle.protocol_model.specs.Event.{Refusal as AnyRefusal}
 use Rattle.link.specs.declared.faults.LinkFault.{LinkFault}
 use Rattle.link.specs.declared.faults.LinkFault.TheVariants as on_link
-use Rattle.node_events.specs.declared.events.StepFault.{StepFault}
-use Rattle.node_events.specs.declared.events.StepFault.TheVariants as by_node
+use Rattle.node_core.specs.declared.StepFault.{StepFault}
+use Rattle.node_core.specs.declared.StepFault.TheVariants as by_node
 use Rattle.cluster_world.specs.declared.events.Refusal.{Refusal}
 use Rattle.cluster_world.specs.declared.events.Refusal.TheVariants.{NoSuchNode, NodeLeft, EmptyLink, NotLive, Busy, Reserved, UnknownNode, AlreadyJoined, NoSuchProcess, AlreadyExited, SerialsSpent, NothingToRetry, HoldsLock, CallsSpent, Memory}
 

@@ -6,10 +6,10 @@ use Rattle.protocol_model.specs.Event.{Event as AnyEvent, Answer as AnyAnswer}
 use Rattle.protocol_model.specs.World.{Opening, World, WorldEvent as AnyWorldEvent, refusal, happens, answers, run, all_answers, next_delivery}
 use Rattle.transaction.specs.Calls.{is_named}
 use Rattle.transaction.specs.declared.reply.LockReply.{LockReply}
-use Rattle.node_events.specs.declared.events.Answer.{Answer}
-use Rattle.node_events.specs.declared.events.Call.{Call}
-use Rattle.node_events.specs.declared.events.Call.TheVariants.{SetLock, DelLock}
-use Rattle.node_events.specs.Seen.{answer_of, call_of}
+use Rattle.node_core.specs.declared.Answer.{Answer}
+use Rattle.node_core.specs.declared.Call.{Call}
+use Rattle.node_core.specs.declared.Call.TheVariants.{SetLock, DelLock}
+use Rattle.node_core.specs.NodeEventsSeen.{answer_of, call_of}
 use Rattle.cluster_world.specs.declared.events.Event.TheVariants.{Call as Calls}
 use Rattle.cluster_world.specs.declared.events.Refusal.TheVariants.{Memory}
 use Rattle.cluster_world.specs.declared.events.WorldEvent.{WorldEvent}

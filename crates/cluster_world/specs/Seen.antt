@@ -4,9 +4,9 @@ use Rattle.protocol_model.specs.Node.{Node, opening_node, holds_global}
 use Rattle.protocol_model.specs.World.{Opening, in_cluster, World}
 use Rattle.term.specs.NodeSets.{set_of}
 use Rattle.link.specs.Held.{Held as Mesh, seen as links_of}
-use Rattle.node_events.specs.declared.events.Letter.{Letter}
+use Rattle.node_core.specs.declared.Letter.{Letter}
 use Rattle.node_core.specs.Held.{Held as Core, bound_of, fresh}
-use Rattle.node_events.specs.Letters.{letter_of}
+use Rattle.node_core.specs.Letters.{letter_of}
 use Rattle.node_core.specs.Seen.{node_of}
 use Rattle.cluster_world.specs.Links.{mapped}
 use Rattle.cluster_world.specs.Cores.{core_of}

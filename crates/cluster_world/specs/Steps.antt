@@ -3,10 +3,10 @@ use Rattle.std.specs.Prelude.{ℕ, false, true, ◌≡◌, Some, None, List, map
 use Rattle.protocol_model.specs.Turn.{Turn}
 use Rattle.protocol_model.specs.World.{apply, left, join_number}
 use Rattle.term.specs.NodeSets.{set_of}
-use Rattle.node_events.specs.declared.events.Answer.{Answer}
-use Rattle.node_events.specs.declared.events.Event.{Event as NodeEvent}
+use Rattle.node_core.specs.declared.Answer.{Answer}
+use Rattle.node_core.specs.declared.Event.{Event as NodeEvent}
 use Rattle.node_core.specs.Held.{Held as Core}
-use Rattle.node_events.specs.Seen.{answer_of}
+use Rattle.node_core.specs.NodeEventsSeen.{answer_of}
 use Rattle.node_core.specs.Steps.{IsTurn, refusal_of as node_refusal}
 use Rattle.cluster_world.specs.declared.events.Refusal.{Refusal}
 use Rattle.cluster_world.specs.declared.events.Refusal.TheVariants.{NoSuchNode, NodeLeft}

@@ -1,6 +1,6 @@
 //! What a node takes a step for.
 ghost use Rattle.std.specs.Prelude.{◌≡◌, OnErr, IfOk, IfErr, false};
-ghost use Rattle.node_events.specs.Seen.{fault_of, is_memory};
+ghost use Rattle.node_core.specs.NodeEventsSeen.{fault_of, is_memory};
 ghost use Rattle.node_core.specs.Steps.{Steps, refusal_of};
 ghost use Rattle.cluster_world.specs.Causes.{event_by};
 ghost use Rattle.cluster_world.specs.Events.{node_event};

@@ -1,6 +1,6 @@
 //! What a step enters into the history.
 ghost use Rattle.std.specs.Prelude.{◌≡◌, ◌++◌, map, OnOk};
-ghost use Rattle.node_events.specs.Seen.{entry_by};
+ghost use Rattle.node_core.specs.NodeEventsSeen.{entry_by};
 ghost use Rattle.world_history.specs.Histories.{entry_of};
 ghost use Rattle.cluster_world.specs.Cores.{core_of};
 ghost use Rattle.cluster_world.specs.Histories.{number_of, number_at};

@@ -12,7 +12,10 @@ mod world;
 
 pub use cause::Cause;
 pub use events::{Event, Refusal, RunEnd, StartFault, WorldEvent};
-pub use node_core::{Answer, Call, Look, NameCall, Reply};
+pub use node_core::{
+    Answer, Call, Event as CoreEvent, Letter, Look, NameCall, NameList, NodeCore, Nodes, Reply,
+    Retries, StepFault,
+};
 pub use seat::{SeatFault, WorldSeat};
 pub use world::World;
 pub use world_history::{HistoryEntry, KeptEntry};

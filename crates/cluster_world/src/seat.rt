@@ -1,6 +1,6 @@
 //! Seats of lock holders, over a world.
 ghost use Rattle.std.specs.Prelude.{◌≡◌, map, if◌then◌else◌};
-ghost use Rattle.node_events.specs.Seen.{answer_of};
+ghost use Rattle.node_core.specs.NodeEventsSeen.{answer_of};
 ghost use Rattle.cluster_world.specs.declared.events.Refusal.TheVariants.{Memory};
 ghost use Rattle.cluster_world.specs.declared.seat.SeatFault.TheVariants.{Refused, NoAnswer};
 ghost use Rattle.cluster_world.specs.Refusals.{is_memory};
@@ -195,7 +195,7 @@ impl<'a, N: Names<Memory = Global>> WorldSeat<'a, N> {
 
 impl<'a, N: Names<Memory = Global>> LockSeat for WorldSeat<'a, N> {
     ghost use Rattle.transaction.specs.Counts.{set_replies, deletion_replies};
-    ghost use Rattle.node_events.specs.declared.events.Call.TheVariants.{SetLock, DelLock};
+    ghost use Rattle.node_core.specs.declared.Call.TheVariants.{SetLock, DelLock};
     ghost use Rattle.cluster_world.specs.Playing.{Keeps};
     ghost use Rattle.cluster_world.specs.Seats.{holder_of, replies_of, Grows, SetsLock, DeletesLock};
 

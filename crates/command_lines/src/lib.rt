@@ -7,6 +7,9 @@ mod grammar;
 mod lock_texts;
 mod printing;
 
+pub use cluster_world::{
+    Answer, Call, Event, Refusal, Reply, StartFault, StepFault, World, WorldEvent,
+};
 pub use commands::{ran_out, read_task, text_of};
 pub use faults::LineFault;
 pub use grammar::Task;

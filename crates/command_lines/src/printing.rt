@@ -1,7 +1,7 @@
 //! What is printed.
 ghost use Rattle.std.specs.Prelude.{◌≡◌, ◌++◌, IfOk, OnOk, string_bytes, option_map};
 ghost use Rattle.protocol_model.specs.Script.{Said, TableIs, MembersAre};
-ghost use Rattle.node_events.specs.Seen.{answer_of as any_answer, reply_of as any_reply};
+ghost use Rattle.cluster_world.specs.NodeEventsSeen.{answer_of as any_answer, reply_of as any_reply};
 ghost use Rattle.command_lines.specs.Printing as print;
 
 use cluster_world::{Answer, Refusal, Reply};

@@ -6,6 +6,7 @@ use Rattle.std.specs.List.{list_all}
 use Rattle.std.proofs.Math.Path.{fun_ext}
 use Rattle.std.proofs.lemmas.Bool.{eq-eqb, and_from}
 use Rattle.std.proofs.lemmas.List.Folds.{list_all-append}
+use Rattle.std.proofs.Math.Bool.{and-true}
 use Rattle.registry_model.specs.Process.{Nodes, nobody, at}
 use Rattle.registry_model.specs.Table.{Table, without, changed, StrikeOwner}
 use Rattle.registry_model.specs.Call.{is_grant, change_of}
@@ -187,15 +188,11 @@ fixed_replica cluster r F a inside = go (without (r.told a) (if r.joined a then 
     ∙ without_none (r.told a) r.table (F.told a))
     (λ c. (if r.joined a then r.joined c else c == a) && not (r.told a c))
     (fun_ext (λ c. ap (λ (b : Bool). (if b then r.joined c else c == a) && not (r.told a c)) joined
-    ∙ ap (λ (b : Bool). r.joined c && not b) (F.told a c) ∙ and_true (r.joined c) ∙ F.joined c))
+    ∙ ap (λ (b : Bool). r.joined c && not b) (F.told a c) ∙ and-true (r.joined c) ∙ F.joined c))
     (r.told a) (fun_ext (F.told a)) (r.joined a) joined
   where
     joined : r.joined a ≡ true
     joined = F.joined a ∙ inside
-
-    and_true : (b : Bool) → (b && true) ≡ b
-    and_true true = refl
-    and_true false = refl
 
     go : (t : Table) → t ≡ r.table → (m : Nodes) → m ≡ cluster → (g : Nodes) → g ≡ nobody → (j : Bool) → j ≡ true
         → ◌≡◌ {A = Replica} (record { table = t; members = m; told = g; joined = j })

@@ -27,8 +27,7 @@ ground o = record {
 }
 
 -- the history is what the events added, and where the last step answers `yes` nothing begins to hold in it, and the
--- whole group
--- shows the registry
+-- whole group shows the registry
 pub record Written (o : Opening) (ps : List Played) (w : World) : Type 0 where
   pub history : w.history ≡ entries_of ps
   pub calm : (before : List Played) (p : Played) → ps ≡ before ++ p ∷ [] → (s : Answer) → Contains p.answers s

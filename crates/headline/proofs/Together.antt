@@ -87,8 +87,7 @@ module _ (o : Opening) where
   accepted_whole w e W r = Runs.accepted_keeps o All widens all_keeps w e W r
 
   -- G: what is said of the accepted events so far and of the world behind them. What each accepted event keeps of it
-  -- holds
-  -- after every list of events
+  -- holds after every list of events
   pub course_keeps : (G : List Played → World → Type 0)
       → ((ps : List Played) (w : World) (e : WorldEvent) → G ps w → Whole w → Whole (accepted o w e)
       → refusal o w e ≡ None → Walked o w e
@@ -98,8 +97,7 @@ module _ (o : Opening) where
       (λ ps w e g W r k. step ps w e g W (accepted_whole w e W r) r k) all_opens begins es
 
   -- K: what is said of the entries and the answers of a step so far, and of the world behind them. What every rule
-  -- keeps of it
-  -- holds of each accepted event
+  -- keeps of it holds of each accepted event
   module _ (K : List Entry → List Answer → World → Type 0) (a : ℕ)
       (step : (w : World) (r : Rule) (es : List Entry) (ss : List Answer) → K es ss w → Whole w
       → Whole (Rules.effect o a r w) → Rules.May o a w r

@@ -4,6 +4,7 @@ use Rattle.std.specs.Prelude.{◌&&◌, ◌||◌, not, fold, is_some, if◌then�
 use Rattle.registry_model.specs.History.{Entry, granted_to}
 use Rattle.std.specs.List.{list_any}
 use Rattle.std.proofs.lemmas.List.Folds.{list_any-append}
+use Rattle.std.proofs.Math.Bool.{and-false}
 use Rattle.registry_model.specs.Process.{at}
 use Rattle.registry_model.specs.Call.{Reply, Yes, True, False, is_reply}
 use Rattle.protocol_model.specs.Round.{Round, owes, asked, answer, down, is_over, Ending, ending, opens, rest, is_empty}
@@ -65,11 +66,7 @@ tame_none u e = ap (λ (ss : List Answer). list_any is_yes ss && is_busy u) e
 -- a turn that writes nothing, in which nothing begins to hold
 pub tame_idle : (u : Turn) → is_writing u.node.current ≡ false → list_any begins u.entries ≡ false → Tame u
 tame_idle u idle none = ap (λ (b : Bool). list_any is_yes u.answers && (b || list_any begins u.entries)) idle
-    ∙ ap (λ (b : Bool). list_any is_yes u.answers && (false || b)) none ∙ go (list_any is_yes u.answers)
-  where
-    go : (b : Bool) → (b && false) ≡ false
-    go true = refl
-    go false = refl
+    ∙ ap (λ (b : Bool). list_any is_yes u.answers && (false || b)) none ∙ and-false (list_any is_yes u.answers)
 
 module _ (n a : ℕ) where
   -- the end of a step begins what is next: it answers `contact_left`, or nothing

@@ -67,8 +67,7 @@ pub record IsTaken (cluster : Nodes) (before later : List Entry) (n : ℕ) (x : 
   pub takes : Takes (registry_of cluster (before ++ middle)) n x p entry
 
 -- After a `yes` to `register` every running node of the group, that wasn't told that the owner's node left, finds the
--- owner
--- whenever no operation of its group holds, until an entry takes the name
+-- owner whenever no operation of its group holds, until an entry takes the name
 abbrev pub YesStands : Type 0
 YesStands = (o : Opening) (es : List WorldEvent) (before later : List Entry) (n k c : ℕ) (x : Text) (p : Process) →
     (now o es).history ≡ before ++ Name n k (Register x p) Yes ∷ later
@@ -79,8 +78,7 @@ YesStands = (o : Opening) (es : List WorldEvent) (before later : List Entry) (n 
     ⊎ IsTaken (in_cluster o) (before ++ Name n k (Register x p) Yes ∷ []) later c x p
 
 -- When a call that gives the name x to q is answered `yes`, every running node of the group finds q at once, but for
--- those that were
--- told that q's node left
+-- those that were told that q's node left
 abbrev pub YesIsFound : Type 0
 YesIsFound = (o : Opening) (es : List WorldEvent) (before : List Played) (p : Played) (s : Answer) (call : NameCall)
     (x : Text) (q : Process) →

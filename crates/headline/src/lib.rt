@@ -99,7 +99,7 @@ pub fn refused_changes_nothing()
     ensures { RefusedChangesNothing }
 {}
 
-/// Of the joined nodes at most one holds the global lock.
+/// Of the running joined nodes at most one holds the global lock.
 pub fn one_holder()
     ensures { OneHolder }
 {}
@@ -109,7 +109,7 @@ pub fn one_owner_at_each()
     ensures { OneOwnerAtEach }
 {}
 
-/// While nobody holds the lock, joined nodes that were told of the same departures show the same names.
+/// While nobody holds the lock, running joined nodes that were told of the same departures show the same names.
 pub fn joined_agree()
     ensures { JoinedAgree }
 {}
@@ -124,7 +124,8 @@ pub fn yes_to_the_free_only()
     ensures { YesToTheFreeOnly }
 {}
 
-/// After a `yes` every running node of the group finds the process until an entry takes the name.
+/// After a `yes` to `register` every running node of the group finds the process whenever no operation of its group holds, until
+/// an entry takes the name; but for nodes that were told that the process's node left.
 pub fn yes_stands()
     ensures { YesStands }
 {}
@@ -134,7 +135,8 @@ pub fn fixed_membership()
     ensures { FixedAgreement }
 {}
 
-/// When a call that gives a name is answered `yes`, every running node of the group finds the process at once.
+/// When a call that gives a name is answered `yes`, every running node of the group finds the process at once, but for those
+/// that were told that its node left.
 pub fn yes_is_found()
     ensures { YesIsFound }
 {}

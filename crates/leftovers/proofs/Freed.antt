@@ -5,6 +5,7 @@ use Rattle.std.specs.Prelude.{not, ◌&&◌, ◌||◌, nat_lt, if◌then◌else�
 use Rattle.std.specs.List.{list_any}
 use Rattle.std.proofs.lemmas.Bool.{cases_eq, eq-eqb, ne_eqb, eqb-true}
 use Rattle.std.proofs.lemmas.List.{append-nil}
+use Rattle.std.proofs.Math.Bool.{or-true}
 use Rattle.registry_model.specs.Process.{Process, is_process, Nodes, at}
 use Rattle.protocol_model.specs.Round.{greatest, opens, rest, answer}
 use Rattle.protocol_model.specs.Letter.{Letter}
@@ -78,11 +79,7 @@ freed_append p (x ∷ xs) ys none h =
         → has_take_of p xs ≡ t → (f || r && not t) ≡ true
         → (is_freed p (xs ++ ys) || r && not (has_take_of p (xs ++ ys))) ≡ true
     go more true e r t i k = rw (more e) refl
-    go more false e true false i k = rw (take_of_append p xs ys i none) (or_true (is_freed p (xs ++ ys)))
-      where
-        or_true : (b : Bool) → (b || true) ≡ true
-        or_true true = refl
-        or_true false = refl
+    go more false e true false i k = rw (take_of_append p xs ys i none) (or-true (is_freed p (xs ++ ys)))
     go more false e true true i k = cc
     go more false e false t i k = cc
 

@@ -1,3 +1,20 @@
+pub use Rattle.client_locks.proofs.Answering
+pub use Rattle.client_locks.proofs.Chains
+pub use Rattle.client_locks.proofs.Clients
+pub use Rattle.client_locks.proofs.Ids
+pub use Rattle.client_locks.proofs.Opening
+pub use Rattle.client_locks.proofs.RoundNumbers
+pub use Rattle.client_locks.proofs.Tallies
+pub use Rattle.client_locks.proofs.Told
+pub use Rattle.client_locks.proofs.TriedEvents
+pub use Rattle.client_locks.proofs.Tries
+pub use Rattle.client_locks.proofs.Walking
+pub use Rattle.headline.proofs.Clients as HeadlineClients
+pub use Rattle.headline.proofs.Theorem
+pub use Rattle.headline.proofs.Together
+pub use Rattle.walk.proofs.Events
+pub use Rattle.walk.proofs.Orders
+pub use Rattle.walk.proofs.Walk
 pub mod Grounds
 pub mod Deaths
 pub mod Parts

@@ -3,6 +3,7 @@ use mathlib.Core.Logic.{◌⊎◌}
 use Rattle.std.proofs.Common.{ℕ, Bool, true, false, ◌==◌, ◌≡◌, ◌<◌, ◌≤◌, Option, Some, None, List, [], ◌∷◌, refl, sym, ap, ◌∙◌, subst, inl, inr, arith}
 use Rattle.std.specs.Prelude.{not, ◌&&◌, ◌||◌, nat_lt, is_none, find, Contains, if◌then◌else◌}
 use Rattle.std.proofs.lemmas.Bool.{eq-eqb, ltb-true, lt-ltb}
+use Rattle.std.proofs.Math.Bool.{and-false}
 use Rattle.registry_model.specs.Process.{Process, is_process}
 use Rattle.registry_model.proofs.Lists.{Contains-cases, Contains-nil, Contains-front, Contains-behind}
 use Rattle.protocol_model.specs.Round.{Mark, Out}
@@ -167,11 +168,7 @@ module _ (o : Opening) (w : World) (W : Whole o w) (Q : IsQuiet o w) where
           (all_both (w.node x).locks (W.families.granted x).known (no_global_grants x ux))
         where
           fails : (i : Id) → (is_grant_known o i p && not (is_global i)) ≡ false
-          fails (Global b) = off (is_grant_known o (Global b) p)
-            where
-              off : (c : Bool) → (c && false) ≡ false
-              off true = refl
-              off false = refl
+          fails (Global b) = and-false (is_grant_known o (Global b) p)
           fails (Client r q) = rw e (off (in_world o p.node))
             where
               off : (c : Bool) → ((c && false) && true) ≡ false

@@ -9,7 +9,7 @@ use Rattle.std.proofs.lemmas.List.Kept.{AllPairs-from_increasing}
 use Rattle.std.proofs.lemmas.List.Sums.{fails_before_first}
 use Rattle.registry_model.proofs.Updates.{by_test}
 use Rattle.term.proofs.NodePlaces.{place-Some, one_place}
-use Rattle.link.specs.declared.mesh.TheConstants.{MOST_NODES}
+use Rattle.term.specs.declared.node_set.TheConstants.{MOST_NODES}
 use Rattle.link.specs.Faults.{joins}
 use Rattle.link.specs.Held.{Held, place, link_at, closed_at, seen}
 

@@ -2,7 +2,7 @@
 use Rattle.std.specs.Prelude.{ℕ, Bool, false, ◌==◌, ◌+◌, ◌*◌, ◌<◌, ◌≤◌, ◌≡◌, ◌⊎◌, Option, Some, None, List, [], ◌∷◌, if◌then◌else◌, length, slice_index_or, is_some}
 use Rattle.std.specs.List.{position}
 use Rattle.std.specs.List.Sorted.{IsStrictlyIncreasing}
-use Rattle.link.specs.declared.mesh.TheConstants.{MOST_NODES}
+use Rattle.term.specs.declared.node_set.TheConstants.{MOST_NODES}
 use Rattle.protocol_model.specs.Links.{Links, is_nil}
 
 -- the nodes; the links in the order of senders and then of receivers, as many for each sender as there may be nodes; and of

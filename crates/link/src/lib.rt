@@ -10,9 +10,6 @@ mod station;
 
 pub use faults::{LinkFault, Unsent};
 pub use mailbox::{INBOX_ROOM, Mailbox, Port, Root, Sourced, compare, open};
-pub use mesh::{MOST_NODES, Mesh, are_rising};
+pub use mesh::{Mesh, are_rising};
 pub use mesh_end::MeshEnd;
 pub use station::{Inbox, Post, Station};
-
-#[cfg(test)]
-mod tests;

@@ -7,10 +7,7 @@ use crate::faults::{LinkFault, Unsent};
 use crate::link::Link;
 use std::alloc::{AllocError, Global};
 use std::marker::Model;
-use term::NodeName;
-
-/// No mesh has more nodes.
-pub const MOST_NODES: usize = 8;
+use term::{MOST_NODES, NodeName};
 
 /// One link for each ordered pair of nodes.
 #[derive(Drop)]

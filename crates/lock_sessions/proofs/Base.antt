@@ -7,7 +7,8 @@ use Rattle.registry_model.specs.Process.{Nodes, nodes_of, at}
 use Rattle.protocol_model.specs.Letter.{Letter, is_down}
 use Rattle.protocol_model.specs.Links.{Links, is_nil, posted}
 use Rattle.protocol_model.specs.Turn.{Turn, sent_to}
-use Rattle.protocol_model.specs.World.{Opening, World}
+use Rattle.protocol_model.specs.World.{Opening, in_world, World, left}
+use Rattle.registry_model.proofs.Updates.{by_test}
 use Rattle.moves.proofs.Rules.{Rule, Taken, FrontTaken, takes, turn_by, effect}
 use Rattle.moves.proofs.Indices.{both}
 use Rattle.moves.proofs.Sends.{sent_to-all, to_each}
@@ -45,6 +46,20 @@ pub effect-turn : (o : Opening) (a : ℕ) (w : World) (r : Rule) → is_leave r 
     → after_turn a w (turn_by o a w r) (takes o a r) ≡ effect o a r w
 effect-turn o a w Rule.Leaves e = cc
 effect-turn o a w _ e = refl
+
+-- all nodes of the world but one
+abbrev pub others : Opening → ℕ → Nodes
+others o a c = in_world o c && not (c == a)
+
+-- what it sends to each when it leaves
+abbrev pub farewell : Opening → ℕ → ℕ → List Letter
+farewell o a c = sent_to c (to_each (nodes_of o.bound (others o a)) Letter.Down)
+
+-- who runs when it has left ran before
+pub ran_before : (o : Opening) (a : ℕ) (w : World) (d : ℕ) → left (effect o a Rule.Leaves w) d ≡ false
+    → left w d ≡ false
+ran_before o a w d h = by_test a (λ d b. (if b then true else left w d) ≡ false → left w d ≡ false) (λ h. cc)
+    (λ d ne h. h) d h
 
 -- the letters that are taken from the link of x to the node
 abbrev pub letters_from : Option Taken → ℕ → List Letter

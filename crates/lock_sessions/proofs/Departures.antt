@@ -22,7 +22,7 @@ use Rattle.registry_model.proofs.Updates.{by_test, at_same, at_other}
 use Rattle.moves.proofs.Indices.{both}
 use Rattle.moves.proofs.Sends.{to_each, sent_to-append, sent_to-all}
 use Rattle.moves.proofs.Invariants.{Each, is_down_last, IsUp, IsProper, IsProperOp, AreProperOps, IsProperCurrent, Proper}
-use Rattle.lock_sessions.proofs.Base.{not_both, is_leave, popped_queue, popped, after_turn, posted-here, posted-other, each-append, each-map, each-popped, each-posted, each-one, each-all, down_last-append, down_last-none, down_last-popped}
+use Rattle.lock_sessions.proofs.Base.{not_both, is_leave, others, farewell, ran_before, popped_queue, popped, after_turn, posted-here, posted-other, each-append, each-map, each-popped, each-posted, each-one, each-all, down_last-append, down_last-none, down_last-popped}
 
 -- a letter stays proper while more nodes leave
 pub proper-more : (o : Opening) (w e : World) → ((d : ℕ) → left w d ≡ true → left e d ≡ true) → (f n : ℕ) (l : Letter)
@@ -130,6 +130,17 @@ module _ (o : Opening) (a : ℕ) (w : World) (I : Proper o w) (up : IsUp o w a) 
   front_is : (f : ℕ) (l : Letter) (ls : List Letter) → w.links.queue f a ≡ l ∷ ls → IsProper o w f a l
   front_is f l ls e = (subst (λ (x : List Letter). Each (IsProper o w f a) x) e (I.letters f a up.1)).0
 
+  -- a turn that leaves the replica and the queue
+  plain : (u : Turn) → u.node.replica ≡ (w.node a).replica → u.node.queue ≡ (w.node a).queue
+      → IsProperCurrent o w u.node.current
+      → ((n : ℕ) → Each (IsProper o w a n) (sent_to n u.sends)) → FineTurn u
+  plain u same queued current sends = record {
+    replica = subst FineReplica (sym same) own;
+    queue = subst (AreProperOps o w) (sym queued) (I.queues a);
+    current = current;
+    sends = λ n run. sends n;
+  }
+
   -- a write changes the table alone
   wrote_fine : (change : Change) (v : Replica) → FineReplica v → FineReplica (wrote change v)
   wrote_fine change v F = record { told = F.told; itself = F.itself; inside = F.inside }
@@ -189,20 +200,11 @@ module _ (o : Opening) (a : ℕ) (w : World) (I : Proper o w) (up : IsUp o w a) 
   -- an operation is done
   done_fine : (op : Op) (asked : Nodes) (reply : Option Reply)
       → FineTurn (done o.bound a op asked reply (begun (w.node a)))
-  done_fine (Op.Name k call) asked (Some reply) = record {
-    replica = own;
-    queue = I.queues a;
-    current = tt;
-    sends = λ n run. to_all (λ c. asked c && not ((w.node a).replica.told c))
-        (Letter.GiveBack (Global a) (registrar a) false) (λ n. tt) n;
-  }
-  done_fine _ asked reply = record {
-    replica = own;
-    queue = I.queues a;
-    current = tt;
-    sends = λ n run. to_all (λ c. asked c && not ((w.node a).replica.told c))
-        (Letter.GiveBack (Global a) (registrar a) false) (λ n. tt) n;
-  }
+  done_fine (Op.Name k call) asked (Some reply) =
+      plain _ refl refl tt (to_all (λ c. asked c && not ((w.node a).replica.told c))
+      (Letter.GiveBack (Global a) (registrar a) false) (λ n. tt))
+  done_fine _ asked reply = plain _ refl refl tt (to_all (λ c. asked c && not ((w.node a).replica.told c))
+      (Letter.GiveBack (Global a) (registrar a) false) (λ n. tt))
 
   -- each rule makes a fine turn
   fine_turn : (r : Rule) → is_leave r ≡ false → May o a w r → FineTurn (turn_by o a w r)
@@ -228,19 +230,9 @@ module _ (o : Opening) (a : ℕ) (w : World) (I : Proper o w) (up : IsUp o w a) 
         sends = λ n run. tt;
       }
   fine_turn (Rule.Exits p) e m =
-      record {
-        replica = own;
-        queue = I.queues a;
-        current = I.currents a;
-        sends = λ n run. to_all (w.node a).replica.members (Letter.ReleaseOf p) (λ n. tt) n;
-      }
+      plain _ refl refl (I.currents a) (to_all (w.node a).replica.members (Letter.ReleaseOf p) (λ n. tt))
   fine_turn (Rule.Kills f l p receivers) e m =
-      record {
-        replica = own;
-        queue = I.queues a;
-        current = I.currents a;
-        sends = λ n run. to_all receivers (Letter.ReleaseOf p) (λ n. tt) n;
-      }
+      plain _ refl refl (I.currents a) (to_all receivers (Letter.ReleaseOf p) (λ n. tt))
   fine_turn (Rule.Begins op ops) e m = record {
     replica = own;
     queue = (next (op ∷ ops) m.tested.1).1;
@@ -248,18 +240,9 @@ module _ (o : Opening) (a : ℕ) (w : World) (I : Proper o w) (up : IsUp o w a) 
     sends = λ n run. to_one _ (Letter.SetLock (Global a) (registrar a)) (λ n e. tt) n;
   }
   fine_turn (Rule.BeginsStrike serial) e m =
-      record {
-        replica = own;
-        queue = I.queues a;
-        current = tt;
-        sends = λ n run. to_one _ (Letter.SetLock (Global a) (registrar a)) (λ n e. tt) n;
-      }
-  fine_turn (Rule.Retries op) e m = record {
-    replica = own;
-    queue = I.queues a;
-    current = now (Current.Waiting op) m.tested;
-    sends = λ n run. to_one _ (Letter.SetLock (Global a) (registrar a)) (λ n e. tt) n;
-  }
+      plain _ refl refl tt (to_one _ (Letter.SetLock (Global a) (registrar a)) (λ n e. tt))
+  fine_turn (Rule.Retries op) e m = plain _ refl refl (now (Current.Waiting op) m.tested)
+      (to_one _ (Letter.SetLock (Global a) (registrar a)) (λ n e. tt))
   fine_turn (Rule.AsksJoin k c ops) e m = record {
     replica = own;
     queue = (next (Op.Join k c ∷ ops) m.tested.1).1;
@@ -279,58 +262,29 @@ module _ (o : Opening) (a : ℕ) (w : World) (I : Proper o w) (up : IsUp o w a) 
           (at_work (Current.Asking op (answer f granted r))
           (if b then send_all o.bound (λ x. rest r x && not ((w.node a).replica.told x))
           (Letter.SetLock (Global a) (registrar a)) (begun (w.node a)) else begun (w.node a)))
-      go true = record {
-        replica = own;
-        queue = I.queues a;
-        current = now (Current.Asking op r) m.tested.1;
-        sends = λ n run. to_all (λ x. rest r x && not ((w.node a).replica.told x))
-            (Letter.SetLock (Global a) (registrar a)) (λ n. tt) n;
-      }
-      go false = record {
-        replica = own;
-        queue = I.queues a;
-        current = now (Current.Asking op r) m.tested.1;
-        sends = λ n run. tt;
-      }
+      go true = plain _ refl refl (now (Current.Asking op r) m.tested.1)
+          (to_all (λ x. rest r x && not ((w.node a).replica.told x))
+          (Letter.SetLock (Global a) (registrar a)) (λ n. tt))
+      go false = plain _ refl refl (now (Current.Asking op r) m.tested.1) (λ n. tt)
   fine_turn (Rule.MarksDown d op r) e m =
-      record { replica = own; queue = I.queues a; current = now (Current.Asking op r) m.tested.1; sends = λ n run. tt }
-  fine_turn (Rule.GivesUp op r granted) e m = record {
-    replica = own;
-    queue = I.queues a;
-    current = now (Current.Asking op r) m.tested.0;
-    sends = λ n run. to_all granted (Letter.GiveBack (Global a) (registrar a) false) (λ n. tt) n;
-  }
-  fine_turn (Rule.Grants k call r) e m = record {
-    replica = own;
-    queue = I.queues a;
-    current = tt;
-    sends = λ n run. to_all (w.node a).replica.members (Letter.Apply (change_of call)) (λ n. tt) n;
-  }
-  fine_turn (Rule.Denies k call r) e m = record {
-    replica = own;
-    queue = I.queues a;
-    current = tt;
-    sends = λ n run. to_all (λ c. asked r c && not ((w.node a).replica.told c))
-        (Letter.GiveBack (Global a) (registrar a) false) (λ n. tt) n;
-  }
-  fine_turn (Rule.Strikes p r) e m = record {
-    replica = own;
-    queue = I.queues a;
-    current = tt;
-    sends = λ n run. to_all (w.node a).replica.members (Letter.Apply (StrikeOwner p)) (λ n. tt) n;
-  }
-  fine_turn (Rule.Admits j pairs r) e m = record {
-    replica = own;
-    queue = I.queues a;
-    current = isin;
-    sends = λ n run. subst (λ (ls : List Letter). Each (IsProper o w a n) ls)
-        (sym (sent_to-append n (to_each (nodes_of o.bound (w.node a).replica.members) admission)
-        (record { to = j; letter = welcome } ∷ [])))
-        (each-append (IsProper o w a n) (sent_to n (to_each (nodes_of o.bound (w.node a).replica.members) admission))
-        (sent_to n (record { to = j; letter = welcome } ∷ []))
-        (to_all (w.node a).replica.members admission (λ n. isin) n)
-        (to_one j welcome is_fine n));
-  }
+      plain _ refl refl (now (Current.Asking op r) m.tested.1) (λ n. tt)
+  fine_turn (Rule.GivesUp op r granted) e m = plain _ refl refl (now (Current.Asking op r) m.tested.0)
+      (to_all granted (Letter.GiveBack (Global a) (registrar a) false) (λ n. tt))
+  fine_turn (Rule.Grants k call r) e m =
+      plain _ refl refl tt (to_all (w.node a).replica.members (Letter.Apply (change_of call)) (λ n. tt))
+  fine_turn (Rule.Denies k call r) e m =
+      plain _ refl refl tt (to_all (λ c. asked r c && not ((w.node a).replica.told c))
+      (Letter.GiveBack (Global a) (registrar a) false) (λ n. tt))
+  fine_turn (Rule.Strikes p r) e m =
+      plain _ refl refl tt (to_all (w.node a).replica.members (Letter.Apply (StrikeOwner p)) (λ n. tt))
+  fine_turn (Rule.Admits j pairs r) e m =
+      plain _ refl refl isin (λ n. subst (λ (ls : List Letter). Each (IsProper o w a n) ls)
+      (sym (sent_to-append n (to_each (nodes_of o.bound (w.node a).replica.members) admission)
+      (record { to = j; letter = welcome } ∷ [])))
+      (each-append (IsProper o w a n) (sent_to n (to_each (nodes_of o.bound (w.node a).replica.members) admission))
+      (sent_to n (record { to = j; letter = welcome } ∷ []))
+      (to_all (w.node a).replica.members admission (λ n. isin) n)
+      (to_one j welcome is_fine n)))
     where
       isin : in_world o j ≡ true
       isin = now (Current.Asking (Op.Admission j pairs) r) m.tested.0.current
@@ -352,53 +306,24 @@ module _ (o : Opening) (a : ℕ) (w : World) (I : Proper o w) (up : IsUp o w a) 
             (λ c ne h. own.inside c h),
         λ d h. own.told d h,
       )
-  fine_turn (Rule.Passes j pairs r) e m = record {
-    replica = own;
-    queue = I.queues a;
-    current = tt;
-    sends = λ n run. to_all (λ c. asked r c && not ((w.node a).replica.told c))
-        (Letter.GiveBack (Global a) (registrar a) false) (λ n. tt) n;
-  }
+  fine_turn (Rule.Passes j pairs r) e m =
+      plain _ refl refl tt (to_all (λ c. asked r c && not ((w.node a).replica.told c))
+      (Letter.GiveBack (Global a) (registrar a) false) (λ n. tt))
   fine_turn (Rule.CountsApplied f op asked awaited reply) e m =
-      record {
-        replica = own;
-        queue = I.queues a;
-        current = now (Current.Writing op asked awaited reply) m.tested.1;
-        sends = λ n run. tt;
-      }
+      plain _ refl refl (now (Current.Writing op asked awaited reply) m.tested.1) (λ n. tt)
   fine_turn (Rule.CountsDown d op asked awaited reply) e m =
-      record {
-        replica = own;
-        queue = I.queues a;
-        current = now (Current.Writing op asked awaited reply) m.tested.1;
-        sends = λ n run. tt;
-      }
+      plain _ refl refl (now (Current.Writing op asked awaited reply) m.tested.1) (λ n. tt)
   fine_turn (Rule.Finishes op asked awaited reply) e m = done_fine op asked reply
   fine_turn (Rule.Judges f id p) e m = go (is_free_for id p (w.node a).locks)
     where
       go : (b : Bool) → FineTurn (judge o.bound a (join_number w) f id p b (begun (w.node a)))
-      go true = record {
-        replica = own;
-        queue = I.queues a;
-        current = I.currents a;
-        sends = λ n run. to_one f (Letter.LockAnswer id p true) (λ n e. tt) n;
-      }
-      go false = record {
-        replica = own;
-        queue = I.queues a;
-        current = I.currents a;
-        sends = λ n run. to_one f (Letter.LockAnswer id p false) (λ n e. tt) n;
-      }
+      go true = plain _ refl refl (I.currents a) (to_one f (Letter.LockAnswer id p true) (λ n e. tt))
+      go false = plain _ refl refl (I.currents a) (to_one f (Letter.LockAnswer id p false) (λ n e. tt))
   fine_turn (Rule.TakesBack f id p ack) e m = go ack
     where
       go : (b : Bool) → FineTurn (take_back o.bound a (join_number w) f id p b (begun (w.node a)))
-      go true = record {
-        replica = own;
-        queue = I.queues a;
-        current = I.currents a;
-        sends = λ n run. to_one f (Letter.GivenBack p) (λ n e. tt) n;
-      }
-      go false = record { replica = own; queue = I.queues a; current = I.currents a; sends = λ n run. tt }
+      go true = plain _ refl refl (I.currents a) (to_one f (Letter.GivenBack p) (λ n e. tt))
+      go false = plain _ refl refl (I.currents a) (λ n. tt)
   fine_turn (Rule.Writes f change) e m =
       record {
         replica = wrote_fine change (w.node a).replica own;
@@ -407,13 +332,8 @@ module _ (o : Opening) (a : ℕ) (w : World) (I : Proper o w) (up : IsUp o w a) 
         sends = λ n run. to_one f Letter.Applied (λ n e. tt) n;
       }
   fine_turn (Rule.RefusesJoin f pairs) e m =
-      record {
-        replica = own;
-        queue = I.queues a;
-        current = I.currents a;
-        sends = λ n run. to_one f Letter.JoinRefused (λ n e. tt) n;
-      }
-  fine_turn (Rule.EndsJoin f k) e m = record { replica = own; queue = I.queues a; current = tt; sends = λ n run. tt }
+      plain _ refl refl (I.currents a) (to_one f Letter.JoinRefused (λ n e. tt))
+  fine_turn (Rule.EndsJoin f k) e m = plain _ refl refl tt (λ n. tt)
   fine_turn (Rule.IsAdmitted f j puts kills) e m = record {
     replica = puts_fine puts (with_member j (w.node a).replica)
         (with_member_fine j (front_is f (Letter.Admit j puts kills) m.front.1.0 m.front.1.1));
@@ -441,54 +361,31 @@ module _ (o : Opening) (a : ℕ) (w : World) (I : Proper o w) (up : IsUp o w a) 
       known : (left w f ≡ true) × (f ≡ a → ⊥)
       known = front_is f Letter.Down m.front.1.0 m.front.1.1
   fine_turn (Rule.LosesContact k c) e m =
-      record { replica = own; queue = I.queues a; current = tt; sends = λ n run. tt }
+      plain _ refl refl tt (λ n. tt)
   fine_turn (Rule.AsksLock c) e m =
-      record {
-        replica = own;
-        queue = I.queues a;
-        current = I.currents a;
-        sends = λ n run. to_one _ (Letter.SetLock c.id c.holder) (λ n e. tt) n;
-      }
+      plain _ refl refl (I.currents a) (to_one _ (Letter.SetLock c.id c.holder) (λ n e. tt))
   fine_turn (Rule.HearsLock f id granted c r) e m = go (opens f granted r)
     where
       go : (b : Bool) → FineTurn
           (keep_call (in_phase (LockPhase.Asking (answer f granted r)) c)
           (if b then send_all o.bound (λ x. rest r x && not ((w.node a).replica.told x))
           (Letter.SetLock c.id c.holder) (begun (w.node a)) else begun (w.node a)))
-      go true = record {
-        replica = own;
-        queue = I.queues a;
-        current = I.currents a;
-        sends = λ n run. to_all (λ x. rest r x && not ((w.node a).replica.told x)) (Letter.SetLock c.id c.holder)
-            (λ n. tt) n;
-      }
-      go false = record { replica = own; queue = I.queues a; current = I.currents a; sends = λ n run. tt }
+      go true = plain _ refl refl (I.currents a)
+          (to_all (λ x. rest r x && not ((w.node a).replica.told x)) (Letter.SetLock c.id c.holder)
+          (λ n. tt))
+      go false = plain _ refl refl (I.currents a) (λ n. tt)
   fine_turn (Rule.GivesUpLock c r granted) e m = go (is_spent c.retries)
     where
       go : (b : Bool) → FineTurn
           (if b then close_call o.bound a c false (give_lock o.bound a c granted (begun (w.node a))) else keep_call
           (in_phase LockPhase.Waiting c) (give_lock o.bound a c granted (begun (w.node a))))
-      go true = record {
-        replica = own;
-        queue = I.queues a;
-        current = I.currents a;
-        sends = λ n run. to_all granted (Letter.GiveBack c.id c.holder false) (λ n. tt) n;
-      }
-      go false = record {
-        replica = own;
-        queue = I.queues a;
-        current = I.currents a;
-        sends = λ n run. to_all granted (Letter.GiveBack c.id c.holder false) (λ n. tt) n;
-      }
-  fine_turn (Rule.DeletesLock c) e m = record {
-    replica = own;
-    queue = I.queues a;
-    current = I.currents a;
-    sends = λ n run. to_all (targets (w.node a).replica.members c.target) (Letter.GiveBack c.id c.holder true)
-        (λ n. tt) n;
-  }
+      go true = plain _ refl refl (I.currents a) (to_all granted (Letter.GiveBack c.id c.holder false) (λ n. tt))
+      go false = plain _ refl refl (I.currents a) (to_all granted (Letter.GiveBack c.id c.holder false) (λ n. tt))
+  fine_turn (Rule.DeletesLock c) e m = plain _ refl refl (I.currents a)
+      (to_all (targets (w.node a).replica.members c.target) (Letter.GiveBack c.id c.holder true)
+      (λ n. tt))
   fine_turn Rule.Leaves e m = cc
-  fine_turn _ e m = record { replica = own; queue = I.queues a; current = I.currents a; sends = λ n run. tt }
+  fine_turn _ e m = plain _ refl refl (I.currents a) (λ n. tt)
 
   -- a node leaves
   leaves : Proper o (effect o a Rule.Leaves w)
@@ -516,23 +413,20 @@ module _ (o : Opening) (a : ℕ) (w : World) (I : Proper o w) (up : IsUp o w a) 
       after : World
       after = effect o a Rule.Leaves w
 
-      others : Nodes
-      others c = in_world o c && not (c == a)
-
       out : ℕ → List Letter
-      out c = sent_to c (to_each (nodes_of o.bound others) Letter.Down)
+      out = farewell o a
 
       more : (d : ℕ) → left w d ≡ true → left after d ≡ true
       more d h = by_test a (λ d b. left w d ≡ true → (if b then true else left w d) ≡ true) (λ h. refl)
           (λ d ne h. h) d h
 
       still : (d : ℕ) → left after d ≡ false → left w d ≡ false
-      still d h = by_test a (λ d b. (if b then true else left w d) ≡ false → left w d ≡ false) (λ h. cc)
-          (λ d ne h. h) d h
+      still = ran_before o a w
 
       downs : (n : ℕ) → is_down_last (out n) ≡ true
-      downs n = subst (λ (ls : List Letter). is_down_last ls ≡ true) (sym (sent_to-all o.bound others Letter.Down n))
-          (go (nat_lt n o.bound && others n))
+      downs n = subst (λ (ls : List Letter). is_down_last ls ≡ true)
+          (sym (sent_to-all o.bound (others o a) Letter.Down n))
+          (go (nat_lt n o.bound && others o a n))
         where
           go : (b : Bool) → is_down_last (if b then Letter.Down ∷ [] else []) ≡ true
           go true = refl
@@ -558,7 +452,7 @@ module _ (o : Opening) (a : ℕ) (w : World) (I : Proper o w) (up : IsUp o w a) 
           (each-map (IsProper o w f n) (IsProper o after f n) (proper-more o w after more f n) (w.links.queue f n)
           (I.letters f n run))
           (λ e. subst (λ (y : ℕ). Each (IsProper o after y n) (out n)) (sym e)
-          (each-all (IsProper o after a n) o.bound others n Letter.Down
+          (each-all (IsProper o after a n) o.bound (others o a) n Letter.Down
           (λ h. (at_same w.links.closed a true, λ k. ne (sym k)))))
 
 -- each rule keeps what is known of departures, members and letters by themselves

@@ -15,13 +15,13 @@ use Rattle.protocol_model.specs.Node.{Node, Op, Current, LockPhase, LockCall, ca
 use Rattle.protocol_model.specs.Turn.{Send, begun, keep_call, send_all, sent_to}
 use Rattle.protocol_model.specs.Registrar.{registrar, done}
 use Rattle.protocol_model.specs.Client.{is_spent, in_phase, close_call, give_lock}
-use Rattle.protocol_model.specs.World.{Opening, in_world, World, left, opening_world}
+use Rattle.protocol_model.specs.World.{Opening, World, left, opening_world}
 use Rattle.moves.proofs.Rules.{Rule, Taken, taking, takes, turn_by, awaits, is_heard, is_heard_in, some_call, IsNew, IsRetried, May, effect}
 use Rattle.registry_model.proofs.Updates.{by_test, at_same, at_other}
 use Rattle.moves.proofs.Indices.{both, not_true}
 use Rattle.moves.proofs.Sends.{to_each, sent_to-append}
 use Rattle.moves.proofs.Invariants.{Each, IsUp, IsProper, Proper}
-use Rattle.lock_sessions.proofs.Base.{not_both, is_leave, letters_from, each-append, each-posted, each-all}
+use Rattle.lock_sessions.proofs.Base.{not_both, is_leave, others, farewell, ran_before, letters_from, each-append, each-posted, each-all}
 use Rattle.lock_sessions.proofs.LockTables.{Row, Nobody, grants_of, globals, is_global, share, drop_holder-row}
 use Rattle.lock_sessions.proofs.Sessions.{Request, Stage, Free, Session, fits, answers_at, share_at, mark_in, request_in, answer_in, found, found-append, found-letters, AsRequester, requester_turn}
 use Rattle.lock_sessions.proofs.Locking.{IsNamed, is_client, IsClients, AllClients, IsRound, asks_itself, Locks, call_of-client, put_call-clients, drop_call-clients, lock_turn}
@@ -386,7 +386,7 @@ module _ (o : Opening) (a : ℕ) (w : World) (I : Proper o w) (L : Locks o w) (u
     named = λ f n run. by_test a
         (λ n b. left after n ≡ false → Each (IsNamed f n) (if b then [] else (posted a out w.links).queue f n))
         (λ run. tt) (λ n ne run. each-posted (IsNamed f n) a out w.links f n (L.named f n (still n run))
-        (λ e. each-all (IsNamed f n) o.bound others n Letter.Down (λ h. tt))) n run;
+        (λ e. each-all (IsNamed f n) o.bound (others o a) n Letter.Down (λ h. tt))) n run;
     calls = by_test a (λ n b. AllClients (if b then w.node a else w.node n).calls) (L.calls a) (λ n ne. L.calls n);
     rounds = by_test a (λ n b. IsRound (if b then w.node a else w.node n).current) (L.rounds a) (λ n ne. L.rounds n);
     writers = λ n run. by_test a (λ n b. IsUp o w n → asks_itself n (if b then w.node a else w.node n).current ≡ true)
@@ -400,15 +400,11 @@ module _ (o : Opening) (a : ℕ) (w : World) (I : Proper o w) (L : Locks o w) (u
       after : World
       after = effect o a Rule.Leaves w
 
-      others : Nodes
-      others c = in_world o c && not (c == a)
-
       out : ℕ → List Letter
-      out c = sent_to c (to_each (nodes_of o.bound others) Letter.Down)
+      out = farewell o a
 
       still : (d : ℕ) → left after d ≡ false → left w d ≡ false
-      still d h = by_test a (λ d b. (if b then true else left w d) ≡ false → left w d ≡ false) (λ h. cc)
-          (λ d ne h. h) d h
+      still = ran_before o a w
 
       stays_here : (d : ℕ) → left after d ≡ false → d ≡ a → ⊥
       stays_here d h e = not_both (left after d)

@@ -1,6 +1,5 @@
--- What is known of the global lock: letters name their sender's or receiver's registrar, rounds ask their boss first,
--- a lock
--- table has one requester, and any two nodes that run stand at one of eight stages.
+-- What is known of the global lock: letters name their sender's or receiver's registrar, rounds ask their boss first, a
+-- lock table has one requester, and any two nodes that run stand at one of eight stages.
 use Rattle.std.proofs.Common.{ℕ, Bool, true, false, ◌==◌, ◌≡◌, Option, Some, List, [], ◌∷◌, refl, sym, ap, ◌∙◌, subst}
 use Rattle.std.specs.Prelude.{not, nat_lt, if◌then◌else◌}
 use Rattle.registry_model.specs.Process.{Process, is_process}

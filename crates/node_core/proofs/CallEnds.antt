@@ -3,6 +3,7 @@ use Rattle.std.proofs.Common.{ℕ, Bool, true, false, ◌==◌, ◌≡◌, ◌<�
 use Rattle.std.specs.Prelude.{not, nat_lt, ◌&&◌, if◌then◌else◌, All}
 use Rattle.std.proofs.lemmas.Bool.{eqb-true, ne_eqb, eq-eqb, cases_eq}
 use Rattle.std.proofs.lemmas.List.Elements.{All-head, All-tail, All-same}
+use Rattle.std.proofs.Math.Bool.{and-false}
 use Rattle.registry_model.specs.Process.{Process, is_process, Nodes, without_node as without}
 use Rattle.registry_model.specs.Call.{True}
 use Rattle.protocol_model.specs.Letter.{Letter as AnyLetter}
@@ -28,11 +29,12 @@ use Rattle.node_core.specs.Held.{Held, bound_of, IsWithin, IsCallWithin, IsWhole
 use Rattle.node_core.specs.Locking.{end_of, end_in, deleted_of, deleted_in}
 use Rattle.node_core.specs.Seen.{turn_of}
 use Rattle.node_core.specs.Steps.{Makes}
-use Rattle.node_core.proofs.Sends.{all_below}
+use Rattle.node_core.proofs.Bounds.{all_below}
 use Rattle.node_core.proofs.Receivers.{answered_of}
 use Rattle.node_core.proofs.Rules.{followed}
 use Rattle.node_core.proofs.Rounds.{held_end, failed_end}
-use Rattle.node_core.proofs.Locking.{All-put_call, whole_with, made_as, keeps, none_left}
+use Rattle.node_core.proofs.Whole.{whole_with}
+use Rattle.node_core.proofs.Locking.{All-put_call, made_as, keeps, none_left}
 
 -- a call that was put is found
 found_put : (c : AnyCall) (xs : List AnyCall) → call_of c.holder (put_call c xs) ≡ Some c
@@ -49,13 +51,9 @@ found_put c (d ∷ xs) =
       | inr ne ↦ ne_eqb d.holder.serial c.holder.serial ne
     ]
 
-    and_false : (b : Bool) → (b && false) ≡ false
-    and_false true = refl
-    and_false false = refl
-
     another : (c.holder.serial == d.holder.serial) ≡ false → is_process d.holder c.holder ≡ false
     another other = ap (λ (b : Bool). (d.holder.node == c.holder.node) && b) (turned other)
-        ∙ and_false (d.holder.node == c.holder.node)
+        ∙ and-false (d.holder.node == c.holder.node)
 
     go : (t e : Bool) → (c.holder.serial == d.holder.serial) ≡ e → call_of c.holder (put_call c xs) ≡ Some c
         → call_of c.holder (if t then c ∷ d ∷ xs else (if e then c ∷ xs else d ∷ put_call c xs)) ≡ Some c

@@ -18,26 +18,15 @@ use Rattle.node_core.specs.Seen.{turn_of}
 use Rattle.node_core.specs.Steps.{Makes}
 use Rattle.node_core.proofs.Sends.{sent_all_is}
 use Rattle.node_core.proofs.Rules.{entered_is}
+use Rattle.node_core.proofs.Whole.{whole_watching}
 use Rattle.node_core.proofs.Locking.{whole_taken}
 
 -- the process is dead, and its call is taken out
 pub whole_exited : (h : Held) (w : Watch) (cs : LockCalls) (p : Process) → IsWhole h → w.node ≡ h.watch.node
     → KeepsSuspects h.watch w → cs.node ≡ h.calls.node → seen cs ≡ drop_call p (seen h.calls)
     → IsWhole (record h { watch = w; calls = cs })
-whole_exited h w cs p whole node kept own dropped = whole_taken (record h { watch = w }) cs p (record {
-  self = whole.self;
-  members = whole.members;
-  told = whole.told;
-  here = whole.here;
-  queue = whole.queue;
-  current = whole.current;
-  awaited = whole.awaited;
-  phase = whole.phase;
-  watch = node ∙ whole.watch;
-  suspected = kept h.table whole.suspected;
-  calls = whole.calls;
-  called = whole.called;
-}) own dropped
+whole_exited h w cs p whole node kept own dropped = whole_taken (record h { watch = w }) cs p
+    (whole_watching h w whole node (kept h.table whole.suspected)) own dropped
 
 -- the process is dead, and every member is to release its locks
 pub exits : (h k : Held) (w : Watch) (cs : LockCalls) (t u v : Made) (p q r : Process) → IsWhole k → k ≡ h

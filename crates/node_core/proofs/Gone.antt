@@ -1,48 +1,32 @@
 -- Sets of nodes without those that have gone.
-use Rattle.std.proofs.Common.{ℕ, Bool, true, false, ◌==◌, ◌≡◌, ◌+◌, ◌<◌, List, [], ◌∷◌, ◌++◌, length, get_or, take, sym, ap, ◌∙◌, refl, inl, inr}
+use Rattle.std.proofs.Common.{ℕ, Bool, true, false, ◌==◌, ◌≡◌, ◌+◌, ◌<◌, List, length, get_or, take, sym, ap, ◌∙◌, refl, inl, inr}
 use Rattle.std.specs.Prelude.{not, ◌&&◌, ◌||◌}
 use Rattle.std.proofs.Math.Path.{fun_ext}
+use Rattle.std.proofs.Math.Bool.{or-false, or-true, and-true}
 use Rattle.std.proofs.lemmas.Bool.{cases_eq, eq-eqb, ne_eqb}
-use Rattle.std.proofs.lemmas.Grind.{take_at_read}
 use Rattle.registry_model.specs.Process.{with_node}
 use Rattle.term.specs.NodeSets.{set_of, without_node}
-use Rattle.boss_order.proofs.Sets.{set_of-filter, set_of-append}
+use Rattle.boss_order.proofs.Sets.{set_of-filter, set_of-take}
 use Rattle.node_core.specs.Held.{IsWithin}
 
 -- rest has the nodes of a list, less the first i of those that have gone
 abbrev pub Kept : List ℕ → List ℕ → ℕ → List ℕ → Type 0
 Kept xs gone i rest = (c : ℕ) → set_of rest c ≡ (set_of xs c && not (set_of (take i gone) c))
 
-or_no : (b : Bool) → (b || false) ≡ b
-or_no true = refl
-or_no false = refl
-
-and_yes : (b : Bool) → (b && true) ≡ b
-and_yes true = refl
-and_yes false = refl
-
--- the set of one node more
-one_more : (xs : List ℕ) (i : ℕ) (x : ℕ) → i < length xs → x ≡ get_or xs i x → (c : ℕ)
-    → set_of (take (i + 1) xs) c ≡ (set_of (take i xs) c || (x == c))
-one_more xs i x l e c =
-    ap (λ (ys : List ℕ). set_of ys c) (take_at_read xs i x l).1
-    ∙ ap (λ (y : ℕ). set_of (take i xs ++ y ∷ []) c) (sym e)
-    ∙ set_of-append (take i xs) (x ∷ []) c ∙ ap (λ (b : Bool). set_of (take i xs) c || b) (or_no (x == c))
-
 -- the i-th has gone, too
 pub goes : (xs gone rest : List ℕ) (i x : ℕ) → i < length gone → x ≡ get_or gone i x → Kept xs gone i rest
     → Kept xs gone (i + 1) (without_node rest x)
 goes xs gone rest i x l e kept c =
     set_of-filter (λ m. not (m == x)) rest c ∙ elim (cases_eq x c) [
-      | inl same ↦ rw (kept c, one_more gone i x l e c, eq-eqb x c same, eq-eqb c x (sym same))
+      | inl same ↦ rw (kept c, set_of-take gone i x l e c, eq-eqb x c same, eq-eqb c x (sym same))
           (neither (set_of xs c) (set_of (take i gone) c))
       | inr ne ↦ rw (
         kept c,
-        one_more gone i x l e c,
+        set_of-take gone i x l e c,
         ne_eqb x c ne,
         ne_eqb c x (λ q. ne (sym q)),
-        or_no (set_of (take i gone) c),
-      ) (and_yes (set_of xs c && not (set_of (take i gone) c)))
+        or-false (set_of (take i gone) c),
+      ) (and-true (set_of xs c && not (set_of (take i gone) c)))
     ]
   where
     neither : (s t : Bool) → ((s && not t) && false) ≡ (s && not (t || true))
@@ -80,14 +64,10 @@ module _ (world told more : List ℕ) (f : ℕ)
   -- they are those of before and f
   pub told_is : IsWithin world told → set_of world f ≡ true → set_of more ≡ with_node f (set_of told)
   told_is within of = fun_ext (λ c. are c ∙ elim (cases_eq c f) [
-    | inl same ↦ rw (eq-eqb c f same, ap (set_of world) same ∙ of) (or_yes (set_of told c))
-    | inr ne ↦ rw (ne_eqb c f ne, or_no (set_of told c)) (both (set_of world c) (set_of told c) (within c))
+    | inl same ↦ rw (eq-eqb c f same, ap (set_of world) same ∙ of) (or-true (set_of told c))
+    | inr ne ↦ rw (ne_eqb c f ne, or-false (set_of told c)) (both (set_of world c) (set_of told c) (within c))
   ])
     where
-      or_yes : (b : Bool) → (b || true) ≡ true
-      or_yes true = refl
-      or_yes false = refl
-
       both : (w t : Bool) → (t ≡ true → w ≡ true) → (w && t) ≡ t
       both true t e = refl
       both false true e = e refl

@@ -46,7 +46,8 @@ use Rattle.node_events.specs.Letters.{letter_of}
 use Rattle.node_core.specs.Seen.{node_of, turn_of, current_of}
 use Rattle.node_events.specs.Seen.{answer_of, reply_of, unnumbered}
 use Rattle.node_core.specs.Steps.{Makes, Works}
-use Rattle.node_core.proofs.Sends.{sent_is, sent_all_is, all_below}
+use Rattle.node_core.proofs.Bounds.{all_below}
+use Rattle.node_core.proofs.Sends.{sent_is, sent_all_is}
 use Rattle.node_core.proofs.Rules.{followed, entered_is}
 use Rattle.node_core.proofs.Rounds.{first_passes}
 use Rattle.node_core.proofs.Locking.{made_as}
@@ -352,7 +353,6 @@ writes (Some x) op asked all e =
     let same : op_of x ≡ op = cc in
     ap (λ (y : AnyOp). Current.Writing y (set_of asked) (set_of all) None) same
 
--- a lone node j is let in by the node h: all are its members and j
 -- a joiner is sent all that a node has
 pub welcomed_by : (h0 h : Held) (j k : ℕ) (s : Settled) (t u : Made) (m : Letter) → h0 ≡ h → letter_of m
     ≡ AnyLetter.Welcome (with_node j (set_of h0.members)) (put_all s.puts h0.table) (set_of h0.told) s.kills

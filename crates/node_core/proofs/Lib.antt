@@ -1,3 +1,5 @@
+pub mod Bounds
+mod Whole
 mod Sends
 mod Receivers
 mod ReceiversOfLocks

@@ -27,7 +27,9 @@ use Rattle.node_core.specs.Held.{Held, bound_of, IsWithin, IsCallWithin, IsOwnCa
 use Rattle.node_events.specs.Letters.{letter_of}
 use Rattle.node_core.specs.Seen.{turn_of}
 use Rattle.node_core.specs.Steps.{Makes}
-use Rattle.node_core.proofs.Sends.{sent_is, sent_all_is, all_below}
+use Rattle.node_core.proofs.Bounds.{all_below}
+use Rattle.node_core.proofs.Sends.{sent_is, sent_all_is}
+use Rattle.node_core.proofs.Whole.{whole_with}
 use Rattle.node_core.proofs.Rules.{nobody_is, less_within}
 use Rattle.transaction.specs.Work.{is_nobody}
 
@@ -85,24 +87,6 @@ found_within h0 h p o same whole =
     go None e = tt
     go (Some c) e =
         found_of (λ d. IsCallWithin h0.world d.phase) p (calls_seen h0.calls) (as_call c) (sym e) whole.called
-
--- the node with other calls of its processes
-pub whole_with : (h : Held) (k : LockCalls) → IsWhole h → k.node ≡ h.calls.node
-    → All (λ c. IsCallWithin h.world c.phase) (calls_seen k) → IsWhole (record h { calls = k })
-whole_with h k whole node called = record {
-  self = whole.self;
-  members = whole.members;
-  told = whole.told;
-  here = whole.here;
-  queue = whole.queue;
-  current = whole.current;
-  awaited = whole.awaited;
-  phase = whole.phase;
-  watch = whole.watch;
-  suspected = whole.suspected;
-  calls = node ∙ whole.calls;
-  called = called;
-}
 
 -- a call is taken out
 pub whole_taken : (h : Held) (k : LockCalls) (p : Process) → IsWhole h → k.node ≡ h.calls.node

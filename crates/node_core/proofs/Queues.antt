@@ -11,9 +11,10 @@ use Rattle.transaction.specs.declared.op.Op.TheVariants.{Join}
 use Rattle.transaction.specs.Ops.{op_of}
 use Rattle.transaction.specs.Work.{Work, started, starts}
 use Rattle.node_events.specs.Made.{Made}
-use Rattle.node_core.specs.Held.{Held, IsWhole, IsWithin, IsOpWithin, IsCurrentWithin, bound_of}
+use Rattle.node_core.specs.Held.{Held, IsWhole, IsOpWithin, IsCurrentWithin, bound_of}
 use Rattle.node_core.specs.Seen.{node_of, turn_of}
 use Rattle.node_core.specs.Steps.{Makes}
+use Rattle.node_core.proofs.Whole.{IsWorkWithin, whole_at}
 
 -- the queue of h, at t: what it comes to
 abbrev pub queue_turn : ℕ → ℕ → Held → Made → Turn
@@ -108,29 +109,6 @@ module _ (f h : Held) (s t : Made) (w : Work) (at : IsAtQueue f s h t) (begun : 
             then start_queue n0 f.name (map op_of b.0) (contact_left n0 f.name i m (turn_of h t))
             else ask_join n0 f.name i m (with_queue (map op_of b.0) (turn_of h t))) (sym gone) ∙ b.1.turn;
       }
-
--- the operations of a registrar and whom it awaits are of the world
-record IsWorkWithin (world : List ℕ) (w : Work) : Type 0 where
-  queue : All (IsOpWithin world) w.queue
-  current : IsCurrentWithin world w.current
-  awaited : IsWithin world w.awaited
-
--- so they are with another registrar of which that holds
-whole_at : (h : Held) (w : Work) → IsWhole h → IsWorkWithin h.world w → IsWhole (record h { registrar = w })
-whole_at h w whole within = record {
-  self = whole.self;
-  members = whole.members;
-  told = whole.told;
-  here = whole.here;
-  queue = within.queue;
-  current = within.current;
-  awaited = within.awaited;
-  phase = whole.phase;
-  watch = whole.watch;
-  suspected = whole.suspected;
-  calls = whole.calls;
-  called = whole.called;
-}
 
 -- of what was started, all is of the world
 started_within : (h : Held) (w : Work) → IsWhole h → w ≡ started None h.registrar → IsWorkWithin h.world w

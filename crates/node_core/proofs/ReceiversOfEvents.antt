@@ -37,7 +37,7 @@ use Rattle.node_events.specs.Letters.{send_of, letter_of}
 use Rattle.node_core.specs.Seen.{node_of, turn_by, current_of}
 use Rattle.node_events.specs.Seen.{call_of}
 use Rattle.node_core.specs.Steps.{IsTurn, IsSaidBy, IsAskedWithin, IsHeardWithin, GoWithin}
-use Rattle.node_core.proofs.Sends.{below_bound}
+use Rattle.node_core.proofs.Bounds.{below_bound}
 use Rattle.node_core.proofs.Receivers.{IsFit, IsSent, GoTo, IsOpOf, AreOpsOf, IsCurrentOf, IsPhaseOf, IsWithin, ops-push, greatest-within, queues, sends_all}
 use Rattle.node_core.proofs.ReceiversOfLocks.{tries, deletes, retries_calls}
 use Rattle.node_core.proofs.ReceiversOfOperations.{asks, starts}

@@ -32,7 +32,8 @@ use Rattle.node_core.specs.Held.{Held, bound_of, IsWithin, IsPhaseWithin}
 use Rattle.node_events.specs.Letters.{letter_of}
 use Rattle.node_core.specs.Seen.{turn_of, current_of, phase_of}
 use Rattle.node_core.specs.Steps.{Makes, Works}
-use Rattle.node_core.proofs.Sends.{sent_is, sent_all_is, all_below}
+use Rattle.node_core.proofs.Bounds.{all_below}
+use Rattle.node_core.proofs.Sends.{sent_is, sent_all_is}
 
 -- the boss is asked
 pub asks_global : (h0 h : Held) (t u : Made) (b : ℕ) (l : Letter) (r : HeldRound) → h0 ≡ h

@@ -35,12 +35,14 @@ use Rattle.node_events.specs.declared.events.Reply.TheVariants.{Yes, Ok}
 use Rattle.node_core.specs.declared.node.Phase.{Phase}
 use Rattle.node_core.specs.declared.node.Phase.TheVariants.{Writing}
 use Rattle.node_events.specs.Made.{Made, SendsAll, entered}
-use Rattle.node_core.specs.Held.{Held, bound_of, IsWithin, IsOpWithin, IsCurrentWithin, IsWhole}
+use Rattle.node_core.specs.Held.{Held, bound_of, IsWithin, IsWhole}
 use Rattle.node_events.specs.Letters.{letter_of}
 use Rattle.node_core.specs.Seen.{turn_of, phase_of, current_of}
 use Rattle.node_events.specs.Seen.{reply_of, entry_of}
 use Rattle.node_core.specs.Steps.{Makes, Works}
-use Rattle.node_core.proofs.Sends.{sent_all_is, all_below}
+use Rattle.node_core.proofs.Whole.{IsWorkWithin, whole_at}
+use Rattle.node_core.proofs.Bounds.{all_below}
+use Rattle.node_core.proofs.Sends.{sent_all_is}
 
 -- one rule behind another
 pub followed : {f g : ℕ → ℕ → Turn → Turn} {h k m : Held} {t u v : Made} → Makes f h t k u → Makes g k u m v
@@ -216,21 +218,11 @@ less_within world xs f within = λ c e. within c (passes (set_of xs c) (not (c =
 -- one node less is awaited
 pub whole_less : (h : Held) (w : Work) (f : ℕ) → IsWhole h → w
     ≡ record h.registrar { awaited = without_node h.registrar.awaited f } → IsWhole (record h { registrar = w })
-whole_less h w f whole is = record {
-  self = whole.self;
-  members = whole.members;
-  told = whole.told;
-  here = whole.here;
-  queue = subst (λ (v : Work). All (IsOpWithin h.world) v.queue) (sym is) whole.queue;
-  current = subst (λ (v : Work). IsCurrentWithin h.world v.current) (sym is) whole.current;
-  awaited = subst (λ (v : Work). IsWithin h.world v.awaited) (sym is)
-      (less_within h.world h.registrar.awaited f whole.awaited);
-  phase = whole.phase;
-  watch = whole.watch;
-  suspected = whole.suspected;
-  calls = whole.calls;
-  called = whole.called;
-}
+whole_less h w f whole is = whole_at h w whole (subst (IsWorkWithin h.world) (sym is) (record {
+  queue = whole.queue;
+  current = whole.current;
+  awaited = less_within h.world h.registrar.awaited f whole.awaited;
+}))
 
 -- the end of an operation is one, wherever it stood
 ends_anywhere : (n a : ℕ) (op : AnyOp) (asked : Nodes) (reply : Option AnyReply) (x : Current) (u : Turn)

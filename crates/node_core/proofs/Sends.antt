@@ -1,7 +1,5 @@
 -- What a step sends, as the protocol has it.
-use Rattle.std.proofs.Common.{ℕ, Bool, true, false, zero, suc, ◌==◌, ◌≡◌, ◌<◌, List, [], ◌∷◌, ◌++◌, length, get_or, map, refl, sym, ap, ◌∙◌, inl, inr, arith}
-use Rattle.std.specs.Prelude.{◌||◌, All}
-use Rattle.std.proofs.lemmas.Bool.{cases_eq, eq-eqb, ne_eqb}
+use Rattle.std.proofs.Common.{ℕ, ◌≡◌, List, [], ◌∷◌, ◌++◌, map, sym, ap, ◌∙◌}
 use Rattle.std.proofs.lemmas.List.{map-append}
 use Rattle.protocol_model.specs.Turn.{Send, send, send_all}
 use Rattle.term.specs.NodeSets.{IsNodeSet, set_of}
@@ -11,31 +9,10 @@ use Rattle.node_events.specs.Made.{Made, sent, SendsAll}
 use Rattle.node_core.specs.Held.{Held, bound_of, IsWithin}
 use Rattle.node_events.specs.Letters.{send_of, letter_of}
 use Rattle.node_core.specs.Seen.{turn_of}
+use Rattle.node_core.proofs.Bounds.{all_below}
 use Rattle.node_events.specs.Seen.{entry_of, answer_of}
 use Rattle.node_events.specs.declared.events.Entry.{Entry}
 use Rattle.node_events.specs.declared.events.Answer.{Answer}
-
--- a node of a list is below the list's bound
-pub below_bound : (world : List ℕ) (c : ℕ) → set_of world c ≡ true → c < bound_of world
-below_bound [] c e = cc
-below_bound (x ∷ xs) c e = elim (cases_eq x c) [
-  | inl same ↦ omega arith
-  | inr ne ↦ omega (arith, below_bound xs c (rw (ne_eqb x c ne) at e))
-]
-
--- each item of a list is of its set
-item : (xs : List ℕ) (k d : ℕ) → k < length xs → set_of xs (get_or xs k d) ≡ true
-item [] k d l = absurd (omega arith)
-item (x ∷ xs) zero d l = ap (λ (b : Bool). b || set_of xs x) (eq-eqb x x refl)
-item (x ∷ xs) (suc k) d l = go (x == get_or xs k d) (item xs k d (omega arith))
-  where
-    go : (b : Bool) → set_of xs (get_or xs k d) ≡ true → (b || set_of xs (get_or xs k d)) ≡ true
-    go true e = refl
-    go false e = e
-
--- nodes of the world are below its bound
-pub all_below : (world xs : List ℕ) → IsWithin world xs → All (λ c. c < bound_of world) xs
-all_below world xs within = λ k d l. below_bound world (get_or xs k d) (within (get_or xs k d) (item xs k d l))
 
 -- a letter more
 pub sent_is : (h : Held) (t : Made) (c : ℕ) (l : Letter) → turn_of h (sent c l t) ≡ send c (letter_of l) (turn_of h t)

@@ -1,3 +1,5 @@
+pub use Rattle.node_events.specs.Letters
+pub use Rattle.node_events.specs.Seen as NodeEventsSeen
 pub mod Held
 pub mod Seen
 pub mod Steps

@@ -1,1 +1,3 @@
+pub use Rattle.cluster_world.proofs.Agreeing
+pub use Rattle.cluster_world.proofs.Leftovers
 pub mod Answers

@@ -1,6 +1,6 @@
 -- The steps in a log.
 use Rattle.std.specs.Prelude.{ℕ, ◌<◌, ◌≡◌, Option, None, List, length, slice_index_or}
-use Rattle.node_events.specs.declared.events.Answer.{Answer}
+use Rattle.cluster_world.specs.declared.Answer.{Answer}
 use Rattle.cluster_world.specs.declared.events.WorldEvent.{WorldEvent}
 use Rattle.cluster_world.specs.declared.events.WorldEvent.TheVariants.{Deliver}
 use Rattle.node_log.specs.declared.entry.KeptEntry.{KeptEntry}

@@ -1,2 +1,13 @@
+pub use Rattle.cluster_world.specs.Agreeing
+pub use Rattle.cluster_world.specs.Events
+pub use Rattle.cluster_world.specs.Excluding
+pub use Rattle.cluster_world.specs.Held
+pub use Rattle.cluster_world.specs.NodeCoreHeld
+pub use Rattle.cluster_world.specs.NodeCoreSeen
+pub use Rattle.cluster_world.specs.NodeCoreSteps
+pub use Rattle.cluster_world.specs.NodeEventsSeen
+pub use Rattle.cluster_world.specs.Playing
+pub use Rattle.cluster_world.specs.Seen
+pub use Rattle.cluster_world.specs.Starting
 pub mod Entries
 pub mod Logs

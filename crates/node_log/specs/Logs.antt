@@ -1,6 +1,6 @@
 -- What a log is read as, and how its last step is answered.
 use Rattle.std.specs.Prelude.{ℕ, List, [], ◌∷◌}
-use Rattle.node_events.specs.declared.events.Answer.{Answer}
+use Rattle.cluster_world.specs.declared.Answer.{Answer}
 use Rattle.cluster_world.specs.declared.events.WorldEvent.{WorldEvent}
 use Rattle.cluster_world.specs.declared.events.WorldEvent.TheVariants.{Deliver}
 use Rattle.node_log.specs.declared.entry.LoggedEntry.{LoggedEntry}

@@ -1,11 +1,11 @@
 -- What comes behind a step of the core makes the step of the loop.
 use Rattle.std.proofs.Common.{◌≡◌, ℕ, Bool, true, false, inl, inr, Option, List, [], ◌∷◌, ◌++◌, refl, sym, ap, subst, ◌∙◌, MatchBool}
-use Rattle.node_events.specs.declared.events.Answer.{Answer}
-use Rattle.node_events.specs.declared.events.Event.{Event as NodeEvent}
-use Rattle.node_events.specs.declared.events.Letter.{Letter}
-use Rattle.node_core.specs.Held.{Held}
-use Rattle.node_core.specs.Steps.{Steps}
-use Rattle.cluster_world.specs.declared.events.WorldEvent.{WorldEvent}
+use Rattle.node_log.specs.declared.Answer.{Answer}
+use Rattle.node_log.specs.declared.CoreEvent.{Event as NodeEvent}
+use Rattle.node_log.specs.declared.Letter.{Letter}
+use Rattle.node_log.specs.NodeCoreHeld.{Held}
+use Rattle.node_log.specs.NodeCoreSteps.{Steps}
+use Rattle.node_log.specs.declared.WorldEvent.{WorldEvent}
 use Rattle.node_log.specs.Entries.{Entry, Logged}
 use Rattle.node_log.specs.Logs.{answered}
 use Rattle.node_loop.specs.declared.item.Ticket.{Ticket}

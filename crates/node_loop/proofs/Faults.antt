@@ -1,13 +1,13 @@
 -- Only want of memory isn't a refusal of the protocol.
 use Rattle.std.proofs.Common.{◌≡◌, Bool, true, false, ◌&&◌, not, None, [], ◌∷◌, refl, sym, ap, ◌∙◌}
-use Rattle.node_events.specs.declared.events.StepFault.{StepFault}
-use Rattle.node_events.specs.declared.events.StepFault.TheVariants.{Memory, NotLive, Busy, Reserved, UnknownNode, AlreadyJoined, NoSuchProcess, AlreadyExited, SerialsSpent, NothingToRetry, HoldsLock, CallsSpent}
-use Rattle.node_events.specs.Seen.{fault_of, is_memory}
+use Rattle.node_log.specs.declared.StepFault.{StepFault}
+use Rattle.node_log.specs.declared.StepFault.TheVariants.{Memory, NotLive, Busy, Reserved, UnknownNode, AlreadyJoined, NoSuchProcess, AlreadyExited, SerialsSpent, NothingToRetry, HoldsLock, CallsSpent}
+use Rattle.node_log.specs.NodeEventsSeen.{fault_of, is_memory}
 use Rattle.protocol_model.specs.Event.{first_cause, cause, can_retry}
 use Rattle.protocol_model.specs.Event.{Refusal as AnyRefusal}
-use Rattle.node_events.specs.declared.events.Event.TheVariants.{Retry}
-use Rattle.node_core.specs.Seen.{node_of}
-use Rattle.node_core.specs.Steps.{refusal_of}
+use Rattle.node_log.specs.declared.CoreEvent.TheVariants.{Retry}
+use Rattle.node_log.specs.NodeCoreSeen.{node_of}
+use Rattle.node_log.specs.NodeCoreSteps.{refusal_of}
 use Rattle.node_loop.specs.Held.{Looping, has_retry}
 
 pub only_memory : (fault : StepFault) → fault_of fault ≡ None → is_memory fault ≡ true

@@ -1,6 +1,6 @@
 -- The step that was logged last gets its answers.
 use Rattle.std.proofs.Common.{◌≡◌, List, [], ◌∷◌, ◌++◌, refl, ap}
-use Rattle.node_events.specs.declared.events.Answer.{Answer}
+use Rattle.node_log.specs.declared.Answer.{Answer}
 use Rattle.node_log.specs.Entries.{Entry}
 use Rattle.node_log.specs.Logs.{answered}
 

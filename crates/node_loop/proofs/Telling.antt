@@ -1,9 +1,9 @@
 -- What is told first is a beginning of all that is told.
 use Rattle.std.proofs.Common.{◌≡◌, ℕ, Option, Result, Ok, Err, OnErr, List, [], ◌∷◌, ◌++◌, map, flat_map, refl, sym, ap, subst, ◌∙◌, append_assoc, append-nil}
 use Rattle.protocol_model.specs.Event.{Answer as AnyAnswer}
-use Rattle.node_events.specs.declared.events.Answer.{Answer}
-use Rattle.node_events.specs.Seen.{answer_of}
-use Rattle.node_core.specs.Held.{Held}
+use Rattle.node_log.specs.declared.Answer.{Answer}
+use Rattle.node_log.specs.NodeEventsSeen.{answer_of}
+use Rattle.node_log.specs.NodeCoreHeld.{Held}
 use Rattle.node_loop.specs.declared.item.Ticket.{Ticket}
 use Rattle.node_loop.specs.declared.waiting.Course.{Course}
 use Rattle.node_loop.specs.Told.{Told}

@@ -2,10 +2,10 @@
 use Rattle.std.specs.Prelude.{ℕ, ◌≡◌, ◌==◌, not, if◌then◌else◌, Option, Some, None, Ok, Err, List, [], ◌∷◌, ◌++◌, map, filter, flat_map}
 use Rattle.registry_model.specs.Process.{Process}
 use Rattle.protocol_model.specs.Event.{Answer as AnyAnswer}
-use Rattle.node_events.specs.declared.events.Answer.{Answer}
-use Rattle.node_events.specs.declared.events.StepFault.TheVariants.{NotLive}
-use Rattle.node_events.specs.Seen.{answer_of}
-use Rattle.node_core.specs.Held.{Held}
+use Rattle.node_log.specs.declared.Answer.{Answer}
+use Rattle.node_log.specs.declared.StepFault.TheVariants.{NotLive}
+use Rattle.node_log.specs.NodeEventsSeen.{answer_of}
+use Rattle.node_log.specs.NodeCoreHeld.{Held}
 use Rattle.node_loop.specs.declared.item.Ticket.{Ticket}
 use Rattle.node_loop.specs.declared.replies.TaskFault.TheVariants.{NodeLeft, Step}
 use Rattle.node_loop.specs.declared.waiting.Caller.{Caller}

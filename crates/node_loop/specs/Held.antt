@@ -4,9 +4,9 @@ use Rattle.std.specs.List.{list_all}
 use Rattle.protocol_model.specs.Links.{is_nil}
 use Rattle.protocol_model.specs.Node.{holds_global}
 use Rattle.protocol_model.specs.Event.{can_retry}
-use Rattle.node_events.specs.declared.events.Letter.{Letter}
-use Rattle.node_core.specs.Held.{Held}
-use Rattle.node_core.specs.Seen.{node_of}
+use Rattle.node_log.specs.declared.Letter.{Letter}
+use Rattle.node_log.specs.NodeCoreHeld.{Held}
+use Rattle.node_log.specs.NodeCoreSeen.{node_of}
 use Rattle.tray.specs.Held.{Waiting, with_letter}
 use Rattle.node_log.specs.Entries.{Logged}
 use Rattle.node_loop.specs.declared.item.Item.{Item}

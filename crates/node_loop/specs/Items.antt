@@ -1,11 +1,11 @@
 -- What a node's loop does with an item, or where it finds none.
 use Rattle.std.specs.Prelude.{ℕ, Bool, true, false, ◌≡◌, ◌≤◌, ◌-◌, ◌⊎◌, Option, None, Err, List, [], ◌∷◌, ◌++◌, MatchBool}
-use Rattle.node_events.specs.declared.events.StepFault.{StepFault}
-use Rattle.node_events.specs.Seen.{fault_of, is_memory}
-use Rattle.node_core.specs.Steps.{refusal_of}
-use Rattle.cluster_world.specs.declared.events.Event.{Event}
-use Rattle.cluster_world.specs.declared.events.Event.TheVariants.{Retry, Leave}
-use Rattle.cluster_world.specs.Events.{node_event, is_leave, knows_contact}
+use Rattle.node_log.specs.declared.StepFault.{StepFault}
+use Rattle.node_log.specs.NodeEventsSeen.{fault_of, is_memory}
+use Rattle.node_log.specs.NodeCoreSteps.{refusal_of}
+use Rattle.node_log.specs.declared.Event.{Event}
+use Rattle.node_log.specs.declared.Event.TheVariants.{Retry, Leave}
+use Rattle.node_log.specs.Events.{node_event, is_leave, knows_contact}
 use Rattle.node_loop.specs.declared.item.Item.{Item}
 use Rattle.node_loop.specs.declared.item.Item.TheVariants as item
 use Rattle.node_loop.specs.declared.item.Stamped.{Stamped}

@@ -1,17 +1,17 @@
 -- The steps of a node's loop.
 use Rattle.std.specs.Prelude.{ℕ, Bool, false, ◌≡◌, ◌+◌, ◌⊎◌, max, Option, None, List, [], ◌∷◌, ◌++◌, MatchBool}
 use Rattle.std.specs.Option.{option_map}
-use Rattle.node_events.specs.declared.events.Answer.{Answer}
-use Rattle.node_events.specs.declared.events.Event.{Event as NodeEvent}
-use Rattle.node_events.specs.declared.events.Event.TheVariants.{FromPeer}
-use Rattle.node_events.specs.declared.events.Letter.{Letter}
-use Rattle.node_events.specs.Seen.{fault_of, is_memory}
-use Rattle.node_core.specs.Held.{Held}
-use Rattle.node_core.specs.Steps.{Steps, refusal_of}
-use Rattle.cluster_world.specs.declared.events.Event.{Event}
-use Rattle.cluster_world.specs.declared.events.WorldEvent.{WorldEvent}
-use Rattle.cluster_world.specs.declared.events.WorldEvent.TheVariants.{At, Deliver}
-use Rattle.cluster_world.specs.Events.{node_event}
+use Rattle.node_log.specs.declared.Answer.{Answer}
+use Rattle.node_log.specs.declared.CoreEvent.{Event as NodeEvent}
+use Rattle.node_log.specs.declared.CoreEvent.TheVariants.{FromPeer}
+use Rattle.node_log.specs.declared.Letter.{Letter}
+use Rattle.node_log.specs.NodeEventsSeen.{fault_of, is_memory}
+use Rattle.node_log.specs.NodeCoreHeld.{Held}
+use Rattle.node_log.specs.NodeCoreSteps.{Steps, refusal_of}
+use Rattle.node_log.specs.declared.Event.{Event}
+use Rattle.node_log.specs.declared.WorldEvent.{WorldEvent}
+use Rattle.node_log.specs.declared.WorldEvent.TheVariants.{At, Deliver}
+use Rattle.node_log.specs.Events.{node_event}
 use Rattle.node_log.specs.Entries.{Entry}
 use Rattle.node_log.specs.Logs.{answered}
 use Rattle.node_loop.specs.declared.item.Stamped.{Stamped}

@@ -1,8 +1,8 @@
 -- What those are told who asked.
 use Rattle.std.specs.Prelude.{Option, Some, None, Result, Ok, Err, List, [], ◌∷◌}
 use Rattle.protocol_model.specs.Event.{Answer as AnyAnswer}
-use Rattle.node_events.specs.declared.events.Answer.{Answer}
-use Rattle.node_events.specs.Seen.{answer_of}
+use Rattle.node_log.specs.declared.Answer.{Answer}
+use Rattle.node_log.specs.NodeEventsSeen.{answer_of}
 use Rattle.node_loop.specs.declared.item.Ticket.{Ticket}
 use Rattle.node_loop.specs.declared.replies.TaskFault.{TaskFault}
 use Rattle.node_loop.specs.declared.replies.TaskReply.{TaskReply}

@@ -2,12 +2,12 @@
 use Rattle.std.specs.Prelude.{ℕ, Bool, false, ◌==◌, not, if◌then◌else◌, Option, Some, None, is_none, List, [], ◌∷◌, filter}
 use Rattle.registry_model.specs.Process.{Process}
 use Rattle.protocol_model.specs.Node.{call_of}
-use Rattle.node_events.specs.declared.events.Call.{Call as ClientCall}
-use Rattle.node_events.specs.declared.events.Call.TheVariants.{Spawn, Whereis, RegisteredNames, Register, ReRegister, Unregister, SetLock, DelLock, Join}
-use Rattle.cluster_world.specs.declared.events.Event.{Event}
-use Rattle.cluster_world.specs.declared.events.Event.TheVariants.{Call, Retry, Exit, Leave}
-use Rattle.node_core.specs.Held.{Held}
-use Rattle.node_core.specs.Seen.{node_of}
+use Rattle.node_log.specs.declared.Call.{Call as ClientCall}
+use Rattle.node_log.specs.declared.Call.TheVariants.{Spawn, Whereis, RegisteredNames, Register, ReRegister, Unregister, SetLock, DelLock, Join}
+use Rattle.node_log.specs.declared.Event.{Event}
+use Rattle.node_log.specs.declared.Event.TheVariants.{Call, Retry, Exit, Leave}
+use Rattle.node_log.specs.NodeCoreHeld.{Held}
+use Rattle.node_log.specs.NodeCoreSeen.{node_of}
 use Rattle.node_loop.specs.declared.item.Ticket.{Ticket}
 use Rattle.node_loop.specs.declared.waiting.Caller.{Caller}
 use Rattle.node_loop.specs.declared.waiting.Course.{Course}

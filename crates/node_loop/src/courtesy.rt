@@ -3,7 +3,7 @@ ghost use Rattle.std.specs.Prelude.{◌≡◌, ◌-◌, ◌==◌, ◌≤◌};
 ghost use Rattle.node_loop.specs.Held.{most_turns};
 
 use crate::ring::Ring;
-use node_core::Letter;
+use node_log::Letter;
 use std::marker::Model;
 use term::{LockId, NodeName, NodeSet, Resource};
 

@@ -1,6 +1,6 @@
 //! Who waits at a node, and the replies.
 ghost use Rattle.std.specs.Prelude.{◌≡◌, [], ◌∷◌, ◌++◌, Ok, Err, map, flat_map, OnOk, OnErr, IfOk, MatchOption};
-ghost use Rattle.node_events.specs.Seen.{answer_of};
+ghost use Rattle.node_log.specs.NodeEventsSeen.{answer_of};
 ghost use Rattle.node_loop.specs.Told.{tell, told_by};
 ghost use Rattle.node_loop.specs.Desks.{empty_desk, Begins, answered, all_answered, awaiting, drop_told, swept, settled, leave_refused, call_refused, leaves_told, left_by, first_leave};
 
@@ -8,7 +8,7 @@ use crate::item::Ticket;
 use crate::replies::{Replies, TaskFault, TaskReply};
 use crate::waiting::{Caller, Course, forget, forget_dropped, is_dropped, ticket_under, wait_for};
 use name_table::Names;
-use node_core::{Answer, NodeCore, StepFault};
+use node_log::{Answer, NodeCore, StepFault};
 use std::alloc::{AllocError, Global};
 use std::marker::Model;
 

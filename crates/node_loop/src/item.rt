@@ -1,6 +1,5 @@
 //! What lies in a node's inbox.
-use cluster_world::Event;
-use node_core::Letter;
+use node_log::{Event, Letter};
 
 /// A letter with the stamp of the step that sent it.
 #[derive(Debug, PartialEq, Eq, Drop)]

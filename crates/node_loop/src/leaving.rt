@@ -3,8 +3,8 @@ ghost use Rattle.node_loop.specs.Items.{Leaves};
 
 use crate::node_loop::NodeLoop;
 use crate::stepping::Tried;
-use cluster_world::Event;
 use name_table::Names;
+use node_log::Event;
 use std::alloc::Global;
 
 impl<N: Names<Memory = Global>> NodeLoop<N> {

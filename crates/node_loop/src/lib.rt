@@ -15,5 +15,9 @@ mod waiting;
 
 pub use gate::{Gate, OpenGate};
 pub use item::{Item, Stamped, Task, Ticket};
+pub use node_log::{
+    Answer, Call, Event, NameList, NodeCore, NodeEnd, Nodes, Reply, Retries, SeatEntry, StartFault,
+    StepFault, Transcript, World, WorldEvent,
+};
 pub use node_loop::NodeLoop;
 pub use replies::{TaskFault, TaskReply};

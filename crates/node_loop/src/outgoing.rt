@@ -4,7 +4,7 @@ ghost use Rattle.node_loop.specs.Held.{with_letters};
 
 use crate::item::{Item, Stamped};
 use link::LinkFault;
-use node_core::Letter;
+use node_log::Letter;
 use std::alloc::AllocError;
 use term::NodeName;
 use tray::Tray;

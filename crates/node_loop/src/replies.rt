@@ -3,7 +3,7 @@ ghost use Rattle.std.specs.Prelude.{◌≡◌, [], ◌∷◌, ◌++◌, OnOk, On
 ghost use Rattle.node_loop.specs.Told.{tell, outcome_of, told_by};
 
 use crate::item::Ticket;
-use node_core::{Answer, StepFault};
+use node_log::{Answer, StepFault};
 use std::alloc::{AllocError, Global};
 use std::collections::VecDeque;
 use std::marker::Model;

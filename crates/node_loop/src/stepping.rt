@@ -1,7 +1,7 @@
 //! The steps of a node's loop.
 ghost use Rattle.std.specs.Prelude.{◌≡◌, ◌-◌};
 ghost use Rattle.std.specs.Option.{option_map};
-ghost use Rattle.cluster_world.specs.Events.{is_leave, knows_contact};
+ghost use Rattle.node_log.specs.Events.{is_leave, knows_contact};
 ghost use Rattle.node_loop.specs.Held.{can_step, has_retry, is_due, has_leave, is_free_to_leave};
 ghost use Rattle.node_loop.specs.Steps.{Concludes, Tries};
 ghost use Rattle.node_loop.specs.Items.{Refuses, Reads, Accepts, Handles, Hears, Idles, Works};
@@ -11,9 +11,8 @@ use crate::node_loop::NodeLoop;
 use crate::outgoing::{next_stamp, put_all};
 use crate::replies::TaskFault;
 use crate::waiting::Course;
-use cluster_world::{Call, Cause, Event, WorldEvent};
 use name_table::Names;
-use node_core::{Answer, Letter, StepFault};
+use node_log::{Answer, Call, Cause, Event, Letter, StepFault, WorldEvent};
 use std::alloc::Global;
 use term::NodeName;
 
@@ -136,7 +135,7 @@ impl<N: Names<Memory = Global>> NodeLoop<N> {
             return false;
         };
         let mut letters = Vec::new(self.alloc);
-        let event = node_core::Event::FromPeer(from.copy(), letter);
+        let event = node_log::CoreEvent::FromPeer(from.copy(), letter);
         let Ok(answers) = self.core.step(&event, &mut letters) else {
             return false;
         };

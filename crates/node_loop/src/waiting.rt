@@ -3,9 +3,8 @@ ghost use Rattle.std.specs.Prelude.{◌≡◌, ◌++◌, not, filter, OnOk, OnEr
 ghost use Rattle.node_loop.specs.Waiting.{course_of, callers_of, ticket_under, is_dropped, without};
 
 use crate::item::Ticket;
-use cluster_world::Event;
 use name_table::Names;
-use node_core::{Call, NodeCore};
+use node_log::{Call, Event, NodeCore};
 use std::alloc::{AllocError, Global};
 use term::Pid;
 

@@ -7,9 +7,10 @@ use Rattle.std.proofs.lemmas.Option.{slice_get-map}
 use Rattle.std.specs.List.{slice_get}
 use Rattle.std.specs.Option.{option_map}
 use Rattle.std.specs.Prelude.{if◌then◌else◌, ◌||◌, ◌&&◌, nat_lt, MatchBool}
+use Rattle.std.proofs.Math.Bool.{or-true}
 use Rattle.protocol_model.specs.World.{Opening}
 use Rattle.term.specs.NodeSets.{set_of}
-use Rattle.cluster_world.specs.Starting.{repeats}
+use Rattle.node_log.specs.Starting.{repeats}
 use Rattle.node_log.specs.Entries.{Entry, Logged}
 use Rattle.replay.specs.Steps.{Step, steps_of, log_of, next_of, is_before}
 use Rattle.replay.specs.Merging.{IsInOrder, IsMerged, IsNext, Rises, RisesBehind}
@@ -245,10 +246,6 @@ pub set_of-at : (xs : List ℕ) (k c : ℕ) → slice_get xs k ≡ Some c → se
 set_of-at [] k c h = cc
 set_of-at (x ∷ xs) zero c h = ap (λ (b : Bool). b || set_of xs c) (eq-eqb x c (some_one x c h))
 set_of-at (x ∷ xs) (suc k) c h = ap (λ (b : Bool). (x == c) || b) (set_of-at xs k c h) ∙ or-true (x == c)
-  where
-    or-true : (b : Bool) → (b || true) ≡ true
-    or-true true = refl
-    or-true false = refl
 
 or_parts : (a b : Bool) → (a || b) ≡ false → (a ≡ false) × (b ≡ false)
 or_parts true b h = cc

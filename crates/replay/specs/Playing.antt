@@ -2,12 +2,12 @@
 use Rattle.std.specs.Prelude.{ℕ, ◌≡◌, None, List, [], ◌∷◌, ◌++◌, map, length}
 use Rattle.protocol_model.specs.Leftovers.{NothingIsLeft}
 use Rattle.protocol_model.specs.World.{Opening, World, place, refusal, happens, answers, opening_world, run}
-use Rattle.node_events.specs.Seen.{answer_of}
+use Rattle.node_log.specs.NodeEventsSeen.{answer_of}
 use Rattle.node_log.specs.Entries.{Logged}
-use Rattle.cluster_world.specs.Held.{Held}
-use Rattle.cluster_world.specs.Seen.{opening_of, seen}
-use Rattle.cluster_world.specs.Agreeing.{AgreesAfter}
-use Rattle.cluster_world.specs.Excluding.{ExclusionAfter}
+use Rattle.node_log.specs.Held.{Held}
+use Rattle.node_log.specs.Seen.{opening_of, seen}
+use Rattle.node_log.specs.Agreeing.{AgreesAfter}
+use Rattle.node_log.specs.Excluding.{ExclusionAfter}
 use Rattle.replay.specs.Steps.{Step, happening, events_in, steps_of}
 use Rattle.replay.specs.Merging.{IsNext, RisesBehind}
 

@@ -2,7 +2,7 @@
 use Rattle.std.specs.Prelude.{ℕ, Bool, ◌==◌, ◌&&◌, ◌||◌, nat_lt, Option, List, [], ◌∷◌, filter, map, length, if◌then◌else◌}
 use Rattle.std.specs.List.{slice_get}
 use Rattle.protocol_model.specs.World.{WorldEvent as AnyWorldEvent}
-use Rattle.cluster_world.specs.Events.{event_of}
+use Rattle.node_log.specs.Events.{event_of}
 use Rattle.node_log.specs.Entries.{Entry, Logged}
 
 -- a step: whose it is, and its entry in that node's log

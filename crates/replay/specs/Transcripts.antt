@@ -2,12 +2,12 @@
 use Rattle.std.specs.Prelude.{ℕ, Bool, false, ◌+◌, ◌==◌, ◌&&◌, ◌≡◌, ◌≤◌, nat_lt, Option, Some, None, List, [], ◌∷◌, ◌++◌, find, map, drop, count_by, if◌then◌else◌}
 use Rattle.std.specs.Option.{option_map}
 use Rattle.protocol_model.specs.Event.{Answer as AnyAnswer}
-use Rattle.node_events.specs.declared.events.Call.{Call}
-use Rattle.node_events.specs.declared.events.Call.TheVariants.{Spawn, Whereis, RegisteredNames}
-use Rattle.node_events.specs.Seen.{answer_of}
-use Rattle.cluster_world.specs.declared.events.Event.TheVariants.{Call as Calls}
-use Rattle.cluster_world.specs.declared.events.WorldEvent.{WorldEvent}
-use Rattle.cluster_world.specs.declared.events.WorldEvent.TheVariants.{At}
+use Rattle.node_log.specs.declared.Call.{Call}
+use Rattle.node_log.specs.declared.Call.TheVariants.{Spawn, Whereis, RegisteredNames}
+use Rattle.node_log.specs.NodeEventsSeen.{answer_of}
+use Rattle.node_log.specs.declared.Event.TheVariants.{Call as Calls}
+use Rattle.node_log.specs.declared.WorldEvent.{WorldEvent}
+use Rattle.node_log.specs.declared.WorldEvent.TheVariants.{At}
 use Rattle.node_log.specs.declared.transcript.SeatEntry.{SeatEntry}
 use Rattle.node_log.specs.declared.transcript.Transcript.{Transcript}
 use Rattle.node_log.specs.Entries.{Entry, Logged}

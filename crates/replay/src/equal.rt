@@ -1,11 +1,10 @@
 //! Whether what was said twice is the same.
 ghost use Rattle.std.specs.Prelude.{◌≡◌, ◌↔◌, IsTrue, map};
 ghost use Rattle.std.specs.Option.{option_map};
-ghost use Rattle.node_events.specs.Seen.{reply_of, answer_of};
+ghost use Rattle.node_log.specs.NodeEventsSeen.{reply_of, answer_of};
 
-use cluster_world::{Answer, Reply};
 use name_table::Pair;
-use node_events::NameList;
+use node_log::{Answer, NameList, Reply};
 
 /// Whether two lists of names are the same.
 fn same_names(some: &NameList, others: &NameList) -> bool

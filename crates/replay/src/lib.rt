@@ -12,4 +12,5 @@ mod transcripts;
 
 pub use closed::Closed;
 pub use faults::CloseFault;
+pub use node_log::{Answer, Call, Event, Log, NodeEnd, Reply, SeatEntry, Transcript, WorldEvent};
 pub use run::replay;

@@ -1,11 +1,11 @@
 //! Steps that a world plays.
 ghost use Rattle.std.specs.Prelude.{◌≡◌, ◌==◌, Some, IfOk, IfErr, OnOk, MatchBool, [], ◌∷◌};
 ghost use Rattle.protocol_model.specs.World.{place};
-ghost use Rattle.cluster_world.specs.Events.{event_of};
-ghost use Rattle.cluster_world.specs.Agreeing.{Agrees};
-ghost use Rattle.cluster_world.specs.Excluding.{Excludes};
-ghost use Rattle.cluster_world.specs.Playing.{Keeps, Played, RefusedWith};
-ghost use Rattle.cluster_world.specs.Seen.{opening_of, seen};
+ghost use Rattle.node_log.specs.Events.{event_of};
+ghost use Rattle.node_log.specs.Agreeing.{Agrees};
+ghost use Rattle.node_log.specs.Excluding.{Excludes};
+ghost use Rattle.node_log.specs.Playing.{Keeps, Played, RefusedWith};
+ghost use Rattle.node_log.specs.Seen.{opening_of, seen};
 ghost use Rattle.node_log.specs.Logs.{event_of as logged_event, entry_of};
 ghost use Rattle.replay.specs.Merging.{Rises};
 ghost use Rattle.replay.specs.Moves.{Moves, Refuses, StopsReader, MovesReader};
@@ -14,9 +14,8 @@ ghost use Rattle.replay.specs.Reading.{head_of};
 use crate::equal::same_answers;
 use crate::faults::CloseFault;
 use crate::merge::Reader;
-use cluster_world::{Answer, Refusal, World, WorldEvent};
 use name_table::Names;
-use node_log::{LoggedEntry, LoggedEvent};
+use node_log::{Answer, LoggedEntry, LoggedEvent, Refusal, World, WorldEvent};
 use std::alloc::{AllocError, Global};
 use term::NodeName;
 

@@ -1,7 +1,7 @@
 //! What seats were answered beside what the logs say.
 ghost use Rattle.std.specs.Prelude.{◌≡◌, ◌==◌, ◌↔◌, ◌≤◌, ◌<◌, ◌+◌, IsTrue, [], length, map, count_by, find, drop, slice_get, Some, MatchOption, IfSome};
 ghost use Rattle.std.specs.Option.{option_map};
-ghost use Rattle.node_events.specs.Seen.{answer_of};
+ghost use Rattle.node_log.specs.NodeEventsSeen.{answer_of};
 ghost use Rattle.node_log.specs.Logs.{event_of, entry_of};
 ghost use Rattle.replay.specs.Ends.{logs_of, end_of};
 ghost use Rattle.replay.specs.Least.{LeastOther, IsChosen};
@@ -9,9 +9,10 @@ ghost use Rattle.replay.specs.Steps.{log_of};
 ghost use Rattle.replay.specs.Transcripts.{answering, numbered, answers_call, said_in, first_answer, answer_in, given, given_by, is_of, IsPartOf, IsLeft, IsFollowed, Fits, has_lesser_seat};
 
 use crate::equal::same_outcome;
-use cluster_world::{Answer, Call, Event, WorldEvent};
 use name_table::Names;
-use node_log::{Log, LoggedEntry, LoggedEvent, NodeEnd, SeatEntry, Transcript};
+use node_log::{
+    Answer, Call, Event, Log, LoggedEntry, LoggedEvent, NodeEnd, SeatEntry, Transcript, WorldEvent,
+};
 use term::NodeName;
 
 /// How an event is answered.

@@ -3,6 +3,7 @@ use Rattle.std.proofs.Common.{ℕ, Bool, true, false, ◌==◌, ◌≡◌, [], �
 use Rattle.std.specs.Prelude.{if◌then◌else◌, not, ◌&&◌, ◌||◌, fold}
 use Rattle.std.proofs.Math.Path.{ap₂, fun_ext}
 use Rattle.std.proofs.lemmas.Bool.{eqb-true}
+use Rattle.std.proofs.Math.Bool.{and-false}
 use Rattle.registry_model.specs.Process.{Nodes, at}
 use Rattle.registry_model.specs.Table.{Table, is_rising, put, put_all, without, Put, changed}
 use Rattle.registry_model.specs.Settlement.{Settled}
@@ -98,11 +99,7 @@ admitted-joined j joined puts table told r = go (told j) refl
     -- one that is told isn't a member
     absent : (x : ℕ) (b : Bool) → (b ≡ true → told x ≡ true)
         → (joined x && not (told x)) ≡ ((if b then true else joined x) && not (told x))
-    absent x true h = rw (h refl) (none (joined x))
-      where
-        none : (b : Bool) → (b && false) ≡ false
-        none true = refl
-        none false = refl
+    absent x true h = rw (h refl) (and-false (joined x))
     absent x false h = refl
 
     present : (x : ℕ) (b : Bool) → (b ≡ true → told x ≡ false)

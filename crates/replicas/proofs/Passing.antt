@@ -1,6 +1,5 @@
--- Entries that come while an operation may hold: exits, departures, and notices of them. And what changes no
--- registry: who is dead
--- at home, and who is to be struck.
+-- Entries that come while an operation may hold: exits, departures, and notices of them. And what changes no registry:
+-- who is dead at home, and who is to be struck.
 use Rattle.std.proofs.Common.{ℕ, Bool, true, false, ◌==◌, ◌≡◌, ◌+◌, Option, Some, None, List, [], ◌∷◌, ◌++◌, refl, sym, ap, ◌∙◌, subst}
 use Rattle.std.specs.Prelude.{if◌then◌else◌, ◌||◌, nat_lt}
 use Rattle.std.specs.List.{list_any}

@@ -1,6 +1,5 @@
 -- What stands of every legal history by itself: tables rise, a lone node's names are its own, and an operation that
--- holds is one
--- of its group, now and before its entry.
+-- holds is one of its group, now and before its entry.
 use Rattle.std.proofs.Common.{ℕ, Bool, true, false, ◌==◌, ◌≡◌, Option, Some, None, [], ◌∷◌, refl, sym, ap, ◌∙◌, inl, inr}
 use Rattle.std.specs.Prelude.{if◌then◌else◌, ◌||◌}
 use Rattle.std.specs.List.{list_all}
@@ -35,8 +34,7 @@ are_on-own n (e ∷ t) r o = and_from _ _ (eq-eqb e.owner.node n (o.owner e.name
     parts = is_rising-parts e t r
 
 -- an operation h that holds in a group, with a registry r: its node is of the group, now and before, and nodes only
--- join and are
--- only told more
+-- join and are only told more
 pub record Within (r : Registry) (h : Hold) : Type 0 where
   pub rises : Rises h.old
   pub grows : (c : ℕ) → h.old.joined c ≡ true → r.joined c ≡ true

@@ -14,6 +14,9 @@ use std::io::{BufRead, BufReader, ErrorKind, Read, Write};
 /// The longest line that is read.
 const LONGEST_LINE: usize = 1024;
 
+/// The most lines of one reader.
+pub const MOST_LINES: u32 = 1_000_000;
+
 /// A line without its end.
 #[derive(Drop)]
 pub enum Line {

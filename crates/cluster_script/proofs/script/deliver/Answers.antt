@@ -1,7 +1,7 @@
 use Rattle.std.proofs.Common.{List, subst, map}
-use Rattle.node_events.specs.Seen.{answer_of}
-use Rattle.node_events.specs.declared.events.Answer.{Answer}
-use Rattle.cluster_world.specs.declared.events.WorldEvent.TheVariants.{Deliver}
+use Rattle.command_lines.specs.NodeEventsSeen.{answer_of}
+use Rattle.command_lines.specs.declared.Answer.{Answer}
+use Rattle.command_lines.specs.declared.WorldEvent.TheVariants.{Deliver}
 use Rattle.command_lines.specs.Printing.{answers_text}
 use Rattle.text_lines.specs.Writing.{Writes}
 use Rattle.cluster_script.proofs.Settling.{Delivers-played}

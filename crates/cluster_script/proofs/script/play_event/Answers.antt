@@ -3,11 +3,11 @@ use Rattle.std.proofs.lemmas.Result.{err_from_is_err_and}
 use Rattle.std.specs.Io.KnownBytes.{Appends}
 use Rattle.std.proofs.KnownBytes.{Appends-trans}
 use Rattle.protocol_model.specs.Script.{Play}
-use Rattle.cluster_world.specs.Events.{event_of}
-use Rattle.cluster_world.specs.Seen.{opening_of}
+use Rattle.command_lines.specs.Events.{event_of}
+use Rattle.command_lines.specs.Seen.{opening_of}
 use Rattle.cluster_script.specs.Played.{okay_text}
-use Rattle.node_events.specs.Seen.{answer_of}
-use Rattle.node_events.specs.declared.events.Answer.{Answer}
+use Rattle.command_lines.specs.NodeEventsSeen.{answer_of}
+use Rattle.command_lines.specs.declared.Answer.{Answer}
 use Rattle.command_lines.specs.Printing.{answers_text}
 use Rattle.text_lines.specs.Writing.{AppendsPart}
 use Rattle.text_lines.proofs.Written.{AppendsPart-behind, AppendsPart-more}

@@ -1,6 +1,6 @@
 use Rattle.std.proofs.Common.{map, take}
 use Rattle.std.specs.Io.KnownBytes.{Appends}
-use Rattle.node_events.specs.Seen.{answer_of}
+use Rattle.command_lines.specs.NodeEventsSeen.{answer_of}
 use Rattle.command_lines.specs.Printing.{answers_text}
 use Rattle.cluster_script.proofs.script.write_answers.Given as goal
 

@@ -1,5 +1,5 @@
 use Rattle.std.proofs.Common.{◌≡◌, ◌++◌, map, take}
-use Rattle.node_events.specs.Seen.{entry_by}
+use Rattle.node_core.specs.NodeEventsSeen.{entry_by}
 use Rattle.world_history.specs.Histories.{entry_of}
 use Rattle.cluster_world.specs.Histories.{number_at}
 use Rattle.cluster_world.proofs.history.enter_all.Given as goal

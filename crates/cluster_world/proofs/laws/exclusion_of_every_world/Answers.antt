@@ -1,4 +1,4 @@
-use Rattle.headline.proofs.Clients.{exclusion}
+use Rattle.leftovers.proofs.HeadlineClients.{exclusion}
 use Rattle.cluster_world.specs.Seen.{opening_with}
 use Rattle.cluster_world.proofs.laws.exclusion_of_every_world.Goals as goal
 

@@ -2,7 +2,7 @@ use Rattle.std.proofs.Common.{ℕ, true, ◌≡◌, List, All, ◌∙◌, ap, re
 use Rattle.protocol_model.specs.Links.{Links, posted}
 use Rattle.link.specs.Faults.{joins}
 use Rattle.link.specs.Held.{Held, seen, only_to}
-use Rattle.node_events.specs.declared.events.Letter.{Letter}
+use Rattle.node_core.specs.declared.Letter.{Letter}
 use Rattle.node_core.specs.Steps.{IsSaidBy}
 use Rattle.cluster_world.specs.Links.{AreFit}
 use Rattle.cluster_world.proofs.Mail.{posted-nothing, posted-push, first_of, others_of, only_memory, fit_posted}

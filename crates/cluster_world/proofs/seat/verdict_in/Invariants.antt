@@ -1,5 +1,5 @@
 use Rattle.std.proofs.Common.{◌≡◌, drop, map}
-use Rattle.node_events.specs.Seen.{answer_of}
+use Rattle.node_core.specs.NodeEventsSeen.{answer_of}
 use Rattle.cluster_world.specs.Seats.{verdict_in}
 use Rattle.cluster_world.proofs.seat.verdict_in.Given as goal
 

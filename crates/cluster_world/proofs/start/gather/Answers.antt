@@ -1,8 +1,10 @@
 use Rattle.std.proofs.Common.{ℕ, Bool, ◌==◌, ◌∙◌, List, length, take, ap, sym, arith}
 use Rattle.std.specs.Prelude.{◌||◌}
+use Rattle.std.proofs.Math.Bool.{or_assoc}
 use Rattle.term.specs.NodeSets.{set_of}
 use Rattle.cluster_world.proofs.Results.{at_ok}
-use Rattle.cluster_world.proofs.Starting.{took, matched_ok, length-with_node, or_assoc}
+use Rattle.boss_order.proofs.Sets.{set_of-take}
+use Rattle.cluster_world.proofs.Starting.{matched_ok, length-with_node}
 use Rattle.cluster_world.proofs.start.gather.Goals as goal
 
 pub loop-node-preserved : goal.loop-node-preserved
@@ -13,7 +15,8 @@ loop-node-preserved c = record {
       (c.copy.result == x)
       ∙ ap (λ (b : Bool). set_of c.args.set.now x || b)
       (ap (λ (n : ℕ). set_of (take c.loop-node.node-index c.args.nodes.now) x || (n == x)) c.copy.ensures
-      ∙ sym (took c.args.nodes.now c.loop-node.node-index c.node-item.result x c.loop-node-test.true c.node-item.is));
+      ∙ sym (set_of-take c.args.nodes.now c.loop-node.node-index c.node-item.result c.loop-node-test.true
+      c.node-item.is x));
   room = omega (
     arith,
     ap (λ (ns : List ℕ). length ns) (matched_ok _ _ c.insert.result c.if-is_err.ensures.negation

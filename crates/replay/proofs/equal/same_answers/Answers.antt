@@ -1,6 +1,6 @@
 use Rattle.std.proofs.Common.{refl, arith}
 use Rattle.std.proofs.lemmas.Option.{slice_get_within}
-use Rattle.node_events.specs.Seen.{answer_of}
+use Rattle.node_log.specs.NodeEventsSeen.{answer_of}
 use Rattle.replay.proofs.Sameness.{neither, not_false, item_at, seen_same, seen_more, seen_apart}
 use Rattle.replay.proofs.equal.same_answers.Goals as goal
 

@@ -1,7 +1,7 @@
 use Rattle.std.proofs.Common.{ℕ, ◌≡◌, ◌<◌, Some}
 use Rattle.std.specs.List.{slice_get}
-use Rattle.node_events.specs.declared.events.Answer.{Answer}
-use Rattle.node_events.specs.Seen.{answer_of}
+use Rattle.node_log.specs.declared.Answer.{Answer}
+use Rattle.node_log.specs.NodeEventsSeen.{answer_of}
 use Rattle.replay.proofs.equal.same_answers.Given as goal
 
 abbrev pub invariant-loop-place : goal.invariant-loop-place

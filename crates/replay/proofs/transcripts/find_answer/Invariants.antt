@@ -1,6 +1,6 @@
 use Rattle.std.proofs.Common.{◌≡◌, drop, map}
 use Rattle.std.specs.Prelude.{find}
-use Rattle.node_events.specs.Seen.{answer_of}
+use Rattle.node_log.specs.NodeEventsSeen.{answer_of}
 use Rattle.replay.specs.Transcripts.{answers_call}
 use Rattle.replay.proofs.transcripts.find_answer.Given as goal
 

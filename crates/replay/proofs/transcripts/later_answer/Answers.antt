@@ -1,5 +1,5 @@
 use Rattle.std.proofs.Common.{sym, ◌∙◌}
-use Rattle.node_events.specs.Seen.{answer_of}
+use Rattle.node_log.specs.NodeEventsSeen.{answer_of}
 use Rattle.node_log.specs.Logs.{entry_of}
 use Rattle.replay.proofs.Parts.{answered_here, answered_later}
 use Rattle.replay.proofs.transcripts.later_answer.Goals as goal

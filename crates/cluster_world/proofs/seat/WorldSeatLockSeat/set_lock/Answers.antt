@@ -4,8 +4,8 @@ use Rattle.transaction.specs.declared.nodes.Nodes.{Nodes}
 use Rattle.transaction.specs.declared.reply.LockReply.{LockReply}
 use Rattle.transaction.specs.declared.reply.LockReply.TheVariants.{Set}
 use Rattle.registry_model.specs.Process.{Process}
-use Rattle.node_events.specs.declared.events.Call.{Call}
-use Rattle.node_events.specs.declared.events.Call.TheVariants.{SetLock}
+use Rattle.node_core.specs.declared.Call.{Call}
+use Rattle.node_core.specs.declared.Call.TheVariants.{SetLock}
 use Rattle.cluster_world.specs.Seats.{Called}
 use Rattle.cluster_world.proofs.seat.WorldSeatLockSeat.set_lock.Goals as goal
 

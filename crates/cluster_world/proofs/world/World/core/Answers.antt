@@ -2,7 +2,7 @@ use Rattle.std.proofs.Common.{◌∙◌, ap, sym}
 use Rattle.term.specs.NodeSets.{set_of}
 use Rattle.cluster_world.specs.Held.{Held}
 use Rattle.cluster_world.specs.Cores.{core_of}
-use Rattle.cluster_world.proofs.Nodes.{no_place, known_place}
+use Rattle.cluster_world.proofs.Listed.{no_place, known_place}
 use Rattle.cluster_world.proofs.Steps.{core_is, core_missing}
 use Rattle.cluster_world.proofs.world.World.core.Goals as goal
 

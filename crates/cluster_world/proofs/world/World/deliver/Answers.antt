@@ -1,8 +1,8 @@
 use Rattle.std.proofs.Common.{[], sym, subst, ◌∙◌, ℕ}
 use Rattle.std.proofs.lemmas.Result.{err_from_is_err_and, IfOk-weaker, IfErr-weaker}
 use Rattle.link.specs.Held.{Held as Mesh}
-use Rattle.node_events.specs.declared.events.Event.TheVariants.{FromPeer}
-use Rattle.node_events.specs.declared.events.Letter.{Letter}
+use Rattle.node_core.specs.declared.Event.TheVariants.{FromPeer}
+use Rattle.node_core.specs.declared.Letter.{Letter}
 use Rattle.node_core.specs.Steps.{IsHeardWithin}
 use Rattle.cluster_world.specs.declared.events.Refusal.TheVariants.{NoSuchNode, NodeLeft}
 use Rattle.cluster_world.specs.declared.events.WorldEvent.TheVariants.{Deliver}

@@ -1,7 +1,7 @@
 use Rattle.std.proofs.Common.{ℕ, ◌∙◌, [], List, ap, sym, subst}
 use Rattle.std.proofs.lemmas.Result.{err_from_is_err_and}
 use Rattle.term.specs.NodeSets.{set_of}
-use Rattle.node_events.specs.declared.events.Event.{Event as NodeEvent}
+use Rattle.node_core.specs.declared.Event.{Event as NodeEvent}
 use Rattle.node_core.specs.Steps.{IsHeardWithin}
 use Rattle.cluster_world.specs.declared.events.WorldEvent.TheVariants.{At}
 use Rattle.cluster_world.specs.Causes.{event_by}

@@ -2,10 +2,10 @@ use Rattle.std.proofs.Common.{ℕ, ◌∙◌, ◌++◌, Option, List, map, set, 
 use Rattle.std.specs.Prelude.{unwrap_or}
 use Rattle.std.proofs.lemmas.Result.{err_from_is_err_and}
 use Rattle.term.specs.NodeSets.{set_of}
-use Rattle.node_events.specs.declared.events.Entry.{Entry}
+use Rattle.node_core.specs.declared.Entry.{Entry}
 use Rattle.node_core.specs.Held.{Held as Core}
 use Rattle.node_core.specs.Seen.{node_of}
-use Rattle.node_events.specs.Seen.{entry_by}
+use Rattle.node_core.specs.NodeEventsSeen.{entry_by}
 use Rattle.node_core.specs.Steps.{IsHeardWithin}
 use Rattle.cluster_world.specs.declared.events.Refusal.TheVariants.{NodeLeft, Memory}
 use Rattle.cluster_world.specs.Causes.{event_by}
@@ -14,7 +14,7 @@ use Rattle.world_history.specs.Histories.{entry_of}
 use Rattle.cluster_world.specs.Histories.{number_at}
 use Rattle.cluster_world.specs.Refusals.{refusal_by}
 use Rattle.cluster_world.specs.Steps.{Moves, FailsAt}
-use Rattle.cluster_world.proofs.Nodes.{no_place, known_place}
+use Rattle.cluster_world.proofs.Listed.{no_place, known_place}
 use Rattle.cluster_world.proofs.Steps.{fails, fails_behind, joined, said, unchanged, stands_there, whole_with, whole_posted, moves, same_memory, number_is}
 use Rattle.cluster_world.proofs.world.World.step.Goals as goal
 

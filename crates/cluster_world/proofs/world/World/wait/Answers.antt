@@ -1,6 +1,6 @@
 use Rattle.std.proofs.Common.{◌-◌, ◌≡◌, ◌∙◌, zero, List, map, ap, sym, subst, arith}
-use Rattle.node_events.specs.declared.events.Answer.{Answer}
-use Rattle.node_events.specs.Seen.{answer_of}
+use Rattle.node_core.specs.declared.Answer.{Answer}
+use Rattle.node_core.specs.NodeEventsSeen.{answer_of}
 use Rattle.cluster_world.specs.Seats.{most_events, verdict_in}
 use Rattle.cluster_world.proofs.Seats.{IsWaiting, begins, ends, refused_end, is_answered, waits_on}
 use Rattle.cluster_world.proofs.world.World.wait.Goals as goal

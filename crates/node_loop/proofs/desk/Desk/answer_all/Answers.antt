@@ -1,5 +1,5 @@
 use Rattle.std.proofs.Common.{ap, map, drop}
-use Rattle.node_events.specs.Seen.{answer_of}
+use Rattle.node_log.specs.NodeEventsSeen.{answer_of}
 use Rattle.node_loop.specs.Desks.{Kept}
 use Rattle.node_loop.proofs.Telling.{begins_as, grows, where_refused}
 use Rattle.node_loop.proofs.desk.Desk.answer_all.Goals as goal

@@ -1,5 +1,5 @@
 use Rattle.std.proofs.Common.{◌≡◌, drop, map}
-use Rattle.node_events.specs.Seen.{answer_of}
+use Rattle.node_log.specs.NodeEventsSeen.{answer_of}
 use Rattle.node_loop.specs.Desks.{all_answered}
 use Rattle.node_loop.proofs.desk.Desk.answer_all.Given as goal
 

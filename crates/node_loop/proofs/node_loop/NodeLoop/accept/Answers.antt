@@ -1,5 +1,5 @@
 use Rattle.std.proofs.Common.{inr, sym, ap, subst, ◌∙◌}
-use Rattle.cluster_world.specs.Events.{is_leave, knows_contact}
+use Rattle.node_log.specs.Events.{is_leave, knows_contact}
 use Rattle.node_loop.specs.declared.replies.TaskFault.TheVariants.{Step}
 use Rattle.node_loop.specs.Held.{Looping}
 use Rattle.node_loop.specs.Items.{Refuses}

@@ -1,6 +1,6 @@
 use Rattle.std.proofs.Common.{ℕ, refl, ap, subst, ◌∙◌}
 use Rattle.std.proofs.lemmas.Bool.{MatchBool-at_true, MatchBool-at_false}
-use Rattle.cluster_world.specs.declared.events.WorldEvent.TheVariants.{At}
+use Rattle.node_log.specs.declared.WorldEvent.TheVariants.{At}
 use Rattle.node_loop.specs.Held.{Looping}
 use Rattle.node_loop.specs.Steps.{by_event, Goes}
 use Rattle.node_loop.proofs.Concluding.{goes, stepped, begun}

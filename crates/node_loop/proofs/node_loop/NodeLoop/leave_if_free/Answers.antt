@@ -1,6 +1,6 @@
 use Rattle.std.proofs.Common.{Option, sym, ap, subst, ◌∙◌}
 use Rattle.std.specs.Option.{option_flatten}
-use Rattle.cluster_world.specs.declared.events.Event.TheVariants.{Leave}
+use Rattle.node_log.specs.declared.Event.TheVariants.{Leave}
 use Rattle.node_loop.specs.declared.item.Ticket.{Ticket}
 use Rattle.node_loop.specs.Held.{Looping, is_free_to_leave}
 use Rattle.node_loop.specs.Steps.{by_event, desk_of, Ends}

@@ -1,5 +1,5 @@
 use Rattle.std.proofs.Common.{ℕ, None, refl, ap, subst}
-use Rattle.node_events.specs.declared.events.Event.TheVariants.{FromPeer}
+use Rattle.node_log.specs.declared.CoreEvent.TheVariants.{FromPeer}
 use Rattle.node_loop.specs.declared.waiting.Course.TheVariants.{AtOnce}
 use Rattle.node_loop.specs.Held.{Looping}
 use Rattle.node_loop.specs.Steps.{by_letter}

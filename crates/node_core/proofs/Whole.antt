@@ -1,0 +1,51 @@
+-- A whole node stays whole with other parts of which the same holds.
+use Rattle.std.proofs.Common.{ℕ, ◌≡◌, List, refl, ◌∙◌}
+use Rattle.std.specs.Prelude.{All}
+use Rattle.transaction.specs.Work.{Work}
+use Rattle.exit_watch.specs.Held.{Held as Watch, AreSuspected}
+use Rattle.lock_calls.specs.Held.{Held as LockCalls, seen}
+use Rattle.node_core.specs.Held.{Held, IsWhole, IsWithin, IsOpWithin, IsCurrentWithin, IsCallWithin}
+
+-- the operations of a registrar and whom it awaits are of the world
+pub record IsWorkWithin (world : List ℕ) (w : Work) : Type 0 where
+  pub queue : All (IsOpWithin world) w.queue
+  pub current : IsCurrentWithin world w.current
+  pub awaited : IsWithin world w.awaited
+
+-- with another registrar, watch and calls
+pub whole_of : (h : Held) (r : Work) (w : Watch) (cs : LockCalls) → IsWhole h → IsWorkWithin h.world r
+    → w.node ≡ h.watch.node → AreSuspected w h.table → cs.node ≡ h.calls.node
+    → All (λ c. IsCallWithin h.world c.phase) (seen cs) → IsWhole (record h { registrar = r; watch = w; calls = cs })
+whole_of h r w cs whole work watch suspected calls called = record {
+  self = whole.self;
+  members = whole.members;
+  told = whole.told;
+  here = whole.here;
+  queue = work.queue;
+  current = work.current;
+  awaited = work.awaited;
+  phase = whole.phase;
+  watch = watch ∙ whole.watch;
+  suspected = suspected;
+  calls = calls ∙ whole.calls;
+  called = called;
+}
+
+work_within : (h : Held) → IsWhole h → IsWorkWithin h.world h.registrar
+work_within h whole = record { queue = whole.queue; current = whole.current; awaited = whole.awaited }
+
+-- with another registrar
+pub whole_at : (h : Held) (r : Work) → IsWhole h → IsWorkWithin h.world r → IsWhole (record h { registrar = r })
+whole_at h r whole work = whole_of h r h.watch h.calls whole work refl whole.suspected refl whole.called
+
+-- with another watch
+pub whole_watching : (h : Held) (w : Watch) → IsWhole h → w.node ≡ h.watch.node → AreSuspected w h.table
+    → IsWhole (record h { watch = w })
+whole_watching h w whole watch suspected =
+    whole_of h h.registrar w h.calls whole (work_within h whole) watch suspected refl whole.called
+
+-- with other calls of its processes
+pub whole_with : (h : Held) (cs : LockCalls) → IsWhole h → cs.node ≡ h.calls.node
+    → All (λ c. IsCallWithin h.world c.phase) (seen cs) → IsWhole (record h { calls = cs })
+whole_with h cs whole calls called =
+    whole_of h h.registrar h.watch cs whole (work_within h whole) refl whole.suspected calls called
