@@ -2,8 +2,8 @@
 use Rattle.std.proofs.Common.{ℕ, ◌≡◌, List, ◌++◌, map, ap, subst, inl, ◌∙◌}
 use Rattle.std.specs.Prelude.{Result, Ok, Err, IfOk, IfErr}
 use Rattle.registry_model.specs.Table.{Table}
-use Rattle.node_log.specs.declared.node_end.NodeEnd.{NodeEnd}
-use Rattle.node_log.specs.declared.transcript.Transcript.{Transcript}
+use Rattle.node_loop.specs.declared.NodeEnd.{NodeEnd}
+use Rattle.node_loop.specs.declared.Transcript.{Transcript}
 use Rattle.replay.specs.declared.closed.Closed.{Closed}
 use Rattle.replay.specs.declared.faults.CloseFault.{CloseFault}
 use Rattle.replay.specs.Ends.{end_of as seen_end}

@@ -7,12 +7,12 @@ use Rattle.transaction.specs.declared.nodes.Nodes.{Nodes}
 use Rattle.transaction.specs.declared.nodes.Retries.{Retries}
 use Rattle.transaction.specs.declared.reply.LockReply.{LockReply}
 use Rattle.transaction.specs.declared.reply.LockReply.TheVariants.{Set, Deleted}
-use Rattle.node_events.specs.declared.events.Answer.{Answer}
-use Rattle.node_events.specs.declared.events.Call.TheVariants.{SetLock, DelLock}
-use Rattle.node_events.specs.Seen.{reply_of}
-use Rattle.cluster_world.specs.declared.events.Event.TheVariants.{Call as Calls}
-use Rattle.cluster_world.specs.declared.events.WorldEvent.TheVariants.{At}
-use Rattle.node_log.specs.declared.transcript.SeatEntry.{SeatEntry}
+use Rattle.node_loop.specs.declared.Answer.{Answer}
+use Rattle.node_loop.specs.declared.Call.TheVariants.{SetLock, DelLock}
+use Rattle.node_loop.specs.NodeEventsSeen.{reply_of}
+use Rattle.node_loop.specs.declared.Event.TheVariants.{Call as Calls}
+use Rattle.node_loop.specs.declared.WorldEvent.TheVariants.{At}
+use Rattle.node_loop.specs.declared.SeatEntry.{SeatEntry}
 use Rattle.node_threads.specs.Seats.{Sitting, with_entry}
 use Rattle.node_threads.specs.Holders.{grants, lock_reply_in, lock_replies}
 

@@ -9,10 +9,10 @@ use Rattle.registry_model.specs.Process.{Nodes}
 use Rattle.protocol_model.specs.World.{World, in_cluster, opening_world}
 use Rattle.term.specs.NodeSets.{set_of, most_nodes}
 use Rattle.boss_order.proofs.Sets.{set_of-append}
-use Rattle.cluster_world.specs.declared.events.StartFault.TheVariants.{SameNode, TooManyNodes}
-use Rattle.cluster_world.specs.Held.{Held}
-use Rattle.cluster_world.specs.Seen.{opening_of, seen}
-use Rattle.cluster_world.specs.Starting.{repeats, start_refused, Opens}
+use Rattle.node_loop.specs.declared.StartFault.TheVariants.{SameNode, TooManyNodes}
+use Rattle.node_loop.specs.ClusterWorldHeld.{Held}
+use Rattle.node_loop.specs.Seen.{opening_of, seen}
+use Rattle.node_loop.specs.Starting.{repeats, start_refused, Opens}
 
 taken : (b d : Bool) → (if b then Some SameNode else (if d then Some TooManyNodes else None)) ≡ None → (b ≡ false) × (d ≡ false)
 taken true d e = absurd (cc e)

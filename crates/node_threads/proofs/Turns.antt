@@ -1,10 +1,10 @@
 -- A turn is one of its node.
 use Rattle.std.proofs.Common.{◌≡◌, ◌-◌, ◌⊎◌, inl, inr, ⊎_elim, ℕ, Bool, true, false, Option, None, List, refl, ap, ◌∙◌, MatchBool}
-use Rattle.node_events.specs.declared.events.Answer.{Answer}
-use Rattle.cluster_world.specs.declared.events.Event.{Event}
-use Rattle.cluster_world.specs.declared.events.Event.TheVariants.{Retry}
-use Rattle.cluster_world.specs.Events.{is_leave, knows_contact}
-use Rattle.node_core.specs.Held.{Held}
+use Rattle.node_loop.specs.declared.Answer.{Answer}
+use Rattle.node_loop.specs.declared.Event.{Event}
+use Rattle.node_loop.specs.declared.Event.TheVariants.{Retry}
+use Rattle.node_loop.specs.Events.{is_leave, knows_contact}
+use Rattle.node_loop.specs.NodeCoreHeld.{Held}
 use Rattle.node_loop.specs.declared.item.Item.{Item}
 use Rattle.node_loop.specs.declared.item.Item.TheVariants as item
 use Rattle.node_loop.specs.declared.item.Stamped.{Stamped}

@@ -1,8 +1,8 @@
 -- What closing a cluster comes to.
 use Rattle.std.specs.Prelude.{ℕ, ◌≡◌, ◌⊎◌, List, ◌++◌, map, Result, Ok, Err}
 use Rattle.registry_model.specs.Table.{Table}
-use Rattle.node_log.specs.declared.node_end.NodeEnd.{NodeEnd}
-use Rattle.node_log.specs.declared.transcript.Transcript.{Transcript}
+use Rattle.node_loop.specs.declared.NodeEnd.{NodeEnd}
+use Rattle.node_loop.specs.declared.Transcript.{Transcript}
 use Rattle.replay.specs.declared.closed.Closed.{Closed}
 use Rattle.replay.specs.declared.faults.CloseFault.{CloseFault}
 use Rattle.replay.specs.declared.faults.CloseFault.TheVariants.{Memory}

@@ -2,14 +2,14 @@
 use Rattle.std.specs.Prelude.{Bool, true, false, ◌≡◌, Option, Some, None, List, [], ◌∷◌, ◌++◌, Result, Ok, Err, if◌then◌else◌}
 use Rattle.registry_model.specs.Process.{Process, is_process}
 use Rattle.registry_model.specs.Call.{Reply as AnyReply, True}
-use Rattle.node_events.specs.declared.events.Answer.{Answer}
-use Rattle.node_events.specs.declared.events.Call.{Call}
-use Rattle.node_events.specs.declared.events.Call.TheVariants.{SetLock, DelLock}
-use Rattle.node_events.specs.Seen.{reply_of}
-use Rattle.cluster_world.specs.declared.events.Event.TheVariants.{Call as Calls}
-use Rattle.cluster_world.specs.declared.events.WorldEvent.{WorldEvent}
-use Rattle.cluster_world.specs.declared.events.WorldEvent.TheVariants.{At}
-use Rattle.node_log.specs.declared.transcript.SeatEntry.{SeatEntry}
+use Rattle.node_loop.specs.declared.Answer.{Answer}
+use Rattle.node_loop.specs.declared.Call.{Call}
+use Rattle.node_loop.specs.declared.Call.TheVariants.{SetLock, DelLock}
+use Rattle.node_loop.specs.NodeEventsSeen.{reply_of}
+use Rattle.node_loop.specs.declared.Event.TheVariants.{Call as Calls}
+use Rattle.node_loop.specs.declared.WorldEvent.{WorldEvent}
+use Rattle.node_loop.specs.declared.WorldEvent.TheVariants.{At}
+use Rattle.node_loop.specs.declared.SeatEntry.{SeatEntry}
 use Rattle.transaction.specs.declared.reply.LockReply.{LockReply}
 use Rattle.transaction.specs.declared.reply.LockReply.TheVariants.{Set, Deleted}
 use Rattle.node_threads.specs.declared.holder.HolderSeat.{HolderSeat}

@@ -1,3 +1,4 @@
+pub use Rattle.node_loop.specs.Starting
 pub mod Lines
 pub mod Traffics
 pub mod Ends

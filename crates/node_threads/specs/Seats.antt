@@ -1,15 +1,15 @@
 -- What a seat was answered.
 use Rattle.std.specs.Prelude.{ℕ, ◌≡◌, Option, Some, None, List, [], ◌∷◌, ◌++◌}
-use Rattle.node_events.specs.declared.events.Answer.{Answer}
-use Rattle.node_events.specs.declared.events.Call.{Call}
-use Rattle.node_events.specs.declared.events.Reply.{Reply}
-use Rattle.node_events.specs.declared.events.Reply.TheVariants.{Pid, Undefined}
-use Rattle.node_events.specs.Seen.{reply_of}
+use Rattle.node_loop.specs.declared.Answer.{Answer}
+use Rattle.node_loop.specs.declared.Call.{Call}
+use Rattle.node_loop.specs.declared.Reply.{Reply}
+use Rattle.node_loop.specs.declared.Reply.TheVariants.{Pid, Undefined}
+use Rattle.node_loop.specs.NodeEventsSeen.{reply_of}
 use Rattle.registry_model.specs.Process.{Process}
-use Rattle.cluster_world.specs.declared.events.Event.{Event}
-use Rattle.cluster_world.specs.declared.events.Event.TheVariants as event
-use Rattle.cluster_world.specs.declared.events.WorldEvent.TheVariants.{At}
-use Rattle.node_log.specs.declared.transcript.SeatEntry.{SeatEntry}
+use Rattle.node_loop.specs.declared.Event.{Event}
+use Rattle.node_loop.specs.declared.Event.TheVariants as event
+use Rattle.node_loop.specs.declared.WorldEvent.TheVariants.{At}
+use Rattle.node_loop.specs.declared.SeatEntry.{SeatEntry}
 
 -- a seat: its number, its node, and its transcript, the oldest entry first
 pub record Sitting : Type 0 where

@@ -44,9 +44,9 @@ pub(crate) fn open_inbox<L: Drop>(
     ensures address { IfOk result (λ opened. opened.address ≡ record { node = node; lines = 0 }) }
     ensures empty { IfOk result (λ opened. taken opened.mailbox ≡ []) }
 {
-    let (root, mailbox) = open::<Parcel<L>>(alloc, INBOX_ROOM)?;
     let bell = Bell::new(alloc)?;
     let rest = bell.rest(yields)?;
+    let (root, mailbox) = open::<Parcel<L>>(alloc, INBOX_ROOM)?;
     let address = Address { node, root, bell };
     Ok(Opened {
         address,
@@ -69,11 +69,11 @@ impl<L: Drop> Address<L> {
         ensures more { OnOk result (self.new ≡ record self.old { lines = self.old.lines + 1 }) }
         ensures err { OnErr result (self.new ≡ self.old) }
     {
-        let bell = self.bell.another()?;
         // So many are never made.
         if self.root.made() == u64::MAX {
             return Err(AllocError);
         }
+        let bell = self.bell.another()?;
         let port = self.root.port()?;
         Ok(Line::new(self.node.copy(), port, bell))
     }

@@ -2,23 +2,22 @@
 ghost use Rattle.std.specs.Prelude.{◌≡◌, true};
 ghost use Rattle.protocol_model.specs.World.{opening_world};
 ghost use Rattle.term.specs.NodeSets.{set_of};
-ghost use Rattle.cluster_world.specs.Seen.{opening_of, seen};
+ghost use Rattle.node_loop.specs.Seen.{opening_of, seen};
 ghost use Rattle.node_threads.specs.Cores.{OpensIn};
 
 use crate::address::{Address, Opened, open_inbox};
 use crate::bell::Rest;
 use crate::caller::Caller;
-use crate::hub::{Hub, MOST_SEATS};
+use crate::hub::MOST_SEATS;
 use crate::line::Line;
 use crate::parcel::Parcel;
 use crate::ruled_end::RuledEnd;
 use crate::running::{Running, Work};
+use crate::shared::Shared;
 use crate::standing::Standing;
-use cluster_world::World;
 use link::Mailbox;
 use name_table::Names;
-use node_core::NodeCore;
-use node_loop::{Gate, Item, NodeLoop};
+use node_loop::{Gate, Item, NodeCore, NodeLoop, World};
 use std::alloc::{AllocError, Global};
 use std::marker::Model;
 use std::sync::{Arc, Wait};
@@ -29,19 +28,20 @@ use term::NodeName;
 /// A node whose thread is yet to start: where it is reached, and what its thread is to work with. Contracts see the
 /// name of the node.
 #[derive(Drop)]
-pub(crate) struct Berth<N: Names> {
+pub(crate) struct Berth<G: Gate + Drop, N: Names> {
     address: Address<Item>,
+    /// Asks the node in the name of the cluster.
+    caller: Caller,
     mailbox: Mailbox<Parcel<Item>>,
     rest: Rest,
     /// To all nodes.
     lines: Vec<Line<Item>>,
-    /// Asks the node in the name of the cluster.
-    caller: Caller,
+    shared: Shared<G>,
     standing: Arc<Standing, Global>,
     node: NodeLoop<N>,
 }
 
-impl<N: Names> Model for Berth<N> {
+impl<G: Gate + Drop, N: Names> Model for Berth<G, N> {
     ghost use Rattle.std.specs.Prelude.{ℕ, ◌≡◌};
 
     ghost Value = { ℕ };
@@ -68,15 +68,14 @@ fn core_of<N: Names<Memory = Global>>(
     NodeCore::new(alloc, node.copy(), world.nodes(), members, joined)
 }
 
-impl<N: Names<Memory = Global>> Berth<N> {
+impl<G: Gate + Drop, N: Names<Memory = Global>> Berth<G, N> {
     ghost use Rattle.std.specs.Prelude.{◌≡◌, ◌<◌, true, IfOk};
 
     /// Opens the inbox of a node, the one at this place among the cluster's, and makes what its thread is to work with, but for the
     /// lines.
     pub(crate) fn open(
         alloc: Global,
-        hub: &Arc<Hub, Global>,
-        yields: u32,
+        shared: &Shared<G>,
         world: &World<N>,
         node: &NodeName,
         place: u32,
@@ -87,66 +86,32 @@ impl<N: Names<Memory = Global>> Berth<N> {
         requires place { place < 8 }
         ensures { IfOk result (λ berth. berth ≡ node.now) }
     {
+        // What is large comes last: the check follows each way out with all that was made before it.
+        let shared = shared.another()?;
+        let standing = Arc::new(alloc, Standing::new())?;
         let Opened {
             mut address,
             mailbox,
             rest,
-        } = open_inbox(alloc, node.copy(), yields)?;
-        let standing = Arc::new(alloc, Standing::new())?;
-        let slot = MOST_SEATS + place;
+        } = open_inbox(alloc, node.copy(), shared.yields)?;
         let caller = Caller::new(
-            slot,
-            address.line()?,
-            Arc::try_clone(hub)?,
-            Arc::try_clone(&standing)?,
-            hub.rest(slot, yields)?,
-        );
-        let core = core_of(alloc, world, node, joined);
-        let node = NodeLoop::new(alloc, core)?;
+            &shared.hub,
+            &standing,
+            &mut address,
+            MOST_SEATS + place,
+            shared.yields,
+        )?;
+        let node = NodeLoop::new(alloc, core_of(alloc, world, node, joined))?;
         Ok(Berth {
             address,
+            caller,
             mailbox,
             rest,
             lines: Vec::new(alloc),
-            caller,
+            shared,
             standing,
             node,
         })
-    }
-
-    /// Starts the thread.
-    pub(crate) fn launch<G, R>(
-        self,
-        rt: &R,
-        gate: &Arc<G, Global>,
-        hub: &Arc<Hub, Global>,
-    ) -> Result<Running<N>, AllocError>
-    where
-        G: Gate + Drop + Send + Sync + 'static,
-        N: Send + 'static,
-        R: Threads + Wait + Clock + Drop + Copy + Send + 'static,
-        ensures { IfOk result (λ running. running ≡ self) }
-    {
-        let Berth {
-            address,
-            mailbox,
-            rest,
-            lines,
-            caller,
-            standing,
-            node,
-            ..
-        } = self;
-        let end = RuledEnd::new(*rt, address.node().copy(), lines, mailbox);
-        let work = Work {
-            node,
-            end,
-            rest,
-            gate: Arc::try_clone(gate)?,
-            hub: Arc::try_clone(hub)?,
-            standing,
-        };
-        Running::start(rt, address, caller, work)
     }
 
     /// A line more into the node's inbox.
@@ -162,5 +127,34 @@ impl<N: Names<Memory = Global>> Berth<N> {
         ensures { self.new ≡ self.old }
     {
         self.lines = lines;
+    }
+
+    /// Starts the thread.
+    pub(crate) fn launch<R>(self, rt: &R) -> Result<Running<N>, AllocError>
+    where
+        G: Send + Sync + 'static,
+        N: Send + 'static,
+        R: Threads + Wait + Clock + Drop + Copy + Send + 'static,
+        ensures { IfOk result (λ running. running ≡ self) }
+    {
+        let Berth {
+            address,
+            caller,
+            mailbox,
+            rest,
+            lines,
+            shared,
+            standing,
+            node,
+        } = self;
+        let end = RuledEnd::new(*rt, address.node().copy(), lines, mailbox);
+        let work = Work {
+            node,
+            end,
+            rest,
+            shared,
+            standing,
+        };
+        Running::start(rt, address, caller, work)
     }
 }

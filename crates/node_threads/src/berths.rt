@@ -1,29 +1,27 @@
 //! All nodes of a cluster before their threads start.
-ghost use Rattle.std.specs.Prelude.{◌≡◌, ◌+◌, ◌≤◌, ◌++◌, true, map, length, All, IfOk, OnOk};
+ghost use Rattle.std.specs.Prelude.{◌≡◌, ◌+◌, ◌≤◌, ◌++◌, true, None, map, length, All, IfOk, OnOk};
 ghost use Rattle.std.specs.Vec.{vec_len};
 ghost use Rattle.protocol_model.specs.World.{opening_world};
 ghost use Rattle.term.specs.NodeSets.{set_of};
-ghost use Rattle.cluster_world.specs.Seen.{opening_of, seen};
+ghost use Rattle.node_loop.specs.Seen.{opening_of, seen};
+ghost use Rattle.node_loop.specs.Starting.{start_refused, Opens};
 
 use crate::berth::Berth;
-use crate::hub::Hub;
 use crate::line::Line;
-use cluster_world::World;
+use crate::shared::Shared;
 use name_table::Names;
-use node_loop::Item;
+use node_loop::{Gate, Item, World};
 use std::alloc::{AllocError, Global};
-use std::sync::Arc;
 use term::NodeName;
 
 /// Opens the inboxes of these nodes, behind those that were opened before.
-pub(crate) fn open_all<N: Names<Memory = Global>>(
+fn open_all<G: Gate + Drop, N: Names<Memory = Global>>(
     alloc: Global,
-    hub: &Arc<Hub, Global>,
-    yields: u32,
+    shared: &Shared<G>,
     world: &World<N>,
     nodes: &[NodeName],
     joined: bool,
-    berths: &mut Vec<Berth<N>>,
+    berths: &mut Vec<Berth<G, N>>,
 ) -> Result<(), AllocError>
     requires opening { seen world.now ≡ opening_world (opening_of world.now) }
     requires known { All (λ c. set_of world.now.nodes c ≡ true) nodes.now }
@@ -32,15 +30,15 @@ pub(crate) fn open_all<N: Names<Memory = Global>>(
 {
     for node in nodes {
         let place = berths.len() as u32;
-        berths.push(Berth::open(alloc, hub, yields, world, node, place, joined)?)?;
+        berths.push(Berth::open(alloc, shared, world, node, place, joined)?)?;
     }
     Ok(())
 }
 
 /// A line to each of these nodes.
-fn lines_to<N: Names<Memory = Global>>(
+fn lines_to<G: Gate + Drop, N: Names<Memory = Global>>(
     alloc: Global,
-    berths: &mut [Berth<N>],
+    berths: &mut [Berth<G, N>],
 ) -> Result<Vec<Line<Item>>, AllocError>
     ensures nodes { berths.new ≡ berths.old }
     ensures all { IfOk result (λ lines. map (λ line. line.receiver) lines.items ≡ berths.old) }
@@ -53,9 +51,9 @@ fn lines_to<N: Names<Memory = Global>>(
 }
 
 /// Connects all these nodes with one another, and each with itself.
-pub(crate) fn connect<N: Names<Memory = Global>>(
+fn connect<G: Gate + Drop, N: Names<Memory = Global>>(
     alloc: Global,
-    berths: &mut [Berth<N>],
+    berths: &mut [Berth<G, N>],
 ) -> Result<(), AllocError>
     ensures { berths.new ≡ berths.old }
 {
@@ -64,4 +62,24 @@ pub(crate) fn connect<N: Names<Memory = Global>>(
         berths[place].connect(lines);
     }
     Ok(())
+}
+
+/// The berths of all nodes of a world that has just been started with these lists, connected with one another.
+pub(crate) fn berths_of<G: Gate + Drop, N: Names<Memory = Global>>(
+    alloc: Global,
+    shared: &Shared<G>,
+    world: &World<N>,
+    cluster: &[NodeName],
+    lone: &[NodeName],
+) -> Result<Vec<Berth<G, N>>, AllocError>
+    requires lists { start_refused cluster.now lone.now ≡ None }
+    requires opening { seen world.now ≡ opening_world (opening_of world.now) }
+    requires opens { Opens cluster.now lone.now world.now }
+    ensures { IfOk result (λ berths. berths.items ≡ cluster.now ++ lone.now) }
+{
+    let mut berths = Vec::new(alloc);
+    open_all(alloc, shared, world, cluster, true, &mut berths)?;
+    open_all(alloc, shared, world, lone, false, &mut berths)?;
+    connect(alloc, berths.as_mut_slice())?;
+    Ok(berths)
 }

@@ -1,15 +1,15 @@
 //! How a thread asks a node's thread.
-ghost use Rattle.std.specs.Prelude.{◌≡◌, IfSome};
+ghost use Rattle.std.specs.Prelude.{◌≡◌, ◌<◌, IfOk, IfSome};
 ghost use Rattle.node_threads.specs.Callers.{name_of, slot_of};
 
+use crate::address::Address;
 use crate::bell::Rest;
 use crate::fault::SeatFault;
 use crate::hub::Hub;
 use crate::line::Line;
 use crate::standing::Standing;
-use cluster_world::{Answer, Event};
-use node_loop::{Item, Task, TaskFault, TaskReply, Ticket};
-use std::alloc::Global;
+use node_loop::{Answer, Event, Item, Task, TaskFault, TaskReply, Ticket};
+use std::alloc::{AllocError, Global};
 use std::sync::{Arc, Wait};
 use std::time::Clock;
 use term::NodeName;
@@ -40,18 +40,24 @@ fn outcome_for(reply: TaskReply, ticket: Ticket) -> Option<Result<Option<Answer>
 }
 
 impl Caller {
-    /// One that asks this node over this line, and finds its replies in this slot.
+    /// One that asks the node of this address, which stands so, and finds its replies in this slot.
     pub(crate) fn new(
+        hub: &Arc<Hub, Global>,
+        standing: &Arc<Standing, Global>,
+        address: &mut Address<Item>,
         slot: u32,
-        line: Line<Item>,
-        hub: Arc<Hub, Global>,
-        standing: Arc<Standing, Global>,
-        rest: Rest,
-    ) -> Self
-        ensures slot { slot_of result ≡ slot }
-        ensures node { name_of result ≡ line.receiver }
+        yields: u32,
+    ) -> Result<Self, AllocError>
+        requires { slot < 72 }
+        ensures slot { IfOk result (λ caller. slot_of caller ≡ slot) }
+        ensures node { IfOk result (λ caller. name_of caller ≡ address.old.node) }
+        ensures same { address.new.node ≡ address.old.node }
     {
-        Caller {
+        let rest = hub.rest(slot, yields)?;
+        let hub = Arc::try_clone(hub)?;
+        let standing = Arc::try_clone(standing)?;
+        let line = address.line()?;
+        Ok(Caller {
             slot,
             node: line.receiver().copy(),
             line,
@@ -59,7 +65,22 @@ impl Caller {
             hub,
             standing,
             rest,
-        }
+        })
+    }
+
+    /// One more that asks the same node, and finds its replies in this slot.
+    pub(crate) fn another(
+        &self,
+        address: &mut Address<Item>,
+        slot: u32,
+        yields: u32,
+    ) -> Result<Self, AllocError>
+        requires { slot < 72 }
+        ensures slot { IfOk result (λ caller. slot_of caller ≡ slot) }
+        ensures node { IfOk result (λ caller. name_of caller ≡ address.old.node) }
+        ensures same { address.new.node ≡ address.old.node }
+    {
+        Caller::new(&self.hub, &self.standing, address, slot, yields)
     }
 
     /// The node that it asks.
@@ -99,7 +120,7 @@ impl Caller {
             event,
         };
         self.send(rt, Item::Task(task))?;
-        Ok(self.outcome(rt, ticket)??)
+        self.outcome(rt, ticket)
     }
 
     /// Why no reply comes any more, if none does.
@@ -117,6 +138,20 @@ impl Caller {
         }
     }
 
+    /// Sends an item, or hands it back where there is no room for it yet.
+    fn offer<R: Wait>(&mut self, rt: &R, item: Item) -> Result<Option<Item>, SeatFault>
+        ensures slot { slot_of self.new ≡ slot_of self.old }
+        ensures node { name_of self.new ≡ name_of self.old }
+    {
+        match self.line.send(rt, &self.node, item) {
+            Ok(()) => Ok(None),
+            Err(unsent) => match self.end() {
+                Some(fault) => Err(fault),
+                None => Ok(Some(unsent.letter)),
+            },
+        }
+    }
+
     /// Sends an item as soon as there is room for it.
     fn send<R: Wait + Clock>(&mut self, rt: &R, item: Item) -> Result<(), SeatFault>
         ensures slot { slot_of self.new ≡ slot_of self.old }
@@ -125,38 +160,43 @@ impl Caller {
         self.rest.worked();
         let mut waiting = item;
         for _ in rt.forever() {
-            match self.line.send(rt, &self.node, waiting) {
-                Ok(()) => return Ok(()),
-                Err(unsent) => waiting = unsent.letter,
-            }
-            if let Some(fault) = self.end() {
-                return Err(fault);
+            match self.offer(rt, waiting)? {
+                Some(item) => waiting = item,
+                None => return Ok(()),
             }
             self.rest.rest(rt, true);
         }
         unreachable!()
     }
 
-    /// Waits for the reply to a ticket. Replies to others, which this caller has given up, are dropped.
+    /// What came of a ticket, if that is known. Replies to others, which this caller has given up, are dropped.
+    fn find<R: Wait>(&self, rt: &R, ticket: Ticket) -> Result<Option<Option<Answer>>, SeatFault> {
+        // This comes first: a reply that was laid down before the thread ended is then found.
+        let end = self.end();
+        let outcome = match self.hub.take(rt, self.slot) {
+            Some(reply) => outcome_for(reply, ticket),
+            None => None,
+        };
+        match (outcome, end) {
+            (Some(outcome), _) => Ok(Some(outcome?)),
+            (None, Some(fault)) => Err(fault),
+            (None, None) => Ok(None),
+        }
+    }
+
+    /// Waits for what comes of a ticket.
     fn outcome<R: Wait + Clock>(
         &mut self,
         rt: &R,
         ticket: Ticket,
-    ) -> Result<Result<Option<Answer>, TaskFault>, SeatFault>
+    ) -> Result<Option<Answer>, SeatFault>
         ensures slot { slot_of self.new ≡ slot_of self.old }
         ensures node { name_of self.new ≡ name_of self.old }
     {
         self.rest.worked();
         for _ in rt.forever() {
-            // This comes first: a reply that was laid down before the thread ended is then found.
-            let end = self.end();
-            if let Some(reply) = self.hub.take(rt, self.slot)
-                && let Some(outcome) = outcome_for(reply, ticket)
-            {
-                return Ok(outcome);
-            }
-            if let Some(fault) = end {
-                return Err(fault);
+            if let Some(answer) = self.find(rt, ticket)? {
+                return Ok(answer);
             }
             self.rest.rest(rt, false);
         }

@@ -1,29 +1,27 @@
 //! Clusters: the threads of all nodes, and the seats at them.
-ghost use Rattle.std.specs.Prelude.{◌≡◌, ◌+◌, ◌≤◌, ◌++◌, false, [], None, Err, map, IfOk, IfErr, OnErr, IfSome};
+ghost use Rattle.std.specs.Prelude.{◌≡◌, ◌+◌, ◌≤◌, ◌++◌, false, [], None, Err, map, IfOk, OnOk, IfErr, OnErr, IfSome};
 ghost use Rattle.term.specs.NodeSets.{set_of};
 ghost use Rattle.link.specs.Held.{place};
 ghost use Rattle.protocol_model.specs.World.{opening_world};
-ghost use Rattle.cluster_world.specs.Seen.{opening_of, seen};
-ghost use Rattle.cluster_world.specs.Starting.{start_refused, start_fault_of, Opens};
+ghost use Rattle.node_loop.specs.Seen.{opening_of, seen};
+ghost use Rattle.node_loop.specs.Starting.{start_refused, start_fault_of, Opens};
 ghost use Rattle.node_threads.specs.declared.fault.SeatFault.TheVariants.{NoSuchNode};
 ghost use Rattle.node_threads.specs.Faults.{IsSeatRefused};
 ghost use Rattle.node_threads.specs.Closing.{end_of, CloseIs};
 
 use crate::berth::Berth;
-use crate::berths::{connect, open_all};
-use crate::caller::Caller;
+use crate::berths::berths_of;
 use crate::fault::SeatFault;
 use crate::hub::{Hub, MOST_SEATS};
 use crate::running::Running;
 use crate::seat::Seat;
-use cluster_world::{StartFault, World};
+use crate::shared::Shared;
 use name_table::Names;
-use node_log::{NodeEnd, Transcript};
-use node_loop::Gate;
+use node_loop::{Gate, NodeEnd, StartFault, Transcript, World};
 use replay::{CloseFault, Closed, replay};
 use std::alloc::{AllocError, Global};
 use std::marker::Model;
-use std::sync::{Arc, Wait};
+use std::sync::Wait;
 use std::thread::Threads;
 use std::time::Clock;
 use term::NodeName;
@@ -32,10 +30,7 @@ use term::NodeName;
 /// and how many seats were made.
 pub struct Cluster<G: Gate + Drop, N: Names> {
     alloc: Global,
-    gate: Arc<G, Global>,
-    hub: Arc<Hub, Global>,
-    /// How often a thread, or a caller, yields at most before it sleeps.
-    yields: u32,
+    shared: Shared<G>,
     cluster: Vec<NodeName>,
     lone: Vec<NodeName>,
     running: Vec<Running<N>>,
@@ -45,7 +40,7 @@ pub struct Cluster<G: Gate + Drop, N: Names> {
 
 impl<G: Gate + Drop, N: Names> Model for Cluster<G, N> {
     ghost use Rattle.std.specs.Prelude.{◌≡◌, ◌≤◌, ◌++◌, None};
-    ghost use Rattle.cluster_world.specs.Starting.{start_refused};
+    ghost use Rattle.node_loop.specs.Starting.{start_refused};
     ghost use Rattle.node_threads.specs.Clusters.{Crewed};
 
     ghost Value = { Crewed };
@@ -73,13 +68,31 @@ fn place_of<N: Names<Memory = Global> + Send + 'static>(
     running.iter().position(|one| one.node() == node)
 }
 
+/// Starts the threads of these nodes, one after another, up to the first that can't be started.
+fn launch_each<G, N, R>(
+    rt: &R,
+    berths: Vec<Berth<G, N>>,
+    running: &mut Vec<Running<N>>,
+) -> Result<(), AllocError>
+where
+    G: Gate + Drop + Send + Sync + 'static,
+    N: Names<Memory = Global> + Send + 'static,
+    R: Threads + Wait + Clock + Drop + Copy + Send + 'static,
+    ensures { OnOk result (running.new.items ≡ running.old.items ++ berths.items) }
+{
+    running.reserve(berths.len())?;
+    for berth in berths {
+        running.push_reserved(berth.launch(rt)?);
+    }
+    Ok(())
+}
+
 /// Starts the threads of these nodes. Where one can't be started, those that were are ended again.
 fn launch_all<G, N, R>(
     rt: &R,
     alloc: Global,
-    gate: &Arc<G, Global>,
-    hub: &Arc<Hub, Global>,
-    berths: Vec<Berth<N>>,
+    hub: &Hub,
+    berths: Vec<Berth<G, N>>,
 ) -> Result<Vec<Running<N>>, AllocError>
 where
     G: Gate + Drop + Send + Sync + 'static,
@@ -88,22 +101,12 @@ where
     ensures { IfOk result (λ running. running.items ≡ berths.items) }
 {
     let mut running = Vec::new(alloc);
-    let mut whole = true;
-    for berth in berths {
-        if whole
-            && running.reserve(1).is_ok()
-            && let Ok(one) = berth.launch(rt, gate, hub)
-        {
-            running.push_reserved(one);
-        } else {
-            whole = false;
+    match launch_each(rt, berths, &mut running) {
+        Ok(()) => Ok(running),
+        Err(fault) => {
+            end_all(rt, alloc, hub, running);
+            Err(fault)
         }
-    }
-    if whole {
-        Ok(running)
-    } else {
-        end_all(rt, alloc, hub, running);
-        Err(AllocError)
     }
 }
 
@@ -184,20 +187,14 @@ where
         ensures lone { IfOk result (λ made. made.lone ≡ lone.now) }
         ensures seats { IfOk result (λ made. made.seats ≡ 0) }
     {
-        let hub = Arc::new(alloc, Hub::new(alloc)?)?;
-        let gate = Arc::new(alloc, gate)?;
+        let shared = Shared::new(alloc, gate, yields)?;
         let joined = copied(alloc, cluster)?;
         let others = copied(alloc, lone)?;
-        let mut berths = Vec::new(alloc);
-        open_all(alloc, &hub, yields, world, cluster, true, &mut berths)?;
-        open_all(alloc, &hub, yields, world, lone, false, &mut berths)?;
-        connect(alloc, berths.as_mut_slice())?;
-        let running = launch_all(rt, alloc, &gate, &hub, berths)?;
+        let berths = berths_of(alloc, &shared, world, cluster, lone)?;
+        let running = launch_all(rt, alloc, &shared.hub, berths)?;
         Ok(Cluster {
             alloc,
-            gate,
-            hub,
-            yields,
+            shared,
             cluster: joined,
             lone: others,
             running,
@@ -220,11 +217,7 @@ where
         if self.seats >= MOST_SEATS {
             return Err(SeatFault::SeatsSpent);
         }
-        let rest = self.hub.rest(self.seats, self.yields)?;
-        let hub = Arc::try_clone(&self.hub)?;
-        let standing = self.running[place].standing()?;
-        let line = self.running[place].line()?;
-        let caller = Caller::new(self.seats, line, hub, standing, rest);
+        let caller = self.running[place].caller(self.seats, self.shared.yields)?;
         self.seats += 1;
         Ok(Seat::new(self.alloc, caller))
     }
@@ -254,15 +247,13 @@ where
     {
         let Cluster {
             alloc,
-            gate: _gate,
-            hub,
-            yields: _yields,
+            shared,
             cluster,
             lone,
             running,
             seats: _seats,
         } = self;
-        let Some(ends) = end_all(rt, alloc, &hub, running) else {
+        let Some(ends) = end_all(rt, alloc, &shared.hub, running) else {
             return Err(CloseFault::Memory);
         };
         replay(

@@ -2,8 +2,7 @@
 ghost use Rattle.std.specs.Prelude.{◌≡◌};
 ghost use Rattle.node_threads.specs.Faults.{fault_by};
 
-use node_core::StepFault;
-use node_loop::TaskFault;
+use node_loop::{StepFault, TaskFault};
 use std::alloc::AllocError;
 use thiserror::Error;
 

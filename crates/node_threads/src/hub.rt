@@ -29,15 +29,27 @@ pub(crate) struct Hub {
     ghost all: { vec_len slots ≡ 72 },
 }
 
+impl Slot {
+    /// One without a reply.
+    fn new(alloc: Global) -> Result<Self, AllocError> {
+        let bell = Bell::new(alloc)?;
+        let reply = Mutex::new(None);
+        Ok(Slot { reply, bell })
+    }
+
+    /// Lays a reply down, and wakes the caller.
+    fn lay<R: Wait>(&self, rt: &R, reply: TaskReply) {
+        *self.reply.lock(rt) = Some(reply);
+        self.bell.ring();
+    }
+}
+
 impl Hub {
     /// Slots without a reply.
     pub(crate) fn new(alloc: Global) -> Result<Self, AllocError> {
         let mut slots = Vec::new(alloc);
         for _ in 0..SLOTS {
-            slots.push(Slot {
-                reply: Mutex::new(None),
-                bell: Bell::new(alloc)?,
-            })?;
+            slots.push(Slot::new(alloc)?)?;
         }
         Ok(Hub {
             closing: AtomicBool::new(false),
@@ -54,11 +66,9 @@ impl Hub {
 
     /// Lays a reply down for its caller, and wakes it. A reply that still lies there is one to a call that its caller has given up.
     pub(crate) fn lay<R: Wait>(&self, rt: &R, reply: TaskReply) {
-        let Some(slot) = self.slots.get(reply.ticket.seat as usize) else {
-            return;
-        };
-        *slot.reply.lock(rt) = Some(reply);
-        slot.bell.ring();
+        if let Some(slot) = self.slots.get(reply.ticket.seat as usize) {
+            slot.lay(rt, reply);
+        }
     }
 
     /// Takes the reply up that lies there for a caller, if one does.

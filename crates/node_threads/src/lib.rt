@@ -39,14 +39,16 @@ mod parcel;
 mod ruled_end;
 mod running;
 mod seat;
+mod shared;
 mod standing;
 
 pub use cluster::Cluster;
 pub use fault::SeatFault;
 pub use holder::HolderSeat;
 pub use line::Line;
-pub use node_log::Transcript;
-pub use node_loop::{Gate, OpenGate};
+pub use node_loop::{
+    Call, Gate, NameList, Nodes, OpenGate, Reply, Retries, StartFault, StepFault, Transcript, World,
+};
 pub use parcel::Parcel;
 pub use replay::{CloseFault, Closed};
 pub use ruled_end::{RuledEnd, Traffic};

@@ -8,14 +8,12 @@ use crate::bell::Rest;
 use crate::caller::Caller;
 use crate::fault::SeatFault;
 use crate::hub::Hub;
-use crate::line::Line;
 use crate::ruled_end::RuledEnd;
+use crate::shared::Shared;
 use crate::standing::Standing;
-use cluster_world::Event;
 use link::{Inbox, Post};
 use name_table::Names;
-use node_log::NodeEnd;
-use node_loop::{Gate, Item, NodeLoop};
+use node_loop::{Event, Gate, Item, NodeEnd, NodeLoop};
 use std::alloc::{AllocError, Global};
 use std::marker::Model;
 use std::snapshot::Snapshot;
@@ -41,7 +39,6 @@ pub(crate) struct Running<N: Names> {
     address: Address<Item>,
     /// Asks it in the name of the cluster.
     caller: Caller,
-    standing: Arc<Standing, Global>,
     handle: PromisedHandle<NodeEnd<N>, EndOf>,
 }
 
@@ -61,8 +58,7 @@ pub(crate) struct Work<G: Gate + Drop, N: Names, R: Wait + Drop> {
     pub(crate) node: NodeLoop<N>,
     pub(crate) end: RuledEnd<R, Item>,
     pub(crate) rest: Rest,
-    pub(crate) gate: Arc<G, Global>,
-    pub(crate) hub: Arc<Hub, Global>,
+    pub(crate) shared: Shared<G>,
     pub(crate) standing: Arc<Standing, Global>,
 }
 
@@ -135,17 +131,46 @@ fn run<G: Gate + Drop, N: Names<Memory = Global>, R: Wait + Clock + Drop>(
         mut node,
         mut end,
         mut rest,
-        gate,
-        hub,
+        shared,
         standing,
     } = work;
-    let ended_alone = turns(rt, &mut node, &mut end, &mut rest, &*gate, &hub, &standing);
+    let Shared { gate, hub, .. } = &shared;
+    let ended_alone = turns(rt, &mut node, &mut end, &mut rest, &**gate, hub, &standing);
     standing.end();
     hub.ring();
     node.into_end(ended_alone)
 }
 
+/// Starts the thread of this node. What it works with is the node's.
+fn spawn<G, N, R>(
+    rt: &R,
+    node: &NodeName,
+    work: Work<G, N, R>,
+) -> Result<PromisedHandle<NodeEnd<N>, EndOf>, AllocError>
+where
+    G: Gate + Drop + Send + Sync + 'static,
+    N: Names<Memory = Global> + Send + 'static,
+    R: Threads + Wait + Clock + Drop + Copy + Send + 'static,
+    requires { work.node.log.node ≡ node.now }
+    ensures { IfOk result (λ handle. handle.promise.0.value ≡ node.now) }
+{
+    let promise = EndOf(Snapshot::of(node));
+    let own = *rt;
+    let handle = thread::spawn_with(
+        rt,
+        promise,
+        move || -> NodeEnd<N>
+            requires { IsSend G.row × IsSend N.row × IsSend R.row × IsSync G.row }
+            ensures { end_of result ≡ work.node.log.node }
+        { run(&own, work) },
+    )?;
+    Ok(handle)
+}
+
 impl<N: Names<Memory = Global> + Send + 'static> Running<N> {
+    ghost use Rattle.std.specs.Prelude.{◌<◌};
+    ghost use Rattle.node_threads.specs.Callers.{name_of, slot_of};
+
     /// Starts the thread of a node. What it works with is the node's.
     pub(crate) fn start<G, R>(
         rt: &R,
@@ -159,21 +184,10 @@ impl<N: Names<Memory = Global> + Send + 'static> Running<N> {
         requires { work.node.log.node ≡ address.node }
         ensures { IfOk result (λ running. running ≡ address.node) }
     {
-        let standing = Arc::try_clone(&work.standing)?;
-        let promise = EndOf(Snapshot::of(address.node()));
-        let own = *rt;
-        let handle = thread::spawn_with(
-            rt,
-            promise,
-            move || -> NodeEnd<N>
-                requires { IsSend N.row × IsSend G.row × IsSend R.row × IsSync G.row }
-                ensures { end_of result ≡ work.node.log.node }
-            { run(&own, work) },
-        )?;
+        let handle = spawn(rt, address.node(), work)?;
         Ok(Running {
             address,
             caller,
-            standing,
             handle,
         })
     }
@@ -185,12 +199,14 @@ impl<N: Names<Memory = Global> + Send + 'static> Running<N> {
         self.address.node()
     }
 
-    /// A line more into its inbox.
-    pub(crate) fn line(&mut self) -> Result<Line<Item>, AllocError>
-        ensures line { IfOk result (λ line. line.receiver ≡ self.old) }
+    /// A caller of it, which finds its replies in this slot.
+    pub(crate) fn caller(&mut self, slot: u32, yields: u32) -> Result<Caller, AllocError>
+        requires { slot < 72 }
+        ensures slot { IfOk result (λ caller. slot_of caller ≡ slot) }
+        ensures asks { IfOk result (λ caller. name_of caller ≡ self.old) }
         ensures node { self.new ≡ self.old }
     {
-        self.address.line()
+        self.caller.another(&mut self.address, slot, yields)
     }
 
     /// Asks the node to leave, in the name of the cluster, and waits until it has.
@@ -199,11 +215,6 @@ impl<N: Names<Memory = Global> + Send + 'static> Running<N> {
     {
         self.caller.ask(rt, Event::Leave)?;
         Ok(())
-    }
-
-    /// How its thread stands.
-    pub(crate) fn standing(&self) -> Result<Arc<Standing, Global>, AllocError> {
-        Arc::try_clone(&self.standing)
     }
 
     /// Wakes its thread.

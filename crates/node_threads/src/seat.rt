@@ -1,16 +1,15 @@
 //! Seats: from each, one caller calls one node.
 ghost use Rattle.std.specs.Prelude.{◌≡◌, [], None, OnOk, OnErr, IfOk};
-ghost use Rattle.cluster_world.specs.declared.events.Event.TheVariants.{Exit, Leave};
-ghost use Rattle.cluster_world.specs.declared.events.WorldEvent.TheVariants.{At};
-ghost use Rattle.node_events.specs.declared.events.Call.TheVariants.{Whereis};
+ghost use Rattle.node_loop.specs.declared.Event.TheVariants.{Exit, Leave};
+ghost use Rattle.node_loop.specs.declared.WorldEvent.TheVariants.{At};
+ghost use Rattle.node_loop.specs.declared.Call.TheVariants.{Whereis};
 ghost use Rattle.node_threads.specs.Seats.{with_entry, Answered, owner_reply};
 ghost use Rattle.node_threads.specs.Callers.{name_of, slot_of};
 
 use crate::caller::Caller;
 use crate::calls::copied_call;
 use crate::fault::SeatFault;
-use cluster_world::{Answer, Call, Event, Reply, WorldEvent};
-use node_log::{SeatEntry, Transcript};
+use node_loop::{Answer, Call, Event, Reply, SeatEntry, Transcript, WorldEvent};
 use std::alloc::Global;
 use std::marker::Model;
 use std::sync::Wait;

@@ -18,35 +18,8 @@ returns-then-self-ge-MOST_SEATS-clause-refused g c = (
   omega (arith, ap (λ (k : Crewed). k.seats) c.self.view_is, c.self.invariant.2, c.if-self-ge-MOST_SEATS.true),
 )
 
-pub returns-in_err-rest-clause-refused : goal.returns-in_err-rest-clause-refused
-returns-in_err-rest-clause-refused g c =
-    let refused : IsSeatRefused Memory (set_of (nodes_in c.args.self.now) c.args.node.now) c.args.self.now.seats = (
-      crew_known c.args.node.now c.as_slice.result.now c.self.inside.running.items (record { cluster = c.self.inside.cluster.items; lone = c.self.inside.lone.items; seats = c.self.inside.seats }) c.args.self.now
-          c.place_of.result c.place_of.ensures c.as_slice.ensures.value c.self.invariant.1 c.self.view_is
-          c.in-Some.place c.in-Some.is,
-      omega (arith, ap (λ (k : Crewed). k.seats) c.self.view_is, c.if-self-ge-MOST_SEATS.false),
-    ) in search rules
-
-pub returns-in_err-hub-clause-refused : goal.returns-in_err-hub-clause-refused
-returns-in_err-hub-clause-refused g c =
-    let refused : IsSeatRefused Memory (set_of (nodes_in c.args.self.now) c.args.node.now) c.args.self.now.seats = (
-      crew_known c.args.node.now c.as_slice.result.now c.self.inside.running.items (record { cluster = c.self.inside.cluster.items; lone = c.self.inside.lone.items; seats = c.self.inside.seats }) c.args.self.now
-          c.place_of.result c.place_of.ensures c.as_slice.ensures.value c.self.invariant.1 c.self.view_is
-          c.in-Some.place c.in-Some.is,
-      omega (arith, ap (λ (k : Crewed). k.seats) c.self.view_is, c.if-self-ge-MOST_SEATS.false),
-    ) in search rules
-
-pub returns-in_err-standing-clause-refused : goal.returns-in_err-standing-clause-refused
-returns-in_err-standing-clause-refused g c =
-    let refused : IsSeatRefused Memory (set_of (nodes_in c.args.self.now) c.args.node.now) c.args.self.now.seats = (
-      crew_known c.args.node.now c.as_slice.result.now c.self.inside.running.items (record { cluster = c.self.inside.cluster.items; lone = c.self.inside.lone.items; seats = c.self.inside.seats }) c.args.self.now
-          c.place_of.result c.place_of.ensures c.as_slice.ensures.value c.self.invariant.1 c.self.view_is
-          c.in-Some.place c.in-Some.is,
-      omega (arith, ap (λ (k : Crewed). k.seats) c.self.view_is, c.if-self-ge-MOST_SEATS.false),
-    ) in search rules
-
-pub returns-in_err-line-clause-refused : goal.returns-in_err-line-clause-refused
-returns-in_err-line-clause-refused g c =
+pub returns-in_err-caller-clause-refused : goal.returns-in_err-caller-clause-refused
+returns-in_err-caller-clause-refused g c =
     let refused : IsSeatRefused Memory (set_of (nodes_in c.args.self.now) c.args.node.now) c.args.self.now.seats = (
       crew_known c.args.node.now c.as_slice.result.now c.self.inside.running.items (record { cluster = c.self.inside.cluster.items; lone = c.self.inside.lone.items; seats = c.self.inside.seats }) c.args.self.now
           c.place_of.result c.place_of.ensures c.as_slice.ensures.value c.self.invariant.1 c.self.view_is
@@ -56,8 +29,8 @@ returns-in_err-line-clause-refused g c =
 
 pub returns-clause-ok : goal.returns-clause-ok
 returns-clause-ok g c = sits c.new.result _ _ _ _ c.new.ensures
-    (c.new-caller.ensures.slot ∙ ap (λ (k : Crewed). k.seats) c.self.view_is)
-    (c.new-caller.ensures.node ∙ c.in_ok-line.ensures.line ∙ c.index_mut.ensures.value
+    (c.in_ok-caller.ensures.slot ∙ ap (λ (k : Crewed). k.seats) c.self.view_is)
+    (c.in_ok-caller.ensures.asks ∙ c.index_mut.ensures.value
     ∙ stands c.args.node.now c.as_slice.result.now c.self.inside.running.items (record { cluster = c.self.inside.cluster.items; lone = c.self.inside.lone.items; seats = c.self.inside.seats }) c.args.self.now
     c.place_of.result c.place_of.ensures c.as_slice.ensures.value c.self.invariant.1 c.self.view_is
     c.in-Some.place _ c.in-Some.is)

@@ -1,4 +1,4 @@
-use Rattle.node_threads.proofs.running.fn.Running.start.spawn_with+FnOnce.call_once.Goals as goal
+use Rattle.node_threads.proofs.running.fn.spawn.spawn_with+FnOnce.call_once.Goals as goal
 
 -- what the closure asks of its types is what the thread does
 pub spawn_with-requires : goal.spawn_with-requires

@@ -1,0 +1,32 @@
+//! What the threads of a cluster have in common.
+
+use crate::hub::Hub;
+use node_loop::Gate;
+use std::alloc::{AllocError, Global};
+use std::sync::Arc;
+
+/// The gate and the hub of a cluster, and how long its threads watch before they sleep.
+#[derive(Drop)]
+pub(crate) struct Shared<G: Gate + Drop> {
+    pub(crate) gate: Arc<G, Global>,
+    pub(crate) hub: Arc<Hub, Global>,
+    /// How often a thread, or a caller, yields at most before it sleeps.
+    pub(crate) yields: u32,
+}
+
+impl<G: Gate + Drop> Shared<G> {
+    /// This gate, and a hub without replies.
+    pub(crate) fn new(alloc: Global, gate: G, yields: u32) -> Result<Self, AllocError> {
+        let gate = Arc::new(alloc, gate)?;
+        let hub = Arc::new(alloc, Hub::new(alloc)?)?;
+        Ok(Shared { gate, hub, yields })
+    }
+
+    /// The same, for one thread more.
+    pub(crate) fn another(&self) -> Result<Self, AllocError> {
+        let gate = Arc::try_clone(&self.gate)?;
+        let hub = Arc::try_clone(&self.hub)?;
+        let yields = self.yields;
+        Ok(Shared { gate, hub, yields })
+    }
+}
