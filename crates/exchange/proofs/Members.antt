@@ -1,9 +1,10 @@
 -- A set with one node more.
-use Rattle.std.proofs.Common.{ℕ, Bool, true, false, ◌==◌, ◌≡◌, ◌≤◌, ◌+◌, Result, Ok, Err, List, [], ◌∷◌, length, refl, sym, ◌∙◌, inl, inr, arith, length-append}
+use Rattle.std.proofs.Common.{ℕ, Bool, false, ◌==◌, ◌≡◌, ◌≤◌, ◌+◌, Result, Ok, Err, List, [], ◌∷◌, length, refl, sym, ◌∙◌, inl, inr, arith, length-append}
 use Rattle.std.specs.Prelude.{nat_lt, not, ◌||◌, MatchResult, OnOk}
 use Rattle.std.specs.List.{filter}
 use Rattle.std.proofs.Math.Path.{fun_ext}
 use Rattle.std.proofs.lemmas.Bool.{cases_order, cases_eq, eq-eqb, ne_eqb, lt-ltb, le-ltb}
+use Rattle.std.proofs.Math.Bool.{or-false, or-true}
 use Rattle.registry_model.specs.Process.{with_node}
 use Rattle.term.specs.declared.faults.TextFault.{TextFault}
 use Rattle.term.specs.NodeSets.{HasNoRoom, set_of, most_nodes, with_node as and_node}
@@ -50,14 +51,6 @@ pub with_one_more : (r : Result Bool TextFault) (xs after : List ℕ) (c : ℕ) 
     → OnOk r ((d : ℕ) → set_of after d ≡ (set_of xs d || (c == d))) → set_of after ≡ with_node c (set_of xs)
 with_one_more (Err fault) xs after c fits h holds = absurd (no_room xs c fault h fits)
 with_one_more (Ok is_new) xs after c fits h holds = fun_ext (λ d. holds d ∙ (elim (cases_eq c d) [
-  | inl e ↦ rw (eq-eqb c d e, eq-eqb d c (sym e)) (either (set_of xs d))
-  | inr ne ↦ rw (ne_eqb c d ne, ne_eqb d c (λ e. ne (sym e))) (neither (set_of xs d))
+  | inl e ↦ rw (eq-eqb c d e, eq-eqb d c (sym e)) (or-true (set_of xs d))
+  | inr ne ↦ rw (ne_eqb c d ne, ne_eqb d c (λ e. ne (sym e))) (or-false (set_of xs d))
 ]))
-  where
-    either : (b : Bool) → (b || true) ≡ true
-    either true = refl
-    either false = refl
-
-    neither : (b : Bool) → (b || false) ≡ b
-    neither true = refl
-    neither false = refl

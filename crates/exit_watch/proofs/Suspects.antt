@@ -6,6 +6,7 @@ use Rattle.std.specs.BTreeMap.{is_at}
 use Rattle.std.specs.BTreeSet.{contains}
 use Rattle.std.proofs.lemmas.Bool.{eq-eqb, eqb-true, and_parts}
 use Rattle.std.proofs.lemmas.List.Folds.{list_any-append}
+use Rattle.std.proofs.Math.Bool.{or-true}
 use Rattle.registry_model.specs.Process.{Text, Process, is_process}
 use Rattle.registry_model.specs.Table.{Table, owns, put}
 use Rattle.protocol_model.specs.Watch.{Watch, is_dead, with_dead, owed}
@@ -84,13 +85,9 @@ module _ (h k : Held) (s : ℕ) (n : IsNoted h k s) where
 
     pub died-dead : AreDead h → AreDead k
     died-dead was q sus = dies q ∙ (elim (cases q sus) [
-      | inl i ↦ rw (eq-eqb s q (sym i)) (either (is_dead h.watch q))
+      | inl i ↦ rw (eq-eqb s q (sym i)) (or-true (is_dead h.watch q))
       | inr e ↦ rw (was q e) refl
     ])
-      where
-        either : (b : Bool) → (b || true) ≡ true
-        either true = refl
-        either false = refl
 
   -- the process is dead already
   module _ (w : k.watch ≡ h.watch) where

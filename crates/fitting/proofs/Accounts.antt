@@ -68,8 +68,7 @@ abbrev pub replies_to : (ℕ → ℕ → Gate) → ℕ → ℕ → Option Reply
 replies_to gate a m = reply_by (gate a m)
 
 -- the name and join calls that each node accepted are those that entries decided, then those still to be decided; and
--- all
--- that the entries say was answered, but for the answer that is owed
+-- all that the entries say was answered, but for the answer that is owed
 pub record Accounts (o : Opening) (w : World) (accepted : ℕ → List Numbered) (given : List Answer) : Type 0 where
   pub gate : ℕ → ℕ → Gate
   pub gates : Gates o w gate
@@ -91,9 +90,8 @@ owed-same a f g same (Current.Joining k m) = ap (answer_with a k) (same m)
 owed-same a f g same (Current.Writing (Op.Name k call) asked awaited reply) = refl
 owed-same a f g same _ = refl
 
--- what one turn does to the account of node b, whose registrar goes from c and the queue q to d and p: calls that
--- come, entries,
--- answers, and what is left
+-- what one turn does to the account of node b, whose registrar goes from c and the queue q to d and p: calls that come,
+-- entries, answers, and what is left
 pub record Settles (b : ℕ) (new : List Numbered) (es : List Entry) (given : List Answer) (f g : ℕ → Option Reply)
     (c : Current) (q : List Op) (d : Current) (p : List Op) : Type 0 where
   pub calls : (undecided f c ++ flat_map numbered_op q) ++ new

@@ -7,6 +7,7 @@ use Rattle.std.proofs.lemmas.List.Folds.{list_any-append}
 use Rattle.std.proofs.lemmas.List.Elements.{filter-append}
 use Rattle.std.proofs.lemmas.Grind.{flat_map-append}
 use Rattle.std.proofs.lemmas.Bool.{eq-eqb, ne_eqb, eqb-true}
+use Rattle.std.proofs.Math.Bool.{or-true}
 use Rattle.registry_model.specs.Process.{at}
 use Rattle.registry_model.specs.History.{Entry}
 use Rattle.protocol_model.specs.Node.{Node, Op, Current}
@@ -235,10 +236,6 @@ all_two P Q T f (x ∷ xs) p q = (f x p.0 q.0, all_two P Q T f xs p.1 q.1)
 abbrev pub is_answered : List Answer → ℕ → Bool
 is_answered xs n = list_any (λ s. s.number == n) xs
 
-or_true : (b : Bool) → (b || true) ≡ true
-or_true true = refl
-or_true false = refl
-
 -- each that passes a test has its number among those that do
 pub found : (test : Answer → Bool) (before xs : List Answer)
     → AllByRecursion (λ s. test s ≡ true → is_answered (filter test (before ++ xs)) s.number ≡ true) xs
@@ -255,7 +252,7 @@ found test before (x ∷ xs) = (
         ∙ ap (λ (b : Bool). is_answered (filter test before) x.number || b)
         (ap (λ (b : Bool). is_answered (if b then x ∷ filter test xs else filter test xs) x.number) e
         ∙ ap (λ (b : Bool). b || is_answered (filter test xs) x.number) (eq-eqb x.number x.number refl))
-        ∙ or_true (is_answered (filter test before) x.number)
+        ∙ or-true (is_answered (filter test before) x.number)
 
 -- an entry answers the call that it decides
 same_numbers : (a n : ℕ) (e : Entry) → is_answered (entered_at a e) n ≡ is_used (decided_at a e) n

@@ -1,6 +1,5 @@
 -- Answers to lock calls, to `spawn` and to look-ups have numbers that a step is allowed to use for them: those of the
--- lock calls
--- that are open, and zero.
+-- lock calls that are open, and zero.
 use Rattle.std.proofs.Common.{ℕ, Bool, true, false, ◌≡◌, ◌==◌, ◌+◌, Option, Some, None, List, [], ◌∷◌, refl, sym, ap, ◌∙◌, subst}
 use Rattle.std.specs.Prelude.{◌&&◌, not, if◌then◌else◌, fold, filter, nat_lt}
 use Rattle.std.specs.List.{AllByRecursion}

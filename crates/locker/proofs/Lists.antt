@@ -10,6 +10,7 @@ use Rattle.std.proofs.lemmas.List.{map-append, drop-set-lt, get_or-drop, get_or_
 use Rattle.std.proofs.lemmas.List.Elements.{filter_agree}
 use Rattle.std.proofs.lemmas.List.Folds.{list_any_at, list_any_none}
 use Rattle.std.proofs.lemmas.List.Kept.{AllPairs-from_increasing}
+use Rattle.std.proofs.Math.Bool.{and-false, and-true, or-false, or-true}
 use Rattle.registry_model.proofs.Updates.{by_test}
 use Rattle.term.specs.NodeSets.{set_of, without_node}
 
@@ -75,32 +76,16 @@ all_pass p [] a = refl
 all_pass p (x ∷ xs) a =
     rw (a 0 0 (omega arith)) (ap (λ (ys : List ℕ). x ∷ ys) (all_pass p xs (λ k d l. a (suc k) d (omega arith))))
 
-or_true : (b : Bool) → (b || true) ≡ true
-or_true true = refl
-or_true false = refl
-
-or_false : (b : Bool) → (b || false) ≡ b
-or_false true = refl
-or_false false = refl
-
-and_true : (b : Bool) → (b && true) ≡ b
-and_true true = refl
-and_true false = refl
-
-and_false : (b : Bool) → (b && false) ≡ false
-and_false true = refl
-and_false false = refl
-
 -- at first, all
 pub passing_or_from-zero : (p : ℕ → Bool) (xs : List ℕ) → xs ≡ passing_or_from p 0 xs
 passing_or_from-zero p xs = sym (all_pass (λ c. p c || set_of xs c) xs (λ k d l.
     ap (λ (b : Bool). p (get_or xs k d) || b) (list_any_at (λ m. m == get_or xs k d) xs k d l (eq-eqb _ _ refl))
-    ∙ or_true (p (get_or xs k d))))
+    ∙ or-true (p (get_or xs k d))))
 
 -- at last, those that pass
 pub passing_or_from-all : (p : ℕ → Bool) (i : ℕ) (xs : List ℕ) → length xs ≤ i → passing_or_from p i xs ≡ filter p xs
 passing_or_from-all p i xs past = filter_agree (λ c. p c || set_of (drop i xs) c) p
-    (λ c. ap (λ (ys : List ℕ). p c || set_of ys c) (drop_all i xs past) ∙ or_false (p c)) xs
+    (λ c. ap (λ (ys : List ℕ). p c || set_of ys c) (drop_all i xs past) ∙ or-false (p c)) xs
   where
     drop_all : (i : ℕ) (ys : List ℕ) → length ys ≤ i → drop i ys ≡ []
     drop_all i ys l = grind (arith, common_steps)
@@ -132,13 +117,13 @@ passing_or_from-left p i x xs rising inside is fails = rw add-one
     (λ c. ap (λ (ys : List ℕ). (p c || set_of ys c) && not (c == x)) (from_place i x xs inside is) ∙ each c) xs)
   where
     here : ((p x || ((x == x) || set_of (drop (suc i) xs) x)) && false) ≡ (p x || set_of (drop (suc i) xs) x)
-    here = and_false (p x || ((x == x) || set_of (drop (suc i) xs) x))
+    here = and-false (p x || ((x == x) || set_of (drop (suc i) xs) x))
         ∙ sym (ap (λ (b : Bool). b || set_of (drop (suc i) xs) x) fails
         ∙ ap (λ (c : ℕ). set_of (drop (suc i) xs) c) (sym is) ∙ not_behind xs i rising inside)
 
     there : (c : ℕ) → (c ≡ x → ⊥)
         → ((p c || ((x == c) || set_of (drop (suc i) xs) c)) && true) ≡ (p c || set_of (drop (suc i) xs) c)
-    there c ne = rw (ne_eqb x c (λ e. ne (sym e))) (and_true (p c || set_of (drop (suc i) xs) c))
+    there c ne = rw (ne_eqb x c (λ e. ne (sym e))) (and-true (p c || set_of (drop (suc i) xs) c))
 
     each : (c : ℕ) → ((p c || ((x == c) || set_of (drop (suc i) xs) c)) && not (c == x))
         ≡ (p c || set_of (drop (suc i) xs) c)

@@ -9,6 +9,3 @@ mod round;
 pub use ending::Ending;
 pub use laws::held_is_granted;
 pub use round::Round;
-
-#[cfg(test)]
-mod tests;

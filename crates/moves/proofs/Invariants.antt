@@ -1,6 +1,5 @@
 -- What the invariants of the protocol say to each other. Each family of invariants is proved in a crate of its own and
--- may use
--- of the others what stands here.
+-- may use of the others what stands here.
 use Rattle.std.proofs.Common.{ℕ, Bool, true, false, ◌≡◌, Option, Some, None, List, [], ◌∷◌}
 use Rattle.std.specs.Prelude.{not, ◌&&◌, ◌||◌, if◌then◌else◌}
 use Rattle.std.specs.List.{list_any}

@@ -1,6 +1,5 @@
 -- The single rules that steps are made of, with what was tested before each. An invariant that each of them keeps is
--- kept
--- by every event. A rule that reads a letter takes it off its link in the same move.
+-- kept by every event. A rule that reads a letter takes it off its link in the same move.
 use mathlib.Core.Logic.{◌⊎◌}
 use Rattle.std.proofs.Common.{ℕ, Bool, true, false, ◌==◌, ◌≡◌, ◌+◌, Option, Some, None, List, [], ◌∷◌, ◌++◌}
 use Rattle.std.specs.Prelude.{not, ◌&&◌, nat_lt, if◌then◌else◌, Contains, IsTrue}

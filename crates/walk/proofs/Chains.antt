@@ -84,8 +84,7 @@ module _ (o : Opening) (a : ℕ) where
 
 module _ (o : Opening) (a : ℕ) (K : Kind) where
   -- From world w a chain that begins with these rules has come as far as turn u, which stands behind world b: w, or w
-  -- without
-  -- the letter that was taken
+  -- without the letter that was taken
   pub record Chain (w : World) (first : List Rule) (b : World) (u : Turn) : Type 0 where
     pub rest : List Rule
     pub quiet : list_all is_quiet rest ≡ true

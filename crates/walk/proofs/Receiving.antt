@@ -23,8 +23,7 @@ use Rattle.walk.proofs.Starting.{start-chain}
 use Rattle.walk.proofs.Letters.{by_rule, hear_answer-chain, hear_lock-chain, owe_less-chain, await_less-chain, asked_to_admit-chain, refused_join-chain, admit-chain, welcome-chain}
 
 -- A node that is welcomed keeps its members. A rule by which a process dies sends to all members of now, and the model
--- to those
--- after the welcome
+-- to those after the welcome
 abbrev pub WelcomeWidens : Opening → World → Type 0
 WelcomeWidens o w =
     (f a k : ℕ) (members : Nodes) (pairs : Table) (told : Nodes) (kills : List Process) (rest : List Letter)

@@ -1,6 +1,5 @@
 -- What the opening has and every rule keeps holds after every list of events; and what every rule adds to the entries
--- and the
--- answers of its event.
+-- and the answers of its event.
 use Rattle.std.proofs.Common.{ℕ, true, ◌≡◌, Option, Some, None, List, [], ◌∷◌, ◌++◌, refl, sym, subst, ap, ◌∙◌}
 use Rattle.std.specs.Prelude.{is_none, if◌then◌else◌}
 use Rattle.std.specs.List.{list_all}
@@ -103,8 +102,7 @@ module _ (o : Opening) (F : World → Type 0) (wide : (w : World) → F w → Jo
   run_keeps opens es = (run_kept opens es).kept
 
   -- G: what is said of the accepted events so far and the world behind them. What every accepted event keeps of it
-  -- holds
-  -- after every list of events
+  -- holds after every list of events
   pub course_keeps : (G : List Played → World → Type 0)
       → ((ps : List Played) (w : World) (e : WorldEvent) → G ps w → Kept w → refusal o w e ≡ None → Walked o w e
       → G (ps ++ played o w e ∷ []) (accepted o w e))
