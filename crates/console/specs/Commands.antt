@@ -3,7 +3,7 @@ use Rattle.std.specs.Prelude.{ℕ, Bool, true, false, ◌≡◌, ◌≢◌, ◌|
 use Rattle.registry_model.specs.Call.{Register, ReRegister, Unregister, RegisteredNames, Whereis as LooksUp}
 use Rattle.protocol_model.specs.Event.{Event, Calling, Exiting, Leave as Leaving, Spawn, OnName, LookUp, JoinBy}
 use Rattle.protocol_model.specs.Script.{Line}
-use Rattle.node_events.specs.Seen.{call_of}
+use Rattle.command_lines.specs.NodeEventsSeen.{call_of}
 use Rattle.command_lines.specs.declared.faults.LineFault.{LineFault}
 use Rattle.command_lines.specs.declared.faults.LineFault.TheVariants.{BadLine}
 use Rattle.command_lines.specs.Grammar.{Node, Name, Pid, Row, row, row_of, at_node, call_at, AsksBy, WordsAsk}

@@ -1,3 +1,4 @@
+pub use Rattle.command_lines.specs.Printing
 pub mod Faults
 pub mod Commands
 pub mod Greetings

@@ -1,9 +1,9 @@
 -- What an answer is printed as.
 use Rattle.std.specs.Prelude.{ℕ, codes, List, Option, Some, None, Result, Ok, Err}
 use Rattle.protocol_model.specs.Event.{Refusal}
-use Rattle.node_events.specs.Seen.{reply_of, fault_of}
-use Rattle.node_events.specs.declared.events.Reply.{Reply}
-use Rattle.node_events.specs.declared.events.StepFault.{StepFault}
+use Rattle.command_lines.specs.NodeEventsSeen.{reply_of, fault_of}
+use Rattle.command_lines.specs.declared.Reply.{Reply}
+use Rattle.command_lines.specs.declared.StepFault.{StepFault}
 use Rattle.node_threads.specs.declared.fault.SeatFault.{SeatFault}
 use Rattle.node_threads.specs.declared.fault.SeatFault.TheVariants.{NoSuchNode, NodeLeft, Closed, SeatsSpent, Step, Memory}
 use Rattle.command_lines.specs.Printing.{ended, error_line, reply_text, refusal_word}

@@ -1,10 +1,10 @@
 -- A seat that answers what lines ask.
 use Rattle.std.specs.Prelude.{◌≡◌, None, Result, Ok, Err}
-use Rattle.node_events.specs.declared.events.Call.TheVariants as call
-use Rattle.node_events.specs.declared.events.Reply.{Reply}
-use Rattle.node_events.specs.declared.events.Reply.TheVariants as reply
-use Rattle.node_log.specs.declared.transcript.Transcript.{Transcript}
-use Rattle.cluster_world.specs.declared.events.Event.TheVariants as event
+use Rattle.command_lines.specs.declared.Call.TheVariants as call
+use Rattle.command_lines.specs.declared.Reply.{Reply}
+use Rattle.command_lines.specs.declared.Reply.TheVariants as reply
+use Rattle.node_threads.specs.declared.Transcript.{Transcript}
+use Rattle.command_lines.specs.declared.Event.TheVariants as event
 use Rattle.node_threads.specs.declared.fault.SeatFault.{SeatFault}
 use Rattle.node_threads.specs.Seats.{Sitting, Answered, with_entry}
 use Rattle.console.specs.declared.orders.Order.{Order}

@@ -13,10 +13,7 @@ use crate::orders::Command;
 use crate::outcomes::outcome_line;
 use std::alloc::{AllocError, Global};
 use std::io::{BufReader, Read, Write};
-use text_lines::{Line, WriteFault, read_line, write_text};
-
-/// The most lines of a console.
-pub(crate) const MOST_LINES: u32 = 1_000_000;
+use text_lines::{Line, MOST_LINES, WriteFault, read_line, write_text};
 
 /// Hands on what was written.
 fn hand_on<W: Write>(writer: &mut W) -> Result<(), WriteFault>

@@ -1,11 +1,11 @@
 //! Who answers what lines ask.
 ghost use Rattle.std.specs.Prelude.{Result};
-ghost use Rattle.node_events.specs.declared.events.Reply.{Reply as AnyReply};
+ghost use Rattle.command_lines.specs.declared.Reply.{Reply as AnyReply};
 ghost use Rattle.node_threads.specs.declared.fault.SeatFault.{SeatFault as AnyFault};
 ghost use Rattle.console.specs.declared.orders.Order.{Order as AnyOrder};
 
 use crate::orders::Order;
-use cluster_world::Reply;
+use command_lines::Reply;
 use node_threads::SeatFault;
 use term::NodeName;
 

@@ -7,8 +7,7 @@ ghost use Rattle.command_lines.specs.Grammar.{WordsAsk};
 ghost use Rattle.console.specs.Commands.{LineSays, WordsAskNode, AsksOwn, AsksAsScript, OwnAsk, begins_lock, is_lock_word as any_lock_word, quit};
 
 use crate::orders::{Command, Order};
-use cluster_world::{Call, Event, WorldEvent};
-use command_lines::{LineFault, Task, ran_out, read_task, text_of};
+use command_lines::{Call, Event, LineFault, Task, WorldEvent, ran_out, read_task, text_of};
 use std::alloc::{AllocError, Global};
 use term::{parse_name, parse_node, parse_pid};
 use text_lines::{Line, first_words};

@@ -7,7 +7,7 @@ ghost use Rattle.command_lines.specs.Printing.{error_line};
 ghost use Rattle.console.specs.Greetings.{WordsAttach, LineAttaches, Greets, GreetStops, greeting_text};
 ghost use Rattle.console.specs.Outcomes.{seat_word};
 
-use crate::answering::{MOST_LINES, say};
+use crate::answering::say;
 use crate::faults::{ConsoleFault, GreetFault};
 use crate::outcomes::seat_line;
 use command_lines::text_of;
@@ -15,7 +15,7 @@ use node_threads::SeatFault;
 use std::alloc::{AllocError, Global};
 use std::io::{BufReader, Read, Write};
 use term::{NodeName, NodeSet, parse_node};
-use text_lines::{Line, WriteFault, first_words, read_line};
+use text_lines::{Line, MOST_LINES, WriteFault, first_words, read_line};
 
 /// To which of these nodes words attach a console.
 fn read_words(words: &[&str], nodes: &NodeSet) -> Result<NodeName, GreetFault>

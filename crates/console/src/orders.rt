@@ -1,5 +1,5 @@
 //! What the lines of a console say.
-use cluster_world::Call;
+use command_lines::Call;
 use term::{Name, Pid};
 
 /// What a line asks of the console's node.

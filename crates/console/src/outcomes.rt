@@ -3,9 +3,7 @@ ghost use Rattle.std.specs.Prelude.{◌≡◌, IfOk, string_bytes};
 ghost use Rattle.command_lines.specs.Printing.{error_line};
 ghost use Rattle.console.specs.Outcomes.{outcome_text, step_word, seat_word};
 
-use cluster_world::{Answer, Reply};
-use command_lines::answer_line;
-use node_core::StepFault;
+use command_lines::{Answer, Reply, StepFault, answer_line};
 use node_threads::SeatFault;
 use std::alloc::{AllocError, Global};
 use term::NodeName;

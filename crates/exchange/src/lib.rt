@@ -7,6 +7,3 @@ mod settled;
 
 pub use bodies::{Admission, Welcome, admit_of, welcome_of};
 pub use settled::{Settled, settle};
-
-#[cfg(test)]
-mod tests;

@@ -28,40 +28,26 @@ either (inl a) f g = f a
 either (inr b) f g = g b
 
 pub loop-line-init : goal.loop-line-init
-loop-line-init g c =
-    let input = reader_remaining g.R.Read.remaining c.args.reader.now in
-    let old = g.W.Write.contents c.args.writer.now in
-    PlaysLines-start input c.args.left.now c.args.world.now old
+loop-line-init g c = PlaysLines-start _ _ _ _
 
 pub returns-in_err-fine : goal.returns-in_err-fine
 returns-in_err-fine g c =
     let input = reader_remaining g.R.Read.remaining c.args.reader.now in
+    let old = g.W.Write.contents c.args.writer.now in
+    let new = g.W.Write.contents c.play_line.new.writer in
     let mid = reader_remaining g.R.Read.remaining c.loop-line.reader in
     let rest = reader_remaining g.R.Read.remaining c.next_line.new.reader in
-    let old = g.W.Write.contents c.args.writer.now in
-    let written = g.W.Write.contents c.loop-line.writer in
-    let same = g.W.Write.contents c.next_line.new.writer in
-    let new = g.W.Write.contents c.play_line.new.writer in
-    let P = PlaysLines-kept input mid c.args.left.now c.loop-line.left
-    c.args.world.now c.loop-line.world old written same c.loop-line.is_fine
-    c.loop-line.invariant c.in_ok-line.ensures.kept in
+    let P = PlaysLines-kept _ _ _ _ _ _ _ _ _ _ c.loop-line.invariant c.in_ok-line.ensures.kept in
     let p = err_from_is_err_and c.from_residual-in_err-fine.result c.from_residual-in_err-fine.ensures.1 in
     let t = subst (λ (o : Option Line). ReadsOn mid rest c.loop-line.left c.next_line.new.left o)
     c.in-Some.is c.in_ok-line.ensures.read in
     PlaysAll-err [] _ _ _ _ _ _ _ _ c.from_residual-in_err-fine.result p.0 p.1
     (either (c.in_err-fine.ensures t.1 t.2)
     (λ q. StopsPlaying-writing [] _ rest _ _ _ _ c.in_err-fine.field-0.0 p.0 p.2
-    (PlaysSome-next input mid c.args.left.now c.loop-line.left c.args.world.now c.loop-line.world
-    old same c.loop-line.is_fine P
-    rest t.0 t.1 q.0 t.3 t.4 q.1
-    new q.2) refl)
+    (PlaysSome-next _ _ _ _ _ _ _ _ _ P rest t.0 t.1 q.0 t.3 t.4 q.1 _ q.2) refl)
     (λ q. subst (λ (f : ScriptFault). StopsPlaying [] input rest c.args.left.now c.args.world.now old new f)
     (sym (p.2 ∙ ap stop_of (memory c.in_err-fine.field-0.0 q.0)))
-    (StopsPlaying-next input mid c.args.left.now c.loop-line.left
-    c.args.world.now c.loop-line.world old new c.loop-line.is_fine
-    (PlaysLines-kept input mid c.args.left.now c.loop-line.left
-    c.args.world.now c.loop-line.world old same new c.loop-line.is_fine P q.1)
-    rest t.6)))
+    (StopsPlaying-next _ _ _ _ _ _ _ _ _ (PlaysLines-kept _ _ _ _ _ _ _ _ _ _ P q.1) rest t.6)))
   where
     memory : (f : WriteFault) → ◌≡◌ {A = Result Bool WriteFault} (Err f) (Err Memory) → f ≡ Memory
     memory f e = cc
@@ -77,63 +63,39 @@ loop-line-smaller g c =
 pub loop-line-preserved : goal.loop-line-preserved
 loop-line-preserved g c =
     let input = reader_remaining g.R.Read.remaining c.args.reader.now in
+    let old = g.W.Write.contents c.args.writer.now in
+    let new = g.W.Write.contents c.play_line.new.writer in
     let mid = reader_remaining g.R.Read.remaining c.loop-line.reader in
     let rest = reader_remaining g.R.Read.remaining c.next_line.new.reader in
-    let old = g.W.Write.contents c.args.writer.now in
-    let written = g.W.Write.contents c.loop-line.writer in
-    let same = g.W.Write.contents c.next_line.new.writer in
-    let new = g.W.Write.contents c.play_line.new.writer in
-    let P = PlaysLines-kept input mid c.args.left.now c.loop-line.left
-    c.args.world.now c.loop-line.world old written same c.loop-line.is_fine
-    c.loop-line.invariant c.in_ok-line.ensures.kept in
+    let P = PlaysLines-kept _ _ _ _ _ _ _ _ _ _ c.loop-line.invariant c.in_ok-line.ensures.kept in
     let t = subst (λ (o : Option Line). ReadsOn mid rest c.loop-line.left c.next_line.new.left o)
     c.in-Some.is c.in_ok-line.ensures.read in
-    let n = either (c.in_ok-fine.ensures t.1 t.2)
-    (λ q. PlaysLines-next input mid c.args.left.now c.loop-line.left c.args.world.now c.loop-line.world
-    old same c.loop-line.is_fine P
-    rest t.0 t.1 q.0 t.3 t.4 q.1
-    c.next_line.new.left c.play_line.new.world new c.in_ok-fine.fine t.5 q.2)
-    (λ q. absurd (never c.in_ok-fine.fine q.0)) in
     subst (λ (b : Bool). PlaysLines [] input rest c.args.left.now c.next_line.new.left c.args.world.now
-    c.play_line.new.world old new b) (sym c.both-is_fine.ensures) n
+    c.play_line.new.world old new b) (sym c.both-is_fine.ensures)
+    (either (c.in_ok-fine.ensures t.1 t.2)
+    (λ q. PlaysLines-next _ _ _ _ _ _ _ _ _ P rest t.0 t.1 q.0 t.3 t.4 q.1 _ _ _ c.in_ok-fine.fine t.5 q.2)
+    (λ q. absurd (never c.in_ok-fine.fine q.0)))
   where
     never : (fine : Bool) → ◌≡◌ {A = Result Bool WriteFault} (Ok fine) (Err Memory) → ⊥
     never fine e = cc
 
 pub returns : goal.returns
 returns g c =
-    let input = reader_remaining g.R.Read.remaining c.args.reader.now in
     let mid = reader_remaining g.R.Read.remaining c.loop-line.reader in
     let rest = reader_remaining g.R.Read.remaining c.next_line.new.reader in
-    let old = g.W.Write.contents c.args.writer.now in
-    let written = g.W.Write.contents c.loop-line.writer in
-    let same = g.W.Write.contents c.next_line.new.writer in
-    let P = PlaysLines-kept input mid c.args.left.now c.loop-line.left
-    c.args.world.now c.loop-line.world old written same c.loop-line.is_fine
-    c.loop-line.invariant c.in_ok-line.ensures.kept in
+    let P = PlaysLines-kept _ _ _ _ _ _ _ _ _ _ c.loop-line.invariant c.in_ok-line.ensures.kept in
     let t = subst (λ (o : Option Line). ReadsOn mid rest c.loop-line.left c.next_line.new.left o)
-    c.in_default.is c.in_ok-line.ensures.read in (
-      PlaysLines-blank input mid rest c.args.left.now c.loop-line.left
-          c.next_line.new.left c.args.world.now c.loop-line.world old same c.loop-line.is_fine
-          P t.0 t.1 t.2 t.4,
-      t.3,
-    )
+    c.in_default.is c.in_ok-line.ensures.read in
+    (PlaysLines-blank _ _ rest _ _ _ _ _ _ _ _ P t.0 t.1 t.2 t.4, t.3)
 
 pub returns-in_err-line : goal.returns-in_err-line
 returns-in_err-line g c =
     let input = reader_remaining g.R.Read.remaining c.args.reader.now in
-    let mid = reader_remaining g.R.Read.remaining c.loop-line.reader in
-    let rest = reader_remaining g.R.Read.remaining c.next_line.new.reader in
     let old = g.W.Write.contents c.args.writer.now in
-    let written = g.W.Write.contents c.loop-line.writer in
     let same = g.W.Write.contents c.next_line.new.writer in
-    let P = PlaysLines-kept input mid c.args.left.now c.loop-line.left
-    c.args.world.now c.loop-line.world old written same c.loop-line.is_fine
-    c.loop-line.invariant c.in_err-line.ensures.kept in
+    let rest = reader_remaining g.R.Read.remaining c.next_line.new.reader in
+    let P = PlaysLines-kept _ _ _ _ _ _ _ _ _ _ c.loop-line.invariant c.in_err-line.ensures.kept in
     let p = err_from_is_err_and c.from_residual.result c.from_residual.ensures.1 in
-    let s = StopsPlaying-reading input mid c.args.left.now c.loop-line.left c.args.world.now
-    c.loop-line.world old same c.loop-line.is_fine P
-    rest c.in_err-line.field-0.0 c.in_err-line.ensures.read in
     PlaysAll-err [] _ _ _ _ _ _ _ _ c.from_residual.result p.0 p.1
-    (subst (λ (f : ScriptFault). StopsPlaying [] input rest c.args.left.now c.args.world.now old
-    same f) (sym p.2) s)
+    (subst (λ (f : ScriptFault). StopsPlaying [] input rest c.args.left.now c.args.world.now old same f) (sym p.2)
+    (StopsPlaying-reading _ _ _ _ _ _ _ _ _ P rest c.in_err-line.field-0.0 c.in_err-line.ensures.read))
