@@ -1,6 +1,6 @@
 -- What a console leaves behind that was served at a new seat.
 use Rattle.std.proofs.Common.{ℕ, Bool, List, [], ◌≡◌, false, refl, sym, subst, Option, Result, Ok, Err, MatchResult, inl, inr}
-use Rattle.node_log.specs.declared.transcript.Transcript.{Transcript}
+use Rattle.node_threads.specs.declared.Transcript.{Transcript}
 use Rattle.node_threads.specs.Seats.{Sitting}
 use Rattle.console.specs.Consoles.{AnswersAll, Serves, Stops}
 use Rattle.console.specs.Seats.{SeatAnswers, IsTranscript}

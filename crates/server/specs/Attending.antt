@@ -1,9 +1,9 @@
 -- One console, from its greeting to its end.
 use Rattle.std.specs.Prelude.{ℕ, ◌≡◌, ◌⊎◌, List, [], Option, Some, None}
-use Rattle.node_log.specs.declared.transcript.Transcript.{Transcript}
+use Rattle.node_threads.specs.declared.Transcript.{Transcript}
 use Rattle.node_threads.specs.Seats.{Sitting}
 use Rattle.node_threads.specs.declared.fault.SeatFault.{SeatFault}
-use Rattle.command_lines.specs.Printing.{error_line}
+use Rattle.console.specs.Printing.{error_line}
 use Rattle.text_lines.specs.Writing.{AppendsPart}
 use Rattle.console.specs.Consoles.{Serves, Stops}
 use Rattle.console.specs.Greetings.{Greets, GreetStops}

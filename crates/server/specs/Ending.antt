@@ -2,10 +2,10 @@
 use Rattle.std.specs.Prelude.{ℕ, List, ◌∷◌, ◌++◌, codes, Result, Ok, Err}
 use Rattle.std.specs.Fmt.{decimal}
 use Rattle.term.specs.Spelling.{bytes_of}
-use Rattle.command_lines.specs.Printing.{ended, error_line}
-use Rattle.replay.specs.declared.closed.Closed.{Closed}
-use Rattle.replay.specs.declared.faults.CloseFault.{CloseFault}
-use Rattle.replay.specs.declared.faults.CloseFault.TheVariants.{Torn, LeftInHold, Stranger, Memory}
+use Rattle.console.specs.Printing.{ended, error_line}
+use Rattle.node_threads.specs.declared.Closed.{Closed}
+use Rattle.node_threads.specs.declared.CloseFault.{CloseFault}
+use Rattle.node_threads.specs.declared.CloseFault.TheVariants.{Torn, LeftInHold, Stranger, Memory}
 
 -- the words for which a run isn't one of the world's
 abbrev pub fault_text : CloseFault → List ℕ

@@ -1,6 +1,6 @@
 -- What a console leaves behind.
 use Rattle.std.specs.Prelude.{ℕ, Bool, ◌≡◌, List, []}
-use Rattle.node_log.specs.declared.transcript.Transcript.{Transcript}
+use Rattle.node_threads.specs.declared.Transcript.{Transcript}
 use Rattle.node_threads.specs.Seats.{Sitting}
 use Rattle.console.specs.Consoles.{AnswersAll}
 use Rattle.console.specs.Seats.{SeatAnswers, IsTranscript}

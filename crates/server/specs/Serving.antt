@@ -3,9 +3,9 @@ use Rattle.std.specs.Prelude.{ℕ, Bool, ◌≡◌, is_ok, All, List, Option, Re
 use Rattle.std.specs.Global.{Global}
 use Rattle.std.specs.Io.KnownBytes.{Appends, Keeps}
 use Rattle.registry_model.specs.Table.{Table}
-use Rattle.node_log.specs.declared.transcript.Transcript.{Transcript}
-use Rattle.replay.specs.declared.closed.Closed.{Closed}
-use Rattle.replay.specs.declared.faults.CloseFault.{CloseFault}
+use Rattle.node_threads.specs.declared.Transcript.{Transcript}
+use Rattle.node_threads.specs.declared.Closed.{Closed}
+use Rattle.node_threads.specs.declared.CloseFault.{CloseFault}
 use Rattle.node_threads.specs.Closing.{CloseIs}
 use Rattle.text_lines.specs.Writing.{AppendsPart}
 use Rattle.server.specs.declared.faults.ServeFault.{ServeFault}

@@ -4,8 +4,7 @@ ghost use Rattle.node_threads.specs.Clusters.{nodes_in};
 
 use crossbeam_channel::{Receiver, Sender, unbounded};
 use name_table::Names;
-use node_loop::Gate;
-use node_threads::{Cluster, Seat, SeatFault};
+use node_threads::{Cluster, Gate, Seat, SeatFault};
 use std::alloc::{AllocError, Global};
 use std::sync::Wait;
 use term::NodeName;

@@ -1,7 +1,7 @@
 //! What a console leaves behind.
 ghost use Rattle.server.specs.Served.{IsServed};
 
-use node_log::Transcript;
+use node_threads::Transcript;
 use std::alloc::{AllocError, Global};
 
 /// The transcript of a console's seat.

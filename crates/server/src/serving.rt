@@ -1,6 +1,6 @@
 //! Serving a cluster, from its start to the line that tells how it closed.
 ghost use Rattle.std.specs.Prelude.{◌≡◌, None, All, IfOk};
-ghost use Rattle.cluster_world.specs.Starting.{start_refused};
+ghost use Rattle.node_threads.specs.Starting.{start_refused};
 ghost use Rattle.server.specs.Serving.{ServesCluster};
 ghost use Rattle.server.specs.Served.{IsServed};
 
@@ -10,9 +10,7 @@ use crate::faults::{ServeFault, TakeFault};
 use crate::served::Served;
 use crate::taking::Door;
 use name_table::IndexTable;
-use node_log::Transcript;
-use node_loop::OpenGate;
-use node_threads::Cluster;
+use node_threads::{Cluster, OpenGate, Transcript};
 use std::alloc::{AllocError, Global};
 use std::io::Write;
 use std::net::TcpListener;
