@@ -10,6 +10,3 @@ mod task;
 pub use faults::ArgFault;
 pub use reading::read_args;
 pub use task::{ServeOptions, Task};
-
-#[cfg(test)]
-mod tests;

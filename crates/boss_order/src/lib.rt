@@ -4,6 +4,3 @@
 mod order;
 
 pub use order::{boss, common, rest};
-
-#[cfg(test)]
-mod tests;

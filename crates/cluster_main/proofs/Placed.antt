@@ -14,8 +14,8 @@ use Rattle.term.proofs.NodeSets.{FitsAt, rises, set_of-fits}
 use Rattle.arguments.specs.Nodes.{PlacesNodes, SpellsLone, shares}
 use Rattle.arguments.specs.Reading.{Tells, Values}
 use Rattle.arguments.specs.declared.task.ServeOptions.{ServeOptions}
-use Rattle.cluster_world.specs.Starting.{repeats, start_refused}
-use Rattle.cluster_world.specs.declared.events.StartFault.{StartFault}
+use Rattle.server.specs.Starting.{repeats, start_refused}
+use Rattle.server.specs.declared.StartFault.{StartFault}
 use Rattle.cluster_main.specs.Serving.{IsPlaced}
 
 -- the first of rising nodes isn't among the others

@@ -4,7 +4,7 @@ use Rattle.std.specs.Io.KnownBytes.{Appends}
 use Rattle.std.proofs.KnownBytes.{Appends-trans}
 use Rattle.text_lines.specs.Writing.{AppendsPart, Writes}
 use Rattle.text_lines.proofs.Written.{AppendsPart-behind, AppendsPart-more, Writes-behind}
-use Rattle.command_lines.specs.Printing.{ended}
+use Rattle.server.specs.Printing.{ended}
 
 -- a part of the first text is a part of the line
 pub part-first : (a b : Option (List ℕ)) (first second : List ℕ) → AppendsPart a b first

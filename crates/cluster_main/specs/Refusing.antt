@@ -8,7 +8,7 @@ use Rattle.clap.specs.declared.error.kind.ErrorKind.TheVariants as kind
 use Rattle.arguments.specs.Faults.{word_of}
 use Rattle.arguments.specs.declared.faults.ArgFault.{ArgFault}
 use Rattle.arguments.specs.declared.faults.ArgFault.TheVariants.{Words}
-use Rattle.command_lines.specs.Printing.{error_line}
+use Rattle.server.specs.Printing.{error_line}
 use Rattle.text_lines.specs.Writing.{AppendsPart}
 
 -- the status for words that clap answers itself: 0 for help or the version, 2 for wrong ones, 1 for want of memory

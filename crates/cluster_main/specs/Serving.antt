@@ -2,8 +2,8 @@
 use Rattle.std.specs.Prelude.{ℕ, ◌≡◌, true, codes, string_bytes, List, ◌++◌, Option, None, Ok}
 use Rattle.std.specs.Io.KnownBytes.{Appends, Keeps}
 use Rattle.arguments.specs.declared.task.ServeOptions.{ServeOptions}
-use Rattle.cluster_world.specs.Starting.{start_refused}
-use Rattle.command_lines.specs.Printing.{ended}
+use Rattle.server.specs.Starting.{start_refused}
+use Rattle.server.specs.Printing.{ended}
 use Rattle.text_lines.specs.Writing.{AppendsPart}
 use Rattle.server.specs.Serving.{ServesCluster}
 use Rattle.cluster_main.specs.declared.serving.Served.{Served}

@@ -2,7 +2,7 @@
 ghost use Rattle.std.specs.Prelude.{◌++◌};
 ghost use Rattle.std.specs.Io.KnownBytes.{Keeps};
 ghost use Rattle.text_lines.specs.Writing.{Writes};
-ghost use Rattle.command_lines.specs.Printing.{ended};
+ghost use Rattle.server.specs.Printing.{ended};
 
 use std::io::Write;
 use text_lines::{WriteFault, write_text};

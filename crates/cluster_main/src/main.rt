@@ -44,6 +44,3 @@ where
 fn main(rt: HostRuntime) -> ExitCode {
     ExitCode::from(run(&rt, &mut rt.stderr()).unwrap_or(1))
 }
-
-#[cfg(test)]
-mod tests;

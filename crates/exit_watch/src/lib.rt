@@ -10,6 +10,3 @@ mod watch;
 pub use faults::WatchFault;
 pub use laws::only_puts_are_noted;
 pub use watch::Watch;
-
-#[cfg(test)]
-mod tests;

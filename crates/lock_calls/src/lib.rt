@@ -9,6 +9,3 @@ mod kept;
 
 pub use call::{CallPhase, LockCall};
 pub use calls::LockCalls;
-
-#[cfg(test)]
-mod tests;

@@ -12,8 +12,3 @@ pub use change::{Change, Pair};
 pub use index_table::IndexTable;
 pub use list_table::ListTable;
 pub use names::Names;
-
-#[cfg(test)]
-mod index_tests;
-#[cfg(test)]
-mod tests;

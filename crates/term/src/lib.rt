@@ -26,8 +26,3 @@ pub use node_set::{MOST_NODES, NodeSet, parse_nodes, print_nodes};
 pub use pid::{Pid, parse_pid, print_pid};
 pub use requester::{Requester, parse_requester, print_requester};
 pub use resource::{Resource, parse_resource, print_resource};
-
-#[cfg(test)]
-mod lock_id_tests;
-#[cfg(test)]
-mod tests;

@@ -18,8 +18,3 @@ pub use reply::LockReply;
 pub use seat::LockSeat;
 pub use seat_laws::{a_deletion_undoes_one_grant, deletions_are_counted, grants_are_counted};
 pub use transact::{Outcome, TransFault, trans};
-
-#[cfg(test)]
-mod seat_tests;
-#[cfg(test)]
-mod tests;

@@ -5,6 +5,3 @@ mod slot;
 mod tray;
 
 pub use tray::Tray;
-
-#[cfg(test)]
-mod tests;
