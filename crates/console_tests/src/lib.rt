@@ -1,4 +1,4 @@
-//! Tests of consoles: over memory with an attendant that is made up, and at the seats of running clusters.
+//! Tests of consoles: what only a call in code can show. What lines are answered is shown by tests/consoles, on the built program.
 #![tactic(auto)]
 
 #[cfg(test)]

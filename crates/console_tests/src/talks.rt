@@ -1,46 +1,35 @@
 //! Consoles, and what they write for what they read.
-use cluster_world::Reply;
 use console::{Attendant, ConsoleFault, Order, answer_lines};
-use node_threads::SeatFault;
+use node_threads::{Reply, SeatFault};
 use std::alloc::Global;
-use std::io::{BufReader, Cursor, Read, Write};
-use std::test::Fail;
-use term::{NodeName, parse_node, parse_pid};
+use std::io::{BufReader, Read, Write};
+use term::{NodeName, Pid, TextFault, parse_node, parse_pid};
 
 mod faults;
 mod greetings;
-mod orders;
 mod refusals;
 mod seats;
 mod streams;
 
-/// A fault that says this, unless it holds.
-pub(crate) fn expect(holds: bool, what: &'static str) -> Result<(), Fail> {
-    if holds { Ok(()) } else { Err(Fail::from(what)) }
-}
-
-/// An attendant that has its replies ready, and keeps what it was asked.
+/// An attendant at the node a that answers with the process a.1, and counts what it was asked.
 #[derive(Drop)]
 pub(crate) struct Clerk {
     node: NodeName,
-    /// The last one is given first. Where none is left it answers with the process a.1.
-    replies: Vec<Result<Reply, SeatFault>>,
-    asked: Vec<Order>,
+    process: Pid,
+    /// What it answers once, before that.
+    fault: Option<SeatFault>,
+    asked: usize,
 }
 
 impl Clerk {
-    /// An attendant at the node a.
-    pub(crate) fn new(alloc: Global, replies: Vec<Result<Reply, SeatFault>>) -> Result<Self, Fail> {
+    /// An attendant that refuses what it is asked first, where there is a fault.
+    pub(crate) fn new(fault: Option<SeatFault>) -> Result<Self, TextFault> {
         Ok(Clerk {
             node: parse_node("a")?,
-            replies,
-            asked: Vec::new(alloc),
+            process: parse_pid("a.1")?,
+            fault,
+            asked: 0,
         })
-    }
-
-    /// What it was asked, in this order.
-    pub(crate) fn asked(&self) -> &[Order] {
-        self.asked.as_slice()
     }
 }
 
@@ -57,39 +46,24 @@ impl Attendant for Clerk {
         &self.node
     }
 
-    fn ask(&mut self, order: Order) -> Result<Reply, SeatFault> {
-        if self.asked.push(order).is_err() {
-            return Err(SeatFault::Memory);
-        }
-        if let Some(reply) = self.replies.pop() {
-            return reply;
-        }
-        match parse_pid("a.1") {
-            Ok(process) => Ok(Reply::Pid(process)),
-            Err(_) => Err(SeatFault::Closed),
+    fn ask(&mut self, _order: Order) -> Result<Reply, SeatFault> {
+        self.asked = self.asked.saturating_add(1);
+        match self.fault.take() {
+            Some(fault) => Err(fault),
+            None => Ok(Reply::Pid(self.process.copy())),
         }
     }
 }
 
-/// Has a console answer what a reader gives: what it comes to.
+/// Has a console answer what a reader gives.
 pub(crate) fn hold<R: Read + Drop, W: Write>(
     alloc: Global,
     reader: R,
     writer: &mut W,
     clerk: &mut Clerk,
-) -> Result<Result<(), ConsoleFault>, Fail> {
-    let mut reader = BufReader::new(alloc, reader)?;
-    Ok(answer_lines(alloc, &mut reader, writer, clerk))
-}
-
-/// Has a console answer these lines, and tells whether it wrote this text and was content.
-pub(crate) fn answers(
-    alloc: Global,
-    lines: &[u8],
-    clerk: &mut Clerk,
-    text: &[u8],
-) -> Result<bool, Fail> {
-    let mut written = Vec::new(alloc);
-    let result = hold(alloc, Cursor::new(lines), &mut written, clerk)?;
-    Ok(result.is_ok() && written.as_slice() == text)
+) -> Result<(), ConsoleFault> {
+    match BufReader::new(alloc, reader) {
+        Ok(mut reader) => answer_lines(alloc, &mut reader, writer, clerk),
+        Err(_) => Err(ConsoleFault::Memory),
+    }
 }

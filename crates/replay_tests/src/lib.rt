@@ -1,5 +1,7 @@
-//! Tests of replays.
+//! Tests of logs, and of their replays.
 #![tactic(auto)]
 
 #[cfg(test)]
-mod tests;
+mod logs;
+#[cfg(test)]
+mod runs;

@@ -1,5 +1,5 @@
-//! Tests of scripts: worked rows, and lines at their limits. They have a crate of their own, since a crate is proved anew with its tests.
+//! Tests of scripts: what only a call in code can show. What scripts print is shown by tests/scripts, on the built program.
 #![tactic(auto)]
 
 #[cfg(test)]
-mod rows;
+mod streams;

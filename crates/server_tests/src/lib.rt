@@ -1,5 +1,5 @@
-//! Tests of clusters that are served, over a loopback socket. They have a crate of their own, since a crate is proved anew with its
-//! tests.
+//! Tests of clusters that are served, over a loopback socket: what only a call in code can show. Talks of several consoles are
+//! in tests/consoles.
 #![tactic(auto)]
 
 #[cfg(test)]

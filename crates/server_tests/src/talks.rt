@@ -1,94 +1,39 @@
-//! A cluster that is served, and the consoles that talk to it, in one process.
-ghost use Rattle.std.specs.Prelude.{◌≡◌, None, OnOk};
-ghost use Rattle.cluster_world.specs.Starting.{start_refused};
-
-use cluster_world::World;
-use name_table::ListTable;
+//! A cluster that is served to a console in one process, writers that fail, and listeners that give no console.
 use server::{ServeFault, run_serve};
 use std::alloc::Global;
-use std::io::{self, Read, Write};
-use std::net::{Net, Shutdown, SocketAddr, TcpListener, TcpStream};
+use std::io::{self, Error, ErrorKind, Read, Write};
+use std::net::{Net, Shutdown, TcpListener, TcpStream};
+use std::slice;
 use std::sync::Wait;
 use std::test::Fail;
 use std::thread::{Threads, join};
 use std::time::Clock;
-use term::{NodeName, parse_node};
+use term::parse_node;
 
-mod ends;
-mod rows;
-
-/// A fault that says this, unless it holds.
-pub(crate) fn expect(holds: bool, what: &'static str) -> Result<(), Fail> {
-    if holds { Ok(()) } else { Err(Fail::from(what)) }
-}
-
-/// The nodes of a text, parted by single spaces.
-pub(crate) fn nodes(alloc: Global, text: &str) -> Result<Vec<NodeName>, Fail> {
-    let mut nodes = Vec::new(alloc);
-    for word in text.split(' ') {
-        if !word.is_empty() {
-            nodes.push(parse_node(word)?)?;
-        }
-    }
-    Ok(nodes)
-}
-
-/// Whether a world of these nodes can be started.
-pub(crate) fn starts(alloc: Global, cluster: &[NodeName], lone: &[NodeName]) -> Result<(), Fail>
-    ensures { OnOk result (start_refused cluster.now lone.now ≡ None) }
-{
-    match World::<ListTable<Global>>::start(alloc, cluster, lone) {
-        Ok(_) => Ok(()),
-        Err(_) => Err(Fail::from("no world of these nodes")),
-    }
-}
-
-/// Nodes with which a world can be started.
-#[derive(Drop)]
-struct Startable {
-    cluster: Vec<NodeName>,
-    lone: Vec<NodeName>,
-    ghost started: { start_refused cluster.items lone.items ≡ None },
-}
-
-/// The nodes of two texts, with which a world can be started.
-fn parse_startable(alloc: Global, cluster: &str, lone: &str) -> Result<Startable, Fail> {
-    let (cluster, lone) = (nodes(alloc, cluster)?, nodes(alloc, lone)?);
-    starts(alloc, cluster.as_slice(), lone.as_slice())?;
-    Ok(Startable { cluster, lone })
-}
-
-/// Serves a cluster of these nodes.
-fn serve_nodes<R>(
+/// Serves a cluster of the one node a.
+fn serve<R, W>(
     rt: &R,
     alloc: Global,
     listener: TcpListener,
-    nodes: &Startable,
     consoles: u32,
-    written: &mut Vec<u8>,
+    writer: &mut W,
 ) -> Result<bool, ServeFault>
 where
     R: Threads + Wait + Clock + Drop + Copy + Send + Sync + 'static,
+    W: Write,
 {
-    let Startable { cluster, lone, .. } = nodes;
-    run_serve(
-        rt,
-        alloc,
-        listener,
-        cluster.as_slice(),
-        lone.as_slice(),
-        consoles,
-        written,
-    )
-}
-
-/// What a served cluster came to.
-#[derive(Drop)]
-pub(crate) struct Came {
-    pub(crate) result: Result<bool, ServeFault>,
-    pub(crate) written: Vec<u8>,
-    /// What each console was answered.
-    pub(crate) heard: Vec<Vec<u8>>,
+    match parse_node("a") {
+        Ok(node) => run_serve(
+            rt,
+            alloc,
+            listener,
+            slice::from_ref(&node),
+            &[],
+            consoles,
+            writer,
+        ),
+        Err(_) => Err(ServeFault::Memory),
+    }
 }
 
 /// Says all this at once, and hears what is answered until the console ends.
@@ -101,37 +46,49 @@ fn converse(alloc: Global, stream: &TcpStream, lines: &[u8]) -> io::Result<Vec<u
     Ok(heard)
 }
 
-/// Has each console say its lines, one console after the other.
-fn converse_all(
-    alloc: Global,
-    streams: Vec<TcpStream>,
-    talks: &[&[u8]],
-) -> io::Result<Vec<Vec<u8>>> {
-    let mut heard = Vec::new(alloc);
-    for (stream, lines) in streams.into_iter().zip(talks) {
-        heard.push(converse(alloc, &stream, lines)?)?;
+#[test]
+fn a_console_names_a_process(rt: HostRuntime) -> Result<(), Fail> {
+    let alloc = rt.alloc();
+    let listener = TcpListener::bind(&rt, "127.0.0.1:0")?;
+    let stream = TcpStream::connect(&rt, listener.local_addr()?)?;
+    let lines = b"attach a\nspawn\nregister x a.1\nwhereis x\nquit\n";
+    let mut written = Vec::new(alloc);
+    let (result, heard) = join(
+        &rt,
+        || serve(&rt, alloc, listener, 1, &mut written),
+        || converse(alloc, &stream, lines),
+    );
+    assert_eq!(rt; result, Ok(true));
+    assert_eq!(rt; heard?.as_slice(), b"ok\na.1\nyes\na.1\nok\n".as_slice());
+    // The last letter, which gives the grant back, may stay undelivered.
+    let text = written.as_slice();
+    assert!(rt; text == b"closed 7\n".as_slice() || text == b"closed 8\n".as_slice());
+    Ok(())
+}
+
+/// A writer that takes a part of a line, and then fails.
+#[derive(Drop)]
+struct Shut {
+    room: usize,
+}
+
+impl Write for Shut {
+    fn write(&mut self, buf: &[u8]) -> io::Result<usize> {
+        if self.room == 0 {
+            return Err(Error::from(ErrorKind::BrokenPipe));
+        }
+        let count = buf.len().min(self.room);
+        self.room -= count;
+        Ok(count)
     }
-    Ok(heard)
+
+    fn flush(&mut self) -> io::Result<()> {
+        Err(Error::from(ErrorKind::BrokenPipe))
+    }
 }
 
-/// A console that says something and is gone before it hears an answer.
-fn call_and_go<R>(rt: &R, addr: SocketAddr) -> io::Result<()>
-where
-    R: Net<Listener = TcpListener, Stream = TcpStream>,
-{
-    let stream = TcpStream::connect(rt, addr)?;
-    (&stream).write_all(b"attach b\nspawn\nnames\n")
-}
-
-/// Serves a cluster to so many consoles that are gone at once, and then to consoles that say this, one after the other.
-pub(crate) fn serve_to<R>(
-    rt: &R,
-    alloc: Global,
-    cluster: &str,
-    lone: &str,
-    gone: u32,
-    talks: &[&[u8]],
-) -> Result<Came, Fail>
+/// What it comes to that no console is taken and the writer has room for so much.
+fn serve_nobody<R>(rt: &R, alloc: Global, room: usize) -> io::Result<Result<bool, ServeFault>>
 where
     R: Threads
         + Wait
@@ -143,39 +100,37 @@ where
         + Sync
         + 'static,
 {
-    let nodes = parse_startable(alloc, cluster, lone)?;
     let listener = TcpListener::bind(rt, "127.0.0.1:0")?;
-    let addr = listener.local_addr()?;
-    for _ in 0..gone {
-        call_and_go(rt, addr)?;
-    }
-    let mut streams = Vec::new(alloc);
-    for _ in talks {
-        streams.push(TcpStream::connect(rt, addr)?)?;
-    }
-    let consoles = gone.saturating_add(u32::try_from(talks.len()).unwrap_or(0));
-    let mut written = Vec::new(alloc);
-    let (result, heard) = join(
-        rt,
-        || serve_nodes(rt, alloc, listener, &nodes, consoles, &mut written),
-        || converse_all(alloc, streams, talks),
-    );
-    let heard = heard?;
-    Ok(Came {
-        result,
-        written,
-        heard,
-    })
+    Ok(serve(rt, alloc, listener, 0, &mut Shut { room }))
 }
 
-/// The number in a line `closed EVENTS`.
-pub(crate) fn events_of(line: &[u8]) -> Result<u64, Fail> {
-    let text = str::from_utf8(line)?;
-    let Some(rest) = text.strip_prefix("closed ") else {
-        return Err(Fail::from("not closed"));
-    };
-    let Some(number) = rest.strip_suffix("\n") else {
-        return Err(Fail::from("no line"));
-    };
-    Ok(number.parse::<u64>()?)
+#[test]
+fn a_writer_fails(rt: HostRuntime) -> Result<(), Fail> {
+    // Without room, with room for a part of the line, and with room for it but no flush.
+    assert_eq!(rt; serve_nobody(&rt, rt.alloc(), 0)?, Err(ServeFault::Write));
+    assert_eq!(rt; serve_nobody(&rt, rt.alloc(), 3)?, Err(ServeFault::Write));
+    assert_eq!(rt; serve_nobody(&rt, rt.alloc(), 100)?, Err(ServeFault::Write));
+    Ok(())
+}
+
+#[test]
+fn no_console_can_be_taken(rt: HostRuntime) -> Result<(), Fail> {
+    let listener = TcpListener::bind(&rt, "127.0.0.1:0")?;
+    // An `accept` that would wait fails.
+    listener.set_nonblocking(true)?;
+    let mut written = Vec::new(rt.alloc());
+    let result = serve(&rt, rt.alloc(), listener, 2, &mut written);
+    assert_eq!(rt; result, Err(ServeFault::Accept));
+    assert!(rt; written.is_empty());
+    Ok(())
+}
+
+#[test]
+fn no_console_is_taken(rt: HostRuntime) -> Result<(), Fail> {
+    let listener = TcpListener::bind(&rt, "127.0.0.1:0")?;
+    let mut written = Vec::new(rt.alloc());
+    let result = serve(&rt, rt.alloc(), listener, 0, &mut written);
+    assert_eq!(rt; result, Ok(true));
+    assert_eq!(rt; written.as_slice(), b"closed 0\n".as_slice());
+    Ok(())
 }

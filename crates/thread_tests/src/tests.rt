@@ -1,10 +1,6 @@
 //! Clusters of threads, their seats and their ends.
-use cluster_world::{Call, Reply};
 use name_table::ListTable;
-use node_log::Transcript;
-use node_loop::Gate;
-use node_threads::{Cluster, Seat};
-use replay::Closed;
+use node_threads::{Call, Closed, Cluster, Gate, Reply, Seat, Transcript};
 use std::alloc::Global;
 use std::sync::Wait;
 use std::test::Fail;

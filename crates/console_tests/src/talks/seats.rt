@@ -1,30 +1,18 @@
-//! Consoles at seats of a running cluster.
-use super::expect;
+//! Consoles at seats of a running cluster: one that quits, and two that end by a fault. All hand a transcript back.
 use super::streams::{Full, Torn};
 use console::{ConsoleFault, serve};
 use name_table::ListTable;
-use node_log::Transcript;
-use node_loop::OpenGate;
-use node_threads::{Cluster, Seat};
+use node_threads::{Cluster, OpenGate, Transcript};
 use std::alloc::Global;
 use std::io::{BufReader, Cursor, Read, Write};
+use std::slice;
 use std::sync::Wait;
 use std::test::Fail;
-use std::thread::Threads;
 use std::time::Clock;
-use term::{NodeName, parse_node};
+use term::parse_node;
 
 /// A cluster whose tables are lists.
 type Small = Cluster<OpenGate, ListTable<Global>>;
-
-/// The nodes of a text, parted by single spaces.
-fn nodes(alloc: Global, text: &str) -> Result<Vec<NodeName>, Fail> {
-    let mut nodes = Vec::new(alloc);
-    for word in text.split(' ') {
-        nodes.push(parse_node(word)?)?;
-    }
-    Ok(nodes)
-}
 
 /// What a console at a seat came to.
 #[derive(Drop)]
@@ -33,16 +21,18 @@ struct Ended {
     transcript: Transcript,
 }
 
-/// Has a console at a seat answer what a reader gives.
+/// Has a console at a new seat of the node a answer what a reader gives.
 fn attend<H: Wait + Clock, R: Read + Drop, W: Write>(
     rt: &H,
     alloc: Global,
+    cluster: &mut Small,
     reader: R,
     writer: &mut W,
-    seat: Seat,
-) -> Result<Ended, Fail> {
-    let mut reader = BufReader::new(alloc, reader)?;
-    Ok(match serve(rt, alloc, &mut reader, writer, seat) {
+) -> Option<Ended> {
+    let node = parse_node("a").ok()?;
+    let mut reader = BufReader::new(alloc, reader).ok()?;
+    let seat = cluster.seat(&node).ok()?;
+    Some(match serve(rt, alloc, &mut reader, writer, seat) {
         Ok(transcript) => Ended {
             fault: None,
             transcript,
@@ -54,131 +44,81 @@ fn attend<H: Wait + Clock, R: Read + Drop, W: Write>(
     })
 }
 
-/// Has a console at the node a answer these lines with this text, and gives its transcript.
-fn answers<H: Wait + Clock>(
-    rt: &H,
-    alloc: Global,
-    cluster: &mut Small,
-    lines: &[u8],
-    text: &[u8],
-) -> Result<Transcript, Fail> {
-    let seat = cluster.seat(&parse_node("a")?)?;
+/// The transcript of what came to this end, with so many entries.
+fn transcript_of(ended: Option<Ended>, is_due: bool, entries: usize) -> Option<Transcript> {
+    let Ended { transcript, .. } = ended?;
+    (is_due && transcript.entries.len() == entries).then_some(transcript)
+}
+
+/// The transcript of a console that quits, where it was answered as it should be.
+fn quits<H: Wait + Clock>(rt: &H, alloc: Global, cluster: &mut Small) -> Option<Transcript> {
+    let lines = Cursor::new(b"spawn\nregister x a.1\nwhereis x\nnames\n\nquit\nspawn\n".as_slice());
     let mut written = Vec::new(alloc);
-    let ended = attend(rt, alloc, Cursor::new(lines), &mut written, seat)?;
-    expect(ended.fault.is_none(), "the console met a fault")?;
-    expect(written.as_slice() == text, "it was answered otherwise")?;
-    Ok(ended.transcript)
+    let ended = attend(rt, alloc, cluster, lines, &mut written);
+    let is_due = matches!(ended, Some(Ended { fault: None, .. }))
+        && written.as_slice() == b"a.1\nyes\na.1\nnames x\nerror bad_line\nok\n".as_slice();
+    transcript_of(ended, is_due, 4)
 }
 
-/// Closes the cluster with the transcript of its only console, which is to have so many entries.
-fn close<H: Threads>(
-    rt: &H,
-    cluster: Small,
-    played: Result<Transcript, Fail>,
-    entries: usize,
-) -> Result<(), Fail> {
-    let closed = match &played {
-        Ok(transcript) => cluster.close(rt, std::slice::from_ref(transcript)),
-        Err(_) => cluster.close(rt, &[]),
-    };
-    let transcript = played?;
-    closed?;
-    expect(transcript.entries.len() == entries, "other entries")
-}
-
-#[test]
-fn a_name_is_found_where_it_was_registered(rt: HostRuntime) -> Result<(), Fail> {
-    let alloc = rt.alloc();
-    let both = nodes(alloc, "a b")?;
-    let Ok(mut cluster) = Small::start(&rt, alloc, both.as_slice(), &[], OpenGate, 0) else {
-        return Err(Fail::from("no cluster"));
-    };
-    let lines = b"spawn\nregister x a.1\nwhereis x\nnames\nquit\nspawn\n";
-    let text = b"a.1\nyes\na.1\nnames x\nok\n";
-    let played = answers(&rt, alloc, &mut cluster, lines, text);
-    close(&rt, cluster, played, 4)
-}
-
-#[test]
-fn a_console_goes_on_behind_refusals(rt: HostRuntime) -> Result<(), Fail> {
-    let alloc = rt.alloc();
-    let both = nodes(alloc, "a b")?;
-    let Ok(mut cluster) = Small::start(&rt, alloc, both.as_slice(), &[], OpenGate, 0) else {
-        return Err(Fail::from("no cluster"));
-    };
-    let lines = b"whereis x\n\nexit b.1\nset_lock b.1 r q all 0\nnames\nleave\nspawn\nquit\n";
-    let text =
-        b"undefined\nerror bad_line\nerror no_such_process\nerror not_live\nnames\nok\nerror node_left\nok\n";
-    let played = answers(&rt, alloc, &mut cluster, lines, text);
-    close(&rt, cluster, played, 3)
-}
-
-#[test]
-fn nodes_tell_their_refusals(rt: HostRuntime) -> Result<(), Fail> {
-    let alloc = rt.alloc();
-    let one = nodes(alloc, "a")?;
-    let Ok(mut cluster) = Small::start(&rt, alloc, one.as_slice(), &[], OpenGate, 0) else {
-        return Err(Fail::from("no cluster"));
-    };
-    let lines =
-        b"spawn\nset_lock a.1 global q all 0\nset_lock a.1 r q b 0\njoin b\njoin a\nset_lock a.1 r q all 0\ndel_lock a.1 r q all\nexit a.1\nexit a.1\nset_lock a.1 r q all 0\n";
-    let text =
-        b"a.1\nerror reserved\nerror unknown_node\nerror no_such_node\nerror already_joined\ntrue\ntrue\nok\nerror already_exited\nerror not_live\n";
-    let played = answers(&rt, alloc, &mut cluster, lines, text);
-    close(&rt, cluster, played, 4)
-}
-
-/// What a console at the node a leaves behind whose reader fails, and one whose writer does.
-fn torn<H: Wait + Clock>(
-    rt: &H,
-    alloc: Global,
-    cluster: &mut Small,
-) -> Result<Vec<Transcript>, Fail> {
+/// The transcript of a console whose reader fails.
+fn loses_reader<H: Wait + Clock>(rt: &H, alloc: Global, cluster: &mut Small) -> Option<Transcript> {
     let mut written = Vec::new(alloc);
-    let seat = cluster.seat(&parse_node("a")?)?;
-    let reader = Torn::new(b"spawn\nspawn\nspa", 4);
-    let first = attend(rt, alloc, reader, &mut written, seat)?;
-    expect(
-        matches!(first.fault, Some(ConsoleFault::Read)),
-        "no fault of the reader",
-    )?;
-    expect(
-        written.as_slice() == b"a.1\na.2\n".as_slice(),
-        "it was answered otherwise",
-    )?;
-    expect(first.transcript.entries.len() == 2, "other entries")?;
-    let mut writer = Full::new(Vec::new(alloc), 5);
-    let seat = cluster.seat(&parse_node("a")?)?;
+    let lines = Torn::new(b"spawn\nspawn\nspa", 4);
+    let ended = attend(rt, alloc, cluster, lines, &mut written);
+    let is_due = matches!(
+        ended,
+        Some(Ended {
+            fault: Some(ConsoleFault::Read),
+            ..
+        })
+    ) && written.as_slice() == b"a.2\na.3\n".as_slice();
+    transcript_of(ended, is_due, 2)
+}
+
+/// The transcript of a console whose writer fails in its second answer.
+fn loses_writer<H: Wait + Clock>(rt: &H, alloc: Global, cluster: &mut Small) -> Option<Transcript> {
+    let mut writer = Full::new(Vec::new(alloc), 5, true);
     let lines = Cursor::new(b"spawn\nspawn\nspawn\n".as_slice());
-    let second = attend(rt, alloc, lines, &mut writer, seat)?;
-    expect(
-        matches!(second.fault, Some(ConsoleFault::Write)),
-        "no fault of the writer",
-    )?;
-    expect(
-        writer.taken.as_slice() == b"a.3\na".as_slice(),
-        "it was answered otherwise",
-    )?;
-    expect(second.transcript.entries.len() == 2, "other entries")?;
-    let mut transcripts = Vec::new(alloc);
-    transcripts.push(first.transcript)?;
-    transcripts.push(second.transcript)?;
-    Ok(transcripts)
+    let ended = attend(rt, alloc, cluster, lines, &mut writer);
+    let is_due = matches!(
+        ended,
+        Some(Ended {
+            fault: Some(ConsoleFault::Write),
+            ..
+        })
+    ) && writer.taken.as_slice() == b"a.4\na".as_slice();
+    transcript_of(ended, is_due, 2)
+}
+
+/// The transcripts of all three, one after the other.
+fn attend_thrice<H: Wait + Clock>(
+    rt: &H,
+    alloc: Global,
+    cluster: &mut Small,
+) -> Option<Vec<Transcript>> {
+    let first = quits(rt, alloc, cluster);
+    let second = loses_reader(rt, alloc, cluster);
+    let third = loses_writer(rt, alloc, cluster);
+    let (Some(first), Some(second), Some(third)) = (first, second, third) else {
+        return None;
+    };
+    Vec::from_array(alloc, [first, second, third]).ok()
 }
 
 #[test]
-fn transcripts_stand_behind_faults(rt: HostRuntime) -> Result<(), Fail> {
+fn transcripts_are_handed_back(rt: HostRuntime) -> Result<(), Fail> {
     let alloc = rt.alloc();
-    let one = nodes(alloc, "a")?;
-    let Ok(mut cluster) = Small::start(&rt, alloc, one.as_slice(), &[], OpenGate, 0) else {
+    let node = parse_node("a")?;
+    let Ok(mut cluster) = Small::start(&rt, alloc, slice::from_ref(&node), &[], OpenGate, 0) else {
         return Err(Fail::from("no cluster"));
     };
-    let played = torn(&rt, alloc, &mut cluster);
+    let played = attend_thrice(&rt, alloc, &mut cluster);
     let closed = match &played {
-        Ok(transcripts) => cluster.close(&rt, transcripts.as_slice()),
-        Err(_) => cluster.close(&rt, &[]),
+        Some(transcripts) => cluster.close(&rt, transcripts.as_slice()),
+        None => cluster.close(&rt, &[]),
     };
-    played?;
-    assert_eq!(rt; closed?.events, 4);
+    assert!(rt; played.is_some());
+    // Eight calls, and the five letters of the registration, of which the last may stay undelivered.
+    assert!(rt; matches!(closed, Ok(closed) if closed.events == 12 || closed.events == 13));
     Ok(())
 }

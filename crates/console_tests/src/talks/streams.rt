@@ -34,20 +34,22 @@ impl<'a> Read for Torn<'a> {
     }
 }
 
-/// A writer that is interrupted once, fails where it has no room for another byte, and fails to hand on so much.
+/// A writer that is interrupted once and takes so many bytes. Then it fails, or takes none.
 #[derive(Drop)]
 pub(crate) struct Full {
     pub(crate) taken: Vec<u8>,
-    pub(crate) room: usize,
+    room: usize,
+    fails: bool,
     is_interrupted: bool,
 }
 
 impl Full {
     /// A writer into this memory that takes so many bytes.
-    pub(crate) fn new(taken: Vec<u8>, room: usize) -> Self {
+    pub(crate) fn new(taken: Vec<u8>, room: usize, fails: bool) -> Self {
         Full {
             taken,
             room,
+            fails,
             is_interrupted: false,
         }
     }
@@ -59,7 +61,7 @@ impl Write for Full {
             self.is_interrupted = true;
             return Err(Error::from(ErrorKind::Interrupted));
         }
-        if self.room == 0 {
+        if self.room == 0 && self.fails {
             return Err(Error::from(ErrorKind::BrokenPipe));
         }
         let count = buf.len().min(self.room);

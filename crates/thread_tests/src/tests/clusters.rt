@@ -1,10 +1,8 @@
 //! Calls at seats, and what closing comes to.
 use super::{Small, expect, finish, name_process, nodes};
-use cluster_world::{Call, Reply, StartFault};
-use node_log::Transcript;
-use node_loop::OpenGate;
-use node_threads::{Cluster, Seat, SeatFault};
-use replay::CloseFault;
+use node_threads::{
+    Call, CloseFault, Cluster, OpenGate, Reply, Seat, SeatFault, StartFault, Transcript,
+};
 use std::alloc::Global;
 use std::sync::Wait;
 use std::test::Fail;

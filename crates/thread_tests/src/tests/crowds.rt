@@ -1,9 +1,6 @@
 //! Many at once: rivals for the global lock, and more letters than an inbox has room for.
 use super::{Small, expect, finish, name_process, nodes};
-use cluster_world::{Call, Reply};
-use node_log::Transcript;
-use node_loop::{Gate, OpenGate};
-use node_threads::{Cluster, Seat, SeatFault};
+use node_threads::{Call, Cluster, Gate, OpenGate, Reply, Seat, SeatFault, Transcript};
 use std::alloc::Global;
 use std::sync::atomic::{AtomicBool, Ordering};
 use std::sync::{Arc, Wait};

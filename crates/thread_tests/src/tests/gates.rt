@@ -1,9 +1,6 @@
 //! Nodes step at once, each on a thread of its own.
 use super::{Small, finish, nodes};
-use cluster_world::{Call, Reply};
-use node_log::Transcript;
-use node_loop::Gate;
-use node_threads::{Cluster, Seat};
+use node_threads::{Call, Cluster, Gate, Reply, Seat, Transcript};
 use std::alloc::Global;
 use std::sync::atomic::{AtomicBool, Ordering};
 use std::sync::{Arc, Wait};

@@ -1,10 +1,8 @@
 //! Transactions at the seats of lock holders.
 use super::{Small, expect, finish, nodes};
-use cluster_world::Call;
-use node_core::{Nodes, Retries};
-use node_log::Transcript;
-use node_loop::OpenGate;
-use node_threads::{Cluster, HolderSeat, Seat, SeatFault};
+use node_threads::{
+    Call, Cluster, HolderSeat, Nodes, OpenGate, Retries, Seat, SeatFault, Transcript,
+};
 use std::alloc::Global;
 use std::sync::Wait;
 use std::test::Fail;

@@ -1,10 +1,8 @@
 //! Nodes that leave, and calls that end so.
 use super::{Small, expect, finish, name_process, nodes};
-use cluster_world::{Call, Reply};
-use node_core::{Nodes, Retries, StepFault};
-use node_log::Transcript;
-use node_loop::OpenGate;
-use node_threads::{Cluster, Seat, SeatFault};
+use node_threads::{
+    Call, Cluster, Nodes, OpenGate, Reply, Retries, Seat, SeatFault, StepFault, Transcript,
+};
 use std::alloc::Global;
 use std::sync::Wait;
 use std::test::Fail;

@@ -1,8 +1,6 @@
 //! How threads that sleep are woken.
 use super::{Small, expect, finish, nodes};
-use node_log::Transcript;
-use node_loop::OpenGate;
-use node_threads::Cluster;
+use node_threads::{Cluster, OpenGate, Transcript};
 use std::alloc::Global;
 use std::sync::Wait;
 use std::test::Fail;

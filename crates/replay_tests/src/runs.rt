@@ -1,0 +1,261 @@
+//! Runs of a node that is alone in its cluster, and what tears them.
+use name_table::{Change, ListTable, Names, Pair};
+use replay::{
+    Answer, Call, CloseFault, Closed, Event, Log, NodeEnd, Reply, SeatEntry, Transcript,
+    WorldEvent, replay,
+};
+use std::alloc::Global;
+use term::{NodeName, NodeSet, Pid, parse_name, parse_pid};
+
+/// The table of the tests.
+type Table = ListTable<Global>;
+
+/// The name x and the process a.1, which is to own it.
+fn x_of_a() -> Option<Pair> {
+    match (parse_name("x"), parse_pid("a.1")) {
+        (Ok(name), Ok(owner)) => Some(Pair { name, owner }),
+        _ => None,
+    }
+}
+
+/// The end of a node with a log without a step, whose table has no name.
+fn new_end(alloc: Global, node: &NodeName) -> NodeEnd<Table> {
+    NodeEnd {
+        log: Log::new(alloc, node.copy(), &NodeSet::one(node.copy())),
+        table: <Table as Names>::empty(alloc),
+        ended_alone: false,
+    }
+}
+
+/// The event of a call.
+fn call_at(node: &NodeName, call: Call) -> WorldEvent {
+    WorldEvent::At(node.copy(), Event::Call(call))
+}
+
+/// The event that registers a name for its owner.
+fn registers(pair: &Pair) -> WorldEvent {
+    let call = Call::Register(pair.name.copy(), pair.owner.copy());
+    call_at(&pair.owner.node, call)
+}
+
+/// The answer to a call of this number at a node.
+fn answer(node: &NodeName, call: u32, reply: Reply) -> Answer {
+    Answer {
+        node: node.copy(),
+        call,
+        reply,
+    }
+}
+
+/// Gives the last step of a log this one answer.
+fn answers(alloc: Global, log: &mut Log, answer: Answer) -> bool {
+    let mut answers = Vec::new(alloc);
+    if answers.push(answer).is_err() {
+        return false;
+    }
+    log.answer(answers);
+    true
+}
+
+/// Puts the spawn of a process of this serial at the end of a node's log.
+fn logs_spawn(alloc: Global, log: &mut Log, stamp: u64, node: &NodeName, serial: u32) -> bool {
+    let process = Pid {
+        node: node.copy(),
+        serial,
+    };
+    log.begin(stamp, Some(0), call_at(node, Call::Spawn))
+        .is_ok()
+        && answers(alloc, log, answer(node, 0, Reply::Pid(process)))
+}
+
+/// Puts the registration of a name at the end of the log, with what the owner's node sends to itself for it.
+fn logs_registration(alloc: Global, log: &mut Log, pair: &Pair) -> bool {
+    let node = &pair.owner.node;
+    log.begin(2, Some(0), registers(pair)).is_ok()
+        && log.begin_delivery(3, node).is_ok()
+        && log.begin_delivery(4, node).is_ok()
+        && log.begin_delivery(5, node).is_ok()
+        && log.begin_delivery(6, node).is_ok()
+        && answers(alloc, log, answer(node, 1, Reply::Yes))
+}
+
+/// Whether an end gets the steps that spawn the owner of a name and register it, and the name.
+fn registered(alloc: Global, end: &mut NodeEnd<Table>, pair: &Pair) -> bool {
+    logs_spawn(alloc, &mut end.log, 1, &pair.owner.node, 1)
+        && logs_registration(alloc, &mut end.log, pair)
+        && end
+            .table
+            .write(Change::Put(pair.name.copy(), pair.owner.copy()))
+            .is_ok()
+}
+
+/// A transcript of seat 0 that registers a name, answered `yes`.
+fn told(alloc: Global, pair: &Pair) -> Option<Transcript> {
+    let node = &pair.owner.node;
+    let entry = SeatEntry {
+        event: registers(pair),
+        answer: Some(answer(node, 1, Reply::Yes)),
+    };
+    let mut entries = Vec::new(alloc);
+    if entries.push(entry).is_err() {
+        return None;
+    }
+    Some(Transcript {
+        seat: 0,
+        node: node.copy(),
+        entries,
+    })
+}
+
+/// Replays the end of a cluster of one node.
+fn replayed(
+    alloc: Global,
+    end: NodeEnd<Table>,
+    transcripts: &[Transcript],
+) -> Result<Closed<Table>, CloseFault> {
+    let nodes = [end.log.node().copy()];
+    replay(alloc, &nodes, &[], &[end], transcripts)
+}
+
+/// Whether a run had so many events, and a history, and the name has its owner.
+fn came_to(closed: &Closed<Table>, events: u64, pair: &Pair) -> bool {
+    let is_owned = match closed.table(&pair.owner.node) {
+        Some(table) => table.get(&pair.name) == Some(pair.owner.copy()),
+        None => false,
+    };
+    is_owned && closed.events == events && !closed.history().is_empty()
+}
+
+/// Whether the run that registers a name is replayed with what a seat was told of it.
+fn replays(alloc: Global, pair: &Pair) -> bool {
+    let mut end = new_end(alloc, &pair.owner.node);
+    if !registered(alloc, &mut end, pair) {
+        return false;
+    }
+    let Some(transcript) = told(alloc, pair) else {
+        return false;
+    };
+    match replayed(alloc, end, &[transcript]) {
+        Ok(closed) => came_to(&closed, 6, pair),
+        Err(_) => false,
+    }
+}
+
+#[test]
+fn replays_a_run(rt: HostRuntime) {
+    match x_of_a() {
+        Some(pair) => assert!(rt; replays(rt.alloc(), &pair)),
+        None => assert!(rt; false),
+    }
+}
+
+/// Whether the log of a node is torn at this place.
+fn is_torn(alloc: Global, end: NodeEnd<Table>, node: &NodeName, place: usize) -> bool {
+    match replayed(alloc, end, &[]) {
+        Err(CloseFault::Torn { node: torn, at }) => torn == *node && at == place,
+        _ => false,
+    }
+}
+
+/// Whether a delivery of a letter that wasn't sent tears.
+fn empty_link_tears(alloc: Global, node: &NodeName) -> bool {
+    let mut end = new_end(alloc, node);
+    if end.log.begin_delivery(1, node).is_err() {
+        return false;
+    }
+    is_torn(alloc, end, node, 0)
+}
+
+/// Whether another answer than the world's tears.
+fn other_answer_tears(alloc: Global, node: &NodeName) -> bool {
+    let mut end = new_end(alloc, node);
+    if !logs_spawn(alloc, &mut end.log, 1, node, 2) {
+        return false;
+    }
+    is_torn(alloc, end, node, 0)
+}
+
+/// Whether a stamp that is not above the last tears.
+fn same_stamp_tears(alloc: Global, node: &NodeName) -> bool {
+    let mut end = new_end(alloc, node);
+    if !logs_spawn(alloc, &mut end.log, 4, node, 1)
+        || !logs_spawn(alloc, &mut end.log, 4, node, 2)
+    {
+        return false;
+    }
+    is_torn(alloc, end, node, 1)
+}
+
+/// Whether a table without the name that was registered tears.
+fn other_table_tears(alloc: Global, pair: &Pair) -> bool {
+    let mut end = new_end(alloc, &pair.owner.node);
+    if !registered(alloc, &mut end, pair)
+        || end.table.write(Change::Remove(pair.name.copy())).is_err()
+    {
+        return false;
+    }
+    is_torn(alloc, end, &pair.owner.node, 6)
+}
+
+/// Whether an end alone is left in hold.
+fn is_left_in_hold(alloc: Global, node: &NodeName) -> bool {
+    let mut end = new_end(alloc, node);
+    end.ended_alone = true;
+    match replayed(alloc, end, &[]) {
+        Err(CloseFault::LeftInHold(left)) => left == *node,
+        _ => false,
+    }
+}
+
+#[test]
+fn tears_a_run(rt: HostRuntime) {
+    match x_of_a() {
+        Some(pair) => {
+            assert!(rt; empty_link_tears(rt.alloc(), &pair.owner.node));
+            assert!(rt; other_answer_tears(rt.alloc(), &pair.owner.node));
+            assert!(rt; same_stamp_tears(rt.alloc(), &pair.owner.node));
+            assert!(rt; other_table_tears(rt.alloc(), &pair));
+            assert!(rt; is_left_in_hold(rt.alloc(), &pair.owner.node));
+        }
+        None => assert!(rt; false),
+    }
+}
+
+/// Whether seat 0 is a stranger to an end.
+fn is_stranger(alloc: Global, end: NodeEnd<Table>, transcripts: &[Transcript]) -> bool {
+    matches!(
+        replayed(alloc, end, transcripts),
+        Err(CloseFault::Stranger(0))
+    )
+}
+
+/// Whether an entry that no log has is a stranger's.
+fn finds_entry_of_no_log(alloc: Global, pair: &Pair) -> bool {
+    match told(alloc, pair) {
+        Some(transcript) => is_stranger(alloc, new_end(alloc, &pair.owner.node), &[transcript]),
+        None => false,
+    }
+}
+
+/// Whether a seat's second transcript is a stranger's.
+fn finds_second_transcript(alloc: Global, pair: &Pair) -> bool {
+    let mut end = new_end(alloc, &pair.owner.node);
+    if !registered(alloc, &mut end, pair) {
+        return false;
+    }
+    match (told(alloc, pair), told(alloc, pair)) {
+        (Some(first), Some(second)) => is_stranger(alloc, end, &[first, second]),
+        _ => false,
+    }
+}
+
+#[test]
+fn finds_strangers(rt: HostRuntime) {
+    match x_of_a() {
+        Some(pair) => {
+            assert!(rt; finds_entry_of_no_log(rt.alloc(), &pair));
+            assert!(rt; finds_second_transcript(rt.alloc(), &pair));
+        }
+        None => assert!(rt; false),
+    }
+}

@@ -1,0 +1,13 @@
+//! Tests of tables of names, of the watch over the processes that own them, and of joins of tables.
+#![tactic(auto)]
+
+#[cfg(test)]
+mod joins;
+#[cfg(test)]
+mod owed;
+#[cfg(test)]
+mod reading;
+#[cfg(test)]
+mod tables;
+#[cfg(test)]
+mod watches;

@@ -1,0 +1,119 @@
+//! Worked rows of names, of nodes and of processes.
+use crate::reading::{are_rising, is_refused, is_text};
+use std::alloc::Global;
+use std::test::Fail;
+use term::{Pid, parse_name, parse_node, parse_pid, print_name, print_node, print_pid};
+
+/// A text of 64 bytes.
+const LONGEST: &str = "aB3_-@6789aB3_-@6789aB3_-@6789aB3_-@6789aB3_-@6789aB3_-@67891234";
+
+/// One of 65.
+const LONGER: &str = "aB3_-@6789aB3_-@6789aB3_-@6789aB3_-@6789aB3_-@6789aB3_-@678912345";
+
+/// Whether a text is read as a name that is printed as it.
+fn is_name(alloc: Global, text: &str) -> bool {
+    match parse_name(text) {
+        Ok(name) => name.as_str() == text && is_text(print_name(alloc, &name), text),
+        Err(_) => false,
+    }
+}
+
+/// Whether a text is read as a node that is printed as it.
+fn is_node(alloc: Global, text: &str) -> bool {
+    match parse_node(text) {
+        Ok(node) => node.as_str() == text && is_text(print_node(alloc, &node), text),
+        Err(_) => false,
+    }
+}
+
+/// Whether a text is read as this process, and printed as it.
+fn is_process(alloc: Global, text: &str, node: &str, serial: u32) -> bool {
+    match parse_pid(text) {
+        Ok(pid) => {
+            pid.node.as_str() == node
+                && pid.serial == serial
+                && serial != 0
+                && is_text(print_pid(alloc, &pid), text)
+        }
+        Err(_) => false,
+    }
+}
+
+/// Whether a name, a process and its node are shown as they were read.
+fn are_shown(alloc: Global, name: &str, process: &str, wanted: &str) -> bool {
+    match (parse_name(name), parse_pid(process)) {
+        (Ok(name), Ok(pid)) => is_text(format!(in alloc; "{name} {pid} {}", pid.node), wanted),
+        _ => false,
+    }
+}
+
+#[test]
+fn reads_and_prints(rt: HostRuntime) {
+    assert!(rt; is_name(rt.alloc(), LONGEST) && is_name(rt.alloc(), "db"));
+    assert!(rt; is_node(rt.alloc(), LONGEST) && is_node(rt.alloc(), "n1@host"));
+    assert!(rt; is_process(rt.alloc(), "a.4294967295", "a", 4_294_967_295));
+    assert!(rt; is_process(rt.alloc(), "n1@host.120", "n1@host", 120));
+    assert!(rt; are_shown(rt.alloc(), "db", "n1@host.120", "db n1@host.120 n1@host"));
+}
+
+/// Whether a text is refused as a name and as a node, both with this fault.
+fn is_no_name(text: &str, fault: &str) -> bool {
+    is_refused(parse_name(text), fault) && is_refused(parse_node(text), fault)
+}
+
+#[test]
+fn refuses_names(rt: HostRuntime) {
+    assert!(rt; is_no_name(LONGER, "too_long"));
+    assert!(rt; is_no_name("", "empty"));
+    assert!(rt; is_no_name("a b!", "bad_byte 1"));
+}
+
+/// Texts that spell no process, each with the fault of it.
+const NO_PROCESSES: &str = "\
+a.0=bad_serial
+a.01=bad_serial
+a.4294967296=bad_serial
+a.+1=bad_serial
+a.=bad_serial
+a=bad_serial
+a.1.1=bad_serial
+=empty
+.1=empty
+a!b.1=bad_byte 1
+";
+
+/// Whether the text of a row is refused with the fault behind it.
+fn is_no_process(row: &str) -> bool {
+    match row.split_once('=') {
+        Some((text, fault)) => is_refused(parse_pid(text), fault),
+        None => false,
+    }
+}
+
+#[test]
+fn refuses_processes(rt: HostRuntime) {
+    for row in NO_PROCESSES.lines() {
+        assert!(rt; is_no_process(row), "{row}");
+    }
+}
+
+#[test]
+fn orders_by_bytes_and_by_numbers(rt: HostRuntime) {
+    assert!(rt; are_rising(parse_name("ab"), parse_name("b")));
+    assert!(rt; are_rising(parse_name("a"), parse_name("ab")));
+    assert!(rt; are_rising(parse_pid("a.9"), parse_pid("b.7")));
+    assert!(rt; are_rising(parse_pid("b.7"), parse_pid("b.8")));
+    assert!(rt; are_rising(parse_pid("b.9"), parse_pid("b.10")));
+}
+
+/// Whether a process equals its copy and its clone.
+fn is_copied(pid: &Pid) -> bool {
+    pid.copy() == *pid && pid.clone().is_ok_and(|clone| clone == *pid)
+}
+
+#[test]
+fn copies_and_clones(rt: HostRuntime) -> Result<(), Fail> {
+    let pid = parse_pid("b.7")?;
+    assert!(rt; is_copied(&pid));
+    Ok(())
+}

@@ -1,0 +1,149 @@
+//! Sets of nodes, and worked rows of their lists.
+use crate::reading::{is_refused, is_text};
+use std::alloc::Global;
+use std::test::Fail;
+use term::{MOST_NODES, NodeName, NodeSet, TextFault, parse_node, parse_nodes, print_nodes};
+
+/// Whether a list is read as this set.
+fn spells(list: &str, nodes: &NodeSet) -> bool {
+    match parse_nodes(list) {
+        Ok(read) => read == *nodes,
+        Err(_) => false,
+    }
+}
+
+/// Whether a set is shown and printed so, and read from that again.
+fn is_shown(alloc: Global, nodes: &NodeSet, wanted: &str) -> bool {
+    !nodes.is_empty()
+        && is_text(print_nodes(alloc, nodes), wanted)
+        && is_text(format!(in alloc; "{nodes}"), wanted)
+        && spells(wanted, nodes)
+}
+
+/// Lists, and how the sets of them are shown.
+const LISTS: &str = "\
+a=a
+all,all=all
+c,a,b,a=a,b,c
+b,ab,a@x,B=B,a@x,ab,b
+h,g,f,e,d,c,b,a=a,b,c,d,e,f,g,h
+a,b,c,d,e,f,g,h,d=a,b,c,d,e,f,g,h
+";
+
+/// Whether the set of the list of a row is shown as behind it.
+fn is_list(alloc: Global, row: &str) -> bool {
+    let Some((list, shown)) = row.split_once('=') else {
+        return false;
+    };
+    match parse_nodes(list) {
+        Ok(nodes) => is_shown(alloc, &nodes, shown),
+        Err(_) => false,
+    }
+}
+
+#[test]
+fn reads_and_shows_lists(rt: HostRuntime) {
+    for row in LISTS.lines() {
+        assert!(rt; is_list(rt.alloc(), row), "{row}");
+    }
+}
+
+/// Lists that spell no set, each with the fault of it.
+const NO_LISTS: &str = "\
+=empty
+a,,b=empty
+a,=empty
+,a=empty
+a,b c=bad_byte 1
+a,b!,=bad_byte 1
+a,b,c,d,e,f,g,h,i=too_many_nodes
+a,b,c,d,e,f,g,h,i,a=too_many_nodes
+a,b,c,d,e,f,g,h,i,!=bad_byte 0
+";
+
+/// Whether the list of a row is refused with the fault behind it.
+fn is_no_list(row: &str) -> bool {
+    match row.split_once('=') {
+        Some((list, fault)) => is_refused(parse_nodes(list), fault),
+        None => false,
+    }
+}
+
+#[test]
+fn refuses_lists(rt: HostRuntime) {
+    for row in NO_LISTS.lines() {
+        assert!(rt; is_no_list(row), "{row}");
+    }
+}
+
+/// What comes of putting a node in: whether it is new, or why it is refused.
+fn insert(nodes: &mut NodeSet, node: &str) -> Result<bool, TextFault> {
+    nodes.insert(parse_node(node)?)
+}
+
+/// Puts eight nodes into an empty set: whether each of them is new.
+fn fills(nodes: &mut NodeSet) -> bool {
+    for node in "f b h d a g c e".split(' ') {
+        if insert(nodes, node) != Ok(true) {
+            return false;
+        }
+    }
+    true
+}
+
+/// Whether a node is at this place of a set, and in it.
+fn is_at(nodes: &NodeSet, node: &str, place: usize) -> bool {
+    match parse_node(node) {
+        Ok(node) => nodes.position(&node) == Some(place) && nodes.contains(&node),
+        Err(_) => false,
+    }
+}
+
+/// Whether a node is not in a set.
+fn is_absent(nodes: &NodeSet, node: &str) -> bool {
+    match parse_node(node) {
+        Ok(node) => nodes.position(&node).is_none() && !nodes.contains(&node),
+        Err(_) => false,
+    }
+}
+
+/// Whether a node is this one.
+fn is_node(node: Option<&NodeName>, wanted: &str) -> bool {
+    match node {
+        Some(node) => node.as_str() == wanted,
+        None => false,
+    }
+}
+
+#[test]
+fn holds_eight_nodes(rt: HostRuntime) {
+    let mut nodes = NodeSet::empty();
+    assert!(rt; nodes.is_empty() && nodes.greatest().is_none());
+    assert!(rt; fills(&mut nodes));
+    assert_eq!(rt; nodes.len(), MOST_NODES);
+    assert_eq!(rt; insert(&mut nodes, "d"), Ok(false));
+    assert_eq!(rt; insert(&mut nodes, "i"), Err(TextFault::TooManyNodes));
+    assert!(rt; is_node(nodes.greatest(), "h"));
+    assert!(rt; is_at(&nodes, "a", 0) && is_at(&nodes, "c", 2) && is_absent(&nodes, "i"));
+    assert!(rt; is_shown(rt.alloc(), &nodes, "a,b,c,d,e,f,g,h"));
+}
+
+/// Whether a set of eight nodes loses its first once, is then another than its copy, and has room for a ninth.
+fn loses(nodes: &mut NodeSet, first: &NodeName) -> bool {
+    let before = nodes.copy();
+    before == *nodes
+        && nodes.remove(first)
+        && !nodes.remove(first)
+        && before != *nodes
+        && insert(nodes, "i") == Ok(true)
+}
+
+#[test]
+fn takes_nodes_out(rt: HostRuntime) -> Result<(), Fail> {
+    let first = parse_node("a")?;
+    let mut nodes = NodeSet::empty();
+    assert!(rt; fills(&mut nodes) && loses(&mut nodes, &first));
+    assert!(rt; is_node(nodes.as_slice().first(), "b") && is_absent(&nodes, "a"));
+    assert!(rt; spells("a", &NodeSet::one(first)));
+    Ok(())
+}

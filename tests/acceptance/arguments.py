@@ -1,0 +1,226 @@
+"""Arguments, what is told for them and where, and statuses. A text that ends with two dots tells how the output begins."""
+
+import os
+import socket
+import subprocess
+import tempfile
+import time
+from dataclasses import dataclass
+from functools import partial
+
+from .outcomes import Failure, Test, expect_same, expect_status, expect_text
+from .served import Console, Served, listen_to, wait_for
+
+ABOUT = b"A verified global name server\n.."
+ABOUT_SERVE = b"Runs nodes and serves consoles over the network\n.."
+ABOUT_SCRIPT = b"Plays a script from standard input and prints its answers\n.."
+VERSION = b"cluster_main 0.1.0\n"
+ERROR = b"error: .."
+
+# What is read only where a script is played.
+INPUT = b"cluster a\nspawn a\n"
+
+
+@dataclass(frozen=True)
+class Call:
+    """The arguments of a call, what it prints, what it tells on standard error, and its status."""
+
+    name: str
+    words: list
+    status: int
+    output: bytes = b""
+    errors: bytes = b""
+
+
+def shows(name, line, output):
+    return Call(name, line.split(), 0, output)
+
+
+def refuses(name, *words):
+    return Call(name, list(words), 2, errors=ERROR)
+
+
+def refuses_options(name, options):
+    return refuses(name, "serve", *options.split())
+
+
+def refuses_lists(name, word, *lists):
+    words = ["serve", "--listen", "127.0.0.1:0", *lists]
+    return Call(name, words, 2, errors=b"error %s\n" % word.encode())
+
+
+def cannot_listen(name, address):
+    words = ["serve", "--listen", address, "--nodes", "a"]
+    return Call(name, words, 1, errors=f"error: --listen {address}: ..".encode())
+
+
+CALLS = [
+    shows("help", "--help", ABOUT),
+    shows("short_help", "-h", ABOUT),
+    shows("help_as_a_word", "help", ABOUT),
+    shows("help_of_serve", "serve --help", ABOUT_SERVE),
+    shows("short_help_of_serve", "serve -h", ABOUT_SERVE),
+    shows("help_of_serve_as_a_word", "help serve", ABOUT_SERVE),
+    shows("help_of_script", "script --help", ABOUT_SCRIPT),
+    shows("version", "--version", VERSION),
+    shows("short_version", "-V", VERSION),
+    Call("script", ["script"], 0, b"a.1\n"),
+    refuses("no_arguments"),
+    refuses("empty_argument", ""),
+    refuses("unknown_word", "nonsense"),
+    refuses("unknown_option", "--bogus"),
+    refuses("word_behind_script", "script", "more"),
+    refuses("argument_that_is_no_text", b"\xff"),
+    refuses("argument_that_is_no_text_behind_script", "script", b"\xc3\x28"),
+    refuses("argument_of_5000_bytes", "script", "x" * 5000),
+    refuses_options("serve_without_options", ""),
+    refuses_options("serve_without_nodes", "--listen 127.0.0.1:0"),
+    refuses_options("serve_without_an_address", "--nodes a"),
+    refuses_options("serve_with_an_unknown_option", "--listen 127.0.0.1:0 --nodes a --bogus b"),
+    refuses_options("option_without_its_value", "--listen 127.0.0.1:0 --nodes"),
+    refuses_options("option_twice", "--listen 127.0.0.1:0 --nodes a --nodes b"),
+    refuses_options("no_consoles", "--listen 127.0.0.1:0 --nodes a --consoles 0"),
+    refuses_options("65_consoles", "--listen 127.0.0.1:0 --nodes a --consoles 65"),
+    refuses_options("320_consoles", "--listen 127.0.0.1:0 --nodes a --consoles 320"),
+    refuses_options("consoles_that_are_no_number", "--listen 127.0.0.1:0 --nodes a --consoles x"),
+    refuses_options("consoles_below_zero", "--listen 127.0.0.1:0 --nodes a --consoles=-1"),
+    refuses_lists("list_with_an_empty_name", "empty", "--nodes", "a,,b"),
+    refuses_lists("empty_list", "empty", "--nodes="),
+    refuses_lists("empty_lone_list", "empty", "--nodes", "a", "--lone="),
+    refuses_lists("list_with_a_long_name", "too_long", "--nodes", "n" * 65),
+    refuses_lists("list_with_a_bad_byte", "bad_byte", "--nodes", "a,b!"),
+    refuses_lists("list_with_a_blank", "bad_byte", "--nodes", "a, b"),
+    refuses_lists("lone_list_with_a_bad_byte", "bad_byte", "--nodes", "a", "--lone", "b!"),
+    refuses_lists("first_list_counts_first", "empty", "--nodes", "a,,b", "--lone", "!"),
+    refuses_lists("lone_list_counts_before_both", "bad_byte", "--nodes", "a", "--lone", "a,!"),
+    refuses_lists("nine_nodes", "too_many_nodes", "--nodes", "a,b,c,d,e,f,g,h,i"),
+    refuses_lists("nine_nodes_in_both_lists", "too_many_nodes", "--nodes", "a,b,c,d,e", "--lone", "f,g,h,i"),
+    refuses_lists("node_in_both_lists", "same_node", "--nodes", "a,b", "--lone", "b"),
+    refuses_lists("same_node_before_too_many", "same_node", "--nodes", "a,b,c,d,e,f,g,h", "--lone", "h,i"),
+    cannot_listen("address_without_a_port", "127.0.0.1"),
+    cannot_listen("address_that_is_none", "nowhere"),
+]
+
+
+def check(program, call):
+    """Makes a call. Only a script reads its input."""
+    with tempfile.TemporaryFile(buffering=0) as given:
+        given.write(INPUT)
+        given.seek(0)
+        ran = program.run(call.words, stdin=given)
+        is_read = given.tell() > 0
+    expect_text("standard output", call.output, ran.stdout)
+    expect_text("standard error", call.errors, ran.stderr)
+    expect_status(call.status, ran.returncode)
+    if is_read and call.words != ["script"]:
+        raise Failure("it read its input")
+
+
+def help_tells_of_each_option(program):
+    told = program.run(["serve", "--help"]).stdout
+    for option in [b"--listen <ADDR>", b"--nodes <LIST>", b"--lone <LIST>", b"--consoles <N>"]:
+        if option not in told:
+            raise Failure(f"{option.decode()} isn't told of")
+
+
+def address_in_use(program):
+    with socket.socket() as taken:
+        taken.bind(("127.0.0.1", 0))
+        taken.listen()
+        check(program, cannot_listen("", f"127.0.0.1:{taken.getsockname()[1]}"))
+
+
+def port_zero_is_told_as_written(program):
+    words = [program.path, "serve", "--listen", "127.0.0.1:0", "--nodes", "a"]
+    with subprocess.Popen(words, stdin=subprocess.DEVNULL, stdout=subprocess.PIPE) as served:
+        try:
+            wait_for(served.stdout, time.monotonic() + program.seconds, "line of the program")
+            expect_same("output", b"listening 127.0.0.1:0\n", served.stdout.readline())
+        finally:
+            served.kill()
+
+
+def sixty_four_consoles(program):
+    """As many as can be: each is given a seat."""
+    with Served(program, ["--nodes", "a", "--consoles", "64"]) as served:
+        consoles = [Console(served) for _ in range(64)]
+        for it in consoles:
+            it.say(b"attach a\nwhereis x\nquit\n")
+        for it in consoles:
+            listen_to([it], lambda: it.has_ended, program.seconds)
+            expect_same("a console's answers", b"ok\nundefined\nok\n", it.heard)
+        served.expect_closed()
+
+
+def last_line_that_nobody_reads(program):
+    with Served(program, ["--nodes", "a", "--consoles", "1"]) as served:
+        served.process.stdout.close()
+        Console(served).end_input()
+        expect_status(1, served.process.wait(program.seconds))
+        expect_same("standard error", b"", served.process.stderr.read())
+
+
+def fails_silently(program, words, **how):
+    """A fault tells nothing anywhere, and the status is 1."""
+    ran = program.run(words, **how)
+    expect_same("standard output", b"", ran.stdout or b"")
+    expect_same("standard error", b"", ran.stderr)
+    expect_status(1, ran.returncode)
+
+
+def input_that_cannot_be_read(program):
+    folder = os.open("/", os.O_RDONLY)
+    try:
+        fails_silently(program, ["script"], stdin=folder)
+    finally:
+        os.close(folder)
+
+
+def output_that_is_full(program, words):
+    with open("/dev/full", "wb") as full:
+        fails_silently(program, words, input=INPUT, stdout=full)
+
+
+def output_that_nobody_reads(program):
+    reader, writer = os.pipe()
+    os.close(reader)
+    try:
+        fails_silently(program, ["script"], input=INPUT, stdout=writer)
+    finally:
+        os.close(writer)
+
+
+def answers_before_it_waits(program):
+    """What a line prints comes before the next line is given."""
+    pipes = {"stdin": subprocess.PIPE, "stdout": subprocess.PIPE}
+    with subprocess.Popen([program.path, "script"], bufsize=0, **pipes) as typed:
+        try:
+            typed.stdin.write(b"cluster a\nspa")
+            for text, answer in [(b"wn a\n", b"a.1\n"), (b"spawn a\nbogus", b"a.2\n"), (b" \n", b"error bad_line\n")]:
+                typed.stdin.write(text)
+                wait_for(typed.stdout, time.monotonic() + program.seconds, "answer")
+                expect_same("output", answer, typed.stdout.readline())
+            typed.stdin.close()
+            expect_same("output", b"", typed.stdout.read())
+            expect_status(1, typed.wait(program.seconds))
+        finally:
+            typed.kill()
+
+
+def tests(program, root):
+    for call in CALLS:
+        yield Test(f"arguments/{call.name}", partial(check, program, call))
+    for it in [
+        help_tells_of_each_option,
+        address_in_use,
+        port_zero_is_told_as_written,
+        sixty_four_consoles,
+        last_line_that_nobody_reads,
+        input_that_cannot_be_read,
+        output_that_nobody_reads,
+        answers_before_it_waits,
+    ]:
+        yield Test(f"arguments/{it.__name__}", partial(it, program))
+    serve = ["serve", "--listen", "127.0.0.1:0", "--nodes", "a"]
+    for name, words in [("script", ["script"]), ("help", ["--help"]), ("serve", serve)]:
+        yield Test(f"arguments/output_that_is_full_of_{name}", partial(output_that_is_full, program, words))

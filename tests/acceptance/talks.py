@@ -1,0 +1,130 @@
+"""Talks: what consoles at one served cluster say and hear, in order. README.md tells of their form."""
+
+import os
+import re
+from dataclasses import dataclass
+from functools import partial
+
+from .outcomes import Failure, Test, shown
+from .served import Console, Served, listen_to
+
+STEP = re.compile(rb"(\d+(?:,\d+)*)([<>]) ?(.*)", re.S)
+CLOSED = re.compile(rb"closed(?: (\d+))?(?: to (\d+))?")
+END = b"(end)"
+GONE = b"(gone)"
+
+
+@dataclass(frozen=True)
+class Step:
+    place: int
+    consoles: tuple
+    is_said: bool
+    text: bytes
+
+
+@dataclass(frozen=True)
+class Talk:
+    options: list
+    steps: list
+    least: int
+    most: int
+
+
+def unescaped(text):
+    """A text in which `\\xNN` stands for a byte."""
+    return re.sub(rb"\\x([0-9a-f]{2})", lambda found: bytes([int(found[1], 16)]), text)
+
+
+def read_step(place, line):
+    found = STEP.fullmatch(line)
+    if not found:
+        raise Failure(f"line {place} of the talk is no step: {shown(line)}")
+    consoles = tuple(int(it) for it in found[1].split(b","))
+    return Step(place, consoles, found[2] == b">", unescaped(found[3]))
+
+
+def read_talk(text):
+    """Reads a talk: the options of `serve`, steps, and how the cluster is closed."""
+    options, *steps, last = text.removesuffix(b"\n").split(b"\n")
+    closed = CLOSED.fullmatch(last)
+    if not closed:
+        raise Failure(f"the talk ends with {shown(last)}, and not with `closed`")
+    least = int(closed[1] or 0)
+    most = int(closed[2] or closed[1]) if closed[1] else None
+    steps = [read_step(place, line) for place, line in enumerate(steps, 2) if not line.startswith(b"#")]
+    return Talk(options.decode().split(), steps, least, most)
+
+
+def say(console, text):
+    """Says a line, or what stands in place of one."""
+    if text == GONE:
+        console.go()
+    elif text.endswith(END):
+        console.say(text[: -len(END)].removesuffix(b" "))
+        console.end_input()
+    else:
+        console.say(text + b"\n")
+
+
+def state_of(console):
+    """What a console hears next, as it is told."""
+    if console.next_line() is not None:
+        return shown(console.next_line())
+    if console.has_ended:
+        return "its end" if not console.heard else f"its end behind {shown(console.heard)}"
+    return "nothing in time"
+
+
+def hear(consoles, step, seconds):
+    """One of the consoles hears this line next, or its end."""
+
+    def hears(console):
+        if step.text == END:
+            return console.has_ended and not console.heard
+        return console.next_line() == step.text
+
+    def is_known():
+        return any(map(hears, consoles)) or all(it.next_line() is not None for it in consoles)
+
+    listen_to(consoles, is_known, seconds)
+    found = [it for it in consoles if hears(it)]
+    if not found:
+        told = ", ".join(map(state_of, consoles))
+        raise Failure(f"line {step.place}: expected {shown(step.text)}, got {told}")
+    if step.text != END:
+        found[0].take_line()
+
+
+def hear_ends(consoles, seconds):
+    """Each console that isn't gone hears no more than its end."""
+    for number, it in sorted(consoles.items()):
+        if it.stream.fileno() >= 0:
+            listen_to([it], lambda: it.has_ended or it.next_line() is not None, seconds)
+            if it.heard or not it.has_ended:
+                raise Failure(f"console {number}: expected its end, got {state_of(it)}")
+
+
+def play(program, path):
+    """Plays a talk."""
+    with open(path, "rb") as file:
+        talk = read_talk(file.read())
+    consoles = {}
+    with Served(program, talk.options) as served:
+        for step in talk.steps:
+            for number in step.consoles:
+                if number not in consoles:
+                    consoles[number] = Console(served)
+            taking_part = [consoles[number] for number in step.consoles]
+            if not step.is_said:
+                hear(taking_part, step, program.seconds)
+                continue
+            for it in taking_part:
+                say(it, step.text)
+        hear_ends(consoles, program.seconds)
+        served.expect_closed(talk.least, talk.most)
+
+
+def tests(program, root):
+    folder = f"{root}/tests/consoles"
+    for name in sorted(os.listdir(folder)):
+        yield Test(f"consoles/{name}", partial(play, program, f"{folder}/{name}"))
