@@ -149,12 +149,21 @@ fn replays_a_run(rt: HostRuntime) {
     }
 }
 
+/// Whether an end is refused for this cause, without a transcript.
+fn is_refused(alloc: Global, end: NodeEnd<Table>, cause: &CloseFault) -> bool {
+    match replayed(alloc, end, &[]) {
+        Ok(_closed) => false,
+        Err(fault) => fault == *cause,
+    }
+}
+
 /// Whether the log of a node is torn at this place.
 fn is_torn(alloc: Global, end: NodeEnd<Table>, node: &NodeName, place: usize) -> bool {
-    match replayed(alloc, end, &[]) {
-        Err(CloseFault::Torn { node: torn, at }) => torn == *node && at == place,
-        _ => false,
-    }
+    let torn = CloseFault::Torn {
+        node: node.copy(),
+        at: place,
+    };
+    is_refused(alloc, end, &torn)
 }
 
 /// Whether a delivery of a letter that wasn't sent tears.
@@ -201,10 +210,7 @@ fn other_table_tears(alloc: Global, pair: &Pair) -> bool {
 fn is_left_in_hold(alloc: Global, node: &NodeName) -> bool {
     let mut end = new_end(alloc, node);
     end.ended_alone = true;
-    match replayed(alloc, end, &[]) {
-        Err(CloseFault::LeftInHold(left)) => left == *node,
-        _ => false,
-    }
+    is_refused(alloc, end, &CloseFault::LeftInHold(node.copy()))
 }
 
 #[test]

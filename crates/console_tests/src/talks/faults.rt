@@ -1,5 +1,5 @@
-//! Ends of consoles: `quit`, and readers and writers that fail at each point.
-use super::streams::{Full, Shy, Torn};
+//! Ends of consoles: `quit`, a line that has no end, and readers and writers that fail at each point.
+use super::streams::{Endless, Full, Shy, Torn};
 use super::{Clerk, hold};
 use console::{ConsoleFault, answer_lines};
 use std::alloc::Global;
@@ -40,6 +40,16 @@ fn nothing_behind_quit_is_read(rt: HostRuntime) -> Result<(), Fail> {
     assert_eq!(rt; written.as_slice(), b"a.1\nok\n".as_slice());
     assert_eq!(rt; reader.buffer(), b"spawn\nbogus".as_slice());
     assert_eq!(rt; clerk.asked, 1);
+    Ok(())
+}
+
+#[test]
+fn a_line_without_an_end_is_too_many(rt: HostRuntime) -> Result<(), Fail> {
+    let mut clerk = Clerk::new(None)?;
+    let mut written = Vec::new(rt.alloc());
+    let result = hold(rt.alloc(), Endless, &mut written, &mut clerk);
+    assert!(rt; matches!(result, Err(ConsoleFault::TooManyLines)));
+    assert!(rt; written.is_empty());
     Ok(())
 }
 

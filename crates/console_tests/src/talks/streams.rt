@@ -96,3 +96,14 @@ impl Write for Shy {
         Ok(())
     }
 }
+
+/// A reader that gives a line without an end.
+#[derive(Drop)]
+pub(crate) struct Endless;
+
+impl Read for Endless {
+    fn read(&mut self, buf: &mut [u8]) -> io::Result<usize> {
+        buf.fill(b'x');
+        Ok(buf.len())
+    }
+}
