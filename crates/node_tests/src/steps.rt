@@ -30,10 +30,13 @@ fn core(alloc: Global, joined: bool) -> Option<Core> {
     Some(NodeCore::new(alloc, a, &world, &members, joined))
 }
 
-/// Whether this reply is one of those that a step gives.
+/// Whether the last answer that a step gives is this reply.
 fn gives(answers: &Result<Vec<Answer>, StepFault>, reply: &Reply) -> bool {
     match answers {
-        Ok(answers) => answers.iter().any(|answer| answer.reply == *reply),
+        Ok(answers) => match answers.last() {
+            Some(answer) => answer.reply == *reply,
+            None => false,
+        },
         Err(_) => false,
     }
 }

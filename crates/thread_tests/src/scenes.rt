@@ -1,0 +1,261 @@
+//! Scenes that are played at the seats of clusters of threads. One function owns a cluster and its seats; what is played at them
+//! borrows them, since a proof grows with what may be dropped where a function ends.
+use leaves::Ending;
+use meeting::{Flags, Meeting};
+use name_table::ListTable;
+use node_threads::{Call, Cluster, Reply, Seat, SeatFault, Transcript};
+use std::alloc::Global;
+use std::sync::{Arc, Wait};
+use std::test::Fail;
+use std::thread::Threads;
+use std::time::Clock;
+use term::{NodeSet, parse_node, parse_nodes};
+
+mod crowds;
+mod holders;
+mod leaves;
+mod meeting;
+mod names;
+mod rings;
+
+/// A cluster whose tables are lists.
+type Small = Cluster<Meeting, ListTable<Global>>;
+
+/// What is played at the seats of a cluster.
+#[derive(Clone, Copy)]
+enum Scene {
+    /// A process of a node that is alone is registered.
+    First,
+    /// A process of each of two nodes is registered.
+    Both,
+    /// One process works under a lock that another doesn't get.
+    Work,
+    /// A call that waits for a lock ends so.
+    Wait(Ending),
+    /// A node leaves that may be holding the lock.
+    Leave,
+    /// A process is spawned at each node, from a seat in a thread of its own.
+    Spawns,
+    /// Rivals register and unregister names, each from a seat in a thread of its own.
+    Rivals,
+    /// More letters are sent to a node that is held than its inbox has room for.
+    Flood,
+    /// A name is looked up by a node that sleeps before each call.
+    LookUps,
+}
+
+impl Scene {
+    /// Plays it. Whether all was as it is to be.
+    fn play<R: Threads + Wait + Clock + Sync>(
+        self,
+        rt: &R,
+        cluster: &mut Small,
+        seats: &mut [Seat],
+        flags: &Flags,
+    ) -> bool {
+        match self {
+            Scene::First => names::first(rt, seats),
+            Scene::Both => names::both(rt, seats),
+            Scene::Work => holders::work(rt, seats),
+            Scene::Wait(ending) => leaves::wait(rt, cluster, seats, ending),
+            Scene::Leave => leaves::leave(rt, cluster, seats),
+            Scene::Spawns => crowds::spawn_at_all(rt, seats),
+            Scene::Rivals => crowds::rivals(rt, seats),
+            Scene::Flood => crowds::flood(rt, seats, flags),
+            Scene::LookUps => rings::look_ups(rt, seats),
+        }
+    }
+}
+
+/// Spawns a process from a seat. Whether it could.
+fn spawns<R: Wait + Clock>(rt: &R, seat: &mut Seat) -> bool {
+    matches!(seat.call(rt, Call::Spawn), Ok(Reply::Pid(_)))
+}
+
+/// The flags of a gate that holds these nodes until all have come.
+fn held(alloc: Global, nodes: NodeSet, yields: u32) -> Option<Arc<Flags, Global>> {
+    let flags = Flags::new(alloc, nodes, yields).ok()?;
+    Arc::new(alloc, flags).ok()
+}
+
+/// Starts a cluster of these nodes, with the gate of these flags.
+fn start<R>(rt: &R, alloc: Global, nodes: &NodeSet, flags: &Arc<Flags, Global>) -> Option<Small>
+where
+    R: Threads + Wait + Clock + Drop + Copy + Send + 'static,
+{
+    let gate = Meeting::of(flags)?;
+    Small::start(rt, alloc, nodes.as_slice(), &[], gate, 0).ok()
+}
+
+/// Makes a seat at each of these nodes, parted by commas. Whether it could.
+fn sit(cluster: &mut Small, nodes: &str, seats: &mut Vec<Seat>) -> bool {
+    for word in nodes.split(',') {
+        let Ok(node) = parse_node(word) else {
+            return false;
+        };
+        let Ok(seat) = cluster.seat(&node) else {
+            return false;
+        };
+        if seats.push(seat).is_err() {
+            return false;
+        }
+    }
+    true
+}
+
+/// What these seats were told. Whether there was memory for it.
+fn transcribe(seats: Vec<Seat>, transcripts: &mut Vec<Transcript>) -> bool {
+    let mut whole = true;
+    for seat in seats {
+        whole &= transcripts.push(seat.into_transcript()).is_ok();
+    }
+    whole
+}
+
+/// Plays a scene at seats of these nodes of a cluster, and closes it with what they were told. How many events its run had, where
+/// all was as it is to be.
+fn events<R>(
+    rt: &R,
+    alloc: Global,
+    nodes: &NodeSet,
+    at: &str,
+    flags: &Arc<Flags, Global>,
+    scene: Scene,
+) -> Option<u64>
+where
+    R: Threads + Wait + Clock + Drop + Copy + Send + Sync + 'static,
+{
+    let mut cluster = start(rt, alloc, nodes, flags)?;
+    let mut seats = Vec::new(alloc);
+    let fine = sit(&mut cluster, at, &mut seats)
+        && scene.play(rt, &mut cluster, seats.as_mut_slice(), flags);
+    let mut transcripts = Vec::new(alloc);
+    let told = transcribe(seats, &mut transcripts);
+    match cluster.close(rt, transcripts.as_slice()) {
+        Ok(closed) if fine && told && !flags.is_late() => Some(closed.events),
+        _ => None,
+    }
+}
+
+/// Plays a scene as `events` does, at nodes that no gate holds.
+fn plays<R>(rt: &R, alloc: Global, nodes: &str, at: &str, scene: Scene) -> Option<u64>
+where
+    R: Threads + Wait + Clock + Drop + Copy + Send + Sync + 'static,
+{
+    let flags = held(alloc, NodeSet::empty(), 0)?;
+    events(rt, alloc, &parse_nodes(nodes).ok()?, at, &flags, scene)
+}
+
+#[test]
+fn a_node_answers_and_its_run_is_replayed(rt: HostRuntime) {
+    // The last letter, which gives the grant back, may stay undelivered.
+    assert!(rt; matches!(plays(&rt, rt.alloc(), "a", "a", Scene::First), Some(7..=8)));
+}
+
+#[test]
+fn two_nodes_agree(rt: HostRuntime) {
+    assert!(rt; plays(&rt, rt.alloc(), "a,b", "a,b", Scene::Both).is_some());
+}
+
+#[test]
+fn holders_work_under_their_locks(rt: HostRuntime) {
+    assert!(rt; plays(&rt, rt.alloc(), "a,b", "a,b", Scene::Work).is_some());
+}
+
+#[test]
+fn a_waiting_call_ends_with_its_process_or_its_node(rt: HostRuntime) {
+    for ending in [Ending::Exit, Ending::Leave, Ending::ClusterLeave] {
+        assert!(rt; plays(&rt, rt.alloc(), "a,b", "b,b", Scene::Wait(ending)).is_some());
+    }
+}
+
+#[test]
+fn a_leave_waits_behind_a_hold(rt: HostRuntime) {
+    for _ in 0..20u32 {
+        assert!(rt; plays(&rt, rt.alloc(), "a,b,c", "a,b", Scene::Leave).is_some());
+    }
+}
+
+#[test]
+fn rivals_all_get_their_turns(rt: HostRuntime) {
+    assert!(rt; plays(&rt, rt.alloc(), "a,b,c", "a,b,c", Scene::Rivals).is_some());
+}
+
+#[test]
+fn who_sleeps_is_woken(rt: HostRuntime) {
+    assert!(rt; plays(&rt, rt.alloc(), "a", "a", Scene::LookUps) == Some(rings::LOOK_UPS));
+}
+
+#[test]
+fn eight_nodes_step_at_once(rt: HostRuntime) -> Result<(), Fail> {
+    let all = parse_nodes("a,b,c,d,e,f,g,h")?;
+    let Some(flags) = held(rt.alloc(), all.copy(), 1_000_000) else {
+        return Err(Fail::from("no memory"));
+    };
+    let events = events(
+        &rt,
+        rt.alloc(),
+        &all,
+        "a,b,c,d,e,f,g,h",
+        &flags,
+        Scene::Spawns,
+    );
+    assert!(rt; events == Some(8));
+    Ok(())
+}
+
+/// The gate holds `b` until the scene has come, too, as `z`.
+#[test]
+fn nothing_is_lost_before_a_full_inbox(rt: HostRuntime) -> Result<(), Fail> {
+    let Some(flags) = held(rt.alloc(), parse_nodes("b,z")?, 100_000_000) else {
+        return Err(Fail::from("no memory"));
+    };
+    let events = events(
+        &rt,
+        rt.alloc(),
+        &parse_nodes("a,b")?,
+        "a",
+        &flags,
+        Scene::Flood,
+    );
+    // Each process was spawned, exited, and was heard of at the other node.
+    assert!(rt; events.is_some_and(|events| events > 3 * 4_200));
+    Ok(())
+}
+
+/// A seat for each that a cluster has, at the node `a`.
+const ALL_SEATS: &str = "\
+a,a,a,a,a,a,a,a,a,a,a,a,a,a,a,a,a,a,a,a,a,a,a,a,a,a,a,a,a,a,a,a,\
+a,a,a,a,a,a,a,a,a,a,a,a,a,a,a,a,a,a,a,a,a,a,a,a,a,a,a,a,a,a,a,a";
+
+/// Makes all seats of a cluster of the node `a`, and closes it. Whether no further seat was made, nor one at another node, and the seats
+/// were closed.
+fn spends<R>(rt: &R, alloc: Global) -> bool
+where
+    R: Threads + Wait + Clock + Drop + Copy + Send + Sync + 'static,
+{
+    let (Ok(a), Ok(b)) = (parse_node("a"), parse_node("b")) else {
+        return false;
+    };
+    let Some(flags) = held(alloc, NodeSet::empty(), 0) else {
+        return false;
+    };
+    let Some(mut cluster) = start(rt, alloc, &NodeSet::one(a.copy()), &flags) else {
+        return false;
+    };
+    let mut seats = Vec::new(alloc);
+    let made = sit(&mut cluster, ALL_SEATS, &mut seats);
+    let spent = matches!(cluster.seat(&a), Err(SeatFault::SeatsSpent));
+    let strange = matches!(cluster.seat(&b), Err(SeatFault::NoSuchNode));
+    let closed = cluster.close(rt, &[]);
+    let last = match seats.last_mut() {
+        Some(seat) => seat.number() == 63 && seat.call(rt, Call::Spawn) == Err(SeatFault::Closed),
+        None => false,
+    };
+    made && spent && strange && last && closed.is_ok_and(|closed| closed.events == 0)
+}
+
+#[test]
+fn seats_are_spent(rt: HostRuntime) {
+    assert!(rt; spends(&rt, rt.alloc()));
+}

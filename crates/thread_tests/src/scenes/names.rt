@@ -1,0 +1,66 @@
+//! Names that are registered and looked up.
+use node_threads::{Call, Reply, Seat, SeatFault};
+use std::sync::Wait;
+use std::time::Clock;
+use term::{Name, Pid, parse_name, parse_node, parse_pid};
+
+/// Spawns a process, which is to be this one, and registers this name for it. Whether both was done.
+pub(super) fn name_process<R: Wait + Clock>(
+    rt: &R,
+    seat: &mut Seat,
+    process: &Pid,
+    name: &Name,
+) -> bool {
+    let spawned = seat.call(rt, Call::Spawn);
+    let named = seat.call(rt, Call::Register(name.copy(), process.copy()));
+    spawned == Ok(Reply::Pid(process.copy())) && named == Ok(Reply::Yes)
+}
+
+/// Whether a look-up finds this owner of a name.
+fn finds<R: Wait + Clock>(rt: &R, seat: &mut Seat, name: &Name, owner: &Pid) -> bool {
+    match seat.whereis(rt, name) {
+        Ok(Some(found)) => found == *owner,
+        _ => false,
+    }
+}
+
+/// Registers a process at its only node, and looks the name up.
+pub(super) fn first<R: Wait + Clock>(rt: &R, seats: &mut [Seat]) -> bool {
+    let (Ok(process), Ok(name)) = (parse_pid("a.1"), parse_name("x")) else {
+        return false;
+    };
+    match seats.first_mut() {
+        Some(seat) => name_process(rt, seat, &process, &name) && finds(rt, seat, &name, &process),
+        None => false,
+    }
+}
+
+/// Whether a seat is told these two names alone, in this order.
+fn tells<R: Wait + Clock>(rt: &R, seat: &mut Seat, first: &Name, second: &Name) -> bool {
+    match seat.call(rt, Call::RegisteredNames) {
+        Ok(Reply::Names(names)) => match names.as_slice() {
+            [one, two] => one == first && two == second,
+            _ => false,
+        },
+        _ => false,
+    }
+}
+
+/// Names a process at each of two nodes, and looks both up at both.
+pub(super) fn both<R: Wait + Clock>(rt: &R, seats: &mut [Seat]) -> bool {
+    let (Ok(ours), Ok(theirs)) = (parse_pid("a.1"), parse_pid("b.1")) else {
+        return false;
+    };
+    let (Ok(x), Ok(y), Ok(stranger)) = (parse_name("x"), parse_name("y"), parse_node("z")) else {
+        return false;
+    };
+    let [one, two] = seats else {
+        return false;
+    };
+    let named = name_process(rt, one, &ours, &x) && name_process(rt, two, &theirs, &y);
+    let found = finds(rt, one, &x, &ours) && finds(rt, one, &y, &theirs);
+    let found_there = finds(rt, two, &x, &ours) && finds(rt, two, &y, &theirs);
+    let told = tells(rt, two, &x, &y);
+    let refused = one.call(rt, Call::Join(stranger)) == Err(SeatFault::NoSuchNode);
+    named && found && found_there && told && refused && one.number() == 0 && two.number() == 1
+}

@@ -1,0 +1,54 @@
+//! How threads that sleep are woken.
+use node_threads::Seat;
+use std::sync::Wait;
+use std::time::{Clock, Duration, Instant};
+use term::{Name, parse_name};
+
+/// How often a name is looked up.
+pub(super) const LOOK_UPS: u64 = 200;
+
+/// How many seconds that may take at most. A sleep that no ring ends lasts for a tenth of one, so where one side rings no bell it takes
+/// twenty.
+const MOST_SECONDS: u64 = 5;
+
+/// How long the caller lingers between two calls, in microseconds, so that the node falls asleep.
+const LINGER: u64 = 300;
+
+/// Lingers, and doesn't sleep.
+fn linger<R: Clock>(rt: &R) {
+    let Ok(start) = Instant::now(rt) else {
+        return;
+    };
+    for _ in 0..1_000_000u32 {
+        match start.elapsed(rt) {
+            Ok(taken) if taken < Duration::from_micros(LINGER) => {}
+            _ => return,
+        }
+    }
+}
+
+/// Looks a name up again and again. The node sleeps before each call, and the seat before each reply. Whether nobody has the name.
+fn finds_nobody<R: Wait + Clock>(rt: &R, seat: &mut Seat, name: &Name) -> bool {
+    for _ in 0..LOOK_UPS {
+        linger(rt);
+        if seat.whereis(rt, name) != Ok(None) {
+            return false;
+        }
+    }
+    true
+}
+
+/// Looks a name up that nobody has, in time.
+pub(super) fn look_ups<R: Wait + Clock>(rt: &R, seats: &mut [Seat]) -> bool {
+    let (Ok(name), Ok(start)) = (parse_name("x"), Instant::now(rt)) else {
+        return false;
+    };
+    let Some(seat) = seats.first_mut() else {
+        return false;
+    };
+    let found = finds_nobody(rt, seat, &name);
+    match start.elapsed(rt) {
+        Ok(taken) => found && taken < Duration::from_secs(MOST_SECONDS),
+        Err(_) => false,
+    }
+}
