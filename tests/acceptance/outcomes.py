@@ -33,6 +33,8 @@ def shown(text):
 
 def expect_same(what, expected, found):
     """Fails at the first line in which a text differs from what is expected."""
+    if expected == found:
+        return
     wanted, lines = lines_of(expected), lines_of(found)
     for at in range(max(len(wanted), len(lines))):
         want = shown(wanted[at]) if at < len(wanted) else "its end"

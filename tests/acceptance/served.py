@@ -114,7 +114,7 @@ class Console:
     def read(self):
         """Takes in what has come. A connection that is reset has ended too."""
         try:
-            part = self.stream.recv(65536)
+            part = self.stream.recv(1 << 20)
         except ConnectionResetError:
             part = b""
         self.heard += part

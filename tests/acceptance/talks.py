@@ -2,10 +2,13 @@
 
 import os
 import re
+from contextlib import suppress
 from dataclasses import dataclass
 from functools import partial
+from threading import Thread
 
-from .outcomes import Failure, Test, shown
+from .made import MOST_LINES
+from .outcomes import Failure, Test, expect_same, shown
 from .served import Console, Served, listen_to
 
 STEP = re.compile(rb"(\d+(?:,\d+)*)([<>]) ?(.*)", re.S)
@@ -124,7 +127,27 @@ def play(program, path):
         served.expect_closed(talk.least, talk.most)
 
 
+def say_all(console, text):
+    """Says a long text, as far as it is listened to."""
+    with suppress(OSError):
+        console.say(text)
+
+
+def a_million_lines(program):
+    """As many are answered, and the next one ends the console."""
+    with Served(program, ["--nodes", "a", "--consoles", "1"]) as served:
+        console = Console(served)
+        lines = b"attach a\n" + b"\n" * (MOST_LINES + 1)
+        sender = Thread(target=say_all, args=[console, lines], daemon=True)
+        sender.start()
+        listen_to([console], lambda: console.has_ended, program.seconds)
+        expect_same("the answers", b"ok\n" + b"error bad_line\n" * MOST_LINES, console.heard)
+        sender.join()
+        served.expect_closed(most=0)
+
+
 def tests(program, root):
     folder = f"{root}/tests/consoles"
     for name in sorted(os.listdir(folder)):
         yield Test(f"consoles/{name}", partial(play, program, f"{folder}/{name}"))
+    yield Test("consoles/a_million_lines", partial(a_million_lines, program))
