@@ -5,6 +5,7 @@ import selectors
 import socket
 import subprocess
 import time
+from contextlib import suppress
 
 from .outcomes import Failure, expect_same, shown
 
@@ -102,10 +103,13 @@ class Console:
         self.has_ended = False
 
     def say(self, text):
-        self.stream.sendall(text)
+        """Says a text, as far as it is listened to."""
+        with suppress(OSError):
+            self.stream.sendall(text)
 
     def end_input(self):
-        self.stream.shutdown(socket.SHUT_WR)
+        with suppress(OSError):
+            self.stream.shutdown(socket.SHUT_WR)
 
     def go(self):
         """Is gone at once, and hears nothing any more."""
@@ -121,7 +125,7 @@ class Console:
         self.has_ended = not part
 
     def next_line(self):
-        """The next line that was heard and not taken yet, without its end. At the end it is empty, or lacks its end."""
+        """The next line that was heard and not taken yet, without its end, or none where it isn't whole."""
         line, end, _ = self.heard.partition(b"\n")
         return line if end else None
 

@@ -2,7 +2,6 @@
 
 import os
 import re
-from contextlib import suppress
 from dataclasses import dataclass
 from functools import partial
 from threading import Thread
@@ -127,18 +126,12 @@ def play(program, path):
         served.expect_closed(talk.least, talk.most)
 
 
-def say_all(console, text):
-    """Says a long text, as far as it is listened to."""
-    with suppress(OSError):
-        console.say(text)
-
-
 def a_million_lines(program):
     """As many are answered, and the next one ends the console."""
     with Served(program, ["--nodes", "a", "--consoles", "1"]) as served:
         console = Console(served)
         lines = b"attach a\n" + b"\n" * (MOST_LINES + 1)
-        sender = Thread(target=say_all, args=[console, lines], daemon=True)
+        sender = Thread(target=console.say, args=[lines], daemon=True)
         sender.start()
         listen_to([console], lambda: console.has_ended, program.seconds)
         expect_same("the answers", b"ok\n" + b"error bad_line\n" * MOST_LINES, console.heard)

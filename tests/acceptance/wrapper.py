@@ -77,6 +77,22 @@ def hands_on_what_it_is_given(program, root):
         expect(call(folder, ["script"], program.seconds, script=script), b"", 3)
 
 
+def tries_what_it_is_given(program, root):
+    """The kit is called in the program's folder, and what it prints and its status are handed on."""
+    with tree(root) as folder:
+        expect(call(folder, ["try", "script"], program.seconds), b"", 3)
+        make_command(f"{folder}/kit/rt", 'basename "$PWD"; echo "$@"; cat; exit 5')
+        ran = call(folder, ["try", "script", "more"], program.seconds, has_kit=True, script=b"cluster a\n")
+    expect(ran, b"cluster_main\ntry -- script more\ncluster a\n", 5)
+    if b"nothing is proved" not in ran.stderr:
+        raise Failure("it doesn't tell that nothing is proved")
+
+
 def tests(program, root):
-    for it in [cannot_build_without_the_kit, tells_how_a_build_failed, hands_on_what_it_is_given]:
+    for it in [
+        cannot_build_without_the_kit,
+        tells_how_a_build_failed,
+        hands_on_what_it_is_given,
+        tries_what_it_is_given,
+    ]:
         yield Test(f"wrapper/{it.__name__}", partial(it, program, root))
