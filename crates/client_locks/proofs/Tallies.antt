@@ -1,13 +1,15 @@
 -- Along every run the numbers by the last tries are those by the rounds, so at a running node no resource is held under
 -- two requesters.
-use Rattle.std.proofs.Common.{ℕ, Bool, ◌≡◌, ◌<◌, ◌+◌, ◌-◌, Option, Some, None, List, [], ◌∷◌, refl, sym, ap, ◌∙◌, subst}
+use Rattle.std.proofs.Common.{ℕ, Bool, ◌==◌, ◌≡◌, ◌<◌, ◌+◌, ◌-◌, Option, Some, None, List, [], ◌∷◌, refl, sym, ap, ◌∙◌, subst}
 use Rattle.std.specs.Prelude.{is_none, if◌then◌else◌}
+use Rattle.std.proofs.lemmas.Bool.{eqb-true, eq-eqb}
 use Rattle.registry_model.specs.Process.{Process}
-use Rattle.protocol_model.specs.Letter.{Id}
+use Rattle.protocol_model.specs.Letter.{Id, Client}
 use Rattle.protocol_model.specs.Event.{Answer, Refusal}
 use Rattle.protocol_model.specs.ClientLocks.{Try, gives, is_gone, Tally, tallied, tally_after, tally_from, number, Exclusion}
 use Rattle.protocol_model.specs.World.{Opening, World, WorldEvent, place, opening_world, refusal, happens, accepted, answers, turn_of, run}
 use Rattle.moves.proofs.Rules.{answers_by}
+use Rattle.moves.proofs.Indices.{both}
 use Rattle.walk.proofs.Walk.{OrderedWalk, walked_in_order}
 use Rattle.walk.proofs.Orders.{ordered_keeps}
 use Rattle.client_locks.proofs.RoundNumbers
@@ -92,6 +94,7 @@ module _ (o : Opening) (F : World → Type 0) (G : Grounds o F) where
 
 -- no resource is held under two requesters at a node that runs
 pub exclusion_from : (F : Opening → World → Type 0) → ((o : Opening) → Grounds o (F o)) → Exclusion
-exclusion_from F grounds o es c inside up p q i j hp hq r = excluded o (F o) (grounds o) es c inside up p q i j
-    (subst (λ (n : ℕ). 0 < n) (numbers_agree o (F o) (grounds o) es p i c) hp)
-    (subst (λ (n : ℕ). 0 < n) (numbers_agree o (F o) (grounds o) es q j c) hq) r
+exclusion_from F grounds o es c inside up p q r x y hp hq = eqb-true x y (both (r == r) (x == y) (excluded o (F o)
+    (grounds o) es c inside up p q (Client r x) (Client r y)
+    (subst (λ (n : ℕ). 0 < n) (numbers_agree o (F o) (grounds o) es p (Client r x) c) hp)
+    (subst (λ (n : ℕ). 0 < n) (numbers_agree o (F o) (grounds o) es q (Client r y) c) hq) (eq-eqb r r refl)).1)

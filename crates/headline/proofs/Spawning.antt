@@ -13,7 +13,7 @@ use Rattle.protocol_model.specs.Node.{Node}
 use Rattle.protocol_model.specs.Event.{Call, Event, Answer}
 use Rattle.protocol_model.specs.Turn.{begun, enter}
 use Rattle.protocol_model.specs.Registrar.{registrar}
-use Rattle.protocol_model.specs.Answers.{answer_to}
+use Rattle.protocol_model.specs.Answers.{answer_to, IsSpawnOf}
 use Rattle.protocol_model.specs.World.{Opening, World, WorldEvent, At, place, refusal, accepted, opening_world, join_number}
 use Rattle.protocol_model.specs.Course.{Played, played}
 use Rattle.protocol_model.specs.Headline.{EachStep}
@@ -28,7 +28,7 @@ use Rattle.fitting.proofs.Replies.{answers_given}
 use Rattle.fitting.proofs.Theorem
 use Rattle.client_locks.proofs.Growing.{node_answer_op, same_judge, same_take_back, same_ask_rest, same_refuse}
 use Rattle.headline.specs.Clauses.{events, world}
-use Rattle.headline.specs.Laws.{IsSpawnOf, SpawnsAnew}
+use Rattle.headline.specs.Laws.{SpawnsAnew}
 use Rattle.headline.proofs.Together.{Whole, whole_opens, event_walks}
 use Rattle.headline.proofs.Story.{ground}
 use Rattle.headline.proofs.Joiners.{each_step_push}

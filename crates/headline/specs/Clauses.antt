@@ -1,14 +1,15 @@
 -- The clauses of the headline, each by itself, of every opening and every list of events.
 use mathlib.Core.Logic.{◌⊎◌}
-use Rattle.std.specs.Prelude.{ℕ, ◌≡◌, IsTrue, Contains, fold, Some, None, option_map, flat_map, List, [], ◌∷◌, ◌++◌, if◌then◌else◌}
-use Rattle.registry_model.specs.Call.{Yes}
+use Rattle.std.specs.Prelude.{ℕ, ◌≡◌, IsTrue, Contains, fold, Some, None, option_map, filter, flat_map, List, [], ◌∷◌, ◌++◌, if◌then◌else◌}
+use Rattle.registry_model.specs.Process.{Process}
+use Rattle.registry_model.specs.Call.{Look, Yes, Joined, Pid, seen_in}
 use Rattle.registry_model.specs.History.{Entry, Standing, is_free, is_holding, old, after}
 use Rattle.registry_model.specs.Legal.{IsLegal}
-use Rattle.protocol_model.specs.Event.{Event, Answer, HoldsLock}
+use Rattle.protocol_model.specs.Event.{Call, Event, Answer, HoldsLock}
 use Rattle.protocol_model.specs.World.{Opening, in_cluster, World, WorldEvent, At, opening_world, run}
 use Rattle.protocol_model.specs.Course.{Played, Seen, entries_of, course, seen}
 use Rattle.protocol_model.specs.Fit.{IsPrefix, IsMadeIn, Fits}
-use Rattle.protocol_model.specs.Answers.{answers_at, entered_at, AnswersInTime, LooksUpOnce, AnswersCalls, JoinerIsAnswered}
+use Rattle.protocol_model.specs.Answers.{answer_to, answers_at, entered_at, is_unnumbered, AnswersInTime, LooksUpOnce, IsNextProcess, AnswersCalls, JoinerIsAnswered}
 use Rattle.protocol_model.specs.Headline.{standing, Shows, IsRunning, GroupShows, DecidedUnderLock, EachStep}
 
 module _ (o : Opening) (es : List WorldEvent) where
@@ -60,6 +61,18 @@ IsDecidedUnderLock = (o : Opening) (es : List WorldEvent) → DecidedUnderLock o
 abbrev pub EachLookUpOnce : Type 0
 EachLookUpOnce = (o : Opening) (es : List WorldEvent) (p : Played) → Contains (events o es) p → LooksUpOnce p
 
+-- a look-up is answered what its node shows
+abbrev pub LookUpsReadTheTable : Type 0
+LookUpsReadTheTable = (o : Opening) (es : List WorldEvent) (a : ℕ) (look : Look) → IsRunning o (so_far o es) a →
+    filter is_unnumbered ((now o es).answers (At a (Event.Calling (Call.LookUp look))))
+    ≡ answer_to a 0 (seen_in ((now o es).node a).table look) ∷ []
+
+-- a `spawn` gives the next process
+abbrev pub SpawnsGiveTheNext : Type 0
+SpawnsGiveTheNext = (o : Opening) (es : List WorldEvent) (a : ℕ) (q : Process) →
+    Contains ((now o es).answers (At a (Event.Calling Call.Spawn))) (answer_to a 0 (Pid q)) →
+    IsNextProcess (events o es) (now o es).dead a q
+
 -- each numbered call is answered at most once, at its node and by a reply that it may have
 abbrev pub CallsAreAnsweredOnce : Type 0
 CallsAreAnsweredOnce = (o : Opening) (es : List WorldEvent) → AnswersCalls (events o es)
@@ -84,6 +97,11 @@ ShowsWhenHeld = (o : Opening) (es : List WorldEvent) (a : ℕ) → IsRunning o (
 abbrev pub YesIsWritten : Type 0
 YesIsWritten = (o : Opening) (es : List WorldEvent) (before : List Played) (p : Played) (s : Answer) →
     events o es ≡ before ++ p ∷ [] → Contains p.answers s → s.reply ≡ Yes → GroupShows o (so_far o es) s.node (now o es)
+
+-- in a step that answers `joined` the joiner shows the registry
+abbrev pub JoinedIsWelcomed : Type 0
+JoinedIsWelcomed = (o : Opening) (es : List WorldEvent) (before : List Played) (p : Played) (s : Answer) →
+    events o es ≡ before ++ p ∷ [] → Contains p.answers s → s.reply ≡ Joined → Shows (so_far o es).registry s.node (now o es)
 
 -- a leave is refused exactly while an operation of that node holds
 abbrev pub LeaveWaits : Type 0

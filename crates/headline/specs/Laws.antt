@@ -4,7 +4,7 @@ use Rattle.std.specs.Prelude.{ℕ, Bool, true, false, ◌≡◌, IsTrue, Contain
 use Rattle.std.specs.List.{list_all}
 use Rattle.registry_model.specs.Process.{Text, Process, Nodes, nobody}
 use Rattle.registry_model.specs.Table.{Put, get}
-use Rattle.registry_model.specs.Call.{NameCall, Register, Yes, No, Pid, change_of}
+use Rattle.registry_model.specs.Call.{NameCall, Register, Yes, No, change_of}
 use Rattle.registry_model.specs.Registry.{in_group}
 use Rattle.registry_model.specs.History.{Entry, Name, is_free, registry_of}
 use Rattle.registry_model.specs.HistoryLaws.{HasOneOwner, IsFreeFor, Takes}
@@ -13,7 +13,7 @@ use Rattle.protocol_model.specs.Event.{Call, Event, Refusal, Answer}
 use Rattle.protocol_model.specs.World.{Opening, in_world, in_cluster, World, left, WorldEvent, At, refusal, happens, answers}
 use Rattle.protocol_model.specs.Course.{Played, course}
 use Rattle.protocol_model.specs.Fit.{NameAs, accepted_at}
-use Rattle.protocol_model.specs.Answers.{answer_to}
+use Rattle.protocol_model.specs.Answers.{IsSpawnOf}
 use Rattle.protocol_model.specs.Headline.{Headline, EachStep}
 use Rattle.headline.specs.Clauses.{world, now, events, so_far}
 
@@ -97,11 +97,6 @@ pub record ChangesNothing (o : Opening) (w : World) (e : WorldEvent) : Type 0 wh
 abbrev pub RefusedChangesNothing : Type 0
 RefusedChangesNothing = (o : Opening) (w : World) (e : WorldEvent) (r : Refusal) → refusal o w e ≡ Some r
     → ChangesNothing o w e
-
--- the step is a `spawn` that gives this process
-pub record IsSpawnOf (p : Played) (q : Process) : Type 0 where
-  pub event : p.event ≡ At q.node (Event.Calling Call.Spawn)
-  pub answer : Contains p.answers (answer_to q.node 0 (Pid q))
 
 -- no step before has given a process that this step gives
 abbrev pub SpawnsAnew : List Played → Played → Type 0

@@ -89,6 +89,25 @@ LooksUpOnce p = elim p.event [
   | _ ↦ IsNoLookUp p
 ]
 
+-- the step is a `spawn` that gives this process
+pub record IsSpawnOf (p : Played) (q : Process) : Type 0 where
+  pub event : p.event ≡ At q.node (Event.Calling Call.Spawn)
+  pub answer : Contains p.answers (answer_to q.node 0 (Pid q))
+
+-- one of these steps spawned this process
+abbrev pub WasSpawned : List Played → Process → Type 0
+WasSpawned ps q = (p : Played) × Contains ps p × IsSpawnOf p q
+
+-- What a `spawn` at a may give behind these steps, where so many are dead at their nodes: its serial is above all that were
+-- spawned there, it isn't dead, and each between them is
+pub record IsNextProcess (ps : List Played) (dead : Process → Bool) (a : ℕ) (q : Process) : Type 0 where
+  pub home : q.node ≡ a
+  pub serial : 0 < q.serial
+  pub alive : dead q ≡ false
+  pub above : (r : Process) → r.node ≡ a → WasSpawned ps r → r.serial < q.serial
+  pub between : (r : Process) → r.node ≡ a → 0 < r.serial → r.serial < q.serial →
+      ((s : Process) → s.node ≡ a → WasSpawned ps s → s.serial < r.serial) → dead r ≡ true
+
 -- the replies that a numbered call may have
 abbrev pub may_have : Call → Reply → Bool
 may_have (Call.OnName (Register x p)) reply = elim reply [ Yes ↦ true | No ↦ true | UnknownNode ↦ true | _ ↦ false ]

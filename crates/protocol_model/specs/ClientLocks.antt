@@ -1,9 +1,9 @@
 -- Clients' locks: how often a process holds a lock at a node, as events and answers tell it.
 use Rattle.std.specs.Prelude.{ℕ, Bool, true, false, ◌&&◌, ◌||◌, ◌==◌, ◌+◌, ◌-◌, ◌≡◌, ◌<◌, IsTrue, Option, Some, None, is_none, List, [], ◌∷◌, if◌then◌else◌}
 use Rattle.std.specs.List.{list_any}
-use Rattle.registry_model.specs.Process.{Process, is_process, Nodes}
+use Rattle.registry_model.specs.Process.{Text, Process, is_process, Nodes}
 use Rattle.registry_model.specs.Call.{True, is_reply}
-use Rattle.protocol_model.specs.Letter.{Id, Client, is_id, is_resource}
+use Rattle.protocol_model.specs.Letter.{Id, Client, is_id}
 use Rattle.protocol_model.specs.Watch.{is_dead}
 use Rattle.protocol_model.specs.Node.{Target, call_of, targets}
 use Rattle.protocol_model.specs.Event.{Call, Event, Answer, is_waiting_call}
@@ -98,7 +98,11 @@ number o es p id c = (tally_from o (opening_world o) es p id c (record { number 
 abbrev pub Holds : Opening → List WorldEvent → Process → Id → ℕ → Type 0
 Holds o es p id c = 0 < number o es p id c
 
--- at a running node no resource is held under two requesters
+-- behind these events, of which the world is w, no resource is held under two requesters at a running node
+abbrev pub ExclusionAfter : Opening → List WorldEvent → World → Type 0
+ExclusionAfter o es w = (c : ℕ) → in_world o c ≡ true → left w c ≡ false → (p q : Process) (resource x y : Text) →
+    Holds o es p (Client resource x) c → Holds o es q (Client resource y) c → x ≡ y
+
+-- so it is behind every list of events
 abbrev pub Exclusion : Type 0
-Exclusion = (o : Opening) (es : List WorldEvent) (c : ℕ) → in_world o c ≡ true → left (run o (opening_world o) es) c ≡ false →
-    (p q : Process) (i j : Id) → Holds o es p i c → Holds o es q j c → IsTrue (is_resource i j) → IsTrue (is_id i j)
+Exclusion = (o : Opening) (es : List WorldEvent) → ExclusionAfter o es (run o (opening_world o) es)

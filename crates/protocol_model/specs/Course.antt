@@ -4,11 +4,12 @@
 -- m its contact, d one that left), k the number of a call.
 use Rattle.std.specs.Prelude.{ℕ, Bool, false, Option, is_none, flat_map, List, [], ◌∷◌, ◌++◌, if◌then◌else◌}
 use Rattle.std.specs.List.{list_any}
-use Rattle.registry_model.specs.Process.{Nodes}
+use Rattle.registry_model.specs.Process.{Process, Nodes}
 use Rattle.registry_model.specs.Registry.{Replica}
 use Rattle.registry_model.specs.History.{Entry}
 use Rattle.protocol_model.specs.Letter.{Global, is_id, Letter, is_down}
 use Rattle.protocol_model.specs.LockTable.{Locks}
+use Rattle.protocol_model.specs.Watch.{is_dead}
 use Rattle.protocol_model.specs.Event.{Answer, Refusal}
 use Rattle.protocol_model.specs.World.{Opening, World, WorldEvent, Deliver, refusal, happens, answers, turn_of, holder}
 
@@ -19,14 +20,16 @@ pub record Played : Type 0 where
   pub entries : List Entry
   pub down : Bool
 
--- what a world shows of itself; given c a: node c has given the global lock to a; refusal e: why it would refuse e now,
--- if it would
+-- what a world shows of itself; given c a: node c has given the global lock to a; dead p: p is dead at its node; refusal e:
+-- why it would refuse e now, if it would; answers e: what it would answer in the step of e now
 pub record Seen : Type 0 where
   pub history : List Entry
   pub node : ℕ → Replica
   pub given : ℕ → Nodes
+  pub dead : Process → Bool
   pub holder : Option ℕ
   pub refusal : WorldEvent → Option Refusal
+  pub answers : WorldEvent → List Answer
 
 -- the history that these events made
 abbrev pub entries_of : List Played → List Entry
@@ -66,6 +69,8 @@ seen o w = record {
   history = w.history;
   node = λ a. (w.node a).replica;
   given = λ c. global_given (w.node c).locks;
+  dead = λ p. is_dead (w.node p.node).watch p.serial;
   holder = holder o w;
   refusal = refusal o w;
+  answers = answers o w;
 }

@@ -1,17 +1,18 @@
 -- The headline: all answers to name calls and joins are those of one sequential registry that takes the granted operations
 -- in lock order, and whenever the lock is free, the replicas are that registry's.
 use mathlib.Core.Logic.{◌⊎◌}
-use Rattle.std.specs.Prelude.{ℕ, true, false, ◌==◌, ◌≡◌, IsTrue, Contains, fold, Some, None, option_map, flat_map, List, [], ◌∷◌, ◌++◌, if◌then◌else◌}
-use Rattle.registry_model.specs.Call.{Yes}
+use Rattle.std.specs.Prelude.{ℕ, true, false, ◌==◌, ◌≡◌, IsTrue, Contains, fold, Some, None, option_map, filter, flat_map, List, [], ◌∷◌, ◌++◌, if◌then◌else◌}
+use Rattle.registry_model.specs.Call.{Look, Yes, Joined, Pid, seen_in}
+use Rattle.registry_model.specs.Process.{Process}
 use Rattle.registry_model.specs.Registry.{Registry, in_group, replica_of}
 use Rattle.registry_model.specs.History.{Entry, Standing, standing_of, is_free, is_holding, old, after}
 use Rattle.registry_model.specs.HistoryLaws.{decided_by}
 use Rattle.registry_model.specs.Legal.{IsLegal}
-use Rattle.protocol_model.specs.Event.{Event, Answer, HoldsLock}
+use Rattle.protocol_model.specs.Event.{Call, Event, Answer, HoldsLock}
 use Rattle.protocol_model.specs.World.{Opening, in_world, in_cluster, WorldEvent, At, opening_world, run}
 use Rattle.protocol_model.specs.Course.{Played, Seen, entries_of, course, seen}
 use Rattle.protocol_model.specs.Fit.{IsPrefix, IsMadeIn, Fits}
-use Rattle.protocol_model.specs.Answers.{answers_at, entered_at, AnswersInTime, LooksUpOnce, AnswersCalls, JoinerIsAnswered}
+use Rattle.protocol_model.specs.Answers.{answer_to, answers_at, entered_at, is_unnumbered, AnswersInTime, LooksUpOnce, IsNextProcess, AnswersCalls, JoinerIsAnswered}
 
 -- how things stand behind these events
 abbrev pub standing : Opening → List Played → Standing
@@ -59,6 +60,13 @@ pub record Headline (o : Opening) (ps : List Played) (now : Seen) : Type 0 where
   pub decided : DecidedUnderLock o ps now
   -- a look-up is entered once and answered once
   pub looks : (p : Played) → Contains ps p → LooksUpOnce p
+  -- and it is answered what its node shows
+  pub reads : (a : ℕ) (look : Look) → IsRunning o (standing o ps) a →
+      filter is_unnumbered (now.answers (At a (Event.Calling (Call.LookUp look))))
+      ≡ answer_to a 0 (seen_in (now.node a).table look) ∷ []
+  -- a `spawn` gives the next process
+  pub spawns : (a : ℕ) (q : Process) → Contains (now.answers (At a (Event.Calling Call.Spawn))) (answer_to a 0 (Pid q)) →
+      IsNextProcess ps now.dead a q
   -- each numbered call is answered at most once, by a reply that it may have
   pub answered : AnswersCalls ps
   -- where a step ends an admission, its joiner was answered `joined`, or has left
@@ -71,6 +79,9 @@ pub record Headline (o : Opening) (ps : List Played) (now : Seen) : Type 0 where
   -- in a step that answers `yes`, every running node of that group has carried out the write
   pub written : (before : List Played) (p : Played) (s : Answer) → ps ≡ before ++ p ∷ [] → Contains p.answers s → s.reply ≡ Yes →
       GroupShows o (standing o ps) s.node now
+  -- in a step that answers `joined` the joiner shows the registry
+  pub welcomed : (before : List Played) (p : Played) (s : Answer) → ps ≡ before ++ p ∷ [] → Contains p.answers s →
+      s.reply ≡ Joined → Shows (standing o ps).registry s.node now
   -- a leave is refused exactly while an operation of that node holds
   pub leave : (a : ℕ) → IsRunning o (standing o ps) a →
       now.refusal (At a Event.Leave) ≡ (if is_holding (standing o ps) a then Some HoldsLock else None)

@@ -1,6 +1,7 @@
 pub mod Round
 pub mod Letter
 pub mod Links
+pub mod LockAnswers
 pub mod LockTable
 pub mod Watch
 pub mod Node
