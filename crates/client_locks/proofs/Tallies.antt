@@ -94,7 +94,7 @@ module _ (o : Opening) (F : World → Type 0) (G : Grounds o F) where
 
 -- no resource is held under two requesters at a node that runs
 pub exclusion_from : (F : Opening → World → Type 0) → ((o : Opening) → Grounds o (F o)) → Exclusion
-exclusion_from F grounds o es c inside up p q r x y hp hq = eqb-true x y (both (r == r) (x == y) (excluded o (F o)
+exclusion_from F grounds o es c inside up p q r x y hp hq = eqb-true x y ((both (r == r) (x == y) (excluded o (F o)
     (grounds o) es c inside up p q (Client r x) (Client r y)
     (subst (λ (n : ℕ). 0 < n) (numbers_agree o (F o) (grounds o) es p (Client r x) c) hp)
-    (subst (λ (n : ℕ). 0 < n) (numbers_agree o (F o) (grounds o) es q (Client r y) c) hq) (eq-eqb r r refl)).1)
+    (subst (λ (n : ℕ). 0 < n) (numbers_agree o (F o) (grounds o) es q (Client r y) c) hq) (eq-eqb r r refl))).1)
