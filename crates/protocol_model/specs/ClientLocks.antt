@@ -1,5 +1,5 @@
 -- Clients' locks: how often a process holds a lock at a node, as events and answers tell it.
-use Rattle.std.specs.Prelude.{ℕ, Bool, true, false, ◌&&◌, ◌||◌, ◌==◌, ◌+◌, ◌-◌, ◌≡◌, ◌<◌, IsTrue, Option, Some, None, is_none, List, [], ◌∷◌, if◌then◌else◌}
+use Rattle.std.specs.Prelude.{ℕ, Bool, true, false, ◌&&◌, ◌||◌, ◌==◌, ◌+◌, ◌-◌, ◌≡◌, ◌<◌, Option, Some, None, is_none, List, [], ◌∷◌, if◌then◌else◌}
 use Rattle.std.specs.List.{list_any}
 use Rattle.registry_model.specs.Process.{Text, Process, is_process, Nodes}
 use Rattle.registry_model.specs.Call.{True, is_reply}

@@ -20,6 +20,7 @@ pub mod Headline
 pub mod ClientLocks
 pub mod Leftovers
 pub mod Script
+pub mod SharedLaws
 pub mod RowWords
 pub mod Tests
 pub mod Check

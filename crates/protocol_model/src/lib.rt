@@ -3,3 +3,4 @@
 #![tactic(auto)]
 
 pub mod rows;
+pub mod shared;

@@ -1,0 +1,23 @@
+//! What the functions mean that the rules share with the statements on clients' locks, and how a world opens.
+ghost use Rattle.protocol_model.specs.SharedLaws.{ComparesIds, AsksMembers, GrantsTheFree, OpensEmpty};
+ghost use Rattle.protocol_model.specs.World.{Opening, opening_world};
+
+/// When two ids of locks are one, or of one resource.
+pub fn ids()
+    ensures { ComparesIds }
+{}
+
+/// Whom a lock call asks.
+pub fn targets()
+    ensures { AsksMembers }
+{}
+
+/// When a lock table grants a lock.
+pub fn free_locks()
+    ensures { GrantsTheFree }
+{}
+
+/// How a world opens.
+pub fn opening()
+    ensures { (o : Opening) → OpensEmpty o (opening_world o) }
+{}
