@@ -1,24 +1,24 @@
 -- Clients' locks, where events are played in pieces, and who has a lock by a grant.
 use Rattle.std.proofs.Common.{ℕ, Bool, true, false, ◌≡◌, ◌<◌, ◌+◌, ◌-◌, Option, Some, None, List, [], ◌∷◌, ◌++◌, refl, sym, subst, arith}
-use Rattle.std.specs.Prelude.{IsTrue, is_none, is_some, not, ◌&&◌, ◌||◌, if◌then◌else◌}
+use Rattle.std.specs.Prelude.{is_none, is_some, not, ◌&&◌, ◌||◌, if◌then◌else◌}
 use Rattle.std.proofs.lemmas.Bool.{and_parts}
-use Rattle.leftovers.proofs.HeadlineClients.{exclusion}
+use Rattle.lock_answers.proofs.ClientLocks.{client_locks}
 use Rattle.registry_model.specs.Process.{Process}
 use Rattle.node_core.specs.declared.Answer.{Answer}
 use Rattle.protocol_model.specs.ClientLocks.{Tally, tally_from, tally_after, last_try, is_won, is_gone, gives, Holds}
 use Rattle.protocol_model.specs.Event.{Refusal as AnyRefusal}
-use Rattle.protocol_model.specs.Letter.{Id, is_id}
+use Rattle.protocol_model.specs.Letter.{Id, Client}
 use Rattle.protocol_model.specs.World.{Opening, World, WorldEvent as AnyWorldEvent, opening_world, refusal, happens, answers, run}
 use Rattle.cluster_world.specs.declared.events.WorldEvent.{WorldEvent}
 use Rattle.cluster_world.specs.Held.{Held}
 use Rattle.cluster_world.specs.Seen.{opening_with, opening_of, seen}
 use Rattle.cluster_world.specs.Playing.{events_of}
 use Rattle.cluster_world.specs.Agreeing.{AgreesAfter, Agrees}
-use Rattle.cluster_world.specs.Excluding.{ExclusionAfter, Excludes, NeverBothHold, HasLock, is_left, is_kept}
+use Rattle.cluster_world.specs.Excluding.{LocksAfter, Excludes, NeverBothHold, HasLock, is_left, is_kept}
 
--- where the headline stands behind events, locks exclude each other behind them
-pub excluded : (es : List AnyWorldEvent) (h : Held) → AgreesAfter es h → ExclusionAfter (opening_of h) es (seen h)
-excluded es h A = subst (λ (w : World). ExclusionAfter (opening_of h) es w) (sym A.is_run) (exclusion (opening_of h) es)
+-- where the headline stands behind events, locks are so behind them
+pub excluded : (es : List AnyWorldEvent) (h : Held) → AgreesAfter es h → LocksAfter (opening_of h) es (seen h)
+excluded es h A = subst (λ (w : World). LocksAfter (opening_of h) es w) (sym A.is_run) (client_locks (opening_of h) es)
 
 -- and behind what was run
 pub excludes : (es : List WorldEvent) (given : List Answer) (old new : Held) → Agrees es given old new
@@ -96,7 +96,7 @@ module _ (o : Opening) (p : Process) (id : Id) (c : ℕ) where
 
 -- two requesters never have granted locks on one resource at a running node
 pub never_both : NeverBothHold
-never_both nodes cluster es c p q i j inside running same other hp hq =
-    let one : IsTrue (is_id i j) = exclusion (opening_with nodes cluster) es c inside running p q i j
-    (has_holds (opening_with nodes cluster) p i c es hp) (has_holds (opening_with nodes cluster) q j c es hq) same in
-    cc
+never_both nodes cluster es c p q resource x y inside running other hp hq = other
+    ((client_locks (opening_with nodes cluster) es).exclusion c inside running p q resource x y
+    (has_holds (opening_with nodes cluster) p (Client resource x) c es hp)
+    (has_holds (opening_with nodes cluster) q (Client resource y) c es hq))

@@ -1,8 +1,9 @@
 -- Clients' locks of a world.
-use Rattle.std.specs.Prelude.{ℕ, Bool, true, false, ◌≡◌, ◌&&◌, ◌||◌, not, IsTrue, Option, None, is_some, List, [], ◌∷◌, ◌++◌}
-use Rattle.registry_model.specs.Process.{Process}
-use Rattle.protocol_model.specs.ClientLocks.{Try, tally_from, last_try, is_won, is_gone, gives, Holds}
-use Rattle.protocol_model.specs.Letter.{Id, is_id, is_resource}
+use Rattle.std.specs.Prelude.{ℕ, Bool, true, false, ◌≡◌, ◌&&◌, ◌||◌, not, Option, None, is_some, List, [], ◌∷◌, ◌++◌}
+use Rattle.registry_model.specs.Process.{Text, Process}
+use Rattle.protocol_model.specs.ClientLocks.{Try, tally_from, last_try, is_won, is_gone, gives}
+use Rattle.protocol_model.specs.LockAnswers.{ClientLocks}
+use Rattle.protocol_model.specs.Letter.{Id, Client}
 use Rattle.protocol_model.specs.World.{Opening, World, WorldEvent as AnyWorldEvent, in_world, left, opening_world, refusal, happens, answers, run}
 use Rattle.cluster_world.specs.declared.events.WorldEvent.{WorldEvent}
 use Rattle.cluster_world.specs.Held.{Held}
@@ -10,22 +11,21 @@ use Rattle.cluster_world.specs.Seen.{opening_with, opening_of, seen}
 use Rattle.cluster_world.specs.Playing.{events_of}
 use Rattle.cluster_world.specs.Agreeing.{IsRunOf}
 
--- behind these events, of which the world now is, no resource is held under two requesters at a node that hasn't
--- left it
-abbrev pub ExclusionAfter : Opening → List AnyWorldEvent → World → Type 0
-ExclusionAfter o es w = (c : ℕ) → in_world o c ≡ true → left w c ≡ false → (p q : Process) (i j : Id) → Holds o es p i c
-    → Holds o es q j c → IsTrue (is_resource i j) → IsTrue (is_id i j)
+-- Clients' locks behind these events, of which the world now is: no resource is held under two requesters at a node that hasn't
+-- left it, and so is answered what comes next
+abbrev pub LocksAfter : Opening → List AnyWorldEvent → World → Type 0
+LocksAfter o es w = ClientLocks o es w
 
--- Whatever made the old world what it was, that and then these events made the new one, locks exclude each other behind
--- them all
+-- Whatever made the old world what it was, that and then these events made the new one, locks exclude each other and are
+-- answered so behind them all
 abbrev pub Excludes : List WorldEvent → Held → Held → Type 0
 Excludes es old new = (before : List AnyWorldEvent) → IsRunOf before old
-    → ExclusionAfter (opening_of new) (before ++ events_of es) (seen new)
+    → LocksAfter (opening_of new) (before ++ events_of es) (seen new)
 
--- The exclusion of every world, whatever nodes it has and whichever of them are joined at first, after every list of
+-- So it is in every world, whatever nodes it has and whichever of them are joined at first, after every list of
 -- events
 abbrev pub EveryWorldExcludes : Type 0
-EveryWorldExcludes = (nodes cluster : List ℕ) (es : List AnyWorldEvent) → ExclusionAfter (opening_with nodes cluster) es
+EveryWorldExcludes = (nodes cluster : List ℕ) (es : List AnyWorldEvent) → LocksAfter (opening_with nodes cluster) es
     (run (opening_with nodes cluster) (opening_world (opening_with nodes cluster)) es)
 
 -- the event leaves p its lock of this id at c: it is refused, or behind it p is neither dead nor on a node that has
@@ -60,8 +60,8 @@ pub record HasLock (o : Opening) (es : List AnyWorldEvent) (p : Process) (id : I
 
 -- Two requesters whose granted locks on one resource asked a common running node never both hold it there
 abbrev pub NeverBothHold : Type 0
-NeverBothHold = (nodes cluster : List ℕ) (es : List AnyWorldEvent) (c : ℕ) (p q : Process) (i j : Id)
+NeverBothHold = (nodes cluster : List ℕ) (es : List AnyWorldEvent) (c : ℕ) (p q : Process) (resource x y : Text)
     → in_world (opening_with nodes cluster) c ≡ true
-    → left (made_by (opening_with nodes cluster) es) c ≡ false
-    → IsTrue (is_resource i j) → is_id i j ≡ false
-    → HasLock (opening_with nodes cluster) es p i c → HasLock (opening_with nodes cluster) es q j c → ⊥
+    → left (made_by (opening_with nodes cluster) es) c ≡ false → (x ≡ y → ⊥)
+    → HasLock (opening_with nodes cluster) es p (Client resource x) c
+    → HasLock (opening_with nodes cluster) es q (Client resource y) c → ⊥

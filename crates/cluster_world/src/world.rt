@@ -160,9 +160,10 @@ impl<N: Names<Memory = Global>> World<N> {
     ///
     /// Whatever was played on a world since it opened, the headline holds behind that and this event: the answers to name
     /// calls and joins are those of one sequential registry that takes the granted operations in lock order, and whenever the
-    /// lock is free, the tables are that registry's, less the names on nodes that a node was told have left. So does the
-    /// exclusion of clients' locks: at a running node no resource is held under two requesters. And nothing is left over: once no
-    /// letter waits, running nodes have the clients' locks that were granted and not given back, and no others.
+    /// lock is free, the tables are that registry's, less the names on nodes that a node was told have left. So do the laws of
+    /// clients' locks: at a running node no resource is held under two requesters, and each lock call is answered as these laws
+    /// say (`LockAnswers`). And nothing is left over: once no letter waits, running nodes have the clients' locks that were
+    /// granted and not given back, and no others.
     pub fn play(&mut self, event: &WorldEvent) -> Result<Vec<Answer>, Refusal>
         ensures kept { Keeps self.old self.new }
         ensures agrees { IfOk result (λ answers. Agrees (event.now ∷ []) answers.items self.old self.new) }
@@ -196,8 +197,8 @@ impl<N: Names<Memory = Global>> World<N> {
 
     /// Plays events in order, up to the first that is refused. That one changes nothing, and those behind it aren't looked
     /// at. Where `Memory` is refused, what it counts as played was played, with these answers, and the world isn't to be used
-    /// any more. The headline, the exclusion of clients' locks and that nothing is left over hold behind what was played, as they
-    /// do behind one event.
+    /// any more. The headline, the laws of clients' locks and that nothing is left over hold behind what was played, as they do
+    /// behind one event.
     pub fn run(&mut self, events: &[WorldEvent]) -> RunEnd
         ensures ran { Ran events.now self.old self.new result.played result.answers.items result.refusal }
         ensures agrees { ran_out result.refusal ≡ false → Agrees (take result.played events.now) result.answers.items self.old self.new }

@@ -7,7 +7,7 @@ use Rattle.node_log.specs.Entries.{Logged}
 use Rattle.node_log.specs.Held.{Held}
 use Rattle.node_log.specs.Seen.{opening_of, seen}
 use Rattle.node_log.specs.Agreeing.{AgreesAfter}
-use Rattle.node_log.specs.Excluding.{ExclusionAfter}
+use Rattle.node_log.specs.Excluding.{LocksAfter}
 use Rattle.replay.specs.Steps.{Step, happening, events_in, steps_of}
 use Rattle.replay.specs.Merging.{IsNext, RisesBehind}
 
@@ -27,7 +27,7 @@ TakesAll o w (s ∷ ss) = Takes o w s × TakesAll o (happens o w (happening s)) 
 pub record IsRun (ss : List Step) (h : Held) : Type 0 where
   pub takes : TakesAll (opening_of h) (opening_world (opening_of h)) ss
   pub agrees : AgreesAfter (events_in ss) h
-  pub excludes : ExclusionAfter (opening_of h) (events_in ss) (seen h)
+  pub excludes : LocksAfter (opening_of h) (events_in ss) (seen h)
   pub leaves_nothing : NothingIsLeft (opening_of h) (events_in ss) (seen h)
 
 -- what a world that opened so is behind these steps

@@ -1,0 +1,18 @@
+-- Clients' locks behind every list of events: they exclude each other, and what comes next is answered so.
+use Rattle.std.proofs.Common.{List}
+use Rattle.protocol_model.specs.World.{Opening, WorldEvent, opening_world, run}
+use Rattle.protocol_model.specs.LockAnswers.{ClientLocks}
+use Rattle.leftovers.proofs.HeadlineClients.{exclusion}
+
+pub client_locks : (o : Opening) (es : List WorldEvent) → ClientLocks o es (run o (opening_world o) es)
+client_locks o es = record {
+  exclusion = exclusion o es;
+  answers = λ e accepted. record {
+    living = answers_the_living o es e accepted;
+    spent = uses_all_retries o es e accepted;
+    within = uses_no_more o es e accepted;
+    reason = fails_for_a_reason o es e accepted;
+    held = is_held_somewhere o es e accepted;
+    deleted = deletions_are_done o es e accepted;
+  };
+}
