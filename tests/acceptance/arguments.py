@@ -9,6 +9,7 @@ from dataclasses import dataclass
 from functools import partial
 
 from .outcomes import Failure, Test, expect_same, expect_status, expect_text
+from .programs import run
 from .served import Console, Served, listen_to, wait_for
 
 ABOUT = b"A verified global name server\n.."
@@ -181,6 +182,22 @@ def output_that_is_full(program, words):
         fails_silently(program, words, input=INPUT, stdout=full)
 
 
+def errors_that_are_full(program, words):
+    """What can't be told of wrong words changes no status."""
+    with open("/dev/full", "wb") as full:
+        ran = program.run(words, stderr=full)
+    expect_same("standard output", b"", ran.stdout)
+    expect_status(2, ran.returncode)
+
+
+def name_that_is_no_text(program):
+    """By whatever name the program is called."""
+    ran = run([b"\xff", "script"], program.seconds, executable=program.path, input=INPUT)
+    expect_same("standard output", b"a.1\n", ran.stdout)
+    expect_same("standard error", b"", ran.stderr)
+    expect_status(0, ran.returncode)
+
+
 def output_that_nobody_reads(program):
     reader, writer = os.pipe()
     os.close(reader)
@@ -219,8 +236,12 @@ def tests(program, root):
         input_that_cannot_be_read,
         output_that_nobody_reads,
         answers_before_it_waits,
+        name_that_is_no_text,
     ]:
         yield Test(f"arguments/{it.__name__}", partial(it, program))
     serve = ["serve", "--listen", "127.0.0.1:0", "--nodes", "a"]
     for name, words in [("script", ["script"]), ("help", ["--help"]), ("serve", serve)]:
         yield Test(f"arguments/output_that_is_full_of_{name}", partial(output_that_is_full, program, words))
+    wrong_words = [("an_unknown_word", ["nonsense"]), ("no_text", [b"\xff"]), ("a_bad_list", [*serve[:-1], "a,,b"])]
+    for name, words in wrong_words:
+        yield Test(f"arguments/errors_that_are_full_of_{name}", partial(errors_that_are_full, program, words))

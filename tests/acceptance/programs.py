@@ -25,8 +25,9 @@ def run(command, seconds, **how):
     if "input" not in how:
         how.setdefault("stdin", subprocess.DEVNULL)
     how.setdefault("stdout", subprocess.PIPE)
+    how.setdefault("stderr", subprocess.PIPE)
     try:
-        return subprocess.run(command, stderr=subprocess.PIPE, timeout=seconds, **how)
+        return subprocess.run(command, timeout=seconds, **how)
     except subprocess.TimeoutExpired:
         raise Failure(f"it had not ended after {seconds:g} seconds") from None
 
