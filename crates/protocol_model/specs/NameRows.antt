@@ -2,13 +2,19 @@
 use Rattle.std.specs.Prelude.{[], ◌∷◌}
 use Rattle.registry_model.specs.Call.{Yes, No, Ok, UnknownNode, Pid, Undefined, Names}
 use Rattle.protocol_model.specs.Script.{Row, Settle, TableAt, Settled, TableIs}
-use Rattle.protocol_model.specs.RowWords.{row, world_of, a, b, c, d, stranger, w, x, y, z, zz, pid, spawn, register, re_register, unregister, whereis, names, said, shown, given, owned}
+use Rattle.protocol_model.specs.RowWords.{row, world_of, a, b, c, d, stranger, w, x, y, z, zz, pid, spawn, register, re_register, unregister, whereis, names, deliver, said, shown, given, owned}
 
 -- a name that was registered is found
 abbrev pub registered_name_is_found : Row
 registered_name_is_found = row (world_of 1 (a ∷ []) [])
     (spawn a ∷ register a x (pid a 1) ∷ Settle ∷ whereis a x ∷ [])
     (given (pid a 1) ∷ said a 1 Yes ∷ Settled ∷ shown a (Pid (pid a 1)) ∷ [])
+
+-- a node finds the name that it gives away as soon as it has written it, before the call is answered
+abbrev pub write_is_found_at_once : Row
+write_is_found_at_once = row (world_of 1 (a ∷ []) [])
+    (register a x (pid a 1) ∷ deliver a a ∷ deliver a a ∷ whereis a x ∷ deliver a a ∷ whereis a x ∷ Settle ∷ [])
+    (shown a Undefined ∷ shown a (Pid (pid a 1)) ∷ said a 1 Yes ∷ Settled ∷ [])
 
 -- before any call there is no name
 abbrev pub nothing_is_registered_yet : Row

@@ -6,7 +6,7 @@ ghost use Rattle.protocol_model.specs.Letter.{Client};
 ghost use Rattle.protocol_model.specs.Script.{numbers_behind};
 ghost use Rattle.protocol_model.specs.RowWords.{a, b, c, q, r, z, pid};
 ghost use Rattle.protocol_model.specs.Check.{Computes};
-ghost use Rattle.protocol_model.specs.NameRows.{registered_name_is_found, nothing_is_registered_yet, every_node_finds_the_name, process_has_one_name, nothing_to_unregister, owner_on_a_lone_node, who_gets_no_name, name_moves_and_goes, name_moves_to_members_alone, lone_node_refuses_in_a_round};
+ghost use Rattle.protocol_model.specs.NameRows.{registered_name_is_found, write_is_found_at_once, nothing_is_registered_yet, every_node_finds_the_name, process_has_one_name, nothing_to_unregister, owner_on_a_lone_node, who_gets_no_name, name_moves_and_goes, name_moves_to_members_alone, lone_node_refuses_in_a_round};
 ghost use Rattle.protocol_model.specs.RoundRows.{boss_decides, failed_round_gives_all_back, nothing_to_retry, settle_has_a_limit, no_such_event};
 ghost use Rattle.protocol_model.specs.ExitRows.{second_name_and_both_struck, owner_dies_while_its_call_waits, dead_owner_is_struck, strike_comes_before_waiting_calls, dead_caller_is_not_answered, lone_node_strikes_in_a_round};
 ghost use Rattle.protocol_model.specs.LockRows.{holders_are_counted, retries_and_a_dead_holder, one_lock_call_at_a_time, locks_at_named_nodes, retries_without_end, set_twice_deleted_twice, refused_lock_call_gives_all_back, two_requesters_at_once, all_members_are_asked, retry_asks_the_members_of_now};
@@ -16,6 +16,7 @@ ghost use Rattle.protocol_model.specs.JoinRows.{cluster_wins_the_clash, joiner_w
 /// What calls on names answer, and what look-ups see of them.
 pub fn names_are_those_of_one_registry()
     ensures registered_name_is_found { Computes registered_name_is_found }
+    ensures write_is_found_at_once { Computes write_is_found_at_once }
     ensures nothing_is_registered_yet { Computes nothing_is_registered_yet }
     ensures every_node_finds_the_name { Computes every_node_finds_the_name }
     ensures process_has_one_name { Computes process_has_one_name }

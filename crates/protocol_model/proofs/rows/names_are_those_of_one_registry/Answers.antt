@@ -4,6 +4,9 @@ use Rattle.protocol_model.proofs.rows.names_are_those_of_one_registry.Goals as g
 pub returns-clause-registered_name_is_found : goal.returns-clause-registered_name_is_found
 returns-clause-registered_name_is_found start = record { prints = refl; keeps = refl }
 
+pub returns-clause-write_is_found_at_once : goal.returns-clause-write_is_found_at_once
+returns-clause-write_is_found_at_once start = record { prints = refl; keeps = refl }
+
 pub returns-clause-nothing_is_registered_yet : goal.returns-clause-nothing_is_registered_yet
 returns-clause-nothing_is_registered_yet start = record { prints = refl; keeps = refl }
 
