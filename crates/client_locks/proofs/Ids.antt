@@ -2,8 +2,8 @@
 use Rattle.std.proofs.Common.{ℕ, Bool, true, false, ◌==◌, ◌≡◌, refl, sym, ap, ◌∙◌, subst}
 use Rattle.std.proofs.lemmas.Bool.{eqb-true, eq-eqb}
 use Rattle.registry_model.specs.Process.{Process, is_process}
-use Rattle.protocol_model.specs.Letter.{Id, Global, Client, is_id}
 use Rattle.moves.proofs.Indices.{both}
+pub use Rattle.protocol_model.proofs.Ids.{is_id_same}
 
 pub is_process_same : (p q : Process) → is_process p q ≡ true → p ≡ q
 is_process_same p q e =
@@ -25,11 +25,3 @@ is_process_swap p q e = go (is_process q p) refl
         let back : is_process p q ≡ true = subst (λ (x : Process). is_process p x ≡ true) (sym (is_process_same q p h))
         (is_process_self p) in
         cc (back, e)
-
-pub is_id_same : (i j : Id) → is_id i j ≡ true → i ≡ j
-is_id_same (Global a) (Global b) e = ap Global (eqb-true a b e)
-is_id_same (Client r q) (Client s z) e =
-    let parts : ((r == s) ≡ true) × ((q == z) ≡ true) = both (r == s) (q == z) e in
-    ap (λ (x : ℕ). Client x q) (eqb-true r s parts.0) ∙ ap (Client s) (eqb-true q z parts.1)
-is_id_same (Global a) (Client s z) e = cc
-is_id_same (Client r q) (Global b) e = cc

@@ -8,24 +8,15 @@ use Rattle.std.proofs.lemmas.Bool.{eqb-true, eq-eqb, and_parts, and_from, ltb-tr
 use Rattle.registry_model.specs.Process.{nobody}
 use Rattle.registry_model.specs.Table.{without}
 use Rattle.registry_model.proofs.Lists.{Contains-cases, Contains-front, Contains-behind, Contains-nil}
-use Rattle.protocol_model.specs.Letter.{Id, Global, Client, is_id, is_resource}
+use Rattle.protocol_model.specs.Letter.{Id, is_id, is_resource}
 use Rattle.protocol_model.specs.LockTable.{Grant, Locks, count, last_count, is_in_the_way, refused_by, is_free_for}
 use Rattle.protocol_model.specs.World.{Opening, in_cluster, opening_world}
 use Rattle.protocol_model.specs.SharedLaws.{ComparesIds, AsksMembers, GrantsTheFree, OpensEmpty}
-use Rattle.protocol_model.proofs.Ids.{is_id_self}
-
--- ids that pass the test are one
-pub id_same : (i j : Id) → is_id i j ≡ true → i ≡ j
-id_same (Global a) (Global b) e = ap Global (eqb-true a b e)
-id_same (Client r q) (Client s z) e =
-    let parts : ((r == s) ≡ true) × ((q == z) ≡ true) = and_parts (r == s) (q == z) e in
-    ap (λ (x : ℕ). Client x q) (eqb-true r s parts.0) ∙ ap (Client s) (eqb-true q z parts.1)
-id_same (Global a) (Client s z) e = cc
-id_same (Client r q) (Global b) e = cc
+use Rattle.protocol_model.proofs.Ids.{is_id_self, is_id_same}
 
 pub compares_ids : ComparesIds
 compares_ids = record {
-  same = λ i j. (id_same i j, λ e. subst (λ (k : Id). is_id i k ≡ true) e (is_id_self i));
+  same = λ i j. (is_id_same i j, λ e. subst (λ (k : Id). is_id i k ≡ true) e (is_id_self i));
   resources = λ r s x y. (eqb-true r s, eq-eqb r s);
   global = λ a b. refl;
   global_alone = λ a r x. (refl, refl);
@@ -71,7 +62,7 @@ not_in_the_way : (id : Id) (g : Grant) → is_in_the_way id g ≡ false → is_r
 not_in_the_way id g e r = go (is_id g.id id) refl (ap (λ (b : Bool). b && not (is_id g.id id)) (sym r) ∙ e)
   where
     go : (b : Bool) → is_id g.id id ≡ b → not b ≡ false → g.id ≡ id
-    go true h k = id_same g.id id h
+    go true h k = is_id_same g.id id h
     go false h k = cc
 
 of_id : (id : Id) (g : Grant) → (is_resource g.id id ≡ true → g.id ≡ id) → is_in_the_way id g ≡ false
