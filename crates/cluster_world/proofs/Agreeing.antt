@@ -2,7 +2,7 @@
 use Rattle.std.proofs.Common.{ℕ, Bool, true, false, ◌≡◌, List, [], ◌∷◌, ◌++◌, map, refl, sym, ap, ◌∙◌, subst}
 use Rattle.std.specs.Prelude.{is_none, if◌then◌else◌}
 use Rattle.std.proofs.lemmas.List.{append_assoc, append-nil}
-use Rattle.leftovers.proofs.Theorem.{agreement}
+use Rattle.lock_answers.proofs.Theorem.{agreement}
 use Rattle.protocol_model.specs.Course.{Played as AnyPlayed, course, delivers_down, answers_of}
 use Rattle.protocol_model.specs.Event.{Answer as AnyAnswer}
 use Rattle.protocol_model.specs.World.{Opening, World, WorldEvent as AnyWorldEvent, opening_world, refusal, turn_of, happens, answers, run, all_answers}

@@ -13,16 +13,16 @@ use Rattle.protocol_model.specs.Letter.{Id, Client, is_id}
 use Rattle.protocol_model.specs.Node.{Target, Retries, targets}
 use Rattle.protocol_model.specs.ClientLocks.{Try, Tally, try_of, last_try, tally_from, tally_after, number, gives}
 use Rattle.protocol_model.specs.World.{Opening, World, WorldEvent as AnyWorldEvent, opening_world, refusal, happens, answers, run, all_answers}
-use Rattle.leftovers.proofs.Events.{accepted_of, lock_tested, live_own, none_of}
-use Rattle.leftovers.proofs.Clients.{Numbers, call_at}
-use Rattle.leftovers.proofs.Ids.{is_process_self}
-use Rattle.leftovers.proofs.Opening.{no_numbers}
-use Rattle.leftovers.proofs.RoundNumbers.{number_after, number_from}
-use Rattle.leftovers.proofs.Tallies.{fits_opens, fits_behind}
-use Rattle.leftovers.proofs.Tries.{Fits}
-use Rattle.leftovers.proofs.Walking.{event_keeps, run_state, opening_state}
-use Rattle.leftovers.proofs.Together.{All}
-use Rattle.leftovers.proofs.Theorem.{calls_are_answered_once}
+use Rattle.lock_answers.proofs.Events.{accepted_of, lock_tested, live_own, none_of}
+use Rattle.lock_answers.proofs.Clients.{Numbers, call_at}
+use Rattle.lock_answers.proofs.Ids.{is_process_self}
+use Rattle.lock_answers.proofs.Opening.{no_numbers}
+use Rattle.lock_answers.proofs.RoundNumbers.{number_after, number_from}
+use Rattle.lock_answers.proofs.Tallies.{fits_opens, fits_behind}
+use Rattle.lock_answers.proofs.Tries.{Fits}
+use Rattle.lock_answers.proofs.Walking.{event_keeps, run_state, opening_state}
+use Rattle.lock_answers.proofs.Together.{All}
+use Rattle.lock_answers.proofs.Theorem.{calls_are_answered_once}
 use Rattle.node_core.specs.declared.Answer.{Answer}
 use Rattle.node_core.specs.NodeEventsSeen.{answer_of}
 use Rattle.cluster_world.specs.declared.events.WorldEvent.{WorldEvent}

@@ -1,6 +1,6 @@
 -- Nothing is left over, where events are played in pieces.
 use Rattle.std.proofs.Common.{List, ◌++◌, sym, subst}
-use Rattle.leftovers.proofs.Nothing.{nothing_is_left}
+use Rattle.lock_answers.proofs.Nothing.{nothing_is_left}
 use Rattle.node_core.specs.declared.Answer.{Answer}
 use Rattle.protocol_model.specs.Leftovers.{NothingIsLeft}
 use Rattle.protocol_model.specs.World.{Opening, World, WorldEvent as AnyWorldEvent, opening_world, run}

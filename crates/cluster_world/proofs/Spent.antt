@@ -11,16 +11,16 @@ use Rattle.protocol_model.specs.Node.{LockCall, Target}
 use Rattle.protocol_model.specs.Event.{Call, Event, is_waiting_call}
 use Rattle.protocol_model.specs.ClientLocks.{Try, Tally, try_of, tried_again, is_refused, last_try, is_won, gives, is_gone, tally_after, tally_from}
 use Rattle.protocol_model.specs.World.{Opening, World, WorldEvent, At, Deliver, in_world, left, refusal, happens, accepted, answers, run}
-use Rattle.leftovers.proofs.Orders.{ordered_keeps}
-use Rattle.leftovers.proofs.Answering.{any_true}
-use Rattle.leftovers.proofs.Clients.{Numbers, call_at}
-use Rattle.leftovers.proofs.RoundNumbers
-use Rattle.leftovers.proofs.RoundNumbers.{number_after}
-use Rattle.leftovers.proofs.Tallies.{accepted_tried}
-use Rattle.leftovers.proofs.TriedEvents.{Tried}
-use Rattle.leftovers.proofs.Tries.{Fits, lost_without}
-use Rattle.leftovers.proofs.Walking.{event_keeps}
-use Rattle.leftovers.proofs.Together.{All}
+use Rattle.lock_answers.proofs.Orders.{ordered_keeps}
+use Rattle.lock_answers.proofs.Answering.{any_true}
+use Rattle.lock_answers.proofs.Clients.{Numbers, call_at}
+use Rattle.lock_answers.proofs.RoundNumbers
+use Rattle.lock_answers.proofs.RoundNumbers.{number_after}
+use Rattle.lock_answers.proofs.Tallies.{accepted_tried}
+use Rattle.lock_answers.proofs.TriedEvents.{Tried}
+use Rattle.lock_answers.proofs.Tries.{Fits, lost_without}
+use Rattle.lock_answers.proofs.Walking.{event_keeps}
+use Rattle.lock_answers.proofs.Together.{All}
 use Rattle.cluster_world.specs.Playing.{accepts_all}
 use Rattle.cluster_world.proofs.Winning.{is_plain, is_waited, waited_plain, waited_gives, grounds, Behind, happened, gone_before, counted_so, last_so, IsNow, now_up}
 

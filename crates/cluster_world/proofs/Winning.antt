@@ -11,14 +11,14 @@ use Rattle.protocol_model.specs.Letter.{Id, is_id}
 use Rattle.protocol_model.specs.Event.{Call, Event, Answer, Refusal}
 use Rattle.protocol_model.specs.ClientLocks.{Try, Tally, try_of, tried_again, is_refused, last_try, is_won, gives, is_gone, tallied, tally_after, tally_from}
 use Rattle.protocol_model.specs.World.{Opening, in_world, World, WorldEvent, At, Deliver, place, refusal, happens, accepted, answers, run, all_answers, deliveries, next_delivery}
-use Rattle.leftovers.proofs.Walk.{OrderedWalk, walked_in_order}
-use Rattle.leftovers.proofs.Answering.{any_true}
-use Rattle.leftovers.proofs.Chains.{up_before}
-use Rattle.leftovers.proofs.Clients.{Numbers}
-use Rattle.leftovers.proofs.RoundNumbers.{number_after}
-use Rattle.leftovers.proofs.Told.{chain_of}
-use Rattle.leftovers.proofs.Walking.{Grounds, State, event_keeps}
-use Rattle.leftovers.proofs.Together.{All, all_opens, all_keeps, widens}
+use Rattle.lock_answers.proofs.Walk.{OrderedWalk, walked_in_order}
+use Rattle.lock_answers.proofs.Answering.{any_true}
+use Rattle.lock_answers.proofs.Chains.{up_before}
+use Rattle.lock_answers.proofs.Clients.{Numbers}
+use Rattle.lock_answers.proofs.RoundNumbers.{number_after}
+use Rattle.lock_answers.proofs.Told.{chain_of}
+use Rattle.lock_answers.proofs.Walking.{Grounds, State, event_keeps}
+use Rattle.lock_answers.proofs.Together.{All, all_opens, all_keeps, widens}
 use Rattle.cluster_world.specs.Counting.{is_granted, has_to_ask, unless_gone}
 use Rattle.cluster_world.specs.Seats.{verdict_in, next_for, awaiting}
 use Rattle.cluster_world.proofs.Verdicts.{verdict_in-append, under, is_under, true_granted}

@@ -1,4 +1,4 @@
-use Rattle.leftovers.proofs.Theorem.{agreement}
+use Rattle.lock_answers.proofs.Theorem.{agreement}
 use Rattle.cluster_world.specs.Seen.{opening_with}
 use Rattle.cluster_world.proofs.laws.headline_of_every_world.Goals as goal
 
