@@ -19,6 +19,8 @@ pub mod LockEvents
 pub mod Answered
 pub mod Joiners
 pub mod Spawning
+pub mod NextSerial
+pub mod LookingUp
 pub mod Theorem
 pub mod Agreeing
 pub mod Entries

@@ -11,6 +11,8 @@ use Rattle.headline.proofs.Making
 use Rattle.headline.proofs.Deciders
 use Rattle.headline.proofs.Answered
 use Rattle.headline.proofs.Joiners
+use Rattle.headline.proofs.LookingUp.{look_ups_read_the_table}
+use Rattle.headline.proofs.NextSerial.{spawns_give_the_next}
 
 module _ (o : Opening) (es : List WorldEvent) where
   -- all families hold
@@ -77,6 +79,8 @@ agreement o es = record {
   made = entries_are_made_at_home o es;
   decided = decided_under_lock o es;
   looks = looks_up_once o es;
+  reads = look_ups_read_the_table o es;
+  spawns = spawns_give_the_next o es;
   answered = calls_are_answered_once o es;
   joiner = joiners_are_answered o es;
   free = shows_when_free o es;

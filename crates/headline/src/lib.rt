@@ -4,7 +4,7 @@
 
 ghost use Rattle.protocol_model.specs.ClientLocks.{Exclusion};
 ghost use Rattle.protocol_model.specs.Headline.{Agreement};
-ghost use Rattle.headline.specs.Clauses.{HistoryGrows, HistoryIsLegal, HistoryFits, AnswersAreEntries, AnswersComeInTime, EntriesAreMadeAtHome, IsDecidedUnderLock, EachLookUpOnce, CallsAreAnsweredOnce, JoinersAreAnswered, ShowsWhenFree, ShowsWhenHeld, YesIsWritten, LeaveWaits, HolderHolds};
+ghost use Rattle.headline.specs.Clauses.{HistoryGrows, HistoryIsLegal, HistoryFits, AnswersAreEntries, AnswersComeInTime, EntriesAreMadeAtHome, IsDecidedUnderLock, EachLookUpOnce, LookUpsReadTheTable, SpawnsGiveTheNext, CallsAreAnsweredOnce, JoinersAreAnswered, ShowsWhenFree, ShowsWhenHeld, YesIsWritten, LeaveWaits, HolderHolds};
 ghost use Rattle.headline.specs.Tie.{TestAsksTheHeadline, HeadlineWhereTestPasses};
 ghost use Rattle.headline.specs.Laws.{OneHolder, OneOwnerAtEach, JoinedAgree, NoToTheTaken, YesToTheFreeOnly, YesStands, YesIsFound, RefusedChangesNothing, SpawnsGiveNew, FixedAgreement};
 
@@ -57,6 +57,16 @@ pub fn decided_under_lock()
 /// A look-up is entered once and answered once, with the reply of its entry.
 pub fn looks_up_once()
     ensures { EachLookUpOnce }
+{}
+
+/// A look-up is answered from the table that its node shows.
+pub fn look_ups_read_the_table()
+    ensures { LookUpsReadTheTable }
+{}
+
+/// A `spawn` gives the least process of its node above all that were spawned there that isn't dead.
+pub fn spawns_give_the_next()
+    ensures { SpawnsGiveTheNext }
 {}
 
 /// Each numbered call is answered at most once, at its node and by a reply that it may have.

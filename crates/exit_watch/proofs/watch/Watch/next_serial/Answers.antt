@@ -2,7 +2,8 @@ use Rattle.std.proofs.Common.{◌<◌, ◌≤◌, ◌+◌, ◌∙◌, sym, ap, a
 use Rattle.std.proofs.lemmas.Bool.{cases_eq}
 use Rattle.protocol_model.specs.Watch.{is_dead}
 use Rattle.exit_watch.specs.Held.{Held}
-use Rattle.exit_watch.proofs.Serials.{AreDeadTo, serial_left-some, serial_left-none}
+use Rattle.protocol_model.proofs.Serials.{AreDeadTo}
+use Rattle.exit_watch.proofs.Serials.{serial_left-some, serial_left-none}
 use Rattle.exit_watch.proofs.watch.Watch.next_serial.Goals as goal
 
 pub returns-in_err-first : goal.returns-in_err-first

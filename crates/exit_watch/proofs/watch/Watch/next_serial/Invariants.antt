@@ -1,5 +1,5 @@
 use Rattle.std.proofs.Common.{◌+◌}
-use Rattle.exit_watch.proofs.Serials.{AreDeadTo}
+use Rattle.protocol_model.proofs.Serials.{AreDeadTo}
 use Rattle.exit_watch.proofs.watch.Watch.next_serial.Given as goal
 
 abbrev pub invariant-loop-serial : goal.invariant-loop-serial

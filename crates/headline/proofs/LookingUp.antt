@@ -1,0 +1,46 @@
+-- A look-up is answered from the table that its node shows.
+use Rattle.std.proofs.Common.{ℕ, Bool, true, false, ◌≡◌, None, [], ◌∷◌, refl, sym, ap, ◌∙◌}
+use Rattle.std.specs.Prelude.{not, ◌||◌, filter}
+use Rattle.registry_model.specs.Call.{Look, seen_in}
+use Rattle.registry_model.specs.History.{Standing}
+use Rattle.protocol_model.specs.Event.{Call, Event, NoSuchNode, NodeLeft, cause, first_cause}
+use Rattle.protocol_model.specs.World.{Opening, in_world, World, left, At, refusal, answers}
+use Rattle.protocol_model.specs.Answers.{answer_to, is_unnumbered}
+use Rattle.moves.proofs.Invariants.{IsUp, standing_at}
+use Rattle.fitting.proofs.Rests.{Rested, looked-answers}
+use Rattle.fitting.proofs.Replies.{answers_given}
+use Rattle.fitting.proofs.Theorem
+use Rattle.headline.specs.Clauses.{events, world, LookUpsReadTheTable}
+use Rattle.headline.proofs.Together.{Whole, whole_opens, replicas, run_whole}
+use Rattle.headline.proofs.Story.{ground, written}
+use Rattle.headline.proofs.Fields.{past_now}
+
+-- a running node refuses no look-up
+takes_look_up : (o : Opening) (w : World) (a : ℕ) (look : Look) → IsUp o w a
+    → refusal o w (At a (Event.Calling (Call.LookUp look))) ≡ None
+takes_look_up o w a look up = go (in_world o a) (left w a) up.0 up.1
+  where
+    go : (b c : Bool) → b ≡ true → c ≡ false
+        → first_cause (cause (not b || not b) NoSuchNode ∷ cause c NodeLeft ∷ []) ≡ None
+    go true false e f = refl
+    go true true e f = cc
+    go false c e f = cc
+
+-- it answers it from its table
+reads : (o : Opening) (w : World) (a : ℕ) (look : Look) → Rested w → IsUp o w a
+    → answers o w (At a (Event.Calling (Call.LookUp look)))
+    ≡ answer_to a 0 (seen_in (w.node a).replica.table look) ∷ []
+reads o w a look rested up = answers_given o w (At a (Event.Calling (Call.LookUp look))) (takes_look_up o w a look up)
+    ∙ looked-answers o.bound a look (seen_in (w.node a).replica.table look) (w.node a) (rested a up.1)
+
+-- so it is at each node that runs by the history
+pub look_ups_read_the_table : LookUpsReadTheTable
+look_ups_read_the_table o es a look run = ap (filter is_unnumbered)
+    (reads o (world o es) a look (Theorem.kept_run o (Whole o) (ground o) (whole_opens o) es).apart.rested
+    (run.0, sym ((replicas o (world o es) W.kept).departed a) ∙ left))
+  where
+    W : Whole o (world o es)
+    W = run_whole o es
+
+    left : (standing_at o (world o es)).registry.left a ≡ false
+    left = ap (λ (t : Standing). t.registry.left a) (past_now o (events o es) (world o es) W (written o es)) ∙ run.1
