@@ -4,7 +4,7 @@ use Rattle.std.specs.Prelude.{◌&&◌, ◌||◌, not, if◌then◌else◌}
 use Rattle.std.specs.List.{AllByRecursion}
 use Rattle.std.proofs.lemmas.Bool.{eq-eqb, ne_eqb}
 use Rattle.registry_model.specs.Call.{NameCall, Reply, Joined, False, is_grant, reply_to}
-use Rattle.registry_model.specs.Process.{Nodes}
+use Rattle.registry_model.specs.Process.{Process, Nodes}
 use Rattle.registry_model.specs.Table.{Table}
 use Rattle.registry_model.specs.History.{Entry, Standing, hold_at}
 use Rattle.protocol_model.specs.Node.{Node, Op, Current, is_writing}
@@ -67,30 +67,54 @@ reply_to-call members table (NameCall.Unregister x) = refl
 not_joined : (r : Reply) → is_call_reply r ≡ true → r ≡ Joined → ⊥
 not_joined r e q = cc (sym (ap is_call_reply q) ∙ e)
 
--- an answer `joined` of a rule
-pub joined_rule : (o : Opening) (a : ℕ) (w : World) (r : Rules.Rule) (gate : ℕ → ℕ → Gate) → Replicas o w
-    → Gates o w gate → Rules.May o a w r
-    → AllByRecursion (TellsJoin a (standing_at o w) (standing_at o w)) (answered a r (w.node a))
-joined_rule o a w Rules.Spawns gate R G M = (λ e. cc, tt)
-joined_rule o a w (Rules.LooksUp look) gate R G M =
+-- the answer, where it is `joined`, is that of this rule, which reads a welcome
+abbrev pub IsOfWelcome : ℕ → Rules.Rule → Answer → Type 0
+IsOfWelcome a r s = s.reply ≡ Joined → (f : ℕ) × (k : ℕ) × (members : Nodes) × (pairs : Table) × (told : Nodes)
+    × (kills : List Process) × (r ≡ Rules.IsWelcomed f k members pairs told kills) × (s ≡ answer_to a k Joined)
+
+-- so is each answer of a rule
+pub of_welcome : (o : Opening) (a : ℕ) (w : World) (r : Rules.Rule) → Replicas o w → Rules.May o a w r
+    → AllByRecursion (IsOfWelcome a r) (answered a r (w.node a))
+of_welcome o a w Rules.Spawns R M = (λ e. cc, tt)
+of_welcome o a w (Rules.LooksUp look) R M =
     (λ e. absurd (cc (sym (seen_in-word (w.node a).replica.table look) ∙ ap is_word e)), tt)
-joined_rule o a w (Rules.SkipsJoin k m ops) gate R G M = (λ e. cc, tt)
-joined_rule o a w (Rules.Denies k call r) gate R G M = (
+of_welcome o a w (Rules.SkipsJoin k m ops) R M = (λ e. cc, tt)
+of_welcome o a w (Rules.Denies k call r) R M = (
   λ e. absurd (not_joined (reply_to (w.node a).replica.members (w.node a).replica.table call)
       (reply_to-call (w.node a).replica.members (w.node a).replica.table call) e),
   tt,
 )
-joined_rule o a w (Rules.Finishes op asked awaited reply) gate R G M =
+of_welcome o a w (Rules.Finishes op asked awaited reply) R M =
     done op reply (subst (IsWritten o w a) M.tested.0 (R.written a))
   where
     done : (op : Op) (reply : Option Reply) → IsWritten o w a (Current.Writing op asked awaited reply)
-        → AllByRecursion (TellsJoin a (standing_at o w) (standing_at o w)) (answer_of a op reply)
+        → AllByRecursion (IsOfWelcome a (Rules.Finishes op asked awaited reply)) (answer_of a op reply)
     done (Op.Name k call) (Some x) W = (λ e. absurd (cc (sym W.3.1 ∙ ap is_grant e)), tt)
     done (Op.Name k call) None W = tt
     done _ reply W = tt
-joined_rule o a w (Rules.EndsJoin f k) gate R G M = (λ e. cc, tt)
-joined_rule o a w (Rules.IsWelcomed f k members pairs told kills) gate R G M =
-    (λ e. (k, f, refl, apart, here, here), tt)
+of_welcome o a w (Rules.EndsJoin f k) R M = (λ e. cc, tt)
+of_welcome o a w (Rules.IsWelcomed f k members pairs told kills) R M =
+    (λ e. (f, k, members, pairs, told, kills, refl, refl), tt)
+of_welcome o a w (Rules.LosesContact k m) R M = (λ e. cc, tt)
+of_welcome o a w (Rules.FailsLock c) R M = (λ e. cc, tt)
+of_welcome o a w (Rules.WinsLock c r) R M = (λ e. cc, tt)
+of_welcome o a w (Rules.GivesUpLock c r granted) R M = go (is_spent c.retries)
+  where
+    go : (t : Bool) → AllByRecursion (IsOfWelcome a (Rules.GivesUpLock c r granted))
+        (if t then answer_to a c.number False ∷ [] else [])
+    go true = (λ e. cc, tt)
+    go false = tt
+of_welcome o a w (Rules.DeletesNothing c) R M = (λ e. cc, tt)
+of_welcome o a w (Rules.EndsDeletion f c owing) R M = (λ e. cc, tt)
+of_welcome o a w (Rules.EndsDeletionDown d c owing) R M = (λ e. cc, tt)
+of_welcome o a w _ R M = tt
+
+-- where a node reads the welcome that it waits for, its admission holds, by another node
+pub welcome_holds : (o : Opening) (a : ℕ) (w : World) (f k : ℕ) (members : Nodes) (pairs : Table) (told : Nodes)
+    (kills : List Process) (gate : ℕ → ℕ → Gate)
+    → Replicas o w → Gates o w gate → Rules.May o a w (Rules.IsWelcomed f k members pairs told kills)
+    → (f ≡ a → ⊥) × Admitted (standing_at o w) a k f
+welcome_holds o a w f k members pairs told kills gate R G M = (apart, here)
   where
     shown : (gate a f ≡ Entering) × (returns M.front.1.0 ≡ [])
     shown = at_welcome (returns M.front.1.0) (gate a f) (sym (ap returns M.front.1.1) ∙ G.back a f M.running)
@@ -104,19 +128,22 @@ joined_rule o a w (Rules.IsWelcomed f k members pairs told kills) gate R G M =
     apart : f ≡ a → ⊥
     apart e = cc (sym (admitted_holds (standing_at o w) a k f here) ∙ R.holds f
         ∙ ap (λ (x : ℕ). is_writing (current o w x)) e ∙ ap is_writing M.tested.1)
-joined_rule o a w (Rules.LosesContact k m) gate R G M = (λ e. cc, tt)
-joined_rule o a w (Rules.FailsLock c) gate R G M = (λ e. cc, tt)
-joined_rule o a w (Rules.WinsLock c r) gate R G M = (λ e. cc, tt)
-joined_rule o a w (Rules.GivesUpLock c r granted) gate R G M = go (is_spent c.retries)
+
+-- an answer `joined` of a rule
+joined_rule : (o : Opening) (a : ℕ) (w : World) (r : Rules.Rule) (gate : ℕ → ℕ → Gate) → Replicas o w
+    → Gates o w gate → Rules.May o a w r
+    → AllByRecursion (TellsJoin a (standing_at o w) (standing_at o w)) (answered a r (w.node a))
+joined_rule o a w r gate R G M =
+    all_map (IsOfWelcome a r) (TellsJoin a (standing_at o w) (standing_at o w)) tells (answered a r (w.node a))
+    (of_welcome o a w r R M)
   where
-    go : (t : Bool) → AllByRecursion (TellsJoin a (standing_at o w) (standing_at o w))
-        (if t then answer_to a c.number False ∷ [] else [])
-    go true = (λ e. cc, tt)
-    go false = tt
-joined_rule o a w (Rules.DeletesNothing c) gate R G M = (λ e. cc, tt)
-joined_rule o a w (Rules.EndsDeletion f c owing) gate R G M = (λ e. cc, tt)
-joined_rule o a w (Rules.EndsDeletionDown d c owing) gate R G M = (λ e. cc, tt)
-joined_rule o a w _ gate R G M = tt
+    tells : (s : Answer) → IsOfWelcome a r s → TellsJoin a (standing_at o w) (standing_at o w) s
+    tells s T e =
+        let x : (f : ℕ) × (k : ℕ) × (members : Nodes) × (pairs : Table) × (told : Nodes) × (kills : List Process)
+        × (r ≡ Rules.IsWelcomed f k members pairs told kills) × (s ≡ answer_to a k Joined) = T e in
+        let h : (x.0 ≡ a → ⊥) × Admitted (standing_at o w) a x.1 x.0 =
+        welcome_holds o a w x.0 x.1 x.2 x.3 x.4 x.5 gate R G (subst (Rules.May o a w) x.6 M) in
+        (x.1, x.0, x.7, h.0, h.1, h.1)
 
 -- node a ends no operation of another, and admits nobody for it
 done_elsewhere : (a m : ℕ) (number : ℕ → ℕ) (r : Rules.Rule) (v : Node) → (m == a) ≡ false
@@ -130,7 +157,7 @@ admitted_elsewhere a m number (Rules.Admits j pairs r) v ne = ap (λ (b : Bool).
 admitted_elsewhere a m number _ v ne = refl
 
 -- an admission by another node holds before a rule where it does behind it, and behind it where it does before
-on_rule : (o : Opening) (a : ℕ) (w : World) (r : Rules.Rule) → Replicas o (Rules.effect o a r w) → (k f : ℕ)
+pub on_rule : (o : Opening) (a : ℕ) (w : World) (r : Rules.Rule) → Replicas o (Rules.effect o a r w) → (k f : ℕ)
     → (f ≡ a → ⊥)
     → Admitted (standing_at o w) a k f → Admitted (standing_at o (Rules.effect o a r w)) a k f
 on_rule o a w r R k f ne A = subst (λ (t : Standing). Admitted t a k f) (sym (effect-standing o a w r))

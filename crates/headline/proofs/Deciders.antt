@@ -32,7 +32,7 @@ use Rattle.replicas.proofs.Steps.{standing_of-effect}
 use Rattle.join_gates.proofs.Made.{entered, entries_made}
 use Rattle.headline.proofs.Together.{Whole, alone, replicas, heard_joins, widens, rule_whole, course_keeps}
 use Rattle.headline.proofs.Making.{strikes_own}
-use Rattle.headline.proofs.Courses.{entries_of-push, history-accepted, last_step}
+use Rattle.headline.proofs.Courses.{history_push, last_step, no_last_step}
 
 -- a test between two turns with the same lock table
 locks-if : (b : Bool) (u v : Turn) (t : Locks) → u.node.locks ≡ t → v.node.locks ≡ t
@@ -233,8 +233,7 @@ module _ (o : Opening) where
       → Whole o (accepted o w e) → refusal o w e ≡ None → Walked o w e
       → Decided (ps ++ played o w e ∷ []) (accepted o w e)
   decided_keeps ps w e S W V r H = record {
-    history = history-accepted o w e ∙ ap (λ (h : List Entry). h ++ (turn_of o w e).entries) S.history
-        ∙ sym (entries_of-push ps (played o w e));
+    history = history_push o ps w e S.history;
     under_lock = λ before p earlier later x a i. last_step (λ before q. (earlier later : List Entry) (x : Entry) (a : ℕ)
         → q.entries ≡ earlier ++ x ∷ later → decided_by x ≡ Some a
         → HasTheLock o (fold after (standing o before) earlier) a (seen o (accepted o w e))) ps (played o w e) last
@@ -251,11 +250,7 @@ module _ (o : Opening) where
 
   -- nothing was decided yet
   decided_opens : Decided [] (opening_world o)
-  decided_opens = record { history = refl; under_lock = λ before p earlier later x a e. nothing_last before p e }
-    where
-      nothing_last : {X : Type 0} (before : List Played) (p : Played) → [] ≡ before ++ p ∷ [] → X
-      nothing_last [] p e = cc
-      nothing_last (q ∷ before) p e = cc
+  decided_opens = record { history = refl; under_lock = λ before p earlier later x a e. no_last_step before p e }
 
 -- Who decides an operation in the last step has the global lock behind it
 pub decided : (o : Opening) (es : List WorldEvent)

@@ -18,6 +18,7 @@ pub mod LockSteps
 pub mod LockEvents
 pub mod Answered
 pub mod Joiners
+pub mod Welcomed
 pub mod Spawning
 pub mod NextSerial
 pub mod LookingUp

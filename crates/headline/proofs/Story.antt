@@ -1,9 +1,9 @@
 -- Of every course: what the accounts of its calls and answers rest on, and that `yes` is answered when all is written.
-use Rattle.std.proofs.Common.{false, ◌≡◌, Option, None, List, [], ◌∷◌, ◌++◌, refl, sym, ap, ◌∙◌, subst}
+use Rattle.std.proofs.Common.{false, ◌≡◌, Option, None, List, [], ◌∷◌, ◌++◌, refl, ap, subst}
 use Rattle.std.specs.List.{list_any}
 use Rattle.std.specs.Prelude.{is_none, Contains, if◌then◌else◌}
 use Rattle.registry_model.specs.Call.{Yes}
-use Rattle.registry_model.specs.History.{Entry, Standing, standing_of}
+use Rattle.registry_model.specs.History.{Standing, standing_of}
 use Rattle.protocol_model.specs.Event.{Answer, Refusal}
 use Rattle.protocol_model.specs.World.{Opening, in_cluster, World, WorldEvent, opening_world, refusal, turn_of, accepted, run}
 use Rattle.protocol_model.specs.Course.{Played, played, entries_of, course, seen}
@@ -11,7 +11,7 @@ use Rattle.protocol_model.specs.Headline.{standing, GroupShows}
 use Rattle.moves.proofs.Rules.{Walked}
 use Rattle.fitting.proofs.Chains.{Ground}
 use Rattle.headline.proofs.Together.{Whole, replicas, owners, course_keeps, rule_whole, event_walks}
-use Rattle.headline.proofs.Courses.{entries_of-push, history-accepted, last_step}
+use Rattle.headline.proofs.Courses.{history_push, last_step, no_last_step}
 use Rattle.headline.proofs.Turns.{begins}
 use Rattle.headline.proofs.Steps.{event_written, event_begins}
 
@@ -42,14 +42,9 @@ module _ (o : Opening) where
   written_opens : Written o [] (opening_world o)
   written_opens = record {
     history = refl;
-    calm = λ before p e. nothing_last before p e;
-    shown = λ before p
-        e. nothing_last before p e;
+    calm = λ before p e. no_last_step before p e;
+    shown = λ before p e. no_last_step before p e;
   }
-    where
-      nothing_last : {X : Type 0} (before : List Played) (p : Played) → [] ≡ before ++ p ∷ [] → X
-      nothing_last [] p e = cc
-      nothing_last (q ∷ before) p e = cc
 
   -- each accepted event
   written_keeps : (ps : List Played) (w : World) (e : WorldEvent) → Written o ps w → Whole o w
@@ -68,7 +63,7 @@ module _ (o : Opening) where
       p = played o w e
 
       history : (accepted o w e).history ≡ entries_of (ps ++ p ∷ [])
-      history = history-accepted o w e ∙ ap (λ (h : List Entry). h ++ p.entries) S.history ∙ sym (entries_of-push ps p)
+      history = history_push o ps w e S.history
 
       given : p.answers ≡ (turn_of o w e).answers
       given = ap (λ (x : Option Refusal). if is_none x then (turn_of o w e).answers else []) r

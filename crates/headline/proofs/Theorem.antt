@@ -3,7 +3,7 @@ use Rattle.std.proofs.Common.{List}
 use Rattle.protocol_model.specs.World.{Opening, WorldEvent}
 use Rattle.protocol_model.specs.Headline.{Agreement}
 use Rattle.fitting.proofs.Theorem
-use Rattle.headline.specs.Clauses.{world, events, HistoryGrows, HistoryIsLegal, HistoryFits, AnswersAreEntries, AnswersComeInTime, EntriesAreMadeAtHome, IsDecidedUnderLock, EachLookUpOnce, CallsAreAnsweredOnce, JoinersAreAnswered, ShowsWhenFree, ShowsWhenHeld, YesIsWritten, LeaveWaits, HolderHolds}
+use Rattle.headline.specs.Clauses.{world, events, HistoryGrows, HistoryIsLegal, HistoryFits, AnswersAreEntries, AnswersComeInTime, EntriesAreMadeAtHome, IsDecidedUnderLock, EachLookUpOnce, CallsAreAnsweredOnce, JoinersAreAnswered, ShowsWhenFree, ShowsWhenHeld, YesIsWritten, JoinedIsWelcomed, LeaveWaits, HolderHolds}
 use Rattle.headline.proofs.Together.{Whole, run_whole, whole_opens}
 use Rattle.headline.proofs.Story.{ground, Written, written}
 use Rattle.headline.proofs.Fields
@@ -13,6 +13,7 @@ use Rattle.headline.proofs.Answered
 use Rattle.headline.proofs.Joiners
 use Rattle.headline.proofs.LookingUp.{look_ups_read_the_table}
 use Rattle.headline.proofs.NextSerial.{spawns_give_the_next}
+use Rattle.headline.proofs.Welcomed
 
 module _ (o : Opening) (es : List WorldEvent) where
   -- all families hold
@@ -62,6 +63,9 @@ shows_when_held o es = Fields.held o (events o es) (world o es) (whole o es) (to
 pub yes_is_written : YesIsWritten
 yes_is_written o es = Fields.written o (events o es) (world o es) (whole o es) (told o es)
 
+pub joined_is_welcomed : JoinedIsWelcomed
+joined_is_welcomed o es = Welcomed.joined_is_welcomed o es
+
 pub leave_waits : LeaveWaits
 leave_waits o es = Fields.leave o (events o es) (world o es) (whole o es) (told o es)
 
@@ -86,6 +90,7 @@ agreement o es = record {
   free = shows_when_free o es;
   held = shows_when_held o es;
   written = yes_is_written o es;
+  welcomed = joined_is_welcomed o es;
   leave = leave_waits o es;
   holder = holder_holds o es;
 }
