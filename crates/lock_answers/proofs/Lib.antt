@@ -1,0 +1,4 @@
+pub mod Spared
+pub mod Settled
+pub mod OpenDeletions
+pub mod DeletionChains
