@@ -2,3 +2,4 @@ pub mod Spared
 pub mod Settled
 pub mod OpenDeletions
 pub mod DeletionChains
+pub mod DeletionEvents
