@@ -12,7 +12,7 @@ use Rattle.protocol_model.specs.Client.{new_call, in_phase}
 use Rattle.protocol_model.specs.ClientLocks.{is_gone}
 use Rattle.protocol_model.specs.LockAnswers.{Deletion, deletion_by}
 use Rattle.protocol_model.specs.World.{Opening, World, left, WorldEvent, At, Deliver, place}
-use Rattle.moves.proofs.Rules.{Rule, May, MayAll, effect, effects, turn_by}
+use Rattle.moves.proofs.Rules.{Rule, IsNew, IsRetried, May, MayAll, effect, effects, turn_by}
 use Rattle.moves.proofs.Rules.Rule.{CallsLock, AsksLock, FailsLock, HearsLock, MarksLockDown, WinsLock, GivesUpLock, DeletesLock, DeletesNothing, CountsGivenBack, EndsDeletion, CountsLockDown, EndsDeletionDown}
 use Rattle.moves.proofs.Invariants.{IsUp}
 use Rattle.moves.proofs.Indices.{both}
@@ -55,7 +55,7 @@ module _ (o : Opening) (a : ℕ) (p : Process) (v : Node) (c : LockCall) (owing 
 
   -- a call that is tried is another process's
   not_tried : (w : World) (num : Numbers) → Known o w num → call_at w p ≡ Some c → (d : LockCall)
-      → (Rattle.moves.proofs.Rules.IsNew a (w.node a) d ⊎ Rattle.moves.proofs.Rules.IsRetried (w.node a) d)
+      → (IsNew a (w.node a) d ⊎ IsRetried (w.node a) d)
       → d.holder.node ≡ a → is_process d.holder p ≡ false
   not_tried w num K found d begins home = go (is_process d.holder p) refl
     where
@@ -129,23 +129,23 @@ module _ (o : Opening) (a : ℕ) (p : Process) (v : Node) (c : LockCall) (owing 
             (view_deleting w p c owing (call_at (effect o a r w) p) one.call deleting x) (λ id. one.nums id x) S),
       )
 
-module _ (o : Opening) (w : World) (num : Numbers) (K : Known o w num) (N : Numbered o w) (p : Process) where
-  -- what is known of the last deletion, if there is one
-  abbrev pub Told : World → Option Deletion → Type 0
-  Told v t = (d : Deletion) → t ≡ Some d → Deletes o p d.number d.nodes v
+-- what is known of the last deletion of p, if there is one
+abbrev pub Told : Opening → Process → World → Option Deletion → Type 0
+Told o p w t = (d : Deletion) → t ≡ Some d → Deletes o p d.number d.nodes w
 
+module _ (o : Opening) (w : World) (num : Numbers) (K : Known o w num) (N : Numbered o w) (p : Process) where
   -- a chain that begins no call
-  heard : (a : ℕ) (rs : List Rule) → list_all (suits Hearing) rs ≡ true → MayAll o a rs w → (t : Option Deletion)
-      → Told w t → Told (effects o a rs w) t
+  pub heard : (a : ℕ) (rs : List Rule) → list_all (suits Hearing) rs ≡ true → MayAll o a rs w → (t : Option Deletion)
+      → Told o p w t → Told o p (effects o a rs w) t
   heard a rs h m t T d e = deletes_chain o p d.number d.nodes a rs w num K h m (T d e)
 
-  aside : (a : ℕ) (rs : List Rule) → list_all (suits Aside) rs ≡ true → MayAll o a rs w → (t : Option Deletion)
-      → Told w t → Told (effects o a rs w) t
+  pub aside : (a : ℕ) (rs : List Rule) → list_all (suits Aside) rs ≡ true → MayAll o a rs w → (t : Option Deletion)
+      → Told o p w t → Told o p (effects o a rs w) t
   aside a rs h m t T = heard a rs (all_of_all (suits Aside) (suits Hearing) aside_hears rs h) m t T
 
   -- a retry
-  retry : (a : ℕ) (rs : List Rule) → list_all (suits (Again (w.node a))) rs ≡ true → MayAll o a rs w
-      → (t : Option Deletion) → Told w t → Told (effects o a rs w) t
+  pub retry : (a : ℕ) (rs : List Rule) → list_all (suits (Again (w.node a))) rs ≡ true → MayAll o a rs w
+      → (t : Option Deletion) → Told o p w t → Told o p (effects o a rs w) t
   retry a rs h m t T d e = record {
     own = own;
     alone = λ q c home f n.
@@ -208,7 +208,7 @@ module _ (o : Opening) (w : World) (num : Numbers) (K : Known o w num) (N : Numb
     all_calls : (k : Process) → call_at w2 k ≡ (if is_process q k then next else call_at w k)
     all_calls k = calls k ∙ ap (λ (c : Option LockCall). if is_process q k then next else c) (same_calls k)
 
-    later : (k : Process) (n : ℕ) (nodes : Nodes) → Deletes o k n nodes w2 → Deletes o k n nodes (effects o a rest w2)
+    pub later : (k : Process) (n : ℕ) (nodes : Nodes) → Deletes o k n nodes w2 → Deletes o k n nodes (effects o a rest w2)
     later k n nodes D = deletes_chain o k n nodes a rest w2 (num_by a r w1 num1) K2
         (all_of_all (suits Aside) (suits Hearing) aside_hears rest h) m.1.1 D
 
@@ -224,7 +224,7 @@ module _ (o : Opening) (w : World) (num : Numbers) (K : Known o w num) (N : Numb
         absurd (omega (arith, new d e, same, low))
 
     -- an older deletion stays as it was
-    stays : (n : ℕ) (nodes : Nodes)
+    pub stays : (n : ℕ) (nodes : Nodes)
         → (is_process q p ≡ false → (id : Id) (x : ℕ) → num_by a r w1 num1 p id x ≡ num1 p id x)
         → Deletes o p n nodes w → Deletes o p n nodes w2
     stays n nodes nums D = record {
@@ -268,7 +268,7 @@ module _ (o : Opening) (w : World) (num : Numbers) (K : Known o w num) (N : Numb
         alone k c here i false j f = D.alone k c here f i
 
     -- a new one owes wherever it goes
-    begins : (nodes : Nodes) → ((d : LockCall) → next ≡ Some d → d.phase ≡ LockPhase.Deleting nodes)
+    pub begins : (nodes : Nodes) → ((d : LockCall) → next ≡ Some d → d.phase ≡ LockPhase.Deleting nodes)
         → Deletes o q ((w.node a).last_call + 1) nodes w2
     begins nodes deletes = record {
       own = λ up d e i.

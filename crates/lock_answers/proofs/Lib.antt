@@ -3,3 +3,4 @@ pub mod Settled
 pub mod OpenDeletions
 pub mod DeletionChains
 pub mod DeletionEvents
+pub mod LastDeletions
