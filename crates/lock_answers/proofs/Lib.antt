@@ -4,3 +4,4 @@ pub mod OpenDeletions
 pub mod DeletionChains
 pub mod DeletionEvents
 pub mod LastDeletions
+pub mod DeletionAnswers
