@@ -5,3 +5,5 @@ pub mod DeletionChains
 pub mod DeletionEvents
 pub mod LastDeletions
 pub mod DeletionAnswers
+pub mod DeletionNumbers
+pub mod GivenBack
