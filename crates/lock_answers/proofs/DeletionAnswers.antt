@@ -1,16 +1,15 @@
 -- An accepted event that answers a process's last deletion `true`: all nodes that it went to have given back then, and
 -- its process lives; or it went nowhere.
 use mathlib.Core.Logic.{◌⊎◌}
-use Rattle.std.proofs.Common.{ℕ, Bool, true, false, ◌==◌, ◌≡◌, ◌+◌, ◌≤◌, Option, Some, None, List, [], ◌∷◌, ◌++◌, refl, sym, ap, ◌∙◌, subst, inl, inr, arith}
+use Rattle.std.proofs.Common.{ℕ, Bool, true, false, ◌==◌, ◌≡◌, ◌+◌, ◌≤◌, Option, Some, None, List, [], ◌∷◌, refl, sym, ap, ◌∙◌, subst, inl, inr, arith}
 use Rattle.std.specs.Prelude.{◌&&◌, ◌||◌, nat_lt, if◌then◌else◌}
 use Rattle.std.specs.List.{list_all}
 use Rattle.std.proofs.lemmas.Bool.{eqb-true, ltb-true}
-use Rattle.registry_model.specs.Process.{Text, Process, is_process, Nodes, at}
-use Rattle.registry_model.specs.Call.{True}
+use Rattle.registry_model.specs.Process.{Text, Process, is_process, at}
 use Rattle.protocol_model.specs.Letter.{Letter, Client}
 use Rattle.protocol_model.specs.Watch.{Watch, is_dead}
-use Rattle.protocol_model.specs.Node.{Node, LockPhase, LockCall, Target, Retries, Times, targets}
-use Rattle.protocol_model.specs.Event.{Call, Event, Answer}
+use Rattle.protocol_model.specs.Node.{Node, LockCall, Target, Times, targets}
+use Rattle.protocol_model.specs.Event.{Call, Event}
 use Rattle.protocol_model.specs.Turn.{begun}
 use Rattle.protocol_model.specs.Client.{new_call}
 use Rattle.protocol_model.specs.LockAnswers.{Deletion, deletion_by}
@@ -23,7 +22,7 @@ use Rattle.walk.proofs.ChainKinds.{Aside, Again, Hearing, suits}
 use Rattle.walk.proofs.Orders.{ordered_keeps}
 use Rattle.walk.proofs.Walk.{InOrder}
 use Rattle.client_locks.proofs.Clients.{Numbers, lives, IsLive, live_parts, lives_by, call_at, node_here}
-use Rattle.client_locks.proofs.Growing.{Replying, replying_keeps}
+use Rattle.client_locks.proofs.Growing.{replying_keeps}
 use Rattle.client_locks.proofs.Answering.{any_true}
 use Rattle.client_locks.proofs.Chains.{is_calm, aside_calm, calm_answers}
 use Rattle.client_locks.proofs.HeardChains.{answered_none}
@@ -78,9 +77,6 @@ module _ (o : Opening) (w : World) (num : Numbers) (K : Known o w num) (N : Numb
       (is : effects o b (chain_of o w (Deliver f b) rest) w ≡ accepted o w (Deliver f b))
       (same : answers_by o b (chain_of o w (Deliver f b) rest) w ≡ (turn_of o w (Deliver f b)).answers)
       (answered : any_true p.node d.number (answers_by o b (chain_of o w (Deliver f b) rest) w) ≡ true) where
-    abbrev chain : List Rule
-    chain = chain_of o w (Deliver f b) rest
-
     fits : list_all (suits Hearing) (chain_of o w (Deliver f b) rest) ≡ true
     fits = first_heard o (ordered_keeps o) w num K.ordered K.replying N f b (w.links.queue f b) rest h
 
@@ -97,8 +93,11 @@ module _ (o : Opening) (w : World) (num : Numbers) (K : Known o w num) (N : Numb
             let unanswered : any_true p.node d.number (answers_by o b (chain_of o w (Deliver f b) rest) w) ≡ false =
             answered_none o b (ordered_keeps o) (chain_of o w (Deliver f b) rest) w num d.number fits m K.ordered
             K.replying
-            (λ q c home found n. absurd (cc (subst (λ (k : Process). call_at w k ≡ Some c)
-            (D.alone q c (home ∙ sym here) found n) found, none))) p.node in
+            (λ q c home found n. absurd (cc (
+              subst (λ (k : Process). call_at w k ≡ Some c)
+                  (D.alone q c (home ∙ sym here) found n) found,
+              none,
+            ))) p.node in
             cc (unanswered, answered)
 
     lives_after : lives o (effects o b (chain_of o w (Deliver f b) rest) w) p ≡ true

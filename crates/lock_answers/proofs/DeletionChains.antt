@@ -6,10 +6,8 @@ use Rattle.std.proofs.lemmas.Bool.{eqb-true, cases_eq}
 use Rattle.std.proofs.lemmas.List.Folds.{list_any-append}
 use Rattle.registry_model.specs.Process.{Process, is_process, Nodes, at}
 use Rattle.registry_model.proofs.Updates.{at_other}
-use Rattle.protocol_model.specs.Letter.{Id}
 use Rattle.protocol_model.specs.Node.{LockPhase, LockCall}
 use Rattle.protocol_model.specs.Client.{in_phase}
-use Rattle.protocol_model.specs.ClientLocks.{is_gone}
 use Rattle.protocol_model.specs.World.{Opening, World, left}
 use Rattle.moves.proofs.Rules
 use Rattle.moves.proofs.Rules.{Rule, IsOpen, May, MayAll, effect, effects, turn_by, takes, answers_by}
@@ -20,7 +18,7 @@ use Rattle.client_locks.proofs.Ids.{is_process_self}
 use Rattle.client_locks.proofs.Sessions.{due_if, view}
 use Rattle.client_locks.proofs.Clients.{Numbers, lives, live_parts, call_at, caller_lives}
 use Rattle.client_locks.proofs.Calling.{below_bound}
-use Rattle.client_locks.proofs.Numbers.{num_by, nums_by}
+use Rattle.client_locks.proofs.Numbers.{num_by}
 use Rattle.client_locks.proofs.Answering.{is_true, any_true, not_true_answers}
 use Rattle.client_locks.proofs.Ongoing.{is_deleting}
 use Rattle.client_locks.proofs.Chains.{from_heard}
@@ -61,9 +59,6 @@ module _ (o : Opening) (p : Process) (k : ℕ) (nodes : Nodes) where
     -- a rule by which an open deletion goes on
     module _ (r : Rule) (w : World) (num : Numbers) (K : Known o w num) (h : suits Hearing r ≡ true)
         (m : May o a w r) where
-      abbrev w1 : World
-      w1 = effect o a r w
-
       known : Known o (effect o a r w) (num_by a r w num)
       known = known_keeps o a r w num K m
 
@@ -124,8 +119,8 @@ module _ (o : Opening) (p : Process) (k : ℕ) (nodes : Nodes) where
               at_node : (now : Nodes) → d.phase ≡ LockPhase.Deleting now → (x : ℕ) → IsUp o (effect o a r w) x
                   → Stands w p x → Stands (effect o a r w) p x
               at_node now e x up S = still living (one_busy c owing found deleting) x up (owing x) (now x)
-                  (view_deleting w p c owing (call_at w p) found deleting x)
-                  (view_deleting w p d now (call_at (effect o a r w) p) e1 e x) S
+                  (view_deleting c owing (call_at w p) found deleting x)
+                  (view_deleting d now (call_at (effect o a r w) p) e1 e x) S
 
               by_next : Next o w p c owing (call_at (effect o a r w) p)
                   → (now : Nodes) × (d.phase ≡ LockPhase.Deleting now)
@@ -204,7 +199,7 @@ module _ (o : Opening) (p : Process) (k : ℕ) (nodes : Nodes) where
           by_next (Ended f back empty s) = record {
             ended = s;
             stands = λ x up there. still living (one_busy d owing found deleting) x up (owing x) false
-                (view_deleting w p d owing (call_at w p) found deleting x)
+                (view_deleting d owing (call_at w p) found deleting x)
                 (ap (λ (j : Option LockCall). view j x) s)
                 (elim (cases_eq x f) [
                   | inl i ↦ subst (λ (y : ℕ). IsUp o w y → Stands w p y) (sym i) back (up.0, ran o a r w x up.1)

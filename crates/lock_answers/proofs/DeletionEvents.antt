@@ -1,34 +1,31 @@
 -- Each accepted event keeps what is known of a process's last deletion.
-use Rattle.std.proofs.Common.{ℕ, Bool, true, false, ◌==◌, ◌≡◌, ◌+◌, ◌≤◌, Option, Some, None, List, [], ◌∷◌, refl, sym, ap, ◌∙◌, subst, inl, inr, arith}
+use Rattle.std.proofs.Common.{ℕ, Bool, true, false, ◌≡◌, ◌+◌, ◌≤◌, Option, Some, None, List, [], ◌∷◌, refl, sym, ap, ◌∙◌, subst, inl, inr, arith}
 use mathlib.Core.Logic.{◌⊎◌}
-use Rattle.std.specs.Prelude.{◌&&◌, if◌then◌else◌}
+use Rattle.std.specs.Prelude.{if◌then◌else◌}
 use Rattle.std.specs.List.{list_all}
-use Rattle.registry_model.specs.Process.{Text, Process, is_process, Nodes}
-use Rattle.protocol_model.specs.Letter.{Id, Client}
+use Rattle.registry_model.specs.Process.{Process, is_process, Nodes}
+use Rattle.protocol_model.specs.Letter.{Id}
 use Rattle.protocol_model.specs.Round.{begin}
-use Rattle.protocol_model.specs.Node.{Node, LockPhase, LockCall, Target, Retries, Times, call_of, targets}
-use Rattle.protocol_model.specs.Event.{Call, Event, is_waiting_call}
-use Rattle.protocol_model.specs.Client.{new_call, in_phase}
+use Rattle.protocol_model.specs.Node.{Node, LockPhase, LockCall, call_of, targets}
+use Rattle.protocol_model.specs.Client.{in_phase}
 use Rattle.protocol_model.specs.ClientLocks.{is_gone}
-use Rattle.protocol_model.specs.LockAnswers.{Deletion, deletion_by}
-use Rattle.protocol_model.specs.World.{Opening, World, left, WorldEvent, At, Deliver, place}
+use Rattle.protocol_model.specs.LockAnswers.{Deletion}
+use Rattle.protocol_model.specs.World.{Opening, World, left}
 use Rattle.moves.proofs.Rules.{Rule, IsNew, IsRetried, May, MayAll, effect, effects, turn_by}
-use Rattle.moves.proofs.Rules.Rule.{CallsLock, AsksLock, FailsLock, HearsLock, MarksLockDown, WinsLock, GivesUpLock, DeletesLock, DeletesNothing, CountsGivenBack, EndsDeletion, CountsLockDown, EndsDeletionDown}
+use Rattle.moves.proofs.Rules.Rule.{CallsLock, AsksLock, FailsLock}
 use Rattle.moves.proofs.Invariants.{IsUp}
 use Rattle.moves.proofs.Indices.{both}
 use Rattle.walk.proofs.ChainKinds.{Aside, Again, Hearing, suits}
 use Rattle.walk.proofs.Orders.{ordered_keeps}
-use Rattle.walk.proofs.Walk.{InOrder}
 use Rattle.client_locks.proofs.Ids.{is_process_same, is_process_self}
 use Rattle.client_locks.proofs.Calls.{call_of-drop}
-use Rattle.client_locks.proofs.Sessions.{view}
 use Rattle.client_locks.proofs.Clients.{Numbers, lives, call_at, caller_lives, part_same, node_here}
 use Rattle.client_locks.proofs.Calling.{calls_put}
 use Rattle.client_locks.proofs.Numbers.{num_by, nums_by}
 use Rattle.client_locks.proofs.Steps.{call_after, calls_aside, nums_same}
 use Rattle.client_locks.proofs.Chains.{aside_counts_none}
 use Rattle.client_locks.proofs.Numbering.{aside_hears, Numbered, last_effect, last_chain, from_self, from_retry, beginner_home}
-use Rattle.client_locks.proofs.Told.{all_of_all, chain_of, first_heard}
+use Rattle.client_locks.proofs.Told.{all_of_all}
 use Rattle.lock_answers.proofs.Settled.{Stands, stands_keeps, ran, lived}
 use Rattle.lock_answers.proofs.OpenDeletions.{Known, known_keeps, view_deleting, lives_stays}
 use Rattle.lock_answers.proofs.DeletionChains.{Deletes, deletes_chain, lived_chain}
@@ -125,8 +122,8 @@ module _ (o : Opening) (a : ℕ) (p : Process) (v : Node) (c : LockCall) (owing 
         more.0,
         λ x up S. more.1 x up (stands_keeps o a w num K.clients p (lived o a r w p living1) r m.0
             (num_by a r w num) K1.clients living1 x (up.0, ran_chain o a rs (effect o a r w) x up.1)
-            (owing x) (owing x) (view_deleting w p c owing (call_at w p) found deleting x)
-            (view_deleting w p c owing (call_at (effect o a r w) p) one.call deleting x) (λ id. one.nums id x) S),
+            (owing x) (owing x) (view_deleting c owing (call_at w p) found deleting x)
+            (view_deleting c owing (call_at (effect o a r w) p) one.call deleting x) (λ id. one.nums id x) S),
       )
 
 -- what is known of the last deletion of p, if there is one
@@ -208,7 +205,8 @@ module _ (o : Opening) (w : World) (num : Numbers) (K : Known o w num) (N : Numb
     all_calls : (k : Process) → call_at w2 k ≡ (if is_process q k then next else call_at w k)
     all_calls k = calls k ∙ ap (λ (c : Option LockCall). if is_process q k then next else c) (same_calls k)
 
-    pub later : (k : Process) (n : ℕ) (nodes : Nodes) → Deletes o k n nodes w2 → Deletes o k n nodes (effects o a rest w2)
+    pub later : (k : Process) (n : ℕ) (nodes : Nodes) → Deletes o k n nodes w2
+        → Deletes o k n nodes (effects o a rest w2)
     later k n nodes D = deletes_chain o k n nodes a rest w2 (num_by a r w1 num1) K2
         (all_of_all (suits Aside) (suits Hearing) aside_hears rest h) m.1.1 D
 
@@ -252,12 +250,12 @@ module _ (o : Opening) (w : World) (num : Numbers) (K : Known o w num) (N : Numb
                   let up1 : IsUp o w1 x = (up2.0, ran o a r w1 x up2.1) in
                   let first : Stands w1 p x = stands_keeps o a w num K.clients p (lived o a CallsLock w p living1)
                   CallsLock m.0 num1 K1.clients living1 x up1 (before.0 x) (before.0 x)
-                  (view_deleting w p d before.0 (call_at w p) f before.1 x)
-                  (view_deleting w p d before.0 (call_at w1 p) found1 before.1 x) (λ id. refl)
+                  (view_deleting d before.0 (call_at w p) f before.1 x)
+                  (view_deleting d before.0 (call_at w1 p) found1 before.1 x) (λ id. refl)
                   (before.2 x (up1.0, ran o a CallsLock w x up1.1) there free) in
                   stands_keeps o a w1 num1 K1.clients p living1 r m.1.0 (num_by a r w1 num1) K2.clients living2 x up2
-                  (before.0 x) (before.0 x) (view_deleting w p d before.0 (call_at w1 p) found1 before.1 x)
-                  (view_deleting w p d before.0 (call_at w2 p) e before.1 x) (λ id. nums j id x) first,
+                  (before.0 x) (before.0 x) (view_deleting d before.0 (call_at w1 p) found1 before.1 x)
+                  (view_deleting d before.0 (call_at w2 p) e before.1 x) (λ id. nums j id x) first,
             )
 
         alone : (k : Process) (c : LockCall) → k.node ≡ p.node → c.number ≡ n → (b : Bool) → is_process q k ≡ b

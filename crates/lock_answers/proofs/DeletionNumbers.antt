@@ -1,10 +1,8 @@
 -- The number of a process's last deletion is that of a `del_lock` among the accepted calls of its node, so an answer to
 -- it is `true`.
-use mathlib.Core.Logic.{◌⊎◌}
 use Rattle.std.proofs.Common.{ℕ, Bool, true, false, ◌==◌, ◌≡◌, ◌+◌, ◌-◌, ◌<◌, Option, Some, None, List, [], ◌∷◌, ◌++◌, length, refl, sym, ap, ◌∙◌, subst, arith}
-use Rattle.std.specs.Prelude.{◌&&◌, is_none, filter, flat_map, if◌then◌else◌, Contains}
+use Rattle.std.specs.Prelude.{◌&&◌, is_none, filter, if◌then◌else◌, Contains}
 use Rattle.std.specs.List.{slice_get}
-use Rattle.std.proofs.lemmas.List.{append-nil, append_assoc}
 use Rattle.std.proofs.lemmas.List.Elements.{filter-append}
 use Rattle.std.proofs.lemmas.Grind.{flat_map-append}
 use Rattle.std.proofs.lemmas.Bool.{eqb-true, eq-eqb}
@@ -29,7 +27,8 @@ use Rattle.headline.proofs.Together.{Whole, whole_opens}
 use Rattle.headline.proofs.Story.{ground}
 
 -- behind one event more
-pub deletion-push : (o : Opening) (p : Process) (es : List WorldEvent) (w : World) (e : WorldEvent) (t : Option Deletion)
+pub deletion-push : (o : Opening) (p : Process) (es : List WorldEvent) (w : World) (e : WorldEvent)
+    (t : Option Deletion)
     → deletion_from o w (es ++ e ∷ []) p t ≡ deletion_after o (run o w es) e p (deletion_from o w es p t)
 deletion-push o p [] w e t = refl
 deletion-push o p (x ∷ es) w e t = deletion-push o p es (happens o w x) e (deletion_after o w x p t)

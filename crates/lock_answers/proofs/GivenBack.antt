@@ -1,16 +1,14 @@
--- Where a `del_lock` is answered, each running node that it went to has the lock for its process as often as the process
--- holds it there.
-use mathlib.Core.Logic.{◌⊎◌}
-use Rattle.std.proofs.Common.{ℕ, Bool, true, false, ◌==◌, ◌≡◌, Option, Some, None, List, [], ◌∷◌, ◌++◌, refl, sym, ap, ◌∙◌, subst, inl, inr}
-use Rattle.std.specs.Prelude.{◌&&◌, is_none, if◌then◌else◌, Contains}
+-- Where a `del_lock` is answered, each running node that it went to has the lock for its process as often as that holds
+-- it there.
+use Rattle.std.proofs.Common.{ℕ, Bool, true, false, ◌≡◌, Option, Some, None, List, [], ◌∷◌, ◌++◌, refl, sym, ap, ◌∙◌, subst, inl, inr}
+use Rattle.std.specs.Prelude.{is_none, if◌then◌else◌, Contains}
 use Rattle.std.proofs.lemmas.List.Elements.{Contains-append_right}
 use Rattle.std.proofs.lemmas.Grind.{flat_map-append}
 use Rattle.std.proofs.lemmas.List.{append-nil}
 use Rattle.std.proofs.lemmas.Bool.{eq-eqb}
 use Rattle.registry_model.specs.Process.{Process}
-use Rattle.registry_model.specs.Call.{True, is_reply}
+use Rattle.registry_model.specs.Call.{True}
 use Rattle.registry_model.proofs.Lists.{Contains-front, by_push}
-use Rattle.protocol_model.specs.Letter.{Id}
 use Rattle.protocol_model.specs.LockTable.{count}
 use Rattle.protocol_model.specs.Node.{LockCall}
 use Rattle.protocol_model.specs.Event.{Answer, Refusal}
@@ -19,13 +17,13 @@ use Rattle.protocol_model.specs.LockAnswers.{Deletion, deletion_by, deletion_of,
 use Rattle.protocol_model.specs.Answers.{AnswersCalls}
 use Rattle.protocol_model.specs.Course.{Played, played, course, answers_of}
 use Rattle.protocol_model.specs.World.{Opening, in_world, World, left, WorldEvent, place, opening_world, refusal, accepted, happens, answers, turn_of, run}
-use Rattle.moves.proofs.Rules.{effects, answers_by}
-use Rattle.walk.proofs.Events.{Accepted, accepted_of}
+use Rattle.moves.proofs.Rules.{effects}
+use Rattle.walk.proofs.Events.{accepted_of}
 use Rattle.walk.proofs.Runs.{happens-accepted}
 use Rattle.walk.proofs.Walk.{OrderedWalk, walked_in_order}
 use Rattle.client_locks.proofs.RoundNumbers
 use Rattle.client_locks.proofs.Sessions.{view}
-use Rattle.client_locks.proofs.Clients.{Numbers, lives, call_at, Clients}
+use Rattle.client_locks.proofs.Clients.{Numbers, lives, Clients}
 use Rattle.client_locks.proofs.Answering.{is_true, any_true}
 use Rattle.client_locks.proofs.Tallies.{numbers_agree}
 use Rattle.client_locks.proofs.Told.{chain_of}
@@ -42,13 +40,10 @@ use Rattle.lock_answers.proofs.DeletionChains.{IsDeleted}
 use Rattle.lock_answers.proofs.DeletionEvents.{Told}
 use Rattle.lock_answers.proofs.LastDeletions.{told_on}
 use Rattle.lock_answers.proofs.DeletionAnswers.{HasEnded, ends_on}
-use Rattle.lock_answers.proofs.DeletionNumbers.{deletion-push, IsDeletion, numbered, answered_true}
+use Rattle.lock_answers.proofs.DeletionNumbers.{deletion-push, numbered, answered_true}
 
 module _ (o : Opening) (es : List WorldEvent) where
   -- what is known of the world that they made
-  abbrev w : World
-  w = run o (opening_world o) es
-
   abbrev num : Numbers
   num p id x = RoundNumbers.number o es p id x
 
@@ -59,8 +54,10 @@ module _ (o : Opening) (es : List WorldEvent) where
   known = record { all = S.family; ordered = S.ordered; replying = S.replying; clients = S.clients }
 
   -- an accepted event is a chain of rules
-  walks : (e : WorldEvent) → refusal o w e ≡ None → OrderedWalk o w e
-  walks e h = walked_in_order o w e S.ordered (widens o w S.family S.once) h
+  walks : (e : WorldEvent) → refusal o (run o (opening_world o) es) e ≡ None
+      → OrderedWalk o (run o (opening_world o) es) e
+  walks e h = walked_in_order o (run o (opening_world o) es) e S.ordered
+      (widens o (run o (opening_world o) es) S.family S.once) h
 
 -- what is known of a process's last deletion behind every list of events
 told : (o : Opening) (p : Process) (es : List WorldEvent) → Told o p (run o (opening_world o) es) (deletion_of o es p)
@@ -91,9 +88,6 @@ module _ (o : Opening) (es : List WorldEvent) (e : WorldEvent)
     (free : refusal o (run o (opening_world o) es) e ≡ None) where
   abbrev before : World
   before = run o (opening_world o) es
-
-  abbrev more : List WorldEvent
-  more = es ++ e ∷ []
 
   -- the world behind the event
   behind : run o (opening_world o) (es ++ e ∷ []) ≡ accepted o before e

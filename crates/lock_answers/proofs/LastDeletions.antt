@@ -1,42 +1,29 @@
 -- A process's last deletion, after every list of events, and what an accepted event that answers it leaves.
-use mathlib.Core.Logic.{◌⊎◌}
-use Rattle.std.proofs.Common.{ℕ, Bool, true, false, ◌==◌, ◌≡◌, ◌+◌, ◌≤◌, Option, Some, None, List, [], ◌∷◌, ◌++◌, refl, sym, ap, ◌∙◌, subst, inl, inr, arith}
-use Rattle.std.specs.Prelude.{◌&&◌, ◌||◌, nat_lt, if◌then◌else◌}
+use Rattle.std.proofs.Common.{ℕ, Bool, true, false, ◌≡◌, ◌+◌, Option, Some, None, List, ◌∷◌, refl, sym, ap, ◌∙◌, subst, inl, inr}
+use Rattle.std.specs.Prelude.{if◌then◌else◌}
 use Rattle.std.specs.List.{list_all}
-use Rattle.std.proofs.lemmas.Bool.{eqb-true, ltb-true}
-use Rattle.registry_model.specs.Process.{Text, Process, is_process, Nodes, at}
-use Rattle.registry_model.specs.Call.{True}
-use Rattle.protocol_model.specs.Letter.{Letter, Client}
+use Rattle.registry_model.specs.Process.{Text, Process, is_process}
+use Rattle.protocol_model.specs.Letter.{Client}
 use Rattle.protocol_model.specs.Round.{begin}
-use Rattle.protocol_model.specs.Watch.{Watch, is_dead}
-use Rattle.protocol_model.specs.Node.{Node, LockPhase, LockCall, Target, Retries, Times, call_of, targets}
-use Rattle.protocol_model.specs.Event.{Call, Event, Answer}
-use Rattle.protocol_model.specs.Turn.{begun}
+use Rattle.protocol_model.specs.Node.{Node, LockPhase, LockCall, Target, Retries, Times, targets}
+use Rattle.protocol_model.specs.Event.{Call, Event}
 use Rattle.protocol_model.specs.Client.{new_call, in_phase}
 use Rattle.protocol_model.specs.LockAnswers.{Deletion, deletion_by}
-use Rattle.protocol_model.specs.World.{Opening, in_world, World, left, WorldEvent, At, Deliver, place, join_number, heard, turn_of, accepted}
-use Rattle.registry_model.proofs.Updates.{at_same}
-use Rattle.moves.proofs.Rules.{Rule, MayAll, Ordered, effect, effects, turn_by, answers_by}
+use Rattle.protocol_model.specs.World.{Opening, World, WorldEvent, At, Deliver, place}
+use Rattle.moves.proofs.Rules.{Rule, MayAll, Ordered, effect, effects, turn_by}
 use Rattle.moves.proofs.Rules.Rule.{CallsLock, AsksLock, FailsLock, DeletesLock, DeletesNothing}
-use Rattle.moves.proofs.Indices.{both, empty_at}
-use Rattle.walk.proofs.ChainKinds.{Aside, Again, Hearing, suits}
+use Rattle.walk.proofs.ChainKinds.{Aside, suits}
 use Rattle.walk.proofs.Orders.{ordered_keeps}
 use Rattle.walk.proofs.Walk.{InOrder}
 use Rattle.client_locks.proofs.Ids.{is_process_same}
 use Rattle.client_locks.proofs.Calls.{call_of-drop}
-use Rattle.client_locks.proofs.Clients.{Numbers, lives, IsLive, live_parts, lives_by, call_at, node_here}
+use Rattle.client_locks.proofs.Clients.{Numbers, call_at, node_here}
 use Rattle.client_locks.proofs.Calling.{calls_put}
-use Rattle.client_locks.proofs.Numbers.{num_by, less_if}
-use Rattle.client_locks.proofs.Growing.{Replying, replying_keeps}
-use Rattle.client_locks.proofs.Answering.{any_true}
 use Rattle.client_locks.proofs.Steps.{call_after}
-use Rattle.client_locks.proofs.Chains.{is_calm, aside_calm, calm_answers}
-use Rattle.client_locks.proofs.HeardChains.{answered_none}
-use Rattle.client_locks.proofs.Numbering.{aside_hears, Numbered, beginner_home}
-use Rattle.client_locks.proofs.Told.{all_of_all, retry_calm, chain_of, first_heard}
-use Rattle.lock_answers.proofs.Spared.{spares, spared, killing_answers}
-use Rattle.lock_answers.proofs.OpenDeletions.{Known, known_keeps}
-use Rattle.lock_answers.proofs.DeletionChains.{Deletes, IsDeleted, ends_chain}
+use Rattle.client_locks.proofs.Numbering.{Numbered, beginner_home}
+use Rattle.client_locks.proofs.Told.{chain_of, first_heard}
+use Rattle.lock_answers.proofs.OpenDeletions.{Known}
+use Rattle.lock_answers.proofs.DeletionChains.{Deletes}
 use Rattle.lock_answers.proofs.DeletionEvents
 use Rattle.lock_answers.proofs.DeletionEvents.{Told}
 
@@ -115,9 +102,6 @@ module _ (o : Opening) (w : World) (num : Numbers) (K : Known o w num) (N : Numb
 
     same_nodes : targets (start.node a).replica.members target ≡ targets (w.node a).replica.members target
     same_nodes = ap (λ (v : Node). targets v.replica.members target) (node_here w a (turn_by o a w CallsLock) a refl)
-
-    none_less : (b : Bool) (k : ℕ) → less_if (false && b) k ≡ k
-    none_less b k = refl
 
     deleted : (rest : List Rule) → MayAll o a (CallsLock ∷ DeletesLock fresh ∷ rest) w
         → list_all (suits Aside) rest ≡ true → After deletion (DeletesLock fresh ∷ rest)

@@ -1,42 +1,35 @@
 -- An open deletion along the rules that open calls go on by: at a node that it went to and that owes no acknowledgement
 -- nothing on its way lessens what the process has, and so it is where the deletion ends.
-use Rattle.std.proofs.Common.{ℕ, Bool, true, false, ◌==◌, ◌≡◌, ◌≤◌, ◌+◌, Option, Some, None, List, [], ◌∷◌, ◌++◌, refl, sym, ap, ◌∙◌, subst, inl, inr, arith}
-use Rattle.std.specs.Prelude.{not, ◌&&◌, ◌||◌, if◌then◌else◌}
-use Rattle.std.specs.List.{list_all}
-use Rattle.std.proofs.lemmas.Bool.{eqb-true, cases_eq}
-use Rattle.std.proofs.lemmas.List.Folds.{list_any-append}
+use Rattle.std.proofs.Common.{ℕ, Bool, true, false, ◌≡◌, Option, Some, None, List, [], ◌∷◌, ◌++◌, refl, sym, ap, ◌∙◌, subst}
+use Rattle.std.specs.Prelude.{if◌then◌else◌}
 use Rattle.registry_model.specs.Process.{Process, is_process, Nodes, at}
-use Rattle.registry_model.proofs.Updates.{at_other}
 use Rattle.protocol_model.specs.Letter.{Id, Letter}
-use Rattle.protocol_model.specs.Round.{Round, is_empty, begin, answer, down}
+use Rattle.protocol_model.specs.Round.{Round, is_empty, answer, down}
 use Rattle.protocol_model.specs.Node.{LockPhase, LockCall, call_of, put_call, drop_call}
 use Rattle.protocol_model.specs.Turn.{Turn, begun, keep_call}
 use Rattle.protocol_model.specs.Client.{in_phase, close_call, give_lock, is_spent}
 use Rattle.protocol_model.specs.ClientLocks.{is_gone}
-use Rattle.protocol_model.specs.World.{Opening, World, left}
+use Rattle.protocol_model.specs.World.{Opening, World}
 use Rattle.moves.proofs.Rules
-use Rattle.moves.proofs.Rules.{Rule, Taken, IsOpen, May, MayAll, Ordered, effect, effects, turn_by, takes, answers_by}
+use Rattle.moves.proofs.Rules.{Rule, Taken, IsOpen, May, Ordered, effect, turn_by, takes}
 use Rattle.moves.proofs.Invariants.{IsUp}
-use Rattle.moves.proofs.Indices.{both, empty_at}
 use Rattle.walk.proofs.ChainKinds.{Hearing, suits}
 use Rattle.walk.proofs.Orders.{ordered_keeps}
 use Rattle.client_locks.proofs.Ids.{is_process_same, is_process_self}
 use Rattle.client_locks.proofs.Calls.{call_of-drop, home_of_call}
-use Rattle.client_locks.proofs.Sessions.{Ask, Echo, Backed, Due, due_if, view, view_in, fits}
+use Rattle.client_locks.proofs.Sessions.{Echo, Backed, Due, due_if, view, view_in, fits}
 use Rattle.client_locks.proofs.SessionMoves.{backed_front}
 use Rattle.client_locks.proofs.Mail.{echoes, turned}
-use Rattle.client_locks.proofs.Clients.{Numbers, lives, IsLive, live_parts, call_at, Clients, caller_lives}
-use Rattle.client_locks.proofs.Calling.{ups_of, downs_of, calls_put, below_bound}
-use Rattle.client_locks.proofs.Numbers.{num_by, plus_if}
+use Rattle.client_locks.proofs.Clients.{Numbers, lives, IsLive, live_parts, call_at, Clients}
+use Rattle.client_locks.proofs.Calling.{ups_of, downs_of, calls_put}
+use Rattle.client_locks.proofs.Numbers.{num_by}
 use Rattle.client_locks.proofs.Keeping.{clients_keeps}
 use Rattle.client_locks.proofs.Growing.{Replying, replying_keeps, same_ask_rest}
-use Rattle.client_locks.proofs.Answering.{is_true, any_true, not_true_answers}
 use Rattle.client_locks.proofs.Steps.{call_after, calls_aside, nums_same}
 use Rattle.client_locks.proofs.Ongoing.{is_deleting}
-use Rattle.client_locks.proofs.Chains.{aside_or_step, from_heard}
-use Rattle.client_locks.proofs.Numbering.{last_effect}
+use Rattle.client_locks.proofs.Chains.{aside_or_step}
 use Rattle.headline.proofs.Together.{All, all_keeps}
-use Rattle.lock_answers.proofs.Settled.{Stands, stands_alone, stands_keeps, ran, lived}
+use Rattle.lock_answers.proofs.Settled.{Stands, stands_alone}
 
 -- what is known of each world along a chain
 pub record Known (o : Opening) (w : World) (num : Numbers) : Type 0 where
@@ -55,7 +48,8 @@ known_keeps o a r w num K m = record {
 }
 
 -- what becomes of p's open deletion c by a rule: k is its call then. Who owes no more has given p's lock back
-pub data Next (o : Opening) (w : World) (p : Process) (c : LockCall) (owing : Nodes) (k : Option LockCall) : Type 0 where
+pub data Next (o : Opening) (w : World) (p : Process) (c : LockCall) (owing : Nodes) (k : Option LockCall)
+    : Type 0 where
   Stayed : k ≡ Some c → Next o w p c owing k
   Lessened : (f : ℕ) → (IsUp o w f → Stands w p f) → k ≡ Some (in_phase (LockPhase.Deleting (at owing f false)) c)
       → Next o w p c owing k
@@ -63,9 +57,9 @@ pub data Next (o : Opening) (w : World) (p : Process) (c : LockCall) (owing : No
       → Next o w p c owing k
 
 -- a deletion owes or not
-pub view_deleting : (w : World) (p : Process) (c : LockCall) (owing : Nodes) (k : Option LockCall) → k ≡ Some c
+pub view_deleting : (c : LockCall) (owing : Nodes) (k : Option LockCall) → k ≡ Some c
     → c.phase ≡ LockPhase.Deleting owing → (x : ℕ) → view k x ≡ due_if (owing x)
-view_deleting w p c owing k e h x = ap (λ (j : Option LockCall). view j x) e
+view_deleting c owing k e h x = ap (λ (j : Option LockCall). view j x) e
     ∙ ap (λ (f : LockPhase). view_in c.id f x) h
 
 -- who lives isn't gone
@@ -156,17 +150,20 @@ module _ (o : Opening) (a : ℕ) (w : World) (num : Numbers) (K : Known o w num)
       -- each rule of an open call, or of none
       pub follows : (r : Rule) → suits Hearing r ≡ true → May o a w r → is_gone (effect o a r w) p ≡ false
           → Next o w p c owing (call_at (effect o a r w) p)
-      follows (Rules.HearsLock f id g d r) h m up = by_call d (LockPhase.Asking r) m.tested.2 (Rules.HearsLock f id g d r) _
+      follows (Rules.HearsLock f id g d r) h m up = by_call d (LockPhase.Asking r) m.tested.2
+          (Rules.HearsLock f id g d r) _
           (put_after (Rules.HearsLock f id g d r) (takes o a (Rules.HearsLock f id g d r))
           (turn_by o a w (Rules.HearsLock f id g d r)) refl d (open_home d (LockPhase.Asking r) m.tested.2)
           (LockPhase.Asking (answer f g r)) (ap (put_call (in_phase (LockPhase.Asking (answer f g r)) d))
           (same_ask_rest o.bound a f g (Letter.SetLock d.id d.holder) r (w.node a)).calls))
           (λ same i. not_asking d r m.tested.2.phase same)
-      follows (Rules.MarksLockDown f d r) h m up = by_call d (LockPhase.Asking r) m.tested.1 (Rules.MarksLockDown f d r) _
+      follows (Rules.MarksLockDown f d r) h m up = by_call d (LockPhase.Asking r) m.tested.1
+          (Rules.MarksLockDown f d r) _
           (put_after (Rules.MarksLockDown f d r) None (turn_by o a w (Rules.MarksLockDown f d r)) refl d
           (open_home d (LockPhase.Asking r) m.tested.1) (LockPhase.Asking (down f r)) refl)
           (λ same i. not_asking d r m.tested.1.phase same)
-      follows (Rules.WinsLock d r) h m up = by_call d (LockPhase.Asking r) m.tested.0 (Rules.WinsLock d r) None
+      follows (Rules.WinsLock d r) h m up = by_call d (LockPhase.Asking r) m.tested.0
+          (Rules.WinsLock d r) None
           (drop_after (Rules.WinsLock d r) None (turn_by o a w (Rules.WinsLock d r)) refl d
           (open_home d (LockPhase.Asking r) m.tested.0) refl)
           (λ same i. not_asking d r m.tested.0.phase same)
@@ -190,7 +187,8 @@ module _ (o : Opening) (a : ℕ) (w : World) (num : Numbers) (K : Known o w num)
               (put_after (Rules.GivesUpLock d r s) None (ends false)
               (ap (λ (b : Bool). turned a None (ends b) w) e) d home LockPhase.Waiting refl)
               (λ same i. not_asking d r m.tested.0.phase same)
-      follows (Rules.CountsGivenBack f d owed) h m up = by_call d (LockPhase.Deleting owed) m.tested.1 (Rules.CountsGivenBack f d owed) _
+      follows (Rules.CountsGivenBack f d owed) h m up = by_call d (LockPhase.Deleting owed) m.tested.1
+          (Rules.CountsGivenBack f d owed) _
           (put_after (Rules.CountsGivenBack f d owed) (takes o a (Rules.CountsGivenBack f d owed))
           (turn_by o a w (Rules.CountsGivenBack f d owed)) refl d home (LockPhase.Deleting (at owed f false)) refl)
           (λ same i. Lessened f
@@ -202,7 +200,8 @@ module _ (o : Opening) (a : ℕ) (w : World) (num : Numbers) (K : Known o w num)
         where
           home : d.holder.node ≡ a
           home = open_home d (LockPhase.Deleting owed) m.tested.1
-      follows (Rules.CountsLockDown f d owed) h m up = by_call d (LockPhase.Deleting owed) m.tested.1 (Rules.CountsLockDown f d owed) _
+      follows (Rules.CountsLockDown f d owed) h m up = by_call d (LockPhase.Deleting owed) m.tested.1
+          (Rules.CountsLockDown f d owed) _
           (put_after (Rules.CountsLockDown f d owed) None (turn_by o a w (Rules.CountsLockDown f d owed)) refl d
           (open_home d (LockPhase.Deleting owed) m.tested.1) (LockPhase.Deleting (at owed f false)) refl)
           (λ same i. Lessened f
@@ -210,7 +209,8 @@ module _ (o : Opening) (a : ℕ) (w : World) (num : Numbers) (K : Known o w num)
           (ap (λ (j : LockCall). Some (in_phase (LockPhase.Deleting (at owed f false)) j)) same
           ∙ ap (λ (n : Nodes). Some (in_phase (LockPhase.Deleting (at n f false)) c))
           (same_owing d owed m.tested.1.phase same)))
-      follows (Rules.EndsDeletion f d owed) h m up = by_call d (LockPhase.Deleting owed) m.tested.1 (Rules.EndsDeletion f d owed) None
+      follows (Rules.EndsDeletion f d owed) h m up = by_call d (LockPhase.Deleting owed) m.tested.1
+          (Rules.EndsDeletion f d owed) None
           (drop_after (Rules.EndsDeletion f d owed) (takes o a (Rules.EndsDeletion f d owed))
           (turn_by o a w (Rules.EndsDeletion f d owed)) refl d home refl)
           (λ same i. Ended f
@@ -221,7 +221,8 @@ module _ (o : Opening) (a : ℕ) (w : World) (num : Numbers) (K : Known o w num)
         where
           home : d.holder.node ≡ a
           home = open_home d (LockPhase.Deleting owed) m.tested.1
-      follows (Rules.EndsDeletionDown f d owed) h m up = by_call d (LockPhase.Deleting owed) m.tested.1 (Rules.EndsDeletionDown f d owed) None
+      follows (Rules.EndsDeletionDown f d owed) h m up = by_call d (LockPhase.Deleting owed) m.tested.1
+          (Rules.EndsDeletionDown f d owed) None
           (drop_after (Rules.EndsDeletionDown f d owed) None (turn_by o a w (Rules.EndsDeletionDown f d owed)) refl d
           (open_home d (LockPhase.Deleting owed) m.tested.1) refl)
           (λ same i. Ended f

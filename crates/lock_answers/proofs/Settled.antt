@@ -1,13 +1,13 @@
 -- A node where nothing that is on its way lessens what a process has there: it stays so by each rule, as long as the
 -- process asks for nothing.
-use Rattle.std.proofs.Common.{ℕ, Bool, true, false, ◌==◌, ◌≡◌, ◌≤◌, ◌+◌, ◌-◌, Option, Some, None, List, [], ◌∷◌, ◌++◌, refl, sym, ap, ◌∙◌, subst, arith}
+use Rattle.std.proofs.Common.{ℕ, Bool, true, false, ◌==◌, ◌≡◌, ◌≤◌, ◌+◌, ◌-◌, List, [], ◌∷◌, ◌++◌, refl, sym, ap, ◌∙◌, subst, arith}
 use Rattle.std.specs.Prelude.{not, ◌&&◌, ◌||◌, filter, if◌then◌else◌}
-use Rattle.std.proofs.lemmas.Bool.{eqb-true, eq-eqb, cases_eq}
-use Rattle.registry_model.specs.Process.{Process, is_process, at}
+use Rattle.std.proofs.lemmas.Bool.{eqb-true}
+use Rattle.registry_model.specs.Process.{Process, is_process}
 use Rattle.registry_model.proofs.Updates.{by_test}
 use Rattle.protocol_model.specs.Letter.{Id, is_id, Letter}
-use Rattle.protocol_model.specs.LockTable.{Grant, Locks, is_grant_of, count, is_free_for, grant, give_back, drop_holder, drop_node}
-use Rattle.protocol_model.specs.Node.{Node, LockCall}
+use Rattle.protocol_model.specs.LockTable.{Locks, is_grant_of, count, is_free_for, grant, give_back}
+use Rattle.protocol_model.specs.Node.{Node}
 use Rattle.protocol_model.specs.Watch.{is_dead}
 use Rattle.protocol_model.specs.ClientLocks.{is_gone}
 use Rattle.protocol_model.specs.World.{Opening, World, left}
@@ -15,11 +15,11 @@ use Rattle.moves.proofs.Rules
 use Rattle.moves.proofs.Rules.{Rule, May, effect, turn_by}
 use Rattle.moves.proofs.Invariants.{IsUp}
 use Rattle.walk.proofs.Orders.{effect-node}
-use Rattle.client_locks.proofs.Ids.{is_process_same, is_process_self, is_process_swap}
-use Rattle.client_locks.proofs.LockTables.{Sound, pair_off, count-grant_other, count-give_back, count-give_back_other, count-drop_holder, count-drop_node}
-use Rattle.client_locks.proofs.Sessions.{Ask, Takes, Echo, View, Idle, Owed, Due, due_if, view, settled, settled_le, fits, due, Live}
+use Rattle.client_locks.proofs.Ids.{is_process_same, is_process_self}
+use Rattle.client_locks.proofs.LockTables.{pair_off, count-grant_other, count-give_back, count-give_back_other, count-drop_holder, count-drop_node}
+use Rattle.client_locks.proofs.Sessions.{Ask, Takes, Echo, View, Owed, due_if, view, settled, settled_le, fits, due, Live}
 use Rattle.client_locks.proofs.SessionMoves.{take_front}
-use Rattle.client_locks.proofs.Mail.{asks, echoes}
+use Rattle.client_locks.proofs.Mail.{asks}
 use Rattle.client_locks.proofs.Clients.{Numbers, lives, IsLive, live_parts, lives_by, call_at, Clients}
 use Rattle.client_locks.proofs.Calling.{ups_of, downs_of, held_of, num_of}
 use Rattle.client_locks.proofs.Serving.{front_named}

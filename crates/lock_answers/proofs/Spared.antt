@@ -1,24 +1,23 @@
 -- What a letter does to the living: one that kills nobody leaves the watch of its node, and one that kills answers no
 -- lock call `true`.
-use Rattle.std.proofs.Common.{ℕ, Bool, true, false, ◌==◌, ◌≡◌, Option, Some, None, List, [], ◌∷◌, ◌++◌, refl, sym, ap, ◌∙◌}
+use Rattle.std.proofs.Common.{ℕ, Bool, true, false, ◌==◌, ◌≡◌, Option, Some, None, List, [], ◌∷◌, ◌++◌, refl, ap, ◌∙◌}
 use Rattle.std.specs.Prelude.{not, ◌&&◌, ◌||◌, fold, if◌then◌else◌}
 use Rattle.std.proofs.Math.Bool.{and-false}
 use Rattle.std.proofs.lemmas.List.Folds.{list_any-append}
 use Rattle.registry_model.specs.Process.{Process, is_process, Nodes, at}
-use Rattle.registry_model.specs.Table.{Table}
 use Rattle.registry_model.specs.Settlement.{settle}
 use Rattle.registry_model.specs.Call.{Reply, Joined, NotMember, True, is_reply, is_grant, reply_to, change_of}
 use Rattle.registry_model.specs.History.{Entry}
 use Rattle.protocol_model.specs.Round.{Round, owes, asked, answer, down, is_over, Ending, ending, opens, rest, is_empty}
 use Rattle.protocol_model.specs.Letter.{Global, Letter, is_down}
 use Rattle.protocol_model.specs.LockTable.{is_free_for}
-use Rattle.protocol_model.specs.Watch.{Watch, is_live, owed}
+use Rattle.protocol_model.specs.Watch.{is_live, owed}
 use Rattle.protocol_model.specs.Node.{Op, Current, LockPhase, LockCall, call_of}
 use Rattle.protocol_model.specs.Event.{Answer}
-use Rattle.protocol_model.specs.Turn.{Turn, begun, with_replica, with_queue, at_work, keep_call, enter, send, send_all, reply_with}
-use Rattle.protocol_model.specs.Registrar.{registrar, start, start_free, start_next, start_queue, ask_join, ask_rest, await_less, finish, done, write, decide, answer_op, lose_contact, contact_left}
+use Rattle.protocol_model.specs.Turn.{Turn, with_replica, with_queue, at_work, keep_call, enter, send, send_all, reply_with}
+use Rattle.protocol_model.specs.Registrar.{registrar, start, start_free, start_next, start_queue, ask_join, ask_rest, await_less, finish, done, write, decide, lose_contact, contact_left}
 use Rattle.protocol_model.specs.Deciding.{admit, held, end_by, go_on, hear_answer, lose}
-use Rattle.protocol_model.specs.Client.{in_phase, close_call, give_lock, refuse_lock, is_spent, end_lock_by, go_on_lock, hear_lock, hear_lock_in, owe_less, owe_less_in, lose_node, lose_node_in}
+use Rattle.protocol_model.specs.Client.{in_phase, close_call, give_lock, is_spent, end_lock_by, go_on_lock, hear_lock, hear_lock_in, owe_less, owe_less_in, lose_node_in}
 use Rattle.protocol_model.specs.Calling.{die, kill, queued}
 use Rattle.protocol_model.specs.Reading.{admitted, welcomed, judge, refused_join, welcome, told_of, lose_current, lose_join, bereave, read, receive}
 use Rattle.protocol_model.specs.Answers.{answer_to}

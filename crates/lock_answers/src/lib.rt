@@ -4,7 +4,7 @@
 
 ghost use Rattle.protocol_model.specs.LockAnswers.{AtEachStep, IsGivenBack};
 
-/// Where a `del_lock` is answered, each running node that it went to has the lock for the process as often as it holds it there.
+/// Where a `del_lock` is answered, each running node it went to has the lock as often as the process holds it there.
 pub fn deletions_are_done()
     ensures { AtEachStep IsGivenBack }
 {}
