@@ -17,3 +17,12 @@ pub use Rattle.leftovers.proofs.Tries
 pub use Rattle.leftovers.proofs.Walk
 pub use Rattle.leftovers.proofs.Walking
 pub mod ClientLocks
+pub mod Spared
+pub mod Settled
+pub mod OpenDeletions
+pub mod DeletionChains
+pub mod DeletionEvents
+pub mod LastDeletions
+pub mod DeletionAnswers
+pub mod DeletionNumbers
+pub mod GivenBack

@@ -1,0 +1,260 @@
+-- An accepted event that answers a process's last deletion `true`: all nodes that it went to have given back then, and
+-- its process lives; or it went nowhere.
+use mathlib.Core.Logic.{◌⊎◌}
+use Rattle.std.proofs.Common.{ℕ, Bool, true, false, ◌==◌, ◌≡◌, ◌+◌, ◌≤◌, Option, Some, None, List, [], ◌∷◌, refl, sym, ap, ◌∙◌, subst, inl, inr, arith}
+use Rattle.std.specs.Prelude.{◌&&◌, ◌||◌, nat_lt, if◌then◌else◌}
+use Rattle.std.specs.List.{list_all}
+use Rattle.std.proofs.lemmas.Bool.{eqb-true, ltb-true}
+use Rattle.registry_model.specs.Process.{Text, Process, is_process, at}
+use Rattle.protocol_model.specs.Letter.{Letter, Client}
+use Rattle.protocol_model.specs.Watch.{Watch, is_dead}
+use Rattle.protocol_model.specs.Node.{Node, LockCall, Target, Times, targets}
+use Rattle.protocol_model.specs.Event.{Call, Event}
+use Rattle.protocol_model.specs.Turn.{begun}
+use Rattle.protocol_model.specs.Client.{new_call}
+use Rattle.protocol_model.specs.LockAnswers.{Deletion, deletion_by}
+use Rattle.protocol_model.specs.World.{Opening, in_world, World, left, WorldEvent, At, Deliver, place, join_number, heard, turn_of, accepted}
+use Rattle.registry_model.proofs.Updates.{at_same}
+use Rattle.moves.proofs.Rules.{Rule, MayAll, effect, effects, turn_by, answers_by}
+use Rattle.moves.proofs.Rules.Rule.{CallsLock, AsksLock, FailsLock, DeletesLock, DeletesNothing}
+use Rattle.moves.proofs.Indices.{both, empty_at}
+use Rattle.walk.proofs.ChainKinds.{Aside, Again, Hearing, suits}
+use Rattle.walk.proofs.Orders.{ordered_keeps}
+use Rattle.walk.proofs.Walk.{InOrder}
+use Rattle.client_locks.proofs.Clients.{Numbers, lives, IsLive, live_parts, lives_by, call_at, node_here}
+use Rattle.client_locks.proofs.Growing.{replying_keeps}
+use Rattle.client_locks.proofs.Answering.{any_true}
+use Rattle.client_locks.proofs.Chains.{is_calm, aside_calm, calm_answers}
+use Rattle.client_locks.proofs.HeardChains.{answered_none}
+use Rattle.client_locks.proofs.Numbering.{Numbered}
+use Rattle.client_locks.proofs.Told.{all_of_all, retry_calm, chain_of, first_heard}
+use Rattle.lock_answers.proofs.Spared.{spares, spared, killing_answers}
+use Rattle.lock_answers.proofs.OpenDeletions.{Known}
+use Rattle.lock_answers.proofs.DeletionChains.{Deletes, IsDeleted, ends_chain}
+use Rattle.lock_answers.proofs.DeletionEvents.{Told}
+
+-- who lives where a letter is read by which nobody dies lives behind it
+spared_lives : (o : Opening) (f b : ℕ) (w : World) (l : Letter) (ls : List Letter) → w.links.queue f b ≡ l ∷ ls
+    → spares l ≡ true → (p : Process) → p.node ≡ b → lives o w p ≡ true
+    → lives o (accepted o w (Deliver f b)) p ≡ true
+spared_lives o f b w l ls front h p home living = lives_by o (accepted o w (Deliver f b)) p (record {
+  inside = v.inside;
+  up = v.up;
+  client = v.client;
+  alive = ap (λ (i : ℕ). is_dead (at w.node b (turn_of o w (Deliver f b)).node i).watch p.serial) home
+      ∙ ap (λ (n : Node). is_dead n.watch p.serial) (at_same w.node b (turn_of o w (Deliver f b)).node)
+      ∙ ap (λ (x : Watch). is_dead x p.serial) watch
+      ∙ ap (λ (i : ℕ). is_dead (w.node i).watch p.serial) (sym home) ∙ v.alive;
+})
+  where
+    v : IsLive o w p
+    v = live_parts o w p living
+
+    watch : (turn_of o w (Deliver f b)).node.watch ≡ (w.node b).watch
+    watch = ap (λ (qs : List Letter). (heard o.bound b w f qs).node.watch) front
+        ∙ spared o.bound b (join_number w) f l (begun (w.node b)) h
+
+module _ (o : Opening) (w : World) (num : Numbers) (K : Known o w num) (N : Numbered o w) (p : Process)
+    (t : Option Deletion) (T : Told o p w t) where
+  -- the deletion d has ended at all nodes that run, and p lives; or it went nowhere
+  abbrev pub HasEnded : Deletion → World → Type 0
+  HasEnded d v = (IsDeleted o p d.number d.nodes v × (lives o v p ≡ true))
+      ⊎ ((x : ℕ) → in_world o x ≡ true → d.nodes x ≡ false)
+
+  -- no rule of these answers a lock call `true`
+  silent : (a : ℕ) (rs : List Rule) → list_all is_calm rs ≡ true → MayAll o a rs w → (k : ℕ)
+      → any_true p.node k (answers_by o a rs w) ≡ false
+  silent a rs h m k = calm_answers o a rs w h m K.replying p.node k
+
+  aside_silent : (a : ℕ) (rs : List Rule) → list_all (suits Aside) rs ≡ true → MayAll o a rs w → (k : ℕ)
+      → any_true p.node k (answers_by o a rs w) ≡ false
+  aside_silent a rs h m k = silent a rs (all_of_all (suits Aside) is_calm aside_calm rs h) m k
+
+  -- a delivery
+  module _ (f b : ℕ) (rest : List Rule) (m : MayAll o b (chain_of o w (Deliver f b) rest) w)
+      (h : list_all (suits Hearing) rest ≡ true) (d : Deletion) (last : t ≡ Some d) (here : p.node ≡ b)
+      (running : left w b ≡ false)
+      (is : effects o b (chain_of o w (Deliver f b) rest) w ≡ accepted o w (Deliver f b))
+      (same : answers_by o b (chain_of o w (Deliver f b) rest) w ≡ (turn_of o w (Deliver f b)).answers)
+      (answered : any_true p.node d.number (answers_by o b (chain_of o w (Deliver f b) rest) w) ≡ true) where
+    fits : list_all (suits Hearing) (chain_of o w (Deliver f b) rest) ≡ true
+    fits = first_heard o (ordered_keeps o) w num K.ordered K.replying N f b (w.links.queue f b) rest h
+
+    D : Deletes o p d.number d.nodes w
+    D = T d last
+
+    lived_before : lives o w p ≡ true
+    lived_before = go (lives o w p) refl
+      where
+        go : (c : Bool) → lives o w p ≡ c → lives o w p ≡ true
+        go true e = e
+        go false e =
+            let none : call_at w p ≡ None = K.clients.callers p e (ap (left w) here ∙ running) in
+            let unanswered : any_true p.node d.number (answers_by o b (chain_of o w (Deliver f b) rest) w) ≡ false =
+            answered_none o b (ordered_keeps o) (chain_of o w (Deliver f b) rest) w num d.number fits m K.ordered
+            K.replying
+            (λ q c home found n. absurd (cc (
+              subst (λ (k : Process). call_at w k ≡ Some c)
+                  (D.alone q c (home ∙ sym here) found n) found,
+              none,
+            ))) p.node in
+            cc (unanswered, answered)
+
+    lives_after : lives o (effects o b (chain_of o w (Deliver f b) rest) w) p ≡ true
+    lives_after = subst (λ (v : World). lives o v p ≡ true) (sym is) (go (w.links.queue f b) refl)
+      where
+        by_letter : (l : Letter) (ls : List Letter) → w.links.queue f b ≡ l ∷ ls → (c : Bool) → spares l ≡ c
+            → lives o (accepted o w (Deliver f b)) p ≡ true
+        by_letter l ls e true s = spared_lives o f b w l ls e s p here lived_before
+        by_letter l ls e false s =
+            let none : any_true p.node d.number (turn_of o w (Deliver f b)).answers ≡ false =
+            ap (λ (qs : List Letter). any_true p.node d.number (heard o.bound b w f qs).answers) e
+            ∙ killing_answers o.bound b (join_number w) p.node d.number f l (begun (w.node b)) s refl in
+            absurd (cc (ap (any_true p.node d.number) same ∙ none, answered))
+
+        go : (qs : List Letter) → w.links.queue f b ≡ qs → lives o (accepted o w (Deliver f b)) p ≡ true
+        go [] e =
+            let none : any_true p.node d.number (turn_of o w (Deliver f b)).answers ≡ false =
+            ap (λ (qs : List Letter). any_true p.node d.number (heard o.bound b w f qs).answers) e in
+            absurd (cc (ap (any_true p.node d.number) same ∙ none, answered))
+        go (l ∷ ls) e = by_letter l ls e (spares l) refl
+
+    heard_ends : HasEnded d (effects o b (chain_of o w (Deliver f b) rest) w)
+    heard_ends = inl (
+      ends_chain o p d.number d.nodes b (chain_of o w (Deliver f b) rest) w num K fits m D lives_after answered,
+      lives_after,
+    )
+
+  -- a deletion
+  module _ (a : ℕ) (q : Process) (r z : Text) (target : Target) where
+    abbrev deletion : WorldEvent
+    deletion = At a (Event.Calling (Call.DelLock q r z target))
+
+    abbrev fresh : LockCall
+    fresh = new_call o.bound a ((w.node a).last_call + 1) q r z target (Times 0)
+
+    abbrev start : World
+    start = effect o a CallsLock w
+
+    abbrev new : Deletion
+    new = record {
+      number = (w.node a).last_call + 1;
+      id = Client r z;
+      nodes = targets (w.node a).replica.members target;
+    }
+
+    -- it waits for who owes
+    deleted_silent : (rest : List Rule) → MayAll o a (CallsLock ∷ DeletesLock fresh ∷ rest) w
+        → list_all (suits Aside) rest ≡ true → (k : ℕ)
+        → any_true p.node k (answers_by o a (CallsLock ∷ DeletesLock fresh ∷ rest) w) ≡ false
+    deleted_silent rest m h k = calm_answers o a rest (effect o a (DeletesLock fresh) start)
+        (all_of_all (suits Aside) is_calm aside_calm rest h) m.1.1
+        (replying_keeps o a start (DeletesLock fresh) m.1.0 (replying_keeps o a w CallsLock m.0 K.replying)) p.node k
+
+    nothing_ends : (rest : List Rule) → MayAll o a (CallsLock ∷ DeletesNothing fresh ∷ rest) w
+        → list_all (suits Aside) rest ≡ true → (d : Deletion) → deletion_by w deletion p t ≡ Some d
+        → any_true p.node d.number (answers_by o a (CallsLock ∷ DeletesNothing fresh ∷ rest) w) ≡ true
+        → HasEnded d (effects o a (CallsLock ∷ DeletesNothing fresh ∷ rest) w)
+    nothing_ends rest m h d last answered = go (is_process q p) refl last
+      where
+        none : (x : ℕ) → in_world o x ≡ true → targets (w.node a).replica.members target x ≡ false
+        none x inside = ap (λ (v : Node). targets v.replica.members target x)
+            (sym (node_here w a (turn_by o a w CallsLock) a refl))
+            ∙ empty_at o.bound (targets (start.node a).replica.members target) m.1.0.tested.1 x
+            (ltb-true x o.bound (both (nat_lt x o.bound) (o.nodes x) inside).0)
+
+        later : any_true p.node d.number (answers_by o a rest (effect o a (DeletesNothing fresh) start)) ≡ false
+        later = calm_answers o a rest (effect o a (DeletesNothing fresh) start)
+            (all_of_all (suits Aside) is_calm aside_calm rest h) m.1.1
+            (replying_keeps o a start (DeletesNothing fresh) m.1.0 (replying_keeps o a w CallsLock m.0 K.replying))
+            p.node d.number
+
+        -- its own number is greater than that of an older one
+        other : d.number ≤ (w.node p.node).last_call → (b c : Bool) → (a == p.node) ≡ b
+            → (((w.node a).last_call + 1) == d.number) ≡ c → ((b && c) && true) ≡ false
+        other least false c eb ec = refl
+        other least true false eb ec = refl
+        other least true true eb ec =
+            let low : d.number ≤ (w.node a).last_call = subst (λ (i : ℕ). d.number ≤ (w.node i).last_call)
+            (sym (eqb-true a p.node eb)) least in
+            absurd (omega (arith, eqb-true ((w.node a).last_call + 1) d.number ec, low))
+
+        go : (b : Bool) → is_process q p ≡ b → (if b then Some new else t) ≡ Some d
+            → HasEnded d (effects o a (CallsLock ∷ DeletesNothing fresh ∷ rest) w)
+        go true j i =
+            let same : new ≡ d = cc i in
+            inr (subst (λ (b : Deletion). (x : ℕ) → in_world o x ≡ true → b.nodes x ≡ false) same none)
+        go false j i =
+            let unanswered : any_true p.node d.number (answers_by o a (CallsLock ∷ DeletesNothing fresh ∷ rest) w)
+            ≡ false = ap (λ (b : Bool). b || any_true p.node d.number (answers_by o a rest
+            (effect o a (DeletesNothing fresh) start)))
+            (other (T d i).below (a == p.node) (((w.node a).last_call + 1) == d.number) refl refl) ∙ later in
+            absurd (cc (unanswered, answered))
+
+  -- what is to be shown of an event that is this chain
+  abbrev pub Ends : WorldEvent → List Rule → Type 0
+  Ends e rest = (d : Deletion) → deletion_by w e p t ≡ Some d
+      → any_true p.node d.number (answers_by o (place e) (chain_of o w e rest) w) ≡ true
+      → HasEnded d (effects o (place e) (chain_of o w e rest) w)
+
+  -- an event that answers none
+  by_silence : (e : WorldEvent) (rest : List Rule)
+      → ((k : ℕ) → any_true p.node k (answers_by o (place e) (chain_of o w e rest) w) ≡ false) → Ends e rest
+  by_silence e rest none d last answered = absurd (cc (none d.number, answered))
+
+  -- each accepted event
+  pub ends_on : (e : WorldEvent) (rest : List Rule) → MayAll o (place e) (chain_of o w e rest) w → InOrder o w e rest
+      → p.node ≡ place e → left w (place e) ≡ false
+      → effects o (place e) (chain_of o w e rest) w ≡ accepted o w e
+      → answers_by o (place e) (chain_of o w e rest) w ≡ (turn_of o w e).answers → Ends e rest
+  ends_on (At a (Event.Calling Call.Spawn)) rest m h here running is same =
+      by_silence (At a (Event.Calling Call.Spawn)) rest
+      (aside_silent a (chain_of o w (At a (Event.Calling Call.Spawn)) rest) h m)
+  ends_on (At a (Event.Calling (Call.LookUp look))) rest m h here running is same =
+      by_silence (At a (Event.Calling (Call.LookUp look))) rest
+      (aside_silent a (chain_of o w (At a (Event.Calling (Call.LookUp look))) rest) h m)
+  ends_on (At a (Event.Calling (Call.OnName c))) rest m h here running is same =
+      by_silence (At a (Event.Calling (Call.OnName c))) rest
+      (aside_silent a (chain_of o w (At a (Event.Calling (Call.OnName c))) rest) h m)
+  ends_on (At a (Event.Calling (Call.JoinBy j))) rest m h here running is same =
+      by_silence (At a (Event.Calling (Call.JoinBy j))) rest
+      (aside_silent a (chain_of o w (At a (Event.Calling (Call.JoinBy j))) rest) h m)
+  ends_on (At a (Event.Exiting q)) rest m h here running is same =
+      by_silence (At a (Event.Exiting q)) rest (aside_silent a (chain_of o w (At a (Event.Exiting q)) rest) h m)
+  ends_on (At a Event.Leave) rest m h here running is same =
+      by_silence (At a Event.Leave) rest (aside_silent a (chain_of o w (At a Event.Leave) rest) h m)
+  ends_on (At a Event.Retry) rest m h here running is same =
+      by_silence (At a Event.Retry) rest
+      (silent a rest (all_of_all (suits (Again (w.node a))) is_calm (retry_calm (w.node a)) rest h) m)
+  ends_on (Deliver f b) rest m h here running is same =
+      λ d last answered. heard_ends f b rest m h d last here running is same answered
+  ends_on (At a (Event.Calling (Call.SetLock q r z target retries))) rest m h here running is same =
+      (subst (λ (rs : List Rule). MayAll o a (CallsLock ∷ rs) w → Ends attempt rs) (sym h.1.1.0)
+      (elim h.1.1.1 [
+        | inl e ↦ subst (λ (s : Rule). MayAll o a (CallsLock ∷ s ∷ h.1.0) w → Ends attempt (s ∷ h.1.0)) (sym e)
+            (λ k. by_silence attempt (AsksLock new_try ∷ h.1.0)
+            (silent a (CallsLock ∷ AsksLock new_try ∷ h.1.0) calm k))
+        | inr e ↦ subst (λ (s : Rule). MayAll o a (CallsLock ∷ s ∷ h.1.0) w → Ends attempt (s ∷ h.1.0)) (sym e)
+            (λ k. by_silence attempt (FailsLock new_try ∷ h.1.0)
+            (silent a (CallsLock ∷ FailsLock new_try ∷ h.1.0) calm k))
+      ])) m
+    where
+      attempt : WorldEvent
+      attempt = At a (Event.Calling (Call.SetLock q r z target retries))
+
+      new_try : LockCall
+      new_try = new_call o.bound a ((w.node a).last_call + 1) q r z target retries
+
+      calm : list_all is_calm h.1.0 ≡ true
+      calm = all_of_all (suits Aside) is_calm aside_calm h.1.0 h.1.1.2
+  ends_on (At a (Event.Calling (Call.DelLock q r z target))) rest m h here running is same =
+      (subst (λ (rs : List Rule). MayAll o a (CallsLock ∷ rs) w → Ends (deletion a q r z target) rs) (sym h.1.1.0)
+      (elim h.1.1.1 [
+        | inl e ↦ subst (λ (s : Rule). MayAll o a (CallsLock ∷ s ∷ h.1.0) w
+            → Ends (deletion a q r z target) (s ∷ h.1.0)) (sym e)
+            (λ k. by_silence (deletion a q r z target) (DeletesLock (fresh a q r z target) ∷ h.1.0)
+            (deleted_silent a q r z target h.1.0 k h.1.1.2))
+        | inr e ↦ subst (λ (s : Rule). MayAll o a (CallsLock ∷ s ∷ h.1.0) w
+            → Ends (deletion a q r z target) (s ∷ h.1.0)) (sym e)
+            (λ k d last answered. nothing_ends a q r z target h.1.0 k h.1.1.2 d last answered)
+      ])) m

@@ -1,0 +1,320 @@
+-- What a letter does to the living: one that kills nobody leaves the watch of its node, and one that kills answers no
+-- lock call `true`.
+use Rattle.std.proofs.Common.{ℕ, Bool, true, false, ◌==◌, ◌≡◌, Option, Some, None, List, [], ◌∷◌, ◌++◌, refl, ap, ◌∙◌}
+use Rattle.std.specs.Prelude.{not, ◌&&◌, ◌||◌, fold, if◌then◌else◌}
+use Rattle.std.proofs.Math.Bool.{and-false}
+use Rattle.std.proofs.lemmas.List.Folds.{list_any-append}
+use Rattle.registry_model.specs.Process.{Process, is_process, Nodes, at}
+use Rattle.registry_model.specs.Settlement.{settle}
+use Rattle.registry_model.specs.Call.{Reply, Joined, NotMember, True, is_reply, is_grant, reply_to, change_of}
+use Rattle.registry_model.specs.History.{Entry}
+use Rattle.protocol_model.specs.Round.{Round, owes, asked, answer, down, is_over, Ending, ending, opens, rest, is_empty}
+use Rattle.protocol_model.specs.Letter.{Global, Letter, is_down}
+use Rattle.protocol_model.specs.LockTable.{is_free_for}
+use Rattle.protocol_model.specs.Watch.{is_live, owed}
+use Rattle.protocol_model.specs.Node.{Op, Current, LockPhase, LockCall, call_of}
+use Rattle.protocol_model.specs.Event.{Answer}
+use Rattle.protocol_model.specs.Turn.{Turn, with_replica, with_queue, at_work, keep_call, enter, send, send_all, reply_with}
+use Rattle.protocol_model.specs.Registrar.{registrar, start, start_free, start_next, start_queue, ask_join, ask_rest, await_less, finish, done, write, decide, lose_contact, contact_left}
+use Rattle.protocol_model.specs.Deciding.{admit, held, end_by, go_on, hear_answer, lose}
+use Rattle.protocol_model.specs.Client.{in_phase, close_call, give_lock, is_spent, end_lock_by, go_on_lock, hear_lock, hear_lock_in, owe_less, owe_less_in, lose_node_in}
+use Rattle.protocol_model.specs.Calling.{die, kill, queued}
+use Rattle.protocol_model.specs.Reading.{admitted, welcomed, judge, refused_join, welcome, told_of, lose_current, lose_join, bereave, read, receive}
+use Rattle.protocol_model.specs.Answers.{answer_to}
+use Rattle.leftovers.proofs.Doomed.{start-watch}
+use Rattle.client_locks.proofs.Answering.{is_true, any_true}
+
+-- by this letter nobody dies
+abbrev pub spares : Letter → Bool
+spares (Letter.Admit j puts kills) = false
+spares (Letter.Welcome members pairs told kills) = false
+spares _ = true
+
+-- the watch is as it was
+abbrev Watches : Turn → Turn → Type 0
+Watches u v = v.node.watch ≡ u.node.watch
+
+module _ (n a : ℕ) (number : ℕ → ℕ) where
+  watch_rest : (f : ℕ) (granted : Bool) (l : Letter) (r : Round) (u : Turn) → Watches u (ask_rest n a f granted l r u)
+  watch_rest f granted l r u = go (opens f granted r)
+    where
+      go : (b : Bool) → Watches u (if b then send_all n (λ x. rest r x && not (u.node.replica.told x)) l u else u)
+      go true = refl
+      go false = refl
+
+  -- the registrar
+  watch_finish : (op : Op) (asked : Nodes) (reply : Option Reply) (u : Turn) → Watches u (finish n a op asked reply u)
+  watch_finish (Op.Name k call) asked (Some r) u = refl
+  watch_finish (Op.Name k call) asked None u = refl
+  watch_finish (Op.Strike p) asked reply u = refl
+  watch_finish (Op.Join k m) asked reply u = refl
+  watch_finish (Op.Admission j pairs) asked reply u = refl
+
+  watch_held : (op : Op) (asked : Nodes) (u : Turn) → Watches u (held n a number op asked u)
+  watch_held (Op.Name k call) asked u = go (reply_to u.node.replica.members u.node.replica.table call)
+    where
+      go : (r : Reply) → Watches u (decide n a k call asked r u)
+      go r = by_grant (is_grant r)
+        where
+          by_grant : (b : Bool) → Watches u (if b
+              then write n a (Op.Name k call) asked (Some r) (change_of call) (enter (Entry.Name a k call r) u)
+              else finish n a (Op.Name k call) asked (Some r) (enter (Entry.Name a k call r) u))
+          by_grant true = refl
+          by_grant false = refl
+  watch_held (Op.Strike p) asked u = refl
+  watch_held (Op.Join k m) asked u = refl
+  watch_held (Op.Admission j pairs) asked u = go (u.node.replica.told j)
+    where
+      go : (b : Bool) → Watches u (if b then finish n a (Op.Admission j pairs) asked None u
+          else admit n a number j pairs asked (settle u.node.replica.table pairs) u)
+      go true = refl
+      go false = refl
+
+  watch_go_on : (op : Op) (r : Round) (u : Turn) → Watches u (go_on n a number op r u)
+  watch_go_on op r u = go (is_over n r)
+    where
+      v : Turn
+      v = at_work (Current.Asking op r) u
+
+      by_ending : (x : Ending) → Watches u (end_by n a number x op (asked r) v)
+      by_ending Ending.Held = watch_held op (asked r) v
+      by_ending (Ending.GiveBack granted) = refl
+
+      go : (b : Bool) → Watches u (if b then end_by n a number (ending n v.node.replica.members r) op (asked r) v
+          else v)
+      go true = by_ending (ending n v.node.replica.members r)
+      go false = refl
+
+  watch_hear_answer : (f : ℕ) (granted : Bool) (c : Current) (u : Turn)
+      → Watches u (hear_answer n a number f granted c u)
+  watch_hear_answer f granted (Current.Asking op r) u = go (owes r f)
+    where
+      v : Turn
+      v = ask_rest n a f granted (Letter.SetLock (Global a) (registrar a)) r u
+
+      go : (b : Bool) → Watches u (if b then go_on n a number op (answer f granted r) v else u)
+      go true = watch_go_on op (answer f granted r) v
+          ∙ watch_rest f granted (Letter.SetLock (Global a) (registrar a)) r u
+      go false = refl
+  watch_hear_answer f granted _ u = refl
+
+  watch_await : (f : ℕ) (c : Current) (u : Turn) → Watches u (await_less n a f c u)
+  watch_await f (Current.Writing op asked awaited reply) u = go (awaited f) (is_empty n (at awaited f false))
+    where
+      go : (b x : Bool) → Watches u (if b then (if x then done n a op asked reply u else at_work
+          (Current.Writing op asked (at awaited f false) reply) u) else u)
+      go true true = watch_finish op asked reply (enter (Entry.Done a) u)
+      go true false = refl
+      go false x = refl
+  watch_await f _ u = refl
+
+  watch_lose : (d : ℕ) (c : Current) (u : Turn) → Watches u (lose n a number d c u)
+  watch_lose d (Current.Asking op r) u = watch_go_on op (down d r) u
+  watch_lose d (Current.Writing op asked awaited reply) u =
+      watch_await d (Current.Writing op asked awaited reply) u
+  watch_lose d Current.Free u = refl
+  watch_lose d (Current.Waiting op) u = refl
+  watch_lose d (Current.Joining k m) u = refl
+
+  -- clients' lock calls
+  watch_end_by : (x : Ending) (c : LockCall) (u : Turn) → Watches u (end_lock_by n a x c u)
+  watch_end_by Ending.Held c u = refl
+  watch_end_by (Ending.GiveBack granted) c u = go (is_spent c.retries)
+    where
+      go : (b : Bool) → Watches u (if b then close_call n a c false (give_lock n a c granted u)
+          else keep_call (in_phase LockPhase.Waiting c) (give_lock n a c granted u))
+      go true = refl
+      go false = refl
+
+  watch_go_on_lock : (c : LockCall) (r : Round) (u : Turn) → Watches u (go_on_lock n a c r u)
+  watch_go_on_lock c r u = go (is_over n r)
+    where
+      d : LockCall
+      d = in_phase (LockPhase.Asking r) c
+
+      go : (b : Bool) → Watches u (if b then end_lock_by n a (ending n (asked r) r) d (keep_call d u)
+          else keep_call d u)
+      go true = watch_end_by (ending n (asked r) r) d (keep_call d u)
+      go false = refl
+
+  watch_hear_lock : (f : ℕ) (granted : Bool) (phase : LockPhase) (c : LockCall) (u : Turn)
+      → Watches u (hear_lock_in n a f granted phase c u)
+  watch_hear_lock f granted (LockPhase.Asking r) c u = go (owes r f)
+    where
+      v : Turn
+      v = ask_rest n a f granted (Letter.SetLock c.id c.holder) r u
+
+      go : (b : Bool) → Watches u (if b then go_on_lock n a c (answer f granted r) v else u)
+      go true = watch_go_on_lock c (answer f granted r) v
+          ∙ watch_rest f granted (Letter.SetLock c.id c.holder) r u
+      go false = refl
+  watch_hear_lock f granted LockPhase.Waiting c u = refl
+  watch_hear_lock f granted (LockPhase.Deleting owing) c u = refl
+
+  watch_owe_less : (f : ℕ) (phase : LockPhase) (c : LockCall) (u : Turn) → Watches u (owe_less_in n a f phase c u)
+  watch_owe_less f (LockPhase.Deleting owing) c u = go (owing f) (is_empty n (at owing f false))
+    where
+      go : (b x : Bool) → Watches u (if b then (if x then close_call n a c true u else keep_call
+          (in_phase (LockPhase.Deleting (at owing f false)) c) u) else u)
+      go true true = refl
+      go true false = refl
+      go false x = refl
+  watch_owe_less f LockPhase.Waiting c u = refl
+  watch_owe_less f (LockPhase.Asking r) c u = refl
+
+  watch_lose_in : (d : ℕ) (phase : LockPhase) (c : LockCall) (u : Turn) → Watches u (lose_node_in n a d phase c u)
+  watch_lose_in d (LockPhase.Asking r) c u = watch_go_on_lock c (down d r) u
+  watch_lose_in d LockPhase.Waiting c u = refl
+  watch_lose_in d (LockPhase.Deleting owing) c u = watch_owe_less d (LockPhase.Deleting owing) c u
+
+  watch_lose_all : (d : ℕ) (cs : List LockCall) (u : Turn)
+      → Watches u (fold (λ v c. lose_node_in n a d c.phase c v) u cs)
+  watch_lose_all d [] u = refl
+  watch_lose_all d (c ∷ cs) u = watch_lose_all d cs (lose_node_in n a d c.phase c u) ∙ watch_lose_in d c.phase c u
+
+  -- a node goes down
+  watch_bereave : (d : ℕ) (u : Turn) → Watches u (bereave n a number d u)
+  watch_bereave d u = watch_lose_all d x.node.calls x ∙ watch_lose d v.node.current v ∙ contact z.node.current
+    where
+      z : Turn
+      z = told_of n a number d u
+
+      v : Turn
+      v = lose_join n a number d z
+
+      x : Turn
+      x = lose_current n a number d v
+
+      contact : (c : Current) → Watches u (lose_contact n a d c z)
+      contact (Current.Joining k m) = go (m == d)
+        where
+          go : (b : Bool) → Watches u (if b then contact_left n a k m (at_work Current.Free z) else z)
+          go true = refl
+          go false = refl
+      contact _ = refl
+
+  watch_read : (f : ℕ) (l : Letter) (u : Turn) → spares l ≡ true → Watches u (read n a number f l u)
+  watch_read f (Letter.SetLock id p) u h = go (is_free_for id p u.node.locks)
+    where
+      go : (b : Bool) → Watches u (judge n a number f id p b u)
+      go true = refl
+      go false = refl
+  watch_read f (Letter.LockAnswer id p granted) u h = go (is_process p (registrar a))
+    where
+      at_call : (c : Option LockCall) → Watches u (hear_lock n a f granted c u)
+      at_call None = refl
+      at_call (Some c) = watch_hear_lock f granted c.phase c u
+
+      go : (b : Bool) → Watches u (if b then hear_answer n a number f granted u.node.current u
+          else hear_lock n a f granted (call_of p u.node.calls) u)
+      go true = watch_hear_answer f granted u.node.current u
+      go false = at_call (call_of p u.node.calls)
+  watch_read f (Letter.GiveBack id p true) u h = refl
+  watch_read f (Letter.GiveBack id p false) u h = refl
+  watch_read f (Letter.GivenBack p) u h = go (call_of p u.node.calls)
+    where
+      go : (c : Option LockCall) → Watches u (owe_less n a f c u)
+      go None = refl
+      go (Some c) = watch_owe_less f c.phase c u
+  watch_read f (Letter.ReleaseOf p) u h = refl
+  watch_read f (Letter.Apply change) u h = refl
+  watch_read f Letter.Applied u h = watch_await f u.node.current u
+  watch_read f (Letter.JoinAsk pairs) u h = go u.node.replica.joined
+    where
+      go : (b : Bool) → Watches u (if b then queued n a (Op.Admission f pairs) u else send f Letter.JoinRefused
+          (enter (Entry.Join f (number f) a NotMember) u))
+      go true = refl
+      go false = refl
+  watch_read f Letter.JoinRefused u h = go u.node.current
+    where
+      go : (c : Current) → Watches u (refused_join n a number f c u)
+      go (Current.Joining k m) = ends (m == f)
+        where
+          ends : (b : Bool) → Watches u (if b then reply_with a k NotMember (at_work Current.Free u) else u)
+          ends true = refl
+          ends false = refl
+      go _ = refl
+  watch_read f (Letter.Admit j puts kills) u h = cc
+  watch_read f (Letter.Welcome members pairs told kills) u h = cc
+  watch_read f Letter.Down u h = watch_bereave f u
+
+  -- a letter by which nobody dies leaves the watch
+  pub spared : (f : ℕ) (l : Letter) (u : Turn) → spares l ≡ true
+      → (receive n a number f l u).node.watch ≡ u.node.watch
+  spared f l u h = go (u.node.replica.told f && not (is_down l))
+    where
+      go : (b : Bool) → Watches u (start n a (if b then u else read n a number f l u))
+      go true = start-watch n a u
+      go false = start-watch n a (read n a number f l u) ∙ watch_read f l u h
+
+  -- one more answer that isn't `true`
+  none_more : (b m : ℕ) (ss : List Answer) (s : Answer) → is_reply s.reply True ≡ false → any_true b m ss ≡ false
+      → any_true b m (ss ++ s ∷ []) ≡ false
+  none_more b m ss s h e = list_any-append (is_true b m) ss (s ∷ [])
+      ∙ ap (λ (t : Bool). t || any_true b m (s ∷ [])) e
+      ∙ ap (λ (t : Bool). ((s.node == b) && (s.number == m) && t) || false) h
+      ∙ ap (λ (t : Bool). t || false) (and-false ((s.node == b) && (s.number == m)))
+
+  start_none : (b m : ℕ) (u : Turn) → any_true b m u.answers ≡ false → any_true b m (start n a u).answers ≡ false
+  start_none b m u e = go u.node.current
+    where
+      queue : (ops : List Op) (z : Turn) → any_true b m z.answers ≡ false
+          → any_true b m (start_queue n a ops z).answers ≡ false
+      queue [] z k = k
+      queue (Op.Join i j ∷ ops) z k = by (z.node.replica.told j) (queue ops (contact_left n a i j z)
+          (none_more b m z.answers (answer_to a i Reply.ContactLeft) refl k))
+        where
+          by : (t : Bool) → any_true b m (start_queue n a ops (contact_left n a i j z)).answers ≡ false
+              → any_true b m (if t then start_queue n a ops (contact_left n a i j z)
+              else ask_join n a i j (with_queue ops z)).answers ≡ false
+          by true more = more
+          by false more = k
+      queue (Op.Name i c ∷ ops) z k = k
+      queue (Op.Strike p ∷ ops) z k = k
+      queue (Op.Admission j pairs ∷ ops) z k = k
+
+      next : (s : Option ℕ) → any_true b m (start_next n a s u).answers ≡ false
+      next (Some serial) = e
+      next None = queue u.node.queue u e
+
+      go : (c : Current) → any_true b m (start_free n a c u).answers ≡ false
+      go Current.Free = next (owed a u.node.replica.table u.node.watch)
+      go _ = e
+
+  kill_none : (b m : ℕ) (ps : List Process) (u : Turn) → any_true b m u.answers ≡ false
+      → any_true b m (kill n a ps u).answers ≡ false
+  kill_none b m [] u e = e
+  kill_none b m (p ∷ ps) u e = go (is_live a u.node.watch p) (kill_none b m ps)
+    where
+      go : (t : Bool) → ((v : Turn) → any_true b m v.answers ≡ false → any_true b m (kill n a ps v).answers ≡ false)
+          → any_true b m (kill n a ps (if t then die n a p u else u)).answers ≡ false
+      go true more = more (die n a p u) e
+      go false more = more u e
+
+  read_none : (b m f : ℕ) (l : Letter) (u : Turn) → spares l ≡ false → any_true b m u.answers ≡ false
+      → any_true b m (read n a number f l u).answers ≡ false
+  read_none b m f (Letter.Admit j puts kills) u h e = kill_none b m kills (with_replica (admitted j puts) u) e
+  read_none b m f (Letter.Welcome members pairs told kills) u h e = go u.node.current
+    where
+      v : Turn
+      v = kill n a kills (with_replica (welcomed members pairs told) u)
+
+      go : (c : Current) → any_true b m (welcome n a number f members pairs told kills c u).answers ≡ false
+      go (Current.Joining k i) = ends (i == f)
+        where
+          ends : (t : Bool) → any_true b m (if t then send f Letter.Applied
+              (reply_with a k Joined (at_work Current.Free v)) else u).answers ≡ false
+          ends true = none_more b m v.answers (answer_to a k Joined) refl
+              (kill_none b m kills (with_replica (welcomed members pairs told) u) e)
+          ends false = e
+      go _ = e
+  read_none b m f _ u h e = cc
+
+  -- a letter by which somebody may die answers no call `true`
+  pub killing_answers : (b m f : ℕ) (l : Letter) (u : Turn) → spares l ≡ false → any_true b m u.answers ≡ false
+      → any_true b m (receive n a number f l u).answers ≡ false
+  killing_answers b m f l u h e = go (u.node.replica.told f && not (is_down l))
+    where
+      go : (t : Bool) → any_true b m (start n a (if t then u else read n a number f l u)).answers ≡ false
+      go true = start_none b m u e
+      go false = start_none b m (read n a number f l u) (read_none b m f l u h e)
