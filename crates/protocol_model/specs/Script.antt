@@ -1,11 +1,12 @@
 -- Scripts: lines that are played one after the other on one world, and what the world prints for each.
-use Rattle.std.specs.Prelude.{ℕ, not, Option, Some, None, map, take, List, [], ◌∷◌, ◌++◌, if◌then◌else◌}
+use Rattle.std.specs.Prelude.{ℕ, Bool, not, Option, Some, None, option_map, map, take, List, [], ◌∷◌, ◌++◌, if◌then◌else◌}
 use Rattle.registry_model.specs.Process.{Process, nodes_of}
 use Rattle.registry_model.specs.Table.{Table}
 use Rattle.protocol_model.specs.Letter.{Id}
 use Rattle.protocol_model.specs.Event.{Event, Answer, Refusal, NoSuchNode, NodeLeft}
 use Rattle.protocol_model.specs.World.{Opening, in_world, World, left, WorldEvent, At, opening_world, refusal, answers, run, all_answers, next_delivery, settle}
 use Rattle.protocol_model.specs.ClientLocks.{number}
+use Rattle.protocol_model.specs.LockAnswers.{tries_of}
 
 -- a line of a script
 pub data Line : Type 0 where
@@ -92,3 +93,11 @@ first_lines k r = record r { lines = take k r.lines }
 -- how often p has the lock of this id at c, behind the first k lines of a row, for each of these k
 abbrev pub numbers_behind : Row → List ℕ → Process → Id → ℕ → List ℕ
 numbers_behind r ks p id c = map (λ k. number r.opening (events (first_lines k r)) p id c) ks
+
+-- how often the last `set_lock` of p was tried, behind the first k lines of a row, for each of these k
+abbrev pub tried_behind : Row → List ℕ → Process → List (Option ℕ)
+tried_behind r ks p = map (λ k. option_map (λ t. t.tried) (tries_of r.opening (events (first_lines k r)) p)) ks
+
+-- and whether something happened since its last try began for which it may fail
+abbrev pub met_behind : Row → List ℕ → Process → List (Option Bool)
+met_behind r ks p = map (λ k. option_map (λ t. t.met) (tries_of r.opening (events (first_lines k r)) p)) ks

@@ -1,9 +1,9 @@
 //! Rows: scripts that the definitions compute to what they have to print, with the headline behind each event.
 //! Each is a law of these definitions, so a rule that is changed is refused by the rows that tell it apart.
 
-ghost use Rattle.std.specs.Prelude.{◌≡◌, ◌∷◌, List, []};
+ghost use Rattle.std.specs.Prelude.{◌≡◌, true, false, Some, None, ◌∷◌, List, []};
 ghost use Rattle.protocol_model.specs.Letter.{Client};
-ghost use Rattle.protocol_model.specs.Script.{numbers_behind};
+ghost use Rattle.protocol_model.specs.Script.{numbers_behind, tried_behind, met_behind};
 ghost use Rattle.protocol_model.specs.RowWords.{a, b, c, q, r, z, pid};
 ghost use Rattle.protocol_model.specs.Check.{Computes};
 ghost use Rattle.protocol_model.specs.NameRows.{registered_name_is_found, write_is_found_at_once, nothing_is_registered_yet, every_node_finds_the_name, process_has_one_name, nothing_to_unregister, owner_on_a_lone_node, who_gets_no_name, name_moves_and_goes, name_moves_to_members_alone, lone_node_refuses_in_a_round};
@@ -127,4 +127,15 @@ pub fn last_try_counts()
         ≡ 0 ∷ 0 ∷ 1 ∷ [] }
     ensures joined_too_late { numbers_behind retry_asks_the_members_of_now (4 ∷ 8 ∷ 10 ∷ []) (pid a 1) (Client r q) c
         ≡ 0 ∷ 0 ∷ 0 ∷ [] }
+{}
+
+/// How often a process's last `set_lock` was tried, and whether its last try met what it may fail for.
+pub fn tries_are_told()
+    ensures before_any { tried_behind retries_and_a_dead_holder (2 ∷ []) (pid a 2) ≡ None ∷ [] }
+    ensures tried { tried_behind retries_and_a_dead_holder (5 ∷ 6 ∷ 7 ∷ 8 ∷ 11 ∷ 12 ∷ []) (pid a 2)
+        ≡ Some 1 ∷ Some 1 ∷ Some 2 ∷ Some 2 ∷ Some 1 ∷ Some 1 ∷ [] }
+    ensures met { met_behind retries_and_a_dead_holder (5 ∷ 6 ∷ 7 ∷ 8 ∷ 11 ∷ 12 ∷ []) (pid a 2)
+        ≡ Some false ∷ Some true ∷ Some false ∷ Some true ∷ Some false ∷ Some false ∷ [] }
+    ensures met_by_a_departure { met_behind departed_holder_keeps_nothing (6 ∷ 7 ∷ 8 ∷ 9 ∷ []) (pid a 1)
+        ≡ Some true ∷ Some true ∷ Some false ∷ Some false ∷ [] }
 {}
