@@ -1,0 +1,3 @@
+pub mod LastTry
+pub mod Clear
+pub mod Winning
