@@ -1,3 +1,5 @@
 pub mod LastTry
 pub mod Clear
 pub mod Winning
+pub mod Besides
+pub mod Notices
