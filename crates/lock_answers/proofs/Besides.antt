@@ -8,7 +8,7 @@ use Rattle.registry_model.specs.Table.{StrikeOwner}
 use Rattle.registry_model.specs.Call.{NameCall, Reply, True, ContactLeft, is_reply, is_grant, reply_to, change_of}
 use Rattle.registry_model.specs.Settlement.{settle}
 use Rattle.registry_model.specs.History.{Entry}
-use Rattle.registry_model.proofs.Lists.{Contains-cases, Contains-nil}
+use Rattle.registry_model.proofs.Lists.{Contains-cases, Contains-front, Contains-behind, Contains-nil}
 use Rattle.protocol_model.specs.Round.{Round, is_empty, asked, owes, opens, rest, answer, down, is_over, Ending, Held, GiveBack, ending}
 use Rattle.protocol_model.specs.Letter.{Letter, Global}
 use Rattle.protocol_model.specs.Watch.{Watch, owed}
@@ -43,30 +43,44 @@ found_any {A} test (y ∷ xs) x c h = elim (Contains-cases y xs x c) [
     go true k = refl
     go false k = k
 
+-- and what is found is contained
+pub any_found : {A : Type 0} (test : A → Bool) (xs : List A) → list_any test xs ≡ true
+    → (x : A) × Contains xs x × (test x ≡ true)
+any_found test [] h = cc
+any_found {A} test (x ∷ xs) h = go (test x) refl h (any_found test xs)
+  where
+    go : (b : Bool) → test x ≡ b → (b || list_any test xs) ≡ true
+        → (list_any test xs ≡ true → (y : A) × Contains xs y × (test y ≡ true))
+        → (y : A) × Contains (x ∷ xs) y × (test y ≡ true)
+    go true e k more = (x, Contains-front x xs, e)
+    go false e k more =
+        let one : (y : A) × Contains xs y × (test y ≡ true) = more k in
+        (one.0, Contains-behind x xs one.0 one.1, one.2)
+
 -- the start of the next operation answers `contact_left` alone
-pub start_adds : (test : Reply → Bool) → test ContactLeft ≡ false → (n a : ℕ) (u : Turn)
-    → has_reply test (start n a u).answers ≡ has_reply test u.answers
+pub start_adds : (test : Answer → Bool) → ((b k : ℕ) → test (answer_to b k ContactLeft) ≡ false) → (n a : ℕ) (u : Turn)
+    → list_any test (start n a u).answers ≡ list_any test u.answers
 start_adds test none n a u = go u.node.current
   where
-    queue : (ops : List Op) (z : Turn) → has_reply test (start_queue n a ops z).answers ≡ has_reply test z.answers
+    queue : (ops : List Op) (z : Turn) → list_any test (start_queue n a ops z).answers ≡ list_any test z.answers
     queue [] z = refl
     queue (Op.Join k m ∷ ops) z = by (z.node.replica.told m) (queue ops (contact_left n a k m z))
       where
-        by : (t : Bool) → has_reply test (start_queue n a ops (contact_left n a k m z)).answers
-            ≡ has_reply test (contact_left n a k m z).answers
-            → has_reply test (if t then start_queue n a ops (contact_left n a k m z)
-            else ask_join n a k m (with_queue ops z)).answers ≡ has_reply test z.answers
-        by true more = more ∙ push_none (λ s. test s.reply) z.answers (answer_to a k ContactLeft) none
+        by : (t : Bool) → list_any test (start_queue n a ops (contact_left n a k m z)).answers
+            ≡ list_any test (contact_left n a k m z).answers
+            → list_any test (if t then start_queue n a ops (contact_left n a k m z)
+            else ask_join n a k m (with_queue ops z)).answers ≡ list_any test z.answers
+        by true more = more ∙ push_none test z.answers (answer_to a k ContactLeft) (none a k)
         by false more = refl
     queue (Op.Name k c ∷ ops) z = refl
     queue (Op.Strike p ∷ ops) z = refl
     queue (Op.Admission j pairs ∷ ops) z = refl
 
-    next : (s : Option ℕ) → has_reply test (start_next n a s u).answers ≡ has_reply test u.answers
+    next : (s : Option ℕ) → list_any test (start_next n a s u).answers ≡ list_any test u.answers
     next (Some serial) = refl
     next None = queue u.node.queue u
 
-    go : (c : Current) → has_reply test (start_free n a c u).answers ≡ has_reply test u.answers
+    go : (c : Current) → list_any test (start_free n a c u).answers ≡ list_any test u.answers
     go Current.Free = next (owed a u.node.replica.table u.node.watch)
     go _ = refl
 

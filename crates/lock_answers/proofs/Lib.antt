@@ -3,3 +3,4 @@ pub mod Clear
 pub mod Winning
 pub mod Besides
 pub mod Notices
+pub mod Granting

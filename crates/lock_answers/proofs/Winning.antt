@@ -62,6 +62,10 @@ pub record Ground (o : Opening) (w : World) : Type 0 where
   pub clear : Clear w
   pub replying : Replying w
 
+-- no notice is read
+abbrev pub are_quiet : List Rule → Bool
+are_quiet rs = list_all (λ r. not (is_notice r)) rs
+
 module _ (o : Opening) (a : ℕ) where
   ground_keeps : (w : World) (r : Rule) → is_notice r ≡ false → Rules.May o a w r → Ground o w
       → Ground o (Rules.effect o a r w)
@@ -87,8 +91,13 @@ module _ (o : Opening) (a : ℕ) where
       ∙ ap (λ (n : Node). n.replica.members x) (at_same w.node a (Rules.turn_by o a w r).node)
       ∙ ap (λ (v : Replica). v.members x) (parts o a w r).replica ∙ member_by w G r q m x h
 
-  abbrev are_quiet : List Rule → Bool
-  are_quiet rs = list_all (λ r. not (is_notice r)) rs
+  -- and behind a chain of such rules
+  pub ground_chain : (rs : List Rule) (w : World) → are_quiet rs ≡ true → Rules.MayAll o a rs w → Ground o w
+      → Ground o (Rules.effects o a rs w)
+  ground_chain [] w q m G = G
+  ground_chain (r ∷ rs) w q m G =
+      let parts_q : (not (is_notice r) ≡ true) × (are_quiet rs ≡ true) = both (not (is_notice r)) (are_quiet rs) q in
+      ground_chain rs (Rules.effect o a r w) parts_q.1 m.1 (ground_keeps w r (not_true (is_notice r) parts_q.0) m.0 G)
 
   members_chain : (rs : List Rule) (w : World) → Ground o w → are_quiet rs ≡ true → Rules.MayAll o a rs w → (x : ℕ)
       → (w.node a).replica.members x ≡ true → ((Rules.effects o a rs w).node a).replica.members x ≡ true
@@ -105,7 +114,7 @@ module _ (o : Opening) (a : ℕ) where
 
   module _ (p : Process) (s : Try) (home : p.node ≡ a) where
     -- the open call that has the number of the try is its call
-    own_call : (w : World) → Ground o w → Fits w p (Some s) → (c : LockCall) (now : LockPhase) → IsOpen (w.node a) c now
+    pub own_call : (w : World) → Ground o w → Fits w p (Some s) → (c : LockCall) (now : LockPhase) → IsOpen (w.node a) c now
         → c.number ≡ s.number → (is_deleting c.phase ≡ false) × IsTryOf s c
     own_call w G F c now e n =
         let here : c.holder.node ≡ a = home_of_call a c.holder (w.node a).calls c (G.base.ordered a) e.call in
