@@ -4,3 +4,5 @@ pub mod Winning
 pub mod Besides
 pub mod Notices
 pub mod Granting
+pub mod GrantEvents
+pub mod Pushed
