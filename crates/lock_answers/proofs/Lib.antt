@@ -6,3 +6,4 @@ pub mod Notices
 pub mod Granting
 pub mod GrantEvents
 pub mod Pushed
+pub mod Held

@@ -1,3 +1,10 @@
 //! What the answers to clients' lock calls say: who is answered, when a try may fail, how often it is tried, and what a
 //! deletion leaves. Each law is the contract of a function with an empty body.
 #![tactic(auto)]
+
+ghost use Rattle.protocol_model.specs.LockAnswers.{AtEachStep, IsHeldSomewhere};
+
+/// Where `true` is answered to the last try of a process, some node that it had to ask isn't told of as departed.
+pub fn is_held_somewhere()
+    ensures { AtEachStep IsHeldSomewhere }
+{}
