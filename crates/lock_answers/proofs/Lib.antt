@@ -7,3 +7,4 @@ pub mod Granting
 pub mod GrantEvents
 pub mod Pushed
 pub mod Held
+pub mod Watches
