@@ -40,7 +40,7 @@ use Rattle.headline.proofs.Fields.{past_now}
 use Rattle.headline.proofs.Theorem.{whole, told, history_grows, history_is_legal, history_fits, answers_come_in_time, yes_is_written}
 
 -- what passes is among those that pass
-kept_in : {A : Type 0} (test : A → Bool) (xs : List A) (x : A) → Contains xs x → test x ≡ true
+pub kept_in : {A : Type 0} (test : A → Bool) (xs : List A) (x : A) → Contains xs x → test x ≡ true
     → Contains (filter test xs) x
 kept_in {A} test [] x c t = absurd (Contains-nil x c)
 kept_in {A} test (y ∷ ys) x c t = go (test y) refl (λ d. kept_in test ys x d t)

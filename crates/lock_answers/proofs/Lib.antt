@@ -8,3 +8,4 @@ pub mod GrantEvents
 pub mod Pushed
 pub mod Held
 pub mod Watches
+pub mod Sources
