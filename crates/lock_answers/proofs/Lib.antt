@@ -9,3 +9,4 @@ pub mod Pushed
 pub mod Held
 pub mod Watches
 pub mod Sources
+pub mod Owned
