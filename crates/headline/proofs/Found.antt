@@ -263,7 +263,7 @@ one_call k (d ∷ cs) i c e hc he = go d (one_call (k + 1) cs i c e) (split c hc
     go _ more (inr x) (inl y) = absurd (Contains-nil (NameAs i e) y)
 
 -- an item of a list of lists
-in_flat : {A B : Type 0} (f : A → List B) (front rest : List A) (x : A) (y : B) → Contains (f x) y
+pub in_flat : {A B : Type 0} (f : A → List B) (front rest : List A) (x : A) (y : B) → Contains (f x) y
     → Contains (flat_map f (front ++ x ∷ rest)) y
 in_flat {A} {B} f front rest x y c = subst (λ (l : List B). Contains l y) (sym (flat_map-append f front (x ∷ rest)))
     (Contains-append_right (flat_map f front) (f x ++ flat_map f rest) y

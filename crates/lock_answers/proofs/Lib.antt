@@ -10,3 +10,4 @@ pub mod Held
 pub mod Watches
 pub mod Sources
 pub mod Owned
+pub mod Living

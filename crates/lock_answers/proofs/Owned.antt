@@ -9,7 +9,6 @@ use Rattle.std.proofs.lemmas.Bool.{eq-eqb, eqb-true}
 use Rattle.registry_model.specs.Process.{Text, Process, is_process, at}
 use Rattle.registry_model.proofs.Updates.{by_test, at_same}
 use Rattle.protocol_model.specs.Round.{is_empty, begin}
-use Rattle.protocol_model.specs.Letter.{Letter}
 use Rattle.protocol_model.specs.Node.{Node, LockPhase, LockCall, Target, Retries, Times, call_of, targets}
 use Rattle.protocol_model.specs.Event.{Call, Event, Refusal, cause, first_cause, names_members, calls_spent}
 use Rattle.protocol_model.specs.Turn.{Turn, begun, counted}
@@ -40,6 +39,7 @@ use Rattle.client_locks.proofs.Opening.{no_numbers}
 use Rattle.client_locks.proofs.Told.{all_of_all, chain_of}
 use Rattle.headline.specs.Clauses.{events, world}
 use Rattle.headline.proofs.LockAnswers.{slice_get-behind}
+use Rattle.headline.proofs.LockEvents.{letter_hears}
 use Rattle.headline.proofs.Passing.{slice_get-front}
 use Rattle.headline.proofs.Story.{ground}
 use Rattle.headline.proofs.Together.{Whole, whole_opens, widens, event_walks}
@@ -68,6 +68,19 @@ called_longer b ps p k q I = (
       (slice_get-front (calls_at b ps) (calls_in b p) (k - 1) I.0 I.1),
   I.2,
 )
+
+-- the call that a node accepts is the last of them
+pub last_called : (o : Opening) (w : World) (ps : List Played) (a : ℕ) (c : Call) → is_numbered c ≡ true
+    → (w.node a).last_call ≡ length (calls_at a ps)
+    → slice_get (calls_at a (ps ++ played o w (At a (Event.Calling c)) ∷ [])) (((w.node a).last_call + 1) - 1) ≡ Some c
+last_called o w ps a c numbered count = ap (λ (cs : List Call). slice_get cs (((w.node a).last_call + 1) - 1)) calls
+    ∙ subst (λ (i : ℕ). slice_get (calls_at a ps ++ c ∷ []) i ≡ Some c) (omega (arith, count))
+    (slice_get-behind (calls_at a ps) c)
+  where
+    calls : calls_at a (ps ++ played o w (At a (Event.Calling c)) ∷ []) ≡ calls_at a ps ++ c ∷ []
+    calls = calls_push a ps (played o w (At a (Event.Calling c))) ∙ ap (λ (cs : List Call). calls_at a ps ++ cs)
+        (ap (λ (b : Bool). if b && is_numbered c then c ∷ [] else []) (eq-eqb a a refl)
+        ∙ ap (λ (b : Bool). if b then c ∷ [] else []) numbered)
 
 -- a lock call begins: no other call is open behind it that wasn't open before
 abbrev Begun : LockCall → List LockCall → List LockCall → Type 0
@@ -159,21 +172,11 @@ module _ (o : Opening) (w : World) (ps : List Played) (W : Whole o w) (R : Reply
         old : call_at w p ≡ Some d → IsCalledBy (calls_at p.node (ps ++ step ∷ [])) d.number p
         old i = called_longer p.node ps step d.number p (O p d i)
 
-        calls : calls_at a (ps ++ step ∷ []) ≡ calls_at a ps ++ c ∷ []
-        calls = calls_push a ps step ∙ ap (λ (cs : List Call). calls_at a ps ++ cs)
-            (ap (λ (b : Bool). if b && is_numbered c then c ∷ [] else []) (eq-eqb a a refl)
-            ∙ ap (λ (b : Bool). if b then c ∷ [] else []) numbered)
-
-        found : slice_get (calls_at a (ps ++ step ∷ [])) (((w.node a).last_call + 1) - 1) ≡ Some c
-        found = ap (λ (cs : List Call). slice_get cs (((w.node a).last_call + 1) - 1)) calls
-            ∙ subst (λ (i : ℕ). slice_get (calls_at a ps ++ c ∷ []) i ≡ Some c) (omega (arith, count a))
-            (slice_get-behind (calls_at a ps) c)
-
         new : (k.holder ≡ p) × (d.number ≡ k.number) → IsCalledBy (calls_at p.node (ps ++ step ∷ [])) d.number p
         new j = subst (λ (q : Process). IsCalledBy (calls_at q.node (ps ++ step ∷ [])) d.number q) j.0
             (subst (λ (i : ℕ). IsCalledBy (calls_at i (ps ++ step ∷ [])) d.number k.holder) (sym home)
             (subst (λ (i : ℕ). IsCalledBy (calls_at a (ps ++ step ∷ [])) i k.holder) (sym (j.1 ∙ number))
-            (c, found, holder)))
+            (c, last_called o w ps a c numbered (count a), holder)))
 
         here : p.node ≡ a → call_of p (turn_of o w (At a (Event.Calling c))).node.calls ≡ Some d
             → IsCalledBy (calls_at p.node (ps ++ step ∷ [])) d.number p
@@ -181,12 +184,6 @@ module _ (o : Opening) (w : World) (ps : List Played) (W : Whole o w) (R : Reply
           | inl before ↦ old (ap (λ (y : ℕ). call_of p (w.node y).calls) i ∙ before)
           | inr begun_now ↦ new begun_now
         ]
-
-    first_letter : (f t : ℕ) (ls : List Letter) (rest : List Rule) → list_all (suits Hearing) rest ≡ true
-        → list_all (suits Hearing) (Rules.first_by_letter o t f ls ++ rest) ≡ true
-    first_letter f t [] rest h = h
-    first_letter f t (Letter.Down ∷ ls) rest h = h
-    first_letter f t (_ ∷ ls) rest h = h
 
     -- each accepted event
     owned_event : (x : WorldEvent) → e ≡ x → Rules.MayAll o (place x) (chain_of o w x H.walk.rest) w
@@ -229,7 +226,7 @@ module _ (o : Opening) (w : World) (ps : List Played) (W : Whole o w) (R : Reply
     owned_event (At a Event.Leave) j m h end free = by_aside (At a Event.Leave) h m end
     owned_event (Deliver f t) j m h end free = by_from (Deliver f t)
         (from_chain o t (ordered_keeps o) (chain_of o w (Deliver f t) H.walk.rest) w no_numbers
-        (first_letter f t (w.links.queue f t) H.walk.rest h) m W.ordered R) end
+        (letter_hears o w ps W f t (w.links.queue f t) H.walk.rest h) m W.ordered R) end
 
     pub owned_keeps : Owned (accepted o w e) (ps ++ played o w e ∷ [])
     owned_keeps = owned_event e refl H.walk.may H.in_order H.walk.world (accepted_of o w e is).local

@@ -52,7 +52,7 @@ abbrev pub Closed : Rule → Answer → Type 0
 Closed r s = (c : LockCall) × (closes r ≡ Some c) × (c.number ≡ s.number)
 
 -- the only one of a list
-the_one : {A : Type 0} (y x : A) → Contains (y ∷ []) x → y ≡ x
+pub the_one : {A : Type 0} (y x : A) → Contains (y ∷ []) x → y ≡ x
 the_one y x c = elim (Contains-cases y [] x c) [
   | inl e ↦ e
   | inr none ↦ absurd (Contains-nil x none)

@@ -2,7 +2,12 @@
 //! deletion leaves. Each law is the contract of a function with an empty body.
 #![tactic(auto)]
 
-ghost use Rattle.protocol_model.specs.LockAnswers.{AtEachStep, IsHeldSomewhere};
+ghost use Rattle.protocol_model.specs.LockAnswers.{AtEachStep, AnswersTheLiving, IsHeldSomewhere};
+
+/// No lock call is answered of a process that is dead or whose node has left, before the step or behind it.
+pub fn answers_the_living()
+    ensures { AtEachStep AnswersTheLiving }
+{}
 
 /// Where `true` is answered to the last try of a process, some node that it had to ask isn't told of as departed.
 pub fn is_held_somewhere()
