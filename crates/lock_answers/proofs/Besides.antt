@@ -1,17 +1,15 @@
 -- Parts of a step that are of no lock call: nobody dies by them, and none answers `true`.
-use mathlib.Core.Logic.{◌⊎◌}
-use Rattle.std.proofs.Common.{ℕ, Bool, true, false, ◌==◌, ◌≡◌, Option, Some, None, List, [], ◌∷◌, ◌++◌, refl, sym, ap, ◌∙◌, subst, inl, inr}
+use Rattle.std.proofs.Common.{ℕ, Bool, true, false, ◌==◌, ◌≡◌, Option, Some, None, List, [], ◌∷◌, refl, sym, ap, ◌∙◌, subst, inl, inr}
 use Rattle.std.specs.Prelude.{not, ◌&&◌, ◌||◌, Contains, if◌then◌else◌}
 use Rattle.std.specs.List.{list_any}
-use Rattle.registry_model.specs.Process.{Process, Nodes, at}
-use Rattle.registry_model.specs.Table.{StrikeOwner}
-use Rattle.registry_model.specs.Call.{NameCall, Reply, True, ContactLeft, is_reply, is_grant, reply_to, change_of}
+use Rattle.registry_model.specs.Process.{Nodes, at}
+use Rattle.registry_model.specs.Call.{Reply, True, ContactLeft, is_reply, is_grant, reply_to, change_of}
 use Rattle.registry_model.specs.Settlement.{settle}
 use Rattle.registry_model.specs.History.{Entry}
 use Rattle.registry_model.proofs.Lists.{Contains-cases, Contains-front, Contains-behind, Contains-nil}
 use Rattle.protocol_model.specs.Round.{Round, is_empty, asked, owes, opens, rest, answer, down, is_over, Ending, Held, GiveBack, ending}
 use Rattle.protocol_model.specs.Letter.{Letter, Global}
-use Rattle.protocol_model.specs.Watch.{Watch, owed}
+use Rattle.protocol_model.specs.Watch.{owed}
 use Rattle.protocol_model.specs.Node.{Node, Op, Current}
 use Rattle.protocol_model.specs.Event.{Answer}
 use Rattle.protocol_model.specs.Turn.{Turn, at_work, with_queue, enter, send_all}
@@ -137,7 +135,8 @@ module _ (n a : ℕ) where
     where
       go : (op : Op) (reply : Option Reply) → is_fine_reply reply ≡ true
           → has_reply is_true (answer_op n a op reply u).answers ≡ has_reply is_true u.answers
-      go (Op.Name k call) (Some r) f = push_none (λ x. is_true x.reply) u.answers (answer_to a k r) (not_true (is_reply r True) f)
+      go (Op.Name k call) (Some r) f =
+          push_none (λ x. is_true x.reply) u.answers (answer_to a k r) (not_true (is_reply r True) f)
       go (Op.Name k call) None f = refl
       go (Op.Strike p) reply f = refl
       go (Op.Join k m) reply f = refl
@@ -172,10 +171,10 @@ module _ (n a : ℕ) where
     plain_go_on op r u = go (is_over n r)
       where
         ends : (x : Ending) → Plain u (end_by n a number x op (asked r) (at_work (Current.Asking op r) u))
-        ends Held =
-            let P : Plain (at_work (Current.Asking op r) u) (held n a number op (asked r) (at_work (Current.Asking op r) u)) =
-            plain_held op (asked r) (at_work (Current.Asking op r) u) in
-            record { watch = P.watch; answers = P.answers }
+        ends Held = record {
+          watch = (plain_held op (asked r) (at_work (Current.Asking op r) u)).watch;
+          answers = (plain_held op (asked r) (at_work (Current.Asking op r) u)).answers;
+        }
         ends (GiveBack granted) = record { watch = refl; answers = refl }
 
         go : (b : Bool) → Plain u (if b then end_by n a number (ending n u.node.replica.members r) op (asked r)

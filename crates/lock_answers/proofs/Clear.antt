@@ -1,8 +1,8 @@
 -- No lock call counts a node as granted that was told to have left: what each rule but a notice makes of it.
-use Rattle.std.proofs.Common.{ℕ, Bool, true, false, ◌==◌, ◌≡◌, Some, None, refl, sym, ap, ◌∙◌, subst}
-use Rattle.std.specs.Prelude.{not, ◌&&◌, ◌||◌, if◌then◌else◌}
+use Rattle.std.proofs.Common.{ℕ, Bool, true, false, ◌==◌, ◌≡◌, Some, refl, sym, ap, ◌∙◌, subst}
+use Rattle.std.specs.Prelude.{not, ◌||◌, if◌then◌else◌}
 use Rattle.std.proofs.lemmas.Bool.{eq-eqb}
-use Rattle.registry_model.specs.Process.{Process, Nodes}
+use Rattle.registry_model.specs.Process.{Nodes}
 use Rattle.registry_model.specs.Table.{Table}
 use Rattle.registry_model.specs.Registry.{Replica}
 use Rattle.protocol_model.specs.Round.{Mark, Out, Later, Owes, Granted, Refused, Lost, Gone, Round, is_out, is_granted, greatest, begin, asked, asked_too, owes, answer, mark_down, down, granted}
@@ -22,8 +22,8 @@ use Rattle.leftovers.proofs.Grounds.{Base, replicas}
 use Rattle.leftovers.proofs.Parts.{replica_by, parts}
 use Rattle.leftovers.proofs.Departures.{admitted-told}
 use Rattle.leftovers.proofs.RoundFacts.{Answered, Own, Stays, Opened, answered}
-use Rattle.leftovers.proofs.Phases.{Same, Puts, Drops, StepOk, AllPhases, step_of, phases_stepped, calls_turn, put_home}
-use Rattle.leftovers.proofs.Near.{Near, NearIn, AllNear, is_near}
+use Rattle.leftovers.proofs.Phases.{Puts, Drops, StepOk, AllPhases, step_of, phases_stepped, calls_turn, put_home}
+use Rattle.leftovers.proofs.Near.{Near, NearIn, is_near}
 
 -- none of those who were told to have left counts as granted
 abbrev pub ClearIn : Nodes → LockPhase → Type 0

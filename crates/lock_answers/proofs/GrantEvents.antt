@@ -99,10 +99,12 @@ module _ (o : Opening) where
       W : Walked o w e
       W = walked o w e B.ordered (wide o w B) h
 
-      delivered : (f t : ℕ) (ls : List Letter) → w.links.queue f t ≡ Letter.Down ∷ ls → Clear (accepted o w (Deliver f t))
+      delivered : (f t : ℕ) (ls : List Letter) → w.links.queue f t ≡ Letter.Down ∷ ls
+          → Clear (accepted o w (Deliver f t))
       delivered f t ls front = subst (λ (f : ℕ → Node). (x : ℕ) → ClearAt (f x)) (sym (accepted-node o w (Deliver f t)))
           (by_test t (λ x b. ClearAt (if b then (turn_of o w (Deliver f t)).node else w.node x))
-          (subst (λ (u : Turn). ClearAt u.node) (sym (notice_turn w B f t ls front)) (behind_clear o w B t f (K.clear t)))
+          (subst (λ (u : Turn). ClearAt u.node) (sym (notice_turn w B f t ls front))
+          (behind_clear o w B t f (K.clear t)))
           (λ x ne. K.clear x))
 
       noticed : IsNotice w e → Clear (accepted o w e)

@@ -1,61 +1,36 @@
 -- After every list of events no lock call counts a node as granted that was told to have left.
 use mathlib.Core.Logic.{◌⊎◌}
-use Rattle.std.proofs.Common.{ℕ, Bool, true, false, ◌==◌, ◌≡◌, Option, Some, None, List, [], ◌∷◌, ◌++◌, refl, sym, ap, ◌∙◌, subst, inl, inr}
-use Rattle.std.specs.Prelude.{not, ◌&&◌, ◌||◌, Contains, fold, is_none, if◌then◌else◌}
-use Rattle.std.specs.List.{list_any, list_all}
+use Rattle.std.proofs.Common.{ℕ, true, false, ◌==◌, ◌≡◌, Some, List, [], ◌∷◌, refl, sym, ap, ◌∙◌, subst, inl, inr}
+use Rattle.std.specs.Prelude.{◌&&◌, Contains, if◌then◌else◌}
 use Rattle.std.proofs.lemmas.Bool.{eqb-true}
 use Rattle.std.proofs.Math.Bool.{and-false}
-use Rattle.registry_model.specs.Process.{Process, Nodes, with_node}
+use Rattle.registry_model.specs.Process.{with_node}
 use Rattle.registry_model.specs.Registry.{Replica}
-use Rattle.registry_model.specs.Call.{Reply, True, False, Yes, No, Ok, UnknownNode, Joined, NotMember, ContactLeft, Pid, Undefined, Names, is_reply}
+use Rattle.registry_model.specs.Call.{True, is_reply}
+use Rattle.registry_model.proofs.Legality.{is_reply-true}
 use Rattle.registry_model.proofs.Updates.{by_test}
-use Rattle.protocol_model.specs.Letter.{Letter, is_down}
-use Rattle.protocol_model.specs.Watch.{Watch}
-use Rattle.protocol_model.specs.Node.{Node, Op, Current, LockCall, call_of}
-use Rattle.protocol_model.specs.Event.{Call, Event, Answer}
+use Rattle.protocol_model.specs.Node.{Node, LockCall, call_of}
+use Rattle.protocol_model.specs.Event.{Answer}
 use Rattle.protocol_model.specs.Turn.{Turn, begun}
 use Rattle.protocol_model.specs.Registrar.{start, lose_contact}
 use Rattle.protocol_model.specs.Deciding.{lose}
-use Rattle.protocol_model.specs.Client.{lose_node_in}
-use Rattle.protocol_model.specs.Reading.{told_of, bereave, receive, read}
-use Rattle.protocol_model.specs.World.{Opening, in_world, World, left, WorldEvent, At, Deliver, place, opening_world, refusal, join_number, turn_of, heard, accepted, run}
-use Rattle.protocol_model.specs.Answers.{answer_to}
-use Rattle.moves.proofs.Rules
-use Rattle.moves.proofs.Rules.{Rule, is_quiet, is_ordered}
+use Rattle.protocol_model.specs.Reading.{told_of, bereave}
+use Rattle.protocol_model.specs.World.{Opening, World, join_number}
+use Rattle.moves.proofs.Rules.{is_ordered}
 use Rattle.moves.proofs.Indices.{both}
-use Rattle.walk.proofs.LockRounds.{IsOwn}
 use Rattle.walk.proofs.Calls.{AllOpen, all_open, ordered_found}
-use Rattle.walk.proofs.Walk.{OrderedWalk, walked_in_order}
 use Rattle.client_locks.proofs.Answering
 use Rattle.client_locks.proofs.Answering.{any_true}
-use Rattle.client_locks.proofs.Growing.{Replying, is_fine}
+use Rattle.client_locks.proofs.Growing.{is_fine}
 use Rattle.client_locks.proofs.Ongoing.{is_deleting}
-use Rattle.client_locks.proofs.Told.{all_of_all}
-use Rattle.leftovers.proofs.Grounds.{Base, Both, wide, between}
-use Rattle.leftovers.proofs.Families.{Families, families_keep, families_open, Whole, whole}
+use Rattle.leftovers.proofs.Grounds.{Base}
 use Rattle.leftovers.proofs.Rest.{Among, ToldMore}
 use Rattle.leftovers.proofs.RestCalls.{among_found}
 use Rattle.leftovers.proofs.RestWork
 use Rattle.leftovers.proofs.RestWork.{lose-same}
-use Rattle.leftovers.proofs.RestEvents.{accepted-node}
-use Rattle.lock_answers.proofs.Clear.{ClearIn, ClearAt, Clear, is_notice, clear_opens}
-use Rattle.lock_answers.proofs.Winning.{Ground, are_quiet, ground_chain}
-use Rattle.lock_answers.proofs.Besides.{has_reply, is_true, found_any, any_found, start_adds, start_part, Plain, plain_lose}
-use Rattle.lock_answers.proofs.Notices.{ClearBut, asks_in, WinsBy, LostAll, ClearAll, all_lost}
-
-pub reply_same : (r : Reply) → is_reply r True ≡ true → r ≡ True
-reply_same True h = refl
-reply_same False h = cc
-reply_same Yes h = cc
-reply_same No h = cc
-reply_same Ok h = cc
-reply_same UnknownNode h = cc
-reply_same Joined h = cc
-reply_same NotMember h = cc
-reply_same ContactLeft h = cc
-reply_same (Pid p) h = cc
-reply_same Undefined h = cc
-reply_same (Names xs) h = cc
+use Rattle.lock_answers.proofs.Clear.{ClearIn, ClearAt}
+use Rattle.lock_answers.proofs.Besides.{is_true, found_any, any_found, start_adds, start_part, plain_lose}
+use Rattle.lock_answers.proofs.Notices.{asks_in, LostAll, ClearAll, all_lost}
 
 -- a call among ordered ones is open
 pub among_open : (xs cs : List LockCall) (c : LockCall) → AllOpen xs cs → Among cs c → call_of c.holder xs ≡ Some c
@@ -148,7 +123,7 @@ module _ (o : Opening) (w : World) (B : Base o w) (t f : ℕ) where
       by one =
           let test : (((one.0.node == b) && (one.0.number == m)) ≡ true) × (is_reply one.0.reply True ≡ true) =
           both ((one.0.node == b) && (one.0.number == m)) (is_reply one.0.reply True) one.2 in
-          let yes : one.0.reply ≡ True = reply_same one.0.reply test.1 in
+          let yes : one.0.reply ≡ True = is_reply-true one.0.reply True test.1 in
           elim (L.given one.0 one.1 yes) [
             | inl k ↦ absurd (silent one.0 k yes)
             | inr k ↦ (

@@ -1,29 +1,29 @@
 -- Where `true` is answered to the last try of a process, somebody that it has to ask isn't told of as departed.
 use mathlib.Core.Logic.{◌⊎◌}
-use Rattle.std.proofs.Common.{ℕ, Bool, true, false, ◌==◌, ◌≡◌, ◌+◌, ◌≤◌, Option, Some, None, List, [], ◌∷◌, ◌++◌, refl, sym, ap, ◌∙◌, subst, arith, inl, inr}
-use Rattle.std.specs.Prelude.{◌&&◌, ◌||◌, is_none, Contains, if◌then◌else◌}
-use Rattle.std.specs.List.{list_any, list_all}
+use Rattle.std.proofs.Common.{ℕ, Bool, true, false, ◌==◌, ◌≡◌, ◌+◌, ◌≤◌, Option, Some, None, List, [], ◌∷◌, refl, sym, ap, ◌∙◌, subst, arith, inl, inr}
+use Rattle.std.specs.Prelude.{◌&&◌, ◌||◌, is_none, if◌then◌else◌}
+use Rattle.std.specs.List.{list_all}
 use Rattle.std.proofs.lemmas.List.Folds.{list_any-append}
 use Rattle.std.proofs.lemmas.Bool.{eqb-true, eq-eqb}
 use Rattle.registry_model.specs.Process.{Text, Process}
 use Rattle.registry_model.specs.Call.{Reply, True, is_reply}
 use Rattle.protocol_model.specs.Letter.{Global, Letter}
 use Rattle.protocol_model.specs.Node.{Node, LockPhase, LockCall, Target, Times, call_of}
-use Rattle.protocol_model.specs.Event.{Call, Event, Answer, Refusal}
+use Rattle.protocol_model.specs.Event.{Call, Event, Refusal}
 use Rattle.protocol_model.specs.Turn.{Turn}
 use Rattle.protocol_model.specs.Client.{new_call}
 use Rattle.protocol_model.specs.ClientLocks.{Try, last_try}
-use Rattle.protocol_model.specs.LockAnswers.{Tries, tries_by, tries_of, AsksSomebody, IsHeldSomewhere, Answers, AtEachStep}
-use Rattle.protocol_model.specs.World.{Opening, in_world, World, WorldEvent, At, Deliver, place, opening_world, refusal, turn_of, accepted, happens, answers}
+use Rattle.protocol_model.specs.LockAnswers.{tries_by, tries_of, AsksSomebody, IsHeldSomewhere, AtEachStep}
+use Rattle.protocol_model.specs.World.{Opening, in_world, World, WorldEvent, At, Deliver, place, opening_world, refusal, turn_of, accepted, answers}
 use Rattle.registry_model.proofs.Updates.{at_same}
 use Rattle.moves.proofs.Rules
 use Rattle.moves.proofs.Rules.{Rule}
 use Rattle.moves.proofs.Rules.Rule.{CallsLock, AsksLock, FailsLock, DeletesLock, DeletesNothing}
-use Rattle.walk.proofs.ChainKinds.{Aside, Again, Hearing, suits}
-use Rattle.walk.proofs.Events.{Accepted, accepted_of, IsSecond}
+use Rattle.walk.proofs.ChainKinds.{Aside, Again, suits}
+use Rattle.walk.proofs.Events.{accepted_of, IsSecond}
 use Rattle.walk.proofs.Orders.{ordered_keeps}
 use Rattle.walk.proofs.Walk.{OrderedWalk, InOrder, walked_in_order}
-use Rattle.client_locks.proofs.Growing.{Replying, replying_keeps}
+use Rattle.client_locks.proofs.Growing.{replying_keeps}
 use Rattle.client_locks.proofs.Answering.{is_true, any_true}
 use Rattle.client_locks.proofs.Chains.{is_calm, aside_calm, calm_answers}
 use Rattle.client_locks.proofs.Opening.{no_numbers}
@@ -36,15 +36,16 @@ use Rattle.client_locks.proofs.Walking.{opening_state}
 use Rattle.headline.specs.Clauses.{world}
 use Rattle.headline.proofs.Clients.{grounds}
 use Rattle.headline.proofs.Together.{All}
-use Rattle.leftovers.proofs.Grounds.{Base, wide, lock_state}
-use Rattle.leftovers.proofs.Families.{Whole, whole}
+use Rattle.leftovers.proofs.Grounds.{wide, lock_state}
+use Rattle.leftovers.proofs.Families.{whole}
+use Rattle.leftovers.proofs.Rest.{Rests}
 use Rattle.leftovers.proofs.RestEvents.{AllRest, all_rest_keeps, accepted-node}
 use Rattle.lock_answers.proofs.LastTry.{last_in, by-last, last_of_tries, tries_push}
 use Rattle.lock_answers.proofs.Winning.{Ground, AsksMember, are_quiet, asks_by, own_call, chain_won}
 use Rattle.lock_answers.proofs.Besides.{found_any}
 use Rattle.lock_answers.proofs.Notices.{asks_in}
 use Rattle.lock_answers.proofs.Granting.{behind, behind_wins}
-use Rattle.lock_answers.proofs.GrantEvents.{IsNotice, quiet_or_notice, notice_turn, ground_run}
+use Rattle.lock_answers.proofs.GrantEvents.{quiet_or_notice, notice_turn, ground_run}
 use Rattle.lock_answers.proofs.Pushed.{answers_turn, happens_now, answer_place}
 
 -- the last try of a process fits its open call, after every list of events
@@ -152,37 +153,38 @@ module _ (o : Opening) (w : World) (G : Ground o w) (N : Numbered o w) (p : Proc
         → (k : Option Try) → Fits w p k → p.node ≡ place x → last_try w x p k ≡ Some s
         → any_true p.node s.number (Rules.answers_by o (place x) (chain_of o w x W.walk.rest) w) ≡ true
         → AsksSomebody (accepted o w x) p s
-    by_chain (At a (Event.Calling c)) j q m h end k F home last won_by =
-        absurd (cc (call_silent a c W.walk.rest m h k F home last, won_by))
-    by_chain (At a Event.Retry) j q m h end k F home last won_by = absurd (cc (
+    by_chain (At a (Event.Calling c)) j q m h end k F home last given =
+        absurd (cc (call_silent a c W.walk.rest m h k F home last, given))
+    by_chain (At a Event.Retry) j q m h end k F home last given = absurd (cc (
       calm a W.walk.rest (all_of_all (suits (Again (w.node a))) is_calm (retry_calm (w.node a)) W.walk.rest h) m,
-      won_by,
+      given,
     ))
-    by_chain (At a (Event.Exiting d)) j q m h end k F home last won_by =
-        absurd (cc (aside a (chain_of o w (At a (Event.Exiting d)) W.walk.rest) h m, won_by))
-    by_chain (At a Event.Leave) j q m h end k F home last won_by =
-        absurd (cc (aside a (chain_of o w (At a Event.Leave) W.walk.rest) h m, won_by))
-    by_chain (Deliver f t) j q m h end k F home last won_by = record {
+    by_chain (At a (Event.Exiting d)) j q m h end k F home last given =
+        absurd (cc (aside a (chain_of o w (At a (Event.Exiting d)) W.walk.rest) h m, given))
+    by_chain (At a Event.Leave) j q m h end k F home last given =
+        absurd (cc (aside a (chain_of o w (At a Event.Leave) W.walk.rest) h m, given))
+    by_chain (Deliver f t) j q m h end k F home last given = record {
       node = one.0;
       asked = one.1;
       stays = subst (λ (n : ℕ). ((accepted o w (Deliver f t)).node n).replica.told one.0 ≡ false) (sym home)
-          ((subst (λ (x : WorldEvent). AllRest o (accepted o w x)) j
-          (all_rest_keeps o w G.base G.near e is R) t
-          (subst (λ (x : WorldEvent). in_world o (place x) ≡ true) j (accepted_of o w e is).place_inside)).sides.group.apart
-          one.0 (subst (λ (v : World). (v.node t).replica.members one.0 ≡ true) end one.2));
+          (rests.sides.group.apart one.0 (subst (λ (v : World). (v.node t).replica.members one.0 ≡ true) end one.2));
     }
       where
+        rests : Rests o t ((accepted o w (Deliver f t)).node t)
+        rests = subst (λ (x : WorldEvent). AllRest o (accepted o w x)) j (all_rest_keeps o w G.base G.near e is R) t
+            (subst (λ (x : WorldEvent). in_world o (place x) ≡ true) j (accepted_of o w e is).place_inside)
+
         one : AsksMember o t (Rules.effects o t (chain_of o w (Deliver f t) W.walk.rest) w) s
         one = chain_won o t p s home (chain_of o w (Deliver f t) W.walk.rest) w G (subst (Fits w p) last F)
-            (first_heard o (ordered_keeps o) w G.base.num G.base.ordered G.replying N f t (w.links.queue f t) W.walk.rest
-            h) q m won_by
+            (first_heard o (ordered_keeps o) w G.base.num G.base.ordered G.replying N f t (w.links.queue f t)
+            W.walk.rest h) q m given
 
     -- a notice
     by_notice : (f t : ℕ) (ls : List Letter) → w.links.queue f t ≡ Letter.Down ∷ ls → (k : Option Try) → Fits w p k
         → p.node ≡ t → last_try w (Deliver f t) p k ≡ Some s
         → any_true p.node s.number (turn_of o w (Deliver f t)).answers ≡ true
         → AsksSomebody (accepted o w (Deliver f t)) p s
-    by_notice f t ls front k F home last won_by = asks won.0 won.1 won.2 won.3
+    by_notice f t ls front k F home last given = asks won.0 won.1 won.2 won.3
       where
         same : turn_of o w (Deliver f t) ≡ behind o w G.base t f
         same = notice_turn o w G.base f t ls front
@@ -191,7 +193,7 @@ module _ (o : Opening) (w : World) (G : Ground o w) (N : Numbered o w) (p : Proc
             × ((is_deleting c.phase ≡ true) ⊎ ((x : ℕ) × (asks_in x c.phase ≡ true)
             × ((behind o w G.base t f).node.replica.told x ≡ false)))
         won = behind_wins o w G.base t f (G.replying t) (G.clear t) p.node s.number
-            (subst (λ (u : Turn). any_true p.node s.number u.answers ≡ true) same won_by)
+            (subst (λ (u : Turn). any_true p.node s.number u.answers ≡ true) same given)
 
         told_now : (x : ℕ) → (behind o w G.base t f).node.replica.told x ≡ false
             → ((accepted o w (Deliver f t)).node p.node).replica.told x ≡ false
@@ -206,7 +208,8 @@ module _ (o : Opening) (w : World) (G : Ground o w) (N : Numbered o w) (p : Proc
             → AsksSomebody (accepted o w (Deliver f t)) p s
         asks c found number h =
             let own : (is_deleting c.phase ≡ false) × IsTryOf s c =
-            own_call o t p s home w G (subst (Fits w p) last F) c c.phase (record { call = found; phase = refl }) number in
+            own_call o t p s home w G (subst (Fits w p) last F) c c.phase (record { call = found; phase = refl })
+            number in
             elim h [
               | inl d ↦ absurd (cc (own.0, d))
               | inr x ↦ record {
@@ -223,19 +226,19 @@ module _ (o : Opening) (w : World) (G : Ground o w) (N : Numbered o w) (p : Proc
 
     asks_somebody : (k : Option Try) → Fits w p k → p.node ≡ place e → last_try w e p k ≡ Some s
         → any_true p.node s.number (turn_of o w e).answers ≡ true → AsksSomebody (accepted o w e) p s
-    asks_somebody k F home last won_by = elim (quiet_or_notice o w e W.walk.rest W.walk.quiet) [
+    asks_somebody k F home last given = elim (quiet_or_notice o w e W.walk.rest W.walk.quiet) [
       | inl q ↦ by_chain e refl q W.walk.may W.in_order W.walk.world k F home last
-          (ap (any_true p.node s.number) W.walk.answers ∙ won_by)
+          (ap (any_true p.node s.number) W.walk.answers ∙ given)
       | inr I ↦ (subst (λ (x : WorldEvent). p.node ≡ place x → last_try w x p k ≡ Some s
           → any_true p.node s.number (turn_of o w x).answers ≡ true → AsksSomebody (accepted o w x) p s) (sym I.event)
-          (λ i l y. by_notice I.sender I.receiver I.later I.front k F i l y)) home last won_by
+          (λ i l y. by_notice I.sender I.receiver I.later I.front k F i l y)) home last given
     ]
 
 pub is_held_somewhere : AtEachStep IsHeldSomewhere
-is_held_somewhere o es e is p t s told A won_by =
+is_held_somewhere o es e is p t s told A reply =
     subst (λ (v : World). AsksSomebody v p t.last) (sym (happens_now o es e is))
-    (asks_somebody o (world o es) (ground_run o es) (lock_state o es).numbered p t.last (whole o es).rest e is (last_in (tries_of o es p))
-    (fits_run o es p) (sym A.node ∙ answer_place o es e is s A.given) last given)
+    (asks_somebody o (world o es) (ground_run o es) (lock_state o es).numbered p t.last (whole o es).rest e is
+    (last_in (tries_of o es p)) (fits_run o es p) (sym A.node ∙ answer_place o es e is s A.given) last given)
   where
     now : tries_by o (world o es) e p (tries_of o es p) ≡ Some t
     now = ap (λ (x : Option Refusal). if is_none x then tries_by o (world o es) e p (tries_of o es p)
@@ -247,4 +250,5 @@ is_held_somewhere o es e is p t s told A won_by =
     given : any_true p.node t.last.number (turn_of o (world o es) e).answers ≡ true
     given = ap (any_true p.node t.last.number) (sym (answers_turn o es e is))
         ∙ found_any (is_true p.node t.last.number) (answers o (world o es) e) s A.given
-        (rw (eq-eqb s.node p.node A.node, eq-eqb s.number t.last.number A.number) (ap (λ (r : Reply). is_reply r True) won_by))
+        (rw (eq-eqb s.node p.node A.node, eq-eqb s.number t.last.number A.number)
+        (ap (λ (r : Reply). is_reply r True) reply))

@@ -1,9 +1,8 @@
 -- What is told of a process's last `set_lock` has the last try that is counted by.
-use Rattle.std.proofs.Common.{ℕ, Bool, true, false, ◌==◌, ◌≡◌, ◌+◌, Option, Some, None, List, [], ◌∷◌, refl, sym, ap, ◌∙◌, ◌++◌}
+use Rattle.std.proofs.Common.{ℕ, Bool, true, false, ◌==◌, ◌≡◌, ◌+◌, Option, Some, None, List, [], ◌∷◌, refl, ap, ◌∙◌, ◌++◌}
 use Rattle.std.specs.Prelude.{◌&&◌, is_none, if◌then◌else◌}
-use Rattle.registry_model.specs.Process.{Text, Process, is_process, Nodes}
+use Rattle.registry_model.specs.Process.{Process, is_process, Nodes}
 use Rattle.protocol_model.specs.Letter.{Id, Client}
-use Rattle.protocol_model.specs.Node.{Target, Retries}
 use Rattle.protocol_model.specs.Event.{Call, Event}
 use Rattle.protocol_model.specs.ClientLocks.{Try, try_of, tried_again, is_refused, last_try, Tally, tallied, tally_after, tally_from}
 use Rattle.protocol_model.specs.LockAnswers.{Tries, watched, next_try, first_try, tries_in, tries_by, tries_after, tries_from, tries_of}

@@ -1,32 +1,31 @@
 -- No lock call of a process is answered that is dead, or whose node has left, before the step or behind it.
-use mathlib.Core.Logic.{◌⊎◌}
-use Rattle.std.proofs.Common.{ℕ, Bool, true, false, ◌==◌, ◌≡◌, ◌+◌, ◌-◌, ◌<◌, Option, Some, None, List, [], ◌∷◌, ◌++◌, length, refl, sym, ap, ◌∙◌, subst, arith, inl, inr}
-use Rattle.std.specs.Prelude.{not, ◌&&◌, ◌||◌, Contains, if◌then◌else◌}
+use Rattle.std.proofs.Common.{ℕ, Bool, true, false, ◌==◌, ◌≡◌, ◌+◌, ◌-◌, Some, None, List, [], ◌∷◌, ◌++◌, length, refl, sym, ap, ◌∙◌, subst, inl, inr}
+use Rattle.std.specs.Prelude.{not, ◌&&◌, ◌||◌, Contains}
 use Rattle.std.specs.List.{slice_get, list_any, list_all}
 use Rattle.std.proofs.lemmas.Bool.{eq-eqb, eqb-true}
 use Rattle.std.proofs.lemmas.List.Elements.{Contains-append_cases}
-use Rattle.registry_model.specs.Process.{Text, Process, at}
+use Rattle.registry_model.specs.Process.{Process}
 use Rattle.registry_model.specs.Call.{Reply, True, False}
 use Rattle.registry_model.proofs.Lists.{Contains-nil}
 use Rattle.registry_model.proofs.Updates.{at_same}
 use Rattle.protocol_model.specs.Watch.{Watch, is_dead, is_live}
-use Rattle.protocol_model.specs.Node.{Node, LockCall, Target, Retries, Times, call_of}
+use Rattle.protocol_model.specs.Node.{Node, LockCall, Times}
 use Rattle.protocol_model.specs.Event.{Call, Event, Answer, Refusal, cause, first_cause, names_members, calls_spent}
 use Rattle.protocol_model.specs.Turn.{Turn, begun, counted}
 use Rattle.protocol_model.specs.Registrar.{retry_global}
 use Rattle.protocol_model.specs.Client.{new_call, try_lock, delete_lock, retry_locks}
 use Rattle.protocol_model.specs.Answers.{answer_to, may_have, calls_at, answers_under, AtMostOne, NotYet, Once}
 use Rattle.protocol_model.specs.ClientLocks.{is_gone}
-use Rattle.protocol_model.specs.Course.{Played, played, course, answers_of}
+use Rattle.protocol_model.specs.Course.{Played, played, answers_of}
 use Rattle.protocol_model.specs.Fit.{is_numbered}
 use Rattle.protocol_model.specs.LockAnswers.{holder_in, IsCallOf, AnswersTheLiving, AtEachStep}
-use Rattle.protocol_model.specs.World.{Opening, World, left, WorldEvent, At, Deliver, place, opening_world, refusal, turn_of, accepted, happens, answers, local_causes, run}
+use Rattle.protocol_model.specs.World.{Opening, World, left, WorldEvent, At, Deliver, place, refusal, turn_of, accepted, happens, answers, local_causes}
 use Rattle.moves.proofs.Rules
 use Rattle.moves.proofs.Rules.{Rule}
 use Rattle.moves.proofs.Rules.Rule.{CallsLock, AsksLock, FailsLock, DeletesLock, DeletesNothing}
 use Rattle.moves.proofs.Indices.{both, not_true}
-use Rattle.walk.proofs.ChainKinds.{Aside, Hearing, suits}
-use Rattle.walk.proofs.Events.{Accepted, accepted_of, IsSecond, lock_tested, live_own}
+use Rattle.walk.proofs.ChainKinds.{Aside, suits}
+use Rattle.walk.proofs.Events.{accepted_of, IsSecond, lock_tested, live_own}
 use Rattle.walk.proofs.Walk.{OrderedWalk, InOrder, walked_in_order}
 use Rattle.fitting.proofs.Theorem
 use Rattle.client_locks.proofs.Clients.{IsLive, live_parts, call_at, caller_lives}
@@ -65,15 +64,6 @@ lock_reply (Call.JoinBy j) reply p h m = cc
 module _ (o : Opening) (es : List WorldEvent) (s : Answer) (call : Call) (p : Process) (e : WorldEvent)
     (is : refusal o (world o es) e ≡ None) (given : Contains (answers o (world o es) e) s)
     (called : IsCallOf o (es ++ e ∷ []) s.node s.number call) (holder : holder_in call ≡ Some p) where
-  abbrev w : World
-  w = world o es
-
-  abbrev step : Played
-  step = played o (world o es) e
-
-  abbrev qs : List Played
-  qs = events o (es ++ e ∷ [])
-
   -- the answer is one to a lock call
   lock : is_lock_answer s ≡ true
   lock = go (answers_under s.node s.number (events o (es ++ e ∷ [])))
@@ -103,7 +93,8 @@ module _ (o : Opening) (es : List WorldEvent) (s : Answer) (call : Call) (p : Pr
       there = ap (λ (ps : List Played). slice_get (calls_at s.node ps) (s.number - 1)) (events_push o es e is)
           ∙ ap (λ (n : ℕ). slice_get (calls_at n (events o es ++ played o (world o es) e ∷ [])) (s.number - 1))
           (here ∙ sym home)
-          ∙ ap (λ (n : ℕ). slice_get (calls_at q.node (events o es ++ played o (world o es) e ∷ [])) (n - 1)) (sym number)
+          ∙ ap (λ (n : ℕ). slice_get (calls_at q.node (events o es ++ played o (world o es) e ∷ [])) (n - 1))
+          (sym number)
           ∙ I.1
 
       same : I.0 ≡ call
@@ -112,11 +103,11 @@ module _ (o : Opening) (es : List WorldEvent) (s : Answer) (call : Call) (p : Pr
   G : Ground o (world o es)
   G = ground_run o es
 
-  running : left w (place e) ≡ false
-  running = (accepted_of o w e is).running
+  running : left (world o es) (place e) ≡ false
+  running = (accepted_of o (world o es) e is).running
 
   -- an open call is of a process that lives
-  open_lives : WasOpen o (place e) s lock called.0 w → (p.node ≡ place e) × (is_gone (world o es) p ≡ false)
+  open_lives : WasOpen o (place e) s lock called.0 (world o es) → (p.node ≡ place e) × (is_gone (world o es) p ≡ false)
   open_lives W = (sym (ap (λ (q : Process). q.node) same) ∙ W.3, rw (up, parts.alive) refl)
     where
       same : W.0 ≡ p

@@ -1,7 +1,7 @@
--- A departure is told to all lock calls of a node: none counts the node as granted then, and who is answered `true` asked
--- somebody else.
+-- A departure is told to all lock calls of a node: none counts the node as granted then, and who is answered `true`
+-- asked somebody else.
 use mathlib.Core.Logic.{◌⊎◌}
-use Rattle.std.proofs.Common.{ℕ, Bool, true, false, ◌==◌, ◌≡◌, ◌<◌, Option, Some, None, List, [], ◌∷◌, ◌++◌, refl, sym, ap, ◌∙◌, subst, inl, inr}
+use Rattle.std.proofs.Common.{ℕ, Bool, true, false, ◌≡◌, ◌<◌, Some, None, List, [], ◌∷◌, refl, sym, ap, ◌∙◌, subst, inl, inr}
 use Rattle.std.specs.Prelude.{fold, Contains, if◌then◌else◌}
 use Rattle.std.proofs.lemmas.Bool.{cases_eq, eqb-true}
 use Rattle.std.proofs.lemmas.List.Elements.{Contains-append_cases}
@@ -9,7 +9,7 @@ use Rattle.registry_model.specs.Process.{Process, is_process, Nodes, at}
 use Rattle.registry_model.specs.Registry.{Replica}
 use Rattle.registry_model.specs.Call.{True, False}
 use Rattle.registry_model.proofs.Lists.{Contains-cases, Contains-nil}
-use Rattle.protocol_model.specs.Round.{Round, is_empty, asked, granted, down, is_over, is_held, Ending, Held, GiveBack, ending}
+use Rattle.protocol_model.specs.Round.{Round, is_empty, asked, granted, down, is_over, Ending, Held, GiveBack, ending}
 use Rattle.protocol_model.specs.Node.{LockPhase, LockCall, call_of, put_call, drop_call}
 use Rattle.protocol_model.specs.Event.{Answer}
 use Rattle.protocol_model.specs.Turn.{Turn, keep_call}
@@ -175,8 +175,8 @@ module _ (o : Opening) (a : ℕ) (told : Nodes) (d : ℕ) where
           ];
         }
         refused given false = record {
-          clear = more_clear a u.node.replica.told (put_call now u.node.calls) (in_phase LockPhase.Waiting now) cs own tt
-              kept;
+          clear = more_clear a u.node.replica.told (put_call now u.node.calls) (in_phase LockPhase.Waiting now) cs own
+              tt kept;
           replica = refl;
           watch = refl;
           given = λ s h t. inl h;
@@ -275,9 +275,8 @@ module _ (o : Opening) (a : ℕ) (told : Nodes) (d : ℕ) where
           → LostAll a (c ∷ cs) u
           (fold (λ turn c. lose_node_in o.bound a d c.phase c turn) (lose_node_in o.bound a d c.phase c u) cs)
       join L = record {
-        clear = subst (λ (x : Replica). ClearBut a x.told
-            (fold (λ turn c. lose_node_in o.bound a d c.phase c turn) (lose_node_in o.bound a d c.phase c u) cs).node.calls
-            []) one.replica L.clear;
+        clear = subst (λ (x : Replica). ClearBut a x.told (fold (λ turn c. lose_node_in o.bound a d c.phase c turn)
+            (lose_node_in o.bound a d c.phase c u) cs).node.calls []) one.replica L.clear;
         replica = L.replica ∙ one.replica;
         watch = L.watch ∙ one.watch;
         given = λ s h t. elim (L.given s h t) [

@@ -1,27 +1,25 @@
 -- An open lock call is the accepted one of its number, which was made for its process.
 use mathlib.Core.Logic.{◌⊎◌}
-use Rattle.std.proofs.Common.{ℕ, Bool, true, false, ◌==◌, ◌≡◌, ◌+◌, ◌-◌, Option, Some, None, List, [], ◌∷◌, ◌++◌, length, refl, sym, ap, ◌∙◌, subst, arith, inl, inr}
+use Rattle.std.proofs.Common.{ℕ, Bool, true, false, ◌≡◌, ◌+◌, ◌-◌, Some, None, List, [], ◌∷◌, ◌++◌, length, refl, sym, ap, ◌∙◌, subst, arith, inl, inr}
 use Rattle.std.specs.Prelude.{not, ◌&&◌, if◌then◌else◌}
 use Rattle.std.specs.List.{slice_get, list_all}
 use Rattle.std.proofs.lemmas.List.{append-nil}
 use Rattle.std.proofs.lemmas.Grind.{flat_map-append}
 use Rattle.std.proofs.lemmas.Bool.{eq-eqb, eqb-true}
-use Rattle.registry_model.specs.Process.{Text, Process, is_process, at}
-use Rattle.registry_model.proofs.Updates.{by_test, at_same}
+use Rattle.registry_model.specs.Process.{Process, is_process}
+use Rattle.registry_model.proofs.Updates.{by_test}
 use Rattle.protocol_model.specs.Round.{is_empty, begin}
-use Rattle.protocol_model.specs.Node.{Node, LockPhase, LockCall, Target, Retries, Times, call_of, targets}
+use Rattle.protocol_model.specs.Node.{Node, LockPhase, LockCall, Times, call_of, targets}
 use Rattle.protocol_model.specs.Event.{Call, Event, Refusal, cause, first_cause, names_members, calls_spent}
 use Rattle.protocol_model.specs.Turn.{Turn, begun, counted}
 use Rattle.protocol_model.specs.Client.{in_phase, new_call, try_lock, delete_lock, close_call, ask_lock, ask_back}
-use Rattle.protocol_model.specs.Calling.{call}
 use Rattle.protocol_model.specs.Fit.{is_numbered, calls_in}
 use Rattle.protocol_model.specs.Answers.{calls_at}
-use Rattle.protocol_model.specs.Course.{Played, played, course}
+use Rattle.protocol_model.specs.Course.{Played, played}
 use Rattle.protocol_model.specs.LockAnswers.{holder_in}
-use Rattle.protocol_model.specs.World.{Opening, World, WorldEvent, At, Deliver, place, opening_world, refusal, turn_of, accepted, local_causes, run}
+use Rattle.protocol_model.specs.World.{Opening, World, WorldEvent, At, Deliver, place, opening_world, refusal, turn_of, accepted, local_causes}
 use Rattle.moves.proofs.Rules
 use Rattle.moves.proofs.Rules.{Rule, is_ordered}
-use Rattle.walk.proofs.LockRounds.{IsOwn}
 use Rattle.walk.proofs.ChainKinds.{Aside, Hearing, suits}
 use Rattle.walk.proofs.Events.{accepted_of, lock_tested, live_own}
 use Rattle.walk.proofs.Orders.{ordered_keeps}
@@ -34,7 +32,7 @@ use Rattle.client_locks.proofs.Clients.{call_at}
 use Rattle.client_locks.proofs.Chains.{From}
 use Rattle.client_locks.proofs.Growing.{Replying, replying_opens}
 use Rattle.client_locks.proofs.Ids.{is_process_same}
-use Rattle.client_locks.proofs.Numbering.{Numbered, aside_hears, numbered_opens, from_self, from_chain, from_retry}
+use Rattle.client_locks.proofs.Numbering.{aside_hears, from_self, from_chain, from_retry}
 use Rattle.client_locks.proofs.Opening.{no_numbers}
 use Rattle.client_locks.proofs.Told.{all_of_all, chain_of}
 use Rattle.headline.specs.Clauses.{events, world}
@@ -87,7 +85,8 @@ abbrev Begun : LockCall → List LockCall → List LockCall → Type 0
 Begun c ks ls = (p : Process) (d : LockCall) → call_of p ls ≡ Some d
     → (call_of p ks ≡ Some d) ⊎ ((c.holder ≡ p) × (d.number ≡ c.number))
 
-module _ (n a : ℕ) (c : LockCall) (u : Turn) (home : c.holder.node ≡ a) (sorted : is_ordered a u.node.calls ≡ true) where
+module _ (n a : ℕ) (c : LockCall) (u : Turn) (home : c.holder.node ≡ a)
+    (sorted : is_ordered a u.node.calls ≡ true) where
   ended : (ls : List LockCall) → ((p : Process) → call_of p ls ≡ (if is_process c.holder p then None
       else call_of p u.node.calls)) → Begun c u.node.calls ls
   ended ls same p d e = go (is_process c.holder p) (sym (same p) ∙ e)
@@ -161,7 +160,8 @@ module _ (o : Opening) (w : World) (ps : List Played) (W : Whole o w) (R : Reply
         → is_numbered c ≡ true → k.holder.node ≡ a
         → Begun k (w.node a).calls (turn_of o w (At a (Event.Calling c))).node.calls → Goal (At a (Event.Calling c))
     by_call a c k number holder numbered home B p d e = by_test a
-        (λ x b. p.node ≡ x → call_of p (if b then (turn_of o w (At a (Event.Calling c))).node else w.node x).calls ≡ Some d
+        (λ x b. p.node ≡ x
+        → call_of p (if b then (turn_of o w (At a (Event.Calling c))).node else w.node x).calls ≡ Some d
         → IsCalledBy (calls_at p.node (ps ++ step ∷ [])) d.number p)
         here (λ x ne i j. old (ap (λ (y : ℕ). call_of p (w.node y).calls) i ∙ j)) p.node refl
         (sym (ap (λ (f : ℕ → Node). call_of p (f p.node).calls) (accepted-node o w (At a (Event.Calling c)))) ∙ e)

@@ -1,13 +1,11 @@
 -- One event more, and what it answers: its place, and the numbered call that is answered.
-use mathlib.Core.Logic.{◌⊎◌}
-use Rattle.std.proofs.Common.{ℕ, Bool, true, false, ◌==◌, ◌≡◌, Option, None, List, [], ◌∷◌, ◌++◌, refl, sym, ap, ◌∙◌, subst}
+use Rattle.std.proofs.Common.{◌≡◌, Option, None, List, [], ◌∷◌, ◌++◌, sym, ap, ◌∙◌, subst}
 use Rattle.std.specs.Prelude.{is_none, Contains, if◌then◌else◌}
 use Rattle.std.proofs.lemmas.List.Elements.{Contains-append_right}
 use Rattle.registry_model.proofs.Lists.{Contains-front}
 use Rattle.protocol_model.specs.Event.{Answer, Refusal}
-use Rattle.protocol_model.specs.Answers.{AnswersCalls}
-use Rattle.protocol_model.specs.Course.{Played, played, course}
-use Rattle.protocol_model.specs.World.{Opening, World, WorldEvent, place, opening_world, refusal, happens, accepted, answers, turn_of, run}
+use Rattle.protocol_model.specs.Course.{Played, played}
+use Rattle.protocol_model.specs.World.{Opening, WorldEvent, place, opening_world, refusal, happens, accepted, answers, turn_of}
 use Rattle.headline.specs.Clauses.{events, world}
 use Rattle.headline.proofs.Tied.{course-push}
 use Rattle.headline.proofs.Answered.{answered}

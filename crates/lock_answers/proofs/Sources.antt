@@ -1,14 +1,14 @@
--- Which call a lock reply is given to: in a step that goes on with open calls, or tries them again, one that was open before.
-use mathlib.Core.Logic.{◌⊎◌}
-use Rattle.std.proofs.Common.{ℕ, Bool, true, false, ◌==◌, ◌≡◌, ◌<◌, Option, Some, None, List, [], ◌∷◌, ◌++◌, refl, sym, ap, ◌∙◌, subst, arith, inl, inr}
-use Rattle.std.specs.Prelude.{◌&&◌, Contains, if◌then◌else◌}
+-- Which call a lock reply is given to: in a step that goes on with open calls, or tries them again, one that was open
+-- before.
+use Rattle.std.proofs.Common.{ℕ, Bool, true, false, ◌≡◌, ◌<◌, Option, Some, None, List, [], ◌∷◌, refl, ap, ◌∙◌, subst, arith, inl, inr}
+use Rattle.std.specs.Prelude.{Contains, if◌then◌else◌}
 use Rattle.std.specs.List.{list_all}
 use Rattle.std.proofs.lemmas.List.Elements.{Contains-append_cases}
 use Rattle.std.proofs.lemmas.Bool.{eqb-true}
 use Rattle.registry_model.specs.Process.{Process}
-use Rattle.registry_model.specs.Call.{Reply, Yes, No, Ok, UnknownNode, True, False, Joined, NotMember, ContactLeft, Pid, Undefined, Names, reply_to}
+use Rattle.registry_model.specs.Call.{Reply, True, False, Joined, NotMember, ContactLeft, reply_to}
 use Rattle.registry_model.proofs.Lists.{Contains-cases, Contains-nil}
-use Rattle.protocol_model.specs.Node.{Node, Op, Current, LockPhase, LockCall, call_of}
+use Rattle.protocol_model.specs.Node.{Op, Current, LockPhase, LockCall, call_of}
 use Rattle.protocol_model.specs.Event.{Answer}
 use Rattle.protocol_model.specs.Client.{is_spent}
 use Rattle.protocol_model.specs.Answers.{answer_to}
@@ -18,14 +18,13 @@ use Rattle.moves.proofs.Rules.{Rule}
 use Rattle.moves.proofs.Invariants.{Replicas, IsWritten}
 use Rattle.moves.proofs.Indices.{both}
 use Rattle.walk.proofs.ChainKinds.{Aside, Again, Hearing, suits, is_number_of}
-use Rattle.walk.proofs.Orders.{ordered_keeps}
 use Rattle.join_gates.proofs.Made.{answered, answer_of, answers_made}
 use Rattle.fitting.proofs.Accounts.{is_word}
 use Rattle.fitting.proofs.Settling.{reply_to-word, grant_word}
 use Rattle.client_locks.proofs.Calls.{home_of_call}
 use Rattle.client_locks.proofs.Clients.{call_at}
 use Rattle.client_locks.proofs.Growing.{Replying, replying_keeps}
-use Rattle.client_locks.proofs.Chains.{From, from_heard}
+use Rattle.client_locks.proofs.Chains.{from_heard}
 use Rattle.client_locks.proofs.Numbering.{beginner_home}
 use Rattle.client_locks.proofs.Opening.{no_numbers}
 use Rattle.leftovers.proofs.Grounds.{Base, base_keeps, replicas}
@@ -132,7 +131,7 @@ module _ (o : Opening) (a : ℕ) (s : Answer) (lock : is_lock_answer s ≡ true)
   aside_silent (r ∷ rs) w h m B k =
       let parts : (suits Aside r ≡ true) × (list_all (suits Aside) rs ≡ true) =
       both (suits Aside r) (list_all (suits Aside) rs) h in
-      elim (Contains-append_cases (Rules.turn_by o a w r).answers (Rules.answers_by o a rs (Rules.effect o a r w)) s k) [
+      elim (Contains-append_cases (Rules.turn_by o a w r).answers (Rules.answers_by o a rs (next w r)) s k) [
         | inl i ↦ let C : Closed r s = rule_closes o a w (replicas o w B) s lock numbered r m.0 i in
             aside_closes r parts.0 C.0 C.1
         | inr i ↦ aside_silent rs (Rules.effect o a r w) parts.1 m.1 (base_keeps o a w r B m.0) i
@@ -169,13 +168,13 @@ module _ (o : Opening) (a : ℕ) (s : Answer) (lock : is_lock_answer s ≡ true)
       go _ h m d e n = cc e
 
   -- in a chain that goes on with open calls
-  pub heard_source : (rs : List Rule) (w : World) → list_all (suits Hearing) rs ≡ true → Rules.MayAll o a rs w → Base o w
-      → Replying w → Contains (Rules.answers_by o a rs w) s → WasOpen w
+  pub heard_source : (rs : List Rule) (w : World) → list_all (suits Hearing) rs ≡ true → Rules.MayAll o a rs w
+      → Base o w → Replying w → Contains (Rules.answers_by o a rs w) s → WasOpen w
   heard_source [] w h m B R k = absurd (Contains-nil s k)
   heard_source (r ∷ rs) w h m B R k =
       let parts : (suits Hearing r ≡ true) × (list_all (suits Hearing) rs ≡ true) =
       both (suits Hearing r) (list_all (suits Hearing) rs) h in
-      elim (Contains-append_cases (Rules.turn_by o a w r).answers (Rules.answers_by o a rs (Rules.effect o a r w)) s k) [
+      elim (Contains-append_cases (Rules.turn_by o a w r).answers (Rules.answers_by o a rs (next w r)) s k) [
         | inl i ↦ heard_open w B r parts.0 m.0 (rule_closes o a w (replicas o w B) s lock numbered r m.0 i)
         | inr i ↦ back parts.0 (heard_source rs (Rules.effect o a r w) parts.1 m.1 (base_keeps o a w r B m.0)
             (replying_keeps o a w r m.0 R) i)
@@ -209,7 +208,7 @@ module _ (o : Opening) (a : ℕ) (s : Answer) (lock : is_lock_answer s ≡ true)
   again_source v (r ∷ rs) w h m B k =
       let parts : (suits (Again (v.node a)) r ≡ true) × (list_all (suits (Again (v.node a))) rs ≡ true) =
       both (suits (Again (v.node a)) r) (list_all (suits (Again (v.node a))) rs) h in
-      elim (Contains-append_cases (Rules.turn_by o a w r).answers (Rules.answers_by o a rs (Rules.effect o a r w)) s k) [
+      elim (Contains-append_cases (Rules.turn_by o a w r).answers (Rules.answers_by o a rs (next w r)) s k) [
         | inl i ↦ here r parts.0 m.0 (rule_closes o a w (replicas o w B) s lock numbered r m.0 i)
         | inr i ↦ again_source v rs (Rules.effect o a r w) parts.1 m.1 (base_keeps o a w r B m.0) i
       ]

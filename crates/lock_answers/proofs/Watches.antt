@@ -1,32 +1,30 @@
 -- A step that answers a lock call kills nobody.
-use Rattle.std.proofs.Common.{ℕ, Bool, true, false, ◌==◌, ◌≡◌, ◌+◌, Option, Some, None, List, [], ◌∷◌, ◌++◌, refl, sym, ap, ◌∙◌, subst}
-use Rattle.std.specs.Prelude.{not, ◌&&◌, ◌||◌, fold, if◌then◌else◌}
+use Rattle.std.proofs.Common.{ℕ, Bool, true, false, ◌==◌, ◌≡◌, Option, Some, None, List, [], ◌∷◌, ◌++◌, refl, sym, ap, ◌∙◌}
+use Rattle.std.specs.Prelude.{not, ◌&&◌, fold, if◌then◌else◌}
 use Rattle.std.specs.List.{list_any}
-use Rattle.registry_model.specs.Process.{Text, Process, is_process, Nodes, at}
-use Rattle.registry_model.specs.Table.{Table}
+use Rattle.registry_model.specs.Process.{Process, is_process, Nodes, at}
 use Rattle.registry_model.specs.Call.{Reply, True, False, Joined, NotMember}
 use Rattle.registry_model.specs.History.{Entry}
-use Rattle.protocol_model.specs.Round.{Round, is_empty, asked, owes, answer, down, is_over, Ending, Held, GiveBack, ending}
+use Rattle.protocol_model.specs.Round.{Round, is_empty, asked, owes, answer, is_over, Ending, Held, GiveBack, ending}
 use Rattle.protocol_model.specs.Letter.{Letter, is_down}
 use Rattle.protocol_model.specs.LockTable.{is_free_for}
-use Rattle.protocol_model.specs.Watch.{Watch, is_live}
-use Rattle.protocol_model.specs.Node.{Node, Op, Current, LockPhase, LockCall, Target, Retries, Times, call_of, targets}
-use Rattle.protocol_model.specs.Event.{Call, Event, Answer}
-use Rattle.protocol_model.specs.Turn.{Turn, begun, counted, keep_call, with_replica, send, enter, at_work, reply_with}
-use Rattle.protocol_model.specs.Registrar.{registrar, ask_rest, start, retry_global}
+use Rattle.protocol_model.specs.Watch.{is_live}
+use Rattle.protocol_model.specs.Node.{Node, Op, Current, LockPhase, LockCall, call_of, targets}
+use Rattle.protocol_model.specs.Event.{Answer}
+use Rattle.protocol_model.specs.Turn.{Turn, begun, keep_call, with_replica, send, enter, at_work, reply_with}
+use Rattle.protocol_model.specs.Registrar.{registrar, ask_rest, start}
 use Rattle.protocol_model.specs.Deciding.{hear_answer}
-use Rattle.protocol_model.specs.Client.{is_spent, one_less, in_phase, close_call, ask_lock, try_lock, give_lock, refuse_lock, end_lock_by, go_on_lock, hear_lock_in, hear_lock, owe_less_in, owe_less, retry_in, retry_locks, new_call, delete_lock, ask_back}
+use Rattle.protocol_model.specs.Client.{is_spent, one_less, in_phase, close_call, ask_lock, try_lock, give_lock, end_lock_by, go_on_lock, hear_lock_in, hear_lock, owe_less_in, owe_less, retry_in, delete_lock, ask_back}
 use Rattle.protocol_model.specs.Calling.{die, kill, queued}
-use Rattle.protocol_model.specs.Reading.{admitted, welcomed, judge, hear, take_back, asked_to_admit, refused_join, welcome, read, receive}
+use Rattle.protocol_model.specs.Reading.{admitted, welcomed, judge, refused_join, welcome, read}
 use Rattle.protocol_model.specs.World.{Opening, World, Deliver, join_number, heard, turn_of}
 use Rattle.client_locks.proofs.Growing.{Replying}
 use Rattle.leftovers.proofs.Doomed.{start-watch}
 use Rattle.leftovers.proofs.RestWork.{ask_rest-node}
 use Rattle.leftovers.proofs.Grounds.{Base}
 use Rattle.lock_answers.proofs.Clear.{ClearAt}
-use Rattle.lock_answers.proofs.Besides.{start_adds, Plain, plain_hear, plain_await, plain_retry}
-use Rattle.lock_answers.proofs.Granting.{behind, behind_watch}
-use Rattle.lock_answers.proofs.GrantEvents.{notice_turn}
+use Rattle.lock_answers.proofs.Besides.{start_adds, plain_hear, plain_await}
+use Rattle.lock_answers.proofs.Granting.{behind_watch}
 
 -- a reply to a lock call
 abbrev pub is_lock_reply : Reply → Bool
@@ -38,9 +36,6 @@ abbrev pub is_lock_answer : Answer → Bool
 is_lock_answer s = is_lock_reply s.reply
 
 module _ (n a : ℕ) where
-  close-watch : (c : LockCall) (g : Bool) (u : Turn) → (close_call n a c g u).node.watch ≡ u.node.watch
-  close-watch c g u = refl
-
   -- a try begins
   pub try-watch : (c : LockCall) (u : Turn) → (try_lock n a c u).node.watch ≡ u.node.watch
   try-watch c u = go (is_empty n (targets u.node.replica.members c.target))
@@ -77,7 +72,8 @@ module _ (n a : ℕ) where
       d = in_phase (LockPhase.Asking r) c
 
       refused : (given : Nodes) (b : Bool) → (if b then close_call n a d false (give_lock n a d given (keep_call d u))
-          else keep_call (in_phase LockPhase.Waiting d) (give_lock n a d given (keep_call d u))).node.watch ≡ u.node.watch
+          else keep_call (in_phase LockPhase.Waiting d) (give_lock n a d given (keep_call d u))).node.watch
+          ≡ u.node.watch
       refused given true = refl
       refused given false = refl
 
@@ -167,8 +163,8 @@ module _ (o : Opening) (w : World) (f t : ℕ) where
           (kill-answers o.bound t kills (with_replica (welcomed members pairs told) (begun v)))
       contact k m false = refl
 
-      go : (c : Current) → list_any is_lock_answer (welcome o.bound t num f members pairs told kills c (begun v)).answers
-          ≡ false
+      go : (c : Current)
+          → list_any is_lock_answer (welcome o.bound t num f members pairs told kills c (begun v)).answers ≡ false
       go (Current.Joining k m) = contact k m (m == f)
       go _ = refl
   deadly_read l h = cc

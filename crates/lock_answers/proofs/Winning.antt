@@ -1,17 +1,16 @@
 -- Where a chain of rules that goes on with open calls answers `true` to a try, it has asked somebody who is a member.
-use mathlib.Core.Logic.{◌⊎◌}
-use Rattle.std.proofs.Common.{ℕ, Bool, true, false, ◌==◌, ◌≡◌, ◌<◌, Option, Some, None, List, [], ◌∷◌, refl, sym, ap, ◌∙◌, subst, inl, inr}
+use Rattle.std.proofs.Common.{ℕ, Bool, true, false, ◌==◌, ◌≡◌, ◌<◌, Some, List, [], ◌∷◌, refl, sym, ap, ◌∙◌, subst, inl, inr}
 use Rattle.std.specs.Prelude.{not, ◌&&◌, ◌||◌, if◌then◌else◌}
 use Rattle.std.specs.List.{list_all}
 use Rattle.std.proofs.lemmas.List.Folds.{list_any-append}
 use Rattle.std.proofs.lemmas.Bool.{eqb-true}
-use Rattle.registry_model.specs.Process.{Process, is_process, Nodes}
+use Rattle.registry_model.specs.Process.{Process, Nodes}
 use Rattle.registry_model.specs.Call.{True}
 use Rattle.registry_model.specs.Registry.{Replica}
-use Rattle.protocol_model.specs.Round.{Round, is_empty, asked, granted, is_held, Ending, Held, GiveBack, ending}
-use Rattle.protocol_model.specs.Letter.{Id, is_id}
+use Rattle.protocol_model.specs.Round.{Round, is_empty, asked, granted, is_held, Held, GiveBack, ending}
+use Rattle.protocol_model.specs.Letter.{is_id}
 use Rattle.protocol_model.specs.Node.{Node, LockPhase, LockCall, call_of}
-use Rattle.protocol_model.specs.Event.{Answer, is_waiting_call}
+use Rattle.protocol_model.specs.Event.{is_waiting_call}
 use Rattle.protocol_model.specs.ClientLocks.{Try}
 use Rattle.protocol_model.specs.World.{Opening, World}
 use Rattle.registry_model.proofs.Updates.{at_same}
@@ -26,7 +25,7 @@ use Rattle.client_locks.proofs.RoundNumbers.{is_tried}
 use Rattle.client_locks.proofs.Calls.{home_of_call}
 use Rattle.client_locks.proofs.Clients.{call_at}
 use Rattle.client_locks.proofs.Growing.{Replying, replying_keeps}
-use Rattle.client_locks.proofs.Answering.{is_true, any_true, gives_true, not_true_answers}
+use Rattle.client_locks.proofs.Answering.{is_true, any_true, not_true_answers}
 use Rattle.client_locks.proofs.Ongoing.{is_deleting, tried_in}
 use Rattle.client_locks.proofs.Tries.{IsTryOf, Fits, fits_chain}
 use Rattle.leftovers.proofs.Grounds.{Base, base_keeps, wide}
@@ -82,7 +81,8 @@ module _ (o : Opening) (a : ℕ) where
   member_by w G (Rules.IsTold f) q m x h = cc
   member_by w G (Rules.IsAdmitted f j puts kills) q m x h = admitted-members j puts (w.node a).replica x h
   member_by w G (Rules.IsWelcomed f k members pairs told kills) q m x h =
-      wide o w G.base f a k members pairs told kills m.front.1.0 m.inside m.running m.tested.0 m.tested.1 m.front.1.1 x h
+      wide o w G.base f a k members pairs told kills m.front.1.0 m.inside m.running m.tested.0 m.tested.1 m.front.1.1 x
+      h
   member_by w G r q m x h = h
 
   member_rule : (w : World) → Ground o w → (r : Rule) → is_notice r ≡ false → Rules.May o a w r → (x : ℕ)
@@ -114,8 +114,8 @@ module _ (o : Opening) (a : ℕ) where
 
   module _ (p : Process) (s : Try) (home : p.node ≡ a) where
     -- the open call that has the number of the try is its call
-    pub own_call : (w : World) → Ground o w → Fits w p (Some s) → (c : LockCall) (now : LockPhase) → IsOpen (w.node a) c now
-        → c.number ≡ s.number → (is_deleting c.phase ≡ false) × IsTryOf s c
+    pub own_call : (w : World) → Ground o w → Fits w p (Some s) → (c : LockCall) (now : LockPhase)
+        → IsOpen (w.node a) c now → c.number ≡ s.number → (is_deleting c.phase ≡ false) × IsTryOf s c
     own_call w G F c now e n =
         let here : c.holder.node ≡ a = home_of_call a c.holder (w.node a).calls c (G.base.ordered a) e.call in
         let found : call_at w c.holder ≡ Some c = ap (λ (i : ℕ). call_of c.holder (w.node i).calls) here ∙ e.call in
@@ -177,7 +177,8 @@ module _ (o : Opening) (a : ℕ) where
     -- the answer of one rule
     by_rule : (w : World) → Ground o w → Fits w p (Some s) → (r : Rule) → suits Hearing r ≡ true → Rules.May o a w r
         → any_true p.node s.number (Rules.turn_by o a w r).answers ≡ true → AsksMember w s
-    by_rule w G F (Rules.WinsLock c r) h m e = won_here w G F c r m (numbers (a == p.node) (c.number == s.number) refl e)
+    by_rule w G F (Rules.WinsLock c r) h m e =
+        won_here w G F c r m (numbers (a == p.node) (c.number == s.number) refl e)
       where
         numbers : (b n : Bool) → (c.number == s.number) ≡ n → (((b && n) && true) || false) ≡ true
             → c.number ≡ s.number
