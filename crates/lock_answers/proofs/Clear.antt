@@ -65,6 +65,7 @@ granted_answer f g r owe x ne h = go ((answer f g r).mark x) (answered f g r owe
     go m Stays = h
     go m Opened = too (r.mark x) h
 
+-- who is down has no grant
 not_down : (m : Mark) → is_granted (mark_down m) ≡ false
 not_down Out = refl
 not_down Later = refl
@@ -99,9 +100,6 @@ is_notice (Rules.IsTold f) = true
 is_notice _ = false
 
 module _ (o : Opening) (a : ℕ) (w : World) (B : Base o w) where
-  abbrev v : Node
-  v = w.node a
-
   -- a call that is put has no grant of those
   put_clear : (r : Rule) → Rules.May o a w r → ClearAt (w.node a)
       → StepOk (λ c. ClearIn (w.node a).replica.told c.phase) (step_of o.bound (w.node a) r)
@@ -117,9 +115,6 @@ module _ (o : Opening) (a : ℕ) (w : World) (B : Base o w) where
           (if b then Drops c.holder else Puts (in_phase LockPhase.Waiting c))
       go true = tt
       go false = tt
-  put_clear (Rules.DeletesLock c) m C = tt
-  put_clear (Rules.CountsGivenBack f c owing) m C = tt
-  put_clear (Rules.CountsLockDown d c owing) m C = tt
   put_clear r m C = tt
 
   stepped_clear : (r : Rule) → Rules.May o a w r → ClearAt (w.node a)
@@ -128,7 +123,7 @@ module _ (o : Opening) (a : ℕ) (w : World) (B : Base o w) where
       (step_of o.bound (w.node a) r) (put_home o a w (B.ordered a) r m.tested) (put_clear r m C) C p c
       (sym (ap (call_of p) (calls_turn o a w r)) ∙ e)
 
-  -- where a node is welcomed, whom it asks and what it is told are apart: it asked itself alone
+  -- a node that is welcomed asked itself alone, beside nodes that it was told of before, and isn't told that it left
   welcomed_clear : (f k : ℕ) (members : Nodes) (pairs : Table) (told : Nodes) (phase : LockPhase)
       → (w.node a).current ≡ Current.Joining k f → Invariants.IsUp o w a → ((d : ℕ) → told d ≡ true → left w d ≡ true)
       → NearIn (w.node a).replica phase → ClearIn (w.node a).replica.told phase

@@ -23,7 +23,7 @@ use Rattle.leftovers.proofs.Families.{Families, families_keep, families_open, Wh
 use Rattle.leftovers.proofs.RestEvents.{accepted-node}
 use Rattle.lock_answers.proofs.Clear.{ClearAt, Clear, is_notice, clear_opens}
 use Rattle.lock_answers.proofs.Winning.{Ground, are_quiet, ground_chain}
-use Rattle.lock_answers.proofs.Granting.{behind, behind_clear}
+use Rattle.lock_answers.proofs.NoticeTurns.{behind, behind_clear}
 
 -- rules that may come later in a chain are no notices
 pub later_quiet : (rs : List Rule) → list_all is_quiet rs ≡ true → are_quiet rs ≡ true

@@ -44,7 +44,7 @@ use Rattle.lock_answers.proofs.LastTry.{last_in, by-last, last_of_tries, tries_p
 use Rattle.lock_answers.proofs.Winning.{Ground, AsksMember, are_quiet, asks_by, own_call, chain_won}
 use Rattle.lock_answers.proofs.Besides.{found_any}
 use Rattle.lock_answers.proofs.Notices.{asks_in}
-use Rattle.lock_answers.proofs.Granting.{behind, behind_wins}
+use Rattle.lock_answers.proofs.NoticeTurns.{behind, behind_wins}
 use Rattle.lock_answers.proofs.GrantEvents.{quiet_or_notice, notice_turn, ground_run}
 use Rattle.lock_answers.proofs.Pushed.{answers_turn, happens_now, answer_place}
 

@@ -3,7 +3,7 @@ pub mod Clear
 pub mod Winning
 pub mod Besides
 pub mod Notices
-pub mod Granting
+pub mod NoticeTurns
 pub mod GrantEvents
 pub mod Pushed
 pub mod Held

@@ -24,7 +24,7 @@ use Rattle.leftovers.proofs.RestWork.{ask_rest-node}
 use Rattle.leftovers.proofs.Grounds.{Base}
 use Rattle.lock_answers.proofs.Clear.{ClearAt}
 use Rattle.lock_answers.proofs.Besides.{start_adds, plain_hear, plain_await}
-use Rattle.lock_answers.proofs.Granting.{behind_watch}
+use Rattle.lock_answers.proofs.NoticeTurns.{behind_watch}
 
 -- a reply to a lock call
 abbrev pub is_lock_reply : Reply → Bool

@@ -13,6 +13,7 @@ use Rattle.protocol_model.specs.Node.{Node, LockPhase, LockCall, call_of}
 use Rattle.protocol_model.specs.Event.{is_waiting_call}
 use Rattle.protocol_model.specs.ClientLocks.{Try}
 use Rattle.protocol_model.specs.World.{Opening, World}
+use Rattle.protocol_model.proofs.Ids.{is_id_self}
 use Rattle.registry_model.proofs.Updates.{at_same}
 use Rattle.moves.proofs.Indices.{both, some_of, not_true}
 use Rattle.moves.proofs.Rules
@@ -20,7 +21,6 @@ use Rattle.moves.proofs.Rules.{Rule, IsOpen, is_quiet}
 use Rattle.walk.proofs.ChainKinds.{Hearing, suits}
 use Rattle.walk.proofs.Killing.{admitted-members}
 use Rattle.walk.proofs.Orders.{effect-node, ordered_keeps}
-use Rattle.protocol_model.proofs.Ids.{is_id_self}
 use Rattle.client_locks.proofs.RoundNumbers.{is_tried}
 use Rattle.client_locks.proofs.Calls.{home_of_call}
 use Rattle.client_locks.proofs.Clients.{call_at}
@@ -129,11 +129,8 @@ module _ (o : Opening) (a : ℕ) where
     -- a call that is won
     won_here : (w : World) → Ground o w → Fits w p (Some s) → (c : LockCall) (r : Round)
         → Rules.May o a w (Rules.WinsLock c r) → c.number ≡ s.number → AsksMember w s
-    won_here w G F c r m n = (x.0, asks_by s c r x.0 T m.tested.0.phase asks, member (is_near v x.0) refl)
+    won_here w G F c r m n = (x.0, asks_by s c r x.0 T m.tested.0.phase asks, member)
       where
-        v : Replica
-        v = (w.node a).replica
-
         x : (x : ℕ) × (x < o.bound) × (granted r x ≡ true)
         x = held_some o.bound (asked r) r m.tested.2
 
@@ -152,8 +149,8 @@ module _ (o : Opening) (a : ℕ) where
           x.2,
         )
 
-        member : (b : Bool) → is_near (w.node a).replica x.0 ≡ b → (w.node a).replica.members x.0 ≡ true
-        member b e = go ((w.node a).replica.members x.0) ((w.node a).replica.told x.0) clear near
+        member : (w.node a).replica.members x.0 ≡ true
+        member = go ((w.node a).replica.members x.0) ((w.node a).replica.told x.0) clear near
           where
             go : (m t : Bool) → (t ≡ true → ⊥) → (m || t) ≡ true → m ≡ true
             go true t f h = refl
