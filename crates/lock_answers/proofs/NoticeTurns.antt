@@ -1,5 +1,5 @@
--- The turn of a node that reads a notice: no lock call counts its sender as granted behind it, nobody dies by it, and who is
--- answered `true` asked somebody who isn't told of as departed.
+-- The turn of a node that reads a notice: no lock call counts its sender as granted behind it, nobody dies by it, and
+-- who is answered `true` asked somebody who isn't told of as departed.
 use mathlib.Core.Logic.{◌⊎◌}
 use Rattle.std.proofs.Common.{ℕ, true, false, ◌==◌, ◌≡◌, Some, List, [], ◌∷◌, refl, sym, ap, ◌∙◌, subst, inl, inr}
 use Rattle.std.specs.Prelude.{◌&&◌, Contains, if◌then◌else◌}
