@@ -40,7 +40,7 @@ use Rattle.headline.proofs.Fields.{past_now}
 use Rattle.headline.proofs.Theorem.{whole, told, history_grows, history_is_legal, history_fits, answers_come_in_time, yes_is_written}
 
 -- what passes is among those that pass
-kept_in : {A : Type 0} (test : A → Bool) (xs : List A) (x : A) → Contains xs x → test x ≡ true
+pub kept_in : {A : Type 0} (test : A → Bool) (xs : List A) (x : A) → Contains xs x → test x ≡ true
     → Contains (filter test xs) x
 kept_in {A} test [] x c t = absurd (Contains-nil x c)
 kept_in {A} test (y ∷ ys) x c t = go (test y) refl (λ d. kept_in test ys x d t)
@@ -263,7 +263,7 @@ one_call k (d ∷ cs) i c e hc he = go d (one_call (k + 1) cs i c e) (split c hc
     go _ more (inr x) (inl y) = absurd (Contains-nil (NameAs i e) y)
 
 -- an item of a list of lists
-in_flat : {A B : Type 0} (f : A → List B) (front rest : List A) (x : A) (y : B) → Contains (f x) y
+pub in_flat : {A B : Type 0} (f : A → List B) (front rest : List A) (x : A) (y : B) → Contains (f x) y
     → Contains (flat_map f (front ++ x ∷ rest)) y
 in_flat {A} {B} f front rest x y c = subst (λ (l : List B). Contains l y) (sym (flat_map-append f front (x ∷ rest)))
     (Contains-append_right (flat_map f front) (f x ++ flat_map f rest) y

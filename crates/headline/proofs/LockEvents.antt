@@ -299,7 +299,7 @@ module _ (o : Opening) (w : World) (ps : List Played) (W : Whole o w) where
       (answers_of ps) L)))
 
   -- a `Down` is read first
-  letter_hears : (f t : ℕ) (ls : List Letter) (rest : List Rule) → list_all (suits Hearing) rest ≡ true
+  pub letter_hears : (f t : ℕ) (ls : List Letter) (rest : List Rule) → list_all (suits Hearing) rest ≡ true
       → list_all (suits Hearing) (Rules.first_by_letter o t f ls ++ rest) ≡ true
   letter_hears f t [] rest h = h
   letter_hears f t (Letter.Down ∷ ls) rest h = h

@@ -26,3 +26,16 @@ pub mod LastDeletions
 pub mod DeletionAnswers
 pub mod DeletionNumbers
 pub mod GivenBack
+pub mod LastTry
+pub mod Clear
+pub mod Winning
+pub mod Besides
+pub mod Notices
+pub mod NoticeTurns
+pub mod GrantEvents
+pub mod Pushed
+pub mod Held
+pub mod Watches
+pub mod Sources
+pub mod Owned
+pub mod Living
