@@ -16,7 +16,6 @@ pub use Rattle.leftovers.proofs.TriedEvents
 pub use Rattle.leftovers.proofs.Tries
 pub use Rattle.leftovers.proofs.Walk
 pub use Rattle.leftovers.proofs.Walking
-pub mod ClientLocks
 pub mod Spared
 pub mod Settled
 pub mod OpenDeletions
@@ -39,3 +38,4 @@ pub mod Watches
 pub mod Sources
 pub mod Owned
 pub mod Living
+pub mod ClientLocks
