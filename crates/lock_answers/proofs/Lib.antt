@@ -1,0 +1,10 @@
+pub mod LastTry
+pub mod CallSteps
+pub mod Verdicts
+pub mod Spending
+pub mod CallTurns
+pub mod EventTurns
+pub mod Behind
+pub mod SpendEvents
+pub mod Nobody
+pub mod RetriesUsed
