@@ -55,6 +55,7 @@ module _ (o : Opening) (w : World) (sorted : Ordered w) (a : ℕ) (q : Process) 
     new_try = new_call o.bound a ((w.node a).last_call + 1) q r z target retries
 
     pub record SetTurn : Type 0 where
+      pub live : is_live a (w.node a).watch q ≡ true
       pub home : q.node ≡ a
       pub none : call_of q (w.node a).calls ≡ None
       pub calls : (p : Process) → call_at (accepted o w attempt) p
@@ -65,6 +66,7 @@ module _ (o : Opening) (w : World) (sorted : Ordered w) (a : ℕ) (q : Process) 
 
     pub set_turn : refusal o w attempt ≡ None → SetTurn
     set_turn h = record {
+      live = tested.0;
       home = eqb-true q.node a own.0;
       none = no_call (call_of q (w.node a).calls) tested.1;
       calls = call_after a None (turn_of o w attempt) w q (begun_over o.bound a members new_try)

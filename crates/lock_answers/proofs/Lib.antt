@@ -8,3 +8,10 @@ pub mod Behind
 pub mod SpendEvents
 pub mod Nobody
 pub mod RetriesUsed
+pub mod Denials
+pub mod BadMarks
+pub mod Reasons
+pub mod Meeting
+pub mod ReasonSteps
+pub mod ReasonEvents
+pub mod FailsReasoned

@@ -104,7 +104,7 @@ module _ (o : Opening) (a : ℕ) (w : World) (s : Answer) where
       is_false False = true
       is_false _ = false
 
-  said_by : (r : Rule) → suits Hearing r ≡ true → Base o w → May o a w r → Contains (answered a r (w.node a)) s
+  pub said_by : (r : Rule) → suits Hearing r ≡ true → Base o w → May o a w r → Contains (answered a r (w.node a)) s
       → Said o a w s
   said_by Rules.Spawns h B m c = no_verdict _ refl c
   said_by (Rules.LooksUp look) h B m c = no_verdict _ (look_no_verdict (w.node a).replica.table look) c
