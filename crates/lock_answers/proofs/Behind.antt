@@ -1,5 +1,5 @@
--- What each accepted event keeps of the tries of a process holds behind every list of events; and which events are chains
--- of rules that begin no lock call.
+-- What each accepted event keeps of the tries of a process holds behind every list of events; and which events are
+-- chains of rules that begin no lock call.
 use Rattle.std.proofs.Common.{Bool, true, false, ◌≡◌, Option, Some, None, List, [], ◌∷◌, refl, sym, subst}
 use Rattle.std.specs.Prelude.{is_none, if◌then◌else◌}
 use Rattle.std.specs.List.{list_all}

@@ -1,5 +1,5 @@
--- What a step makes of the lock calls of its node where one begins, or where refused ones are tried again: their phases,
--- what is answered, and that nobody is denied a lock by it.
+-- What a step makes of the lock calls of its node where one begins, or where refused ones are tried again: their
+-- phases, what is answered, and that nobody is denied a lock by it.
 use mathlib.Core.Logic.{◌⊎◌}
 use Rattle.std.proofs.Common.{ℕ, Bool, true, false, ◌==◌, ◌≡◌, Option, Some, None, List, [], ◌∷◌, ◌++◌, refl, sym, ap, ◌∙◌, subst, inl, inr, arith}
 use Rattle.std.specs.Prelude.{◌&&◌, not, nat_lt, Contains, if◌then◌else◌, fold}

@@ -109,8 +109,8 @@ module _ (o : Opening) (a : ℕ) (w : World) where
   calm_rule (Rules.HearsAnswer f id granted op r) h = go (opens f granted r)
     where
       go : (t : Bool) → deny_none (at_work (Current.Asking op (answer f granted r))
-          (if t then send_all o.bound (λ y. rest r y && not (v.replica.told y)) (Letter.SetLock (Global a) (registrar a))
-          (begun v) else begun v)).sends ≡ true
+          (if t then send_all o.bound (λ y. rest r y && not (v.replica.told y))
+          (Letter.SetLock (Global a) (registrar a)) (begun v) else begun v)).sends ≡ true
       go true = all_calm (λ y. rest r y && not (v.replica.told y)) (Letter.SetLock (Global a) (registrar a)) refl
       go false = refl
   calm_rule (Rules.HearsLock f id granted c r) h = go (opens f granted r)

@@ -1,4 +1,5 @@
--- A try is answered `false` for a reason: a node that it had to ask had left, or couldn't grant the lock, or it had nobody to ask.
+-- A try is answered `false` for a reason: a node that it had to ask had left, or couldn't grant the lock, or it had
+-- nobody to ask.
 use mathlib.Core.Logic.{◌⊎◌}
 use Rattle.std.proofs.Common.{ℕ, Bool, true, false, ◌≡◌, ◌<◌, Option, Some, None, List, refl, sym, ap, ◌∙◌, subst, arith, inl, inr}
 use Rattle.std.specs.Prelude.{◌||◌, nat_lt, Contains}
@@ -36,8 +37,8 @@ module _ (o : Opening) (w : World) (num : Numbers) (p : Process) (S : Known o w 
   here : Before o (place e) (is_inner o p y.last (so o p w num S y fit R e) w (gone_so o p w num S y fit R e))
       (inner_hears o p y.last (so o p w num S y fit R e) w (gone_so o p w num S y fit R e))
       (Reasoned o p y.last (so o p w num S y fit R e) w (gone_so o p w num S y fit R e))
-      (λ v r i m B k. inner_keeps o p y.last (so o p w num S y fit R e) w (gone_so o p w num S y fit R e) (place e) v r i m
-      B k) s
+      (λ v r i m B k. inner_keeps o p y.last (so o p w num S y fit R e) w (gone_so o p w num S y fit R e) (place e) v r
+      i m B k) s
   here = (plain_outcome o p w num S y fit R e plain stays W).said s
       (subst (λ (ss : List Answer). Contains ss s) (sym W.walk.answers) (given_in_turn o w e s h A.given))
 
@@ -45,15 +46,19 @@ module _ (o : Opening) (w : World) (num : Numbers) (p : Process) (S : Known o w 
   G = here.said.failed failed
 
   I : IsOwn here.world p G.call
-  I = own_call here.world (place e) p y.last here.base.ordered here.here.fits G.call (LockPhase.Asking G.round) G.open_call
-      (sym A.node ∙ G.node) (sym G.number ∙ A.number)
+  I = own_call here.world (place e) p y.last here.base.ordered here.here.fits G.call (LockPhase.Asking G.round)
+      G.open_call (sym A.node ∙ G.node) (sym G.number ∙ A.number)
 
   -- the boss of the round is below all nodes of the world
   boss_below : asked G.round G.round.boss ≡ true → G.round.boss < o.bound
   boss_below k =
       let mine : y.last.asks G.round.boss ≡ true = sym ((asked_same here.world p y.last here.here.fits G.call I.found
       G.round G.open_call.phase).1 G.round.boss) ∙ k in
-      grind (arith, nat_tests, (both (nat_lt G.round.boss o.bound) (o.nodes G.round.boss) (R.nodes G.round.boss mine)).0)
+      grind (
+        arith,
+        nat_tests,
+        (both (nat_lt G.round.boss o.bound) (o.nodes G.round.boss) (R.nodes G.round.boss mine)).0,
+      )
 
   plain_fails : (y.met || meets o w e p y.last) ≡ true
   plain_fails =
@@ -72,8 +77,8 @@ fails_for_a_reason o es e h p x s is A f = go (is_plain e) (is_last e) refl refl
     t : Option Tries
     t = tries_of o es p
 
-    K : Stands o p (λ w t. ReasonsAt o p w t) (λ w num e t S F k h. reasons_next o p w num e t S F k h) w t
-    K = stands o p (λ w t. ReasonsAt o p w t) (λ w num e t S F k h. reasons_next o p w num e t S F k h) (λ y i. cc) es
+    K : Stands o p (λ v g. ReasonsAt o p v g) (λ v num d g S F k i. reasons_next o p v num d g S F k i) w t
+    K = stands o p (λ v g. ReasonsAt o p v g) (λ v num d g S F k i. reasons_next o p v num d g S F k i) (λ y i. cc) es
 
     by : tries_by o w e p t ≡ Some x
     by = sym (tries_behind o p es e h) ∙ is

@@ -69,6 +69,10 @@ takes_owed (Owed j) id ups (x ∷ xs) h = cc
 takes_owed Due id ups (x ∷ xs) h = cc
 takes_owed Down id ups (x ∷ xs) h = cc
 
+is_owed : View → Bool
+is_owed (Owed i) = true
+is_owed _ = false
+
 -- an answer is owed to a call that asks
 pub record IsOwed (k : Option LockCall) (j : Id) : Type 0 where
   pub call : LockCall
@@ -79,16 +83,8 @@ pub record IsOwed (k : Option LockCall) (j : Id) : Type 0 where
 
 owed_call : (k : Option LockCall) (x : ℕ) (j : Id) → view k x ≡ Owed j → IsOwed k j
 owed_call None x j h = cc (ap is_owed h)
-  where
-    is_owed : View → Bool
-    is_owed (Owed i) = true
-    is_owed _ = false
 owed_call (Some c) x j h = go c.phase refl h
   where
-    is_owed : View → Bool
-    is_owed (Owed i) = true
-    is_owed _ = false
-
     id_of : View → Id
     id_of (Owed i) = i
     id_of _ = j
@@ -127,8 +123,8 @@ lives_yet o w p inside client up =
     lives_by o w p (record { inside = inside; up = parts.0; client = client; alive = parts.1 })
 
 -- where the rule of a delivery denies p the lock, the event brings that
-pub denied_so : (o : Opening) (w : World) (num : Numbers) → Known o w num → (f t : ℕ) (p : Process) (l : Try) (so : Bool)
-    → (gone : (c : ℕ) → l.asks c ≡ true → left w c ≡ true → so ≡ true)
+pub denied_so : (o : Opening) (w : World) (num : Numbers) → Known o w num → (f t : ℕ) (p : Process) (l : Try)
+    → (so : Bool) → (gone : (c : ℕ) → l.asks c ≡ true → left w c ≡ true → so ≡ true)
     → Fits w p (Some l) → in_world o p.node ≡ true → (p.serial == 0) ≡ false
     → (meets o w (Deliver f t) p l ≡ true → so ≡ true) → (r : Rule) → May o t w r
     → is_gone_by w (opened (Deliver f t) w) t (Rules.takes o t r) ≡ true → JudgedSo o p l so w gone t w r

@@ -60,8 +60,8 @@ watched_from o w e p (Some y) x h =
 module _ (o : Opening) (w : World) (num : Numbers) (p : Process) (t : Option Tries) (S : Known o w num)
     (fit : Fits w p (last_of t)) (x : Tries) (s : Answer) where
   -- an answer under a new number isn't to an earlier try
-  earlier : (e : WorldEvent) (a : ℕ) → watched o w e p t ≡ Some x → p.node ≡ a → x.last.number ≡ (w.node a).last_call + 1
-      → ⊥
+  earlier : (e : WorldEvent) (a : ℕ) → watched o w e p t ≡ Some x → p.node ≡ a
+      → x.last.number ≡ (w.node a).last_call + 1 → ⊥
   earlier e a h home n =
       let was : (y : Tries) × (t ≡ Some y) × (x.last ≡ y.last) = watched_from o w e p t x h in
       let below : was.0.last.number ≤ (w.node p.node).last_call = fit.below was.0.last (ap last_of was.1) in

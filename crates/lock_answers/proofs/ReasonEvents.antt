@@ -154,7 +154,8 @@ module _ (o : Opening) (p : Process) (w : World) (num : Numbers) (S : Known o w 
   leave_reasons : (a : ℕ) → refusal o w (At a Event.Leave) ≡ None → (t : Option Tries) → ReasonsAt o p w t
       → ReasonsAt o p (accepted o w (At a Event.Leave)) (watched o w (At a Event.Leave) p t)
   leave_reasons a h t R = watched_reasons (At a Event.Leave) h t R
-      (λ y i K q c f s. old_marks (At a Event.Leave) h t R y K c (same q c f s)) (λ y i K was up c mine. letters y K was c mine)
+      (λ y i K q c f s. old_marks (At a Event.Leave) h t R y K c (same q c f s))
+      (λ y i K was up c mine. letters y K was c mine)
     where
       u : Turn
       u = turn_of o w (At a Event.Leave)
@@ -236,8 +237,8 @@ module _ (o : Opening) (p : Process) (w : World) (num : Numbers) (S : Known o w 
       new : LockCall
       new = new_try o w S.ordered a q r z target retries
 
-      calls : (b : Bool) → is_process q p ≡ b → (k : Process) (c : LockCall) → call_at (accepted o w e) k ≡ Some c → k ≡ p
-          → (if b then begun_over o.bound a members new else call_at w p) ≡ Some c
+      calls : (b : Bool) → is_process q p ≡ b → (k : Process) (c : LockCall) → call_at (accepted o w e) k ≡ Some c
+          → k ≡ p → (if b then begun_over o.bound a members new else call_at w p) ≡ Some c
       calls b i k c f s = sym (ap (λ (g : Bool). if g then begun_over o.bound a members new else call_at w p) i)
           ∙ sym (T.calls p) ∙ subst (λ (j : Process). call_at (accepted o w e) j ≡ Some c) s f
 
@@ -295,8 +296,8 @@ module _ (o : Opening) (p : Process) (w : World) (num : Numbers) (S : Known o w 
       A = accepted_of o w e h
 
       -- the call behind it: one that began anew, or the same
-      marks_in : (so : Bool) → ((d : LockCall) → call_at w p ≡ Some d → MarksIn so d.phase) → (k : Process) (c : LockCall)
-          → call_at (accepted o w e) k ≡ Some c → k ≡ p → MarksIn so c.phase
+      marks_in : (so : Bool) → ((d : LockCall) → call_at w p ≡ Some d → MarksIn so d.phase) → (k : Process)
+          → (c : LockCall) → call_at (accepted o w e) k ≡ Some c → k ≡ p → MarksIn so c.phase
       marks_in so old k c f s = elim (cases_eq p.node a) [
         | inl home ↦ here (call_at w p) refl (sym (T.calls p home) ∙ found)
         | inr ne ↦ old c (sym (T.away p ne) ∙ found)

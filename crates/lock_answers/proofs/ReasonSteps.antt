@@ -144,7 +144,8 @@ module _ (o : Opening) (p : Process) (w : World) (num : Numbers) (S : Known o w 
     heard (r ∷ rs) h k q g m =
         let quiet : (is_quiet r ≡ true) × (list_all is_quiet rs ≡ true) = both (is_quiet r) (list_all is_quiet rs) q in
         let taken : (is_gone_by w (opened (Deliver f t) w) t (Rules.takes o t r) ≡ true)
-        × TakeGone o t w (opened (Deliver f t) w) rs = both (is_gone_by w (opened (Deliver f t) w) t (Rules.takes o t r))
+        × TakeGone o t w (opened (Deliver f t) w) rs =
+        both (is_gone_by w (opened (Deliver f t) w) t (Rules.takes o t r))
         (list_all (λ s. is_gone_by w (opened (Deliver f t) w) t (Rules.takes o t s)) rs) g in
         some t r rs (stays r quiet.0)
         (denied_so o w num S f t p x.last so gone_so fit R.inside R.client met_so r m.0 taken.0) h k quiet.1 m
@@ -213,5 +214,6 @@ module _ (o : Opening) (p : Process) (w : World) (num : Numbers) (S : Known o w 
       go (Own y is stay calm) = own_first e k W y is stay
           (judged_calm o p x.last (so o p w num S x fit R e) w (gone_so o p w num S x fit R e) (place e) w y calm)
       go (Reads f t same) = subst
-          (λ (d : WorldEvent). (V : OrderedWalk o w d) → Outcome o p w num S x fit R d (place d) (chain_of o w d V.walk.rest))
+          (λ (d : WorldEvent). (V : OrderedWalk o w d)
+          → Outcome o p w num S x fit R d (place d) (chain_of o w d V.walk.rest))
           (sym same) (letter_first f t) W

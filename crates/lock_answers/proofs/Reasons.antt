@@ -1,5 +1,5 @@
--- Along the rules of a step a bad mark in p's round, or a denial on its way to p, means that something happened for which p's
--- try may fail.
+-- Along the rules of a step a bad mark in p's round, or a denial on its way to p, means that something happened for
+-- which p's try may fail.
 use mathlib.Core.Logic.{◌⊎◌}
 use Rattle.std.proofs.Common.{ℕ, Bool, true, false, ◌≡◌, Some, [], ◌∷◌, refl, sym, ap, ◌∙◌, subst, inl, inr}
 use Rattle.std.specs.Prelude.{not, ◌&&◌, ◌||◌, if◌then◌else◌}

@@ -86,51 +86,55 @@ module _ (o : Opening) (w : World) (num : Numbers) (p : Process) (t : Option Tri
       subst (λ (y : Tries). y.tried ≤ given + 1) (sym same)
       (no_more mine.0 E.call given (sym (ap (λ (y : Tries). y.retries) same) ∙ r) mine.2.left)
 
-module _ (o : Opening) (es : List WorldEvent) (p : Process) where
-  -- behind these events
-  abbrev now : World
-  now = run o (opening_world o) es
+-- all this holds behind every list of events
+abbrev Spent : Opening → Process → World → Option Tries → Type 0
+Spent o p w t = Stands o p (λ v y. SpendsAt v p y) (λ v num e y S F k h. spends_next o p v num e y S F k h) w t
 
-  spending : Stands o p (λ w t. SpendsAt w p t) (λ w num e t S F k h. spends_next o p w num e t S F k h) now
-      (tries_of o es p)
-  spending = stands o p (λ w t. SpendsAt w p t) (λ w num e t S F k h. spends_next o p w num e t S F k h)
-      (λ q c f. cc) es
+spent : (o : Opening) (es : List WorldEvent) (p : Process) → Spent o p (run o (opening_world o) es) (tries_of o es p)
+spent o es p = stands o p (λ v y. SpendsAt v p y) (λ v num e y S F k h. spends_next o p v num e y S F k h) (λ q c f. cc)
+    es
 
 pub uses_all_retries : AtEachStep UsesAllRetries
 uses_all_retries o es e h p x s is A f = go (is_plain e) refl
   where
-    K : Stands o p (λ w t. SpendsAt w p t) (λ w num e t S F k h. spends_next o p w num e t S F k h)
-        (run o (opening_world o) es) (tries_of o es p)
-    K = spending o es p
+    w : World
+    w = run o (opening_world o) es
 
-    by : tries_by o (run o (opening_world o) es) e p (tries_of o es p) ≡ Some x
+    t : Option Tries
+    t = tries_of o es p
+
+    K : Spent o p w t
+    K = spent o es p
+
+    by : tries_by o w e p t ≡ Some x
     by = sym (tries_behind o p es e h) ∙ is
 
     go : (b : Bool) → is_plain e ≡ b → AsksNobody o x.last ⊎ AreUsedUp x
-    go false i = inl (nobody_asked o (run o (opening_world o) es) K.num p (tries_of o es p) K.known K.fits x s e i h by A
-        (ap is_verdict f)).1
-    go true i = inr (plain_used o (run o (opening_world o) es) K.num p (tries_of o es p) K.known K.fits K.kept e i h x by
-        s A f)
+    go false i = inl (nobody_asked o w K.num p t K.known K.fits x s e i h by A (ap is_verdict f)).1
+    go true i = inr (plain_used o w K.num p t K.known K.fits K.kept e i h x by s A f)
 
 pub uses_no_more : AtEachStep UsesNoMore
 uses_no_more o es e h p x s given is A f r = go (is_plain e) refl
   where
-    K : Stands o p (λ w t. SpendsAt w p t) (λ w num e t S F k h. spends_next o p w num e t S F k h)
-        (run o (opening_world o) es) (tries_of o es p)
-    K = spending o es p
+    w : World
+    w = run o (opening_world o) es
 
-    by : tries_by o (run o (opening_world o) es) e p (tries_of o es p) ≡ Some x
+    t : Option Tries
+    t = tries_of o es p
+
+    K : Spent o p w t
+    K = spent o es p
+
+    by : tries_by o w e p t ≡ Some x
     by = sym (tries_behind o p es e h) ∙ is
 
-    go : (b : Bool) → is_plain e ≡ b → x.tried ≤ given + 1
-    go false i = wrong (nobody_asked o (run o (opening_world o) es) K.num p (tries_of o es p) K.known K.fits x s e i h by
-        A (ap is_verdict f)).0
-      where
-        is_true : Reply → Bool
-        is_true True = true
-        is_true _ = false
+    is_true : Reply → Bool
+    is_true True = true
+    is_true _ = false
 
-        wrong : s.reply ≡ False → x.tried ≤ given + 1
-        wrong g = cc (ap is_true f, ap is_true g)
-    go true i = plain_within o (run o (opening_world o) es) K.num p (tries_of o es p) K.known K.fits K.kept e i h x by s
-        A given f r
+    go : (b : Bool) → is_plain e ≡ b → x.tried ≤ given + 1
+    go false i = cc (
+      ap is_true f,
+      ap is_true (nobody_asked o w K.num p t K.known K.fits x s e i h by A (ap is_verdict f)).0,
+    )
+    go true i = plain_within o w K.num p t K.known K.fits K.kept e i h x by s A given f r

@@ -8,7 +8,7 @@ use Rattle.protocol_model.specs.Round.{begin, is_empty}
 use Rattle.protocol_model.specs.Node.{LockPhase, LockCall, Target, Retries, Times, Endless, targets}
 use Rattle.protocol_model.specs.Event.{Call, Event, is_waiting_call}
 use Rattle.protocol_model.specs.Client.{is_spent, one_less, in_phase}
-use Rattle.protocol_model.specs.ClientLocks.{try_of, is_refused}
+use Rattle.protocol_model.specs.ClientLocks.{Try, try_of, is_refused}
 use Rattle.protocol_model.specs.Letter.{Client}
 use Rattle.protocol_model.specs.LockAnswers.{Tries, watched, next_try, first_try, tries_by}
 use Rattle.protocol_model.specs.World.{Opening, World, WorldEvent, At, place, refusal, accepted}
@@ -93,18 +93,20 @@ module _ (o : Opening) (p : Process) where
         T : SetTurn o w S.ordered a q r z target retries
         T = set_turn o w S.ordered a q r z target retries h
 
+        last : Try
+        last = try_of members ((w.node a).last_call + 1) (Client r z) target
+
         first : (b : Bool) → (if b then None else Some (in_phase (LockPhase.Asking
             (begin o.bound (targets members target))) new)) ≡ Some c
-            → IsSpending (first_try o w event p (try_of members ((w.node a).last_call + 1) (Client r z) target) retries) c
+            → IsSpending (first_try o w event p last retries) c
         first true e = cc
         first false e =
             let same : in_phase (LockPhase.Asking (begin o.bound (targets members target))) new ≡ c = cc e in
-            subst (IsSpending (first_try o w event p (try_of members ((w.node a).last_call + 1) (Client r z) target)
-            retries)) same (_, refl, record { left = fresh_left retries; more = λ y. cc })
+            subst (IsSpending (first_try o w event p last retries)) same
+            (_, refl, record { left = fresh_left retries; more = λ y. cc })
 
         by : (b : Bool) → (if b then begun_over o.bound a members new else call_at w p) ≡ Some c
-            → IsSpending (if b then first_try o w event p (try_of members ((w.node a).last_call + 1) (Client r z) target)
-            retries else watched o w event p t) c
+            → IsSpending (if b then first_try o w event p last retries else watched o w event p t) c
         by true e = first (is_empty o.bound (targets members target)) e
         by false e = spends_watched w event t c (k p c e refl d)
 
@@ -178,7 +180,8 @@ module _ (o : Opening) (p : Process) where
         next home y j waits less busy =
             let was : IsSpending t y = k p y j refl (ap is_deleting waits) in
             let yes : ((a == p.node) && is_refused w p) ≡ true =
-            ap (λ (b : Bool). b && is_refused w p) (eq-eqb a p.node (sym home)) ∙ refused y j ∙ ap is_waiting_call waits in
+            ap (λ (b : Bool). b && is_refused w p) (eq-eqb a p.node (sym home)) ∙ refused y j
+            ∙ ap is_waiting_call waits in
             subst (λ (b : Bool). IsSpending (if b then next_try o w event p members t else watched o w event p t) c)
             (sym yes) (
               _,
@@ -202,7 +205,8 @@ module _ (o : Opening) (p : Process) where
 
         by_phase : p.node ≡ a → (y : LockCall) → call_at w p ≡ Some y → (g : LockPhase) → y.phase ≡ g
             → anew_in o.bound a members g y ≡ Some c → IsSpending (tries_by o w event p t) c
-        by_phase home y j LockPhase.Waiting waits e = tried home y j waits (is_empty o.bound (targets members y.target)) e
+        by_phase home y j LockPhase.Waiting waits e =
+            tried home y j waits (is_empty o.bound (targets members y.target)) e
         by_phase home y j (LockPhase.Asking r) g e = same (ap (λ (b : Bool). (a == p.node) && b)
             (refused y j ∙ ap is_waiting_call g) ∙ and-false (a == p.node)) (j ∙ e)
         by_phase home y j (LockPhase.Deleting owing) g e = same (ap (λ (b : Bool). (a == p.node) && b)

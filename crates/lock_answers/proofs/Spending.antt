@@ -1,5 +1,5 @@
--- The retries that an open call has left are those that it was given, less the tries after its first, and a call that waits
--- has some.
+-- The retries that an open call has left are those that it was given, less the tries after its first, and a call that
+-- waits has some.
 use Rattle.std.proofs.Common.{ℕ, Bool, true, false, ◌≡◌, ◌+◌, Option, Some, [], ◌∷◌, refl, ap, ◌∙◌}
 use Rattle.std.specs.Prelude.{if◌then◌else◌}
 use Rattle.std.proofs.Math.Bool.{and-true}

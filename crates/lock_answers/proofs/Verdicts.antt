@@ -182,7 +182,8 @@ module _ (o : Opening) (a : ℕ) (test : Rule → Bool) (heard : (r : Rule) → 
           said = said_by o a w s r (heard r parts.0) B m.0
               (subst (λ (xs : List Answer). Contains xs s) (answers_made o a (join_number w) r (w.node a)) now);
         }
-        | inr later ↦ said_in rs (effect o a r w) parts.1 m.1 (base_keeps o a w r B m.0) (keeps w r parts.0 m.0 B k) s later
+        | inr later ↦ said_in rs (effect o a r w) parts.1 m.1 (base_keeps o a w r B m.0) (keeps w r parts.0 m.0 B k) s
+            later
       ]
     where
       parts : (test r ≡ true) × (list_all test rs ≡ true)

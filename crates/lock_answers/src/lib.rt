@@ -14,7 +14,8 @@ pub fn uses_no_more()
     ensures { AtEachStep UsesNoMore }
 {}
 
-/// It is answered `false` where a node that its last try had to ask has left or couldn't grant the lock, or nobody was asked.
+/// It is answered `false` where a node that its last try had to ask has left, or couldn't grant the lock when it was
+/// asked; or where there is nobody to ask.
 pub fn fails_for_a_reason()
     ensures { AtEachStep FailsForAReason }
 {}

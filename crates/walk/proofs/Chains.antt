@@ -261,7 +261,8 @@ module _ (o : Opening) (a : ℕ) (K : Kind) where
     chain_more w first b u r running h q none tested =
         subst (Chain w first b) (sym (extended o a (join_number (apply a u b)) r u))
         (chain_on w first b b u (Rules.made o a (join_number (apply a u b)) r (begun u.node)) r h
-        (λ t k. k) (ap (is_gone_by w b a) none) q (may_more b u r running none tested) (turn_behind b u r) (effect_more b u r (fit_quiet K r q) none))
+        (λ t k. k) (ap (is_gone_by w b a) none) q (may_more b u r running none tested) (turn_behind b u r)
+        (effect_more b u r (fit_quiet K r q) none))
 
     -- two first rules, of which the second takes no letter
     pub chain_two : (w : World) (r s : Rule) → left w a ≡ false → Rules.May o a w r → Rules.takes o a r ≡ None

@@ -146,7 +146,8 @@ module _ (o : Opening) (a : ℕ) (inside : in_world o a ≡ true) (w : World) (r
       (start o.bound a (Rules.made o a (join_number (apply a (counted (begun (w.node a))) w)) s
       (counted (begun (w.node a)))))
   two s q none tested = start-chain o a Aside inside w (Rules.CallsLock ∷ s ∷ []) w running _
-      (chain_two o a Aside inside w Rules.CallsLock s running (own_rule Rules.CallsLock refl tt) refl refl q none tested)
+      (chain_two o a Aside inside w Rules.CallsLock s running (own_rule Rules.CallsLock refl tt) refl refl q none
+      tested)
 
   -- a call
   pub call-chain : (c : Call) → first_cause (call_causes a (w.node a) c) ≡ None

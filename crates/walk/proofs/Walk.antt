@@ -32,8 +32,8 @@ InOrder o w (At a Event.Retry) rs = list_all (suits (Again (w.node a))) rs ≡ t
 InOrder o w (At a e) rs = list_all (suits Aside) rs ≡ true
 InOrder o w (Deliver f t) rs = list_all (suits Hearing) rs ≡ true
 
--- A walk in order: the lock table is changed by its first rule or not at all, nothing is settled without a letter, and no
--- letter is taken but the one that is delivered
+-- A walk in order: the lock table is changed by its first rule or not at all, nothing is settled without a letter, and
+-- no letter is taken but the one that is delivered
 pub record OrderedWalk (o : Opening) (w : World) (e : WorldEvent) : Type 0 where
   pub walk : Walked o w e
   pub in_order : InOrder o w e walk.rest
