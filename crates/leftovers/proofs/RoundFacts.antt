@@ -41,7 +41,7 @@ answered f g r owe x = go (opens f g r) refl
     go true e = subst (Answered f x (r.mark x)) (sym (answer_opens f g r e x)) opening
     go false e = subst (Answered f x (r.mark x)) (sym (answer_owed f g r e owe x)) owing
 
-asked_of_owes : (r : Round) (f : ℕ) → owes r f ≡ true → asked r f ≡ true
+pub asked_of_owes : (r : Round) (f : ℕ) → owes r f ≡ true → asked r f ≡ true
 asked_of_owes r f h = go (r.mark f) h
   where
     go : (m : Mark) → is_owes m ≡ true → not (is_out m) ≡ true

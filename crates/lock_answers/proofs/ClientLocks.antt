@@ -3,6 +3,11 @@ use Rattle.std.proofs.Common.{List}
 use Rattle.protocol_model.specs.World.{Opening, WorldEvent, opening_world, run}
 use Rattle.protocol_model.specs.LockAnswers.{ClientLocks}
 use Rattle.leftovers.proofs.HeadlineClients.{exclusion}
+use Rattle.lock_answers.proofs.Living.{answers_the_living}
+use Rattle.lock_answers.proofs.RetriesUsed.{uses_all_retries, uses_no_more}
+use Rattle.lock_answers.proofs.FailsReasoned.{fails_for_a_reason}
+use Rattle.lock_answers.proofs.Held.{is_held_somewhere}
+use Rattle.lock_answers.proofs.GivenBack.{given_back}
 
 pub client_locks : (o : Opening) (es : List WorldEvent) → ClientLocks o es (run o (opening_world o) es)
 client_locks o es = record {
@@ -13,6 +18,6 @@ client_locks o es = record {
     within = uses_no_more o es e accepted;
     reason = fails_for_a_reason o es e accepted;
     held = is_held_somewhere o es e accepted;
-    deleted = deletions_are_done o es e accepted;
+    deleted = given_back o es e accepted;
   };
 }

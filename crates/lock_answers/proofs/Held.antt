@@ -40,7 +40,7 @@ use Rattle.leftovers.proofs.Grounds.{wide, lock_state}
 use Rattle.leftovers.proofs.Families.{whole}
 use Rattle.leftovers.proofs.Rest.{Rests}
 use Rattle.leftovers.proofs.RestEvents.{AllRest, all_rest_keeps, accepted-node}
-use Rattle.lock_answers.proofs.LastTry.{last_in, by-last, last_of_tries, tries_push}
+use Rattle.lock_answers.proofs.LastTry.{last_of, last_by, last_of_tries, tries_behind}
 use Rattle.lock_answers.proofs.Winning.{Ground, AsksMember, are_quiet, asks_by, own_call, chain_won}
 use Rattle.lock_answers.proofs.Besides.{found_any}
 use Rattle.lock_answers.proofs.Notices.{asks_in}
@@ -49,8 +49,8 @@ use Rattle.lock_answers.proofs.GrantEvents.{quiet_or_notice, notice_turn, ground
 use Rattle.lock_answers.proofs.Pushed.{answers_turn, happens_now, answer_place}
 
 -- the last try of a process fits its open call, after every list of events
-pub fits_run : (o : Opening) (es : List WorldEvent) (p : Process) → Fits (world o es) p (last_in (tries_of o es p))
-fits_run o es p = subst (Fits (world o es) p) (sym (last_of_tries o p (Global 0) 0 es))
+pub fits_run : (o : Opening) (es : List WorldEvent) (p : Process) → Fits (world o es) p (last_of (tries_of o es p))
+fits_run o es p = subst (Fits (world o es) p) (last_of_tries o p es (Global 0) 0)
     (fits_behind o (All o) (grounds o) es (opening_world o) no_numbers (opening_state o (All o) (grounds o))
     (record { number = 0; last = None }) p (Global 0) 0 (fits_opens o p))
 
@@ -238,14 +238,13 @@ pub is_held_somewhere : AtEachStep IsHeldSomewhere
 is_held_somewhere o es e is p t s told A reply =
     subst (λ (v : World). AsksSomebody v p t.last) (sym (happens_now o es e is))
     (asks_somebody o (world o es) (ground_run o es) (lock_state o es).numbered p t.last (whole o es).rest e is
-    (last_in (tries_of o es p)) (fits_run o es p) (sym A.node ∙ answer_place o es e is s A.given) last given)
+    (last_of (tries_of o es p)) (fits_run o es p) (sym A.node ∙ answer_place o es e is s A.given) last given)
   where
     now : tries_by o (world o es) e p (tries_of o es p) ≡ Some t
-    now = ap (λ (x : Option Refusal). if is_none x then tries_by o (world o es) e p (tries_of o es p)
-        else tries_of o es p) (sym is) ∙ sym (tries_push o p es (opening_world o) e None) ∙ told
+    now = sym (tries_behind o p es e is) ∙ told
 
-    last : last_try (world o es) e p (last_in (tries_of o es p)) ≡ Some t.last
-    last = sym (by-last o (world o es) p e (tries_of o es p)) ∙ ap last_in now
+    last : last_try (world o es) e p (last_of (tries_of o es p)) ≡ Some t.last
+    last = sym (last_by o p (world o es) e (tries_of o es p)) ∙ ap last_of now
 
     given : any_true p.node t.last.number (turn_of o (world o es) e).answers ≡ true
     given = ap (any_true p.node t.last.number) (sym (answers_turn o es e is))

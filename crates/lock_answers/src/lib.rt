@@ -2,11 +2,35 @@
 //! deletion leaves. Each law is the contract of a function with an empty body.
 #![tactic(auto)]
 
-ghost use Rattle.protocol_model.specs.LockAnswers.{AtEachStep, AnswersTheLiving, IsHeldSomewhere, IsGivenBack};
+ghost use Rattle.std.specs.Prelude.{List};
+ghost use Rattle.protocol_model.specs.World.{Opening, WorldEvent, opening_world, run};
+ghost use Rattle.protocol_model.specs.LockAnswers.{ClientLocks, AtEachStep, AnswersTheLiving, UsesAllRetries, UsesNoMore, FailsForAReason, IsHeldSomewhere, IsGivenBack};
+
+/// Clients' locks exclude each other behind every list of events, and whatever the world accepts next is answered as the laws below
+/// say.
+pub fn client_locks()
+    ensures { (o : Opening) (es : List WorldEvent) → ClientLocks o es (run o (opening_world o) es) }
+{}
 
 /// No lock call is answered of a process that is dead or whose node has left, before the step or behind it.
 pub fn answers_the_living()
     ensures { AtEachStep AnswersTheLiving }
+{}
+
+/// A `set_lock` is answered `false` once all its retries are used up, or where there is nobody to ask.
+pub fn uses_all_retries()
+    ensures { AtEachStep UsesAllRetries }
+{}
+
+/// And it is answered `true` within its retries.
+pub fn uses_no_more()
+    ensures { AtEachStep UsesNoMore }
+{}
+
+/// It is answered `false` where a node that its last try had to ask has left, or couldn't grant the lock when it was
+/// asked; or where there is nobody to ask.
+pub fn fails_for_a_reason()
+    ensures { AtEachStep FailsForAReason }
 {}
 
 /// Where `true` is answered to the last try of a process, some node that it had to ask isn't told of as departed.
@@ -14,7 +38,7 @@ pub fn is_held_somewhere()
     ensures { AtEachStep IsHeldSomewhere }
 {}
 
-/// Where a `del_lock` is answered, each running node that it went to has the lock as often as the process holds it there.
+/// Where a `del_lock` is answered, each running node it went to has the lock as often as the process holds it there.
 pub fn deletions_are_done()
     ensures { AtEachStep IsGivenBack }
 {}

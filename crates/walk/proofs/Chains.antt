@@ -1,9 +1,10 @@
 -- Chains of rules: one behind another, and one rule more.
-use Rattle.std.proofs.Common.{ℕ, Bool, true, false, ◌≡◌, Option, None, List, [], ◌∷◌, ◌++◌, drop, refl, sym, subst, ap, ◌∙◌}
-use Rattle.std.specs.Prelude.{◌&&◌}
+use Rattle.std.proofs.Common.{ℕ, suc, Bool, true, false, ◌≡◌, Option, Some, None, List, [], ◌∷◌, ◌++◌, drop, length, refl, sym, subst, ap, ◌∙◌, arith}
+use Rattle.std.specs.Prelude.{◌&&◌, nat_lt}
 use Rattle.std.specs.List.{list_all}
 use Rattle.std.proofs.lemmas.List.{append-nil, append_assoc}
 use Rattle.std.proofs.lemmas.List.Folds.{list_all-append}
+use Rattle.std.proofs.lemmas.Bool.{eq-eqb, lt-ltb, le-ltb}
 use Rattle.registry_model.specs.History.{Entry}
 use Rattle.protocol_model.specs.Letter.{Letter}
 use Rattle.protocol_model.specs.Event.{Answer}
@@ -11,6 +12,7 @@ use Rattle.protocol_model.specs.Node.{Node}
 use Rattle.protocol_model.specs.Turn.{Turn, begun}
 use Rattle.protocol_model.specs.World.{Opening, in_world, World, left, Deliver, join_number, apply, opened}
 use Rattle.registry_model.proofs.Updates.{at_same}
+use Rattle.moves.proofs.Indices.{both}
 use Rattle.moves.proofs.Rules
 use Rattle.moves.proofs.Rules.{Rule, Taken, taking, is_quiet}
 use Rattle.walk.proofs.Worlds.{onto, apply-onto, apply-begun, opened-apply, stays_front}
@@ -82,6 +84,27 @@ module _ (o : Opening) (a : ℕ) where
       may_all-parts rs ss (Rules.effect o a r w) m.1 in
       ((m.0, more.0), more.1)
 
+-- the letter was on a link to node a that is shorter in world b than in w: there is one at most
+abbrev pub is_gone_by : World → World → ℕ → Option Taken → Bool
+is_gone_by w b a None = true
+is_gone_by w b a (Some t) = nat_lt (length (b.links.queue t.sender a)) (length (w.links.queue t.sender a))
+
+-- none is gone from a world itself
+gone_by-itself : (w b : World) (a : ℕ) (t : Option Taken) → is_gone_by w w a t ≡ true → is_gone_by w b a t ≡ true
+gone_by-itself w b a None h = refl
+gone_by-itself w b a (Some t) h =
+    cc (le-ltb (length (w.links.queue t.sender a)) (length (w.links.queue t.sender a)) (omega arith), h)
+
+-- the one that is delivered is
+pub gone_by-delivery : (w : World) (f a : ℕ) (l : Letter) (rest : List Letter) → w.links.queue f a ≡ l ∷ rest
+    → is_gone_by w (opened (Deliver f a) w) a (taking f l) ≡ true
+gone_by-delivery w f a l rest front =
+    rw (eq-eqb f f refl, eq-eqb a a refl, front) (lt-ltb (length rest) (suc (length rest)) (omega arith))
+
+-- the letters that these rules take are gone
+abbrev pub TakeGone : Opening → ℕ → World → World → List Rule → Type 0
+TakeGone o a w b rs = list_all (λ r. is_gone_by w b a (Rules.takes o a r)) rs ≡ true
+
 module _ (o : Opening) (a : ℕ) (K : Kind) where
   -- From world w a chain that begins with these rules has come as far as turn u, which stands behind world b: w, or w
   -- without the letter that was taken
@@ -91,6 +114,7 @@ module _ (o : Opening) (a : ℕ) (K : Kind) where
     pub fit : list_all (suits K) rest ≡ true
     pub allowed : list_all (is_allowed (may_go_on K)) rest ≡ true
     pub locks : LeaveLocks (first ++ rest)
+    pub letters : TakeGone o a w b (first ++ rest)
     pub may : Rules.MayAll o a (first ++ rest) w
     pub world : Rules.effects o a (first ++ rest) w ≡ apply a u b
     pub entries : Rules.entries_by o a (first ++ rest) w ≡ u.entries
@@ -105,6 +129,7 @@ module _ (o : Opening) (a : ℕ) (K : Kind) where
         fit = refl;
         allowed = refl;
         locks = refl;
+        letters = refl;
         may = tt;
         world = sym
             (apply-begun a w);
@@ -113,15 +138,16 @@ module _ (o : Opening) (a : ℕ) (K : Kind) where
       }
 
   -- a first rule
-  pub chain_one : (w b : World) (r : Rule) → Rules.May o a w r
+  pub chain_one : (w b : World) (r : Rule) → Rules.May o a w r → is_gone_by w b a (Rules.takes o a r) ≡ true
       → Rules.effect o a r w ≡ apply a (Rules.turn_by o a w r) b
       → Chain w (r ∷ []) b (Rules.turn_by o a w r)
-  chain_one w b r m e = record {
+  chain_one w b r m gone e = record {
     rest = [];
     quiet = refl;
     fit = refl;
     allowed = refl;
     locks = refl;
+    letters = ap (λ (t : Bool). t && true) gone;
     may = (m, tt);
     world = e;
     entries = append-nil (Rules.turn_by o a w r).entries;
@@ -129,28 +155,39 @@ module _ (o : Opening) (a : ℕ) (K : Kind) where
   }
 
   -- a first rule that counts among the rest
-  pub chain_quiet : (w b : World) (r : Rule) → Rules.May o a w r → may_begin K r ≡ true
-      → Rules.effect o a r w ≡ apply a (Rules.turn_by o a w r) b
+  pub chain_quiet : (w b : World) (r : Rule) → Rules.May o a w r → is_gone_by w b a (Rules.takes o a r) ≡ true
+      → may_begin K r ≡ true → Rules.effect o a r w ≡ apply a (Rules.turn_by o a w r) b
       → Chain w [] b (Rules.turn_by o a w r)
-  chain_quiet w b r m q e = record {
+  chain_quiet w b r m gone q e = record {
     rest = r ∷ [];
     quiet = ap (λ (t : Bool). t && true) (begin_quiet K r q);
     fit = ap (λ (t : Bool). t && true) (begin_suits K r q);
     allowed = ap (λ (t : Bool). t && true) (begin_allowed K r q);
     locks = refl;
+    letters = ap (λ (t : Bool). t && true) gone;
     may = (m, tt);
     world = e;
     entries = append-nil (Rules.turn_by o a w r).entries;
     answers = append-nil (Rules.turn_by o a w r).answers;
   }
 
+  -- the letters of a chain stay gone
+  take_more : (w b c : World) → ((t : Option Taken) → is_gone_by w b a t ≡ true → is_gone_by w c a t ≡ true)
+      → (rs : List Rule) → TakeGone o a w b rs → TakeGone o a w c rs
+  take_more w b c on [] h = refl
+  take_more w b c on (r ∷ rs) h =
+      let parts : (is_gone_by w b a (Rules.takes o a r) ≡ true) × TakeGone o a w b rs =
+      both (is_gone_by w b a (Rules.takes o a r)) (list_all (λ s. is_gone_by w b a (Rules.takes o a s)) rs) h in
+      rw (on (Rules.takes o a r) parts.0, take_more w b c on rs parts.1) refl
+
   -- one rule more, by its effect on the world so far
   chain_on : (w : World) (first : List Rule) (b c : World) (u v : Turn) (r : Rule)
-      → Chain w first b u → is_fit K r ≡ true → Rules.May o a (apply a u b) r
+      → Chain w first b u → ((t : Option Taken) → is_gone_by w b a t ≡ true → is_gone_by w c a t ≡ true)
+      → is_gone_by w c a (Rules.takes o a r) ≡ true → is_fit K r ≡ true → Rules.May o a (apply a u b) r
       → Rules.turn_by o a (apply a u b) r ≡ v
       → Rules.effect o a r (apply a u b) ≡ apply a (onto u v) c
       → Chain w first c (onto u v)
-  chain_on w first b c u v r h q m same e = record {
+  chain_on w first b c u v r h on gone q m same e = record {
     rest = h.rest ++ r ∷ [];
     quiet = list_all-append is_quiet h.rest (r ∷ []) ∙ ap (λ (t : Bool). t && (is_quiet r && true)) h.quiet
         ∙ ap (λ (t : Bool). t && true) (fit_quiet K r q);
@@ -161,6 +198,11 @@ module _ (o : Opening) (a : ℕ) (K : Kind) where
         ∙ ap (λ (t : Bool). t && true) (begin_allowed K r (fit_begins K r q));
     locks = subst LeaveLocks (append_assoc first h.rest (r ∷ []))
         (leave_more (first ++ h.rest) r h.locks (fit_leaves K r q));
+    letters = subst (TakeGone o a w c) (append_assoc first h.rest (r ∷ []))
+        (list_all-append (λ s. is_gone_by w c a (Rules.takes o a s)) (first ++ h.rest) (r ∷ [])
+        ∙ ap (λ (t : Bool). t && (is_gone_by w c a (Rules.takes o a r) && true))
+        (take_more w b c on (first ++ h.rest) h.letters)
+        ∙ ap (λ (t : Bool). t && true) gone);
     may = subst (λ (rs : List Rule). Rules.MayAll o a rs w) (append_assoc first h.rest (r ∷ []))
         (may_all-append o a (first ++ h.rest) (r ∷ []) w h.may
         (subst (λ (x : World). Rules.MayAll o a (r ∷ []) x) (sym h.world) (m, tt)));
@@ -218,23 +260,25 @@ module _ (o : Opening) (a : ℕ) (K : Kind) where
         → Chain w first b (Rules.made o a (join_number (apply a u b)) r u)
     chain_more w first b u r running h q none tested =
         subst (Chain w first b) (sym (extended o a (join_number (apply a u b)) r u))
-        (chain_on w first b b u (Rules.made o a (join_number (apply a u b)) r (begun u.node)) r h q
-        (may_more b u r running none tested) (turn_behind b u r) (effect_more b u r (fit_quiet K r q) none))
+        (chain_on w first b b u (Rules.made o a (join_number (apply a u b)) r (begun u.node)) r h
+        (λ t k. k) (ap (is_gone_by w b a) none) q (may_more b u r running none tested) (turn_behind b u r)
+        (effect_more b u r (fit_quiet K r q) none))
 
     -- two first rules, of which the second takes no letter
-    pub chain_two : (w : World) (r s : Rule) → left w a ≡ false → Rules.May o a w r
+    pub chain_two : (w : World) (r s : Rule) → left w a ≡ false → Rules.May o a w r → Rules.takes o a r ≡ None
         → Rules.effect o a r w ≡ apply a (Rules.turn_by o a w r) w
         → is_quiet s ≡ true → Rules.takes o a s ≡ None
         → Rules.Tested o a (apply a (Rules.turn_by o a w r) w) (Rules.turn_by o a w r).node s
         → Chain w (r ∷ s ∷ []) w
         (Rules.made o a (join_number (apply a (Rules.turn_by o a w r) w)) s (Rules.turn_by o a w r))
-    chain_two w r s running m e q none tested =
+    chain_two w r s running m untaken e q none tested =
         subst (Chain w (r ∷ s ∷ []) w) (sym (extended o a (join_number (apply a u w)) s u)) (record {
           rest = [];
           quiet = refl;
           fit = refl;
           allowed = refl;
           locks = ap (λ (t : Bool). t && true) (untaken_leaves o a s none);
+          letters = rw (untaken, none) refl;
           may = (m, (subst (λ (x : World). Rules.May o a x s) (sym e) (may_more w u s running none tested), tt));
           world = ap (λ (x : World). Rules.effect o a s x) e ∙ effect_more w u s q none;
           entries = ap (λ (x : World). u.entries ++ ((Rules.turn_by o a x s).entries ++ [])) e
@@ -257,7 +301,10 @@ module _ (o : Opening) (a : ℕ) (K : Kind) where
     chain_letter w first u r f l rest running h q some known front tested =
         subst (Chain w first (opened (Deliver f a) w)) (sym (extended o a (join_number (apply a u w)) r u))
         (chain_on w first w (opened (Deliver f a) w) u
-        (Rules.made o a (join_number (apply a u w)) r (begun u.node)) r h q may (turn_behind w u r) effect)
+        (Rules.made o a (join_number (apply a u w)) r (begun u.node)) r h
+        (gone_by-itself w (opened (Deliver f a) w) a)
+        (ap (is_gone_by w (opened (Deliver f a) w) a) some ∙ gone_by-delivery w f a l rest front) q may
+        (turn_behind w u r) effect)
       where
         may : Rules.May o a (apply a u w) r
         may = record {

@@ -18,7 +18,7 @@ use Rattle.moves.proofs.Indices.{neither, not_false}
 use Rattle.moves.proofs.Rules
 use Rattle.moves.proofs.Rules.{Rule, IsNew, is_quiet, is_ordered}
 use Rattle.walk.proofs.ChainKinds.{Aside, Again}
-use Rattle.walk.proofs.Chains.{Chain, chain_none, chain_one, chain_two}
+use Rattle.walk.proofs.Chains.{Chain, is_gone_by, chain_none, chain_one, chain_two}
 use Rattle.walk.proofs.Starting.{start-chain, retry_global-chain, retry_global-calls}
 use Rattle.walk.proofs.LockRounds.{IsOwn, retry_locks-chain}
 
@@ -117,7 +117,7 @@ module _ (o : Opening) (a : ℕ) (inside : in_world o a ≡ true) (w : World) (r
   begins : (r : Rule) → Rules.takes o a r ≡ None → Rules.Tested o a w (w.node a) r
       → Rules.effect o a r w ≡ apply a (Rules.turn_by o a w r) w
       → Chain o a Aside w (r ∷ []) w (Rules.turn_by o a w r)
-  begins r none tested e = chain_one o a Aside w w r (own_rule r none tested) e
+  begins r none tested e = chain_one o a Aside w w r (own_rule r none tested) (ap (is_gone_by w w a) none) e
 
   -- a new lock call
   is_new : (p : Process) (r q : Text) (target : Target) (retries : Retries)
@@ -146,7 +146,8 @@ module _ (o : Opening) (a : ℕ) (inside : in_world o a ≡ true) (w : World) (r
       (start o.bound a (Rules.made o a (join_number (apply a (counted (begun (w.node a))) w)) s
       (counted (begun (w.node a)))))
   two s q none tested = start-chain o a Aside inside w (Rules.CallsLock ∷ s ∷ []) w running _
-      (chain_two o a Aside inside w Rules.CallsLock s running (own_rule Rules.CallsLock refl tt) refl q none tested)
+      (chain_two o a Aside inside w Rules.CallsLock s running (own_rule Rules.CallsLock refl tt) refl refl q none
+      tested)
 
   -- a call
   pub call-chain : (c : Call) → first_cause (call_causes a (w.node a) c) ≡ None

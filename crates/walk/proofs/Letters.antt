@@ -21,7 +21,7 @@ use Rattle.protocol_model.specs.World.{Opening, in_world, World, left, Deliver, 
 use Rattle.moves.proofs.Rules
 use Rattle.moves.proofs.Rules.{Rule, taking, is_ordered, awaits, is_heard, is_heard_in, is_owed_in, is_awaited, is_joining_by, some_call, Ordered}
 use Rattle.walk.proofs.ChainKinds.{Hearing, may_begin, begin_quiet}
-use Rattle.walk.proofs.Chains.{Chain, closed_by-quiet, chain_none, chain_quiet, chain_letter}
+use Rattle.walk.proofs.Chains.{Chain, closed_by-quiet, is_gone_by, gone_by-delivery, chain_none, chain_quiet, chain_letter}
 use Rattle.walk.proofs.Calls.{is_process-true, call_of-holder, ordered_found}
 use Rattle.walk.proofs.Rounds.{join_number-behind, awaited_less, end_round-chain}
 use Rattle.walk.proofs.LockRounds.{go_on_lock-chain}
@@ -45,7 +45,7 @@ module _ (o : Opening) (a : ℕ) (inside : in_world o a ≡ true) (w : World) (r
         front = subst (Rules.FrontTaken o a w) (sym some) (known, (rest, front));
         tested = tested;
       })
-      q
+      (ap (is_gone_by w (opened (Deliver f a) w) a) some ∙ gone_by-delivery w f a l rest front) q
       (closed_by-quiet o a r (apply a (Rules.turn_by o a w r) (Rules.without_letter o a (Rules.takes o a r) w))
       (begin_quiet Hearing r q)
       ∙ ap (λ (t : Option Rules.Taken). apply a (Rules.turn_by o a w r) (Rules.without_letter o a t w)) some)

@@ -16,7 +16,7 @@ use Rattle.registry_model.proofs.Updates.{at_same}
 use Rattle.moves.proofs.Rules
 use Rattle.moves.proofs.Rules.{Rule, is_ordered}
 use Rattle.walk.proofs.ChainKinds.{Hearing}
-use Rattle.walk.proofs.Chains.{Chain, chain_one}
+use Rattle.walk.proofs.Chains.{Chain, gone_by-delivery, chain_one}
 use Rattle.walk.proofs.Rounds.{Onward, onward_none, join_number-behind, lose_contact-chain, lose-chain}
 use Rattle.walk.proofs.LockRounds.{lose_node-chain}
 use Rattle.walk.proofs.Starting.{start-chain}
@@ -99,7 +99,8 @@ module _ (o : Opening) (a : ℕ) (inside : in_world o a ≡ true) (w : World) (r
           (lose_join o.bound a (join_number w) f told)
       left_contact = lose_contact-chain o a inside w (Rules.IsTold f ∷ []) (opened (Deliver f a) w) running f told
           (chain_one o a Hearing w (opened (Deliver f a) w) (Rules.IsTold f)
-          (record { inside = inside; running = running; front = (known, (rest, front)); tested = tt }) refl)
+          (record { inside = inside; running = running; front = (known, (rest, front)); tested = tt })
+          (gone_by-delivery w f a Letter.Down rest front) refl)
           (at_same (w.node a).replica.told f true)
 
       idle : (k m : ℕ) → (w.node a).current ≡ Current.Joining k m → (t : Bool)

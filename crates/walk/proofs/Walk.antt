@@ -11,7 +11,7 @@ use Rattle.protocol_model.specs.Fit.{is_delivery}
 use Rattle.moves.proofs.Rules
 use Rattle.moves.proofs.Rules.{Rule, Ordered, Walked, is_quiet}
 use Rattle.walk.proofs.ChainKinds.{Kind, Aside, Again, Hearing, suits, may_go_on, is_allowed}
-use Rattle.walk.proofs.Chains.{Chain, LeaveLocks}
+use Rattle.walk.proofs.Chains.{Chain, LeaveLocks, TakeGone}
 use Rattle.walk.proofs.Receiving.{WelcomeWidens, receive-chain}
 use Rattle.walk.proofs.Events.{no_cause, Accepted, accepted_of, IsSecond, CallWalk, call-chain, exit-chain, retry-chain}
 
@@ -32,11 +32,13 @@ InOrder o w (At a Event.Retry) rs = list_all (suits (Again (w.node a))) rs ≡ t
 InOrder o w (At a e) rs = list_all (suits Aside) rs ≡ true
 InOrder o w (Deliver f t) rs = list_all (suits Hearing) rs ≡ true
 
--- A walk in order: the lock table is changed by its first rule or not at all, and nothing is settled without a letter
+-- A walk in order: the lock table is changed by its first rule or not at all, nothing is settled without a letter, and
+-- no letter is taken but the one that is delivered
 pub record OrderedWalk (o : Opening) (w : World) (e : WorldEvent) : Type 0 where
   pub walk : Walked o w e
   pub in_order : InOrder o w e walk.rest
   pub locks : LeaveLocks (Rules.first_by o (place e) w e ++ walk.rest)
+  pub letters : TakeGone o (place e) w (opened e w) (Rules.first_by o (place e) w e ++ walk.rest)
   pub allowed : list_all (is_allowed (is_delivery e)) walk.rest ≡ true
 
 -- an event whose turn is reached by a chain is walked, unless it closes a node out
@@ -56,6 +58,7 @@ walked_by o w e k same h order by = record {
   };
   in_order = order h.fit;
   locks = h.locks;
+  letters = h.letters;
   allowed = subst (λ (t : Bool). list_all (is_allowed t) h.rest ≡ true) by h.allowed;
 }
 
@@ -73,6 +76,7 @@ walked_call o a inside w running (Call.SetLock p r q target retries) h = record 
   };
   in_order = (h.second, (h.chain.rest, (refl, h.is_second, h.chain.fit)));
   locks = h.chain.locks;
+  letters = h.chain.letters;
   allowed = ap (λ t. t && list_all (is_allowed false) h.chain.rest) (allowed_second h.is_second) ∙ h.chain.allowed;
 }
   where
@@ -92,6 +96,7 @@ walked_call o a inside w running (Call.DelLock p r q target) h = record {
   };
   in_order = (h.second, (h.chain.rest, (refl, h.is_second, h.chain.fit)));
   locks = h.chain.locks;
+  letters = h.chain.letters;
   allowed = ap (λ t. t && list_all (is_allowed false) h.chain.rest) (allowed_second h.is_second) ∙ h.chain.allowed;
 }
   where
@@ -130,6 +135,7 @@ walked_leave o a w h = record {
   };
   in_order = refl;
   locks = refl;
+  letters = refl;
   allowed = refl;
 }
 
