@@ -1,3 +1,7 @@
+pub use Rattle.fitting.proofs.Theorem as FittingTheorem
+pub use Rattle.fitting.proofs.Settling as FittingSettling
+pub use Rattle.fitting.proofs.Chains as FittingChains
+pub use Rattle.fitting.proofs.Accounts as FittingAccounts
 pub mod Together
 pub mod Same
 pub mod Told

@@ -5,7 +5,7 @@ use Rattle.registry_model.specs.Process.{Nodes}
 use Rattle.registry_model.proofs.Updates.{by_test}
 use Rattle.protocol_model.specs.Round.{Mark, Out, Later, Owes, Granted, Refused, Lost, Gone, Round, is_out, is_refused, is_gone, is_granted, has_granted, is_empty, greatest, begin, asked, owes, asked_too, opens, answer, mark_down, down, granted, is_over, is_held, asked_all, Ending, Held, GiveBack, ending}
 use Rattle.moves.proofs.Indices.{both, some_of, empty_at, is_empty_from}
-use Rattle.client_locks.proofs.Rounds.{mark_by, answer_opens, answer_owed}
+use Rattle.leftovers.proofs.Rounds.{mark_by, answer_opens, answer_owed}
 
 -- has refused, or has gone down
 abbrev pub is_bad : Mark → Bool

@@ -11,16 +11,16 @@ use Rattle.moves.proofs.Rules.{Rule}
 use Rattle.walk.proofs.ChainKinds.{Aside, Hearing, suits}
 use Rattle.walk.proofs.Walk.{InOrder, OrderedWalk, walked_in_order}
 use Rattle.walk.proofs.Orders.{ordered_keeps}
-use Rattle.client_locks.proofs.Clients.{Numbers}
-use Rattle.client_locks.proofs.Numbering.{aside_hears}
-use Rattle.client_locks.proofs.Opening.{no_numbers}
-use Rattle.client_locks.proofs.RoundNumbers.{number_after}
-use Rattle.client_locks.proofs.Tallies.{accepted_tried, fits_opens}
-use Rattle.client_locks.proofs.Told.{chain_of, all_of_all, first_heard}
-use Rattle.client_locks.proofs.Tries.{Fits}
-use Rattle.client_locks.proofs.Walking.{State, event_keeps, opening_state}
-use Rattle.headline.proofs.Clients.{grounds}
-use Rattle.headline.proofs.Together.{All}
+use Rattle.leftovers.proofs.Clients.{Numbers}
+use Rattle.leftovers.proofs.Numbering.{aside_hears}
+use Rattle.leftovers.proofs.Opening.{no_numbers}
+use Rattle.leftovers.proofs.RoundNumbers.{number_after}
+use Rattle.leftovers.proofs.Tallies.{accepted_tried, fits_opens}
+use Rattle.leftovers.proofs.Told.{chain_of, all_of_all, first_heard}
+use Rattle.leftovers.proofs.Tries.{Fits}
+use Rattle.leftovers.proofs.Walking.{State, event_keeps, opening_state}
+use Rattle.leftovers.proofs.HeadlineClients.{grounds}
+use Rattle.leftovers.proofs.Together.{All}
 use Rattle.leftovers.proofs.Grounds.{Base, wide}
 use Rattle.lock_answers.proofs.LastTry.{last_of, last_by}
 

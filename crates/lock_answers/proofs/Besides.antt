@@ -17,8 +17,8 @@ use Rattle.protocol_model.specs.Registrar.{registrar, answer_op, finish, done, w
 use Rattle.protocol_model.specs.Deciding.{admit, held, end_by, go_on, hear_answer, lose}
 use Rattle.protocol_model.specs.Answers.{answer_to}
 use Rattle.moves.proofs.Indices.{not_true}
-use Rattle.client_locks.proofs.Growing.{is_fine, is_fine_reply, not_true_reply, node_answer_op}
-use Rattle.headline.proofs.Turns.{push_none}
+use Rattle.leftovers.proofs.Growing.{is_fine, is_fine_reply, not_true_reply, node_answer_op}
+use Rattle.leftovers.proofs.Turns.{push_none}
 use Rattle.leftovers.proofs.RestWork.{ask_rest-node}
 
 -- some answer has such a reply

@@ -7,9 +7,9 @@ use Rattle.protocol_model.specs.World.{Opening, World}
 use Rattle.registry_model.proofs.Updates.{by_test}
 use Rattle.moves.proofs.Rules.{Rule, May, Ordered, IsOpen, effect, turn_by, is_ordered}
 use Rattle.walk.proofs.Orders.{effect-node}
-use Rattle.client_locks.proofs.Calls.{call_of-put, call_of-drop, holder_of_call, home_of_call}
-use Rattle.client_locks.proofs.Clients.{call_at}
-use Rattle.client_locks.proofs.Ids.{is_process_same}
+use Rattle.leftovers.proofs.Calls.{call_of-put, call_of-drop, holder_of_call, home_of_call}
+use Rattle.leftovers.proofs.Clients.{call_at}
+use Rattle.leftovers.proofs.Ids.{is_process_same}
 use Rattle.leftovers.proofs.Phases.{CallStep, Same, Puts, Drops, stepped, step_of, StepOk, calls_turn, put_home}
 
 -- so it is of each open call

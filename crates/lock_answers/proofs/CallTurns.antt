@@ -20,8 +20,8 @@ use Rattle.protocol_model.specs.Client.{in_phase, one_less, close_call, ask_lock
 use Rattle.moves.proofs.Rules.{is_ordered}
 use Rattle.moves.proofs.Sends.{to_each}
 use Rattle.walk.proofs.Calls.{AllAfter, AllOpen, Only, OrderedParts, all_open, all_after, all_open-only, ordered_parts, is_process-less, is_ordered-drop_call, is_ordered-put_call}
-use Rattle.client_locks.proofs.Calls.{call_of-put, call_of-drop}
-use Rattle.client_locks.proofs.Ids.{is_process_same, is_process_swap}
+use Rattle.leftovers.proofs.Calls.{call_of-put, call_of-drop}
+use Rattle.leftovers.proofs.Ids.{is_process_same, is_process_swap}
 use Rattle.lock_answers.proofs.Verdicts.{is_verdict}
 
 -- the letter denies a lock

@@ -21,13 +21,13 @@ use Rattle.moves.proofs.Indices.{both, empty_at}
 use Rattle.walk.proofs.ChainKinds.{Aside, Again, Hearing, suits}
 use Rattle.walk.proofs.Orders.{ordered_keeps}
 use Rattle.walk.proofs.Walk.{InOrder}
-use Rattle.client_locks.proofs.Clients.{Numbers, lives, IsLive, live_parts, lives_by, call_at, node_here}
-use Rattle.client_locks.proofs.Growing.{replying_keeps}
-use Rattle.client_locks.proofs.Answering.{any_true}
-use Rattle.client_locks.proofs.Chains.{is_calm, aside_calm, calm_answers}
-use Rattle.client_locks.proofs.HeardChains.{answered_none}
-use Rattle.client_locks.proofs.Numbering.{Numbered}
-use Rattle.client_locks.proofs.Told.{all_of_all, retry_calm, chain_of, first_heard}
+use Rattle.leftovers.proofs.Clients.{Numbers, lives, IsLive, live_parts, lives_by, call_at, node_here}
+use Rattle.leftovers.proofs.Growing.{replying_keeps}
+use Rattle.leftovers.proofs.Answering.{any_true}
+use Rattle.leftovers.proofs.Chains.{is_calm, aside_calm, calm_answers}
+use Rattle.leftovers.proofs.HeardChains.{answered_none}
+use Rattle.leftovers.proofs.Numbering.{Numbered}
+use Rattle.leftovers.proofs.Told.{all_of_all, retry_calm, chain_of, first_heard}
 use Rattle.lock_answers.proofs.Spared.{spares, spared, killing_answers}
 use Rattle.lock_answers.proofs.OpenDeletions.{Known}
 use Rattle.lock_answers.proofs.DeletionChains.{Deletes, IsDeleted, ends_chain}

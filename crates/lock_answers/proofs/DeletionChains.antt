@@ -14,15 +14,15 @@ use Rattle.moves.proofs.Rules.{Rule, IsOpen, May, MayAll, effect, effects, turn_
 use Rattle.moves.proofs.Invariants.{IsUp}
 use Rattle.moves.proofs.Indices.{both, empty_at}
 use Rattle.walk.proofs.ChainKinds.{Hearing, suits}
-use Rattle.client_locks.proofs.Ids.{is_process_self}
-use Rattle.client_locks.proofs.Sessions.{due_if, view}
-use Rattle.client_locks.proofs.Clients.{Numbers, lives, live_parts, call_at, caller_lives}
-use Rattle.client_locks.proofs.Calling.{below_bound}
-use Rattle.client_locks.proofs.Numbers.{num_by}
-use Rattle.client_locks.proofs.Answering.{is_true, any_true, not_true_answers}
-use Rattle.client_locks.proofs.Ongoing.{is_deleting}
-use Rattle.client_locks.proofs.Chains.{from_heard}
-use Rattle.client_locks.proofs.Numbering.{last_effect}
+use Rattle.leftovers.proofs.Ids.{is_process_self}
+use Rattle.leftovers.proofs.Sessions.{due_if, view}
+use Rattle.leftovers.proofs.Clients.{Numbers, lives, live_parts, call_at, caller_lives}
+use Rattle.leftovers.proofs.Calling.{below_bound}
+use Rattle.leftovers.proofs.Numbers.{num_by}
+use Rattle.leftovers.proofs.Answering.{is_true, any_true, not_true_answers}
+use Rattle.leftovers.proofs.Ongoing.{is_deleting}
+use Rattle.leftovers.proofs.Chains.{from_heard}
+use Rattle.leftovers.proofs.Numbering.{last_effect}
 use Rattle.lock_answers.proofs.Settled.{Stands, stands_keeps, ran, lived}
 use Rattle.lock_answers.proofs.OpenDeletions.{Known, known_keeps, Next, Stayed, Lessened, Ended, view_deleting, lives_stays, drop_after, open_home, open_found, nums_stay, follows}
 

@@ -17,15 +17,15 @@ use Rattle.moves.proofs.Invariants.{IsUp}
 use Rattle.moves.proofs.Indices.{both}
 use Rattle.walk.proofs.ChainKinds.{Aside, Again, Hearing, suits}
 use Rattle.walk.proofs.Orders.{ordered_keeps}
-use Rattle.client_locks.proofs.Ids.{is_process_same, is_process_self}
-use Rattle.client_locks.proofs.Calls.{call_of-drop}
-use Rattle.client_locks.proofs.Clients.{Numbers, lives, call_at, caller_lives, part_same, node_here}
-use Rattle.client_locks.proofs.Calling.{calls_put}
-use Rattle.client_locks.proofs.Numbers.{num_by, nums_by}
-use Rattle.client_locks.proofs.Steps.{call_after, calls_aside, nums_same}
-use Rattle.client_locks.proofs.Chains.{aside_counts_none}
-use Rattle.client_locks.proofs.Numbering.{aside_hears, Numbered, last_effect, last_chain, from_self, from_retry, beginner_home}
-use Rattle.client_locks.proofs.Told.{all_of_all}
+use Rattle.leftovers.proofs.Ids.{is_process_same, is_process_self}
+use Rattle.leftovers.proofs.Calls.{call_of-drop}
+use Rattle.leftovers.proofs.Clients.{Numbers, lives, call_at, caller_lives, part_same, node_here}
+use Rattle.leftovers.proofs.Calling.{calls_put}
+use Rattle.leftovers.proofs.Numbers.{num_by, nums_by}
+use Rattle.leftovers.proofs.Steps.{call_after, calls_aside, nums_same}
+use Rattle.leftovers.proofs.Chains.{aside_counts_none}
+use Rattle.leftovers.proofs.Numbering.{aside_hears, Numbered, last_effect, last_chain, from_self, from_retry, beginner_home}
+use Rattle.leftovers.proofs.Told.{all_of_all}
 use Rattle.lock_answers.proofs.Settled.{Stands, stands_keeps, ran, lived}
 use Rattle.lock_answers.proofs.OpenDeletions.{Known, known_keeps, view_deleting, lives_stays}
 use Rattle.lock_answers.proofs.DeletionChains.{Deletes, deletes_chain, lived_chain}

@@ -18,13 +18,13 @@ use Rattle.protocol_model.specs.Node.{targets}
 use Rattle.protocol_model.specs.World.{Opening, World, WorldEvent, At, Deliver, opening_world, refusal, happens, run}
 use Rattle.protocol_model.specs.Course.{Played, played, course, answers_of}
 use Rattle.walk.proofs.Events.{accepted_of, lock_tested, live_own}
-use Rattle.fitting.proofs.Theorem
-use Rattle.client_locks.proofs.Ids.{is_process_same}
-use Rattle.headline.proofs.LockAnswers.{slice_get-behind}
-use Rattle.headline.proofs.Passing.{slice_get-front}
-use Rattle.headline.proofs.Tied.{course-push}
-use Rattle.headline.proofs.Together.{Whole, whole_opens}
-use Rattle.headline.proofs.Story.{ground}
+use Rattle.leftovers.proofs.FittingTheorem as Theorem
+use Rattle.leftovers.proofs.Ids.{is_process_same}
+use Rattle.leftovers.proofs.LockAnswers.{slice_get-behind}
+use Rattle.leftovers.proofs.Passing.{slice_get-front}
+use Rattle.leftovers.proofs.Tied.{course-push}
+use Rattle.leftovers.proofs.Together.{Whole, whole_opens}
+use Rattle.leftovers.proofs.Story.{ground}
 
 -- behind one event more
 pub deletion-push : (o : Opening) (p : Process) (es : List WorldEvent) (w : World) (e : WorldEvent)

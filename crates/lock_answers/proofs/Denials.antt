@@ -14,8 +14,8 @@ use Rattle.moves.proofs.Sends.{to_each}
 use Rattle.moves.proofs.Rules
 use Rattle.moves.proofs.Rules.{Rule}
 use Rattle.moves.proofs.Invariants.{Each}
-use Rattle.client_locks.proofs.Mail.{echoes, echo_of}
-use Rattle.client_locks.proofs.Sessions.{Echo}
+use Rattle.leftovers.proofs.Mail.{echoes, echo_of}
+use Rattle.leftovers.proofs.Sessions.{Echo}
 use Rattle.lock_answers.proofs.CallTurns.{is_denial, deny_none, deny_each, deny_more}
 
 -- the letter denies p a lock

@@ -12,8 +12,8 @@ use Rattle.protocol_model.specs.Client.{new_call, try_lock, delete_lock}
 use Rattle.protocol_model.specs.World.{Opening, World, WorldEvent, At, refusal, turn_of, accepted}
 use Rattle.moves.proofs.Rules.{Ordered}
 use Rattle.walk.proofs.Events.{accepted_of, lock_tested, live_own}
-use Rattle.client_locks.proofs.Clients.{call_at, node_here, node_there}
-use Rattle.client_locks.proofs.Steps.{call_after}
+use Rattle.leftovers.proofs.Clients.{call_at, node_here, node_there}
+use Rattle.leftovers.proofs.Steps.{call_after}
 use Rattle.lock_answers.proofs.Verdicts.{is_verdict}
 use Rattle.lock_answers.proofs.CallTurns.{deny_none, Quietly, start_quiet, begun_over, AskedNobody, TryTurn, try_turn, deleted_over, DeletedNothing, DeleteTurn, delete_turn, anew, FailedAnew, Retried, retried}
 

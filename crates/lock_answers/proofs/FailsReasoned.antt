@@ -14,8 +14,8 @@ use Rattle.protocol_model.specs.LockAnswers.{Tries, meets, watched, tries_by, tr
 use Rattle.protocol_model.specs.World.{Opening, World, WorldEvent, At, place, opening_world, refusal, run, turn_of}
 use Rattle.moves.proofs.Indices.{both}
 use Rattle.walk.proofs.Walk.{OrderedWalk}
-use Rattle.client_locks.proofs.Clients.{Numbers}
-use Rattle.client_locks.proofs.Tries.{Fits}
+use Rattle.leftovers.proofs.Clients.{Numbers}
+use Rattle.leftovers.proofs.Tries.{Fits}
 use Rattle.lock_answers.proofs.LastTry.{last_of, tries_behind}
 use Rattle.lock_answers.proofs.BadMarks.{is_bad, failed_bad}
 use Rattle.lock_answers.proofs.Behind.{Known, walk_of, is_plain, plain_tries, Stands, stands}

@@ -21,18 +21,18 @@ use Rattle.moves.proofs.Rules.{effects}
 use Rattle.walk.proofs.Events.{accepted_of}
 use Rattle.walk.proofs.Runs.{happens-accepted}
 use Rattle.walk.proofs.Walk.{OrderedWalk, walked_in_order}
-use Rattle.client_locks.proofs.RoundNumbers
-use Rattle.client_locks.proofs.Sessions.{view}
-use Rattle.client_locks.proofs.Clients.{Numbers, lives, Clients}
-use Rattle.client_locks.proofs.Answering.{is_true, any_true}
-use Rattle.client_locks.proofs.Tallies.{numbers_agree}
-use Rattle.client_locks.proofs.Told.{chain_of}
-use Rattle.client_locks.proofs.Walking.{State}
-use Rattle.headline.proofs.Answered.{answered}
-use Rattle.headline.proofs.Clients.{grounds}
-use Rattle.headline.proofs.Steps.{fails}
-use Rattle.headline.proofs.Tied.{course-push, run-push}
-use Rattle.headline.proofs.Together.{All, widens}
+use Rattle.leftovers.proofs.RoundNumbers
+use Rattle.leftovers.proofs.Sessions.{view}
+use Rattle.leftovers.proofs.Clients.{Numbers, lives, Clients}
+use Rattle.leftovers.proofs.Answering.{is_true, any_true}
+use Rattle.leftovers.proofs.Tallies.{numbers_agree}
+use Rattle.leftovers.proofs.Told.{chain_of}
+use Rattle.leftovers.proofs.Walking.{State}
+use Rattle.leftovers.proofs.Answered.{answered}
+use Rattle.leftovers.proofs.HeadlineClients.{grounds}
+use Rattle.leftovers.proofs.HeadlineSteps.{fails}
+use Rattle.leftovers.proofs.Tied.{course-push, run-push}
+use Rattle.leftovers.proofs.Together.{All, widens}
 use Rattle.leftovers.proofs.Grounds.{lock_state}
 use Rattle.lock_answers.proofs.Settled.{stands_counts}
 use Rattle.lock_answers.proofs.OpenDeletions.{Known}

@@ -15,8 +15,8 @@ use Rattle.moves.proofs.Rules
 use Rattle.moves.proofs.Rules.{Rule, Walked, is_quiet}
 use Rattle.walk.proofs.Runs.{rules_of}
 use Rattle.walk.proofs.Walk.{walked}
-use Rattle.client_locks.proofs.Growing.{Replying, replying_keeps, replying_opens}
-use Rattle.client_locks.proofs.Told.{all_of_all}
+use Rattle.leftovers.proofs.Growing.{Replying, replying_keeps, replying_opens}
+use Rattle.leftovers.proofs.Told.{all_of_all}
 use Rattle.leftovers.proofs.Grounds.{Base, wide, between}
 use Rattle.leftovers.proofs.Near.{Near}
 use Rattle.leftovers.proofs.Families.{Families, families_keep, families_open, Whole, whole}

@@ -1,7 +1,7 @@
 -- Where `true` is answered to the last try of a process, somebody that it has to ask isn't told of as departed.
 use mathlib.Core.Logic.{◌⊎◌}
 use Rattle.std.proofs.Common.{ℕ, Bool, true, false, ◌==◌, ◌≡◌, ◌+◌, ◌≤◌, Option, Some, None, List, [], ◌∷◌, refl, sym, ap, ◌∙◌, subst, arith, inl, inr}
-use Rattle.std.specs.Prelude.{◌&&◌, ◌||◌, is_none, if◌then◌else◌}
+use Rattle.std.specs.Prelude.{◌&&◌, ◌||◌}
 use Rattle.std.specs.List.{list_all}
 use Rattle.std.proofs.lemmas.List.Folds.{list_any-append}
 use Rattle.std.proofs.lemmas.Bool.{eqb-true, eq-eqb}
@@ -9,7 +9,7 @@ use Rattle.registry_model.specs.Process.{Text, Process}
 use Rattle.registry_model.specs.Call.{Reply, True, is_reply}
 use Rattle.protocol_model.specs.Letter.{Global, Letter}
 use Rattle.protocol_model.specs.Node.{Node, LockPhase, LockCall, Target, Times, call_of}
-use Rattle.protocol_model.specs.Event.{Call, Event, Refusal}
+use Rattle.protocol_model.specs.Event.{Call, Event}
 use Rattle.protocol_model.specs.Turn.{Turn}
 use Rattle.protocol_model.specs.Client.{new_call}
 use Rattle.protocol_model.specs.ClientLocks.{Try, last_try}
@@ -23,19 +23,19 @@ use Rattle.walk.proofs.ChainKinds.{Aside, Again, suits}
 use Rattle.walk.proofs.Events.{accepted_of, IsSecond}
 use Rattle.walk.proofs.Orders.{ordered_keeps}
 use Rattle.walk.proofs.Walk.{OrderedWalk, InOrder, walked_in_order}
-use Rattle.client_locks.proofs.Growing.{replying_keeps}
-use Rattle.client_locks.proofs.Answering.{is_true, any_true}
-use Rattle.client_locks.proofs.Chains.{is_calm, aside_calm, calm_answers}
-use Rattle.client_locks.proofs.Opening.{no_numbers}
-use Rattle.client_locks.proofs.Numbering.{Numbered}
-use Rattle.client_locks.proofs.Ongoing.{is_deleting}
-use Rattle.client_locks.proofs.Told.{all_of_all, retry_calm, chain_of, first_heard}
-use Rattle.client_locks.proofs.Tallies.{fits_opens, fits_behind}
-use Rattle.client_locks.proofs.Tries.{IsTryOf, Fits}
-use Rattle.client_locks.proofs.Walking.{opening_state}
-use Rattle.headline.specs.Clauses.{world}
-use Rattle.headline.proofs.Clients.{grounds}
-use Rattle.headline.proofs.Together.{All}
+use Rattle.leftovers.proofs.Growing.{replying_keeps}
+use Rattle.leftovers.proofs.Answering.{is_true, any_true}
+use Rattle.leftovers.proofs.Chains.{is_calm, aside_calm, calm_answers}
+use Rattle.leftovers.proofs.Opening.{no_numbers}
+use Rattle.leftovers.proofs.Numbering.{Numbered}
+use Rattle.leftovers.proofs.Ongoing.{is_deleting}
+use Rattle.leftovers.proofs.Told.{all_of_all, retry_calm, chain_of, first_heard}
+use Rattle.leftovers.proofs.Tallies.{fits_opens, fits_behind}
+use Rattle.leftovers.proofs.Tries.{IsTryOf, Fits}
+use Rattle.leftovers.proofs.Walking.{opening_state}
+use Rattle.leftovers.specs.Clauses.{world}
+use Rattle.leftovers.proofs.HeadlineClients.{grounds}
+use Rattle.leftovers.proofs.Together.{All}
 use Rattle.leftovers.proofs.Grounds.{wide, lock_state}
 use Rattle.leftovers.proofs.Families.{whole}
 use Rattle.leftovers.proofs.Rest.{Rests}

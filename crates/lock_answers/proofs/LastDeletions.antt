@@ -15,13 +15,13 @@ use Rattle.moves.proofs.Rules.Rule.{CallsLock, AsksLock, FailsLock, DeletesLock,
 use Rattle.walk.proofs.ChainKinds.{Aside, suits}
 use Rattle.walk.proofs.Orders.{ordered_keeps}
 use Rattle.walk.proofs.Walk.{InOrder}
-use Rattle.client_locks.proofs.Ids.{is_process_same}
-use Rattle.client_locks.proofs.Calls.{call_of-drop}
-use Rattle.client_locks.proofs.Clients.{Numbers, call_at, node_here}
-use Rattle.client_locks.proofs.Calling.{calls_put}
-use Rattle.client_locks.proofs.Steps.{call_after}
-use Rattle.client_locks.proofs.Numbering.{Numbered, beginner_home}
-use Rattle.client_locks.proofs.Told.{chain_of, first_heard}
+use Rattle.leftovers.proofs.Ids.{is_process_same}
+use Rattle.leftovers.proofs.Calls.{call_of-drop}
+use Rattle.leftovers.proofs.Clients.{Numbers, call_at, node_here}
+use Rattle.leftovers.proofs.Calling.{calls_put}
+use Rattle.leftovers.proofs.Steps.{call_after}
+use Rattle.leftovers.proofs.Numbering.{Numbered, beginner_home}
+use Rattle.leftovers.proofs.Told.{chain_of, first_heard}
 use Rattle.lock_answers.proofs.OpenDeletions.{Known}
 use Rattle.lock_answers.proofs.DeletionChains.{Deletes}
 use Rattle.lock_answers.proofs.DeletionEvents

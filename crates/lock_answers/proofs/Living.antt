@@ -27,16 +27,16 @@ use Rattle.moves.proofs.Indices.{both, not_true}
 use Rattle.walk.proofs.ChainKinds.{Aside, suits}
 use Rattle.walk.proofs.Events.{accepted_of, IsSecond, lock_tested, live_own}
 use Rattle.walk.proofs.Walk.{OrderedWalk, InOrder, walked_in_order}
-use Rattle.fitting.proofs.Theorem
-use Rattle.client_locks.proofs.Clients.{IsLive, live_parts, call_at, caller_lives}
-use Rattle.client_locks.proofs.Told.{chain_of}
-use Rattle.headline.specs.Clauses.{events, world}
-use Rattle.headline.proofs.Answered.{answered}
-use Rattle.headline.proofs.Found.{kept_in, in_flat}
-use Rattle.headline.proofs.LockEvents.{letter_hears}
-use Rattle.headline.proofs.Story.{ground}
-use Rattle.headline.proofs.Together
-use Rattle.headline.proofs.Together.{whole_opens, run_whole}
+use Rattle.leftovers.proofs.FittingTheorem as Theorem
+use Rattle.leftovers.proofs.Clients.{IsLive, live_parts, call_at, caller_lives}
+use Rattle.leftovers.proofs.Told.{chain_of}
+use Rattle.leftovers.specs.Clauses.{events, world}
+use Rattle.leftovers.proofs.Answered.{answered}
+use Rattle.leftovers.proofs.Found.{kept_in, in_flat}
+use Rattle.leftovers.proofs.LockEvents.{letter_hears}
+use Rattle.leftovers.proofs.Story.{ground}
+use Rattle.leftovers.proofs.Together
+use Rattle.leftovers.proofs.Together.{whole_opens, run_whole}
 use Rattle.leftovers.proofs.Doomed.{start-watch}
 use Rattle.leftovers.proofs.Grounds.{Base, wide, base_keeps, replicas}
 use Rattle.leftovers.proofs.RestEvents.{accepted-node}

@@ -18,12 +18,12 @@ use Rattle.moves.proofs.Indices.{both, neither, empty_at}
 use Rattle.moves.proofs.Rules
 use Rattle.moves.proofs.Rules.{Rule, May}
 use Rattle.walk.proofs.Chains.{is_gone_by}
-use Rattle.client_locks.proofs.Clients.{Numbers, call_at, lives, lives_by}
-use Rattle.client_locks.proofs.Ids.{is_process_self, is_id_same}
-use Rattle.client_locks.proofs.Mail.{asks, echoes}
-use Rattle.client_locks.proofs.Serving.{front_named}
-use Rattle.client_locks.proofs.Sessions.{Ask, Takes, Echo, View, Idle, Owed, Won, Denied, Due, Down, due_if, view_of, view_in, view, fits}
-use Rattle.client_locks.proofs.Tries.{Fits}
+use Rattle.leftovers.proofs.Clients.{Numbers, call_at, lives, lives_by}
+use Rattle.leftovers.proofs.Ids.{is_process_self, is_id_same}
+use Rattle.leftovers.proofs.Mail.{asks, echoes}
+use Rattle.leftovers.proofs.Serving.{front_named}
+use Rattle.leftovers.proofs.Sessions.{Ask, Takes, Echo, View, Idle, Owed, Won, Denied, Due, Down, due_if, view_of, view_in, view, fits}
+use Rattle.leftovers.proofs.Tries.{Fits}
 use Rattle.lock_answers.proofs.Behind.{Known}
 use Rattle.lock_answers.proofs.Reasons.{asked_same, JudgedSo}
 

@@ -12,10 +12,10 @@ use Rattle.protocol_model.specs.ClientLocks.{Try, try_of, is_refused}
 use Rattle.protocol_model.specs.LockAnswers.{Tries, watched, next_try, first_try, tries_by, Answers, AsksNobody}
 use Rattle.protocol_model.specs.World.{Opening, World, WorldEvent, At, refusal, answers, turn_of}
 use Rattle.moves.proofs.Rules.{Ordered, IsOpen}
-use Rattle.client_locks.proofs.Calls.{home_of_call}
-use Rattle.client_locks.proofs.Clients.{Numbers, call_at}
-use Rattle.client_locks.proofs.Ongoing.{is_deleting}
-use Rattle.client_locks.proofs.Tries.{IsTryOf, Fits}
+use Rattle.leftovers.proofs.Calls.{home_of_call}
+use Rattle.leftovers.proofs.Clients.{Numbers, call_at}
+use Rattle.leftovers.proofs.Ongoing.{is_deleting}
+use Rattle.leftovers.proofs.Tries.{IsTryOf, Fits}
 use Rattle.lock_answers.proofs.LastTry.{last_of}
 use Rattle.lock_answers.proofs.Verdicts.{is_verdict}
 use Rattle.lock_answers.proofs.CallSteps.{found_at}

@@ -20,10 +20,10 @@ use Rattle.protocol_model.specs.World.{Opening, World, join_number}
 use Rattle.moves.proofs.Rules.{is_ordered}
 use Rattle.moves.proofs.Indices.{both}
 use Rattle.walk.proofs.Calls.{AllOpen, all_open, ordered_found}
-use Rattle.client_locks.proofs.Answering
-use Rattle.client_locks.proofs.Answering.{any_true}
-use Rattle.client_locks.proofs.Growing.{is_fine}
-use Rattle.client_locks.proofs.Ongoing.{is_deleting}
+use Rattle.leftovers.proofs.Answering
+use Rattle.leftovers.proofs.Answering.{any_true}
+use Rattle.leftovers.proofs.Growing.{is_fine}
+use Rattle.leftovers.proofs.Ongoing.{is_deleting}
 use Rattle.leftovers.proofs.Grounds.{Base}
 use Rattle.leftovers.proofs.Rest.{Among, ToldMore}
 use Rattle.leftovers.proofs.RestCalls.{among_found}

@@ -19,9 +19,9 @@ use Rattle.protocol_model.specs.World.{Opening}
 use Rattle.moves.proofs.Rules.{is_ordered}
 use Rattle.walk.proofs.LockRounds.{IsOwn}
 use Rattle.walk.proofs.Calls.{is_ordered-drop_call, is_ordered-put_call}
-use Rattle.client_locks.proofs.Calls.{call_of-put, call_of-drop, holder_of_call}
-use Rattle.client_locks.proofs.Ids.{is_process_self}
-use Rattle.client_locks.proofs.Ongoing.{is_deleting}
+use Rattle.leftovers.proofs.Calls.{call_of-put, call_of-drop, holder_of_call}
+use Rattle.leftovers.proofs.Ids.{is_process_self}
+use Rattle.leftovers.proofs.Ongoing.{is_deleting}
 use Rattle.leftovers.proofs.Rest.{Among, ToldMore}
 use Rattle.leftovers.proofs.RoundFacts.{asked_down}
 use Rattle.lock_answers.proofs.Clear.{ClearIn, granted_down, granted_gone, granted_asked}

@@ -15,20 +15,20 @@ use Rattle.moves.proofs.Rules.{Rule, Taken, IsOpen, May, Ordered, effect, turn_b
 use Rattle.moves.proofs.Invariants.{IsUp}
 use Rattle.walk.proofs.ChainKinds.{Hearing, suits}
 use Rattle.walk.proofs.Orders.{ordered_keeps}
-use Rattle.client_locks.proofs.Ids.{is_process_same, is_process_self}
-use Rattle.client_locks.proofs.Calls.{call_of-drop, home_of_call}
-use Rattle.client_locks.proofs.Sessions.{Echo, Backed, Due, due_if, view, view_in, fits}
-use Rattle.client_locks.proofs.SessionMoves.{backed_front}
-use Rattle.client_locks.proofs.Mail.{echoes, turned}
-use Rattle.client_locks.proofs.Clients.{Numbers, lives, IsLive, live_parts, call_at, Clients}
-use Rattle.client_locks.proofs.Calling.{ups_of, downs_of, calls_put}
-use Rattle.client_locks.proofs.Numbers.{num_by}
-use Rattle.client_locks.proofs.Keeping.{clients_keeps}
-use Rattle.client_locks.proofs.Growing.{Replying, replying_keeps, same_ask_rest}
-use Rattle.client_locks.proofs.Steps.{call_after, calls_aside, nums_same}
-use Rattle.client_locks.proofs.Ongoing.{is_deleting}
-use Rattle.client_locks.proofs.Chains.{aside_or_step}
-use Rattle.headline.proofs.Together.{All, all_keeps}
+use Rattle.leftovers.proofs.Ids.{is_process_same, is_process_self}
+use Rattle.leftovers.proofs.Calls.{call_of-drop, home_of_call}
+use Rattle.leftovers.proofs.Sessions.{Echo, Backed, Due, due_if, view, view_in, fits}
+use Rattle.leftovers.proofs.SessionMoves.{backed_front}
+use Rattle.leftovers.proofs.Mail.{echoes, turned}
+use Rattle.leftovers.proofs.Clients.{Numbers, lives, IsLive, live_parts, call_at, Clients}
+use Rattle.leftovers.proofs.Calling.{ups_of, downs_of, calls_put}
+use Rattle.leftovers.proofs.Numbers.{num_by}
+use Rattle.leftovers.proofs.Keeping.{clients_keeps}
+use Rattle.leftovers.proofs.Growing.{Replying, replying_keeps, same_ask_rest}
+use Rattle.leftovers.proofs.Steps.{call_after, calls_aside, nums_same}
+use Rattle.leftovers.proofs.Ongoing.{is_deleting}
+use Rattle.leftovers.proofs.Chains.{aside_or_step}
+use Rattle.leftovers.proofs.Together.{All, all_keeps}
 use Rattle.lock_answers.proofs.Settled.{Stands, stands_alone}
 
 -- what is known of each world along a chain

@@ -25,22 +25,22 @@ use Rattle.walk.proofs.Events.{accepted_of, lock_tested, live_own}
 use Rattle.walk.proofs.Orders.{ordered_keeps}
 use Rattle.walk.proofs.Runs.{rules_of}
 use Rattle.walk.proofs.Walk.{OrderedWalk, InOrder, walked_in_order}
-use Rattle.fitting.proofs.Chains
-use Rattle.fitting.proofs.Theorem
-use Rattle.client_locks.proofs.Calls.{call_of-put, call_of-drop}
-use Rattle.client_locks.proofs.Clients.{call_at}
-use Rattle.client_locks.proofs.Chains.{From}
-use Rattle.client_locks.proofs.Growing.{Replying, replying_opens}
-use Rattle.client_locks.proofs.Ids.{is_process_same}
-use Rattle.client_locks.proofs.Numbering.{aside_hears, from_self, from_chain, from_retry}
-use Rattle.client_locks.proofs.Opening.{no_numbers}
-use Rattle.client_locks.proofs.Told.{all_of_all, chain_of}
-use Rattle.headline.specs.Clauses.{events, world}
-use Rattle.headline.proofs.LockAnswers.{slice_get-behind}
-use Rattle.headline.proofs.LockEvents.{letter_hears}
-use Rattle.headline.proofs.Passing.{slice_get-front}
-use Rattle.headline.proofs.Story.{ground}
-use Rattle.headline.proofs.Together.{Whole, whole_opens, widens, event_walks}
+use Rattle.leftovers.proofs.FittingChains as Chains
+use Rattle.leftovers.proofs.FittingTheorem as Theorem
+use Rattle.leftovers.proofs.Calls.{call_of-put, call_of-drop}
+use Rattle.leftovers.proofs.Clients.{call_at}
+use Rattle.leftovers.proofs.Chains.{From}
+use Rattle.leftovers.proofs.Growing.{Replying, replying_opens}
+use Rattle.leftovers.proofs.Ids.{is_process_same}
+use Rattle.leftovers.proofs.Numbering.{aside_hears, from_self, from_chain, from_retry}
+use Rattle.leftovers.proofs.Opening.{no_numbers}
+use Rattle.leftovers.proofs.Told.{all_of_all, chain_of}
+use Rattle.leftovers.specs.Clauses.{events, world}
+use Rattle.leftovers.proofs.LockAnswers.{slice_get-behind}
+use Rattle.leftovers.proofs.LockEvents.{letter_hears}
+use Rattle.leftovers.proofs.Passing.{slice_get-front}
+use Rattle.leftovers.proofs.Story.{ground}
+use Rattle.leftovers.proofs.Together.{Whole, whole_opens, widens, event_walks}
 use Rattle.leftovers.proofs.RestEvents.{accepted-node}
 use Rattle.lock_answers.proofs.Besides.{start_part}
 use Rattle.lock_answers.proofs.GrantEvents.{replying_chain}

@@ -6,9 +6,9 @@ use Rattle.registry_model.proofs.Lists.{Contains-front}
 use Rattle.protocol_model.specs.Event.{Answer, Refusal}
 use Rattle.protocol_model.specs.Course.{Played, played}
 use Rattle.protocol_model.specs.World.{Opening, WorldEvent, place, opening_world, refusal, happens, accepted, answers, turn_of}
-use Rattle.headline.specs.Clauses.{events, world}
-use Rattle.headline.proofs.Tied.{course-push}
-use Rattle.headline.proofs.Answered.{answered}
+use Rattle.leftovers.specs.Clauses.{events, world}
+use Rattle.leftovers.proofs.Tied.{course-push}
+use Rattle.leftovers.proofs.Answered.{answered}
 
 module _ (o : Opening) (es : List WorldEvent) (e : WorldEvent) (is : refusal o (world o es) e ≡ None) where
   -- the course behind it

@@ -18,14 +18,14 @@ use Rattle.moves.proofs.Indices.{both, not_true}
 use Rattle.moves.proofs.Invariants.{Each}
 use Rattle.walk.proofs.Events.{Accepted, accepted_of}
 use Rattle.walk.proofs.Walk.{OrderedWalk}
-use Rattle.lock_sessions.proofs.Base.{each-posted}
-use Rattle.client_locks.proofs.Chains.{up_before}
-use Rattle.client_locks.proofs.Clients.{Numbers, call_at, part_same}
-use Rattle.client_locks.proofs.Ids.{is_process_same}
-use Rattle.client_locks.proofs.Mail.{asks, echoes}
-use Rattle.client_locks.proofs.Sessions.{Ask, Echo, View, Idle, view, view_in, fits}
-use Rattle.client_locks.proofs.Told.{chain_of}
-use Rattle.client_locks.proofs.Tries.{Fits}
+use Rattle.leftovers.proofs.Base.{each-posted}
+use Rattle.leftovers.proofs.Chains.{up_before}
+use Rattle.leftovers.proofs.Clients.{Numbers, call_at, part_same}
+use Rattle.leftovers.proofs.Ids.{is_process_same}
+use Rattle.leftovers.proofs.Mail.{asks, echoes}
+use Rattle.leftovers.proofs.Sessions.{Ask, Echo, View, Idle, view, view_in, fits}
+use Rattle.leftovers.proofs.Told.{chain_of}
+use Rattle.leftovers.proofs.Tries.{Fits}
 use Rattle.leftovers.proofs.Near.{target_member}
 use Rattle.registry_model.specs.Process.{nodes_of}
 use Rattle.lock_answers.proofs.LastTry.{last_of}

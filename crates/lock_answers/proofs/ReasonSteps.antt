@@ -19,11 +19,11 @@ use Rattle.moves.proofs.Rules.{Rule, May, MayAll, effect, effects, turn_by, answ
 use Rattle.walk.proofs.ChainKinds.{Hearing, suits, leaves_locks}
 use Rattle.walk.proofs.Chains.{LeaveLocks, is_gone_by, TakeGone}
 use Rattle.walk.proofs.Walk.{OrderedWalk}
-use Rattle.join_gates.proofs.Made.{answers_made}
-use Rattle.lock_sessions.proofs.Base.{is_leave}
-use Rattle.client_locks.proofs.Clients.{Numbers}
-use Rattle.client_locks.proofs.Told.{chain_of}
-use Rattle.client_locks.proofs.Tries.{Fits}
+use Rattle.leftovers.proofs.Made.{answers_made}
+use Rattle.leftovers.proofs.Base.{is_leave}
+use Rattle.leftovers.proofs.Clients.{Numbers}
+use Rattle.leftovers.proofs.Told.{chain_of}
+use Rattle.leftovers.proofs.Tries.{Fits}
 use Rattle.leftovers.proofs.Grounds.{Base, base_keeps}
 use Rattle.lock_answers.proofs.CallSteps.{AllCalls}
 use Rattle.lock_answers.proofs.Verdicts.{said_by, Before, said_in, kept_in}

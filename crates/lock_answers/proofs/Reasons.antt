@@ -22,15 +22,15 @@ use Rattle.moves.proofs.Rules.{Rule, IsOpen, May, effect, is_quiet}
 use Rattle.moves.proofs.Invariants.{Each}
 use Rattle.walk.proofs.ChainKinds.{Hearing, suits, leaves_locks}
 use Rattle.walk.proofs.Orders.{ordered_keeps}
-use Rattle.lock_sessions.proofs.Base.{is_leave, effect-turn, after_turn, popped, each-one, each-popped, each-posted}
-use Rattle.client_locks.proofs.Calls.{home_of_call}
-use Rattle.client_locks.proofs.Chains.{up_before}
-use Rattle.client_locks.proofs.Clients.{call_at, IsLive, live_parts, caller_lives}
-use Rattle.client_locks.proofs.Growing.{Replying, replying_keeps}
-use Rattle.client_locks.proofs.Ids.{is_process_same, is_process_self}
-use Rattle.client_locks.proofs.Ongoing.{is_deleting}
-use Rattle.client_locks.proofs.RoundNumbers.{is_tried}
-use Rattle.client_locks.proofs.Tries.{IsTryOf, Fits, fits_chain}
+use Rattle.leftovers.proofs.Base.{is_leave, effect-turn, after_turn, popped, each-one, each-popped, each-posted}
+use Rattle.leftovers.proofs.Calls.{home_of_call}
+use Rattle.leftovers.proofs.Chains.{up_before}
+use Rattle.leftovers.proofs.Clients.{call_at, IsLive, live_parts, caller_lives}
+use Rattle.leftovers.proofs.Growing.{Replying, replying_keeps}
+use Rattle.leftovers.proofs.Ids.{is_process_same, is_process_self}
+use Rattle.leftovers.proofs.Ongoing.{is_deleting}
+use Rattle.leftovers.proofs.RoundNumbers.{is_tried}
+use Rattle.leftovers.proofs.Tries.{IsTryOf, Fits, fits_chain}
 use Rattle.leftovers.proofs.Grounds.{Base}
 use Rattle.leftovers.proofs.RoundFacts.{asked_of_owes}
 use Rattle.leftovers.proofs.Phases.{StepOk, Puts, Drops, step_of}

@@ -12,9 +12,9 @@ use Rattle.protocol_model.specs.World.{Opening, World, WorldEvent, place, openin
 use Rattle.moves.proofs.Rules.{IsOpen}
 use Rattle.walk.proofs.ChainKinds.{Hearing, suits}
 use Rattle.walk.proofs.Walk.{OrderedWalk}
-use Rattle.client_locks.proofs.Clients.{Numbers}
-use Rattle.client_locks.proofs.Told.{chain_of}
-use Rattle.client_locks.proofs.Tries.{Fits}
+use Rattle.leftovers.proofs.Clients.{Numbers}
+use Rattle.leftovers.proofs.Told.{chain_of}
+use Rattle.leftovers.proofs.Tries.{Fits}
 use Rattle.lock_answers.proofs.LastTry.{last_of, tries_behind}
 use Rattle.lock_answers.proofs.Verdicts.{is_verdict, GaveUp, EndedWell, Before, said_in}
 use Rattle.lock_answers.proofs.Spending.{AreLeft, IsSpending, SpendsAt, Tried, tried_keeps}

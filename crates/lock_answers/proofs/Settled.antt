@@ -15,15 +15,15 @@ use Rattle.moves.proofs.Rules
 use Rattle.moves.proofs.Rules.{Rule, May, effect, turn_by}
 use Rattle.moves.proofs.Invariants.{IsUp}
 use Rattle.walk.proofs.Orders.{effect-node}
-use Rattle.client_locks.proofs.Ids.{is_process_same, is_process_self}
-use Rattle.client_locks.proofs.LockTables.{pair_off, count-grant_other, count-give_back, count-give_back_other, count-drop_holder, count-drop_node}
-use Rattle.client_locks.proofs.Sessions.{Ask, Takes, Echo, View, Owed, due_if, view, settled, settled_le, fits, due, Live}
-use Rattle.client_locks.proofs.SessionMoves.{take_front}
-use Rattle.client_locks.proofs.Mail.{asks}
-use Rattle.client_locks.proofs.Clients.{Numbers, lives, IsLive, live_parts, lives_by, call_at, Clients}
-use Rattle.client_locks.proofs.Calling.{ups_of, downs_of, held_of, num_of}
-use Rattle.client_locks.proofs.Serving.{front_named}
-use Rattle.client_locks.proofs.Growing.{gone_keeps}
+use Rattle.leftovers.proofs.Ids.{is_process_same, is_process_self}
+use Rattle.leftovers.proofs.LockTables.{pair_off, count-grant_other, count-give_back, count-give_back_other, count-drop_holder, count-drop_node}
+use Rattle.leftovers.proofs.Sessions.{Ask, Takes, Echo, View, Owed, due_if, view, settled, settled_le, fits, due, Live}
+use Rattle.leftovers.proofs.SessionMoves.{take_front}
+use Rattle.leftovers.proofs.Mail.{asks}
+use Rattle.leftovers.proofs.Clients.{Numbers, lives, IsLive, live_parts, lives_by, call_at, Clients}
+use Rattle.leftovers.proofs.Calling.{ups_of, downs_of, held_of, num_of}
+use Rattle.leftovers.proofs.Serving.{front_named}
+use Rattle.leftovers.proofs.Growing.{gone_keeps}
 use Rattle.leftovers.proofs.Parts.{locks_by, parts}
 
 -- nothing that is on its way lessens what p has at x

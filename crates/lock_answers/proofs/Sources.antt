@@ -18,15 +18,15 @@ use Rattle.moves.proofs.Rules.{Rule}
 use Rattle.moves.proofs.Invariants.{Replicas, IsWritten}
 use Rattle.moves.proofs.Indices.{both}
 use Rattle.walk.proofs.ChainKinds.{Aside, Again, Hearing, suits, is_number_of}
-use Rattle.join_gates.proofs.Made.{answered, answer_of, answers_made}
-use Rattle.fitting.proofs.Accounts.{is_word}
-use Rattle.fitting.proofs.Settling.{reply_to-word, grant_word}
-use Rattle.client_locks.proofs.Calls.{home_of_call}
-use Rattle.client_locks.proofs.Clients.{call_at}
-use Rattle.client_locks.proofs.Growing.{Replying, replying_keeps}
-use Rattle.client_locks.proofs.Chains.{from_heard}
-use Rattle.client_locks.proofs.Numbering.{beginner_home}
-use Rattle.client_locks.proofs.Opening.{no_numbers}
+use Rattle.leftovers.proofs.Made.{answered, answer_of, answers_made}
+use Rattle.leftovers.proofs.FittingAccounts.{is_word}
+use Rattle.leftovers.proofs.FittingSettling.{reply_to-word, grant_word}
+use Rattle.leftovers.proofs.Calls.{home_of_call}
+use Rattle.leftovers.proofs.Clients.{call_at}
+use Rattle.leftovers.proofs.Growing.{Replying, replying_keeps}
+use Rattle.leftovers.proofs.Chains.{from_heard}
+use Rattle.leftovers.proofs.Numbering.{beginner_home}
+use Rattle.leftovers.proofs.Opening.{no_numbers}
 use Rattle.leftovers.proofs.Grounds.{Base, base_keeps, replicas}
 use Rattle.lock_answers.proofs.Watches.{is_lock_reply, is_lock_answer}
 

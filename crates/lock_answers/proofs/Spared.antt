@@ -22,7 +22,7 @@ use Rattle.protocol_model.specs.Calling.{die, kill, queued}
 use Rattle.protocol_model.specs.Reading.{admitted, welcomed, judge, refused_join, welcome, told_of, lose_current, lose_join, bereave, read, receive}
 use Rattle.protocol_model.specs.Answers.{answer_to}
 use Rattle.leftovers.proofs.Doomed.{start-watch}
-use Rattle.client_locks.proofs.Answering.{is_true, any_true}
+use Rattle.leftovers.proofs.Answering.{is_true, any_true}
 
 -- by this letter nobody dies
 abbrev pub spares : Letter → Bool

@@ -15,10 +15,10 @@ use Rattle.protocol_model.specs.World.{Opening, World, WorldEvent, At, place, re
 use Rattle.moves.proofs.Rules.{effects}
 use Rattle.walk.proofs.ChainKinds.{Hearing, suits}
 use Rattle.walk.proofs.Walk.{OrderedWalk}
-use Rattle.client_locks.proofs.Clients.{Numbers, call_at}
-use Rattle.client_locks.proofs.Ongoing.{is_deleting}
-use Rattle.client_locks.proofs.Told.{chain_of}
-use Rattle.client_locks.proofs.Tries.{Fits}
+use Rattle.leftovers.proofs.Clients.{Numbers, call_at}
+use Rattle.leftovers.proofs.Ongoing.{is_deleting}
+use Rattle.leftovers.proofs.Told.{chain_of}
+use Rattle.leftovers.proofs.Tries.{Fits}
 use Rattle.lock_answers.proofs.LastTry.{last_of, last_watched}
 use Rattle.lock_answers.proofs.Verdicts.{kept_in}
 use Rattle.lock_answers.proofs.Spending.{AreLeft, IsSpending, SpendsAt, Tried, tried_keeps}

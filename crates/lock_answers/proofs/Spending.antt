@@ -13,9 +13,9 @@ use Rattle.moves.proofs.Rules
 use Rattle.moves.proofs.Rules.{Rule, IsOpen, May, effect}
 use Rattle.walk.proofs.ChainKinds.{Hearing, suits}
 use Rattle.walk.proofs.Orders.{ordered_keeps}
-use Rattle.client_locks.proofs.Growing.{Replying, replying_keeps}
-use Rattle.client_locks.proofs.Ongoing.{is_deleting}
-use Rattle.client_locks.proofs.Tries.{Fits, fits_chain}
+use Rattle.leftovers.proofs.Growing.{Replying, replying_keeps}
+use Rattle.leftovers.proofs.Ongoing.{is_deleting}
+use Rattle.leftovers.proofs.Tries.{Fits, fits_chain}
 use Rattle.leftovers.proofs.Grounds.{Base}
 use Rattle.leftovers.proofs.Phases.{StepOk, Puts, Drops, step_of}
 use Rattle.lock_answers.proofs.LastTry.{last_of}

@@ -20,9 +20,9 @@ use Rattle.moves.proofs.Invariants.{IsWritten}
 use Rattle.moves.proofs.Indices.{both}
 use Rattle.registry_model.specs.Table.{get}
 use Rattle.walk.proofs.ChainKinds.{Hearing, suits}
-use Rattle.join_gates.proofs.Made.{answered, answer_of, answers_made}
-use Rattle.fitting.proofs.Accounts.{is_word}
-use Rattle.fitting.proofs.Settling.{reply_to-word, grant_word}
+use Rattle.leftovers.proofs.Made.{answered, answer_of, answers_made}
+use Rattle.leftovers.proofs.FittingAccounts.{is_word}
+use Rattle.leftovers.proofs.FittingSettling.{reply_to-word, grant_word}
 use Rattle.leftovers.proofs.Grounds.{Base, base_keeps, replicas}
 
 -- the answer to a lock call

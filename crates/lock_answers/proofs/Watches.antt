@@ -18,7 +18,7 @@ use Rattle.protocol_model.specs.Client.{is_spent, one_less, in_phase, close_call
 use Rattle.protocol_model.specs.Calling.{die, kill, queued}
 use Rattle.protocol_model.specs.Reading.{admitted, welcomed, judge, refused_join, welcome, read}
 use Rattle.protocol_model.specs.World.{Opening, World, Deliver, join_number, heard, turn_of}
-use Rattle.client_locks.proofs.Growing.{Replying}
+use Rattle.leftovers.proofs.Growing.{Replying}
 use Rattle.leftovers.proofs.Doomed.{start-watch}
 use Rattle.leftovers.proofs.RestWork.{ask_rest-node}
 use Rattle.leftovers.proofs.Grounds.{Base}

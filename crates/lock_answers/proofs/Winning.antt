@@ -21,13 +21,13 @@ use Rattle.moves.proofs.Rules.{Rule, IsOpen, is_quiet}
 use Rattle.walk.proofs.ChainKinds.{Hearing, suits}
 use Rattle.walk.proofs.Killing.{admitted-members}
 use Rattle.walk.proofs.Orders.{effect-node, ordered_keeps}
-use Rattle.client_locks.proofs.RoundNumbers.{is_tried}
-use Rattle.client_locks.proofs.Calls.{home_of_call}
-use Rattle.client_locks.proofs.Clients.{call_at}
-use Rattle.client_locks.proofs.Growing.{Replying, replying_keeps}
-use Rattle.client_locks.proofs.Answering.{is_true, any_true, not_true_answers}
-use Rattle.client_locks.proofs.Ongoing.{is_deleting, tried_in}
-use Rattle.client_locks.proofs.Tries.{IsTryOf, Fits, fits_chain}
+use Rattle.leftovers.proofs.RoundNumbers.{is_tried}
+use Rattle.leftovers.proofs.Calls.{home_of_call}
+use Rattle.leftovers.proofs.Clients.{call_at}
+use Rattle.leftovers.proofs.Growing.{Replying, replying_keeps}
+use Rattle.leftovers.proofs.Answering.{is_true, any_true, not_true_answers}
+use Rattle.leftovers.proofs.Ongoing.{is_deleting, tried_in}
+use Rattle.leftovers.proofs.Tries.{IsTryOf, Fits, fits_chain}
 use Rattle.leftovers.proofs.Grounds.{Base, base_keeps, wide}
 use Rattle.leftovers.proofs.Parts.{replica_by, parts}
 use Rattle.leftovers.proofs.Near.{Near, NearIn, is_near, near_keeps}
