@@ -22,6 +22,8 @@ pub mod Welcomed
 pub mod Spawning
 pub mod NextSerial
 pub mod LookingUp
+pub mod Causes
+pub mod Refusals
 pub mod Theorem
 pub mod Agreeing
 pub mod Entries
