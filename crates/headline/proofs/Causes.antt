@@ -1,12 +1,13 @@
 -- Which of the causes of an event is the first, and which events have which.
-use Rattle.std.proofs.Common.{ℕ, zero, suc, Bool, true, false, ◌≡◌, ◌==◌, ◌<◌, Some, List, [], ◌∷◌, ◌++◌, refl, ap, arith}
+use Rattle.std.proofs.Common.{ℕ, zero, suc, Bool, true, false, ◌≡◌, ◌==◌, ◌<◌, Some, None, List, [], ◌∷◌, ◌++◌, refl, sym, ap, ◌∙◌, arith}
 use Rattle.std.specs.Prelude.{◌&&◌, not, is_some, Contains, if◌then◌else◌}
 use Rattle.std.specs.List.{list_any, list_all}
 use Rattle.std.proofs.lemmas.Bool.{ne_eqb}
 use Rattle.registry_model.specs.Process.{Text, Process, Nodes}
 use Rattle.registry_model.proofs.Lists.{Contains-front, Contains-behind}
 use Rattle.protocol_model.specs.Node.{Target, Retries, call_of}
-use Rattle.protocol_model.specs.Event.{Call, Event, Refusal, NoSuchNode, NodeLeft, NotLive, Busy, Reserved, UnknownNode, NoSuchProcess, AlreadyExited, Cause, cause, first_cause, lock_causes, calls_spent, names_members, global_resource}
+use Rattle.protocol_model.specs.Event.{Call, Event, Refusal, NoSuchNode, NodeLeft, NotLive, Busy, Reserved, UnknownNode, NoSuchProcess, AlreadyExited, SerialsSpent, AlreadyJoined, CallsSpent, last_u32, has_joined, Cause, cause, first_cause, lock_causes, calls_spent, names_members, global_resource}
+use Rattle.protocol_model.specs.Fit.{is_numbered}
 use Rattle.protocol_model.specs.World.{World, WorldEvent, At, Deliver, local_causes}
 use Rattle.moves.proofs.Indices.{neither}
 use Rattle.protocol_model.specs.Refusals.{IsLockCall, Sets, Deletes}
@@ -22,7 +23,10 @@ rank Reserved = 4
 rank UnknownNode = 5
 rank NoSuchProcess = 6
 rank AlreadyExited = 7
-rank _ = 8
+rank SerialsSpent = 8
+rank AlreadyJoined = 9
+rank CallsSpent = 10
+rank _ = 11
 
 -- the refusal is of this rank
 abbrev pub is : ℕ → Refusal → Bool
@@ -180,3 +184,74 @@ module _ (w : World) where
       absurd (never (is 5) (local_causes w (At a (Event.Calling c))) UnknownNode refl refl h)
   only_sets (At a e) h = absurd (never (is 5) (local_causes w (At a e)) UnknownNode refl refl h)
   only_sets (Deliver f t) h = absurd (never (is 5) (local_causes w (Deliver f t)) UnknownNode refl refl h)
+
+  -- so is one with the refusal of `spawn`s, and one with that of joins
+  pub only_spawns : (e : WorldEvent) → first_cause (local_causes w e) ≡ Some SerialsSpent
+      → (a : ℕ) × (e ≡ At a (Event.Calling Call.Spawn))
+  only_spawns (At a (Event.Calling Call.Spawn)) h = (a, refl)
+  only_spawns (At a (Event.Calling c)) h =
+      absurd (never (is 8) (local_causes w (At a (Event.Calling c))) SerialsSpent refl refl h)
+  only_spawns (At a e) h = absurd (never (is 8) (local_causes w (At a e)) SerialsSpent refl refl h)
+  only_spawns (Deliver f t) h = absurd (never (is 8) (local_causes w (Deliver f t)) SerialsSpent refl refl h)
+
+  -- the numbers are looked at last
+  last_cause : (a : ℕ) (cs : List Cause) → has (is 10) cs ≡ false
+      → first_cause (cs ++ calls_spent (w.node a) ∷ []) ≡ Some CallsSpent → ((w.node a).last_call == last_u32) ≡ true
+  last_cause a [] n e = (here (is 10) ((w.node a).last_call == last_u32) CallsSpent [] CallsSpent refl refl e).0
+  last_cause a (c ∷ cs) n e = last_cause a cs parts.1
+      (behind (is 10) c.stands c.refusal (cs ++ calls_spent (w.node a) ∷ []) CallsSpent parts.0 refl e).1
+    where
+      parts : (is 10 c.refusal ≡ false) × (has (is 10) cs ≡ false)
+      parts = neither (is 10 c.refusal) (has (is 10) cs) n
+
+  -- and where they are spent, something speaks against the call
+  pub some_cause : (a : ℕ) (cs : List Cause) → ((w.node a).last_call == last_u32) ≡ true
+      → first_cause (cs ++ calls_spent (w.node a) ∷ []) ≡ None → ⊥
+  some_cause a [] s e = cc (hits ((w.node a).last_call == last_u32) CallsSpent [] s, e)
+  some_cause a (c ∷ cs) s e = go c.stands e (some_cause a cs s)
+    where
+      go : (b : Bool) → (if b then Some c.refusal else first_cause (cs ++ calls_spent (w.node a) ∷ [])) ≡ None
+          → (first_cause (cs ++ calls_spent (w.node a) ∷ []) ≡ None → ⊥) → ⊥
+      go true h more = cc
+      go false h more = more h
+
+  -- what a numbered call is refused for before that
+  pub record Counting (a : ℕ) (call : Call) : Type 0 where
+    pub first : List Cause
+    pub others : has (is 10) first ≡ false
+    pub causes : local_causes w (At a (Event.Calling call)) ≡ first ++ calls_spent (w.node a) ∷ []
+
+  pub counting : (a : ℕ) (call : Call) → is_numbered call ≡ true → Counting a call
+  counting a Call.Spawn n = cc
+  counting a (Call.LookUp look) n = cc
+  counting a (Call.OnName c) n = record { first = []; others = refl; causes = refl }
+  counting a (Call.SetLock p r z target retries) n = record {
+    first = lock_causes a (w.node a) p r ++ cause (not (names_members (w.node a) target)) UnknownNode ∷ [];
+    others = refl;
+    causes = refl;
+  }
+  counting a (Call.DelLock p r z target) n =
+      record { first = lock_causes a (w.node a) p r; others = refl; causes = refl }
+  counting a (Call.JoinBy m) n =
+      record { first = cause (has_joined (w.node a)) AlreadyJoined ∷ []; others = refl; causes = refl }
+
+  -- an event that is refused for want of a number is a numbered call of a node that has given all
+  pub only_calls : (e : WorldEvent) → first_cause (local_causes w e) ≡ Some CallsSpent
+      → (a : ℕ) × (call : Call) × (e ≡ At a (Event.Calling call)) × (is_numbered call ≡ true)
+      × (((w.node a).last_call == last_u32) ≡ true)
+  only_calls (At a (Event.Calling call)) h = go (is_numbered call) refl
+    where
+      none : (call : Call) → is_numbered call ≡ false → has (is 10) (local_causes w (At a (Event.Calling call))) ≡ false
+      none Call.Spawn n = refl
+      none (Call.LookUp look) n = refl
+      none _ n = cc
+
+      go : (b : Bool) → is_numbered call ≡ b
+          → (b : ℕ) × (c : Call) × (At a (Event.Calling call) ≡ At b (Event.Calling c)) × (is_numbered c ≡ true)
+          × (((w.node b).last_call == last_u32) ≡ true)
+      go true n =
+          let C : Counting a call = counting a call n in
+          (a, call, refl, n, last_cause a C.first C.others (ap first_cause (sym C.causes) ∙ h))
+      go false n = absurd (never (is 10) (local_causes w (At a (Event.Calling call))) CallsSpent (none call n) refl h)
+  only_calls (At a e) h = absurd (never (is 10) (local_causes w (At a e)) CallsSpent refl refl h)
+  only_calls (Deliver f t) h = absurd (never (is 10) (local_causes w (Deliver f t)) CallsSpent refl refl h)

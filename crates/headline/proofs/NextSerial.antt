@@ -79,7 +79,7 @@ module _ (o : Opening) where
       Goal b serial = (serial ≡ 0) ⊎ WasSpawned (ps ++ p ∷ []) (record { node = b; serial = serial })
 
   -- what a `spawn` would give is the next process
-  is_next : (w : World) (ps : List Played) (a : ℕ) → Spawned o w ps → IsNextProcess ps (seen o w).dead a (next_at w a)
+  pub is_next : (w : World) (ps : List Played) (a : ℕ) → Spawned o w ps → IsNextProcess ps (seen o w).dead a (next_at w a)
   is_next w ps a S = record {
     home = refl;
     serial = omega (arith, next_serial-new v);

@@ -1,40 +1,35 @@
--- What the refusals mean, as far as it is seen.
+-- Why an event is refused whose node isn't there, or whose process isn't such a one: what those refusals mean.
 use Rattle.std.proofs.Common.{ℕ, Bool, true, false, ◌≡◌, ◌==◌, ◌≤◌, ◌<◌, Some, List, [], ◌∷◌, ◌++◌, refl, sym, ap, ◌∙◌, subst, arith, inl, inr}
 use Rattle.std.specs.Prelude.{◌&&◌, ◌||◌, not, is_some, nat_lt, Contains}
 use Rattle.std.proofs.lemmas.Bool.{eqb-true, eqb-false, eq-eqb, ne_eqb, and_from, ltb-false, ltb-true}
 use Rattle.registry_model.specs.Process.{Text, Process}
-use Rattle.registry_model.specs.History.{Standing}
 use Rattle.protocol_model.specs.Watch.{is_dead, is_live, is_issued}
 use Rattle.protocol_model.specs.Node.{Target, All, Named, Retries, call_of}
 use Rattle.protocol_model.specs.Event.{Call, Event, Refusal, NoSuchNode, NodeLeft, NotLive, Busy, Reserved, UnknownNode, NoSuchProcess, AlreadyExited, Cause, cause, first_cause, lock_causes, calls_spent, names_members, global_resource}
 use Rattle.protocol_model.specs.World.{Opening, in_world, World, WorldEvent, At, place, other, left, refusal, local_causes}
 use Rattle.protocol_model.specs.Course.{Played, Seen, standing, seen}
-use Rattle.protocol_model.specs.Refusals.{FindsItsNode, IsLockCall, IsLiveAt, IsIssuedBy, NamesStranger, IsNotBusy, IsNowhere, IsLate, IsOfNobody, IsForGlobal, IsForStranger, IsExitOfNone, IsExitOfDead, SaysWhy}
+use Rattle.protocol_model.specs.Refusals.{FindsItsNode, IsLockCall, IsLiveAt, IsIssuedBy, NamesStranger, IsNotBusy, IsNowhere, IsLate, IsOfNobody, IsForGlobal, IsForStranger, IsExitOfNone, IsExitOfDead}
 use Rattle.moves.proofs.Indices.{neither, both, not_true, not_false}
-use Rattle.headline.specs.Clauses.{events, world, RefusalsInWords}
 use Rattle.headline.proofs.Causes.{is, of_lock, second, behind, here, past, hits, above_zero, not_zero, some_stranger, stranger_in, local_world, Locking, locking, only_locks, only_exits, only_sets}
 use Rattle.headline.proofs.Spawning.{serial_at}
-use Rattle.headline.proofs.NextSerial.{last_at, Spawned, spawned}
-use Rattle.headline.proofs.Together.{run_whole, replicas}
-use Rattle.headline.proofs.Story.{written}
-use Rattle.headline.proofs.Fields
+use Rattle.headline.proofs.NextSerial.{last_at, Spawned}
 
 -- o and ps: the opening and the events that made w
 module _ (o : Opening) (ps : List Played) (w : World) (departed : (d : ℕ) → (standing o ps).registry.left d ≡ left w d)
     (S : Spawned o w ps) where
   -- what is seen of it
-  abbrev now : Seen
+  abbrev pub now : Seen
   now = seen o w
 
-  abbrev Found : WorldEvent → Type 0
+  abbrev pub Found : WorldEvent → Type 0
   Found e = FindsItsNode o ps now e
 
   -- a node that the event names isn't of the world
-  abbrev outside : WorldEvent → Bool
+  abbrev pub outside : WorldEvent → Bool
   outside e = not (in_world o (place e)) || not (in_world o (other e))
 
   -- an event that is refused for another reason finds its node
-  found : (kind : Refusal → Bool) (e : WorldEvent) (q : Refusal) → kind NoSuchNode ≡ false → kind NodeLeft ≡ false
+  pub found : (kind : Refusal → Bool) (e : WorldEvent) (q : Refusal) → kind NoSuchNode ≡ false → kind NodeLeft ≡ false
       → kind q ≡ true → refusal o w e ≡ Some q → Found e × (first_cause (local_causes w e) ≡ Some q)
   found kind e q n l k h =
       let x : (outside e ≡ false) × (first_cause (cause (left w (place e)) NodeLeft ∷ local_causes w e) ≡ Some q) =
@@ -53,7 +48,7 @@ module _ (o : Opening) (ps : List Played) (w : World) (departed : (d : ℕ) → 
   in_the_world : (e : WorldEvent) → in_world o (place e) ≡ true → in_world o (other e) ≡ true → outside e ≡ false
   in_the_world e i j = ap (λ (b : Bool). not b || not (in_world o (other e))) i ∙ ap not j
 
-  as_local : (e : WorldEvent) → Found e → refusal o w e ≡ first_cause (local_causes w e)
+  pub as_local : (e : WorldEvent) → Found e → refusal o w e ≡ first_cause (local_causes w e)
   as_local e F = past (outside e) NoSuchNode (cause (left w (place e)) NodeLeft ∷ local_causes w e)
       (in_the_world e F.running.0 F.named)
       ∙ past (left w (place e)) NodeLeft (local_causes w e) (sym (departed (place e)) ∙ F.running.1)
@@ -132,7 +127,7 @@ module _ (o : Opening) (ps : List Played) (w : World) (departed : (d : ℕ) → 
       go false e = refl
 
   -- a refusal as of a node that isn't of the world
-  to_nowhere : (e : WorldEvent) → refusal o w e ≡ Some NoSuchNode → IsNowhere o ps now e
+  pub to_nowhere : (e : WorldEvent) → refusal o w e ≡ Some NoSuchNode → IsNowhere o ps now e
   to_nowhere e h = go (in_world o (place e)) refl (in_world o (other e)) refl
       (here (is 0) (outside e) NoSuchNode (cause (left w (place e)) NodeLeft ∷ local_causes w e) NoSuchNode
       (local_world w e).0 refl h).0
@@ -143,7 +138,7 @@ module _ (o : Opening) (ps : List Played) (w : World) (departed : (d : ℕ) → 
       go true i false j x = inr j
       go true i true j x = cc
 
-  from_nowhere : (e : WorldEvent) → IsNowhere o ps now e → refusal o w e ≡ Some NoSuchNode
+  pub from_nowhere : (e : WorldEvent) → IsNowhere o ps now e → refusal o w e ≡ Some NoSuchNode
   from_nowhere e h = hits (outside e) NoSuchNode (cause (left w (place e)) NodeLeft ∷ local_causes w e) (elim h [
     | inl i ↦ ap (λ (b : Bool). not b || not (in_world o (other e))) i
     | inr j ↦ go (in_world o (place e)) j
@@ -154,7 +149,7 @@ module _ (o : Opening) (ps : List Played) (w : World) (departed : (d : ℕ) → 
       go false j = refl
 
   -- as of one that has left
-  to_late : (e : WorldEvent) → refusal o w e ≡ Some NodeLeft → IsLate o ps now e
+  pub to_late : (e : WorldEvent) → refusal o w e ≡ Some NodeLeft → IsLate o ps now e
   to_late e h =
       let x : (outside e ≡ false)
       × (first_cause (cause (left w (place e)) NodeLeft ∷ local_causes w e) ≡ Some NodeLeft) =
@@ -168,13 +163,13 @@ module _ (o : Opening) (ps : List Played) (w : World) (departed : (d : ℕ) → 
             ∙ (here (is 1) (left w (place e)) NodeLeft (local_causes w e) NodeLeft (local_world w e).1 refl x.1).0;
       }
 
-  from_late : (e : WorldEvent) → IsLate o ps now e → refusal o w e ≡ Some NodeLeft
+  pub from_late : (e : WorldEvent) → IsLate o ps now e → refusal o w e ≡ Some NodeLeft
   from_late e L = past (outside e) NoSuchNode (cause (left w (place e)) NodeLeft ∷ local_causes w e)
       (in_the_world e L.inside L.named)
       ∙ hits (left w (place e)) NodeLeft (local_causes w e) (sym (departed (place e)) ∙ L.gone)
 
   -- of a lock call: as one of nobody
-  to_nobody : (e : WorldEvent) (p : Process) → refusal o w e ≡ Some (NotLive p) → IsOfNobody o ps now e p
+  pub to_nobody : (e : WorldEvent) (p : Process) → refusal o w e ≡ Some (NotLive p) → IsOfNobody o ps now e p
   to_nobody e p h = record {
     found = F.0;
     node = a;
@@ -209,7 +204,7 @@ module _ (o : Opening) (ps : List Played) (w : World) (departed : (d : ℕ) → 
       same : x.1 ≡ p
       same = cc first.1
 
-  from_nobody : (e : WorldEvent) (p : Process) → IsOfNobody o ps now e p → refusal o w e ≡ Some (NotLive p)
+  pub from_nobody : (e : WorldEvent) (p : Process) → IsOfNobody o ps now e p → refusal o w e ≡ Some (NotLive p)
   from_nobody e p N =
       let L : Locking w N.node p N.resource e = locking w N.node p N.resource e N.call in
       as_local e N.found ∙ ap first_cause L.causes
@@ -247,7 +242,7 @@ module _ (o : Opening) (ps : List Played) (w : World) (departed : (d : ℕ) → 
       (live_seen a p (not_false (is_live a (w.node a).watch p) x.0), y.1)
 
   -- as one on `global`
-  to_global : (e : WorldEvent) → refusal o w e ≡ Some Reserved → IsForGlobal o ps now e
+  pub to_global : (e : WorldEvent) → refusal o w e ≡ Some Reserved → IsForGlobal o ps now e
   to_global e h = record {
     found = F.0;
     node = x.0;
@@ -270,7 +265,7 @@ module _ (o : Opening) (ps : List Played) (w : World) (departed : (d : ℕ) → 
       B : IsLiveAt now x.0 x.1 × (first_cause (cause (x.2 == global_resource) Reserved ∷ L.more) ≡ Some Reserved)
       B = behind_busy 4 x.0 x.1 x.2 L.more Reserved refl refl refl (ap first_cause (sym L.causes) ∙ F.1)
 
-  from_global : (e : WorldEvent) → IsForGlobal o ps now e → refusal o w e ≡ Some Reserved
+  pub from_global : (e : WorldEvent) → IsForGlobal o ps now e → refusal o w e ≡ Some Reserved
   from_global e G =
       let L : Locking w G.node G.process global_resource e = locking w G.node G.process global_resource e G.call in
       past_busy e G.node G.process global_resource L.more G.found G.live G.idle L.causes
@@ -284,7 +279,7 @@ module _ (o : Opening) (ps : List Played) (w : World) (departed : (d : ℕ) → 
       some_stranger (w.node a).replica.members nodes n in
       record { nodes = nodes; named = refl; stranger = x.0; among = x.1; unknown = x.2 }
 
-  to_stranger : (e : WorldEvent) → refusal o w e ≡ Some UnknownNode → IsForStranger o ps now e
+  pub to_stranger : (e : WorldEvent) → refusal o w e ≡ Some UnknownNode → IsForStranger o ps now e
   to_stranger e h = record {
     found = F.0;
     node = x.0;
@@ -319,7 +314,7 @@ module _ (o : Opening) (ps : List Played) (w : World) (departed : (d : ℕ) → 
       C : ((x.2 == global_resource) ≡ false) × (first_cause more ≡ Some UnknownNode)
       C = behind (is 5) (x.2 == global_resource) Reserved more UnknownNode refl refl B.1
 
-  from_stranger : (e : WorldEvent) → IsForStranger o ps now e → refusal o w e ≡ Some UnknownNode
+  pub from_stranger : (e : WorldEvent) → IsForStranger o ps now e → refusal o w e ≡ Some UnknownNode
   from_stranger e S = past_busy e S.node S.process S.resource more S.found S.live S.idle (ap (local_causes w) S.call)
       ∙ past (S.resource == global_resource) Reserved more (ne_eqb S.resource global_resource S.free)
       ∙ hits (not (names_members (w.node S.node) S.target)) UnknownNode (calls_spent (w.node S.node) ∷ [])
@@ -336,7 +331,7 @@ module _ (o : Opening) (ps : List Played) (w : World) (departed : (d : ℕ) → 
           ∙ stranger_in (w.node S.node).replica.members N.nodes N.stranger N.among N.unknown
 
   -- of an exit: as one of a process that isn't
-  to_none : (e : WorldEvent) → refusal o w e ≡ Some NoSuchProcess → IsExitOfNone o ps now e
+  pub to_none : (e : WorldEvent) → refusal o w e ≡ Some NoSuchProcess → IsExitOfNone o ps now e
   to_none e h = record {
     found = F.0;
     node = x.0;
@@ -357,14 +352,14 @@ module _ (o : Opening) (ps : List Played) (w : World) (departed : (d : ℕ) → 
       x : (a : ℕ) × (p : Process) × (e ≡ At a (Event.Exiting p))
       x = only_exits w e NoSuchProcess refl F.1
 
-  from_none : (e : WorldEvent) → IsExitOfNone o ps now e → refusal o w e ≡ Some NoSuchProcess
+  pub from_none : (e : WorldEvent) → IsExitOfNone o ps now e → refusal o w e ≡ Some NoSuchProcess
   from_none e N = as_local e N.found ∙ ap (λ (e : WorldEvent). first_cause (local_causes w e)) N.exit
       ∙ hits (not (is_issued N.node (w.node N.node).watch N.process)) NoSuchProcess
       (cause (is_dead (w.node N.node).watch N.process.serial) AlreadyExited ∷ [])
       (ap not (not_issued N.node N.process N.none))
 
   -- and as one of a dead process
-  to_dead : (e : WorldEvent) → refusal o w e ≡ Some AlreadyExited → IsExitOfDead o ps now e
+  pub to_dead : (e : WorldEvent) → refusal o w e ≡ Some AlreadyExited → IsExitOfDead o ps now e
   to_dead e h = record {
     found = F.0;
     node = x.0;
@@ -390,7 +385,7 @@ module _ (o : Opening) (ps : List Played) (w : World) (departed : (d : ℕ) → 
       I : IsIssuedBy ps x.0 x.1
       I = issued_seen x.0 x.1 (not_false (is_issued x.0 (w.node x.0).watch x.1) B.0)
 
-  from_dead : (e : WorldEvent) → IsExitOfDead o ps now e → refusal o w e ≡ Some AlreadyExited
+  pub from_dead : (e : WorldEvent) → IsExitOfDead o ps now e → refusal o w e ≡ Some AlreadyExited
   from_dead e D = as_local e D.found ∙ ap (λ (e : WorldEvent). first_cause (local_causes w e)) D.exit
       ∙ past (not (is_issued D.node (w.node D.node).watch D.process)) NoSuchProcess
       (cause (is_dead (w.node D.node).watch D.process.serial) AlreadyExited ∷ [])
@@ -400,23 +395,3 @@ module _ (o : Opening) (ps : List Played) (w : World) (departed : (d : ℕ) → 
     where
       home : D.process.node ≡ D.node
       home = let I : IsIssuedBy ps D.node D.process = D.issued in I.home
-
-  -- all this together
-  says_why : SaysWhy o ps now
-  says_why = record {
-    no_such_node = λ e. (to_nowhere e, from_nowhere e);
-    node_left = λ e. (to_late e, from_late e);
-    not_live = λ e p. (to_nobody e p, from_nobody e p);
-    reserved = λ e. (to_global e, from_global e);
-    unknown_node = λ e. (to_stranger e, from_stranger e);
-    no_such_process = λ e. (to_none e, from_none e);
-    already_exited = λ e. (to_dead e, from_dead e);
-  }
-
--- each refusal stands for its reason
-pub refusals_in_words : RefusalsInWords
-refusals_in_words o es = says_why o (events o es) (world o es)
-    (λ d. ap (λ (t : Standing). t.registry.left d)
-    (sym (Fields.past_now o (events o es) (world o es) (run_whole o es) (written o es)))
-    ∙ (replicas o (world o es) (run_whole o es).kept).departed d)
-    (spawned o es)

@@ -13,7 +13,7 @@ use Rattle.headline.proofs.Answered
 use Rattle.headline.proofs.Joiners
 use Rattle.headline.proofs.LookingUp.{look_ups_read_the_table}
 use Rattle.headline.proofs.NextSerial.{spawns_give_the_next}
-use Rattle.headline.proofs.Refusals.{refusals_in_words}
+use Rattle.headline.proofs.Reasons.{refusals_in_words}
 use Rattle.headline.proofs.Welcomed
 
 module _ (o : Opening) (es : List WorldEvent) where

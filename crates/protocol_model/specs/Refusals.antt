@@ -3,13 +3,14 @@
 -- it aren't there.
 -- o: the opening; ps: the accepted events; now: what is seen behind them; e: an event that comes next; a: a node; p: a process.
 use mathlib.Core.Logic.{◌⊎◌}
-use Rattle.std.specs.Prelude.{ℕ, true, false, ◌≡◌, ◌<◌, ◌≤◌, ◌↔◌, Contains, Some, List}
+use Rattle.std.specs.Prelude.{ℕ, true, false, ◌≡◌, ◌<◌, ◌≤◌, ◌↔◌, Contains, Some, length, List}
 use Rattle.registry_model.specs.Process.{Text, Process}
 use Rattle.protocol_model.specs.Node.{Target, Named, Retries}
-use Rattle.protocol_model.specs.Event.{Call, Event, NoSuchNode, NodeLeft, NotLive, Busy, Reserved, UnknownNode, NoSuchProcess, AlreadyExited, global_resource}
+use Rattle.protocol_model.specs.Event.{Call, Event, Refusal, NoSuchNode, NodeLeft, NotLive, Busy, Reserved, UnknownNode, NoSuchProcess, AlreadyExited, SerialsSpent, CallsSpent, last_u32, global_resource}
 use Rattle.protocol_model.specs.World.{Opening, in_world, WorldEvent, At, place, other}
 use Rattle.protocol_model.specs.Course.{Played, Seen, standing, IsRunning}
-use Rattle.protocol_model.specs.Answers.{WasSpawned}
+use Rattle.protocol_model.specs.Fit.{is_numbered}
+use Rattle.protocol_model.specs.Answers.{WasSpawned, calls_at}
 
 -- the event is a lock call of p at a on resource r
 pub data IsLockCall (a : ℕ) (p : Process) (r : Text) : WorldEvent → Type 0 where
@@ -110,9 +111,26 @@ module _ (o : Opening) (ps : List Played) (now : Seen) (e : WorldEvent) where
     pub issued : IsIssuedBy ps node process
     pub dead : now.dead process ≡ true
 
+  -- a `spawn` where each process above those that were spawned there is dead, up to the greatest serial
+  pub record IsBeyondSerials : Type 0 where
+    pub found : FindsItsNode
+    pub node : ℕ
+    pub spawn : e ≡ At node (Event.Calling Call.Spawn)
+    pub spent : (q : Process) → q.node ≡ node → 0 < q.serial → q.serial ≤ last_u32 →
+        ((s : Process) → s.node ≡ node → WasSpawned ps s → s.serial < q.serial) → now.dead q ≡ true
+
+  -- a numbered call of a node that has accepted as many as there are numbers, for which nothing else speaks
+  pub record IsBeyondCalls : Type 0 where
+    pub node : ℕ
+    pub call : Call
+    pub called : e ≡ At node (Event.Calling call)
+    pub numbered : is_numbered call ≡ true
+    pub spent : length (calls_at node ps) ≡ last_u32
+    pub only : (r : Refusal) → now.refusal e ≡ Some r → r ≡ CallsSpent
+
 -- An event is refused so exactly for this reason. A leave is refused as the clause `leave` of the headline says. Nothing is said of
--- the refusals that tell of more than is seen: that a process has another lock call (`Busy`), that a node has joined or asked to,
--- that its numbers or serials are spent, that a link is empty, and that nothing waits for a retry
+-- four refusals: that a process has another lock call (`Busy`), that a node has joined or asked to (`AlreadyJoined`), and those that
+-- tell of more than is seen, that a link is empty (`EmptyLink`) and that nothing waits for a retry (`NothingToRetry`)
 pub record SaysWhy (o : Opening) (ps : List Played) (now : Seen) : Type 0 where
   pub no_such_node : (e : WorldEvent) → (now.refusal e ≡ Some NoSuchNode) ↔ IsNowhere o ps now e
   pub node_left : (e : WorldEvent) → (now.refusal e ≡ Some NodeLeft) ↔ IsLate o ps now e
@@ -121,3 +139,5 @@ pub record SaysWhy (o : Opening) (ps : List Played) (now : Seen) : Type 0 where
   pub unknown_node : (e : WorldEvent) → (now.refusal e ≡ Some UnknownNode) ↔ IsForStranger o ps now e
   pub no_such_process : (e : WorldEvent) → (now.refusal e ≡ Some NoSuchProcess) ↔ IsExitOfNone o ps now e
   pub already_exited : (e : WorldEvent) → (now.refusal e ≡ Some AlreadyExited) ↔ IsExitOfDead o ps now e
+  pub serials_spent : (e : WorldEvent) → (now.refusal e ≡ Some SerialsSpent) ↔ IsBeyondSerials o ps now e
+  pub calls_spent : (e : WorldEvent) → (now.refusal e ≡ Some CallsSpent) ↔ IsBeyondCalls o ps now e
