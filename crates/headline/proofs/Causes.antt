@@ -194,6 +194,14 @@ module _ (w : World) where
   only_spawns (At a e) h = absurd (never (is 8) (local_causes w (At a e)) SerialsSpent refl refl h)
   only_spawns (Deliver f t) h = absurd (never (is 8) (local_causes w (Deliver f t)) SerialsSpent refl refl h)
 
+  pub only_joins : (e : WorldEvent) → first_cause (local_causes w e) ≡ Some AlreadyJoined
+      → (a : ℕ) × (m : ℕ) × (e ≡ At a (Event.Calling (Call.JoinBy m)))
+  only_joins (At a (Event.Calling (Call.JoinBy m))) h = (a, m, refl)
+  only_joins (At a (Event.Calling c)) h =
+      absurd (never (is 9) (local_causes w (At a (Event.Calling c))) AlreadyJoined refl refl h)
+  only_joins (At a e) h = absurd (never (is 9) (local_causes w (At a e)) AlreadyJoined refl refl h)
+  only_joins (Deliver f t) h = absurd (never (is 9) (local_causes w (Deliver f t)) AlreadyJoined refl refl h)
+
   -- the numbers are looked at last
   last_cause : (a : ℕ) (cs : List Cause) → has (is 10) cs ≡ false
       → first_cause (cs ++ calls_spent (w.node a) ∷ []) ≡ Some CallsSpent → ((w.node a).last_call == last_u32) ≡ true

@@ -24,6 +24,7 @@ pub mod NextSerial
 pub mod LookingUp
 pub mod Causes
 pub mod Refusals
+pub mod Joining
 pub mod Reasons
 pub mod Theorem
 pub mod Agreeing

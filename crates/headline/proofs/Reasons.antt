@@ -1,18 +1,20 @@
--- Why an event is refused where serials or numbers are spent, and what all refusals mean.
+-- Why an event is refused where serials or numbers are spent, or its node has joined; and what all refusals mean.
 use Rattle.std.proofs.Common.{ℕ, Bool, true, false, ◌≡◌, ◌==◌, ◌<◌, Option, Some, None, List, ◌∷◌, [], refl, sym, ap, ◌∙◌, arith}
 use Rattle.std.specs.Prelude.{nat_lt}
 use Rattle.std.proofs.lemmas.Bool.{eqb-true, eq-eqb, ltb-true, ltb-false}
 use Rattle.registry_model.specs.History.{Standing}
 use Rattle.protocol_model.specs.Watch.{next_serial}
 use Rattle.protocol_model.specs.Fit.{is_numbered}
-use Rattle.protocol_model.specs.Event.{Call, Event, Refusal, NodeLeft, NoSuchNode, SerialsSpent, CallsSpent, Cause, cause, first_cause, last_u32}
+use Rattle.protocol_model.specs.Event.{Call, Event, Refusal, NodeLeft, NoSuchNode, AlreadyJoined, SerialsSpent, CallsSpent, Cause, cause, first_cause, calls_spent, has_joined, last_u32}
 use Rattle.protocol_model.specs.World.{Opening, World, WorldEvent, At, place, left, refusal, local_causes}
 use Rattle.protocol_model.specs.Course.{Played, standing, seen}
 use Rattle.protocol_model.specs.Answers.{IsNextProcess}
-use Rattle.protocol_model.specs.Refusals.{IsBeyondSerials, IsBeyondCalls, SaysWhy}
+use Rattle.protocol_model.specs.Refusals.{IsJoinOfJoined, IsBeyondSerials, IsBeyondCalls, SaysWhy}
 use Rattle.headline.specs.Clauses.{events, world, RefusalsInWords}
-use Rattle.headline.proofs.Causes.{is, here, hits, some_cause, Counting, counting, only_spawns, only_calls}
+use Rattle.headline.proofs.Causes.{is, here, hits, some_cause, Counting, counting, only_spawns, only_joins, only_calls}
+use Rattle.moves.proofs.Invariants.{Replicas}
 use Rattle.headline.proofs.Refusals
+use Rattle.headline.proofs.Joining.{NoneAsks, none_asks, joined_or_waits, has_joined_or_waits}
 use Rattle.headline.proofs.Spawning.{next_at}
 use Rattle.headline.proofs.NextSerial.{Spawned, spawned, is_next}
 use Rattle.headline.proofs.Together.{run_whole, replicas}
@@ -21,7 +23,7 @@ use Rattle.headline.proofs.Fields
 
 -- o and ps: the opening and the events that made w
 module _ (o : Opening) (ps : List Played) (w : World) (departed : (d : ℕ) → (standing o ps).registry.left d ≡ left w d)
-    (S : Spawned o w ps) where
+    (S : Spawned o w ps) (R : Replicas o w) (N : NoneAsks w) where
   abbrev Found : WorldEvent → Type 0
   Found e = Refusals.Found o ps w departed S e
 
@@ -31,7 +33,7 @@ module _ (o : Opening) (ps : List Played) (w : World) (departed : (d : ℕ) → 
     found = F.0;
     node = x.0;
     spawn = x.1;
-    spent = λ q home pos most all. N.between q home pos (omega (arith, most, over)) all;
+    spent = λ q home pos most all. next.between q home pos (omega (arith, most, over)) all;
   }
     where
       F : Found e × (first_cause (local_causes w e) ≡ Some SerialsSpent)
@@ -40,8 +42,8 @@ module _ (o : Opening) (ps : List Played) (w : World) (departed : (d : ℕ) → 
       x : (a : ℕ) × (e ≡ At a (Event.Calling Call.Spawn))
       x = only_spawns w e F.1
 
-      N : IsNextProcess ps (seen o w).dead x.0 (next_at w x.0)
-      N = is_next o w ps x.0 S
+      next : IsNextProcess ps (seen o w).dead x.0 (next_at w x.0)
+      next = is_next o w ps x.0 S
 
       over : last_u32 < next_serial (w.node x.0).watch
       over = ltb-true last_u32 (next_serial (w.node x.0).watch)
@@ -54,15 +56,39 @@ module _ (o : Opening) (ps : List Played) (w : World) (departed : (d : ℕ) → 
       ∙ hits (nat_lt last_u32 (next_serial (w.node B.node).watch)) SerialsSpent []
       (go (nat_lt last_u32 (next_serial (w.node B.node).watch)) refl)
     where
-      N : IsNextProcess ps (seen o w).dead B.node (next_at w B.node)
-      N = is_next o w ps B.node S
+      next : IsNextProcess ps (seen o w).dead B.node (next_at w B.node)
+      next = is_next o w ps B.node S
 
       go : (b : Bool) → nat_lt last_u32 (next_serial (w.node B.node).watch) ≡ b → b ≡ true
       go true e = refl
       go false e = cc (
-        B.spent (next_at w B.node) N.home N.serial (ltb-false last_u32 (next_serial (w.node B.node).watch) e) N.above,
-        N.alive,
+        B.spent (next_at w B.node) next.home next.serial (ltb-false last_u32 (next_serial (w.node B.node).watch) e) next.above,
+        next.alive,
       )
+
+  -- of a join: as one of a node that has joined, or waits to
+  to_joined : (e : WorldEvent) → refusal o w e ≡ Some AlreadyJoined → IsJoinOfJoined o ps (seen o w) e
+  to_joined e h = record {
+    found = F.0;
+    node = x.0;
+    contact = x.1;
+    call = x.2;
+    joined = joined_or_waits o w ps S.given.kept R x.0
+        (here (is 9) (has_joined (w.node x.0)) AlreadyJoined (calls_spent (w.node x.0) ∷ []) AlreadyJoined refl refl
+        (ap (λ (e : WorldEvent). first_cause (local_causes w e)) (sym x.2) ∙ F.1)).0;
+  }
+    where
+      F : Found e × (first_cause (local_causes w e) ≡ Some AlreadyJoined)
+      F = Refusals.found o ps w departed S (is 9) e AlreadyJoined refl refl refl h
+
+      x : (a : ℕ) × (m : ℕ) × (e ≡ At a (Event.Calling (Call.JoinBy m)))
+      x = only_joins w e F.1
+
+  from_joined : (e : WorldEvent) → IsJoinOfJoined o ps (seen o w) e → refusal o w e ≡ Some AlreadyJoined
+  from_joined e J = Refusals.as_local o ps w departed S e J.found
+      ∙ ap (λ (e : WorldEvent). first_cause (local_causes w e)) J.call
+      ∙ hits (has_joined (w.node J.node)) AlreadyJoined (calls_spent (w.node J.node) ∷ [])
+      (has_joined_or_waits o w ps S.given.kept R J.node N J.joined)
 
   -- of a numbered call: as one that has no number left
   to_calls : (e : WorldEvent) → refusal o w e ≡ Some CallsSpent → IsBeyondCalls o ps (seen o w) e
@@ -102,6 +128,7 @@ module _ (o : Opening) (ps : List Played) (w : World) (departed : (d : ℕ) → 
     not_live = λ e p. (Refusals.to_nobody o ps w departed S e p, Refusals.from_nobody o ps w departed S e p);
     reserved = λ e. (Refusals.to_global o ps w departed S e, Refusals.from_global o ps w departed S e);
     unknown_node = λ e. (Refusals.to_stranger o ps w departed S e, Refusals.from_stranger o ps w departed S e);
+    already_joined = λ e. (to_joined e, from_joined e);
     no_such_process = λ e. (Refusals.to_none o ps w departed S e, Refusals.from_none o ps w departed S e);
     already_exited = λ e. (Refusals.to_dead o ps w departed S e, Refusals.from_dead o ps w departed S e);
     serials_spent = λ e. (to_serials e, from_serials e);
@@ -114,4 +141,4 @@ refusals_in_words o es = says_why o (events o es) (world o es)
     (λ d. ap (λ (t : Standing). t.registry.left d)
     (sym (Fields.past_now o (events o es) (world o es) (run_whole o es) (written o es)))
     ∙ (replicas o (world o es) (run_whole o es).kept).departed d)
-    (spawned o es)
+    (spawned o es) (replicas o (world o es) (run_whole o es).kept) (none_asks o es)

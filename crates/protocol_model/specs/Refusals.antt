@@ -3,14 +3,14 @@
 -- it aren't there.
 -- o: the opening; ps: the accepted events; now: what is seen behind them; e: an event that comes next; a: a node; p: a process.
 use mathlib.Core.Logic.{◌⊎◌}
-use Rattle.std.specs.Prelude.{ℕ, true, false, ◌≡◌, ◌<◌, ◌≤◌, ◌↔◌, Contains, Some, length, List}
+use Rattle.std.specs.Prelude.{ℕ, true, false, ◌≡◌, ◌<◌, ◌≤◌, ◌↔◌, Contains, Some, length, List, []}
 use Rattle.registry_model.specs.Process.{Text, Process}
 use Rattle.protocol_model.specs.Node.{Target, Named, Retries}
-use Rattle.protocol_model.specs.Event.{Call, Event, Refusal, NoSuchNode, NodeLeft, NotLive, Busy, Reserved, UnknownNode, NoSuchProcess, AlreadyExited, SerialsSpent, CallsSpent, last_u32, global_resource}
+use Rattle.protocol_model.specs.Event.{Call, Event, Refusal, NoSuchNode, NodeLeft, NotLive, Busy, Reserved, UnknownNode, AlreadyJoined, NoSuchProcess, AlreadyExited, SerialsSpent, CallsSpent, last_u32, global_resource}
 use Rattle.protocol_model.specs.World.{Opening, in_world, WorldEvent, At, place, other}
 use Rattle.protocol_model.specs.Course.{Played, Seen, standing, IsRunning}
-use Rattle.protocol_model.specs.Fit.{is_numbered}
-use Rattle.protocol_model.specs.Answers.{WasSpawned, calls_at}
+use Rattle.protocol_model.specs.Fit.{JoinAs, is_numbered, accepted_at}
+use Rattle.protocol_model.specs.Answers.{WasSpawned, calls_at, answers_under}
 
 -- the event is a lock call of p at a on resource r
 pub data IsLockCall (a : ℕ) (p : Process) (r : Text) : WorldEvent → Type 0 where
@@ -41,6 +41,13 @@ pub record NamesStranger (now : Seen) (a : ℕ) (target : Target) : Type 0 where
   pub stranger : ℕ
   pub among : Contains nodes stranger
   pub unknown : (now.node a).members stranger ≡ false
+
+-- a has accepted a join call that isn't answered yet
+pub record WaitsToJoin (ps : List Played) (a : ℕ) : Type 0 where
+  pub number : ℕ
+  pub contact : ℕ
+  pub accepted : Contains (accepted_at a ps) (JoinAs number contact)
+  pub unanswered : answers_under a number ps ≡ []
 
 module _ (o : Opening) (ps : List Played) (now : Seen) (e : WorldEvent) where
   -- the nodes that the event names are of the world, and the one where it happens hasn't left
@@ -94,6 +101,14 @@ module _ (o : Opening) (ps : List Played) (now : Seen) (e : WorldEvent) where
     pub free : resource ≡ global_resource → ⊥
     pub stranger : NamesStranger now node target
 
+  -- a join call of a node that shows that it is joined, or waits to be
+  pub record IsJoinOfJoined : Type 0 where
+    pub found : FindsItsNode
+    pub node : ℕ
+    pub contact : ℕ
+    pub call : e ≡ At node (Event.Calling (Call.JoinBy contact))
+    pub joined : ((now.node node).joined ≡ true) ⊎ WaitsToJoin ps node
+
   -- the exit of what isn't a process of its node, or wasn't spawned yet
   pub record IsExitOfNone : Type 0 where
     pub found : FindsItsNode
@@ -129,14 +144,15 @@ module _ (o : Opening) (ps : List Played) (now : Seen) (e : WorldEvent) where
     pub only : (r : Refusal) → now.refusal e ≡ Some r → r ≡ CallsSpent
 
 -- An event is refused so exactly for this reason. A leave is refused as the clause `leave` of the headline says. Nothing is said of
--- four refusals: that a process has another lock call (`Busy`), that a node has joined or asked to (`AlreadyJoined`), and those that
--- tell of more than is seen, that a link is empty (`EmptyLink`) and that nothing waits for a retry (`NothingToRetry`)
+-- three refusals: that a process has another lock call (`Busy`), and those that tell of more than is seen, that a link is empty
+-- (`EmptyLink`) and that nothing waits for a retry (`NothingToRetry`)
 pub record SaysWhy (o : Opening) (ps : List Played) (now : Seen) : Type 0 where
   pub no_such_node : (e : WorldEvent) → (now.refusal e ≡ Some NoSuchNode) ↔ IsNowhere o ps now e
   pub node_left : (e : WorldEvent) → (now.refusal e ≡ Some NodeLeft) ↔ IsLate o ps now e
   pub not_live : (e : WorldEvent) (p : Process) → (now.refusal e ≡ Some (NotLive p)) ↔ IsOfNobody o ps now e p
   pub reserved : (e : WorldEvent) → (now.refusal e ≡ Some Reserved) ↔ IsForGlobal o ps now e
   pub unknown_node : (e : WorldEvent) → (now.refusal e ≡ Some UnknownNode) ↔ IsForStranger o ps now e
+  pub already_joined : (e : WorldEvent) → (now.refusal e ≡ Some AlreadyJoined) ↔ IsJoinOfJoined o ps now e
   pub no_such_process : (e : WorldEvent) → (now.refusal e ≡ Some NoSuchProcess) ↔ IsExitOfNone o ps now e
   pub already_exited : (e : WorldEvent) → (now.refusal e ≡ Some AlreadyExited) ↔ IsExitOfDead o ps now e
   pub serials_spent : (e : WorldEvent) → (now.refusal e ≡ Some SerialsSpent) ↔ IsBeyondSerials o ps now e
