@@ -15,4 +15,5 @@ pub mod Within
 pub mod Replies
 pub mod LookUps
 pub mod Once
+pub mod Unanswered
 pub mod Theorem

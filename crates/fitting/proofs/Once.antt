@@ -29,7 +29,7 @@ abbrev pub is_under : ℕ → ℕ → Answer → Bool
 is_under a k s = (s.node == a) && (s.number == k)
 
 -- the number of a call is k
-abbrev is_number : ℕ → Numbered → Bool
+abbrev pub is_number : ℕ → Numbered → Bool
 is_number k n = number_of n == k
 
 -- the answer of node a to a call of its own, by a reply that the call may have
@@ -95,7 +95,7 @@ paired_entry a s (Entry.Join j k m reply) l = go (j == a)
 paired_entry a s _ l = tt
 
 -- and so does each entry of a legal history
-paired_history : (a : ℕ) (s : Standing) (es : List Entry) → all_legal s es ≡ true
+pub paired_history : (a : ℕ) (s : Standing) (es : List Entry) → all_legal s es ≡ true
     → Paired a (flat_map (decided_at a) es) (flat_map (entered_at a) es)
 paired_history a s [] l = tt
 paired_history a s (e ∷ es) l =
@@ -112,7 +112,7 @@ same_test a k (JoinAs i m) s (reply, is, may) = ap (is_under a k) is
     ∙ ap (λ (t : Bool). t && (i == k)) (eq-eqb a a refl)
 
 -- and so those of a whole list are
-paired_filter : (a k : ℕ) (ns : List Numbered) (xs : List Answer) → Paired a ns xs
+pub paired_filter : (a k : ℕ) (ns : List Numbered) (xs : List Answer) → Paired a ns xs
     → Paired a (filter (is_number k) ns) (filter (is_under a k) xs)
 paired_filter a k [] [] p = tt
 paired_filter a k [] (x ∷ xs) p = absurd p
@@ -148,12 +148,12 @@ none_before k i (c ∷ cs) l = filter-append (is_number i) (numbered k c) (numbe
     ∙ none_before (k + 1) i cs (omega arith)
 
 -- the name or join call under a number, if there is one
-abbrev numbered_if : ℕ → Option Call → List Numbered
+abbrev pub numbered_if : ℕ → Option Call → List Numbered
 numbered_if k None = []
 numbered_if k (Some c) = numbered k c
 
 -- the calls of one number: the one in that place
-number_at : (k i : ℕ) (cs : List Call)
+pub number_at : (k i : ℕ) (cs : List Call)
     → filter (is_number (k + i)) (number_from k cs) ≡ numbered_if (k + i) (slice_get cs i)
 number_at k i [] = refl
 number_at k zero (c ∷ cs) = filter-append (is_number (k + 0)) (numbered k c) (number_from (k + 1) cs)
@@ -244,20 +244,17 @@ filter_twice {X} p q (x ∷ xs) = go (q x) (filter_twice p q xs)
     go true e = ap (λ (l : List X). if p x then x ∷ l else l) e
     go false e = e
 
--- each numbered call is answered at most once, where each lock call is
-pub answers_once : (o : Opening) (w : World) (ps : List Played) → Book o w ps → Spares w ps → Replicas o w
-    → ((a k : ℕ) → 0 < k → AtMostOne (calls_at a ps) a k (filter (is_lock_under a k) (answers_of ps)))
-    → (a k : ℕ) → 0 < k → AtMostOne (calls_at a ps) a k (answers_under a k ps)
-answers_once o w ps B X R locks a k pos = by_kind (is_used (accepted_at a ps) k) refl
+-- under the number of a name or join call only words are answered
+pub used_words : (w : World) (ps : List Played) (a k : ℕ) → Spares w ps → is_used (accepted_at a ps) k ≡ true
+    → filter (is_under a k) (filter (is_word_at a) (answers_of ps)) ≡ answers_under a k ps
+used_words w ps a k X used = filter_twice (is_under a k) (is_word_at a) (answers_of ps)
+    ∙ filter_same (λ (s : Answer). is_word_at a s && is_under a k s) (is_under a k) (answers_of ps)
+    (all_map (λ (s : Answer). is_word s.reply ≡ false → Spare ps s.node s.number)
+    (λ (s : Answer). (is_word_at a s && is_under a k s) ≡ is_under a k s) only_words (answers_of ps) X.answers)
   where
-    Once_of : List Answer → Type 0
-    Once_of = AtMostOne (calls_at a ps) a k
-
-    -- under the number of a name or join call only words are answered
-    only_words : is_used (accepted_at a ps) k ≡ true → (s : Answer) → (is_word s.reply ≡ false
-        → Spare ps s.node s.number)
+    only_words : (s : Answer) → (is_word s.reply ≡ false → Spare ps s.node s.number)
         → (is_word_at a s && is_under a k s) ≡ is_under a k s
-    only_words used s spare = go (s.node == a) refl (s.number == k) refl (is_word s.reply) refl
+    only_words s spare = go (s.node == a) refl (s.number == k) refl (is_word s.reply) refl
       where
         go : (b : Bool) → (s.node == a) ≡ b → (c : Bool) → (s.number == k) ≡ c → (d : Bool) → is_word s.reply ≡ d
             → ((b && d) && (b && c)) ≡ (b && c)
@@ -272,7 +269,16 @@ answers_once o w ps B X R locks a k pos = by_kind (is_used (accepted_at a ps) k)
                   (subst (λ (n : ℕ). is_used (accepted_at s.node ps) n ≡ false) (eqb-true s.number k y) free),
             ))
 
-    -- and under others none
+-- each numbered call is answered at most once, where each lock call is
+pub answers_once : (o : Opening) (w : World) (ps : List Played) → Book o w ps → Spares w ps → Replicas o w
+    → ((a k : ℕ) → 0 < k → AtMostOne (calls_at a ps) a k (filter (is_lock_under a k) (answers_of ps)))
+    → (a k : ℕ) → 0 < k → AtMostOne (calls_at a ps) a k (answers_under a k ps)
+answers_once o w ps B X R locks a k pos = by_kind (is_used (accepted_at a ps) k) refl
+  where
+    Once_of : List Answer → Type 0
+    Once_of = AtMostOne (calls_at a ps) a k
+
+    -- under the number of a lock call no words are answered
     no_words : is_used (accepted_at a ps) k ≡ false → (s : Answer)
         → (is_word_at a s ≡ true → is_answered (filter (is_word_at a) (answers_of ps)) s.number ≡ true)
         → is_lock_under a k s ≡ is_under a k s
@@ -292,13 +298,7 @@ answers_once o w ps B X R locks a k pos = by_kind (is_used (accepted_at a ps) k)
             ))
 
     by_kind : (b : Bool) → is_used (accepted_at a ps) k ≡ b → Once_of (answers_under a k ps)
-    by_kind true used = subst Once_of
-        (filter_twice (is_under a k) (is_word_at a) (answers_of ps)
-        ∙ filter_same (λ (s : Answer). is_word_at a s && is_under a k s) (is_under a k) (answers_of ps)
-        (all_map (λ (s : Answer). is_word s.reply ≡ false → Spare ps s.node s.number)
-        (λ (s : Answer). (is_word_at a s && is_under a k s) ≡ is_under a k s) (only_words used)
-        (answers_of ps) X.answers))
-        (words_once o w ps B R a k pos)
+    by_kind true used = subst Once_of (used_words w ps a k X used) (words_once o w ps B R a k pos)
     by_kind false unused = subst Once_of
         (filter_same (is_lock_under a k) (is_under a k) (answers_of ps)
         (all_map (λ (s : Answer). is_word_at a s ≡ true

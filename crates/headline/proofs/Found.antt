@@ -1,7 +1,7 @@
 -- When a call is answered `yes`, every running node of the group finds the process that it gave the name to.
 use mathlib.Core.Logic.{◌⊎◌}
 use Rattle.std.proofs.Common.{ℕ, Bool, true, false, ◌≡◌, ◌+◌, ◌≤◌, Option, Some, None, List, [], ◌∷◌, ◌++◌, refl, sym, ap, ◌∙◌, subst, arith, inl, inr}
-use Rattle.std.specs.Prelude.{Contains, filter, flat_map, fold, is_some, if◌then◌else◌}
+use Rattle.std.specs.Prelude.{Contains, flat_map, fold, is_some, if◌then◌else◌}
 use Rattle.std.specs.List.{list_any}
 use Rattle.std.proofs.lemmas.Bool.{eq-eqb}
 use Rattle.std.proofs.lemmas.List.{append_assoc}
@@ -30,6 +30,7 @@ use Rattle.protocol_model.specs.Answers.{answer_to, is_prompt, due_when_done, du
 use Rattle.protocol_model.specs.Headline.{standing}
 use Rattle.registry_model.proofs.Updates.{at_other}
 use Rattle.moves.proofs.Indices.{both, neither}
+pub use Rattle.fitting.proofs.Unanswered.{kept_in}
 use Rattle.headline.specs.Clauses.{world, events, so_far}
 use Rattle.headline.specs.Laws.{YesIsFound}
 use Rattle.headline.proofs.Turns.{begins}
@@ -38,23 +39,6 @@ use Rattle.headline.proofs.Courses.{entries_of-push}
 use Rattle.headline.proofs.Story.{Written}
 use Rattle.headline.proofs.Fields.{past_now}
 use Rattle.headline.proofs.Theorem.{whole, told, history_grows, history_is_legal, history_fits, answers_come_in_time, yes_is_written}
-
--- what passes is among those that pass
-pub kept_in : {A : Type 0} (test : A → Bool) (xs : List A) (x : A) → Contains xs x → test x ≡ true
-    → Contains (filter test xs) x
-kept_in {A} test [] x c t = absurd (Contains-nil x c)
-kept_in {A} test (y ∷ ys) x c t = go (test y) refl (λ d. kept_in test ys x d t)
-  where
-    go : (b : Bool) → test y ≡ b → (Contains ys x → Contains (filter test ys) x)
-        → Contains (if b then y ∷ filter test ys else filter test ys) x
-    go true i more = elim (Contains-cases y ys x c) [
-      | inl e ↦ subst (λ (z : A). Contains (y ∷ filter test ys) z) e (Contains-front y (filter test ys))
-      | inr d ↦ Contains-behind y (filter test ys) x (more d)
-    ]
-    go false i more = elim (Contains-cases y ys x c) [
-      | inl e ↦ absurd (cc (i, ap test e, t))
-      | inr d ↦ more d
-    ]
 
 -- an entry that answered at once stands among these, with those before and behind it
 pub record Due (t : Standing) (es : List Entry) (s : Answer) : Type 0 where

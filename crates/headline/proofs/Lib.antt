@@ -26,6 +26,10 @@ pub mod Welcomed
 pub mod Spawning
 pub mod NextSerial
 pub mod LookingUp
+pub mod Causes
+pub mod Refusals
+pub mod Joining
+pub mod Reasons
 pub mod Theorem
 pub mod Agreeing
 pub mod Entries

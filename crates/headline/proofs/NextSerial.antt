@@ -19,7 +19,7 @@ use Rattle.headline.proofs.Story.{ground}
 use Rattle.headline.proofs.Spawning.{serial_at, next_at, serial_behind, spawn_answers, spawn_gives, Given, given_opens, given_keeps}
 
 -- the process of node b with the greatest serial that was given there
-abbrev last_at : World → ℕ → Process
+abbrev pub last_at : World → ℕ → Process
 last_at w b = record { node = b; serial = serial_at w b }
 
 -- an event that is answered is accepted
@@ -35,9 +35,9 @@ was_more : (ps : List Played) (p : Played) (q : Process) → WasSpawned ps q →
 was_more ps p q (s, c, I) = (s, Contains-append_left ps (p ∷ []) s c, I)
 
 -- what is kept of serials: the greatest at each node was spawned, where there is one
-record Spawned (o : Opening) (w : World) (ps : List Played) : Type 0 where
-  given : Given o w ps
-  reached : (b : ℕ) → (serial_at w b ≡ 0) ⊎ WasSpawned ps (last_at w b)
+pub record Spawned (o : Opening) (w : World) (ps : List Played) : Type 0 where
+  pub given : Given o w ps
+  pub reached : (b : ℕ) → (serial_at w b ≡ 0) ⊎ WasSpawned ps (last_at w b)
 
 module _ (o : Opening) where
   spawned_opens : Spawned o (opening_world o) []
@@ -79,7 +79,7 @@ module _ (o : Opening) where
       Goal b serial = (serial ≡ 0) ⊎ WasSpawned (ps ++ p ∷ []) (record { node = b; serial = serial })
 
   -- what a `spawn` would give is the next process
-  is_next : (w : World) (ps : List Played) (a : ℕ) → Spawned o w ps → IsNextProcess ps (seen o w).dead a (next_at w a)
+  pub is_next : (w : World) (ps : List Played) (a : ℕ) → Spawned o w ps → IsNextProcess ps (seen o w).dead a (next_at w a)
   is_next w ps a S = record {
     home = refl;
     serial = omega (arith, next_serial-new v);
@@ -97,14 +97,15 @@ module _ (o : Opening) where
       behind r pos all (inl none) = omega arith
       behind r pos all (inr was) = omega (arith, all (last_at w a) refl was)
 
+  -- it holds behind every list of events
+  pub spawned : (es : List WorldEvent) → Spawned o (world o es) (events o es)
+  spawned es = Chains.course_keeps o (Whole o) (ground o) (Spawned o) spawned_keeps es (opening_world o) []
+      (whole_opens o) spawned_opens
+
 -- a `spawn` gives the next process
 pub spawns_give_the_next : SpawnsGiveTheNext
 spawns_give_the_next o es a q c =
     subst (IsNextProcess (events o es) (now o es).dead a)
-    (spawn_gives o (world o es) (events o es) a q spawned.given.kept
+    (spawn_gives o (world o es) (events o es) a q (spawned o es).given.kept
     (accepts o (world o es) (At a (Event.Calling Call.Spawn)) (answer_to a 0 (Pid q)) c) c)
-    (is_next o (world o es) (events o es) a spawned)
-  where
-    spawned : Spawned o (world o es) (events o es)
-    spawned = Chains.course_keeps o (Whole o) (ground o) (Spawned o) (spawned_keeps o) es (opening_world o) []
-        (whole_opens o) (spawned_opens o)
+    (is_next o (world o es) (events o es) a (spawned o es))

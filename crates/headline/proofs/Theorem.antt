@@ -13,6 +13,7 @@ use Rattle.headline.proofs.Answered
 use Rattle.headline.proofs.Joiners
 use Rattle.headline.proofs.LookingUp.{look_ups_read_the_table}
 use Rattle.headline.proofs.NextSerial.{spawns_give_the_next}
+use Rattle.headline.proofs.Reasons.{refusals_in_words}
 use Rattle.headline.proofs.Welcomed
 
 module _ (o : Opening) (es : List WorldEvent) where
@@ -92,5 +93,6 @@ agreement o es = record {
   written = yes_is_written o es;
   welcomed = joined_is_welcomed o es;
   leave = leave_waits o es;
+  refusals = refusals_in_words o es;
   holder = holder_holds o es;
 }

@@ -10,6 +10,7 @@ use Rattle.protocol_model.specs.World.{Opening, in_cluster, World, WorldEvent, A
 use Rattle.protocol_model.specs.Course.{Played, Seen, entries_of, course, seen}
 use Rattle.protocol_model.specs.Fit.{IsPrefix, IsMadeIn, Fits}
 use Rattle.protocol_model.specs.Answers.{answer_to, answers_at, entered_at, is_unnumbered, AnswersInTime, LooksUpOnce, IsNextProcess, AnswersCalls, JoinerIsAnswered}
+use Rattle.protocol_model.specs.Refusals.{SaysWhy}
 use Rattle.protocol_model.specs.Headline.{standing, Shows, IsRunning, GroupShows, DecidedUnderLock, EachStep}
 
 module _ (o : Opening) (es : List WorldEvent) where
@@ -107,6 +108,10 @@ JoinedIsWelcomed = (o : Opening) (es : List WorldEvent) (before : List Played) (
 abbrev pub LeaveWaits : Type 0
 LeaveWaits = (o : Opening) (es : List WorldEvent) (a : ℕ) → IsRunning o (so_far o es) a →
     (now o es).refusal (At a Event.Leave) ≡ (if is_holding (so_far o es) a then Some HoldsLock else None)
+
+-- each refusal stands for its reason
+abbrev pub RefusalsInWords : Type 0
+RefusalsInWords = (o : Opening) (es : List WorldEvent) → SaysWhy o (events o es) (now o es)
 
 -- the holder of the lock is the node of the operation that holds in the cluster
 abbrev pub HolderHolds : Type 0

@@ -4,7 +4,7 @@
 
 ghost use Rattle.protocol_model.specs.ClientLocks.{Exclusion};
 ghost use Rattle.protocol_model.specs.Headline.{Agreement};
-ghost use Rattle.headline.specs.Clauses.{HistoryGrows, HistoryIsLegal, HistoryFits, AnswersAreEntries, AnswersComeInTime, EntriesAreMadeAtHome, IsDecidedUnderLock, EachLookUpOnce, LookUpsReadTheTable, SpawnsGiveTheNext, CallsAreAnsweredOnce, JoinersAreAnswered, ShowsWhenFree, ShowsWhenHeld, YesIsWritten, JoinedIsWelcomed, LeaveWaits, HolderHolds};
+ghost use Rattle.headline.specs.Clauses.{HistoryGrows, HistoryIsLegal, HistoryFits, AnswersAreEntries, AnswersComeInTime, EntriesAreMadeAtHome, IsDecidedUnderLock, EachLookUpOnce, LookUpsReadTheTable, SpawnsGiveTheNext, CallsAreAnsweredOnce, JoinersAreAnswered, ShowsWhenFree, ShowsWhenHeld, YesIsWritten, JoinedIsWelcomed, LeaveWaits, RefusalsInWords, HolderHolds};
 ghost use Rattle.headline.specs.Tie.{TestAsksTheHeadline, HeadlineWhereTestPasses};
 ghost use Rattle.headline.specs.Laws.{OneHolder, OneOwnerAtEach, JoinedAgree, NoToTheTaken, YesToTheFreeOnly, YesStands, YesIsFound, RefusedChangesNothing, SpawnsGiveNew, FixedAgreement};
 
@@ -104,6 +104,11 @@ pub fn leave_waits()
     ensures { LeaveWaits }
 {}
 
+/// Each refusal stands for its reason, as far as that is seen.
+pub fn refusals_in_words()
+    ensures { RefusalsInWords }
+{}
+
 /// The holder of the lock is the node of the operation that holds in the cluster.
 pub fn holder_holds()
     ensures { HolderHolds }
@@ -166,7 +171,8 @@ pub fn test_asks_the_headline()
     ensures { TestAsksTheHeadline }
 {}
 
-/// Where the test passes, the headline stands as far as the nodes below the bound tell: so the test asks all of its clauses.
+/// Where the test passes, the headline stands as far as the nodes below the bound tell: so the test asks all of its clauses but
+/// `welcomed` and those of what a node would answer or refuse next, `reads`, `spawns` and `refusals`.
 pub fn headline_where_test_passes()
     ensures { HeadlineWhereTestPasses }
 {}

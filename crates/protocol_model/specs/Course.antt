@@ -2,16 +2,16 @@
 -- Here and in Fit, Answers, Headline and Check o is the opening, w a world, e an event or an entry, ps the steps so far
 -- and p one of them, t and u how things stand before and behind it, s an answer, a to d, j, m and n nodes (j a joiner,
 -- m its contact, d one that left), k the number of a call.
-use Rattle.std.specs.Prelude.{ℕ, Bool, false, Option, is_none, flat_map, List, [], ◌∷◌, ◌++◌, if◌then◌else◌}
+use Rattle.std.specs.Prelude.{ℕ, Bool, true, false, ◌≡◌, Option, is_none, flat_map, List, [], ◌∷◌, ◌++◌, if◌then◌else◌}
 use Rattle.std.specs.List.{list_any}
 use Rattle.registry_model.specs.Process.{Process, Nodes}
 use Rattle.registry_model.specs.Registry.{Replica}
-use Rattle.registry_model.specs.History.{Entry}
+use Rattle.registry_model.specs.History.{Entry, Standing, standing_of}
 use Rattle.protocol_model.specs.Letter.{Global, is_id, Letter, is_down}
 use Rattle.protocol_model.specs.LockTable.{Locks}
 use Rattle.protocol_model.specs.Watch.{is_dead}
 use Rattle.protocol_model.specs.Event.{Answer, Refusal}
-use Rattle.protocol_model.specs.World.{Opening, World, WorldEvent, Deliver, refusal, happens, answers, turn_of, holder}
+use Rattle.protocol_model.specs.World.{Opening, in_world, in_cluster, World, WorldEvent, Deliver, refusal, happens, answers, turn_of, holder}
 
 -- an accepted event: its answers, what it added to the history, and whether it delivered a `Down`
 pub record Played : Type 0 where
@@ -34,6 +34,14 @@ pub record Seen : Type 0 where
 -- the history that these events made
 abbrev pub entries_of : List Played → List Entry
 entries_of ps = flat_map (λ p. p.entries) ps
+
+-- how things stand behind these events
+abbrev pub standing : Opening → List Played → Standing
+standing o ps = standing_of (in_cluster o) (entries_of ps)
+
+-- node a is of the world and hasn't left
+abbrev pub IsRunning : Opening → Standing → ℕ → Type 0
+IsRunning o t a = (in_world o a ≡ true) × (t.registry.left a ≡ false)
 
 -- all answers, in order
 abbrev pub answers_of : List Played → List Answer

@@ -1,30 +1,24 @@
 -- The headline: all answers to name calls and joins are those of one sequential registry that takes the granted operations
 -- in lock order, and whenever the lock is free, the replicas are that registry's.
 use mathlib.Core.Logic.{◌⊎◌}
-use Rattle.std.specs.Prelude.{ℕ, true, false, ◌==◌, ◌≡◌, IsTrue, Contains, fold, Some, None, option_map, filter, flat_map, List, [], ◌∷◌, ◌++◌, if◌then◌else◌}
+use Rattle.std.specs.Prelude.{ℕ, true, ◌==◌, ◌≡◌, IsTrue, Contains, fold, Some, None, option_map, filter, flat_map, List, [], ◌∷◌, ◌++◌, if◌then◌else◌}
 use Rattle.registry_model.specs.Call.{Look, Yes, Joined, Pid, seen_in}
 use Rattle.registry_model.specs.Process.{Process}
 use Rattle.registry_model.specs.Registry.{Registry, in_group, replica_of}
-use Rattle.registry_model.specs.History.{Entry, Standing, standing_of, is_free, is_holding, old, after}
+use Rattle.registry_model.specs.History.{Entry, Standing, is_free, is_holding, old, after}
 use Rattle.registry_model.specs.HistoryLaws.{decided_by}
 use Rattle.registry_model.specs.Legal.{IsLegal}
 use Rattle.protocol_model.specs.Event.{Call, Event, Answer, HoldsLock}
-use Rattle.protocol_model.specs.World.{Opening, in_world, in_cluster, WorldEvent, At, opening_world, run}
+use Rattle.protocol_model.specs.World.{Opening, in_cluster, WorldEvent, At, opening_world, run}
 use Rattle.protocol_model.specs.Course.{Played, Seen, entries_of, course, seen}
+pub use Rattle.protocol_model.specs.Course.{standing, IsRunning}
 use Rattle.protocol_model.specs.Fit.{IsPrefix, IsMadeIn, Fits}
 use Rattle.protocol_model.specs.Answers.{answer_to, answers_at, entered_at, is_unnumbered, AnswersInTime, LooksUpOnce, IsNextProcess, AnswersCalls, JoinerIsAnswered}
-
--- how things stand behind these events
-abbrev pub standing : Opening → List Played → Standing
-standing o ps = standing_of (in_cluster o) (entries_of ps)
+use Rattle.protocol_model.specs.Refusals.{SaysWhy}
 
 -- node a shows all that the registry has for it: its table, its members, whom it was told has left, whether it is joined
 abbrev pub Shows : Registry → ℕ → Seen → Type 0
 Shows r a now = now.node a ≡ replica_of r a
-
--- node a is of the world and hasn't left
-abbrev pub IsRunning : Opening → Standing → ℕ → Type 0
-IsRunning o t a = (in_world o a ≡ true) × (t.registry.left a ≡ false)
 
 -- all running nodes of the group of a show the registry
 abbrev pub GroupShows : Opening → Standing → ℕ → Seen → Type 0
@@ -85,6 +79,8 @@ pub record Headline (o : Opening) (ps : List Played) (now : Seen) : Type 0 where
   -- a leave is refused exactly while an operation of that node holds
   pub leave : (a : ℕ) → IsRunning o (standing o ps) a →
       now.refusal (At a Event.Leave) ≡ (if is_holding (standing o ps) a then Some HoldsLock else None)
+  -- each refusal stands for its reason
+  pub refusals : SaysWhy o ps now
   -- the holder is the node of the operation that holds in the cluster
   pub holder : now.holder ≡ option_map (λ h. h.node) (standing o ps).held
 

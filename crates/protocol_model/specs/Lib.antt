@@ -16,6 +16,7 @@ pub mod World
 pub mod Course
 pub mod Fit
 pub mod Answers
+pub mod Refusals
 pub mod Headline
 pub mod ClientLocks
 pub mod Leftovers
