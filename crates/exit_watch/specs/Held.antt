@@ -1,5 +1,5 @@
 -- What a watch holds, and which of the dead it has to look at.
-use Rattle.std.specs.Prelude.{◌≡◌, ℕ, Bool, true, ◌==◌, nat_lt, Option, Some, None, List, [], if◌then◌else◌}
+use Rattle.std.specs.Prelude.{◌≡◌, ℕ, Bool, true, not, ◌&&◌, ◌==◌, nat_lt, Option, Some, None, List, [], if◌then◌else◌}
 use Rattle.std.specs.List.{list_any}
 use Rattle.registry_model.specs.Process.{Process}
 use Rattle.registry_model.specs.Table.{Table, owns}
@@ -31,6 +31,10 @@ with_killed a p w = if is_live a w p then with_dead p.serial w else w
 -- the process of this serial is a suspect
 abbrev pub is_suspect : Held → ℕ → Bool
 is_suspect h s = list_any (λ d. d == s) h.suspects
+
+-- p is a dead process of this node, and no suspect
+abbrev pub is_unnoted : Held → Process → Bool
+is_unnoted h p = (p.node == h.node) && (is_dead h.watch p.serial && not (is_suspect h p.serial))
 
 -- each dead process of this node that owns a name is a suspect
 abbrev pub AreSuspected : Held → Table → Type 0

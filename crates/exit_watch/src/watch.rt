@@ -1,12 +1,12 @@
 //! The watch of one node.
-ghost use Rattle.std.specs.Prelude.{◌≡◌, false, nat_lt, Some, OnOk, OnErr, IfOk, IfErr};
+ghost use Rattle.std.specs.Prelude.{◌≡◌, true, false, nat_lt, Some, OnOk, OnErr, IfOk, IfErr};
 ghost use Rattle.std.specs.Option.{option_map};
 ghost use Rattle.registry_model.specs.Table.{Table, put};
 ghost use Rattle.registry_model.specs.Process.{Text};
 ghost use Rattle.protocol_model.specs.Watch.{is_live, is_dead, is_issued, next_serial, with_spawned, with_dead, owed};
 ghost use Rattle.protocol_model.specs.Event.{Calling, Exiting, Spawn, last_u32};
 ghost use Rattle.exit_watch.specs.Faults.{Refuses, refusal_of, cause_of};
-ghost use Rattle.exit_watch.specs.Held.{watch_from, process_of, serial_left, with_killed, AreSuspected, KeepsSuspects};
+ghost use Rattle.exit_watch.specs.Held.{watch_from, process_of, serial_left, with_killed, is_unnoted, AreSuspected, KeepsSuspects};
 ghost use Rattle.exit_watch.specs.declared.faults.WatchFault.TheVariants.{SerialsSpent, Memory};
 
 use crate::faults::WatchFault;
@@ -163,13 +163,14 @@ impl Watch {
     }
 
     /// The process is dead from now on where it lives here, whether its serial was given or not; any other is passed
-    /// over. Tells whether it lived here.
+    /// over. Tells whether it lived here. Memory is refused only where it did.
     pub fn kill(&mut self, process: &Pid) -> Result<bool, AllocError>
         ensures lived { IfOk result (λ lived. lived ≡ is_live self.old.node self.old.watch process.now) }
         ensures node { self.new.node ≡ self.old.node }
         ensures ok { OnOk result (self.new.watch ≡ with_killed self.old.node process.now self.old.watch) }
         ensures suspected { KeepsSuspects self.old self.new }
         ensures unchanged { OnErr result (self.new ≡ self.old) }
+        ensures refused { OnErr result (is_live self.old.node self.old.watch process.now ≡ true) }
     {
         let lived = self.is_live(process);
         if lived {
@@ -192,7 +193,8 @@ impl Watch {
         Ok(())
     }
 
-    /// Notes that a name is about to be put for a process: the watch is to be told of each put.
+    /// Notes that a name is about to be put for a process: the watch is to be told of each put. Memory is refused only for
+    /// a dead process of its own that it hasn't noted yet.
     pub fn note_owner(&mut self, owner: &Pid) -> Result<(), AllocError>
         ensures node { self.new.node ≡ self.old.node }
         ensures watch { self.new.watch ≡ self.old.watch }
@@ -200,6 +202,7 @@ impl Watch {
             → AreSuspected self.new (put x owner.now t)) }
         ensures suspected { KeepsSuspects self.old self.new }
         ensures unchanged { OnErr result (self.new ≡ self.old) }
+        ensures refused { OnErr result (is_unnoted self.old owner.now ≡ true) }
     {
         if owner.node == self.node && self.is_dead(owner.serial) {
             self.suspects.insert(owner.serial)?;

@@ -1,5 +1,5 @@
 //! A table as a sorted list.
-ghost use Rattle.std.specs.Prelude.{◌≡◌, ◌==◌, true, [], is_some, length, OnOk, OnErr, IfOk};
+ghost use Rattle.std.specs.Prelude.{◌≡◌, ◌==◌, ◌≤◌, true, [], is_some, length, vec_len, vec_capacity, OnOk, OnErr, IfOk};
 ghost use Rattle.registry_model.specs.Table.{get, owns, put, remove, strike, without, names, is_rising};
 ghost use Rattle.name_table.specs.Owners.{name_of};
 ghost use Rattle.name_table.specs.Places.{place, stands};
@@ -60,11 +60,13 @@ fn owner_in(pairs: &[Pair], name: &Name) -> Option<Pid>
     }
 }
 
-/// The name has this owner from now on.
+/// The name has this owner from now on. Memory is refused only for a new name where the list has no room left.
 fn put_in<A: Allocator>(pairs: &mut Vec<Pair, A>, name: Name, owner: Pid) -> Result<(), AllocError>
     requires { is_rising pairs.old.items ≡ true }
     ensures ok { OnOk result (pairs.new.items ≡ put name owner pairs.old.items) }
     ensures err { OnErr result (pairs.new.items ≡ pairs.old.items) }
+    ensures absent { OnErr result (get name pairs.old.items ≡ None) }
+    ensures full { OnErr result (vec_capacity pairs.old ≤ vec_len pairs.old) }
     ensures rising { is_rising pairs.new.items ≡ true }
 {
     let at = place_of(pairs.as_slice(), &name);

@@ -1,9 +1,14 @@
-use Rattle.std.proofs.Common.{ap, sym, ◌∙◌, arith}
+use Rattle.std.proofs.Common.{ap, sym, ◌∙◌, arith, Result, Ok, Err, OnErr}
 use Rattle.registry_model.specs.Table.{Table, is_rising}
 use Rattle.registry_model.proofs.Tables.{is_rising-put}
 use Rattle.name_table.specs.Places.{place, stands}
-use Rattle.name_table.proofs.Places.{place_within, put_stands, put_absent}
+use Rattle.name_table.proofs.Places.{place_within, get-absent, put_stands, put_absent}
 use Rattle.name_table.proofs.list_table.put_in.Goals as goal
+
+-- what holds anyway holds of a refusal
+where_refused : {T E P : Type 0} (r : Result T E) → P → OnErr r P
+where_refused (Ok x) h = tt
+where_refused (Err e) h = h
 
 pub insert-requires : goal.insert-requires
 insert-requires g c =
@@ -42,3 +47,11 @@ returns-in_ok-insert-clause-rising g c =
     (ap (λ (t : Table). stands c.args.name t c.place_of-at.result) (sym c.as_slice-2.ensures.value)
     ∙ sym c.stands_at.ensures ∙ c.if-stands_at.false))
     ∙ is_rising-put c.args.name c.args.owner c.args.pairs.now.items c.requires
+
+pub returns-in_err-insert-clause-absent : goal.returns-in_err-insert-clause-absent
+returns-in_err-insert-clause-absent g c =
+    let at = c.place_of-at.ensures ∙ ap (place c.args.name) c.as_slice.ensures.value in
+    where_refused c.from_residual.result (get-absent c.args.name c.args.pairs.now.items c.requires
+    (ap (stands c.args.name c.args.pairs.now.items) (sym at)
+    ∙ ap (λ (t : Table). stands c.args.name t c.place_of-at.result) (sym c.as_slice-2.ensures.value)
+    ∙ sym c.stands_at.ensures ∙ c.if-stands_at.false))
