@@ -1,19 +1,18 @@
 -- An accepted event that answers a process's last deletion `true`: all nodes that it went to have given back then, and
 -- its process lives; or it went nowhere.
 use mathlib.Core.Logic.{◌⊎◌}
-use Rattle.std.proofs.Common.{ℕ, Bool, true, false, ◌==◌, ◌≡◌, ◌+◌, ◌≤◌, Option, Some, None, List, [], ◌∷◌, refl, sym, ap, ◌∙◌, subst, inl, inr, arith}
+use Rattle.std.proofs.Common.{ℕ, Bool, true, false, ◌==◌, ◌≡◌, ◌+◌, ◌≤◌, Option, Some, None, List, ◌∷◌, refl, sym, ap, ◌∙◌, subst, inl, inr, arith}
 use Rattle.std.specs.Prelude.{◌&&◌, ◌||◌, nat_lt, if◌then◌else◌}
 use Rattle.std.specs.List.{list_all}
 use Rattle.std.proofs.lemmas.Bool.{eqb-true, ltb-true}
 use Rattle.registry_model.specs.Process.{Text, Process, is_process, at}
-use Rattle.protocol_model.specs.Letter.{Letter, Client}
+use Rattle.protocol_model.specs.Letter.{Client}
 use Rattle.protocol_model.specs.Watch.{Watch, is_dead}
 use Rattle.protocol_model.specs.Node.{Node, LockCall, Target, Times, targets}
 use Rattle.protocol_model.specs.Event.{Call, Event}
-use Rattle.protocol_model.specs.Turn.{begun}
 use Rattle.protocol_model.specs.Client.{new_call}
 use Rattle.protocol_model.specs.LockAnswers.{Deletion, deletion_by}
-use Rattle.protocol_model.specs.World.{Opening, in_world, World, left, WorldEvent, At, Deliver, place, join_number, heard, turn_of, accepted}
+use Rattle.protocol_model.specs.World.{Opening, in_world, World, left, WorldEvent, At, Deliver, place, turn_of, accepted}
 use Rattle.registry_model.proofs.Updates.{at_same}
 use Rattle.moves.proofs.Rules.{Rule, MayAll, effect, effects, turn_by, answers_by}
 use Rattle.moves.proofs.Rules.Rule.{CallsLock, AsksLock, FailsLock, DeletesLock, DeletesNothing}
@@ -28,16 +27,15 @@ use Rattle.leftovers.proofs.Chains.{is_calm, aside_calm, calm_answers}
 use Rattle.leftovers.proofs.HeardChains.{answered_none}
 use Rattle.leftovers.proofs.Numbering.{Numbered}
 use Rattle.leftovers.proofs.Told.{all_of_all, retry_calm, chain_of, first_heard}
-use Rattle.lock_answers.proofs.Spared.{spares, spared, killing_answers}
+use Rattle.lock_answers.proofs.Spared.{letter_watch, true_lock}
 use Rattle.lock_answers.proofs.OpenDeletions.{Known}
 use Rattle.lock_answers.proofs.DeletionChains.{Deletes, IsDeleted, ends_chain}
 use Rattle.lock_answers.proofs.DeletionEvents.{Told}
 
--- who lives where a letter is read by which nobody dies lives behind it
-spared_lives : (o : Opening) (f b : ℕ) (w : World) (l : Letter) (ls : List Letter) → w.links.queue f b ≡ l ∷ ls
-    → spares l ≡ true → (p : Process) → p.node ≡ b → lives o w p ≡ true
-    → lives o (accepted o w (Deliver f b)) p ≡ true
-spared_lives o f b w l ls front h p home living = lives_by o (accepted o w (Deliver f b)) p (record {
+-- who lives where a letter is read that leaves the watch lives behind it
+watched_lives : (o : Opening) (f b : ℕ) (w : World) → (turn_of o w (Deliver f b)).node.watch ≡ (w.node b).watch
+    → (p : Process) → p.node ≡ b → lives o w p ≡ true → lives o (accepted o w (Deliver f b)) p ≡ true
+watched_lives o f b w watch p home living = lives_by o (accepted o w (Deliver f b)) p (record {
   inside = v.inside;
   up = v.up;
   client = v.client;
@@ -49,10 +47,6 @@ spared_lives o f b w l ls front h p home living = lives_by o (accepted o w (Deli
   where
     v : IsLive o w p
     v = live_parts o w p living
-
-    watch : (turn_of o w (Deliver f b)).node.watch ≡ (w.node b).watch
-    watch = ap (λ (qs : List Letter). (heard o.bound b w f qs).node.watch) front
-        ∙ spared o.bound b (join_number w) f l (begun (w.node b)) h
 
 module _ (o : Opening) (w : World) (num : Numbers) (K : Known o w num) (N : Numbered o w) (p : Process)
     (t : Option Deletion) (T : Told o p w t) where
@@ -101,23 +95,9 @@ module _ (o : Opening) (w : World) (num : Numbers) (K : Known o w num) (N : Numb
             cc (unanswered, answered)
 
     lives_after : lives o (effects o b (chain_of o w (Deliver f b) rest) w) p ≡ true
-    lives_after = subst (λ (v : World). lives o v p ≡ true) (sym is) (go (w.links.queue f b) refl)
-      where
-        by_letter : (l : Letter) (ls : List Letter) → w.links.queue f b ≡ l ∷ ls → (c : Bool) → spares l ≡ c
-            → lives o (accepted o w (Deliver f b)) p ≡ true
-        by_letter l ls e true s = spared_lives o f b w l ls e s p here lived_before
-        by_letter l ls e false s =
-            let none : any_true p.node d.number (turn_of o w (Deliver f b)).answers ≡ false =
-            ap (λ (qs : List Letter). any_true p.node d.number (heard o.bound b w f qs).answers) e
-            ∙ killing_answers o.bound b (join_number w) p.node d.number f l (begun (w.node b)) s refl in
-            absurd (cc (ap (any_true p.node d.number) same ∙ none, answered))
-
-        go : (qs : List Letter) → w.links.queue f b ≡ qs → lives o (accepted o w (Deliver f b)) p ≡ true
-        go [] e =
-            let none : any_true p.node d.number (turn_of o w (Deliver f b)).answers ≡ false =
-            ap (λ (qs : List Letter). any_true p.node d.number (heard o.bound b w f qs).answers) e in
-            absurd (cc (ap (any_true p.node d.number) same ∙ none, answered))
-        go (l ∷ ls) e = by_letter l ls e (spares l) refl
+    lives_after = subst (λ (v : World). lives o v p ≡ true) (sym is) (watched_lives o f b w (letter_watch o w f b
+        (true_lock p.node d.number (turn_of o w (Deliver f b)).answers
+        (ap (any_true p.node d.number) (sym same) ∙ answered))) p here lived_before)
 
     heard_ends : HasEnded d (effects o b (chain_of o w (Deliver f b) rest) w)
     heard_ends = inl (

@@ -16,6 +16,7 @@ pub use Rattle.leftovers.proofs.TriedEvents
 pub use Rattle.leftovers.proofs.Tries
 pub use Rattle.leftovers.proofs.Walk
 pub use Rattle.leftovers.proofs.Walking
+pub mod Besides
 pub mod Spared
 pub mod Settled
 pub mod OpenDeletions
@@ -28,7 +29,6 @@ pub mod GivenBack
 pub mod LastTry
 pub mod Clear
 pub mod Winning
-pub mod Besides
 pub mod Notices
 pub mod NoticeTurns
 pub mod GrantEvents

@@ -22,7 +22,7 @@ use Rattle.protocol_model.specs.LockAnswers.{holder_in, IsCallOf, AnswersTheLivi
 use Rattle.protocol_model.specs.World.{Opening, World, left, WorldEvent, At, Deliver, place, refusal, turn_of, accepted, happens, answers, local_causes}
 use Rattle.moves.proofs.Rules
 use Rattle.moves.proofs.Rules.{Rule}
-use Rattle.moves.proofs.Rules.Rule.{CallsLock, AsksLock, FailsLock, DeletesLock, DeletesNothing}
+use Rattle.moves.proofs.Rules.Rule.{CallsLock}
 use Rattle.moves.proofs.Indices.{both, not_true}
 use Rattle.walk.proofs.ChainKinds.{Aside, suits}
 use Rattle.walk.proofs.Events.{accepted_of, IsSecond, lock_tested, live_own}
@@ -41,10 +41,11 @@ use Rattle.leftovers.proofs.Doomed.{start-watch}
 use Rattle.leftovers.proofs.Grounds.{Base, wide, base_keeps, replicas}
 use Rattle.leftovers.proofs.RestEvents.{accepted-node}
 use Rattle.lock_answers.proofs.Winning.{Ground}
-use Rattle.lock_answers.proofs.Besides.{found_any, plain_retry}
+use Rattle.lock_answers.proofs.Besides.{found_any}
 use Rattle.lock_answers.proofs.GrantEvents.{ground_run}
 use Rattle.lock_answers.proofs.Pushed.{events_push, answers_turn, happens_now, answer_place}
-use Rattle.lock_answers.proofs.Watches.{is_lock_reply, is_lock_answer, try-watch, delete-watch, retry-watch, letter_watch}
+use Rattle.lock_answers.proofs.Spared.{is_lock_reply, is_lock_answer, letter_watch}
+use Rattle.lock_answers.proofs.Watches.{try-watch, delete-watch, retry-watch, again-watch}
 use Rattle.lock_answers.proofs.Sources.{Closed, closes, the_one, rule_closes, aside_silent, WasOpen, heard_source, again_source}
 use Rattle.lock_answers.proofs.Owned.{IsCalledBy, called_longer, last_called, owned_run}
 
@@ -289,7 +290,7 @@ module _ (o : Opening) (es : List WorldEvent) (s : Answer) (call : Call) (p : Pr
       watch = subst (λ (x : WorldEvent). (turn_of o (world o es) x).node.watch ≡ ((world o es).node (place x)).watch)
           (sym j) (start-watch o.bound a (retry_locks o.bound a again)
           ∙ retry-watch o.bound a again.node.calls again
-          ∙ (plain_retry o.bound a ((world o es).node a).current (begun ((world o es).node a))).watch)
+          ∙ again-watch o.bound a ((world o es).node a).current (begun ((world o es).node a)))
   by_event (Deliver f t) j m h free k =
       let one : (p.node ≡ place e) × (is_gone (world o es) p ≡ false) = open_lives
       (subst (λ (n : ℕ). WasOpen o n s lock called.0 (world o es)) (sym (ap place j))
@@ -305,7 +306,7 @@ module _ (o : Opening) (es : List WorldEvent) (s : Answer) (call : Call) (p : Pr
 
       watch : (turn_of o (world o es) e).node.watch ≡ ((world o es).node (place e)).watch
       watch = subst (λ (x : WorldEvent). (turn_of o (world o es) x).node.watch ≡ ((world o es).node (place x)).watch)
-          (sym j) (letter_watch o (world o es) f t G.base G.replying (G.clear t) some)
+          (sym j) (letter_watch o (world o es) f t some)
 
   pub lives_on : (is_gone (world o es) p ≡ false) × (is_gone (happens o (world o es) e) p ≡ false)
   lives_on = subst (λ (v : World). (is_gone (world o es) p ≡ false) × (is_gone v p ≡ false))

@@ -110,7 +110,6 @@ WinsBy a told c s = (answer_to a c.number True ≡ s)
 record Lost (a : ℕ) (c : LockCall) (cs : List LockCall) (u v : Turn) : Type 0 where
   clear : ClearBut a u.node.replica.told v.node.calls cs
   replica : v.node.replica ≡ u.node.replica
-  watch : v.node.watch ≡ u.node.watch
   given : (s : Answer) → Contains v.answers s → s.reply ≡ True
       → Contains u.answers s ⊎ WinsBy a u.node.replica.told c s
 
@@ -118,7 +117,6 @@ record Lost (a : ℕ) (c : LockCall) (cs : List LockCall) (u v : Turn) : Type 0 
 pub record LostAll (a : ℕ) (cs : List LockCall) (u v : Turn) : Type 0 where
   pub clear : ClearBut a u.node.replica.told v.node.calls []
   pub replica : v.node.replica ≡ u.node.replica
-  pub watch : v.node.watch ≡ u.node.watch
   pub given : (s : Answer) → Contains v.answers s → s.reply ≡ True
       → Contains u.answers s ⊎ ((c : LockCall) × Among cs c × WinsBy a u.node.replica.told c s)
 
@@ -165,7 +163,6 @@ module _ (o : Opening) (a : ℕ) (told : Nodes) (d : ℕ) where
         refused given true = record {
           clear = drop_clear a u.node.replica.told (put_call now u.node.calls) c.holder cs kept;
           replica = refl;
-          watch = refl;
           given = λ s h t. elim (Contains-append_cases u.answers (answer_to a c.number False ∷ []) s h) [
             | inl k ↦ inl k
             | inr k ↦ elim (Contains-cases (answer_to a c.number False) [] s k) [
@@ -178,7 +175,6 @@ module _ (o : Opening) (a : ℕ) (told : Nodes) (d : ℕ) where
           clear = more_clear a u.node.replica.told (put_call now u.node.calls) (in_phase LockPhase.Waiting now) cs own
               tt kept;
           replica = refl;
-          watch = refl;
           given = λ s h t. inl h;
         }
 
@@ -187,7 +183,6 @@ module _ (o : Opening) (a : ℕ) (told : Nodes) (d : ℕ) where
         ends Held e = record {
           clear = drop_clear a u.node.replica.told (put_call now u.node.calls) c.holder cs kept;
           replica = refl;
-          watch = refl;
           given = λ s h t. elim (Contains-append_cases u.answers (answer_to a c.number True ∷ []) s h) [
             | inl k ↦ inl k
             | inr k ↦ elim (Contains-cases (answer_to a c.number True) [] s k) [
@@ -201,7 +196,7 @@ module _ (o : Opening) (a : ℕ) (told : Nodes) (d : ℕ) where
         go : (b : Bool) → Lost a c cs u (if b then end_lock_by o.bound a
             (ending o.bound (asked (down d r)) (down d r)) now (keep_call now u) else keep_call now u)
         go true = ends (ending o.bound (asked (down d r)) (down d r)) refl
-        go false = record { clear = kept; replica = refl; watch = refl; given = λ s h t. inl h }
+        go false = record { clear = kept; replica = refl; given = λ s h t. inl h }
 
   -- a deletion waits for one less, or ends
   owe_lost : (c : LockCall) (owing : Nodes) (u : Turn) (cs : List LockCall) → c.phase ≡ LockPhase.Deleting owing
@@ -218,7 +213,6 @@ module _ (o : Opening) (a : ℕ) (told : Nodes) (d : ℕ) where
       go true true = record {
         clear = drop_clear a u.node.replica.told u.node.calls c.holder cs free;
         replica = refl;
-        watch = refl;
         given = λ s h t. elim (Contains-append_cases u.answers (answer_to a c.number True ∷ []) s h) [
           | inl k ↦ inl k
           | inr k ↦ elim (Contains-cases (answer_to a c.number True) [] s k) [
@@ -231,10 +225,9 @@ module _ (o : Opening) (a : ℕ) (told : Nodes) (d : ℕ) where
         clear = more_clear a u.node.replica.told u.node.calls
             (in_phase (LockPhase.Deleting (at owing d false)) c) cs own tt free;
         replica = refl;
-        watch = refl;
         given = λ s h t. inl h;
       }
-      go false e = record { clear = free; replica = refl; watch = refl; given = λ s h t. inl h }
+      go false e = record { clear = free; replica = refl; given = λ s h t. inl h }
 
   -- any call
   lose_lost : (phase : LockPhase) (c : LockCall) (u : Turn) (cs : List LockCall) → c.phase ≡ phase → IsOwn a c.holder
@@ -245,7 +238,6 @@ module _ (o : Opening) (a : ℕ) (told : Nodes) (d : ℕ) where
   lose_lost LockPhase.Waiting c u cs e own C more B = record {
     clear = unexcused a u.node.replica.told u.node.calls c cs (subst (ClearIn u.node.replica.told) (sym e) tt) B;
     replica = refl;
-    watch = refl;
     given = λ s h t. inl h;
   }
 
@@ -257,7 +249,7 @@ module _ (o : Opening) (a : ℕ) (told : Nodes) (d : ℕ) where
   pub all_lost : (cs : List LockCall) (u : Turn) → ClearAll cs → ToldMore d told u.node.replica.told
       → ClearBut a u.node.replica.told u.node.calls cs
       → LostAll a cs u (fold (λ turn c. lose_node_in o.bound a d c.phase c turn) u cs)
-  all_lost [] u all more B = record { clear = B; replica = refl; watch = refl; given = λ s h t. inl h }
+  all_lost [] u all more B = record { clear = B; replica = refl; given = λ s h t. inl h }
   all_lost (c ∷ cs) u all more B =
       join (all_lost cs (lose_node_in o.bound a d c.phase c u) all.1
       (subst (λ (x : Replica). ToldMore d told x.told) (sym one.replica) more)
@@ -278,7 +270,6 @@ module _ (o : Opening) (a : ℕ) (told : Nodes) (d : ℕ) where
         clear = subst (λ (x : Replica). ClearBut a x.told (fold (λ turn c. lose_node_in o.bound a d c.phase c turn)
             (lose_node_in o.bound a d c.phase c u) cs).node.calls []) one.replica L.clear;
         replica = L.replica ∙ one.replica;
-        watch = L.watch ∙ one.watch;
         given = λ s h t. elim (L.given s h t) [
           | inl k ↦ elim (one.given s k t) [
             | inl i ↦ inl i

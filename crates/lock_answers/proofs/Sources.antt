@@ -28,7 +28,7 @@ use Rattle.leftovers.proofs.Chains.{from_heard}
 use Rattle.leftovers.proofs.Numbering.{beginner_home}
 use Rattle.leftovers.proofs.Opening.{no_numbers}
 use Rattle.leftovers.proofs.Grounds.{Base, base_keeps, replicas}
-use Rattle.lock_answers.proofs.Watches.{is_lock_reply, is_lock_answer}
+use Rattle.lock_answers.proofs.Spared.{is_lock_reply, is_lock_answer}
 
 -- a word isn't such a reply
 word_aside : (r : Reply) → is_word r ≡ true → is_lock_reply r ≡ false
