@@ -16,6 +16,7 @@ pub use Rattle.leftovers.proofs.TriedEvents
 pub use Rattle.leftovers.proofs.Tries
 pub use Rattle.leftovers.proofs.Walk
 pub use Rattle.leftovers.proofs.Walking
+pub mod Verdicts
 pub mod Besides
 pub mod Spared
 pub mod Settled
@@ -39,7 +40,6 @@ pub mod Sources
 pub mod Owned
 pub mod Living
 pub mod CallSteps
-pub mod Verdicts
 pub mod Spending
 pub mod CallTurns
 pub mod EventTurns

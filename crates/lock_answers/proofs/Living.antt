@@ -1,4 +1,5 @@
 -- No lock call of a process is answered that is dead, or whose node has left, before the step or behind it.
+use mathlib.Core.Logic.{◌⊎◌}
 use Rattle.std.proofs.Common.{ℕ, Bool, true, false, ◌==◌, ◌≡◌, ◌+◌, ◌-◌, Some, None, List, [], ◌∷◌, ◌++◌, length, refl, sym, ap, ◌∙◌, subst, inl, inr}
 use Rattle.std.specs.Prelude.{not, ◌&&◌, ◌||◌, Contains}
 use Rattle.std.specs.List.{slice_get, list_any, list_all}
@@ -44,14 +45,15 @@ use Rattle.lock_answers.proofs.Winning.{Ground}
 use Rattle.lock_answers.proofs.Besides.{found_any}
 use Rattle.lock_answers.proofs.GrantEvents.{ground_run}
 use Rattle.lock_answers.proofs.Pushed.{events_push, answers_turn, happens_now, answer_place}
-use Rattle.lock_answers.proofs.Spared.{is_lock_reply, is_lock_answer, letter_watch}
+use Rattle.lock_answers.proofs.Spared.{is_lock_answer, letter_watch}
+use Rattle.lock_answers.proofs.Verdicts.{is_verdict}
 use Rattle.lock_answers.proofs.Watches.{try-watch, delete-watch, retry-watch, again-watch}
 use Rattle.lock_answers.proofs.Sources.{Closed, closes, the_one, rule_closes, aside_silent, WasOpen, heard_source, again_source}
 use Rattle.lock_answers.proofs.Owned.{IsCalledBy, called_longer, last_called, owned_run}
 
 -- a lock call may have lock replies alone
 lock_reply : (call : Call) (reply : Reply) (p : Process) → holder_in call ≡ Some p → may_have call reply ≡ true
-    → is_lock_reply reply ≡ true
+    → is_verdict reply ≡ true
 lock_reply (Call.SetLock q r z target times) True p h m = refl
 lock_reply (Call.SetLock q r z target times) False p h m = refl
 lock_reply (Call.SetLock q r z target times) _ p h m = cc
@@ -200,6 +202,23 @@ module _ (o : Opening) (es : List WorldEvent) (s : Answer) (call : Call) (p : Pr
         B : Base o (Rules.effect o a CallsLock (world o es))
         B = base_keeps o a (world o es) CallsLock G.base m.0
 
+  -- so the answer is under the new number
+  new_number : (a : ℕ) (c : Call) (new : LockCall) → new.number ≡ ((world o es).node a).last_call + 1
+      → ((x : Rule) → IsSecond o a (world o es) c x → (closes x ≡ None) ⊎ (closes x ≡ Some new)) → (x : Rule)
+      → (later rest : List Rule) → rest ≡ x ∷ later → IsSecond o a (world o es) c x
+      → list_all (suits Aside) later ≡ true → Rules.MayAll o a (CallsLock ∷ rest) (world o es)
+      → Contains (Rules.answers_by o a (CallsLock ∷ rest) (world o es)) s
+      → s.number ≡ ((world o es).node a).last_call + 1
+  new_number a c new number which x later rest is second h m k = by (which x second)
+      (second_closes a x later (subst (λ (rs : List Rule). Rules.MayAll o a (CallsLock ∷ rs) (world o es)) is m) h
+      (subst (λ (rs : List Rule). Contains (Rules.answers_by o a (CallsLock ∷ rs) (world o es)) s) is k))
+    where
+      by : (closes x ≡ None) ⊎ (closes x ≡ Some new) → Closed x s → s.number ≡ ((world o es).node a).last_call + 1
+      by (inl i) C = cc (i, C.1)
+      by (inr i) C =
+          let is_new : new ≡ C.0 = cc (i, C.1) in
+          sym C.2 ∙ sym (ap (λ (y : LockCall). y.number) is_new) ∙ number
+
   by_event : (x : WorldEvent) → e ≡ x → Rules.MayAll o (place x) (chain_of o (world o es) x H.walk.rest) (world o es)
       → InOrder o (world o es) x H.walk.rest → first_cause (local_causes (world o es) x) ≡ None
       → Contains (Rules.answers_by o (place x) (chain_of o (world o es) x H.walk.rest) (world o es)) s → Lives
@@ -226,17 +245,11 @@ module _ (o : Opening) (es : List WorldEvent) (s : Answer) (call : Call) (p : Pr
           (cause (not (names_members ((world o es).node a) target)) Refusal.UnknownNode
           ∷ calls_spent ((world o es).node a) ∷ []) free).0
 
-      by : (x : Rule) → IsSecond o a (world o es) (Call.SetLock q r z target times) x → Closed x s
-          → s.number ≡ ((world o es).node a).last_call + 1
-      by x (inl i) C = cc (ap closes i, C.1)
-      by x (inr i) C =
-          let is_new : new ≡ C.0 = cc (ap closes i, C.1) in
-          sym C.2 ∙ sym (ap (λ (y : LockCall). y.number) is_new)
-
       number : s.number ≡ ((world o es).node a).last_call + 1
-      number = by h.0 h.1.1.1 (second_closes a h.0 h.1.0
-          (subst (λ (rs : List Rule). Rules.MayAll o a (CallsLock ∷ rs) (world o es)) h.1.1.0 m) h.1.1.2
-          (subst (λ (rs : List Rule). Contains (Rules.answers_by o a (CallsLock ∷ rs) (world o es)) s) h.1.1.0 k))
+      number = new_number a (Call.SetLock q r z target times) new refl (λ x i. elim i [
+        | inl none ↦ inl (ap closes none)
+        | inr one ↦ inr (ap closes one)
+      ]) h.0 h.1.0 H.walk.rest h.1.1.0 h.1.1.1 h.1.1.2 m k
 
       stays : e ≡ At a (Event.Calling (Call.SetLock q r z target times))
           → left (accepted o (world o es) e) ≡ left (world o es)
@@ -256,17 +269,11 @@ module _ (o : Opening) (es : List WorldEvent) (s : Answer) (call : Call) (p : Pr
       live : is_live a ((world o es).node a).watch q ≡ true
       live = (lock_tested a ((world o es).node a) q r (calls_spent ((world o es).node a) ∷ []) free).0
 
-      by : (x : Rule) → IsSecond o a (world o es) (Call.DelLock q r z target) x → Closed x s
-          → s.number ≡ ((world o es).node a).last_call + 1
-      by x (inl i) C = cc (ap closes i, C.1)
-      by x (inr i) C =
-          let is_new : new ≡ C.0 = cc (ap closes i, C.1) in
-          sym C.2 ∙ sym (ap (λ (y : LockCall). y.number) is_new)
-
       number : s.number ≡ ((world o es).node a).last_call + 1
-      number = by h.0 h.1.1.1 (second_closes a h.0 h.1.0
-          (subst (λ (rs : List Rule). Rules.MayAll o a (CallsLock ∷ rs) (world o es)) h.1.1.0 m) h.1.1.2
-          (subst (λ (rs : List Rule). Contains (Rules.answers_by o a (CallsLock ∷ rs) (world o es)) s) h.1.1.0 k))
+      number = new_number a (Call.DelLock q r z target) new refl (λ x i. elim i [
+        | inl none ↦ inl (ap closes none)
+        | inr one ↦ inr (ap closes one)
+      ]) h.0 h.1.0 H.walk.rest h.1.1.0 h.1.1.1 h.1.1.2 m k
 
       stays : e ≡ At a (Event.Calling (Call.DelLock q r z target))
           → left (accepted o (world o es) e) ≡ left (world o es)

@@ -4,11 +4,10 @@ use mathlib.Core.Logic.{◌⊎◌}
 use Rattle.std.proofs.Common.{ℕ, Bool, true, false, ◌≡◌, ◌<◌, Some, None, List, [], ◌∷◌, refl, sym, ap, ◌∙◌, subst, inl, inr}
 use Rattle.std.specs.Prelude.{fold, Contains, if◌then◌else◌}
 use Rattle.std.proofs.lemmas.Bool.{cases_eq, eqb-true}
-use Rattle.std.proofs.lemmas.List.Elements.{Contains-append_cases}
+use Rattle.std.proofs.lemmas.List.Elements.{Contains-push_cases}
 use Rattle.registry_model.specs.Process.{Process, is_process, Nodes, at}
 use Rattle.registry_model.specs.Registry.{Replica}
 use Rattle.registry_model.specs.Call.{True, False}
-use Rattle.registry_model.proofs.Lists.{Contains-cases, Contains-nil}
 use Rattle.protocol_model.specs.Round.{Round, is_empty, asked, granted, down, is_over, Ending, Held, GiveBack, ending}
 use Rattle.protocol_model.specs.Node.{LockPhase, LockCall, call_of, put_call, drop_call}
 use Rattle.protocol_model.specs.Event.{Answer}
@@ -163,12 +162,9 @@ module _ (o : Opening) (a : ℕ) (told : Nodes) (d : ℕ) where
         refused given true = record {
           clear = drop_clear a u.node.replica.told (put_call now u.node.calls) c.holder cs kept;
           replica = refl;
-          given = λ s h t. elim (Contains-append_cases u.answers (answer_to a c.number False ∷ []) s h) [
+          given = λ s h t. elim (Contains-push_cases u.answers (answer_to a c.number False) s h) [
             | inl k ↦ inl k
-            | inr k ↦ elim (Contains-cases (answer_to a c.number False) [] s k) [
-              | inl e ↦ absurd (cc (ap (λ (x : Answer). x.reply) e ∙ t))
-              | inr none ↦ absurd (Contains-nil s none)
-            ]
+            | inr e ↦ absurd (cc (ap (λ (x : Answer). x.reply) e ∙ t))
           ];
         }
         refused given false = record {
@@ -183,12 +179,9 @@ module _ (o : Opening) (a : ℕ) (told : Nodes) (d : ℕ) where
         ends Held e = record {
           clear = drop_clear a u.node.replica.told (put_call now u.node.calls) c.holder cs kept;
           replica = refl;
-          given = λ s h t. elim (Contains-append_cases u.answers (answer_to a c.number True ∷ []) s h) [
+          given = λ s h t. elim (Contains-push_cases u.answers (answer_to a c.number True) s h) [
             | inl k ↦ inl k
-            | inr k ↦ elim (Contains-cases (answer_to a c.number True) [] s k) [
-              | inl i ↦ inr (i, inr (wins e))
-              | inr none ↦ absurd (Contains-nil s none)
-            ]
+            | inr i ↦ inr (i, inr (wins e))
           ];
         }
         ends (GiveBack given) e = refused given (is_spent c.retries)
@@ -213,12 +206,9 @@ module _ (o : Opening) (a : ℕ) (told : Nodes) (d : ℕ) where
       go true true = record {
         clear = drop_clear a u.node.replica.told u.node.calls c.holder cs free;
         replica = refl;
-        given = λ s h t. elim (Contains-append_cases u.answers (answer_to a c.number True ∷ []) s h) [
+        given = λ s h t. elim (Contains-push_cases u.answers (answer_to a c.number True) s h) [
           | inl k ↦ inl k
-          | inr k ↦ elim (Contains-cases (answer_to a c.number True) [] s k) [
-            | inl i ↦ inr (i, inl (ap is_deleting phase))
-            | inr none ↦ absurd (Contains-nil s none)
-          ]
+          | inr i ↦ inr (i, inl (ap is_deleting phase))
         ];
       }
       go true false = record {

@@ -33,7 +33,8 @@ use Rattle.lock_answers.proofs.BadMarks.{begin_good}
 use Rattle.lock_answers.proofs.CallSteps.{AllCalls}
 use Rattle.lock_answers.proofs.CallTurns.{deny_none, deny_each, begun_over, anew_in, anew, deleted_over}
 use Rattle.lock_answers.proofs.Denials.{Denies, each_calm, each_unheard, each_so}
-use Rattle.lock_answers.proofs.EventTurns.{AgainTurn, again_turn, SetTurn, set_turn, DelTurn, del_turn, new_try, fresh}
+use Rattle.leftovers.proofs.Beginnings.{new_try, fresh}
+use Rattle.lock_answers.proofs.EventTurns.{AgainTurn, again_turn, SetTurn, set_turn, DelTurn, del_turn}
 use Rattle.lock_answers.proofs.Behind.{Known, walk_of, is_plain, plain_tries}
 use Rattle.lock_answers.proofs.Meeting.{met_left, lives_yet}
 use Rattle.lock_answers.proofs.Nobody.{some_same}
@@ -198,7 +199,7 @@ module _ (o : Opening) (p : Process) (w : World) (num : Numbers) (S : Known o w 
       s = targets (w.node a).replica.members target
 
       new : LockCall
-      new = fresh o w S.ordered a q r z target
+      new = fresh o w a q r z target
 
       none : (y : Tries) (c : LockCall) (b : Bool) → (if b then None else Some (in_phase (LockPhase.Deleting s) new))
           ≡ Some c → MarksIn (now e h t R y) c.phase
@@ -235,7 +236,7 @@ module _ (o : Opening) (p : Process) (w : World) (num : Numbers) (S : Known o w 
       last = try_of members ((w.node a).last_call + 1) (Client r z) target
 
       new : LockCall
-      new = new_try o w S.ordered a q r z target retries
+      new = new_try o w a q r z target retries
 
       calls : (b : Bool) → is_process q p ≡ b → (k : Process) (c : LockCall) → call_at (accepted o w e) k ≡ Some c
           → k ≡ p → (if b then begun_over o.bound a members new else call_at w p) ≡ Some c

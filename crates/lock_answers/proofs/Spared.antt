@@ -5,7 +5,7 @@ use Rattle.std.specs.Prelude.{not, ◌&&◌, Contains, fold, if◌then◌else◌
 use Rattle.std.specs.List.{list_any}
 use Rattle.registry_model.specs.Process.{Process, is_process, Nodes, at}
 use Rattle.registry_model.specs.Settlement.{settle}
-use Rattle.registry_model.specs.Call.{Reply, Joined, NotMember, True, False, is_reply, is_grant, reply_to, change_of}
+use Rattle.registry_model.specs.Call.{Reply, Joined, NotMember, True, is_reply, is_grant, reply_to, change_of}
 use Rattle.registry_model.specs.History.{Entry}
 use Rattle.registry_model.proofs.Legality.{is_reply-true}
 use Rattle.protocol_model.specs.Round.{Round, owes, asked, answer, down, is_over, Ending, ending, opens, rest, is_empty}
@@ -27,15 +27,11 @@ use Rattle.leftovers.proofs.Doomed.{start-watch}
 use Rattle.leftovers.proofs.Turns.{push_none}
 use Rattle.leftovers.proofs.Answering.{is_true, any_true}
 use Rattle.lock_answers.proofs.Besides.{found_any, any_found, start_adds}
+use Rattle.lock_answers.proofs.Verdicts.{is_verdict}
 
--- a reply to a lock call
-abbrev pub is_lock_reply : Reply → Bool
-is_lock_reply True = true
-is_lock_reply False = true
-is_lock_reply _ = false
-
+-- it answers a lock call
 abbrev pub is_lock_answer : Answer → Bool
-is_lock_answer s = is_lock_reply s.reply
+is_lock_answer s = is_verdict s.reply
 
 -- by this letter nobody dies
 abbrev spares : Letter → Bool
@@ -319,5 +315,5 @@ letter_watch o w f t = go (w.links.queue f t)
 pub true_lock : (b m : ℕ) (ss : List Answer) → any_true b m ss ≡ true → list_any is_lock_answer ss ≡ true
 true_lock b m ss h =
     let one : (s : Answer) × Contains ss s × (is_true b m s ≡ true) = any_found (is_true b m) ss h in
-    found_any is_lock_answer ss one.0 one.1 (ap is_lock_reply (is_reply-true one.0.reply True
+    found_any is_lock_answer ss one.0 one.1 (ap is_verdict (is_reply-true one.0.reply True
     (both ((one.0.node == b) && (one.0.number == m)) (is_reply one.0.reply True) one.2).1))

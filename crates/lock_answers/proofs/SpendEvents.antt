@@ -23,7 +23,8 @@ use Rattle.lock_answers.proofs.LastTry.{last_of, last_watched}
 use Rattle.lock_answers.proofs.Verdicts.{kept_in}
 use Rattle.lock_answers.proofs.Spending.{AreLeft, IsSpending, SpendsAt, Tried, tried_keeps}
 use Rattle.lock_answers.proofs.CallTurns.{begun_over, anew_in, anew, deleted_over}
-use Rattle.lock_answers.proofs.EventTurns.{AgainTurn, again_turn, SetTurn, set_turn, DelTurn, del_turn, new_try, fresh}
+use Rattle.leftovers.proofs.Beginnings.{new_try, fresh}
+use Rattle.lock_answers.proofs.EventTurns.{AgainTurn, again_turn, SetTurn, set_turn, DelTurn, del_turn}
 use Rattle.lock_answers.proofs.Behind.{Known, base_of, walk_of, is_plain, plain_hears, plain_tries}
 
 -- one retry is used, where one is left
@@ -88,7 +89,7 @@ module _ (o : Opening) (p : Process) where
         members = (w.node a).replica.members
 
         new : LockCall
-        new = new_try o w S.ordered a q r z target retries
+        new = new_try o w a q r z target retries
 
         T : SetTurn o w S.ordered a q r z target retries
         T = set_turn o w S.ordered a q r z target retries h
@@ -128,7 +129,7 @@ module _ (o : Opening) (p : Process) where
         s = targets (w.node a).replica.members target
 
         new : LockCall
-        new = fresh o w S.ordered a q r z target
+        new = fresh o w a q r z target
 
         none : (b : Bool) → (if b then None else Some (in_phase (LockPhase.Deleting s) new)) ≡ Some c
             → IsSpending (watched o w event p t) c
