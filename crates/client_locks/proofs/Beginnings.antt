@@ -1,6 +1,7 @@
 -- How a lock call begins: it takes its number, and then asks, fails, goes to those that give back, or goes nowhere. What
 -- this makes of the open calls, and that no earlier call is answered `true` by a deletion.
-use Rattle.std.proofs.Common.{ℕ, Bool, true, false, ◌==◌, ◌≡◌, ◌+◌, ◌≤◌, Option, Some, None, List, [], ◌∷◌, refl, sym, ap, ◌∙◌, subst, arith, inl}
+use mathlib.Core.Logic.{◌⊎◌}
+use Rattle.std.proofs.Common.{ℕ, Bool, true, false, ◌==◌, ◌≡◌, ◌+◌, ◌≤◌, Option, Some, None, List, [], ◌∷◌, refl, sym, ap, ◌∙◌, subst, arith, inl, inr}
 use Rattle.std.specs.Prelude.{◌&&◌, ◌||◌, if◌then◌else◌}
 use Rattle.std.specs.List.{list_all}
 use Rattle.std.proofs.lemmas.List.Folds.{list_any-append}
@@ -57,6 +58,16 @@ module _ (o : Opening) (w : World) (a : ℕ) where
         (part_same (λ v. call_of k v.calls) w a (turn_by o a w CallsLock) refl k.node);
     number = number;
   }
+
+  -- the rule behind the number is one of two
+  pub either : (P : List Rule → Type 0) (r s x : Rule) (later rest : List Rule) → rest ≡ x ∷ later
+      → (x ≡ r) ⊎ (x ≡ s) → MayAll o a (CallsLock ∷ rest) w → (MayAll o a (CallsLock ∷ r ∷ later) w → P (r ∷ later))
+      → (MayAll o a (CallsLock ∷ s ∷ later) w → P (s ∷ later)) → P rest
+  either P r s x later rest is second m one other =
+      (subst (λ (rs : List Rule). MayAll o a (CallsLock ∷ rs) w → P rs) (sym is) (elim second [
+        | inl e ↦ subst (λ (y : Rule). MayAll o a (CallsLock ∷ y ∷ later) w → P (y ∷ later)) (sym e) one
+        | inr e ↦ subst (λ (y : Rule). MayAll o a (CallsLock ∷ y ∷ later) w → P (y ∷ later)) (sym e) other
+      ])) m
 
   module _ (q : Process) (r z : Text) (target : Target) where
     -- a try

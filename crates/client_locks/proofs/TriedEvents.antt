@@ -19,7 +19,7 @@ use Rattle.registry_model.proofs.Updates.{by_test}
 use Rattle.moves.proofs.Indices.{both}
 use Rattle.walk.proofs.ChainKinds.{Aside, Again, Hearing, suits}
 use Rattle.walk.proofs.Walk.{InOrder}
-use Rattle.client_locks.proofs.Beginnings.{numbered, Begins, number_taken, same_targets, attempt, new_try, asking, deletion, fresh, deleting, asks, fails, deletes, deletes_nothing, deletes_silent, nothing_silent}
+use Rattle.client_locks.proofs.Beginnings.{either, numbered, Begins, number_taken, same_targets, attempt, new_try, asking, deletion, fresh, deleting, asks, fails, deletes, deletes_nothing, deletes_silent, nothing_silent}
 use Rattle.client_locks.proofs.RoundNumbers
 use Rattle.client_locks.proofs.RoundNumbers.{is_tried}
 use Rattle.client_locks.proofs.Ids.{is_process_same}
@@ -370,26 +370,13 @@ module _ (o : Opening) (kept : OrderedKept o) (w : World) (num : Numbers) (order
   call_tried a (Call.OnName c) rest m h = aside_tried (At a (Event.Calling (Call.OnName c))) rest refl m h
   call_tried a (Call.JoinBy j) rest m h = aside_tried (At a (Event.Calling (Call.JoinBy j))) rest refl m h
   call_tried a (Call.SetLock q r z target retries) rest m h =
-      (subst (λ (rs : List Rule). MayAll o a (CallsLock ∷ rs) w → TriedBy (attempt o w a q r z target retries) rs)
-      (sym h.1.1.0)
-      (elim h.1.1.1 [
-        | inl e ↦ subst (λ (s : Rule). MayAll o a (CallsLock ∷ s ∷ h.1.0) w
-            → TriedBy (attempt o w a q r z target retries) (s ∷ h.1.0)) (sym e)
-            (λ k. asked_tried a q r z target retries h.1.0 k h.1.1.2)
-        | inr e ↦ subst (λ (s : Rule). MayAll o a (CallsLock ∷ s ∷ h.1.0) w
-            → TriedBy (attempt o w a q r z target retries) (s ∷ h.1.0)) (sym e)
-            (λ k. failed_tried a q r z target retries h.1.0 k h.1.1.2)
-      ])) m
+      either o w a (TriedBy (attempt o w a q r z target retries)) _ _ h.0 h.1.0 rest h.1.1.0 h.1.1.1 m
+      (λ k. asked_tried a q r z target retries h.1.0 k h.1.1.2)
+      (λ k. failed_tried a q r z target retries h.1.0 k h.1.1.2)
   call_tried a (Call.DelLock q r z target) rest m h =
-      (subst (λ (rs : List Rule). MayAll o a (CallsLock ∷ rs) w → TriedBy (deletion o w a q r z target) rs) (sym h.1.1.0)
-      (elim h.1.1.1 [
-        | inl e ↦ subst (λ (s : Rule). MayAll o a (CallsLock ∷ s ∷ h.1.0) w
-            → TriedBy (deletion o w a q r z target) (s ∷ h.1.0)) (sym e)
-            (λ k. deleted_tried a q r z target h.1.0 k h.1.1.2)
-        | inr e ↦ subst (λ (s : Rule). MayAll o a (CallsLock ∷ s ∷ h.1.0) w
-            → TriedBy (deletion o w a q r z target) (s ∷ h.1.0)) (sym e)
-            (λ k. deleted_nothing_tried a q r z target h.1.0 k h.1.1.2)
-      ])) m
+      either o w a (TriedBy (deletion o w a q r z target)) _ _ h.0 h.1.0 rest h.1.1.0 h.1.1.1 m
+      (λ k. deleted_tried a q r z target h.1.0 k h.1.1.2)
+      (λ k. deleted_nothing_tried a q r z target h.1.0 k h.1.1.2)
 
   -- each accepted event
   pub tried : (e : WorldEvent) (rest : List Rule) → MayAll o (place e) (chain_of o w e rest) w → InOrder o w e rest

@@ -1,5 +1,5 @@
 -- A process's last deletion, after every list of events, and what an accepted event that answers it leaves.
-use Rattle.std.proofs.Common.{ℕ, Bool, true, false, ◌≡◌, ◌+◌, Option, Some, None, List, ◌∷◌, refl, sym, ap, ◌∙◌, subst, inl, inr}
+use Rattle.std.proofs.Common.{ℕ, Bool, true, false, ◌≡◌, ◌+◌, Option, Some, None, List, ◌∷◌, refl, sym, ap, ◌∙◌, subst}
 use Rattle.std.specs.Prelude.{if◌then◌else◌}
 use Rattle.std.specs.List.{list_all}
 use Rattle.registry_model.specs.Process.{Text, Process, is_process}
@@ -14,7 +14,7 @@ use Rattle.walk.proofs.ChainKinds.{Aside, suits}
 use Rattle.walk.proofs.Orders.{ordered_keeps}
 use Rattle.walk.proofs.Walk.{InOrder}
 use Rattle.leftovers.proofs.Ids.{is_process_same}
-use Rattle.leftovers.proofs.Beginnings.{numbered, Begins, same_targets, attempt, new_try, asking, deletion, fresh, deleting, asks, fails, deletes, deletes_nothing}
+use Rattle.leftovers.proofs.Beginnings.{either, numbered, Begins, same_targets, attempt, new_try, asking, deletion, fresh, deleting, asks, fails, deletes, deletes_nothing}
 use Rattle.leftovers.proofs.Clients.{Numbers}
 use Rattle.leftovers.proofs.Numbers.{num_by}
 use Rattle.leftovers.proofs.Numbering.{Numbered}
@@ -119,23 +119,8 @@ module _ (o : Opening) (w : World) (num : Numbers) (K : Known o w num) (N : Numb
   told_on (Deliver f b) rest m h = DeletionEvents.heard o w num K N p b (chain_of o w (Deliver f b) rest)
       (first_heard o (ordered_keeps o) w num K.ordered K.replying N f b (w.links.queue f b) rest h) m t T
   told_on (At a (Event.Calling (Call.SetLock q r z target retries))) rest m h =
-      (subst (λ (rs : List Rule). MayAll o a (CallsLock ∷ rs) w → After (attempt o w a q r z target retries) rs)
-      (sym h.1.1.0)
-      (elim h.1.1.1 [
-        | inl e ↦ subst (λ (s : Rule). MayAll o a (CallsLock ∷ s ∷ h.1.0) w
-            → After (attempt o w a q r z target retries) (s ∷ h.1.0)) (sym e)
-            (λ k. asked a q r z target retries h.1.0 k h.1.1.2)
-        | inr e ↦ subst (λ (s : Rule). MayAll o a (CallsLock ∷ s ∷ h.1.0) w
-            → After (attempt o w a q r z target retries) (s ∷ h.1.0)) (sym e)
-            (λ k. failed a q r z target retries h.1.0 k h.1.1.2)
-      ])) m
+      either o w a (After (attempt o w a q r z target retries)) _ _ h.0 h.1.0 rest h.1.1.0 h.1.1.1 m
+      (λ k. asked a q r z target retries h.1.0 k h.1.1.2) (λ k. failed a q r z target retries h.1.0 k h.1.1.2)
   told_on (At a (Event.Calling (Call.DelLock q r z target))) rest m h =
-      (subst (λ (rs : List Rule). MayAll o a (CallsLock ∷ rs) w → After (deletion o w a q r z target) rs) (sym h.1.1.0)
-      (elim h.1.1.1 [
-        | inl e ↦ subst (λ (s : Rule). MayAll o a (CallsLock ∷ s ∷ h.1.0) w
-            → After (deletion o w a q r z target) (s ∷ h.1.0)) (sym e)
-            (λ k. deleted a q r z target h.1.0 k h.1.1.2)
-        | inr e ↦ subst (λ (s : Rule). MayAll o a (CallsLock ∷ s ∷ h.1.0) w
-            → After (deletion o w a q r z target) (s ∷ h.1.0)) (sym e)
-            (λ k. deleted_nothing a q r z target h.1.0 k h.1.1.2)
-      ])) m
+      either o w a (After (deletion o w a q r z target)) _ _ h.0 h.1.0 rest h.1.1.0 h.1.1.1 m
+      (λ k. deleted a q r z target h.1.0 k h.1.1.2) (λ k. deleted_nothing a q r z target h.1.0 k h.1.1.2)
