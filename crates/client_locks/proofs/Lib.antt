@@ -30,6 +30,7 @@ pub mod Numbering
 pub mod Told
 pub mod Retried
 pub mod Tries
+pub mod Beginnings
 pub mod TriedEvents
 pub mod Walking
 pub mod Tallies

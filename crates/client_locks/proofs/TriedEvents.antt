@@ -1,39 +1,35 @@
 -- Each accepted event keeps that the last try of a process is that of its open lock call, and gives by the try what it
 -- gives by the call.
 use mathlib.Core.Logic.{◌⊎◌}
-use Rattle.std.proofs.Common.{ℕ, Bool, true, false, ◌==◌, ◌≡◌, ◌+◌, ◌≤◌, Option, Some, None, List, [], ◌∷◌, refl, sym, ap, ◌∙◌, subst, arith, inl, inr}
-use Rattle.std.specs.Prelude.{not, ◌&&◌, ◌||◌, if◌then◌else◌}
+use Rattle.std.proofs.Common.{ℕ, Bool, true, false, ◌==◌, ◌≡◌, ◌+◌, ◌≤◌, Option, Some, None, List, ◌∷◌, refl, sym, ap, ◌∙◌, subst, arith, inl, inr}
+use Rattle.std.specs.Prelude.{not, ◌&&◌, if◌then◌else◌}
 use Rattle.std.specs.List.{list_all}
-use Rattle.std.proofs.lemmas.List.Folds.{list_any-append}
-use Rattle.std.proofs.lemmas.Bool.{eqb-true, eq-eqb}
+use Rattle.std.proofs.lemmas.Bool.{eq-eqb}
 use Rattle.std.proofs.Math.Bool.{and-false}
 use Rattle.registry_model.specs.Process.{Text, Process, is_process, Nodes}
-use Rattle.registry_model.specs.Call.{True}
 use Rattle.protocol_model.specs.Round.{Out, Later, Owes, is_out, begin, greatest, asked}
 use Rattle.protocol_model.specs.Letter.{Id, Client, is_id}
-use Rattle.protocol_model.specs.Node.{Node, LockPhase, LockCall, Target, Retries, Times, call_of, targets}
+use Rattle.protocol_model.specs.Node.{LockPhase, LockCall, Target, Retries, call_of, targets}
 use Rattle.protocol_model.specs.Event.{Call, Event, Answer, is_waiting_call}
-use Rattle.protocol_model.specs.Client.{new_call, in_phase}
 use Rattle.protocol_model.specs.ClientLocks.{Try, try_of, tried_again, is_refused, last_try, is_won}
 use Rattle.protocol_model.specs.World.{Opening, in_world, World, WorldEvent, At, Deliver, place, accepted, turn_of}
-use Rattle.moves.proofs.Rules.{Rule, MayAll, Ordered, effect, effects, turn_by, answers_by}
+use Rattle.moves.proofs.Rules.{Rule, MayAll, Ordered, effect, effects, answers_by}
 use Rattle.moves.proofs.Rules.Rule.{CallsLock, AsksLock, FailsLock, DeletesLock, DeletesNothing}
 use Rattle.registry_model.proofs.Updates.{by_test}
 use Rattle.moves.proofs.Indices.{both}
 use Rattle.walk.proofs.ChainKinds.{Aside, Again, Hearing, suits}
 use Rattle.walk.proofs.Walk.{InOrder}
+use Rattle.client_locks.proofs.Beginnings.{either, numbered, Begins, number_taken, same_targets, attempt, new_try, asking, deletion, fresh, deleting, asks, fails, deletes, deletes_nothing, deletes_silent, nothing_silent}
 use Rattle.client_locks.proofs.RoundNumbers
 use Rattle.client_locks.proofs.RoundNumbers.{is_tried}
 use Rattle.client_locks.proofs.Ids.{is_process_same}
-use Rattle.client_locks.proofs.Calls.{call_of-drop, holder_of_call}
-use Rattle.client_locks.proofs.Clients.{Numbers, call_at, part_same, node_here}
-use Rattle.client_locks.proofs.Calling.{calls_put}
+use Rattle.client_locks.proofs.Calls.{holder_of_call}
+use Rattle.client_locks.proofs.Clients.{Numbers, call_at}
 use Rattle.client_locks.proofs.Growing.{Replying, replying_keeps}
-use Rattle.client_locks.proofs.Answering.{is_true, any_true}
-use Rattle.client_locks.proofs.Steps.{call_after}
+use Rattle.client_locks.proofs.Answering.{any_true}
 use Rattle.client_locks.proofs.Ongoing.{is_deleting}
 use Rattle.client_locks.proofs.Chains.{is_calm, aside_calm, OrderedKept, calm_answers}
-use Rattle.client_locks.proofs.Numbering.{aside_hears, Numbered, last_effect, last_chain, beginner_home}
+use Rattle.client_locks.proofs.Numbering.{aside_hears, Numbered, last_effect, last_chain}
 use Rattle.client_locks.proofs.Told.{all_of_all, retry_calm, chain_of, first_heard}
 use Rattle.client_locks.proofs.Retried.{IsTriedAgain, retry_calls}
 use Rattle.client_locks.proofs.Tries.{IsTryOf, Fits, lost_without, fits_chain, won_heard, fits_beside, fits_begins}
@@ -103,20 +99,13 @@ module _ (o : Opening) (kept : OrderedKept o) (w : World) (num : Numbers) (order
 
   -- a lock call takes its number, and its call begins by the rule r
   module _ (a : ℕ) (q : Process) (r : Rule) (rest : List Rule) (next : Option LockCall)
-      (m : MayAll o a (CallsLock ∷ r ∷ rest) w) (h : list_all (suits Aside) rest ≡ true) (home : q.node ≡ a)
-      (calls : (k : Process) → call_at (effect o a r (effect o a CallsLock w)) k
-      ≡ (if is_process q k then next else call_at (effect o a CallsLock w) k))
-      (new : (d : LockCall) → next ≡ Some d → d.number ≡ (w.node a).last_call + 1) where
+      (m : MayAll o a (CallsLock ∷ r ∷ rest) w) (h : list_all (suits Aside) rest ≡ true)
+      (B : Begins o w a q r next) where
     abbrev w1 : World
-    w1 = effect o a CallsLock w
+    w1 = numbered o w a
 
     abbrev w2 : World
     w2 = effect o a r w1
-
-    -- the calls, by those before the event
-    all_calls : (k : Process) → call_at w2 k ≡ (if is_process q k then next else call_at w k)
-    all_calls k = calls k ∙ ap (λ (c : Option LockCall). if is_process q k then next else c)
-        (part_same (λ v. call_of k v.calls) w a (turn_by o a w CallsLock) refl k.node)
 
     -- the rules behind it keep what fits
     later_fits : (k : Process) (s : Option Try) → Fits w2 k s → Fits (effects o a rest w2) k s
@@ -128,7 +117,7 @@ module _ (o : Opening) (kept : OrderedKept o) (w : World) (num : Numbers) (order
     -- it is another process's, or a deletion
     call_beside : (is_process q p ≡ true → (d : LockCall) → next ≡ Some d → is_deleting d.phase ≡ true)
         → Fits (effects o a rest w2) p t
-    call_beside apart = later_fits p t (fits_beside o a kept w w2 q next home all_calls new p t apart
+    call_beside apart = later_fits p t (fits_beside o a kept w w2 q next B.home B.calls B.number p t apart
         (λ n. omega (arith, last_effect o a w CallsLock n, last_effect o a w1 r n)) F)
 
     -- it is a try
@@ -136,22 +125,16 @@ module _ (o : Opening) (kept : OrderedKept o) (w : World) (num : Numbers) (order
         → ((d : LockCall) → next ≡ Some d → (is_deleting d.phase ≡ false) × IsTryOf s d) → is_process q p ≡ true
         → Fits (effects o a rest w2) p (Some s)
     call_begins s number begins same = subst (λ (k : Process). Fits (effects o a rest w2) k (Some s))
-        (is_process_same q p same)
-        (later_fits q (Some s) (fits_begins o a kept w w2 q next home all_calls new s number begins more N))
-      where
-        last_1 : (w1.node a).last_call ≡ (w.node a).last_call + 1
-        last_1 = ap (λ (v : Node). v.last_call) (node_here w a (turn_by o a w CallsLock) a refl)
-
-        more : (w.node a).last_call + 1 ≤ (w2.node a).last_call
-        more = subst (λ (n : ℕ). n ≤ (w2.node a).last_call) last_1 (last_effect o a w1 r a)
+        (is_process_same q p same) (later_fits q (Some s)
+        (fits_begins o a kept w w2 q next B.home B.calls B.number s number begins (number_taken o w a r) N))
 
   -- a try
   module _ (a : ℕ) (q : Process) (r z : Text) (target : Target) (retries : Retries) where
-    abbrev attempt : WorldEvent
-    attempt = At a (Event.Calling (Call.SetLock q r z target retries))
+    abbrev event : WorldEvent
+    event = attempt o w a q r z target retries
 
-    abbrev new_try : LockCall
-    new_try = new_call o.bound a ((w.node a).last_call + 1) q r z target retries
+    abbrev new : LockCall
+    new = new_try o w a q r z target retries
 
     abbrev trying : Try
     trying = try_of (w.node a).replica.members ((w.node a).last_call + 1) (Client r z) target
@@ -159,16 +142,16 @@ module _ (o : Opening) (kept : OrderedKept o) (w : World) (num : Numbers) (order
     -- nothing is won
     try_won : (s : Rule) (rest : List Rule) → list_all is_calm (CallsLock ∷ s ∷ rest) ≡ true
         → MayAll o a (CallsLock ∷ s ∷ rest) w → (id : Id) (x : ℕ)
-        → is_won p id x (answers_by o a (CallsLock ∷ s ∷ rest) w) (last_try w attempt p t)
+        → is_won p id x (answers_by o a (CallsLock ∷ s ∷ rest) w) (last_try w event p t)
         ≡ RoundNumbers.is_won id x (answers_by o a (CallsLock ∷ s ∷ rest) w) (call_at w p)
     try_won s rest calm m id x = both_lost p id x (answers_by o a (CallsLock ∷ s ∷ rest) w)
-        (last_try w attempt p t) (call_at w p)
+        (last_try w event p t) (call_at w p)
         (λ k e. calm_answers o a (CallsLock ∷ s ∷ rest) w calm m R p.node k.number)
         (λ c e. calm_answers o a (CallsLock ∷ s ∷ rest) w calm m R c.holder.node c.number)
 
     -- the last try is the new one, or another process tries
     try_fits : (end : World) → (is_process q p ≡ true → Fits end p (Some trying))
-        → (is_process q p ≡ false → Fits end p t) → Fits end p (last_try w attempt p t)
+        → (is_process q p ≡ false → Fits end p t) → Fits end p (last_try w event p t)
     try_fits end begins beside = go (is_process q p) refl
       where
         go : (b : Bool) → is_process q p ≡ b → Fits end p (if b then Some trying else t)
@@ -176,155 +159,77 @@ module _ (o : Opening) (kept : OrderedKept o) (w : World) (num : Numbers) (order
         go false e = beside e
 
     -- its round begins
-    asked_tried : (rest : List Rule) → MayAll o a (CallsLock ∷ AsksLock new_try ∷ rest) w
-        → list_all (suits Aside) rest ≡ true → TriedBy attempt (AsksLock new_try ∷ rest)
+    asked_tried : (rest : List Rule) → MayAll o a (CallsLock ∷ AsksLock new ∷ rest) w
+        → list_all (suits Aside) rest ≡ true → TriedBy event (AsksLock new ∷ rest)
     asked_tried rest m h = record {
-      won = try_won (AsksLock new_try) rest (all_of_all (suits Aside) is_calm aside_calm rest h) m;
-      fits = try_fits (effects o a rest (effect o a (AsksLock new_try) before))
-          (call_begins a q (AsksLock new_try) rest (Some first) m h home calls number trying refl begins)
-          (λ i. call_beside a q (AsksLock new_try) rest (Some first) m h home calls number
-          (λ k d e. absurd (cc (i, k))));
+      won = try_won (AsksLock new) rest (all_of_all (suits Aside) is_calm aside_calm rest h) m;
+      fits = try_fits (effects o a rest (effect o a (AsksLock new) (numbered o w a)))
+          (call_begins a q (AsksLock new) rest (Some first) m h B trying refl begins)
+          (λ i. call_beside a q (AsksLock new) rest (Some first) m h B (λ k d e. absurd (cc (i, k))));
     }
       where
-        before : World
-        before = effect o a CallsLock w
-
-        order1 : Ordered before
-        order1 = kept a w CallsLock order m.0
-
-        home : q.node ≡ a
-        home = beginner_home o a before new_try order1 m.1.0.tested.0
-
         first : LockCall
-        first = in_phase (LockPhase.Asking (begin o.bound (targets (before.node a).replica.members target))) new_try
+        first = asking o w a q r z target retries
 
-        calls : (k : Process) → call_at (effect o a (AsksLock new_try) before) k
-            ≡ (if is_process q k then Some first else call_at before k)
-        calls = call_after a None (turn_by o a before (AsksLock new_try)) before q (Some first) home
-            (calls_put a before order1 first home)
+        B : Begins o w a q (AsksLock new) (Some first)
+        B = asks o w a q r z target kept order rest retries m
 
-        number : (d : LockCall) → Some first ≡ Some d → d.number ≡ (w.node a).last_call + 1
-        number d e = let same : first ≡ d = cc e in sym (ap (λ (j : LockCall). j.number) same)
-
-        asks : (id : Id) (x : ℕ) → is_tried id x first ≡ (is_id (Client r z) id && targets
+        all : (id : Id) (x : ℕ) → is_tried id x first ≡ (is_id (Client r z) id && targets
             (w.node a).replica.members target x)
-        asks id x = ap (λ (b : Bool). is_id (Client r z) id && b)
-            (asked_begin o.bound (targets (before.node a).replica.members target) x
-            ∙ ap (λ (v : Node). targets v.replica.members target x)
-            (node_here w a (turn_by o a w CallsLock) a refl))
+        all id x = ap (λ (b : Bool). is_id (Client r z) id && b)
+            (asked_begin o.bound (targets ((numbered o w a).node a).replica.members target) x
+            ∙ ap (λ (s : Nodes). s x) (same_targets o w a target))
 
         begins : (d : LockCall) → Some first ≡ Some d → (is_deleting d.phase ≡ false) × IsTryOf trying d
         begins d e = let same : first ≡ d = cc e in
             subst (λ (c : LockCall). (is_deleting c.phase ≡ false) × IsTryOf trying c) same
-            (refl, record { number = refl; id = refl; target = refl; asks = inr asks })
+            (refl, record { number = refl; id = refl; target = refl; asks = inr all })
 
     -- there is nobody to ask
-    failed_tried : (rest : List Rule) → MayAll o a (CallsLock ∷ FailsLock new_try ∷ rest) w
-        → list_all (suits Aside) rest ≡ true → TriedBy attempt (FailsLock new_try ∷ rest)
+    failed_tried : (rest : List Rule) → MayAll o a (CallsLock ∷ FailsLock new ∷ rest) w
+        → list_all (suits Aside) rest ≡ true → TriedBy event (FailsLock new ∷ rest)
     failed_tried rest m h = record {
-      won = try_won (FailsLock new_try) rest (all_of_all (suits Aside) is_calm aside_calm rest h) m;
-      fits = try_fits (effects o a rest (effect o a (FailsLock new_try) before))
-          (call_begins a q (FailsLock new_try) rest None m h home calls (λ d e. cc) trying refl (λ d e. cc))
-          (λ i. call_beside a q (FailsLock new_try) rest None m h home calls (λ d e. cc) (λ k d e. cc));
+      won = try_won (FailsLock new) rest (all_of_all (suits Aside) is_calm aside_calm rest h) m;
+      fits = try_fits (effects o a rest (effect o a (FailsLock new) (numbered o w a)))
+          (call_begins a q (FailsLock new) rest None m h B trying refl (λ d e. cc))
+          (λ i. call_beside a q (FailsLock new) rest None m h B (λ k d e. cc));
     }
       where
-        before : World
-        before = effect o a CallsLock w
-
-        home : q.node ≡ a
-        home = beginner_home o a before new_try (kept a w CallsLock order m.0) m.1.0.tested.0
-
-        calls : (k : Process) → call_at (effect o a (FailsLock new_try) before) k
-            ≡ (if is_process q k then None else call_at before k)
-        calls = call_after a None (turn_by o a before (FailsLock new_try)) before q None home
-            (λ k. call_of-drop k q (before.node a).calls)
+        B : Begins o w a q (FailsLock new) None
+        B = fails o w a q r z target kept order rest retries m
 
   -- a deletion
   module _ (a : ℕ) (q : Process) (r z : Text) (target : Target) where
-    abbrev deletion : WorldEvent
-    deletion = At a (Event.Calling (Call.DelLock q r z target))
-
-    abbrev fresh : LockCall
-    fresh = new_call o.bound a ((w.node a).last_call + 1) q r z target (Times 0)
+    abbrev dropped : LockCall
+    dropped = fresh o w a q r z target
 
     -- it goes to some node
-    deleted_tried : (rest : List Rule) → MayAll o a (CallsLock ∷ DeletesLock fresh ∷ rest) w
-        → list_all (suits Aside) rest ≡ true → TriedBy deletion (DeletesLock fresh ∷ rest)
+    deleted_tried : (rest : List Rule) → MayAll o a (CallsLock ∷ DeletesLock dropped ∷ rest) w
+        → list_all (suits Aside) rest ≡ true → TriedBy (deletion o w a q r z target) (DeletesLock dropped ∷ rest)
     deleted_tried rest m h = record {
-      won = λ id x. both_lost p id x (answers_by o a rest after) t (call_at w p)
-          (λ s e. calm_answers o a rest after calm m.1.1 R2 p.node s.number)
-          (λ c e. calm_answers o a rest after calm m.1.1 R2 c.holder.node c.number);
-      fits = call_beside a q (DeletesLock fresh) rest (Some first) m h home
-          (call_after a None (turn_by o a before (DeletesLock fresh)) before q (Some first) home
-          (calls_put a before order1 first home))
-          (λ d e. let same : first ≡ d = cc e in sym (ap (λ (j : LockCall). j.number) same))
+      won = λ id x. both_lost p id x (answers_by o a (CallsLock ∷ DeletesLock dropped ∷ rest) w) t (call_at w p)
+          (λ s e. deletes_silent o w a q r z target R rest h p.node s.number m)
+          (λ c e. deletes_silent o w a q r z target R rest h c.holder.node c.number m);
+      fits = call_beside a q (DeletesLock dropped) rest (Some first) m h (deletes o w a q r z target kept order rest m)
           (λ k d e. let same : first ≡ d = cc e in sym (ap (λ (j : LockCall). is_deleting j.phase) same));
     }
       where
-        before : World
-        before = effect o a CallsLock w
-
-        after : World
-        after = effect o a (DeletesLock fresh) before
-
-        calm : list_all is_calm rest ≡ true
-        calm = all_of_all (suits Aside) is_calm aside_calm rest h
-
-        order1 : Ordered before
-        order1 = kept a w CallsLock order m.0
-
-        R2 : Replying after
-        R2 = replying_keeps o a before (DeletesLock fresh) m.1.0 (replying_keeps o a w CallsLock m.0 R)
-
-        home : q.node ≡ a
-        home = beginner_home o a before fresh order1 (inl m.1.0.tested.0)
-
         first : LockCall
-        first = in_phase (LockPhase.Deleting (targets (before.node a).replica.members target)) fresh
+        first = deleting o w a q r z target
 
     -- it goes nowhere, and is answered `true` under its own number
-    deleted_nothing_tried : (rest : List Rule) → MayAll o a (CallsLock ∷ DeletesNothing fresh ∷ rest) w
-        → list_all (suits Aside) rest ≡ true → TriedBy deletion (DeletesNothing fresh ∷ rest)
+    deleted_nothing_tried : (rest : List Rule) → MayAll o a (CallsLock ∷ DeletesNothing dropped ∷ rest) w
+        → list_all (suits Aside) rest ≡ true → TriedBy (deletion o w a q r z target) (DeletesNothing dropped ∷ rest)
     deleted_nothing_tried rest m h = record {
-      won = λ id x. both_lost p id x (answers_by o a (CallsLock ∷ DeletesNothing fresh ∷ rest) w) t (call_at w p)
-          (λ s e. earlier p.node s.number
+      won = λ id x. both_lost p id x (answers_by o a (CallsLock ∷ DeletesNothing dropped ∷ rest) w) t (call_at w p)
+          (λ s e. nothing_silent o w a q r z target R rest h p.node s.number m
           (λ i. subst (λ (n : ℕ). s.number ≤ (w.node n).last_call) (sym i) (F.below s e)))
-          (λ c e. earlier c.holder.node c.number (λ i. subst (λ (n : ℕ). c.number ≤ (w.node n).last_call)
+          (λ c e. nothing_silent o w a q r z target R rest h c.holder.node c.number m
+          (λ i. subst (λ (n : ℕ). c.number ≤ (w.node n).last_call)
           (sym (i ∙ ap (λ (k : Process). k.node) (holder_of_call p (w.node p.node).calls c e))) (N.below p c e)));
-      fits = call_beside a q (DeletesNothing fresh) rest None m h home
-          (call_after a None (turn_by o a before (DeletesNothing fresh)) before q None home
-          (λ k. call_of-drop k q (before.node a).calls)) (λ d e. cc) (λ k d e. cc);
+      fits = call_beside a q (DeletesNothing dropped) rest None m h
+          (deletes_nothing o w a q r z target kept order rest m) (λ k d e. cc);
     }
-      where
-        before : World
-        before = effect o a CallsLock w
-
-        after : World
-        after = effect o a (DeletesNothing fresh) before
-
-        home : q.node ≡ a
-        home = beginner_home o a before fresh (kept a w CallsLock order m.0) (inl m.1.0.tested.0)
-
-        -- no earlier number is answered `true`
-        earlier : (b n : ℕ) → (a ≡ b → n ≤ (w.node a).last_call)
-            → any_true b n (answers_by o a (CallsLock ∷ DeletesNothing fresh ∷ rest) w) ≡ false
-        earlier b n least =
-            list_any-append (is_true b n) (record { node = a; number = ((w.node a).last_call + 1); reply = True } ∷ [])
-            (answers_by o a rest after)
-            ∙ ap (λ (d : Bool). d || any_true b n (answers_by o a rest after))
-            (first (a == b) (((w.node a).last_call + 1) == n) refl refl)
-            ∙ calm_answers o a rest after (all_of_all (suits Aside) is_calm aside_calm rest h) m.1.1
-            (replying_keeps o a before (DeletesNothing fresh) m.1.0 (replying_keeps o a w CallsLock m.0 R)) b n
-          where
-            first : (d g : Bool) → (a == b) ≡ d → (((w.node a).last_call + 1) == n) ≡ g
-                → (((d && g) && true) || false) ≡ false
-            first false g i j = refl
-            first true false i j = refl
-            first true true i j = absurd (omega (
-              arith,
-              eqb-true ((w.node a).last_call + 1) n j,
-              least (eqb-true a b i),
-            ))
 
   -- a retry
   module _ (a : ℕ) where
@@ -465,26 +370,13 @@ module _ (o : Opening) (kept : OrderedKept o) (w : World) (num : Numbers) (order
   call_tried a (Call.OnName c) rest m h = aside_tried (At a (Event.Calling (Call.OnName c))) rest refl m h
   call_tried a (Call.JoinBy j) rest m h = aside_tried (At a (Event.Calling (Call.JoinBy j))) rest refl m h
   call_tried a (Call.SetLock q r z target retries) rest m h =
-      (subst (λ (rs : List Rule). MayAll o a (CallsLock ∷ rs) w → TriedBy (attempt a q r z target retries) rs)
-      (sym h.1.1.0)
-      (elim h.1.1.1 [
-        | inl e ↦ subst (λ (s : Rule). MayAll o a (CallsLock ∷ s ∷ h.1.0) w
-            → TriedBy (attempt a q r z target retries) (s ∷ h.1.0)) (sym e)
-            (λ k. asked_tried a q r z target retries h.1.0 k h.1.1.2)
-        | inr e ↦ subst (λ (s : Rule). MayAll o a (CallsLock ∷ s ∷ h.1.0) w
-            → TriedBy (attempt a q r z target retries) (s ∷ h.1.0)) (sym e)
-            (λ k. failed_tried a q r z target retries h.1.0 k h.1.1.2)
-      ])) m
+      either o w a (TriedBy (attempt o w a q r z target retries)) _ _ h.0 h.1.0 rest h.1.1.0 h.1.1.1 m
+      (λ k. asked_tried a q r z target retries h.1.0 k h.1.1.2)
+      (λ k. failed_tried a q r z target retries h.1.0 k h.1.1.2)
   call_tried a (Call.DelLock q r z target) rest m h =
-      (subst (λ (rs : List Rule). MayAll o a (CallsLock ∷ rs) w → TriedBy (deletion a q r z target) rs) (sym h.1.1.0)
-      (elim h.1.1.1 [
-        | inl e ↦ subst (λ (s : Rule). MayAll o a (CallsLock ∷ s ∷ h.1.0) w
-            → TriedBy (deletion a q r z target) (s ∷ h.1.0)) (sym e)
-            (λ k. deleted_tried a q r z target h.1.0 k h.1.1.2)
-        | inr e ↦ subst (λ (s : Rule). MayAll o a (CallsLock ∷ s ∷ h.1.0) w
-            → TriedBy (deletion a q r z target) (s ∷ h.1.0)) (sym e)
-            (λ k. deleted_nothing_tried a q r z target h.1.0 k h.1.1.2)
-      ])) m
+      either o w a (TriedBy (deletion o w a q r z target)) _ _ h.0 h.1.0 rest h.1.1.0 h.1.1.1 m
+      (λ k. deleted_tried a q r z target h.1.0 k h.1.1.2)
+      (λ k. deleted_nothing_tried a q r z target h.1.0 k h.1.1.2)
 
   -- each accepted event
   pub tried : (e : WorldEvent) (rest : List Rule) → MayAll o (place e) (chain_of o w e rest) w → InOrder o w e rest

@@ -1,4 +1,5 @@
 pub use Rattle.client_locks.proofs.Answering
+pub use Rattle.client_locks.proofs.Beginnings
 pub use Rattle.client_locks.proofs.Calling
 pub use Rattle.client_locks.proofs.Calls
 pub use Rattle.client_locks.proofs.Chains

@@ -16,21 +16,11 @@ is_bad _ = false
 
 refused_bad : (m : Mark) → is_refused m ≡ true → is_bad m ≡ true
 refused_bad Refused h = refl
-refused_bad Out h = cc
-refused_bad Later h = cc
-refused_bad Owes h = cc
-refused_bad Granted h = cc
-refused_bad Lost h = cc
-refused_bad Gone h = cc
+refused_bad _ h = cc
 
 gone_bad : (m : Mark) → is_gone m ≡ true → is_bad m ≡ true
 gone_bad Gone h = refl
-gone_bad Out h = cc
-gone_bad Later h = cc
-gone_bad Owes h = cc
-gone_bad Granted h = cc
-gone_bad Lost h = cc
-gone_bad Refused h = cc
+gone_bad _ h = cc
 
 -- a round that begins has none
 pub begin_good : (n : ℕ) (s : Nodes) (x : ℕ) → is_bad ((begin n s).mark x) ≡ true → ⊥
@@ -48,12 +38,7 @@ bad_answer f g r owe so denied x before h = go (opens f g r) refl
   where
     too : (m : Mark) → is_bad (asked_too m) ≡ true → is_bad m ≡ true
     too Later k = cc
-    too Out k = k
-    too Owes k = k
-    too Granted k = k
-    too Refused k = k
-    too Lost k = k
-    too Gone k = k
+    too _ k = k
 
     by : (b : Bool) → g ≡ b → is_bad (mark_by b) ≡ true → so ≡ true
     by true e k = cc
@@ -81,12 +66,7 @@ bad_down d r so was x before h = by_test d
   where
     here : (m : Mark) → (not (is_out m) ≡ true → so ≡ true) → is_bad (mark_down m) ≡ true → so ≡ true
     here Out k e = cc
-    here Later k e = k refl
-    here Owes k e = k refl
-    here Granted k e = k refl
-    here Refused k e = k refl
-    here Lost k e = k refl
-    here Gone k e = k refl
+    here _ k e = k refl
 
 -- a round that is over and isn't held has a bad mark
 pub failed_bad : (n : ℕ) (r : Round) (s : Nodes) → is_over n r ≡ true → ending n (asked r) r ≡ GiveBack s
@@ -119,11 +99,7 @@ failed_bad n r s over failed below = first (is_refused (r.mark r.boss)) (is_gone
       empty_at n (granted r) k r.boss (below (ap (λ (m : Mark). not (is_out m)) e)),
     ))
     boss Lost e h k = (r.boss, ap is_bad e)
-    boss Out e h k = cc
-    boss Later e h k = cc
-    boss Owes e h k = cc
-    boss Refused e h k = cc
-    boss Gone e h k = cc
+    boss _ e h k = cc
 
     rest : has_granted (r.mark r.boss) ≡ true → (b c : Bool) → is_empty n (λ c. is_refused (r.mark c)) ≡ b
         → is_empty n (granted r) ≡ c → (x : ℕ) × (is_bad (r.mark x) ≡ true)

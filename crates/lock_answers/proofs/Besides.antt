@@ -1,25 +1,23 @@
--- Parts of a step that are of no lock call: nobody dies by them, and none answers `true`.
+-- Parts of a step that are of no lock call: none answers `true`.
 use Rattle.std.proofs.Common.{ℕ, Bool, true, false, ◌==◌, ◌≡◌, Option, Some, None, List, [], ◌∷◌, refl, sym, ap, ◌∙◌, subst, inl, inr}
-use Rattle.std.specs.Prelude.{not, ◌&&◌, ◌||◌, Contains, if◌then◌else◌}
+use Rattle.std.specs.Prelude.{◌||◌, Contains, if◌then◌else◌}
 use Rattle.std.specs.List.{list_any}
 use Rattle.registry_model.specs.Process.{Nodes, at}
 use Rattle.registry_model.specs.Call.{Reply, True, ContactLeft, is_reply, is_grant, reply_to, change_of}
 use Rattle.registry_model.specs.Settlement.{settle}
 use Rattle.registry_model.specs.History.{Entry}
 use Rattle.registry_model.proofs.Lists.{Contains-cases, Contains-front, Contains-behind, Contains-nil}
-use Rattle.protocol_model.specs.Round.{Round, is_empty, asked, owes, opens, rest, answer, down, is_over, Ending, Held, GiveBack, ending}
-use Rattle.protocol_model.specs.Letter.{Letter, Global}
+use Rattle.protocol_model.specs.Round.{Round, is_empty, asked, down, is_over, Ending, Held, GiveBack, ending}
 use Rattle.protocol_model.specs.Watch.{owed}
 use Rattle.protocol_model.specs.Node.{Node, Op, Current}
 use Rattle.protocol_model.specs.Event.{Answer}
-use Rattle.protocol_model.specs.Turn.{Turn, at_work, with_queue, enter, send_all}
-use Rattle.protocol_model.specs.Registrar.{registrar, answer_op, finish, done, write, ask_rest, await_less, contact_left, lose_contact, ask_join, start_queue, start_next, start_free, start, retry_global}
-use Rattle.protocol_model.specs.Deciding.{admit, held, end_by, go_on, hear_answer, lose}
+use Rattle.protocol_model.specs.Turn.{Turn, at_work, with_queue, enter}
+use Rattle.protocol_model.specs.Registrar.{finish, done, write, await_less, contact_left, lose_contact, ask_join, start_queue, start_next, start_free, start}
+use Rattle.protocol_model.specs.Deciding.{admit, held, end_by, go_on, lose}
 use Rattle.protocol_model.specs.Answers.{answer_to}
 use Rattle.moves.proofs.Indices.{not_true}
-use Rattle.leftovers.proofs.Growing.{is_fine, is_fine_reply, not_true_reply, node_answer_op}
+use Rattle.leftovers.proofs.Growing.{is_fine, is_fine_reply, not_true_reply}
 use Rattle.leftovers.proofs.Turns.{push_none}
-use Rattle.leftovers.proofs.RestWork.{ask_rest-node}
 
 -- some answer has such a reply
 abbrev pub has_reply : (Reply → Bool) → List Answer → Bool
@@ -108,39 +106,19 @@ start_part {X} P same n a u = go u.node.current
     go Current.Free = next (owed a u.node.replica.table u.node.watch)
     go _ = refl
 
--- a turn by which nobody more dies, and nothing more is answered `true`
-pub record Plain (u v : Turn) : Type 0 where
-  pub watch : v.node.watch ≡ u.node.watch
-  pub answers : has_reply is_true v.answers ≡ has_reply is_true u.answers
-
-pub plain_same : (u : Turn) → Plain u u
-plain_same u = record { watch = refl; answers = refl }
-
-ask_rest-answers : (n a f : ℕ) (g : Bool) (l : Letter) (r : Round) (u : Turn)
-    → (ask_rest n a f g l r u).answers ≡ u.answers
-ask_rest-answers n a f g l r u = go (opens f g r)
-  where
-    go : (b : Bool) → (if b then send_all n (λ x. rest r x && not (u.node.replica.told x)) l u else u).answers
-        ≡ u.answers
-    go true = refl
-    go false = refl
+-- a turn by which nothing more is answered `true`
+abbrev Plain : Turn → Turn → Type 0
+Plain u v = has_reply is_true v.answers ≡ has_reply is_true u.answers
 
 module _ (n a : ℕ) where
   plain_finish : (op : Op) (s : Nodes) (reply : Option Reply) (u : Turn) → is_fine_reply reply ≡ true
       → Plain u (finish n a op s reply u)
-  plain_finish op s reply u fine = record {
-    watch = ap (λ (v : Node). v.watch) (node_answer_op n a op reply u);
-    answers = go op reply fine;
-  }
-    where
-      go : (op : Op) (reply : Option Reply) → is_fine_reply reply ≡ true
-          → has_reply is_true (answer_op n a op reply u).answers ≡ has_reply is_true u.answers
-      go (Op.Name k call) (Some r) f =
-          push_none (λ x. is_true x.reply) u.answers (answer_to a k r) (not_true (is_reply r True) f)
-      go (Op.Name k call) None f = refl
-      go (Op.Strike p) reply f = refl
-      go (Op.Join k m) reply f = refl
-      go (Op.Admission j pairs) reply f = refl
+  plain_finish (Op.Name k call) s (Some r) u f =
+      push_none (λ x. is_true x.reply) u.answers (answer_to a k r) (not_true (is_reply r True) f)
+  plain_finish (Op.Name k call) s None u f = refl
+  plain_finish (Op.Strike p) s reply u f = refl
+  plain_finish (Op.Join k m) s reply u f = refl
+  plain_finish (Op.Admission j pairs) s reply u f = refl
 
   module _ (number : ℕ → ℕ) where
     plain_held : (op : Op) (s : Nodes) (u : Turn) → Plain u (held n a number op s u)
@@ -153,76 +131,38 @@ module _ (n a : ℕ) where
             (if b then write n a (Op.Name k call) s (Some reply) (change_of call)
             (enter (Entry.Name a k call reply) u)
             else finish n a (Op.Name k call) s (Some reply) (enter (Entry.Name a k call reply) u))
-        by reply true e = record { watch = refl; answers = refl }
-        by reply false e = record {
-          watch = refl;
-          answers = push_none (λ x. is_true x.reply) u.answers (answer_to a k reply) e;
-        }
-    plain_held (Op.Strike p) s u = record { watch = refl; answers = refl }
+        by reply true e = refl
+        by reply false e = push_none (λ x. is_true x.reply) u.answers (answer_to a k reply) e
+    plain_held (Op.Strike p) s u = refl
     plain_held (Op.Admission j pairs) s u = go (u.node.replica.told j)
       where
         go : (t : Bool) → Plain u (if t then finish n a (Op.Admission j pairs) s None u
             else admit n a number j pairs s (settle u.node.replica.table pairs) u)
-        go true = record { watch = refl; answers = refl }
-        go false = record { watch = refl; answers = refl }
-    plain_held (Op.Join k m) s u = record { watch = refl; answers = refl }
+        go true = refl
+        go false = refl
+    plain_held (Op.Join k m) s u = refl
 
     plain_go_on : (op : Op) (r : Round) (u : Turn) → Plain u (go_on n a number op r u)
     plain_go_on op r u = go (is_over n r)
       where
         ends : (x : Ending) → Plain u (end_by n a number x op (asked r) (at_work (Current.Asking op r) u))
-        ends Held = record {
-          watch = (plain_held op (asked r) (at_work (Current.Asking op r) u)).watch;
-          answers = (plain_held op (asked r) (at_work (Current.Asking op r) u)).answers;
-        }
-        ends (GiveBack granted) = record { watch = refl; answers = refl }
+        ends Held = plain_held op (asked r) (at_work (Current.Asking op r) u)
+        ends (GiveBack granted) = refl
 
         go : (b : Bool) → Plain u (if b then end_by n a number (ending n u.node.replica.members r) op (asked r)
             (at_work (Current.Asking op r) u) else at_work (Current.Asking op r) u)
         go true = ends (ending n u.node.replica.members r)
-        go false = record { watch = refl; answers = refl }
+        go false = refl
 
-    pub plain_hear : (f : ℕ) (g : Bool) (c : Current) (u : Turn) → Plain u (hear_answer n a number f g c u)
-    plain_hear f g (Current.Asking op r) u = go (owes r f)
-      where
-        l : Letter
-        l = Letter.SetLock (Global a) (registrar a)
-
-        v : Turn
-        v = ask_rest n a f g l r u
-
-        same : Plain u (ask_rest n a f g (Letter.SetLock (Global a) (registrar a)) r u)
-        same = record {
-          watch = ap (λ (x : Node). x.watch) (ask_rest-node n a f g (Letter.SetLock (Global a) (registrar a)) r u);
-          answers = ap (has_reply is_true) (ask_rest-answers n a f g (Letter.SetLock (Global a) (registrar a)) r u);
-        }
-
-        go : (b : Bool) → Plain u (if b then go_on n a number op (answer f g r)
-            (ask_rest n a f g (Letter.SetLock (Global a) (registrar a)) r u) else u)
-        go true =
-            let P : Plain v (go_on n a number op (answer f g r) v) = plain_go_on op (answer f g r) v in
-            record { watch = P.watch ∙ same.watch; answers = P.answers ∙ same.answers }
-        go false = plain_same u
-    plain_hear f g Current.Free u = plain_same u
-    plain_hear f g (Current.Waiting op) u = plain_same u
-    plain_hear f g (Current.Writing op s awaited reply) u = plain_same u
-    plain_hear f g (Current.Joining k m) u = plain_same u
-
-  pub plain_await : (d : ℕ) (c : Current) (u : Turn) → is_fine c ≡ true → Plain u (await_less n a d c u)
+  plain_await : (d : ℕ) (c : Current) (u : Turn) → is_fine c ≡ true → Plain u (await_less n a d c u)
   plain_await d (Current.Writing op s awaited reply) u fine = go (awaited d) (is_empty n (at awaited d false))
     where
       go : (b c : Bool) → Plain u (if b then (if c then done n a op s reply u
           else at_work (Current.Writing op s (at awaited d false) reply) u) else u)
-      go true true =
-          let P : Plain (enter (Entry.Done a) u) (finish n a op s reply (enter (Entry.Done a) u)) =
-          plain_finish op s reply (enter (Entry.Done a) u) fine in
-          record { watch = P.watch; answers = P.answers }
-      go true false = record { watch = refl; answers = refl }
-      go false c = plain_same u
-  plain_await d Current.Free u fine = plain_same u
-  plain_await d (Current.Waiting op) u fine = plain_same u
-  plain_await d (Current.Asking op r) u fine = plain_same u
-  plain_await d (Current.Joining k m) u fine = plain_same u
+      go true true = plain_finish op s reply (enter (Entry.Done a) u) fine
+      go true false = refl
+      go false c = refl
+  plain_await d _ u fine = refl
 
   -- d has gone down: a join by d ends, and the registrar is told
   pub plain_lose : (number : ℕ → ℕ) (d : ℕ) (u : Turn) → is_fine u.node.current ≡ true
@@ -236,8 +176,8 @@ module _ (n a : ℕ) where
 
       go : (x : Current) → u.node.current ≡ x → is_fine x ≡ true
           → Plain u (lose n a number d (lose_contact n a d x u).node.current (lose_contact n a d x u))
-      go Current.Free i f = later Current.Free i (plain_same u)
-      go (Current.Waiting op) i f = later (Current.Waiting op) i (plain_same u)
+      go Current.Free i f = later Current.Free i refl
+      go (Current.Waiting op) i f = later (Current.Waiting op) i refl
       go (Current.Asking op r) i f = later (Current.Asking op r) i (plain_go_on number op (down d r) u)
       go (Current.Writing op s awaited reply) i f = later (Current.Writing op s awaited reply) i
           (plain_await d (Current.Writing op s awaited reply) u f)
@@ -246,12 +186,5 @@ module _ (n a : ℕ) where
           contact : (b : Bool) → Plain u (lose n a number d
               (if b then contact_left n a k m (at_work Current.Free u) else u).node.current
               (if b then contact_left n a k m (at_work Current.Free u) else u))
-          contact true = record {
-            watch = refl;
-            answers = push_none (λ x. is_true x.reply) u.answers (answer_to a k ContactLeft) refl;
-          }
-          contact false = later (Current.Joining k m) i (plain_same u)
-
-  pub plain_retry : (c : Current) (u : Turn) → Plain u (retry_global n a c u)
-  plain_retry (Current.Waiting op) u = record { watch = refl; answers = refl }
-  plain_retry _ u = plain_same u
+          contact true = push_none (λ x. is_true x.reply) u.answers (answer_to a k ContactLeft) refl
+          contact false = later (Current.Joining k m) i refl

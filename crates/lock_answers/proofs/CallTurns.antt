@@ -46,6 +46,11 @@ pub deny_each : (cs : List ℕ) (l : Letter) → is_denial l ≡ false → deny_
 deny_each [] l h = refl
 deny_each (c ∷ cs) l h = rw (h, deny_each cs l h) refl
 
+-- what there is unless b
+pub unless : {A : Type 0} (b : Bool) (x y : A) → (if b then None else Some x) ≡ Some y → x ≡ y
+unless true x y e = cc
+unless false x y e = cc
+
 module _ (n a : ℕ) where
   -- a turn leaves the lock calls, answers none of them, and denies nobody a lock
   pub record Quietly (u v : Turn) : Type 0 where

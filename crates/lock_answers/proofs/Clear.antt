@@ -53,12 +53,7 @@ granted_answer f g r owe x ne h = go ((answer f g r).mark x) (answered f g r owe
   where
     too : (m : Mark) → is_granted m ≡ false → is_granted (asked_too m) ≡ false
     too Later e = refl
-    too Out e = refl
-    too Owes e = refl
-    too Granted e = cc
-    too Refused e = refl
-    too Lost e = refl
-    too Gone e = refl
+    too _ e = e
 
     go : (m : Mark) → Answered f x (r.mark x) m → is_granted m ≡ false
     go m (Own k e) = absurd (ne e)

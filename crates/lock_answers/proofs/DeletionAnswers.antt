@@ -1,43 +1,40 @@
 -- An accepted event that answers a process's last deletion `true`: all nodes that it went to have given back then, and
 -- its process lives; or it went nowhere.
 use mathlib.Core.Logic.{◌⊎◌}
-use Rattle.std.proofs.Common.{ℕ, Bool, true, false, ◌==◌, ◌≡◌, ◌+◌, ◌≤◌, Option, Some, None, List, [], ◌∷◌, refl, sym, ap, ◌∙◌, subst, inl, inr, arith}
-use Rattle.std.specs.Prelude.{◌&&◌, ◌||◌, nat_lt, if◌then◌else◌}
+use Rattle.std.proofs.Common.{ℕ, Bool, true, false, ◌≡◌, ◌+◌, ◌≤◌, Option, Some, None, List, ◌∷◌, refl, sym, ap, ◌∙◌, subst, inl, inr}
+use Rattle.std.specs.Prelude.{nat_lt, if◌then◌else◌}
 use Rattle.std.specs.List.{list_all}
-use Rattle.std.proofs.lemmas.Bool.{eqb-true, ltb-true}
-use Rattle.registry_model.specs.Process.{Text, Process, is_process, at}
-use Rattle.protocol_model.specs.Letter.{Letter, Client}
+use Rattle.std.proofs.lemmas.Bool.{ltb-true}
+use Rattle.registry_model.specs.Process.{Text, Process, is_process, Nodes, at}
+use Rattle.protocol_model.specs.Letter.{Client}
 use Rattle.protocol_model.specs.Watch.{Watch, is_dead}
-use Rattle.protocol_model.specs.Node.{Node, LockCall, Target, Times, targets}
+use Rattle.protocol_model.specs.Node.{Node, LockCall, Target, targets}
 use Rattle.protocol_model.specs.Event.{Call, Event}
-use Rattle.protocol_model.specs.Turn.{begun}
-use Rattle.protocol_model.specs.Client.{new_call}
 use Rattle.protocol_model.specs.LockAnswers.{Deletion, deletion_by}
-use Rattle.protocol_model.specs.World.{Opening, in_world, World, left, WorldEvent, At, Deliver, place, join_number, heard, turn_of, accepted}
+use Rattle.protocol_model.specs.World.{Opening, in_world, World, left, WorldEvent, At, Deliver, place, turn_of, accepted}
 use Rattle.registry_model.proofs.Updates.{at_same}
-use Rattle.moves.proofs.Rules.{Rule, MayAll, effect, effects, turn_by, answers_by}
+use Rattle.moves.proofs.Rules.{Rule, MayAll, effects, answers_by}
 use Rattle.moves.proofs.Rules.Rule.{CallsLock, AsksLock, FailsLock, DeletesLock, DeletesNothing}
 use Rattle.moves.proofs.Indices.{both, empty_at}
 use Rattle.walk.proofs.ChainKinds.{Aside, Again, Hearing, suits}
 use Rattle.walk.proofs.Orders.{ordered_keeps}
 use Rattle.walk.proofs.Walk.{InOrder}
-use Rattle.leftovers.proofs.Clients.{Numbers, lives, IsLive, live_parts, lives_by, call_at, node_here}
-use Rattle.leftovers.proofs.Growing.{replying_keeps}
+use Rattle.leftovers.proofs.Clients.{Numbers, lives, IsLive, live_parts, lives_by, call_at}
 use Rattle.leftovers.proofs.Answering.{any_true}
+use Rattle.leftovers.proofs.Beginnings.{either, numbered, same_targets, attempt, new_try, deletion, fresh, deletes_silent, nothing_silent}
 use Rattle.leftovers.proofs.Chains.{is_calm, aside_calm, calm_answers}
 use Rattle.leftovers.proofs.HeardChains.{answered_none}
 use Rattle.leftovers.proofs.Numbering.{Numbered}
 use Rattle.leftovers.proofs.Told.{all_of_all, retry_calm, chain_of, first_heard}
-use Rattle.lock_answers.proofs.Spared.{spares, spared, killing_answers}
+use Rattle.lock_answers.proofs.Spared.{letter_watch, true_lock}
 use Rattle.lock_answers.proofs.OpenDeletions.{Known}
 use Rattle.lock_answers.proofs.DeletionChains.{Deletes, IsDeleted, ends_chain}
 use Rattle.lock_answers.proofs.DeletionEvents.{Told}
 
--- who lives where a letter is read by which nobody dies lives behind it
-spared_lives : (o : Opening) (f b : ℕ) (w : World) (l : Letter) (ls : List Letter) → w.links.queue f b ≡ l ∷ ls
-    → spares l ≡ true → (p : Process) → p.node ≡ b → lives o w p ≡ true
-    → lives o (accepted o w (Deliver f b)) p ≡ true
-spared_lives o f b w l ls front h p home living = lives_by o (accepted o w (Deliver f b)) p (record {
+-- who lives where a letter is read that leaves the watch lives behind it
+watched_lives : (o : Opening) (f b : ℕ) (w : World) → (turn_of o w (Deliver f b)).node.watch ≡ (w.node b).watch
+    → (p : Process) → p.node ≡ b → lives o w p ≡ true → lives o (accepted o w (Deliver f b)) p ≡ true
+watched_lives o f b w watch p home living = lives_by o (accepted o w (Deliver f b)) p (record {
   inside = v.inside;
   up = v.up;
   client = v.client;
@@ -49,10 +46,6 @@ spared_lives o f b w l ls front h p home living = lives_by o (accepted o w (Deli
   where
     v : IsLive o w p
     v = live_parts o w p living
-
-    watch : (turn_of o w (Deliver f b)).node.watch ≡ (w.node b).watch
-    watch = ap (λ (qs : List Letter). (heard o.bound b w f qs).node.watch) front
-        ∙ spared o.bound b (join_number w) f l (begun (w.node b)) h
 
 module _ (o : Opening) (w : World) (num : Numbers) (K : Known o w num) (N : Numbered o w) (p : Process)
     (t : Option Deletion) (T : Told o p w t) where
@@ -101,23 +94,9 @@ module _ (o : Opening) (w : World) (num : Numbers) (K : Known o w num) (N : Numb
             cc (unanswered, answered)
 
     lives_after : lives o (effects o b (chain_of o w (Deliver f b) rest) w) p ≡ true
-    lives_after = subst (λ (v : World). lives o v p ≡ true) (sym is) (go (w.links.queue f b) refl)
-      where
-        by_letter : (l : Letter) (ls : List Letter) → w.links.queue f b ≡ l ∷ ls → (c : Bool) → spares l ≡ c
-            → lives o (accepted o w (Deliver f b)) p ≡ true
-        by_letter l ls e true s = spared_lives o f b w l ls e s p here lived_before
-        by_letter l ls e false s =
-            let none : any_true p.node d.number (turn_of o w (Deliver f b)).answers ≡ false =
-            ap (λ (qs : List Letter). any_true p.node d.number (heard o.bound b w f qs).answers) e
-            ∙ killing_answers o.bound b (join_number w) p.node d.number f l (begun (w.node b)) s refl in
-            absurd (cc (ap (any_true p.node d.number) same ∙ none, answered))
-
-        go : (qs : List Letter) → w.links.queue f b ≡ qs → lives o (accepted o w (Deliver f b)) p ≡ true
-        go [] e =
-            let none : any_true p.node d.number (turn_of o w (Deliver f b)).answers ≡ false =
-            ap (λ (qs : List Letter). any_true p.node d.number (heard o.bound b w f qs).answers) e in
-            absurd (cc (ap (any_true p.node d.number) same ∙ none, answered))
-        go (l ∷ ls) e = by_letter l ls e (spares l) refl
+    lives_after = subst (λ (v : World). lives o v p ≡ true) (sym is) (watched_lives o f b w (letter_watch o w f b
+        (true_lock p.node d.number (turn_of o w (Deliver f b)).answers
+        (ap (any_true p.node d.number) (sym same) ∙ answered))) p here lived_before)
 
     heard_ends : HasEnded d (effects o b (chain_of o w (Deliver f b) rest) w)
     heard_ends = inl (
@@ -125,71 +104,34 @@ module _ (o : Opening) (w : World) (num : Numbers) (K : Known o w num) (N : Numb
       lives_after,
     )
 
-  -- a deletion
-  module _ (a : ℕ) (q : Process) (r z : Text) (target : Target) where
-    abbrev deletion : WorldEvent
-    deletion = At a (Event.Calling (Call.DelLock q r z target))
+  -- a deletion that goes nowhere
+  nothing_ends : (a : ℕ) (q : Process) (r z : Text) (target : Target) (rest : List Rule)
+      → MayAll o a (CallsLock ∷ DeletesNothing (fresh o w a q r z target) ∷ rest) w
+      → list_all (suits Aside) rest ≡ true → (d : Deletion)
+      → deletion_by w (deletion o w a q r z target) p t ≡ Some d
+      → any_true p.node d.number (answers_by o a (CallsLock ∷ DeletesNothing (fresh o w a q r z target) ∷ rest) w)
+      ≡ true
+      → HasEnded d (effects o a (CallsLock ∷ DeletesNothing (fresh o w a q r z target) ∷ rest) w)
+  nothing_ends a q r z target rest m h d last answered = go (is_process q p) last
+    where
+      none : (x : ℕ) → in_world o x ≡ true → targets (w.node a).replica.members target x ≡ false
+      none x inside = ap (λ (s : Nodes). s x) (sym (same_targets o w a target))
+          ∙ empty_at o.bound (targets ((numbered o w a).node a).replica.members target) m.1.0.tested.1 x
+          (ltb-true x o.bound (both (nat_lt x o.bound) (o.nodes x) inside).0)
 
-    abbrev fresh : LockCall
-    fresh = new_call o.bound a ((w.node a).last_call + 1) q r z target (Times 0)
-
-    abbrev start : World
-    start = effect o a CallsLock w
-
-    abbrev new : Deletion
-    new = record {
-      number = (w.node a).last_call + 1;
-      id = Client r z;
-      nodes = targets (w.node a).replica.members target;
-    }
-
-    -- it waits for who owes
-    deleted_silent : (rest : List Rule) → MayAll o a (CallsLock ∷ DeletesLock fresh ∷ rest) w
-        → list_all (suits Aside) rest ≡ true → (k : ℕ)
-        → any_true p.node k (answers_by o a (CallsLock ∷ DeletesLock fresh ∷ rest) w) ≡ false
-    deleted_silent rest m h k = calm_answers o a rest (effect o a (DeletesLock fresh) start)
-        (all_of_all (suits Aside) is_calm aside_calm rest h) m.1.1
-        (replying_keeps o a start (DeletesLock fresh) m.1.0 (replying_keeps o a w CallsLock m.0 K.replying)) p.node k
-
-    nothing_ends : (rest : List Rule) → MayAll o a (CallsLock ∷ DeletesNothing fresh ∷ rest) w
-        → list_all (suits Aside) rest ≡ true → (d : Deletion) → deletion_by w deletion p t ≡ Some d
-        → any_true p.node d.number (answers_by o a (CallsLock ∷ DeletesNothing fresh ∷ rest) w) ≡ true
-        → HasEnded d (effects o a (CallsLock ∷ DeletesNothing fresh ∷ rest) w)
-    nothing_ends rest m h d last answered = go (is_process q p) refl last
-      where
-        none : (x : ℕ) → in_world o x ≡ true → targets (w.node a).replica.members target x ≡ false
-        none x inside = ap (λ (v : Node). targets v.replica.members target x)
-            (sym (node_here w a (turn_by o a w CallsLock) a refl))
-            ∙ empty_at o.bound (targets (start.node a).replica.members target) m.1.0.tested.1 x
-            (ltb-true x o.bound (both (nat_lt x o.bound) (o.nodes x) inside).0)
-
-        later : any_true p.node d.number (answers_by o a rest (effect o a (DeletesNothing fresh) start)) ≡ false
-        later = calm_answers o a rest (effect o a (DeletesNothing fresh) start)
-            (all_of_all (suits Aside) is_calm aside_calm rest h) m.1.1
-            (replying_keeps o a start (DeletesNothing fresh) m.1.0 (replying_keeps o a w CallsLock m.0 K.replying))
-            p.node d.number
-
-        -- its own number is greater than that of an older one
-        other : d.number ≤ (w.node p.node).last_call → (b c : Bool) → (a == p.node) ≡ b
-            → (((w.node a).last_call + 1) == d.number) ≡ c → ((b && c) && true) ≡ false
-        other least false c eb ec = refl
-        other least true false eb ec = refl
-        other least true true eb ec =
-            let low : d.number ≤ (w.node a).last_call = subst (λ (i : ℕ). d.number ≤ (w.node i).last_call)
-            (sym (eqb-true a p.node eb)) least in
-            absurd (omega (arith, eqb-true ((w.node a).last_call + 1) d.number ec, low))
-
-        go : (b : Bool) → is_process q p ≡ b → (if b then Some new else t) ≡ Some d
-            → HasEnded d (effects o a (CallsLock ∷ DeletesNothing fresh ∷ rest) w)
-        go true j i =
-            let same : new ≡ d = cc i in
-            inr (subst (λ (b : Deletion). (x : ℕ) → in_world o x ≡ true → b.nodes x ≡ false) same none)
-        go false j i =
-            let unanswered : any_true p.node d.number (answers_by o a (CallsLock ∷ DeletesNothing fresh ∷ rest) w)
-            ≡ false = ap (λ (b : Bool). b || any_true p.node d.number (answers_by o a rest
-            (effect o a (DeletesNothing fresh) start)))
-            (other (T d i).below (a == p.node) (((w.node a).last_call + 1) == d.number) refl refl) ∙ later in
-            absurd (cc (unanswered, answered))
+      go : (b : Bool) → (if b then Some (record {
+        number = (w.node a).last_call + 1;
+        id = Client r z;
+        nodes = targets (w.node a).replica.members target;
+      }) else t) ≡ Some d → HasEnded d (effects o a (CallsLock ∷ DeletesNothing (fresh o w a q r z target) ∷ rest) w)
+      go true i = inr (λ x inside. ap (λ (g : Option Deletion). elim g [ None ↦ false | Some k ↦ k.nodes x ]) (sym i)
+          ∙ none x inside)
+      -- its own number is greater than that of an older one
+      go false i = absurd (cc (
+        nothing_silent o w a q r z target K.replying rest h p.node d.number m
+            (λ e. subst (λ (n : ℕ). d.number ≤ (w.node n).last_call) (sym e) (T d i).below),
+        answered,
+      ))
 
   -- what is to be shown of an event that is this chain
   abbrev pub Ends : WorldEvent → List Rule → Type 0
@@ -229,32 +171,20 @@ module _ (o : Opening) (w : World) (num : Numbers) (K : Known o w num) (N : Numb
   ends_on (Deliver f b) rest m h here running is same =
       λ d last answered. heard_ends f b rest m h d last here running is same answered
   ends_on (At a (Event.Calling (Call.SetLock q r z target retries))) rest m h here running is same =
-      (subst (λ (rs : List Rule). MayAll o a (CallsLock ∷ rs) w → Ends attempt rs) (sym h.1.1.0)
-      (elim h.1.1.1 [
-        | inl e ↦ subst (λ (s : Rule). MayAll o a (CallsLock ∷ s ∷ h.1.0) w → Ends attempt (s ∷ h.1.0)) (sym e)
-            (λ k. by_silence attempt (AsksLock new_try ∷ h.1.0)
-            (silent a (CallsLock ∷ AsksLock new_try ∷ h.1.0) calm k))
-        | inr e ↦ subst (λ (s : Rule). MayAll o a (CallsLock ∷ s ∷ h.1.0) w → Ends attempt (s ∷ h.1.0)) (sym e)
-            (λ k. by_silence attempt (FailsLock new_try ∷ h.1.0)
-            (silent a (CallsLock ∷ FailsLock new_try ∷ h.1.0) calm k))
-      ])) m
+      either o w a (Ends event) _ _ h.0 h.1.0 rest h.1.1.0 h.1.1.1 m
+      (λ k. by_silence event (AsksLock new ∷ h.1.0) (silent a (CallsLock ∷ AsksLock new ∷ h.1.0) calm k))
+      (λ k. by_silence event (FailsLock new ∷ h.1.0) (silent a (CallsLock ∷ FailsLock new ∷ h.1.0) calm k))
     where
-      attempt : WorldEvent
-      attempt = At a (Event.Calling (Call.SetLock q r z target retries))
+      event : WorldEvent
+      event = attempt o w a q r z target retries
 
-      new_try : LockCall
-      new_try = new_call o.bound a ((w.node a).last_call + 1) q r z target retries
+      new : LockCall
+      new = new_try o w a q r z target retries
 
       calm : list_all is_calm h.1.0 ≡ true
       calm = all_of_all (suits Aside) is_calm aside_calm h.1.0 h.1.1.2
   ends_on (At a (Event.Calling (Call.DelLock q r z target))) rest m h here running is same =
-      (subst (λ (rs : List Rule). MayAll o a (CallsLock ∷ rs) w → Ends (deletion a q r z target) rs) (sym h.1.1.0)
-      (elim h.1.1.1 [
-        | inl e ↦ subst (λ (s : Rule). MayAll o a (CallsLock ∷ s ∷ h.1.0) w
-            → Ends (deletion a q r z target) (s ∷ h.1.0)) (sym e)
-            (λ k. by_silence (deletion a q r z target) (DeletesLock (fresh a q r z target) ∷ h.1.0)
-            (deleted_silent a q r z target h.1.0 k h.1.1.2))
-        | inr e ↦ subst (λ (s : Rule). MayAll o a (CallsLock ∷ s ∷ h.1.0) w
-            → Ends (deletion a q r z target) (s ∷ h.1.0)) (sym e)
-            (λ k d last answered. nothing_ends a q r z target h.1.0 k h.1.1.2 d last answered)
-      ])) m
+      either o w a (Ends (deletion o w a q r z target)) _ _ h.0 h.1.0 rest h.1.1.0 h.1.1.1 m
+      (λ k. by_silence (deletion o w a q r z target) (DeletesLock (fresh o w a q r z target) ∷ h.1.0)
+      (λ n. deletes_silent o w a q r z target K.replying h.1.0 h.1.1.2 p.node n k))
+      (λ k d last answered. nothing_ends a q r z target h.1.0 k h.1.1.2 d last answered)

@@ -19,10 +19,11 @@ use Rattle.walk.proofs.ChainKinds.{Aside, Again, Hearing, suits}
 use Rattle.walk.proofs.Orders.{ordered_keeps}
 use Rattle.leftovers.proofs.Ids.{is_process_same, is_process_self}
 use Rattle.leftovers.proofs.Calls.{call_of-drop}
-use Rattle.leftovers.proofs.Clients.{Numbers, lives, call_at, caller_lives, part_same, node_here}
+use Rattle.leftovers.proofs.Clients.{Numbers, lives, call_at, caller_lives, part_same}
 use Rattle.leftovers.proofs.Calling.{calls_put}
 use Rattle.leftovers.proofs.Numbers.{num_by, nums_by}
 use Rattle.leftovers.proofs.Steps.{call_after, calls_aside, nums_same}
+use Rattle.leftovers.proofs.Beginnings.{numbered, Begins, number_taken}
 use Rattle.leftovers.proofs.Chains.{aside_counts_none}
 use Rattle.leftovers.proofs.Numbering.{aside_hears, Numbered, last_effect, last_chain, from_self, from_retry, beginner_home}
 use Rattle.leftovers.proofs.Told.{all_of_all}
@@ -179,12 +180,10 @@ module _ (o : Opening) (w : World) (num : Numbers) (K : Known o w num) (N : Numb
 
   -- a lock call takes its number, and its call begins by the rule r
   module _ (a : ℕ) (q : Process) (r : Rule) (rest : List Rule) (next : Option LockCall)
-      (m : MayAll o a (CallsLock ∷ r ∷ rest) w) (h : list_all (suits Aside) rest ≡ true) (home : q.node ≡ a)
-      (calls : (k : Process) → call_at (effect o a r (effect o a CallsLock w)) k
-      ≡ (if is_process q k then next else call_at (effect o a CallsLock w) k))
-      (new : (d : LockCall) → next ≡ Some d → d.number ≡ (w.node a).last_call + 1) where
+      (m : MayAll o a (CallsLock ∷ r ∷ rest) w) (h : list_all (suits Aside) rest ≡ true)
+      (B : Begins o w a q r next) where
     abbrev w1 : World
-    w1 = effect o a CallsLock w
+    w1 = numbered o w a
 
     abbrev w2 : World
     w2 = effect o a r w1
@@ -201,33 +200,25 @@ module _ (o : Opening) (w : World) (num : Numbers) (K : Known o w num) (N : Numb
     same_calls : (k : Process) → call_at w1 k ≡ call_at w k
     same_calls k = part_same (λ v. call_of k v.calls) w a (turn_by o a w CallsLock) refl k.node
 
-    -- the calls, by those before the event
-    all_calls : (k : Process) → call_at w2 k ≡ (if is_process q k then next else call_at w k)
-    all_calls k = calls k ∙ ap (λ (c : Option LockCall). if is_process q k then next else c) (same_calls k)
-
     pub later : (k : Process) (n : ℕ) (nodes : Nodes) → Deletes o k n nodes w2
         → Deletes o k n nodes (effects o a rest w2)
     later k n nodes D = deletes_chain o k n nodes a rest w2 (num_by a r w1 num1) K2
         (all_of_all (suits Aside) (suits Hearing) aside_hears rest h) m.1.1 D
-
-    more : (w.node a).last_call + 1 ≤ (w2.node a).last_call
-    more = subst (λ (n : ℕ). n ≤ (w2.node a).last_call)
-        (ap (λ (v : Node). v.last_call) (node_here w a (turn_by o a w CallsLock) a refl)) (last_effect o a w1 r a)
 
     -- the new call is none of an old number
     too_great : {X : Type 0} (k : Process) (n : ℕ) → k.node ≡ a → n ≤ (w.node k.node).last_call → (d : LockCall)
         → next ≡ Some d → d.number ≡ n → X
     too_great k n here least d e same =
         let low : n ≤ (w.node a).last_call = subst (λ (i : ℕ). n ≤ (w.node i).last_call) here least in
-        absurd (omega (arith, new d e, same, low))
+        absurd (omega (arith, B.number d e, same, low))
 
     -- an older deletion stays as it was
     pub stays : (n : ℕ) (nodes : Nodes)
         → (is_process q p ≡ false → (id : Id) (x : ℕ) → num_by a r w1 num1 p id x ≡ num1 p id x)
         → Deletes o p n nodes w → Deletes o p n nodes w2
     stays n nodes nums D = record {
-      own = λ up d e i. own up d e i (is_process q p) refl (sym (all_calls p) ∙ e);
-      alone = λ k c here e i. alone k c here i (is_process q k) refl (sym (all_calls k) ∙ e);
+      own = λ up d e i. own up d e i (is_process q p) refl (sym (B.calls p) ∙ e);
+      alone = λ k c here e i. alone k c here i (is_process q k) refl (sym (B.calls k) ∙ e);
       below = omega (arith, D.below, last_effect o a w CallsLock p.node, last_effect o a w1 r p.node);
     }
       where
@@ -235,7 +226,7 @@ module _ (o : Opening) (w : World) (num : Numbers) (K : Known o w num) (N : Numb
             → is_process q p ≡ b → (if b then next else call_at w p) ≡ Some d
             → (owing : Nodes) × (d.phase ≡ LockPhase.Deleting owing)
             × ((x : ℕ) → IsUp o w2 x → nodes x ≡ true → owing x ≡ false → Stands w2 p x)
-        own up d e i true j f = too_great p n (ap (λ (k : Process). k.node) (sym (is_process_same q p j)) ∙ home)
+        own up d e i true j f = too_great p n (ap (λ (k : Process). k.node) (sym (is_process_same q p j)) ∙ B.home)
             D.below d f i
         own up d e i false j f =
             let before : (owing : Nodes) × (d.phase ≡ LockPhase.Deleting owing)
@@ -261,7 +252,7 @@ module _ (o : Opening) (w : World) (num : Numbers) (K : Known o w num) (N : Numb
         alone : (k : Process) (c : LockCall) → k.node ≡ p.node → c.number ≡ n → (b : Bool) → is_process q k ≡ b
             → (if b then next else call_at w k) ≡ Some c → k ≡ p
         alone k c here i true j f =
-            let there : k.node ≡ a = ap (λ (z : Process). z.node) (sym (is_process_same q k j)) ∙ home in
+            let there : k.node ≡ a = ap (λ (z : Process). z.node) (sym (is_process_same q k j)) ∙ B.home in
             too_great p n (sym here ∙ there) D.below c f i
         alone k c here i false j f = D.alone k c here f i
 
@@ -271,10 +262,10 @@ module _ (o : Opening) (w : World) (num : Numbers) (K : Known o w num) (N : Numb
     begins nodes deletes = record {
       own = λ up d e i.
           let is : next ≡ Some d = sym (ap (λ (b : Bool). if b then next else call_at w q) (is_process_self q))
-          ∙ sym (all_calls q) ∙ e in
+          ∙ sym (B.calls q) ∙ e in
           (nodes, deletes d is, λ x up2 there free. cc (there, free));
-      alone = λ k c here e i. alone k c here i (is_process q k) refl (sym (all_calls k) ∙ e);
-      below = subst (λ (i : ℕ). (w.node a).last_call + 1 ≤ (w2.node i).last_call) (sym home) more;
+      alone = λ k c here e i. alone k c here i (is_process q k) refl (sym (B.calls k) ∙ e);
+      below = subst (λ (i : ℕ). (w.node a).last_call + 1 ≤ (w2.node i).last_call) (sym B.home) (number_taken o w a r);
     }
       where
         alone : (k : Process) (c : LockCall) → k.node ≡ q.node → c.number ≡ (w.node a).last_call + 1 → (b : Bool)
@@ -282,5 +273,5 @@ module _ (o : Opening) (w : World) (num : Numbers) (K : Known o w num) (N : Numb
         alone k c here i true j f = sym (is_process_same q k j)
         alone k c here i false j f =
             let low : c.number ≤ (w.node a).last_call = subst (λ (z : ℕ). c.number ≤ (w.node z).last_call)
-            (here ∙ home) (N.below k c f) in
+            (here ∙ B.home) (N.below k c f) in
             absurd (omega (arith, i, low))

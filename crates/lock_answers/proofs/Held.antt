@@ -1,30 +1,28 @@
 -- Where `true` is answered to the last try of a process, somebody that it has to ask isn't told of as departed.
 use mathlib.Core.Logic.{◌⊎◌}
-use Rattle.std.proofs.Common.{ℕ, Bool, true, false, ◌==◌, ◌≡◌, ◌+◌, ◌≤◌, Option, Some, None, List, [], ◌∷◌, refl, sym, ap, ◌∙◌, subst, arith, inl, inr}
-use Rattle.std.specs.Prelude.{◌&&◌, ◌||◌}
+use Rattle.std.proofs.Common.{ℕ, true, false, ◌≡◌, ◌≤◌, Option, Some, None, List, ◌∷◌, refl, sym, ap, ◌∙◌, subst, inl, inr}
+use Rattle.std.specs.Prelude.{◌&&◌}
 use Rattle.std.specs.List.{list_all}
-use Rattle.std.proofs.lemmas.List.Folds.{list_any-append}
-use Rattle.std.proofs.lemmas.Bool.{eqb-true, eq-eqb}
-use Rattle.registry_model.specs.Process.{Text, Process}
+use Rattle.std.proofs.lemmas.Bool.{eq-eqb}
+use Rattle.registry_model.specs.Process.{Process}
 use Rattle.registry_model.specs.Call.{Reply, True, is_reply}
 use Rattle.protocol_model.specs.Letter.{Global, Letter}
-use Rattle.protocol_model.specs.Node.{Node, LockPhase, LockCall, Target, Times, call_of}
+use Rattle.protocol_model.specs.Node.{Node, LockPhase, LockCall, call_of}
 use Rattle.protocol_model.specs.Event.{Call, Event}
 use Rattle.protocol_model.specs.Turn.{Turn}
-use Rattle.protocol_model.specs.Client.{new_call}
 use Rattle.protocol_model.specs.ClientLocks.{Try, last_try}
 use Rattle.protocol_model.specs.LockAnswers.{tries_by, tries_of, AsksSomebody, IsHeldSomewhere, AtEachStep}
 use Rattle.protocol_model.specs.World.{Opening, in_world, World, WorldEvent, At, Deliver, place, opening_world, refusal, turn_of, accepted, answers}
 use Rattle.registry_model.proofs.Updates.{at_same}
 use Rattle.moves.proofs.Rules
 use Rattle.moves.proofs.Rules.{Rule}
-use Rattle.moves.proofs.Rules.Rule.{CallsLock, AsksLock, FailsLock, DeletesLock, DeletesNothing}
+use Rattle.moves.proofs.Rules.Rule.{CallsLock}
 use Rattle.walk.proofs.ChainKinds.{Aside, Again, suits}
 use Rattle.walk.proofs.Events.{accepted_of, IsSecond}
 use Rattle.walk.proofs.Orders.{ordered_keeps}
 use Rattle.walk.proofs.Walk.{OrderedWalk, InOrder, walked_in_order}
-use Rattle.leftovers.proofs.Growing.{replying_keeps}
 use Rattle.leftovers.proofs.Answering.{is_true, any_true}
+use Rattle.leftovers.proofs.Beginnings.{either, deletes_silent, nothing_silent}
 use Rattle.leftovers.proofs.Chains.{is_calm, aside_calm, calm_answers}
 use Rattle.leftovers.proofs.Opening.{no_numbers}
 use Rattle.leftovers.proofs.Numbering.{Numbered}
@@ -64,47 +62,6 @@ module _ (o : Opening) (w : World) (G : Ground o w) (N : Numbered o w) (p : Proc
       → any_true p.node s.number (Rules.answers_by o a rs w) ≡ false
   aside a rs h m = calm a rs (all_of_all (suits Aside) is_calm aside_calm rs h) m
 
-  -- a deletion is answered under its own number
-  module _ (a : ℕ) (q : Process) (r z : Text) (target : Target) (low : s.number ≤ (w.node a).last_call) where
-    abbrev fresh : LockCall
-    fresh = new_call o.bound a ((w.node a).last_call + 1) q r z target (Times 0)
-
-    deleted : (rest : List Rule) → list_all (suits Aside) rest ≡ true
-        → Rules.MayAll o a (CallsLock ∷ DeletesLock fresh ∷ rest) w
-        → any_true p.node s.number (Rules.answers_by o a (CallsLock ∷ DeletesLock fresh ∷ rest) w) ≡ false
-    deleted rest h m = calm_answers o a rest after (all_of_all (suits Aside) is_calm aside_calm rest h) m.1.1
-        (replying_keeps o a before (DeletesLock fresh) m.1.0 (replying_keeps o a w CallsLock m.0 G.replying)) p.node
-        s.number
-      where
-        before : World
-        before = Rules.effect o a CallsLock w
-
-        after : World
-        after = Rules.effect o a (DeletesLock fresh) before
-
-    deleted_nothing : (rest : List Rule) → list_all (suits Aside) rest ≡ true
-        → Rules.MayAll o a (CallsLock ∷ DeletesNothing fresh ∷ rest) w
-        → any_true p.node s.number (Rules.answers_by o a (CallsLock ∷ DeletesNothing fresh ∷ rest) w) ≡ false
-    deleted_nothing rest h m =
-        list_any-append (is_true p.node s.number)
-        (record { node = a; number = ((w.node a).last_call + 1); reply = True } ∷ []) (Rules.answers_by o a rest after)
-        ∙ ap (λ (d : Bool). d || any_true p.node s.number (Rules.answers_by o a rest after))
-        (first (a == p.node) (((w.node a).last_call + 1) == s.number) refl)
-        ∙ calm_answers o a rest after (all_of_all (suits Aside) is_calm aside_calm rest h) m.1.1
-        (replying_keeps o a before (DeletesNothing fresh) m.1.0 (replying_keeps o a w CallsLock m.0 G.replying)) p.node
-        s.number
-      where
-        before : World
-        before = Rules.effect o a CallsLock w
-
-        after : World
-        after = Rules.effect o a (DeletesNothing fresh) before
-
-        first : (d g : Bool) → (((w.node a).last_call + 1) == s.number) ≡ g → (((d && g) && true) || false) ≡ false
-        first false g i = refl
-        first true false i = refl
-        first true true i = absurd (omega (arith, eqb-true ((w.node a).last_call + 1) s.number i, low))
-
   -- a call
   call_silent : (a : ℕ) (c : Call) (rest : List Rule) → Rules.MayAll o a (chain_of o w (At a (Event.Calling c)) rest) w
       → InOrder o w (At a (Event.Calling c)) rest → (k : Option Try) → Fits w p k → p.node ≡ a
@@ -127,16 +84,10 @@ module _ (o : Opening) (w : World) (G : Ground o w) (N : Numbered o w) (p : Proc
       by (inl e) = ap (λ (x : Rule). is_calm x && list_all is_calm h.1.0) e ∙ later
       by (inr e) = ap (λ (x : Rule). is_calm x && list_all is_calm h.1.0) e ∙ later
   call_silent a (Call.DelLock q r z target) rest m h k F home last =
-      (subst (λ (rs : List Rule). Rules.MayAll o a (CallsLock ∷ rs) w
-      → any_true p.node s.number (Rules.answers_by o a (CallsLock ∷ rs) w) ≡ false) (sym h.1.1.0)
-      (elim h.1.1.1 [
-        | inl e ↦ subst (λ (x : Rule). Rules.MayAll o a (CallsLock ∷ x ∷ h.1.0) w
-            → any_true p.node s.number (Rules.answers_by o a (CallsLock ∷ x ∷ h.1.0) w) ≡ false) (sym e)
-            (λ n. deleted a q r z target low h.1.0 h.1.1.2 n)
-        | inr e ↦ subst (λ (x : Rule). Rules.MayAll o a (CallsLock ∷ x ∷ h.1.0) w
-            → any_true p.node s.number (Rules.answers_by o a (CallsLock ∷ x ∷ h.1.0) w) ≡ false) (sym e)
-            (λ n. deleted_nothing a q r z target low h.1.0 h.1.1.2 n)
-      ])) m
+      either o w a (λ rs. any_true p.node s.number (Rules.answers_by o a (CallsLock ∷ rs) w) ≡ false) _ _ h.0 h.1.0 rest
+      h.1.1.0 h.1.1.1 m
+      (λ n. deletes_silent o w a q r z target G.replying h.1.0 h.1.1.2 p.node s.number n)
+      (λ n. nothing_silent o w a q r z target G.replying h.1.0 h.1.1.2 p.node s.number n (λ i. low))
     where
       low : s.number ≤ (w.node a).last_call
       low = subst (λ (n : ℕ). s.number ≤ (w.node n).last_call) home (F.below s last)

@@ -16,6 +16,8 @@ pub use Rattle.leftovers.proofs.TriedEvents
 pub use Rattle.leftovers.proofs.Tries
 pub use Rattle.leftovers.proofs.Walk
 pub use Rattle.leftovers.proofs.Walking
+pub mod Verdicts
+pub mod Besides
 pub mod Spared
 pub mod Settled
 pub mod OpenDeletions
@@ -28,7 +30,6 @@ pub mod GivenBack
 pub mod LastTry
 pub mod Clear
 pub mod Winning
-pub mod Besides
 pub mod Notices
 pub mod NoticeTurns
 pub mod GrantEvents
@@ -39,7 +40,6 @@ pub mod Sources
 pub mod Owned
 pub mod Living
 pub mod CallSteps
-pub mod Verdicts
 pub mod Spending
 pub mod CallTurns
 pub mod EventTurns

@@ -1,4 +1,5 @@
 -- No lock call of a process is answered that is dead, or whose node has left, before the step or behind it.
+use mathlib.Core.Logic.{◌⊎◌}
 use Rattle.std.proofs.Common.{ℕ, Bool, true, false, ◌==◌, ◌≡◌, ◌+◌, ◌-◌, Some, None, List, [], ◌∷◌, ◌++◌, length, refl, sym, ap, ◌∙◌, subst, inl, inr}
 use Rattle.std.specs.Prelude.{not, ◌&&◌, ◌||◌, Contains}
 use Rattle.std.specs.List.{slice_get, list_any, list_all}
@@ -22,7 +23,7 @@ use Rattle.protocol_model.specs.LockAnswers.{holder_in, IsCallOf, AnswersTheLivi
 use Rattle.protocol_model.specs.World.{Opening, World, left, WorldEvent, At, Deliver, place, refusal, turn_of, accepted, happens, answers, local_causes}
 use Rattle.moves.proofs.Rules
 use Rattle.moves.proofs.Rules.{Rule}
-use Rattle.moves.proofs.Rules.Rule.{CallsLock, AsksLock, FailsLock, DeletesLock, DeletesNothing}
+use Rattle.moves.proofs.Rules.Rule.{CallsLock}
 use Rattle.moves.proofs.Indices.{both, not_true}
 use Rattle.walk.proofs.ChainKinds.{Aside, suits}
 use Rattle.walk.proofs.Events.{accepted_of, IsSecond, lock_tested, live_own}
@@ -41,16 +42,18 @@ use Rattle.leftovers.proofs.Doomed.{start-watch}
 use Rattle.leftovers.proofs.Grounds.{Base, wide, base_keeps, replicas}
 use Rattle.leftovers.proofs.RestEvents.{accepted-node}
 use Rattle.lock_answers.proofs.Winning.{Ground}
-use Rattle.lock_answers.proofs.Besides.{found_any, plain_retry}
+use Rattle.lock_answers.proofs.Besides.{found_any}
 use Rattle.lock_answers.proofs.GrantEvents.{ground_run}
 use Rattle.lock_answers.proofs.Pushed.{events_push, answers_turn, happens_now, answer_place}
-use Rattle.lock_answers.proofs.Watches.{is_lock_reply, is_lock_answer, try-watch, delete-watch, retry-watch, letter_watch}
+use Rattle.lock_answers.proofs.Spared.{is_lock_answer, letter_watch}
+use Rattle.lock_answers.proofs.Verdicts.{is_verdict}
+use Rattle.lock_answers.proofs.Watches.{try-watch, delete-watch, retry-watch, again-watch}
 use Rattle.lock_answers.proofs.Sources.{Closed, closes, the_one, rule_closes, aside_silent, WasOpen, heard_source, again_source}
 use Rattle.lock_answers.proofs.Owned.{IsCalledBy, called_longer, last_called, owned_run}
 
 -- a lock call may have lock replies alone
 lock_reply : (call : Call) (reply : Reply) (p : Process) → holder_in call ≡ Some p → may_have call reply ≡ true
-    → is_lock_reply reply ≡ true
+    → is_verdict reply ≡ true
 lock_reply (Call.SetLock q r z target times) True p h m = refl
 lock_reply (Call.SetLock q r z target times) False p h m = refl
 lock_reply (Call.SetLock q r z target times) _ p h m = cc
@@ -199,6 +202,23 @@ module _ (o : Opening) (es : List WorldEvent) (s : Answer) (call : Call) (p : Pr
         B : Base o (Rules.effect o a CallsLock (world o es))
         B = base_keeps o a (world o es) CallsLock G.base m.0
 
+  -- so the answer is under the new number
+  new_number : (a : ℕ) (c : Call) (new : LockCall) → new.number ≡ ((world o es).node a).last_call + 1
+      → ((x : Rule) → IsSecond o a (world o es) c x → (closes x ≡ None) ⊎ (closes x ≡ Some new)) → (x : Rule)
+      → (later rest : List Rule) → rest ≡ x ∷ later → IsSecond o a (world o es) c x
+      → list_all (suits Aside) later ≡ true → Rules.MayAll o a (CallsLock ∷ rest) (world o es)
+      → Contains (Rules.answers_by o a (CallsLock ∷ rest) (world o es)) s
+      → s.number ≡ ((world o es).node a).last_call + 1
+  new_number a c new number which x later rest is second h m k = by (which x second)
+      (second_closes a x later (subst (λ (rs : List Rule). Rules.MayAll o a (CallsLock ∷ rs) (world o es)) is m) h
+      (subst (λ (rs : List Rule). Contains (Rules.answers_by o a (CallsLock ∷ rs) (world o es)) s) is k))
+    where
+      by : (closes x ≡ None) ⊎ (closes x ≡ Some new) → Closed x s → s.number ≡ ((world o es).node a).last_call + 1
+      by (inl i) C = cc (i, C.1)
+      by (inr i) C =
+          let is_new : new ≡ C.0 = cc (i, C.1) in
+          sym C.2 ∙ sym (ap (λ (y : LockCall). y.number) is_new) ∙ number
+
   by_event : (x : WorldEvent) → e ≡ x → Rules.MayAll o (place x) (chain_of o (world o es) x H.walk.rest) (world o es)
       → InOrder o (world o es) x H.walk.rest → first_cause (local_causes (world o es) x) ≡ None
       → Contains (Rules.answers_by o (place x) (chain_of o (world o es) x H.walk.rest) (world o es)) s → Lives
@@ -225,17 +245,11 @@ module _ (o : Opening) (es : List WorldEvent) (s : Answer) (call : Call) (p : Pr
           (cause (not (names_members ((world o es).node a) target)) Refusal.UnknownNode
           ∷ calls_spent ((world o es).node a) ∷ []) free).0
 
-      by : (x : Rule) → IsSecond o a (world o es) (Call.SetLock q r z target times) x → Closed x s
-          → s.number ≡ ((world o es).node a).last_call + 1
-      by x (inl i) C = cc (ap closes i, C.1)
-      by x (inr i) C =
-          let is_new : new ≡ C.0 = cc (ap closes i, C.1) in
-          sym C.2 ∙ sym (ap (λ (y : LockCall). y.number) is_new)
-
       number : s.number ≡ ((world o es).node a).last_call + 1
-      number = by h.0 h.1.1.1 (second_closes a h.0 h.1.0
-          (subst (λ (rs : List Rule). Rules.MayAll o a (CallsLock ∷ rs) (world o es)) h.1.1.0 m) h.1.1.2
-          (subst (λ (rs : List Rule). Contains (Rules.answers_by o a (CallsLock ∷ rs) (world o es)) s) h.1.1.0 k))
+      number = new_number a (Call.SetLock q r z target times) new refl (λ x i. elim i [
+        | inl none ↦ inl (ap closes none)
+        | inr one ↦ inr (ap closes one)
+      ]) h.0 h.1.0 H.walk.rest h.1.1.0 h.1.1.1 h.1.1.2 m k
 
       stays : e ≡ At a (Event.Calling (Call.SetLock q r z target times))
           → left (accepted o (world o es) e) ≡ left (world o es)
@@ -255,17 +269,11 @@ module _ (o : Opening) (es : List WorldEvent) (s : Answer) (call : Call) (p : Pr
       live : is_live a ((world o es).node a).watch q ≡ true
       live = (lock_tested a ((world o es).node a) q r (calls_spent ((world o es).node a) ∷ []) free).0
 
-      by : (x : Rule) → IsSecond o a (world o es) (Call.DelLock q r z target) x → Closed x s
-          → s.number ≡ ((world o es).node a).last_call + 1
-      by x (inl i) C = cc (ap closes i, C.1)
-      by x (inr i) C =
-          let is_new : new ≡ C.0 = cc (ap closes i, C.1) in
-          sym C.2 ∙ sym (ap (λ (y : LockCall). y.number) is_new)
-
       number : s.number ≡ ((world o es).node a).last_call + 1
-      number = by h.0 h.1.1.1 (second_closes a h.0 h.1.0
-          (subst (λ (rs : List Rule). Rules.MayAll o a (CallsLock ∷ rs) (world o es)) h.1.1.0 m) h.1.1.2
-          (subst (λ (rs : List Rule). Contains (Rules.answers_by o a (CallsLock ∷ rs) (world o es)) s) h.1.1.0 k))
+      number = new_number a (Call.DelLock q r z target) new refl (λ x i. elim i [
+        | inl none ↦ inl (ap closes none)
+        | inr one ↦ inr (ap closes one)
+      ]) h.0 h.1.0 H.walk.rest h.1.1.0 h.1.1.1 h.1.1.2 m k
 
       stays : e ≡ At a (Event.Calling (Call.DelLock q r z target))
           → left (accepted o (world o es) e) ≡ left (world o es)
@@ -289,7 +297,7 @@ module _ (o : Opening) (es : List WorldEvent) (s : Answer) (call : Call) (p : Pr
       watch = subst (λ (x : WorldEvent). (turn_of o (world o es) x).node.watch ≡ ((world o es).node (place x)).watch)
           (sym j) (start-watch o.bound a (retry_locks o.bound a again)
           ∙ retry-watch o.bound a again.node.calls again
-          ∙ (plain_retry o.bound a ((world o es).node a).current (begun ((world o es).node a))).watch)
+          ∙ again-watch o.bound a ((world o es).node a).current (begun ((world o es).node a)))
   by_event (Deliver f t) j m h free k =
       let one : (p.node ≡ place e) × (is_gone (world o es) p ≡ false) = open_lives
       (subst (λ (n : ℕ). WasOpen o n s lock called.0 (world o es)) (sym (ap place j))
@@ -305,7 +313,7 @@ module _ (o : Opening) (es : List WorldEvent) (s : Answer) (call : Call) (p : Pr
 
       watch : (turn_of o (world o es) e).node.watch ≡ ((world o es).node (place e)).watch
       watch = subst (λ (x : WorldEvent). (turn_of o (world o es) x).node.watch ≡ ((world o es).node (place x)).watch)
-          (sym j) (letter_watch o (world o es) f t G.base G.replying (G.clear t) some)
+          (sym j) (letter_watch o (world o es) f t some)
 
   pub lives_on : (is_gone (world o es) p ≡ false) × (is_gone (happens o (world o es) e) p ≡ false)
   lives_on = subst (λ (v : World). (is_gone (world o es) p ≡ false) × (is_gone v p ≡ false))

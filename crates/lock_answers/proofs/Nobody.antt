@@ -20,7 +20,8 @@ use Rattle.lock_answers.proofs.LastTry.{last_of}
 use Rattle.lock_answers.proofs.Verdicts.{is_verdict}
 use Rattle.lock_answers.proofs.CallSteps.{found_at}
 use Rattle.lock_answers.proofs.CallTurns.{AskedNobody, FailedAnew, DeletedNothing}
-use Rattle.lock_answers.proofs.EventTurns.{AgainTurn, again_turn, SetTurn, set_turn, DelTurn, del_turn, new_try, fresh}
+use Rattle.leftovers.proofs.Beginnings.{new_try, fresh}
+use Rattle.lock_answers.proofs.EventTurns.{AgainTurn, again_turn, SetTurn, set_turn, DelTurn, del_turn}
 use Rattle.lock_answers.proofs.Behind.{Known, is_plain}
 
 -- the answers of an accepted event are those of its turn
@@ -86,7 +87,7 @@ module _ (o : Opening) (w : World) (num : Numbers) (p : Process) (t : Option Tri
       T : SetTurn o w S.ordered a q r z target retries
       T = set_turn o w S.ordered a q r z target retries h
 
-      N : AskedNobody o.bound a members (new_try o w S.ordered a q r z target retries) s
+      N : AskedNobody o.bound a members (new_try o w a q r z target retries) s
       N = T.said s (given_in_turn o w event s h A.given) v
 
       by : (b : Bool) → (if b then first_try o w event p (try_of members ((w.node a).last_call + 1) (Client r z) target)
@@ -109,7 +110,7 @@ module _ (o : Opening) (w : World) (num : Numbers) (p : Process) (t : Option Tri
       T : DelTurn o w S.ordered a q r z target
       T = del_turn o w S.ordered a q r z target h
 
-      N : DeletedNothing o.bound a (fresh o w S.ordered a q r z target) s
+      N : DeletedNothing o.bound a (fresh o w a q r z target) s
       N = T.said s (given_in_turn o w event s h A.given) v
 
   -- a retry

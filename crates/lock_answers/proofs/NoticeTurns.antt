@@ -1,5 +1,5 @@
--- The turn of a node that reads a notice: no lock call counts its sender as granted behind it, nobody dies by it, and
--- who is answered `true` asked somebody who isn't told of as departed.
+-- The turn of a node that reads a notice: no lock call counts its sender as granted behind it, and who is answered
+-- `true` asked somebody who isn't told of as departed.
 use mathlib.Core.Logic.{◌⊎◌}
 use Rattle.std.proofs.Common.{ℕ, true, false, ◌==◌, ◌≡◌, Some, List, [], ◌∷◌, refl, sym, ap, ◌∙◌, subst, inl, inr}
 use Rattle.std.specs.Prelude.{◌&&◌, Contains, if◌then◌else◌}
@@ -95,11 +95,6 @@ module _ (o : Opening) (w : World) (B : Base o w) (t f : ℕ) where
       L : LostAll t lost.node.calls lost (bereave o.bound t num f (begun v))
       L = lost_all C
 
-  -- nobody dies
-  pub behind_watch : is_fine v.current ≡ true → ClearAt v → behind.node.watch ≡ v.watch
-  behind_watch fine C = start_part (λ x. x.watch) (λ x k q. refl) o.bound t (bereave o.bound t num f (begun v))
-      ∙ (lost_all C).watch ∙ (plain_lose o.bound t num f told fine).watch
-
   -- who is answered `true` deletes, or asks somebody who isn't told to have left behind the step
   pub behind_wins : is_fine v.current ≡ true → ClearAt v → (b m : ℕ) → any_true b m behind.answers ≡ true
       → (c : LockCall) × (call_of c.holder v.calls ≡ Some c) × (c.number ≡ m)
@@ -113,7 +108,7 @@ module _ (o : Opening) (w : World) (B : Base o w) (t f : ℕ) where
       L = lost_all C
 
       silent : (s : Answer) → Contains lost.answers s → s.reply ≡ True → ⊥
-      silent s k e = cc (sym (plain_lose o.bound t num f told fine).answers
+      silent s k e = cc (sym (plain_lose o.bound t num f told fine)
           ∙ found_any (λ x. is_true x.reply) lost.answers s k (ap is_true e))
 
       by : (s : Answer) × Contains (bereave o.bound t num f (begun v)).answers s

@@ -4,11 +4,10 @@ use mathlib.Core.Logic.{◌⊎◌}
 use Rattle.std.proofs.Common.{ℕ, Bool, true, false, ◌≡◌, ◌<◌, Some, None, List, [], ◌∷◌, refl, sym, ap, ◌∙◌, subst, inl, inr}
 use Rattle.std.specs.Prelude.{fold, Contains, if◌then◌else◌}
 use Rattle.std.proofs.lemmas.Bool.{cases_eq, eqb-true}
-use Rattle.std.proofs.lemmas.List.Elements.{Contains-append_cases}
+use Rattle.std.proofs.lemmas.List.Elements.{Contains-push_cases}
 use Rattle.registry_model.specs.Process.{Process, is_process, Nodes, at}
 use Rattle.registry_model.specs.Registry.{Replica}
 use Rattle.registry_model.specs.Call.{True, False}
-use Rattle.registry_model.proofs.Lists.{Contains-cases, Contains-nil}
 use Rattle.protocol_model.specs.Round.{Round, is_empty, asked, granted, down, is_over, Ending, Held, GiveBack, ending}
 use Rattle.protocol_model.specs.Node.{LockPhase, LockCall, call_of, put_call, drop_call}
 use Rattle.protocol_model.specs.Event.{Answer}
@@ -110,7 +109,6 @@ WinsBy a told c s = (answer_to a c.number True ≡ s)
 record Lost (a : ℕ) (c : LockCall) (cs : List LockCall) (u v : Turn) : Type 0 where
   clear : ClearBut a u.node.replica.told v.node.calls cs
   replica : v.node.replica ≡ u.node.replica
-  watch : v.node.watch ≡ u.node.watch
   given : (s : Answer) → Contains v.answers s → s.reply ≡ True
       → Contains u.answers s ⊎ WinsBy a u.node.replica.told c s
 
@@ -118,7 +116,6 @@ record Lost (a : ℕ) (c : LockCall) (cs : List LockCall) (u v : Turn) : Type 0 
 pub record LostAll (a : ℕ) (cs : List LockCall) (u v : Turn) : Type 0 where
   pub clear : ClearBut a u.node.replica.told v.node.calls []
   pub replica : v.node.replica ≡ u.node.replica
-  pub watch : v.node.watch ≡ u.node.watch
   pub given : (s : Answer) → Contains v.answers s → s.reply ≡ True
       → Contains u.answers s ⊎ ((c : LockCall) × Among cs c × WinsBy a u.node.replica.told c s)
 
@@ -165,20 +162,15 @@ module _ (o : Opening) (a : ℕ) (told : Nodes) (d : ℕ) where
         refused given true = record {
           clear = drop_clear a u.node.replica.told (put_call now u.node.calls) c.holder cs kept;
           replica = refl;
-          watch = refl;
-          given = λ s h t. elim (Contains-append_cases u.answers (answer_to a c.number False ∷ []) s h) [
+          given = λ s h t. elim (Contains-push_cases u.answers (answer_to a c.number False) s h) [
             | inl k ↦ inl k
-            | inr k ↦ elim (Contains-cases (answer_to a c.number False) [] s k) [
-              | inl e ↦ absurd (cc (ap (λ (x : Answer). x.reply) e ∙ t))
-              | inr none ↦ absurd (Contains-nil s none)
-            ]
+            | inr e ↦ absurd (cc (ap (λ (x : Answer). x.reply) e ∙ t))
           ];
         }
         refused given false = record {
           clear = more_clear a u.node.replica.told (put_call now u.node.calls) (in_phase LockPhase.Waiting now) cs own
               tt kept;
           replica = refl;
-          watch = refl;
           given = λ s h t. inl h;
         }
 
@@ -187,13 +179,9 @@ module _ (o : Opening) (a : ℕ) (told : Nodes) (d : ℕ) where
         ends Held e = record {
           clear = drop_clear a u.node.replica.told (put_call now u.node.calls) c.holder cs kept;
           replica = refl;
-          watch = refl;
-          given = λ s h t. elim (Contains-append_cases u.answers (answer_to a c.number True ∷ []) s h) [
+          given = λ s h t. elim (Contains-push_cases u.answers (answer_to a c.number True) s h) [
             | inl k ↦ inl k
-            | inr k ↦ elim (Contains-cases (answer_to a c.number True) [] s k) [
-              | inl i ↦ inr (i, inr (wins e))
-              | inr none ↦ absurd (Contains-nil s none)
-            ]
+            | inr i ↦ inr (i, inr (wins e))
           ];
         }
         ends (GiveBack given) e = refused given (is_spent c.retries)
@@ -201,7 +189,7 @@ module _ (o : Opening) (a : ℕ) (told : Nodes) (d : ℕ) where
         go : (b : Bool) → Lost a c cs u (if b then end_lock_by o.bound a
             (ending o.bound (asked (down d r)) (down d r)) now (keep_call now u) else keep_call now u)
         go true = ends (ending o.bound (asked (down d r)) (down d r)) refl
-        go false = record { clear = kept; replica = refl; watch = refl; given = λ s h t. inl h }
+        go false = record { clear = kept; replica = refl; given = λ s h t. inl h }
 
   -- a deletion waits for one less, or ends
   owe_lost : (c : LockCall) (owing : Nodes) (u : Turn) (cs : List LockCall) → c.phase ≡ LockPhase.Deleting owing
@@ -218,23 +206,18 @@ module _ (o : Opening) (a : ℕ) (told : Nodes) (d : ℕ) where
       go true true = record {
         clear = drop_clear a u.node.replica.told u.node.calls c.holder cs free;
         replica = refl;
-        watch = refl;
-        given = λ s h t. elim (Contains-append_cases u.answers (answer_to a c.number True ∷ []) s h) [
+        given = λ s h t. elim (Contains-push_cases u.answers (answer_to a c.number True) s h) [
           | inl k ↦ inl k
-          | inr k ↦ elim (Contains-cases (answer_to a c.number True) [] s k) [
-            | inl i ↦ inr (i, inl (ap is_deleting phase))
-            | inr none ↦ absurd (Contains-nil s none)
-          ]
+          | inr i ↦ inr (i, inl (ap is_deleting phase))
         ];
       }
       go true false = record {
         clear = more_clear a u.node.replica.told u.node.calls
             (in_phase (LockPhase.Deleting (at owing d false)) c) cs own tt free;
         replica = refl;
-        watch = refl;
         given = λ s h t. inl h;
       }
-      go false e = record { clear = free; replica = refl; watch = refl; given = λ s h t. inl h }
+      go false e = record { clear = free; replica = refl; given = λ s h t. inl h }
 
   -- any call
   lose_lost : (phase : LockPhase) (c : LockCall) (u : Turn) (cs : List LockCall) → c.phase ≡ phase → IsOwn a c.holder
@@ -245,7 +228,6 @@ module _ (o : Opening) (a : ℕ) (told : Nodes) (d : ℕ) where
   lose_lost LockPhase.Waiting c u cs e own C more B = record {
     clear = unexcused a u.node.replica.told u.node.calls c cs (subst (ClearIn u.node.replica.told) (sym e) tt) B;
     replica = refl;
-    watch = refl;
     given = λ s h t. inl h;
   }
 
@@ -257,7 +239,7 @@ module _ (o : Opening) (a : ℕ) (told : Nodes) (d : ℕ) where
   pub all_lost : (cs : List LockCall) (u : Turn) → ClearAll cs → ToldMore d told u.node.replica.told
       → ClearBut a u.node.replica.told u.node.calls cs
       → LostAll a cs u (fold (λ turn c. lose_node_in o.bound a d c.phase c turn) u cs)
-  all_lost [] u all more B = record { clear = B; replica = refl; watch = refl; given = λ s h t. inl h }
+  all_lost [] u all more B = record { clear = B; replica = refl; given = λ s h t. inl h }
   all_lost (c ∷ cs) u all more B =
       join (all_lost cs (lose_node_in o.bound a d c.phase c u) all.1
       (subst (λ (x : Replica). ToldMore d told x.told) (sym one.replica) more)
@@ -278,7 +260,6 @@ module _ (o : Opening) (a : ℕ) (told : Nodes) (d : ℕ) where
         clear = subst (λ (x : Replica). ClearBut a x.told (fold (λ turn c. lose_node_in o.bound a d c.phase c turn)
             (lose_node_in o.bound a d c.phase c u) cs).node.calls []) one.replica L.clear;
         replica = L.replica ∙ one.replica;
-        watch = L.watch ∙ one.watch;
         given = λ s h t. elim (L.given s h t) [
           | inl k ↦ elim (one.given s k t) [
             | inl i ↦ inl i

@@ -19,7 +19,7 @@ use Rattle.protocol_model.specs.Course.{Played, played}
 use Rattle.protocol_model.specs.LockAnswers.{holder_in}
 use Rattle.protocol_model.specs.World.{Opening, World, WorldEvent, At, Deliver, place, opening_world, refusal, turn_of, accepted, local_causes}
 use Rattle.moves.proofs.Rules
-use Rattle.moves.proofs.Rules.{Rule, is_ordered}
+use Rattle.moves.proofs.Rules.{is_ordered}
 use Rattle.walk.proofs.ChainKinds.{Aside, Hearing, suits}
 use Rattle.walk.proofs.Events.{accepted_of, lock_tested, live_own}
 use Rattle.walk.proofs.Orders.{ordered_keeps}

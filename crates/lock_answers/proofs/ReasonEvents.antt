@@ -5,12 +5,12 @@ use Rattle.std.proofs.lemmas.Bool.{cases_eq}
 use Rattle.registry_model.specs.Process.{Text, Process, is_process, Nodes}
 use Rattle.protocol_model.specs.Letter.{Letter, Client}
 use Rattle.protocol_model.specs.Links.{posted}
-use Rattle.protocol_model.specs.Round.{begin, is_empty}
+use Rattle.protocol_model.specs.Round.{is_empty}
 use Rattle.protocol_model.specs.Watch.{Watch, is_live, is_dead}
 use Rattle.protocol_model.specs.Node.{LockPhase, LockCall, Target, Retries, call_of, targets}
 use Rattle.protocol_model.specs.Event.{Call, Event, is_waiting_call}
 use Rattle.protocol_model.specs.Turn.{Turn, sent_to}
-use Rattle.protocol_model.specs.Client.{in_phase, one_less}
+use Rattle.protocol_model.specs.Client.{one_less}
 use Rattle.protocol_model.specs.ClientLocks.{Try, try_of, is_refused, is_gone}
 use Rattle.protocol_model.specs.LockAnswers.{Tries, watched, next_try, first_try, tries_by, meets}
 use Rattle.protocol_model.specs.World.{Opening, in_world, World, left, WorldEvent, At, place, refusal, accepted, turn_of}
@@ -31,9 +31,10 @@ use Rattle.registry_model.specs.Process.{nodes_of}
 use Rattle.lock_answers.proofs.LastTry.{last_of}
 use Rattle.lock_answers.proofs.BadMarks.{begin_good}
 use Rattle.lock_answers.proofs.CallSteps.{AllCalls}
-use Rattle.lock_answers.proofs.CallTurns.{deny_none, deny_each, begun_over, anew_in, anew, deleted_over}
+use Rattle.lock_answers.proofs.CallTurns.{unless, deny_none, deny_each, begun_over, anew_in, anew, deleted_over}
 use Rattle.lock_answers.proofs.Denials.{Denies, each_calm, each_unheard, each_so}
-use Rattle.lock_answers.proofs.EventTurns.{AgainTurn, again_turn, SetTurn, set_turn, DelTurn, del_turn, new_try, fresh}
+use Rattle.leftovers.proofs.Beginnings.{new_try, fresh}
+use Rattle.lock_answers.proofs.EventTurns.{AgainTurn, again_turn, SetTurn, set_turn, DelTurn, del_turn}
 use Rattle.lock_answers.proofs.Behind.{Known, walk_of, is_plain, plain_tries}
 use Rattle.lock_answers.proofs.Meeting.{met_left, lives_yet}
 use Rattle.lock_answers.proofs.Nobody.{some_same}
@@ -65,13 +66,8 @@ each_true p now h (l ∷ ls) = ((λ d. h), each_true p now h ls)
 -- a call that begins a round has no bad mark
 begun_marks : (n : ℕ) (members : Nodes) (d c : LockCall) (now : Bool) → begun_over n 0 members d ≡ Some c
     → MarksIn now c.phase
-begun_marks n members d c now = go (is_empty n (targets members d.target))
-  where
-    go : (b : Bool) → (if b then None else Some (in_phase (LockPhase.Asking (begin n (targets members d.target))) d))
-        ≡ Some c → MarksIn now c.phase
-    go true e = cc
-    go false e = subst (λ (k : LockCall). MarksIn now k.phase) (some_same _ c e)
-        (λ x bad. absurd (begin_good n (targets members d.target) x bad))
+begun_marks n members d c now e = subst (λ (k : LockCall). MarksIn now k.phase)
+    (unless (is_empty n (targets members d.target)) _ c e) (λ x bad. absurd (begin_good n (targets members d.target) x bad))
 
 module _ (o : Opening) (p : Process) (w : World) (num : Numbers) (S : Known o w num) where
   -- letters behind a turn that denies nobody
@@ -194,21 +190,14 @@ module _ (o : Opening) (p : Process) (w : World) (num : Numbers) (S : Known o w 
       T : DelTurn o w S.ordered a q r z target
       T = del_turn o w S.ordered a q r z target h
 
-      s : Nodes
-      s = targets (w.node a).replica.members target
-
-      new : LockCall
-      new = fresh o w S.ordered a q r z target
-
-      none : (y : Tries) (c : LockCall) (b : Bool) → (if b then None else Some (in_phase (LockPhase.Deleting s) new))
-          ≡ Some c → MarksIn (now e h t R y) c.phase
-      none y c true i = cc
-      none y c false i = subst (λ (k : LockCall). MarksIn (now e h t R y) k.phase) (some_same _ c i) tt
+      members : Nodes
+      members = (w.node a).replica.members
 
       by : (y : Tries) → Reasons o p w y → (c : LockCall) (b : Bool)
-          → (if b then deleted_over o.bound a (w.node a).replica.members new else call_at w p) ≡ Some c
+          → (if b then deleted_over o.bound a members (fresh o w a q r z target) else call_at w p) ≡ Some c
           → MarksIn (now e h t R y) c.phase
-      by y K c true i = none y c (is_empty o.bound s) i
+      by y K c true i = subst (λ (k : LockCall). MarksIn (now e h t R y) k.phase)
+          (unless (is_empty o.bound (targets members target)) _ c i) tt
       by y K c false i = old_marks e h t R y K c i
 
   -- a try
@@ -235,7 +224,7 @@ module _ (o : Opening) (p : Process) (w : World) (num : Numbers) (S : Known o w 
       last = try_of members ((w.node a).last_call + 1) (Client r z) target
 
       new : LockCall
-      new = new_try o w S.ordered a q r z target retries
+      new = new_try o w a q r z target retries
 
       calls : (b : Bool) → is_process q p ≡ b → (k : Process) (c : LockCall) → call_at (accepted o w e) k ≡ Some c
           → k ≡ p → (if b then begun_over o.bound a members new else call_at w p) ≡ Some c

@@ -15,7 +15,7 @@ use Rattle.protocol_model.specs.World.{Opening, in_world, World, left, WorldEven
 use Rattle.moves.proofs.Indices.{both}
 use Rattle.moves.proofs.Invariants.{Each}
 use Rattle.moves.proofs.Rules
-use Rattle.moves.proofs.Rules.{Rule, May, MayAll, effect, effects, turn_by, answers_by, is_quiet}
+use Rattle.moves.proofs.Rules.{Rule, MayAll, effect, effects, turn_by, answers_by, is_quiet}
 use Rattle.walk.proofs.ChainKinds.{Hearing, suits, leaves_locks}
 use Rattle.walk.proofs.Chains.{LeaveLocks, is_gone_by, TakeGone}
 use Rattle.walk.proofs.Walk.{OrderedWalk}

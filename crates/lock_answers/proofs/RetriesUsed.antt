@@ -1,9 +1,9 @@
 -- A `set_lock` is answered `false` once all its retries are used, and `true` within them.
 use mathlib.Core.Logic.{◌⊎◌}
-use Rattle.std.proofs.Common.{ℕ, zero, suc, Bool, true, false, ◌≡◌, ◌+◌, ◌≤◌, Option, Some, None, List, refl, sym, ap, ◌∙◌, subst, arith, inl, inr}
+use Rattle.std.proofs.Common.{ℕ, zero, suc, Bool, true, false, ◌≡◌, ◌+◌, ◌≤◌, Option, Some, None, List, [], ◌∷◌, ◌++◌, refl, sym, ap, ◌∙◌, subst, arith, inl, inr}
 use Rattle.std.specs.Prelude.{Contains}
 use Rattle.registry_model.specs.Process.{Process}
-use Rattle.registry_model.specs.Call.{Reply, True, False}
+use Rattle.registry_model.specs.Call.{True, False}
 use Rattle.protocol_model.specs.Node.{LockPhase, LockCall, Retries, Times, Endless}
 use Rattle.protocol_model.specs.Event.{Answer}
 use Rattle.protocol_model.specs.Client.{is_spent}
@@ -15,6 +15,7 @@ use Rattle.walk.proofs.Walk.{OrderedWalk}
 use Rattle.leftovers.proofs.Clients.{Numbers}
 use Rattle.leftovers.proofs.Told.{chain_of}
 use Rattle.leftovers.proofs.Tries.{Fits}
+use Rattle.lock_answers.proofs.Besides.{is_true}
 use Rattle.lock_answers.proofs.LastTry.{last_of, tries_behind}
 use Rattle.lock_answers.proofs.Verdicts.{is_verdict, GaveUp, EndedWell, Before, said_in}
 use Rattle.lock_answers.proofs.Spending.{AreLeft, IsSpending, SpendsAt, Tried, tried_keeps}
@@ -94,47 +95,41 @@ spent : (o : Opening) (es : List WorldEvent) (p : Process) → Spent o p (run o 
 spent o es p = stands o p (λ v y. SpendsAt v p y) (λ v num e y S F k h. spends_next o p v num e y S F k h) (λ q c f. cc)
     es
 
+-- the law, of an event, behind these, that answers the last try of p
+module _ (o : Opening) (es : List WorldEvent) (e : WorldEvent) (h : refusal o (run o (opening_world o) es) e ≡ None)
+    (p : Process) (x : Tries) (s : Answer) (is : tries_of o (es ++ e ∷ []) p ≡ Some x)
+    (A : Answers o (run o (opening_world o) es) e p x.last.number s) where
+  abbrev w : World
+  w = run o (opening_world o) es
+
+  abbrev t : Option Tries
+  t = tries_of o es p
+
+  K : Spent o p w t
+  K = spent o es p
+
+  by : tries_by o w e p t ≡ Some x
+  by = sym (tries_behind o p es e h) ∙ is
+
+  fails : s.reply ≡ False → AsksNobody o x.last ⊎ AreUsedUp x
+  fails f = go (is_plain e) refl
+    where
+      go : (b : Bool) → is_plain e ≡ b → AsksNobody o x.last ⊎ AreUsedUp x
+      go false i = inl (nobody_asked o w K.num p t K.known K.fits x s e i h by A (ap is_verdict f)).1
+      go true i = inr (plain_used o w K.num p t K.known K.fits K.kept e i h x by s A f)
+
+  wins : (given : ℕ) → s.reply ≡ True → x.retries ≡ Times given → x.tried ≤ given + 1
+  wins given f r = go (is_plain e) refl
+    where
+      go : (b : Bool) → is_plain e ≡ b → x.tried ≤ given + 1
+      go false i = cc (
+        ap is_true f,
+        ap is_true (nobody_asked o w K.num p t K.known K.fits x s e i h by A (ap is_verdict f)).0,
+      )
+      go true i = plain_within o w K.num p t K.known K.fits K.kept e i h x by s A given f r
+
 pub uses_all_retries : AtEachStep UsesAllRetries
-uses_all_retries o es e h p x s is A f = go (is_plain e) refl
-  where
-    w : World
-    w = run o (opening_world o) es
-
-    t : Option Tries
-    t = tries_of o es p
-
-    K : Spent o p w t
-    K = spent o es p
-
-    by : tries_by o w e p t ≡ Some x
-    by = sym (tries_behind o p es e h) ∙ is
-
-    go : (b : Bool) → is_plain e ≡ b → AsksNobody o x.last ⊎ AreUsedUp x
-    go false i = inl (nobody_asked o w K.num p t K.known K.fits x s e i h by A (ap is_verdict f)).1
-    go true i = inr (plain_used o w K.num p t K.known K.fits K.kept e i h x by s A f)
+uses_all_retries o es e h p x s is A f = fails o es e h p x s is A f
 
 pub uses_no_more : AtEachStep UsesNoMore
-uses_no_more o es e h p x s given is A f r = go (is_plain e) refl
-  where
-    w : World
-    w = run o (opening_world o) es
-
-    t : Option Tries
-    t = tries_of o es p
-
-    K : Spent o p w t
-    K = spent o es p
-
-    by : tries_by o w e p t ≡ Some x
-    by = sym (tries_behind o p es e h) ∙ is
-
-    is_true : Reply → Bool
-    is_true True = true
-    is_true _ = false
-
-    go : (b : Bool) → is_plain e ≡ b → x.tried ≤ given + 1
-    go false i = cc (
-      ap is_true f,
-      ap is_true (nobody_asked o w K.num p t K.known K.fits x s e i h by A (ap is_verdict f)).0,
-    )
-    go true i = plain_within o w K.num p t K.known K.fits K.kept e i h x by s A given f r
+uses_no_more o es e h p x s given is A f r = wins o es e h p x s is A given f r

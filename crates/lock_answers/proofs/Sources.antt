@@ -28,13 +28,8 @@ use Rattle.leftovers.proofs.Chains.{from_heard}
 use Rattle.leftovers.proofs.Numbering.{beginner_home}
 use Rattle.leftovers.proofs.Opening.{no_numbers}
 use Rattle.leftovers.proofs.Grounds.{Base, base_keeps, replicas}
-use Rattle.lock_answers.proofs.Watches.{is_lock_reply, is_lock_answer}
-
--- a word isn't such a reply
-word_aside : (r : Reply) → is_word r ≡ true → is_lock_reply r ≡ false
-word_aside True h = cc
-word_aside False h = cc
-word_aside _ h = refl
+use Rattle.lock_answers.proofs.Spared.{is_lock_answer}
+use Rattle.lock_answers.proofs.Verdicts.{word_no_verdict}
 
 -- the call that a rule answers
 abbrev pub closes : Rule → Option LockCall
@@ -63,7 +58,7 @@ module _ (o : Opening) (a : ℕ) (w : World) (R : Replicas o w) (s : Answer) (lo
   not_word : (k : ℕ) (r : Reply) → is_word r ≡ true → Contains (answer_to a k r ∷ []) s → ⊥
   not_word k r word c = cc (
     ap is_lock_answer (the_one (answer_to a k r) s c) ∙ lock,
-    word_aside r word,
+    word_no_verdict r word,
   )
 
   not_zero : (r : Reply) → Contains (answer_to a 0 r ∷ []) s → ⊥

@@ -1,31 +1,40 @@
 -- What a letter does to the living: one that kills nobody leaves the watch of its node, and one that kills answers no
--- lock call `true`.
-use Rattle.std.proofs.Common.{ℕ, Bool, true, false, ◌==◌, ◌≡◌, Option, Some, None, List, [], ◌∷◌, ◌++◌, refl, ap, ◌∙◌}
-use Rattle.std.specs.Prelude.{not, ◌&&◌, ◌||◌, fold, if◌then◌else◌}
-use Rattle.std.proofs.Math.Bool.{and-false}
-use Rattle.std.proofs.lemmas.List.Folds.{list_any-append}
+-- lock call. So by a letter that answers a lock call nobody dies.
+use Rattle.std.proofs.Common.{ℕ, Bool, true, false, ◌==◌, ◌≡◌, Option, Some, None, List, [], ◌∷◌, refl, ap, ◌∙◌}
+use Rattle.std.specs.Prelude.{not, ◌&&◌, Contains, fold, if◌then◌else◌}
+use Rattle.std.specs.List.{list_any}
 use Rattle.registry_model.specs.Process.{Process, is_process, Nodes, at}
 use Rattle.registry_model.specs.Settlement.{settle}
 use Rattle.registry_model.specs.Call.{Reply, Joined, NotMember, True, is_reply, is_grant, reply_to, change_of}
 use Rattle.registry_model.specs.History.{Entry}
+use Rattle.registry_model.proofs.Legality.{is_reply-true}
 use Rattle.protocol_model.specs.Round.{Round, owes, asked, answer, down, is_over, Ending, ending, opens, rest, is_empty}
 use Rattle.protocol_model.specs.Letter.{Global, Letter, is_down}
 use Rattle.protocol_model.specs.LockTable.{is_free_for}
-use Rattle.protocol_model.specs.Watch.{is_live, owed}
+use Rattle.protocol_model.specs.Watch.{is_live}
 use Rattle.protocol_model.specs.Node.{Op, Current, LockPhase, LockCall, call_of}
 use Rattle.protocol_model.specs.Event.{Answer}
-use Rattle.protocol_model.specs.Turn.{Turn, with_replica, with_queue, at_work, keep_call, enter, send, send_all, reply_with}
-use Rattle.protocol_model.specs.Registrar.{registrar, start, start_free, start_next, start_queue, ask_join, ask_rest, await_less, finish, done, write, decide, lose_contact, contact_left}
+use Rattle.protocol_model.specs.Turn.{Turn, begun, with_replica, at_work, keep_call, enter, send, send_all, reply_with}
+use Rattle.protocol_model.specs.Registrar.{registrar, start, ask_rest, await_less, finish, done, write, decide, lose_contact, contact_left}
 use Rattle.protocol_model.specs.Deciding.{admit, held, end_by, go_on, hear_answer, lose}
 use Rattle.protocol_model.specs.Client.{in_phase, close_call, give_lock, is_spent, end_lock_by, go_on_lock, hear_lock, hear_lock_in, owe_less, owe_less_in, lose_node_in}
 use Rattle.protocol_model.specs.Calling.{die, kill, queued}
 use Rattle.protocol_model.specs.Reading.{admitted, welcomed, judge, refused_join, welcome, told_of, lose_current, lose_join, bereave, read, receive}
 use Rattle.protocol_model.specs.Answers.{answer_to}
+use Rattle.protocol_model.specs.World.{Opening, World, Deliver, join_number, heard, turn_of}
+use Rattle.moves.proofs.Indices.{both}
 use Rattle.leftovers.proofs.Doomed.{start-watch}
+use Rattle.leftovers.proofs.Turns.{push_none}
 use Rattle.leftovers.proofs.Answering.{is_true, any_true}
+use Rattle.lock_answers.proofs.Besides.{found_any, any_found, start_adds}
+use Rattle.lock_answers.proofs.Verdicts.{is_verdict}
+
+-- it answers a lock call
+abbrev pub is_lock_answer : Answer → Bool
+is_lock_answer s = is_verdict s.reply
 
 -- by this letter nobody dies
-abbrev pub spares : Letter → Bool
+abbrev spares : Letter → Bool
 spares (Letter.Admit j puts kills) = false
 spares (Letter.Welcome members pairs told kills) = false
 spares _ = true
@@ -239,7 +248,7 @@ module _ (n a : ℕ) (number : ℕ → ℕ) where
   watch_read f Letter.Down u h = watch_bereave f u
 
   -- a letter by which nobody dies leaves the watch
-  pub spared : (f : ℕ) (l : Letter) (u : Turn) → spares l ≡ true
+  spared : (f : ℕ) (l : Letter) (u : Turn) → spares l ≡ true
       → (receive n a number f l u).node.watch ≡ u.node.watch
   spared f l u h = go (u.node.replica.told f && not (is_down l))
     where
@@ -247,74 +256,64 @@ module _ (n a : ℕ) (number : ℕ → ℕ) where
       go true = start-watch n a u
       go false = start-watch n a (read n a number f l u) ∙ watch_read f l u h
 
-  -- one more answer that isn't `true`
-  none_more : (b m : ℕ) (ss : List Answer) (s : Answer) → is_reply s.reply True ≡ false → any_true b m ss ≡ false
-      → any_true b m (ss ++ s ∷ []) ≡ false
-  none_more b m ss s h e = list_any-append (is_true b m) ss (s ∷ [])
-      ∙ ap (λ (t : Bool). t || any_true b m (s ∷ [])) e
-      ∙ ap (λ (t : Bool). ((s.node == b) && (s.number == m) && t) || false) h
-      ∙ ap (λ (t : Bool). t || false) (and-false ((s.node == b) && (s.number == m)))
-
-  start_none : (b m : ℕ) (u : Turn) → any_true b m u.answers ≡ false → any_true b m (start n a u).answers ≡ false
-  start_none b m u e = go u.node.current
+  -- who is killed is answered nothing
+  kill-answers : (ps : List Process) (u : Turn) → (kill n a ps u).answers ≡ u.answers
+  kill-answers [] u = refl
+  kill-answers (p ∷ ps) u = go (is_live a u.node.watch p) (kill-answers ps)
     where
-      queue : (ops : List Op) (z : Turn) → any_true b m z.answers ≡ false
-          → any_true b m (start_queue n a ops z).answers ≡ false
-      queue [] z k = k
-      queue (Op.Join i j ∷ ops) z k = by (z.node.replica.told j) (queue ops (contact_left n a i j z)
-          (none_more b m z.answers (answer_to a i Reply.ContactLeft) refl k))
-        where
-          by : (t : Bool) → any_true b m (start_queue n a ops (contact_left n a i j z)).answers ≡ false
-              → any_true b m (if t then start_queue n a ops (contact_left n a i j z)
-              else ask_join n a i j (with_queue ops z)).answers ≡ false
-          by true more = more
-          by false more = k
-      queue (Op.Name i c ∷ ops) z k = k
-      queue (Op.Strike p ∷ ops) z k = k
-      queue (Op.Admission j pairs ∷ ops) z k = k
+      go : (b : Bool) → ((v : Turn) → (kill n a ps v).answers ≡ v.answers)
+          → (kill n a ps (if b then die n a p u else u)).answers ≡ u.answers
+      go true more = more (die n a p u)
+      go false more = more u
 
-      next : (s : Option ℕ) → any_true b m (start_next n a s u).answers ≡ false
-      next (Some serial) = e
-      next None = queue u.node.queue u e
-
-      go : (c : Current) → any_true b m (start_free n a c u).answers ≡ false
-      go Current.Free = next (owed a u.node.replica.table u.node.watch)
-      go _ = e
-
-  kill_none : (b m : ℕ) (ps : List Process) (u : Turn) → any_true b m u.answers ≡ false
-      → any_true b m (kill n a ps u).answers ≡ false
-  kill_none b m [] u e = e
-  kill_none b m (p ∷ ps) u e = go (is_live a u.node.watch p) (kill_none b m ps)
-    where
-      go : (t : Bool) → ((v : Turn) → any_true b m v.answers ≡ false → any_true b m (kill n a ps v).answers ≡ false)
-          → any_true b m (kill n a ps (if t then die n a p u else u)).answers ≡ false
-      go true more = more (die n a p u) e
-      go false more = more u e
-
-  read_none : (b m f : ℕ) (l : Letter) (u : Turn) → spares l ≡ false → any_true b m u.answers ≡ false
-      → any_true b m (read n a number f l u).answers ≡ false
-  read_none b m f (Letter.Admit j puts kills) u h e = kill_none b m kills (with_replica (admitted j puts) u) e
-  read_none b m f (Letter.Welcome members pairs told kills) u h e = go u.node.current
+  read_silent : (f : ℕ) (l : Letter) (u : Turn) → spares l ≡ false → list_any is_lock_answer u.answers ≡ false
+      → list_any is_lock_answer (read n a number f l u).answers ≡ false
+  read_silent f (Letter.Admit j puts kills) u h e =
+      ap (list_any is_lock_answer) (kill-answers kills (with_replica (admitted j puts) u)) ∙ e
+  read_silent f (Letter.Welcome members pairs told kills) u h e = go u.node.current
     where
       v : Turn
       v = kill n a kills (with_replica (welcomed members pairs told) u)
 
-      go : (c : Current) → any_true b m (welcome n a number f members pairs told kills c u).answers ≡ false
+      go : (c : Current)
+          → list_any is_lock_answer (welcome n a number f members pairs told kills c u).answers ≡ false
       go (Current.Joining k i) = ends (i == f)
         where
-          ends : (t : Bool) → any_true b m (if t then send f Letter.Applied
+          ends : (t : Bool) → list_any is_lock_answer (if t then send f Letter.Applied
               (reply_with a k Joined (at_work Current.Free v)) else u).answers ≡ false
-          ends true = none_more b m v.answers (answer_to a k Joined) refl
-              (kill_none b m kills (with_replica (welcomed members pairs told) u) e)
+          ends true = push_none is_lock_answer v.answers (answer_to a k Joined) refl
+              ∙ ap (list_any is_lock_answer) (kill-answers kills (with_replica (welcomed members pairs told) u)) ∙ e
           ends false = e
       go _ = e
-  read_none b m f _ u h e = cc
+  read_silent f _ u h e = cc
 
-  -- a letter by which somebody may die answers no call `true`
-  pub killing_answers : (b m f : ℕ) (l : Letter) (u : Turn) → spares l ≡ false → any_true b m u.answers ≡ false
-      → any_true b m (receive n a number f l u).answers ≡ false
-  killing_answers b m f l u h e = go (u.node.replica.told f && not (is_down l))
+  -- a letter by which somebody may die answers no lock call
+  killing_silent : (f : ℕ) (l : Letter) (u : Turn) → spares l ≡ false → list_any is_lock_answer u.answers ≡ false
+      → list_any is_lock_answer (receive n a number f l u).answers ≡ false
+  killing_silent f l u h e = go (u.node.replica.told f && not (is_down l))
     where
-      go : (t : Bool) → any_true b m (start n a (if t then u else read n a number f l u)).answers ≡ false
-      go true = start_none b m u e
-      go false = start_none b m (read n a number f l u) (read_none b m f l u h e)
+      go : (t : Bool) → list_any is_lock_answer (start n a (if t then u else read n a number f l u)).answers ≡ false
+      go true = start_adds is_lock_answer (λ b k. refl) n a u ∙ e
+      go false = start_adds is_lock_answer (λ b k. refl) n a (read n a number f l u) ∙ read_silent f l u h e
+
+-- so a letter answers no lock call, or nobody dies by it
+pub letter_watch : (o : Opening) (w : World) (f t : ℕ)
+    → list_any is_lock_answer (turn_of o w (Deliver f t)).answers ≡ true
+    → (turn_of o w (Deliver f t)).node.watch ≡ (w.node t).watch
+letter_watch o w f t = go (w.links.queue f t)
+  where
+    go : (ls : List Letter) → list_any is_lock_answer (heard o.bound t w f ls).answers ≡ true
+        → (heard o.bound t w f ls).node.watch ≡ (w.node t).watch
+    go [] k = refl
+    go (l ∷ ls) k = by (spares l) refl
+      where
+        by : (b : Bool) → spares l ≡ b → (heard o.bound t w f (l ∷ ls)).node.watch ≡ (w.node t).watch
+        by true s = spared o.bound t (join_number w) f l (begun (w.node t)) s
+        by false s = cc (killing_silent o.bound t (join_number w) f l (begun (w.node t)) s refl, k)
+
+-- what answers a call `true` answers a lock call
+pub true_lock : (b m : ℕ) (ss : List Answer) → any_true b m ss ≡ true → list_any is_lock_answer ss ≡ true
+true_lock b m ss h =
+    let one : (s : Answer) × Contains ss s × (is_true b m s ≡ true) = any_found (is_true b m) ss h in
+    found_any is_lock_answer ss one.0 one.1 (ap is_verdict (is_reply-true one.0.reply True
+    (both ((one.0.node == b) && (one.0.number == m)) (is_reply one.0.reply True) one.2).1))

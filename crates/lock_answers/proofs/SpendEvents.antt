@@ -22,8 +22,9 @@ use Rattle.leftovers.proofs.Tries.{Fits}
 use Rattle.lock_answers.proofs.LastTry.{last_of, last_watched}
 use Rattle.lock_answers.proofs.Verdicts.{kept_in}
 use Rattle.lock_answers.proofs.Spending.{AreLeft, IsSpending, SpendsAt, Tried, tried_keeps}
-use Rattle.lock_answers.proofs.CallTurns.{begun_over, anew_in, anew, deleted_over}
-use Rattle.lock_answers.proofs.EventTurns.{AgainTurn, again_turn, SetTurn, set_turn, DelTurn, del_turn, new_try, fresh}
+use Rattle.lock_answers.proofs.CallTurns.{unless, begun_over, anew_in, anew, deleted_over}
+use Rattle.leftovers.proofs.Beginnings.{new_try, fresh}
+use Rattle.lock_answers.proofs.EventTurns.{AgainTurn, again_turn, SetTurn, set_turn, DelTurn, del_turn}
 use Rattle.lock_answers.proofs.Behind.{Known, base_of, walk_of, is_plain, plain_hears, plain_tries}
 
 -- one retry is used, where one is left
@@ -88,7 +89,7 @@ module _ (o : Opening) (p : Process) where
         members = (w.node a).replica.members
 
         new : LockCall
-        new = new_try o w S.ordered a q r z target retries
+        new = new_try o w a q r z target retries
 
         T : SetTurn o w S.ordered a q r z target retries
         T = set_turn o w S.ordered a q r z target retries h
@@ -96,18 +97,11 @@ module _ (o : Opening) (p : Process) where
         last : Try
         last = try_of members ((w.node a).last_call + 1) (Client r z) target
 
-        first : (b : Bool) → (if b then None else Some (in_phase (LockPhase.Asking
-            (begin o.bound (targets members target))) new)) ≡ Some c
-            → IsSpending (first_try o w event p last retries) c
-        first true e = cc
-        first false e =
-            let same : in_phase (LockPhase.Asking (begin o.bound (targets members target))) new ≡ c = cc e in
-            subst (IsSpending (first_try o w event p last retries)) same
-            (_, refl, record { left = fresh_left retries; more = λ y. cc })
-
         by : (b : Bool) → (if b then begun_over o.bound a members new else call_at w p) ≡ Some c
             → IsSpending (if b then first_try o w event p last retries else watched o w event p t) c
-        by true e = first (is_empty o.bound (targets members target)) e
+        by true e = subst (IsSpending (first_try o w event p last retries))
+            (unless (is_empty o.bound (targets members target)) _ c e)
+            (_, refl, record { left = fresh_left retries; more = λ y. cc })
         by false e = spends_watched w event t c (k p c e refl d)
 
     -- a deletion
@@ -124,22 +118,18 @@ module _ (o : Opening) (p : Process) where
         T : DelTurn o w S.ordered a q r z target
         T = del_turn o w S.ordered a q r z target h
 
-        s : Nodes
-        s = targets (w.node a).replica.members target
+        members : Nodes
+        members = (w.node a).replica.members
 
         new : LockCall
-        new = fresh o w S.ordered a q r z target
+        new = fresh o w a q r z target
 
-        none : (b : Bool) → (if b then None else Some (in_phase (LockPhase.Deleting s) new)) ≡ Some c
+        by : (b : Bool) → (if b then deleted_over o.bound a members new else call_at w p) ≡ Some c
             → IsSpending (watched o w event p t) c
-        none true e = cc
-        none false e =
-            let same : in_phase (LockPhase.Deleting s) new ≡ c = cc e in
-            cc (ap (λ (y : LockCall). is_deleting y.phase) same, d)
-
-        by : (b : Bool) → (if b then deleted_over o.bound a (w.node a).replica.members new else call_at w p) ≡ Some c
-            → IsSpending (watched o w event p t) c
-        by true e = none (is_empty o.bound s) e
+        by true e = cc (
+          ap (λ (y : LockCall). is_deleting y.phase) (unless (is_empty o.bound (targets members target)) _ c e),
+          d,
+        )
         by false e = spends_watched w event t c (k p c e refl d)
 
     -- a retry
@@ -193,20 +183,13 @@ module _ (o : Opening) (p : Process) where
               },
             )
 
-        tried : p.node ≡ a → (y : LockCall) → call_at w p ≡ Some y → y.phase ≡ LockPhase.Waiting → (b : Bool)
-            → (if b then None else Some (in_phase (LockPhase.Asking (begin o.bound (targets members y.target)))
-            (record y { retries = one_less y.retries }))) ≡ Some c → IsSpending (tries_by o w event p t) c
-        tried home y j waits true e = cc
-        tried home y j waits false e =
-            let one : in_phase (LockPhase.Asking (begin o.bound (targets members y.target)))
-            (record y { retries = one_less y.retries }) ≡ c = cc e in
-            next home y j waits (sym (ap (λ (v : LockCall). v.retries) one))
-            (sym (ap (λ (v : LockCall). is_waiting_call v.phase) one))
-
         by_phase : p.node ≡ a → (y : LockCall) → call_at w p ≡ Some y → (g : LockPhase) → y.phase ≡ g
             → anew_in o.bound a members g y ≡ Some c → IsSpending (tries_by o w event p t) c
         by_phase home y j LockPhase.Waiting waits e =
-            tried home y j waits (is_empty o.bound (targets members y.target)) e
+            let one : in_phase (LockPhase.Asking (begin o.bound (targets members y.target)))
+            (record y { retries = one_less y.retries }) ≡ c = unless (is_empty o.bound (targets members y.target)) _ c e in
+            next home y j waits (sym (ap (λ (v : LockCall). v.retries) one))
+            (sym (ap (λ (v : LockCall). is_waiting_call v.phase) one))
         by_phase home y j (LockPhase.Asking r) g e = same (ap (λ (b : Bool). (a == p.node) && b)
             (refused y j ∙ ap is_waiting_call g) ∙ and-false (a == p.node)) (j ∙ e)
         by_phase home y j (LockPhase.Deleting owing) g e = same (ap (λ (b : Bool). (a == p.node) && b)

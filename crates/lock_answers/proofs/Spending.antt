@@ -10,7 +10,7 @@ use Rattle.protocol_model.specs.Client.{is_spent, in_phase}
 use Rattle.protocol_model.specs.LockAnswers.{Tries}
 use Rattle.protocol_model.specs.World.{Opening, World}
 use Rattle.moves.proofs.Rules
-use Rattle.moves.proofs.Rules.{Rule, IsOpen, May, effect}
+use Rattle.moves.proofs.Rules.{Rule, May, effect}
 use Rattle.walk.proofs.ChainKinds.{Hearing, suits}
 use Rattle.walk.proofs.Orders.{ordered_keeps}
 use Rattle.leftovers.proofs.Growing.{Replying, replying_keeps}

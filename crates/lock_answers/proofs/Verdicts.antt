@@ -31,7 +31,7 @@ is_verdict True = true
 is_verdict False = true
 is_verdict _ = false
 
-word_no_verdict : (r : Reply) → is_word r ≡ true → is_verdict r ≡ false
+pub word_no_verdict : (r : Reply) → is_word r ≡ true → is_verdict r ≡ false
 word_no_verdict True h = cc
 word_no_verdict False h = cc
 word_no_verdict _ h = refl

@@ -17,7 +17,7 @@ use Rattle.protocol_model.proofs.Ids.{is_id_self}
 use Rattle.registry_model.proofs.Updates.{at_same}
 use Rattle.moves.proofs.Indices.{both, some_of, not_true}
 use Rattle.moves.proofs.Rules
-use Rattle.moves.proofs.Rules.{Rule, IsOpen, is_quiet}
+use Rattle.moves.proofs.Rules.{Rule, IsOpen}
 use Rattle.walk.proofs.ChainKinds.{Hearing, suits}
 use Rattle.walk.proofs.Killing.{admitted-members}
 use Rattle.walk.proofs.Orders.{effect-node, ordered_keeps}
