@@ -1,5 +1,5 @@
--- How a lock call begins: it takes its number, and then asks, fails, goes to those that give back, or goes nowhere. What
--- this makes of the open calls, and that no earlier call is answered `true` by a deletion.
+-- How a lock call begins: it takes its number, and then asks, fails, goes to those that give back, or goes nowhere.
+-- What this makes of the open calls, and that no earlier call is answered `true` by a deletion.
 use mathlib.Core.Logic.{◌⊎◌}
 use Rattle.std.proofs.Common.{ℕ, Bool, true, false, ◌==◌, ◌≡◌, ◌+◌, ◌≤◌, Option, Some, None, List, [], ◌∷◌, refl, sym, ap, ◌∙◌, subst, arith, inl, inr}
 use Rattle.std.specs.Prelude.{◌&&◌, ◌||◌, if◌then◌else◌}

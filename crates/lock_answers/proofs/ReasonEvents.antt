@@ -67,7 +67,8 @@ each_true p now h (l ∷ ls) = ((λ d. h), each_true p now h ls)
 begun_marks : (n : ℕ) (members : Nodes) (d c : LockCall) (now : Bool) → begun_over n 0 members d ≡ Some c
     → MarksIn now c.phase
 begun_marks n members d c now e = subst (λ (k : LockCall). MarksIn now k.phase)
-    (unless (is_empty n (targets members d.target)) _ c e) (λ x bad. absurd (begin_good n (targets members d.target) x bad))
+    (unless (is_empty n (targets members d.target)) _ c e)
+    (λ x bad. absurd (begin_good n (targets members d.target) x bad))
 
 module _ (o : Opening) (p : Process) (w : World) (num : Numbers) (S : Known o w num) where
   -- letters behind a turn that denies nobody

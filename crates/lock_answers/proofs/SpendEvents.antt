@@ -187,7 +187,8 @@ module _ (o : Opening) (p : Process) where
             → anew_in o.bound a members g y ≡ Some c → IsSpending (tries_by o w event p t) c
         by_phase home y j LockPhase.Waiting waits e =
             let one : in_phase (LockPhase.Asking (begin o.bound (targets members y.target)))
-            (record y { retries = one_less y.retries }) ≡ c = unless (is_empty o.bound (targets members y.target)) _ c e in
+            (record y { retries = one_less y.retries }) ≡ c =
+            unless (is_empty o.bound (targets members y.target)) _ c e in
             next home y j waits (sym (ap (λ (v : LockCall). v.retries) one))
             (sym (ap (λ (v : LockCall). is_waiting_call v.phase) one))
         by_phase home y j (LockPhase.Asking r) g e = same (ap (λ (b : Bool). (a == p.node) && b)
