@@ -153,8 +153,8 @@ module _ (o : Opening) (es : List WorldEvent) (w : World) (e : WorldEvent) where
   UsesNoMore = (p : Process) (t : Tries) (s : Answer) (given : ℕ) → tries_of o (es ++ e ∷ []) p ≡ Some t →
       Answers o w e p t.last.number s → s.reply ≡ True → t.retries ≡ Times given → t.tried ≤ given + 1
 
-  -- `false` is answered to a try for which a node that it had to ask had left, or couldn't grant the lock when it was asked; or
-  -- where there is nobody to ask
+  -- `false` is answered to a try for which a node that it had to ask had left, or took a letter from p's node while it couldn't
+  -- grant p the lock; or where there is nobody to ask
   abbrev pub FailsForAReason : Type 0
   FailsForAReason = (p : Process) (t : Tries) (s : Answer) → tries_of o (es ++ e ∷ []) p ≡ Some t →
       Answers o w e p t.last.number s → s.reply ≡ False → AsksNobody o t.last ⊎ (t.met ≡ true)
