@@ -138,4 +138,7 @@ def main():
 
 
 if __name__ == "__main__":
-    sys.exit(main())
+    try:
+        sys.exit(main())
+    except Exception as why:
+        stop(f"the toolchain isn't one that this script knows: {why!r}")
