@@ -1,11 +1,11 @@
 -- Letters and turns that are no client's: they change no session.
 use Rattle.std.proofs.Common.{ℕ, Bool, true, false, ◌==◌, ◌≡◌, List, [], ◌∷◌, ◌++◌, refl, ap, ◌∙◌, subst}
-use Rattle.std.specs.Prelude.{◌&&◌, if◌then◌else◌, map, filter}
+use Rattle.std.specs.Prelude.{◌&&◌}
 use Rattle.std.specs.List.{list_all}
 use Rattle.registry_model.specs.Process.{Process, is_process}
 use Rattle.protocol_model.specs.Letter.{Letter}
 use Rattle.protocol_model.specs.Turn.{Send, sent_to}
-use Rattle.moves.proofs.Sends.{to_each}
+use Rattle.moves.proofs.SendTests.{all_pass, pass_sent}
 use Rattle.moves.proofs.Indices.{both}
 use Rattle.client_locks.proofs.Ids.{is_process_same}
 use Rattle.client_locks.proofs.Sessions.{Ask, Echo}
@@ -51,32 +51,7 @@ plain_named a n (Letter.GivenBack q) h = cc
 plain_named a n _ h = refl
 
 abbrev pub all_plain : ℕ → List Send → Bool
-all_plain a ss = list_all (λ s. is_plain a s.letter) ss
-
-pub all_plain-append : (a : ℕ) (xs ys : List Send) → all_plain a xs ≡ true → all_plain a ys ≡ true
-    → all_plain a (xs ++ ys) ≡ true
-all_plain-append a [] ys hx hy = hy
-all_plain-append a (s ∷ xs) ys hx hy =
-    let parts : (is_plain a s.letter ≡ true) × (all_plain a xs ≡ true) = both (is_plain a s.letter)
-    (all_plain a xs) hx in
-    rw (parts.0, all_plain-append a xs ys parts.1 hy) refl
-
-pub all_plain-each : (a : ℕ) (cs : List ℕ) (l : Letter) → is_plain a l ≡ true → all_plain a (to_each cs l) ≡ true
-all_plain-each a [] l h = refl
-all_plain-each a (c ∷ cs) l h = rw (h, all_plain-each a cs l h) refl
-
-plain_sent : (a y : ℕ) (ss : List Send) → all_plain a ss ≡ true → list_all (is_plain a) (sent_to y ss) ≡ true
-plain_sent a y [] h = refl
-plain_sent a y (s ∷ ss) h =
-    let parts : (is_plain a s.letter ≡ true) × (all_plain a ss ≡ true) = both (is_plain a s.letter)
-    (all_plain a ss) h in
-    go parts.0 (plain_sent a y ss parts.1) (s.to == y)
-  where
-    go : is_plain a s.letter ≡ true → list_all (is_plain a) (sent_to y ss) ≡ true → (b : Bool)
-        → list_all (is_plain a) (map (λ (x : Send). x.letter) (if b then s ∷ filter (λ x. x.to == y) ss else filter
-        (λ x. x.to == y) ss)) ≡ true
-    go h r true = rw (h, r) refl
-    go h r false = r
+all_plain a ss = all_pass (is_plain a) ss
 
 plain_asks : (a : ℕ) (ls : List Letter) (p : Process) → list_all (is_plain a) ls ≡ true → (p.serial == 0) ≡ false
     → asks p ls ≡ []
@@ -102,10 +77,10 @@ plain_all_named a n (l ∷ ls) h =
 
 pub asks_plain_sent : (a y : ℕ) (ss : List Send) (p : Process) → all_plain a ss ≡ true → (p.serial == 0) ≡ false
     → asks p (sent_to y ss) ≡ []
-asks_plain_sent a y ss p h c = plain_asks a (sent_to y ss) p (plain_sent a y ss h) c
+asks_plain_sent a y ss p h c = plain_asks a (sent_to y ss) p (pass_sent (is_plain a) y ss h) c
 
 pub echoes_plain_sent : (a y : ℕ) (ss : List Send) (p : Process) → all_plain a ss ≡ true → echoes p (sent_to y ss) ≡ []
-echoes_plain_sent a y ss p h = plain_echoes a (sent_to y ss) p (plain_sent a y ss h)
+echoes_plain_sent a y ss p h = plain_echoes a (sent_to y ss) p (pass_sent (is_plain a) y ss h)
 
 pub named_plain_sent : (a y : ℕ) (ss : List Send) → all_plain a ss ≡ true → all_named a y (sent_to y ss) ≡ true
-named_plain_sent a y ss h = plain_all_named a y (sent_to y ss) (plain_sent a y ss h)
+named_plain_sent a y ss h = plain_all_named a y (sent_to y ss) (pass_sent (is_plain a) y ss h)

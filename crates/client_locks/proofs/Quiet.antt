@@ -16,7 +16,8 @@ use Rattle.protocol_model.specs.Registrar.{registrar, ask_global, give_global, a
 use Rattle.protocol_model.specs.Deciding.{admit}
 use Rattle.registry_model.specs.Registry.{Replica}
 use Rattle.moves.proofs.Sends.{to_each}
-use Rattle.client_locks.proofs.Plain.{is_plain, all_plain, all_plain-append, all_plain-each}
+use Rattle.moves.proofs.SendTests.{pass_append, pass_each}
+use Rattle.client_locks.proofs.Plain.{is_plain, all_plain}
 
 pub record Quiet (a : ℕ) (v : Node) (u : Turn) : Type 0 where
   pub calls : u.node.calls ≡ v.calls
@@ -33,7 +34,7 @@ module _ (a : ℕ) (v : Node) where
     calls = q.calls;
     dead = q.dead;
     locks = q.locks;
-    sends = all_plain-append a u.sends
+    sends = pass_append (is_plain a) u.sends
         (record { to = c; letter = l } ∷ []) q.sends (rw h refl);
   }
 
@@ -43,8 +44,8 @@ module _ (a : ℕ) (v : Node) where
     calls = q.calls;
     dead = q.dead;
     locks = q.locks;
-    sends = all_plain-append a
-        u.sends (to_each (nodes_of n s) l) q.sends (all_plain-each a (nodes_of n s) l h);
+    sends = pass_append (is_plain a)
+        u.sends (to_each (nodes_of n s) l) q.sends (pass_each (is_plain a) (nodes_of n s) l h);
   }
 
   pub quiet_work : (c : Current) (u : Turn) → Quiet a v u → Quiet a v (at_work c u)
@@ -112,9 +113,9 @@ module _ (a : ℕ) (v : Node) where
     calls = q.calls;
     dead = q.dead;
     locks = q.locks;
-    sends = all_plain-append a (u.sends ++ to_each (nodes_of n u.node.replica.members) (Letter.Admit j s.puts s.kills))
+    sends = pass_append (is_plain a) (u.sends ++ to_each (nodes_of n u.node.replica.members) (Letter.Admit j s.puts s.kills))
         (_ ∷ [])
-        (all_plain-append a u.sends (to_each (nodes_of n u.node.replica.members) (Letter.Admit j s.puts s.kills))
-        q.sends (all_plain-each a (nodes_of n u.node.replica.members) (Letter.Admit j s.puts s.kills) refl))
+        (pass_append (is_plain a) u.sends (to_each (nodes_of n u.node.replica.members) (Letter.Admit j s.puts s.kills))
+        q.sends (pass_each (is_plain a) (nodes_of n u.node.replica.members) (Letter.Admit j s.puts s.kills) refl))
         refl;
   }

@@ -5,6 +5,7 @@ use Rattle.std.specs.Prelude.{not, ◌&&◌, ◌||◌, nat_lt, if◌then◌else�
 use Rattle.std.specs.List.{list_any}
 use Rattle.std.proofs.lemmas.Bool.{cases_eq, eq-eqb, ne_eqb, eqb-true}
 use Rattle.std.proofs.lemmas.List.{append-nil}
+use Rattle.std.proofs.lemmas.List.Folds.{list_any-append}
 use Rattle.std.proofs.Math.Bool.{or-true}
 use Rattle.registry_model.specs.Process.{Process, is_process, Nodes, at}
 use Rattle.protocol_model.specs.Round.{greatest, opens, rest, answer}
@@ -30,7 +31,7 @@ use Rattle.leftovers.proofs.Grounds.{Base}
 use Rattle.leftovers.proofs.Parts.{watch_by, locks_by, parts}
 use Rattle.leftovers.proofs.GrantLists.{all_grants, all_filter, all_kept, all_grant, all_give_back}
 use Rattle.leftovers.proofs.Departures.{judged_home}
-use Rattle.leftovers.proofs.Takes.{is_take, has_take, calm_sent, calm_turn}
+use Rattle.leftovers.proofs.Takes.{is_take, has_take, calm_turn}
 use Rattle.leftovers.proofs.Members.{none_from, Apart, Members}
 
 -- p asks for a grant
@@ -63,10 +64,8 @@ DeadFreed o w = (p : Process) (x : ℕ) → (p.serial == 0) ≡ false → IsUp o
 
 take_of_append : (p : Process) (xs ys : List Letter) → has_take_of p xs ≡ false → has_take_of p ys ≡ false
     → has_take_of p (xs ++ ys) ≡ false
-take_of_append p [] ys h k = k
-take_of_append p (x ∷ xs) ys h k =
-    let parts : (is_take_of p x ≡ false) × (has_take_of p xs ≡ false) = neither (is_take_of p x) (has_take_of p xs) h in
-    ap (λ (b : Bool). b || has_take_of p (xs ++ ys)) parts.0 ∙ take_of_append p xs ys parts.1 k
+take_of_append p xs ys h k =
+    list_any-append (is_take_of p) xs ys ∙ ap (λ (b : Bool). b || has_take_of p ys) h ∙ k
 
 -- it stays so where it asks for nothing more
 freed_append : (p : Process) (xs ys : List Letter) → has_take_of p ys ≡ false → is_freed p xs ≡ true
@@ -251,7 +250,7 @@ module _ (o : Opening) (b : ℕ) (w : World) (B : Base o w) where
           ∙ one (nat_lt x o.bound && (rest r x && not (v.replica.told x)))
       go false = refl
   asks_not r m p client home dead none x = take_of_none p client (sent_to x (Rules.turn_by o b w r).sends)
-      (calm_sent (Rules.turn_by o b w r).sends (calm_turn o b w r refl) x)
+      (calm_turn o b w r refl x)
 
   -- a lock table gets none of its grants, unless it asked
   none_kept : (r : Rule) → Rules.May o b w r → (p : Process)

@@ -59,6 +59,7 @@ pub mod RestWork
 pub mod RestCalls
 pub mod RestEvents
 pub mod Granted
+pub mod Requests
 pub mod Takes
 pub mod Members
 pub mod Freed

@@ -25,7 +25,7 @@ use Rattle.leftovers.proofs.Parts.{replica_by, locks_by, parts}
 use Rattle.leftovers.proofs.GrantLists.{all_grants, all_filter, all_grant, all_give_back}
 use Rattle.leftovers.proofs.Departures.{judged_home}
 use Rattle.leftovers.proofs.Near.{Near, NearIn, is_near, target_member}
-use Rattle.leftovers.proofs.Takes.{has_take, take_append, calm_sent, calm_turn, take_popped}
+use Rattle.leftovers.proofs.Takes.{has_take, take_append, calm_turn, take_popped}
 
 -- no client of node a has a grant here
 abbrev pub none_from : ℕ → Locks → Bool
@@ -132,7 +132,7 @@ module _ (o : Opening) (b : ℕ) (w : World) (B : Base o w) (N : Near w) where
       go true = ap has_take (sent_to-all o.bound (λ y. rest r y && not (v.replica.told y)) l x)
           ∙ ap (λ (t : Bool). has_take (if t then l ∷ [] else [])) sent
       go false = refl
-  asks_members r m x up none = calm_sent (Rules.turn_by o b w r).sends (calm_turn o b w r refl) x
+  asks_members r m x up none = calm_turn o b w r refl x
 
   -- nor does it give a grant to whom it isn't asked by
   gives_none : (r : Rule) → Rules.May o b w r → (a : ℕ) → Apart a (w.links.queue a b) v.locks

@@ -2,9 +2,7 @@
 -- phases, what is answered, and that nobody is denied a lock by it.
 use mathlib.Core.Logic.{◌⊎◌}
 use Rattle.std.proofs.Common.{ℕ, Bool, true, false, ◌==◌, ◌≡◌, Option, Some, None, List, [], ◌∷◌, ◌++◌, refl, sym, ap, ◌∙◌, subst, inl, inr, arith}
-use Rattle.std.specs.Prelude.{◌&&◌, not, nat_lt, Contains, if◌then◌else◌, fold}
-use Rattle.std.specs.List.{list_all}
-use Rattle.std.proofs.lemmas.List.Folds.{list_all-append}
+use Rattle.std.specs.Prelude.{nat_lt, Contains, if◌then◌else◌, fold}
 use Rattle.std.proofs.lemmas.List.Elements.{Contains-push_cases}
 use Rattle.std.proofs.lemmas.Bool.{eqb-true}
 use Rattle.registry_model.specs.Process.{Process, is_process, Nodes, nodes_of}
@@ -19,32 +17,24 @@ use Rattle.protocol_model.specs.Registrar.{start, start_free, start_next, start_
 use Rattle.protocol_model.specs.Client.{in_phase, one_less, close_call, ask_lock, try_lock, retry_in, retry_locks, ask_back, delete_lock}
 use Rattle.moves.proofs.Rules.{is_ordered}
 use Rattle.moves.proofs.Sends.{to_each}
+use Rattle.moves.proofs.SendTests.{all_pass, pass_append, pass_each}
 use Rattle.walk.proofs.Calls.{AllAfter, AllOpen, Only, OrderedParts, all_open, all_after, all_open-only, ordered_parts, is_process-less, is_ordered-drop_call, is_ordered-put_call}
 use Rattle.leftovers.proofs.Calls.{call_of-put, call_of-drop}
 use Rattle.leftovers.proofs.Ids.{is_process_same, is_process_swap}
 use Rattle.lock_answers.proofs.Verdicts.{is_verdict}
 
--- the letter denies a lock
-abbrev pub is_denial : Letter → Bool
-is_denial (Letter.LockAnswer id p granted) = not granted
-is_denial _ = false
+-- the letter denies no lock
+abbrev pub is_no_denial : Letter → Bool
+is_no_denial (Letter.LockAnswer id p granted) = granted
+is_no_denial _ = true
 
 -- none of these letters does
 abbrev pub deny_none : List Send → Bool
-deny_none ss = list_all (λ (s : Send). not (is_denial s.letter)) ss
+deny_none ss = all_pass is_no_denial ss
 
-pub deny_push : (ss : List Send) (s : Send) → is_denial s.letter ≡ false → deny_none ss ≡ true
+pub deny_push : (ss : List Send) (s : Send) → is_no_denial s.letter ≡ true → deny_none ss ≡ true
     → deny_none (ss ++ s ∷ []) ≡ true
-deny_push ss s h k = list_all-append (λ (x : Send). not (is_denial x.letter)) ss (s ∷ [])
-    ∙ ap (λ (b : Bool). b && (not (is_denial s.letter) && true)) k ∙ ap (λ (b : Bool). not b && true) h
-
-pub deny_more : (xs ys : List Send) → deny_none ys ≡ true → deny_none xs ≡ true → deny_none (xs ++ ys) ≡ true
-deny_more xs ys h k = list_all-append (λ (x : Send). not (is_denial x.letter)) xs ys
-    ∙ ap (λ (b : Bool). b && deny_none ys) k ∙ h
-
-pub deny_each : (cs : List ℕ) (l : Letter) → is_denial l ≡ false → deny_none (to_each cs l) ≡ true
-deny_each [] l h = refl
-deny_each (c ∷ cs) l h = rw (h, deny_each cs l h) refl
+deny_push ss s h k = pass_append is_no_denial ss (s ∷ []) k (rw h refl)
 
 -- what there is unless b
 pub unless : {A : Type 0} (b : Bool) (x y : A) → (if b then None else Some x) ≡ Some y → x ≡ y
@@ -194,8 +184,8 @@ module _ (n a : ℕ) where
             ∙ ap (λ (b : Bool). if is_process c.holder p then (if b then None else Some asks)
             else call_of p u.node.calls) (sym e);
         said = λ x k. inl k;
-        sends = deny_more u.sends (to_each (nodes_of n s) (Letter.GiveBack c.id c.holder true))
-            (deny_each (nodes_of n s) (Letter.GiveBack c.id c.holder true) refl);
+        sends = λ h. pass_append is_no_denial u.sends (to_each (nodes_of n s) (Letter.GiveBack c.id c.holder true)) h
+            (pass_each is_no_denial (nodes_of n s) (Letter.GiveBack c.id c.holder true) refl);
       }
 
   -- a call behind a retry: one that waits is tried with one retry less

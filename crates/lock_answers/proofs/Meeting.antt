@@ -1,4 +1,4 @@
--- What an event brings for which a try may fail: a node that it has to ask has left, or denies the lock.
+-- What an event brings for which a try may fail: a node that it has to ask has left, or takes its request and denies the lock.
 use Rattle.std.proofs.Common.{ℕ, Bool, true, false, ◌==◌, ◌≡◌, ◌<◌, Option, Some, None, List, [], ◌∷◌, ◌++◌, drop, length, refl, sym, ap, ◌∙◌, arith}
 use Rattle.std.specs.Prelude.{not, ◌&&◌, nat_lt, is_none, if◌then◌else◌}
 use Rattle.std.proofs.Math.Bool.{or-true}
@@ -6,13 +6,14 @@ use Rattle.std.proofs.lemmas.Bool.Decides.{nat_tests}
 use Rattle.std.proofs.lemmas.Bool.{le-ltb, eqb-true, eq-eqb}
 use Rattle.registry_model.specs.Process.{Process, is_process}
 use Rattle.protocol_model.specs.Letter.{Id, is_id, Letter}
+use Rattle.protocol_model.proofs.Ids.{is_id_self}
 use Rattle.protocol_model.specs.LockTable.{is_free_for}
 use Rattle.protocol_model.specs.Round.{Mark, Out, Later, Owes, Granted, Refused, Lost, Gone, Round, is_empty}
 use Rattle.protocol_model.specs.Watch.{is_dead}
 use Rattle.protocol_model.specs.Node.{LockPhase, LockCall}
 use Rattle.protocol_model.specs.Event.{Refusal}
 use Rattle.protocol_model.specs.ClientLocks.{Try, is_gone}
-use Rattle.protocol_model.specs.LockAnswers.{meets}
+use Rattle.protocol_model.specs.LockAnswers.{is_asked_first, meets}
 use Rattle.protocol_model.specs.World.{Opening, in_world, World, left, WorldEvent, Deliver, refusal, accepted, happens, opened}
 use Rattle.moves.proofs.Indices.{both, neither, empty_at}
 use Rattle.moves.proofs.Rules
@@ -46,11 +47,12 @@ module _ (o : Opening) (w : World) (e : WorldEvent) (p : Process) (l : Try) wher
       )
       go false k = rw k refl
 
--- or it denies p the lock
+-- or it is asked by p's request, and denies p the lock
 pub met_denied : (o : Opening) (w : World) (f c : ℕ) (p : Process) (l : Try) → f ≡ p.node → l.asks c ≡ true
-    → is_free_for l.id p (w.node c).locks ≡ false → meets o w (Deliver f c) p l ≡ true
-met_denied o w f c p l home mine denied =
-    rw (eq-eqb f p.node home, mine, denied)
+    → is_asked_first l.id p (w.links.queue f c) ≡ true → is_free_for l.id p (w.node c).locks ≡ false
+    → meets o w (Deliver f c) p l ≡ true
+met_denied o w f c p l home mine asked denied =
+    rw (eq-eqb f p.node home, mine, asked, denied)
     (or-true (not (is_empty o.bound (λ x. l.asks x && left (happens o w (Deliver f c)) x))))
 
 -- a request is on its way only where its answer is owed
@@ -129,7 +131,7 @@ pub denied_so : (o : Opening) (w : World) (num : Numbers) → Known o w num → 
     → (meets o w (Deliver f t) p l ≡ true → so ≡ true) → (r : Rule) → May o t w r
     → is_gone_by w (opened (Deliver f t) w) t (Rules.takes o t r) ≡ true → JudgedSo o p l so w gone t w r
 denied_so o w num S f t p l so gone fit inside client met (Rules.Judges g id q) m taken = λ up i mine unfree.
-    met (met_denied o w f t p l (sym same ∙ sym home ∙ ap (λ (k : Process). k.node) i) mine
+    met (met_denied o w f t p l (sym same ∙ sym home ∙ ap (λ (k : Process). k.node) i) mine (request up i)
     (ap (λ (k : Id). is_free_for k p (w.node t).locks) (sym (is_same up i))
     ∙ ap (λ (k : Process). is_free_for id k (w.node t).locks) (sym i) ∙ unfree))
   where
@@ -162,4 +164,11 @@ denied_so o w num S f t p l so gone fit inside client met (Rules.Judges g id q) 
 
         owed : IsOwed (call_at w p) one.0
         owed = owed_call (call_at w p) t one.0 one.1
+
+    -- and it is p's request for the lock
+    request : is_gone w p ≡ false → q ≡ p → is_asked_first l.id p (w.links.queue f t) ≡ true
+    request up i = ap (λ (y : ℕ). is_asked_first l.id p (w.links.queue y t)) (sym same)
+        ∙ ap (is_asked_first l.id p) m.front.1.1 ∙ ap (λ (k : Id). is_id k l.id && is_process q p) (is_same up i)
+        ∙ ap (λ (b : Bool). b && is_process q p) (is_id_self l.id) ∙ ap (λ (k : Process). is_process k p) i
+        ∙ is_process_self p
 denied_so o w num S f t p l so gone fit inside client met r m taken = tt

@@ -16,6 +16,7 @@ use Rattle.protocol_model.specs.LockAnswers.{Tries, watched, next_try, first_try
 use Rattle.protocol_model.specs.World.{Opening, in_world, World, left, WorldEvent, At, place, refusal, accepted, turn_of}
 use Rattle.moves.proofs.Indices.{both, not_true}
 use Rattle.moves.proofs.Invariants.{Each}
+use Rattle.moves.proofs.SendTests.{pass_each}
 use Rattle.walk.proofs.Events.{Accepted, accepted_of}
 use Rattle.walk.proofs.Walk.{OrderedWalk}
 use Rattle.leftovers.proofs.Base.{each-posted}
@@ -31,7 +32,7 @@ use Rattle.registry_model.specs.Process.{nodes_of}
 use Rattle.lock_answers.proofs.LastTry.{last_of}
 use Rattle.lock_answers.proofs.BadMarks.{begin_good}
 use Rattle.lock_answers.proofs.CallSteps.{AllCalls}
-use Rattle.lock_answers.proofs.CallTurns.{unless, deny_none, deny_each, begun_over, anew_in, anew, deleted_over}
+use Rattle.lock_answers.proofs.CallTurns.{unless, is_no_denial, deny_none, begun_over, anew_in, anew, deleted_over}
 use Rattle.lock_answers.proofs.Denials.{Denies, each_calm, each_unheard, each_so}
 use Rattle.leftovers.proofs.Beginnings.{new_try, fresh}
 use Rattle.lock_answers.proofs.EventTurns.{AgainTurn, again_turn, SetTurn, set_turn, DelTurn, del_turn}
@@ -171,7 +172,7 @@ module _ (o : Opening) (p : Process) (w : World) (num : Numbers) (S : Known o w 
               (if b then [] else (posted a (λ z. sent_to z u.sends) w.links).queue c p.node)
           go true = tt
           go false = posted_letters a u (now (At a Event.Leave) h t R y) c
-              (deny_each (nodes_of o.bound (λ x. in_world o x && not (x == a))) Letter.Down refl)
+              (pass_each is_no_denial (nodes_of o.bound (λ x. in_world o x && not (x == a))) Letter.Down refl)
               (old_letters (At a Event.Leave) h t R y K up c mine)
 
   -- a deletion

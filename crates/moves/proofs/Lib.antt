@@ -1,4 +1,5 @@
 pub mod Rules
 pub mod Indices
 pub mod Sends
+pub mod SendTests
 pub mod Invariants

@@ -6,7 +6,7 @@ use Rattle.std.specs.List.{slice_get}
 use Rattle.registry_model.specs.Process.{Process, is_process, Nodes}
 use Rattle.registry_model.specs.Call.{True, False}
 use Rattle.protocol_model.specs.Round.{is_empty}
-use Rattle.protocol_model.specs.Letter.{Id, Client}
+use Rattle.protocol_model.specs.Letter.{Id, Client, is_id, Letter}
 use Rattle.protocol_model.specs.LockTable.{count, is_free_for}
 use Rattle.protocol_model.specs.Node.{Retries, Times, targets}
 use Rattle.protocol_model.specs.Event.{Call, Event, Answer}
@@ -23,11 +23,17 @@ pub record Tries : Type 0 where
   pub tried : ℕ
   pub met : Bool
 
--- a node that the try has to ask has left behind this event, or takes a letter from p's node and couldn't grant p the lock
+-- the first of these letters asks for this lock for p
+abbrev pub is_asked_first : Id → Process → List Letter → Bool
+is_asked_first id p (Letter.SetLock i q ∷ ls) = is_id i id && is_process q p
+is_asked_first id p _ = false
+
+-- a node that the try has to ask has left behind this event, or takes p's request for the lock from p's node and can't grant it
 abbrev pub meets : Opening → World → WorldEvent → Process → Try → Bool
 meets o w e p t =
     not (is_empty o.bound (λ c. t.asks c && left (happens o w e) c)) || elim e [
-      | Deliver f c ↦ (f == p.node) && t.asks c && not (is_free_for t.id p (w.node c).locks)
+      | Deliver f c ↦
+          (f == p.node) && t.asks c && is_asked_first t.id p (w.links.queue f c) && not (is_free_for t.id p (w.node c).locks)
       | _ ↦ false
     ]
 
@@ -153,8 +159,8 @@ module _ (o : Opening) (es : List WorldEvent) (w : World) (e : WorldEvent) where
   UsesNoMore = (p : Process) (t : Tries) (s : Answer) (given : ℕ) → tries_of o (es ++ e ∷ []) p ≡ Some t →
       Answers o w e p t.last.number s → s.reply ≡ True → t.retries ≡ Times given → t.tried ≤ given + 1
 
-  -- `false` is answered to a try for which a node that it had to ask had left, or took a letter from p's node while it couldn't
-  -- grant p the lock; or where there is nobody to ask
+  -- `false` is answered to a try for which a node that it had to ask had left, or took p's request while it couldn't grant p the
+  -- lock; or where there is nobody to ask
   abbrev pub FailsForAReason : Type 0
   FailsForAReason = (p : Process) (t : Tries) (s : Answer) → tries_of o (es ++ e ∷ []) p ≡ Some t →
       Answers o w e p t.last.number s → s.reply ≡ False → AsksNobody o t.last ⊎ (t.met ≡ true)

@@ -85,3 +85,10 @@ retry_asks_the_members_of_now = row (world_of 3 (a ∷ b ∷ []) (c ∷ []))
     ∷ del_lock (pid a 1) r q ∷ Settle ∷ retry b ∷ Settle ∷ [])
     (given (pid a 1) ∷ given (pid b 1) ∷ said a 1 True ∷ Settled ∷ Settled ∷ said c 1 Joined ∷ Settled
     ∷ said a 2 True ∷ Settled ∷ said b 1 True ∷ Settled ∷ [])
+
+-- who asks behind the letter that gives a lock back gets it, though the node has the lock for another when that letter comes
+abbrev pub asked_behind_a_deletion : Row
+asked_behind_a_deletion = row (world_of 1 (a ∷ []) [])
+    (spawn a ∷ spawn a ∷ set_lock (pid a 1) r q 0 ∷ Settle ∷ del_lock (pid a 1) r q ∷ set_lock (pid a 2) r z 0 ∷ Settle
+    ∷ [])
+    (given (pid a 1) ∷ given (pid a 2) ∷ said a 1 True ∷ Settled ∷ said a 2 True ∷ said a 3 True ∷ Settled ∷ [])

@@ -30,3 +30,6 @@ returns-clause-all_members_are_asked start = record { prints = refl; keeps = ref
 
 pub returns-clause-retry_asks_the_members_of_now : goal.returns-clause-retry_asks_the_members_of_now
 returns-clause-retry_asks_the_members_of_now start = record { prints = refl; keeps = refl }
+
+pub returns-clause-asked_behind_a_deletion : goal.returns-clause-asked_behind_a_deletion
+returns-clause-asked_behind_a_deletion start = record { prints = refl; keeps = refl }

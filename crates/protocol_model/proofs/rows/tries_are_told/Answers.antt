@@ -10,5 +10,8 @@ returns-clause-tried start = refl
 pub returns-clause-met : goal.returns-clause-met
 returns-clause-met start = refl
 
+pub returns-clause-met_by_its_request_alone : goal.returns-clause-met_by_its_request_alone
+returns-clause-met_by_its_request_alone start = refl
+
 pub returns-clause-met_by_a_departure : goal.returns-clause-met_by_a_departure
 returns-clause-met_by_a_departure start = refl
