@@ -126,6 +126,7 @@ module _ (w : World) where
   pub record Locking (a : ℕ) (p : Process) (r : Text) (e : WorldEvent) : Type 0 where
     pub more : List Cause
     pub no_dead : has (is 2) more ≡ false
+    pub no_busy : has (is 3) more ≡ false
     pub no_global : has (is 4) more ≡ false
     pub causes : local_causes w e ≡ lock_causes a (w.node a) p r ++ more
 
@@ -139,12 +140,14 @@ module _ (w : World) where
   locking a p r e (Sets z target retries) = record {
     more = cause (not (names_members (w.node a) target)) UnknownNode ∷ calls_spent (w.node a) ∷ [];
     no_dead = refl;
+    no_busy = refl;
     no_global = refl;
     causes = refl;
   }
   locking a p r e (Deletes z target) = record {
     more = calls_spent (w.node a) ∷ [];
     no_dead = refl;
+    no_busy = refl;
     no_global = refl;
     causes = refl;
   }

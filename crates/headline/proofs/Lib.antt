@@ -20,7 +20,10 @@ pub mod Fields
 pub mod LockAnswers
 pub mod LockSteps
 pub mod LockEvents
+pub mod OpenCalls
+pub mod OpenEvents
 pub mod Answered
+pub mod Callers
 pub mod Joiners
 pub mod Welcomed
 pub mod Spawning
@@ -28,6 +31,7 @@ pub mod NextSerial
 pub mod LookingUp
 pub mod Causes
 pub mod Refusals
+pub mod LockRefusals
 pub mod Joining
 pub mod Reasons
 pub mod Theorem

@@ -10,7 +10,7 @@ use Rattle.registry_model.specs.Process.{Process, is_process}
 use Rattle.registry_model.specs.Call.{Reply, True, False}
 use Rattle.protocol_model.specs.Node.{LockPhase, LockCall, call_of, put_call, drop_call}
 use Rattle.protocol_model.specs.Event.{Call, Answer}
-use Rattle.protocol_model.specs.Answers.{answer_to, may_have, AtMostOne, NotYet, Once}
+use Rattle.protocol_model.specs.Answers.{answer_to, may_have, holder_in, AtMostOne, NotYet, Once}
 use Rattle.moves.proofs.Rules.{is_ordered}
 use Rattle.fitting.proofs.Accounts.{is_word}
 use Rattle.fitting.proofs.Once.{is_lock_under}
@@ -78,11 +78,12 @@ deletion_for (Call.LookUp look) phase now h t n = cc
 deletion_for (Call.OnName c) phase now h t n = cc
 deletion_for (Call.JoinBy m) phase now h t n = cc
 
--- the call of this number, among those that were accepted
-pub record IsCalled (calls : List Call) (k : ℕ) (phase : LockPhase) : Type 0 where
+-- the call of this number, among those that were accepted, which is one of p
+pub record IsCalled (calls : List Call) (p : Process) (k : ℕ) (phase : LockPhase) : Type 0 where
   pub call : Call
   pub found : slice_get calls (k - 1) ≡ Some call
   pub positive : 0 < k
+  pub holder : holder_in call ≡ Some p
   pub suits : is_for call phase ≡ true
 
 -- what is found is found still where more comes behind
@@ -98,12 +99,13 @@ slice_get-behind [] x = refl
 slice_get-behind (y ∷ xs) x = slice_get-behind xs x
 
 -- a call stays among the accepted ones
-called_more : (calls more : List Call) (k : ℕ) (phase : LockPhase) → IsCalled calls k phase
-    → IsCalled (calls ++ more) k phase
-called_more calls more k phase I = record {
+called_more : (calls more : List Call) (p : Process) (k : ℕ) (phase : LockPhase) → IsCalled calls p k phase
+    → IsCalled (calls ++ more) p k phase
+called_more calls more p k phase I = record {
   call = I.call;
   found = slice_get-more calls more (k - 1) I.call I.found;
   positive = I.positive;
+  holder = I.holder;
   suits = I.suits;
 }
 
@@ -121,7 +123,7 @@ module _ (a : ℕ) where
 
   -- cs: the open lock calls of node a, which accepted these calls; xs: the answers so far
   pub record Ledger (calls : List Call) (cs : List LockCall) (xs : List Answer) : Type 0 where
-    pub called : (p : Process) (c : LockCall) → call_of p cs ≡ Some c → IsCalled calls c.number c.phase
+    pub called : (p : Process) (c : LockCall) → call_of p cs ≡ Some c → IsCalled calls p c.number c.phase
     pub waits : (p : Process) (c : LockCall) → call_of p cs ≡ Some c → given c.number xs ≡ []
     pub distinct : (p q : Process) (c d : LockCall) → call_of p cs ≡ Some c → call_of q cs ≡ Some d
         → c.number ≡ d.number → is_process p q ≡ true
@@ -140,7 +142,7 @@ module _ (a : ℕ) where
   pub ledger_wider : (calls more : List Call) (cs : List LockCall) (xs : List Answer) → Ledger calls cs xs
       → Ledger (calls ++ more) cs xs
   ledger_wider calls more cs xs L = record {
-    called = λ p c e. called_more calls more c.number c.phase (L.called p c e);
+    called = λ p c e. called_more calls more p c.number c.phase (L.called p c e);
     waits = L.waits;
     distinct = L.distinct;
     once = λ k pos. once_more calls more k (given k xs) (L.once k pos);
@@ -229,7 +231,7 @@ module _ (a : ℕ) where
   single_new calls cs xs q L = record {
     waits = go (given (length calls + 1) xs) (L.once (length calls + 1) (omega arith));
     alone = λ p d e ne n.
-        let I : IsCalled calls d.number d.phase = L.called p d e in
+        let I : IsCalled calls p d.number d.phase = L.called p d e in
         absurd (omega (arith, slice_get_within calls (d.number - 1) I.call I.found, n));
   }
     where
@@ -240,13 +242,13 @@ module _ (a : ℕ) where
 
   -- a call is put, which begins or goes on
   pub ledger_put : (calls : List Call) (cs : List LockCall) (xs : List Answer) (c : LockCall) → c.holder.node ≡ a
-      → is_ordered a cs ≡ true → IsSingle cs xs c.holder c.number → IsCalled calls c.number c.phase
+      → is_ordered a cs ≡ true → IsSingle cs xs c.holder c.number → IsCalled calls c.holder c.number c.phase
       → Ledger calls cs xs → Ledger calls (put_call c cs) xs
   ledger_put calls cs xs c home sorted S I L = record {
-    called = λ p d e. by_holder p (λ d. IsCalled calls d.number d.phase) I (L.called p) d
-        (is_process c.holder p) (sym (find p) ∙ e);
-    waits = λ p d e. by_holder p (λ d. given d.number xs ≡ []) S.waits (L.waits p) d
-        (is_process c.holder p) (sym (find p) ∙ e);
+    called = λ p d e. by_holder p (λ p d. IsCalled calls p d.number d.phase) I (L.called p) d
+        (is_process c.holder p) refl (sym (find p) ∙ e);
+    waits = λ p d e. by_holder p (λ p d. given d.number xs ≡ []) S.waits (L.waits p) d
+        (is_process c.holder p) refl (sym (find p) ∙ e);
     distinct = λ p q d1 d2 e f n. apart p q d1 d2 (is_process c.holder p) refl (is_process c.holder q) refl
         (sym (find p) ∙ e) (sym (find q) ∙ f) n;
     once = L.once;
@@ -255,10 +257,13 @@ module _ (a : ℕ) where
       find : (p : Process) → call_of p (put_call c cs) ≡ (if is_process c.holder p then Some c else call_of p cs)
       find p = call_of-put a p c cs home sorted
 
-      by_holder : (p : Process) (P : LockCall → Type 0) → P c → ((d : LockCall) → call_of p cs ≡ Some d → P d)
-          → (d : LockCall) (b : Bool) → (if b then Some c else call_of p cs) ≡ Some d → P d
-      by_holder p P here there d true e = let same : c ≡ d = cc e in subst P same here
-      by_holder p P here there d false e = there d e
+      by_holder : (p : Process) (P : Process → LockCall → Type 0) → P c.holder c
+          → ((d : LockCall) → call_of p cs ≡ Some d → P p d) → (d : LockCall) (b : Bool) → is_process c.holder p ≡ b
+          → (if b then Some c else call_of p cs) ≡ Some d → P p d
+      by_holder p P here there d true x e =
+          let same : c ≡ d = cc e in
+          subst (P p) same (subst (λ (q : Process). P q c) (is_process_same c.holder p x) here)
+      by_holder p P here there d false x e = there d e
 
       apart : (p q : Process) (d1 d2 : LockCall) (b : Bool) → is_process c.holder p ≡ b → (t : Bool)
           → is_process c.holder q ≡ t → (if b then Some c else call_of p cs) ≡ Some d1
@@ -295,7 +300,7 @@ module _ (a : ℕ) where
   -- a call is answered, and is open no more
   pub ledger_closed : (calls : List Call) (cs : List LockCall) (xs : List Answer) (c : LockCall) (reply : Reply)
       → is_word reply ≡ false → (phase : LockPhase)
-      → IsSingle cs xs c.holder c.number → (I : IsCalled calls c.number phase) → may_have I.call reply ≡ true
+      → IsSingle cs xs c.holder c.number → (I : IsCalled calls c.holder c.number phase) → may_have I.call reply ≡ true
       → Ledger calls cs xs → Ledger calls (drop_call c.holder cs) (xs ++ answer_to a c.number reply ∷ [])
   ledger_closed calls cs xs c reply word phase S I may L = record {
     called = λ p d e. L.called p d (left p d e).0;

@@ -14,7 +14,7 @@ use Rattle.protocol_model.specs.Turn.{Turn, begun, with_queue}
 use Rattle.protocol_model.specs.Registrar.{start, start_free, start_next, start_queue, contact_left, ask_join, retry_global}
 use Rattle.protocol_model.specs.Client.{in_phase, one_less, close_call, ask_lock, try_lock, retry_in, retry_locks, new_call}
 use Rattle.protocol_model.specs.Fit.{is_numbered, calls_in}
-use Rattle.protocol_model.specs.Answers.{answer_to, may_have, calls_at}
+use Rattle.protocol_model.specs.Answers.{answer_to, may_have, holder_in, calls_at}
 use Rattle.protocol_model.specs.World.{Opening, World, WorldEvent, At, Deliver, place, turn_of, accepted}
 use Rattle.protocol_model.specs.Course.{Played, played, answers_of}
 use Rattle.moves.proofs.Rules
@@ -55,8 +55,8 @@ module _ (o : Opening) (a : ℕ) (calls : List Call) (xs : List Answer) where
       single = subst (IsSingle a u.node.calls (xs ++ u.answers) c.holder) same
           (single_open a calls u.node.calls (xs ++ u.answers) c.holder d L e)
 
-      I : IsCalled calls c.number d.phase
-      I = subst (λ (k : ℕ). IsCalled calls k d.phase) same (L.called c.holder d e)
+      I : IsCalled calls c.holder c.number d.phase
+      I = subst (λ (k : ℕ). IsCalled calls c.holder k d.phase) same (L.called c.holder d e)
 
       go : (b : Bool) → Behind (if b then close_call o.bound a c false u
           else ask_lock o.bound a c (targets u.node.replica.members c.target) u)
@@ -70,6 +70,7 @@ module _ (o : Opening) (a : ℕ) (calls : List Call) (xs : List Answer) where
             call = I.call;
             found = I.found;
             positive = I.positive;
+            holder = I.holder;
             suits = try_for I.call d.phase (LockPhase.Asking _) I.suits t refl;
           }) L
 
@@ -186,7 +187,8 @@ module _ (o : Opening) (a : ℕ) (w : World) (calls : List Call) (xs : List Answ
       ∙ ap (λ (n : Node). n.calls) (at_same w.node a (Rules.turn_by o a w Rules.CallsLock).node)
 
   -- the call that begins, in this phase
-  module _ (call : Call) (c : LockCall) (number : c.number ≡ (w.node a).last_call + 1) where
+  module _ (call : Call) (c : LockCall) (number : c.number ≡ (w.node a).last_call + 1)
+      (holder : holder_in call ≡ Some c.holder) where
     -- the accepted calls with it
     abbrev more : List Call
     more = calls ++ call ∷ []
@@ -201,12 +203,13 @@ module _ (o : Opening) (a : ℕ) (w : World) (calls : List Call) (xs : List Answ
         (single_new a calls (w.node a).calls xs c.holder L))
 
     -- it is the last of them
-    abbrev is_called : (phase : LockPhase) → is_for call phase ≡ true → IsCalled more c.number phase
+    abbrev is_called : (phase : LockPhase) → is_for call phase ≡ true → IsCalled more c.holder c.number phase
     is_called phase fits = record {
       call = call;
       found = subst (λ (k : ℕ). slice_get more k ≡ Some call) (omega (arith, number, count))
           (slice_get-behind calls call);
       positive = omega (arith, number);
+      holder = holder;
       suits = fits;
     }
 
@@ -351,9 +354,9 @@ module _ (o : Opening) (w : World) (ps : List Played) (W : Whole o w) where
       by_call a call H.walk.rest refl H.walk.world H.walk.answers
       (subst Goal (sym h.1.1.0) (elim h.1.1.1 [
         | inl e ↦ subst (λ (s : Rule). Goal (s ∷ h.1.0)) (sym e)
-            (λ m. asks o a w (calls_at a ps) (answers_of ps) W L count m.0 call new refl h.1.0 m.1 h.1.1.2 refl)
+            (λ m. asks o a w (calls_at a ps) (answers_of ps) W L count m.0 call new refl refl h.1.0 m.1 h.1.1.2 refl)
         | inr e ↦ subst (λ (s : Rule). Goal (s ∷ h.1.0)) (sym e)
-            (λ m. fails o a w (calls_at a ps) (answers_of ps) W L count m.0 call new refl h.1.0 m.1 h.1.1.2 refl)
+            (λ m. fails o a w (calls_at a ps) (answers_of ps) W L count m.0 call new refl refl h.1.0 m.1 h.1.1.2 refl)
       ]) H.walk.may)
     where
       call : Call
@@ -374,9 +377,9 @@ module _ (o : Opening) (w : World) (ps : List Played) (W : Whole o w) where
       by_call a call H.walk.rest refl H.walk.world H.walk.answers
       (subst Goal (sym h.1.1.0) (elim h.1.1.1 [
         | inl e ↦ subst (λ (s : Rule). Goal (s ∷ h.1.0)) (sym e)
-            (λ m. deletes o a w (calls_at a ps) (answers_of ps) W L count m.0 call new refl h.1.0 m.1 h.1.1.2 refl)
+            (λ m. deletes o a w (calls_at a ps) (answers_of ps) W L count m.0 call new refl refl h.1.0 m.1 h.1.1.2 refl)
         | inr e ↦ subst (λ (s : Rule). Goal (s ∷ h.1.0)) (sym e)
-            (λ m. deletes_nothing o a w (calls_at a ps) (answers_of ps) W L count m.0 call new refl h.1.0 m.1 h.1.1.2
+            (λ m. deletes_nothing o a w (calls_at a ps) (answers_of ps) W L count m.0 call new refl refl h.1.0 m.1 h.1.1.2
             refl)
       ]) H.walk.may)
     where

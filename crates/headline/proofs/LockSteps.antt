@@ -44,7 +44,7 @@ module _ (o : Opening) (a : ℕ) (w : World) (calls : List Call) (xs : List Answ
 
   -- an open call goes on
   goes_on : (c : LockCall) (now next : LockPhase) → IsOpen (w.node a) c now
-      → ((I : IsCalled calls c.number c.phase) → IsCalled calls c.number next)
+      → ((I : IsCalled calls c.holder c.number c.phase) → IsCalled calls c.holder c.number next)
       → Ledger a calls (put_call (in_phase next c) (w.node a).calls) (xs ++ [])
   goes_on c now next e fits = ledger_aside a calls (put_call (in_phase next c) (w.node a).calls) xs [] (aside_none a)
       (ledger_put a calls (w.node a).calls xs (in_phase next c)
@@ -59,6 +59,7 @@ module _ (o : Opening) (a : ℕ) (w : World) (calls : List Call) (xs : List Answ
         call = I.call;
         found = I.found;
         positive = I.positive;
+        holder = I.holder;
         suits = try_for I.call c.phase next I.suits (ap is_try e.phase) t;
       })
 
@@ -70,12 +71,13 @@ module _ (o : Opening) (a : ℕ) (w : World) (calls : List Call) (xs : List Answ
         call = I.call;
         found = I.found;
         positive = I.positive;
+        holder = I.holder;
         suits = deletion_for I.call c.phase (LockPhase.Deleting left) I.suits (ap is_try e.phase) refl;
       })
 
   -- an open call is answered
   closes : (c : LockCall) (now : LockPhase) (reply : Reply) → is_word reply ≡ false → IsOpen (w.node a) c now
-      → ((I : IsCalled calls c.number c.phase) → may_have I.call reply ≡ true)
+      → ((I : IsCalled calls c.holder c.number c.phase) → may_have I.call reply ≡ true)
       → Ledger a calls (drop_call c.holder (w.node a).calls) (xs ++ answer_to a c.number reply ∷ [])
   closes c now reply word e may = ledger_closed a calls (w.node a).calls xs c reply word c.phase
       (single_open a calls (w.node a).calls xs c.holder c L e.call) (L.called c.holder c e.call)

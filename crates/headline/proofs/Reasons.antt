@@ -14,6 +14,8 @@ use Rattle.headline.specs.Clauses.{events, world, RefusalsInWords}
 use Rattle.headline.proofs.Causes.{is, here, hits, some_cause, Counting, counting, only_spawns, only_joins, only_calls}
 use Rattle.moves.proofs.Invariants.{Replicas}
 use Rattle.headline.proofs.Refusals
+use Rattle.headline.proofs.LockRefusals
+use Rattle.headline.proofs.OpenEvents.{CallsSeen, calls_seen}
 use Rattle.headline.proofs.Joining.{NoneAsks, none_asks, joined_or_waits, has_joined_or_waits}
 use Rattle.headline.proofs.Spawning.{next_at}
 use Rattle.headline.proofs.NextSerial.{Spawned, spawned, is_next}
@@ -23,7 +25,7 @@ use Rattle.headline.proofs.Fields
 
 -- o and ps: the opening and the events that made w
 module _ (o : Opening) (ps : List Played) (w : World) (departed : (d : ℕ) → (standing o ps).registry.left d ≡ left w d)
-    (S : Spawned o w ps) (R : Replicas o w) (N : NoneAsks w) where
+    (S : Spawned o w ps) (R : Replicas o w) (N : NoneAsks w) (V : CallsSeen o ps w) where
   abbrev Found : WorldEvent → Type 0
   Found e = Refusals.Found o ps w departed S e
 
@@ -126,8 +128,9 @@ module _ (o : Opening) (ps : List Played) (w : World) (departed : (d : ℕ) → 
     no_such_node = λ e. (Refusals.to_nowhere o ps w departed S e, Refusals.from_nowhere o ps w departed S e);
     node_left = λ e. (Refusals.to_late o ps w departed S e, Refusals.from_late o ps w departed S e);
     not_live = λ e p. (Refusals.to_nobody o ps w departed S e p, Refusals.from_nobody o ps w departed S e p);
-    reserved = λ e. (Refusals.to_global o ps w departed S e, Refusals.from_global o ps w departed S e);
-    unknown_node = λ e. (Refusals.to_stranger o ps w departed S e, Refusals.from_stranger o ps w departed S e);
+    busy = λ e p. (LockRefusals.to_busy o ps w departed S V e p, LockRefusals.from_busy o ps w departed S V e p);
+    reserved = λ e. (LockRefusals.to_global o ps w departed S V e, LockRefusals.from_global o ps w departed S V e);
+    unknown_node = λ e. (LockRefusals.to_stranger o ps w departed S V e, LockRefusals.from_stranger o ps w departed S V e);
     already_joined = λ e. (to_joined e, from_joined e);
     no_such_process = λ e. (Refusals.to_none o ps w departed S e, Refusals.from_none o ps w departed S e);
     already_exited = λ e. (Refusals.to_dead o ps w departed S e, Refusals.from_dead o ps w departed S e);
@@ -141,4 +144,4 @@ refusals_in_words o es = says_why o (events o es) (world o es)
     (λ d. ap (λ (t : Standing). t.registry.left d)
     (sym (Fields.past_now o (events o es) (world o es) (run_whole o es) (written o es)))
     ∙ (replicas o (world o es) (run_whole o es).kept).departed d)
-    (spawned o es) (replicas o (world o es) (run_whole o es).kept) (none_asks o es)
+    (spawned o es) (replicas o (world o es) (run_whole o es).kept) (none_asks o es) (calls_seen o es)

@@ -1,16 +1,15 @@
 -- Why an event is refused whose node isn't there, or whose process isn't such a one: what those refusals mean.
-use Rattle.std.proofs.Common.{ℕ, Bool, true, false, ◌≡◌, ◌==◌, ◌≤◌, ◌<◌, Some, List, [], ◌∷◌, ◌++◌, refl, sym, ap, ◌∙◌, subst, arith, inl, inr}
-use Rattle.std.specs.Prelude.{◌&&◌, ◌||◌, not, is_some, nat_lt, Contains}
-use Rattle.std.proofs.lemmas.Bool.{eqb-true, eqb-false, eq-eqb, ne_eqb, and_from, ltb-false, ltb-true}
+use Rattle.std.proofs.Common.{ℕ, Bool, true, false, ◌≡◌, ◌==◌, ◌≤◌, ◌<◌, Some, List, [], ◌∷◌, refl, sym, ap, ◌∙◌, subst, arith, inl, inr}
+use Rattle.std.specs.Prelude.{◌&&◌, ◌||◌, not, nat_lt}
+use Rattle.std.proofs.lemmas.Bool.{eqb-true, eq-eqb, and_from, ltb-false, ltb-true}
 use Rattle.registry_model.specs.Process.{Text, Process}
 use Rattle.protocol_model.specs.Watch.{is_dead, is_live, is_issued}
-use Rattle.protocol_model.specs.Node.{Target, All, Named, Retries, call_of}
-use Rattle.protocol_model.specs.Event.{Call, Event, Refusal, NoSuchNode, NodeLeft, NotLive, Busy, Reserved, UnknownNode, NoSuchProcess, AlreadyExited, Cause, cause, first_cause, lock_causes, calls_spent, names_members, global_resource}
+use Rattle.protocol_model.specs.Event.{Event, Refusal, NoSuchNode, NodeLeft, NotLive, NoSuchProcess, AlreadyExited, cause, first_cause}
 use Rattle.protocol_model.specs.World.{Opening, in_world, World, WorldEvent, At, place, other, left, refusal, local_causes}
 use Rattle.protocol_model.specs.Course.{Played, Seen, standing, seen}
-use Rattle.protocol_model.specs.Refusals.{FindsItsNode, IsLockCall, IsLiveAt, IsIssuedBy, NamesStranger, IsNotBusy, IsNowhere, IsLate, IsOfNobody, IsForGlobal, IsForStranger, IsExitOfNone, IsExitOfDead}
+use Rattle.protocol_model.specs.Refusals.{FindsItsNode, IsLockCall, IsLiveAt, IsIssuedBy, IsNowhere, IsLate, IsOfNobody, IsExitOfNone, IsExitOfDead}
 use Rattle.moves.proofs.Indices.{neither, both, not_true, not_false}
-use Rattle.headline.proofs.Causes.{is, of_lock, second, behind, here, past, hits, above_zero, not_zero, some_stranger, stranger_in, local_world, Locking, locking, only_locks, only_exits, only_sets}
+use Rattle.headline.proofs.Causes.{is, of_lock, second, behind, here, past, hits, above_zero, not_zero, local_world, Locking, locking, only_locks, only_exits}
 use Rattle.headline.proofs.Spawning.{serial_at}
 use Rattle.headline.proofs.NextSerial.{last_at, Spawned}
 
@@ -54,7 +53,7 @@ module _ (o : Opening) (ps : List Played) (w : World) (departed : (d : ℕ) → 
       ∙ past (left w (place e)) NodeLeft (local_causes w e) (sym (departed (place e)) ∙ F.running.1)
 
   -- who is live by the watch is so by what is seen
-  live_seen : (a : ℕ) (p : Process) → is_live a (w.node a).watch p ≡ true → IsLiveAt now a p
+  pub live_seen : (a : ℕ) (p : Process) → is_live a (w.node a).watch p ≡ true → IsLiveAt now a p
   live_seen a p e = record {
     home = home;
     serial = above_zero p.serial own.1;
@@ -71,7 +70,7 @@ module _ (o : Opening) (ps : List Played) (w : World) (departed : (d : ℕ) → 
       home : p.node ≡ a
       home = eqb-true p.node a own.0
 
-  seen_live : (a : ℕ) (p : Process) → IsLiveAt now a p → is_live a (w.node a).watch p ≡ true
+  pub seen_live : (a : ℕ) (p : Process) → IsLiveAt now a p → is_live a (w.node a).watch p ≡ true
   seen_live a p L = and_from _ _ (and_from _ _ (eq-eqb p.node a L.home) (not_zero p.serial L.serial))
       (ap not (ap (λ (x : ℕ). is_dead (w.node x).watch p.serial) (sym L.home) ∙ L.alive))
 
@@ -210,125 +209,6 @@ module _ (o : Opening) (ps : List Played) (w : World) (departed : (d : ℕ) → 
       as_local e N.found ∙ ap first_cause L.causes
       ∙ hits (not (is_live N.node (w.node N.node).watch p)) (NotLive p) (second w N.node p N.resource L.more)
       (ap not (not_seen N.node p N.nobody))
-
-  -- a lock call of a live process that has no other call is refused for what comes then
-  past_busy : (e : WorldEvent) (a : ℕ) (p : Process) (r : Text) (more : List Cause) → Found e → IsLiveAt now a p
-      → IsNotBusy o ps now e → local_causes w e ≡ lock_causes a (w.node a) p r ++ more
-      → refusal o w e ≡ first_cause (cause (r == global_resource) Reserved ∷ more)
-  past_busy e a p r more F live idle causes = go (is_some (call_of p (w.node a).calls)) refl
-    where
-      so_far : refusal o w e ≡ first_cause (second w a p r more)
-      so_far = as_local e F ∙ ap first_cause causes ∙ past (not (is_live a (w.node a).watch p)) (NotLive p)
-          (second w a p r more) (ap not (seen_live a p live))
-
-      go : (b : Bool) → is_some (call_of p (w.node a).calls) ≡ b
-          → refusal o w e ≡ first_cause (cause (r == global_resource) Reserved ∷ more)
-      go true k = absurd (idle p (so_far ∙ hits (is_some (call_of p (w.node a).calls)) (Busy p)
-          (cause (r == global_resource) Reserved ∷ more) k))
-      go false k = so_far ∙ past (is_some (call_of p (w.node a).calls)) (Busy p)
-          (cause (r == global_resource) Reserved ∷ more) k
-
-  -- and where it is refused for that, its process is live
-  behind_busy : (k : ℕ) (a : ℕ) (p : Process) (r : Text) (more : List Cause) (q : Refusal) → (2 == k) ≡ false
-      → (3 == k) ≡ false → is k q ≡ true → first_cause (lock_causes a (w.node a) p r ++ more) ≡ Some q
-      → IsLiveAt now a p × (first_cause (cause (r == global_resource) Reserved ∷ more) ≡ Some q)
-  behind_busy k a p r more q two three i h =
-      let x : (not (is_live a (w.node a).watch p) ≡ false) × (first_cause (second w a p r more) ≡ Some q) =
-      behind (is k) (not (is_live a (w.node a).watch p)) (NotLive p) (second w a p r more) q two i h in
-      let y : (is_some (call_of p (w.node a).calls) ≡ false)
-      × (first_cause (cause (r == global_resource) Reserved ∷ more) ≡ Some q) =
-      behind (is k) (is_some (call_of p (w.node a).calls)) (Busy p) (cause (r == global_resource) Reserved ∷ more) q
-      three i x.1 in
-      (live_seen a p (not_false (is_live a (w.node a).watch p) x.0), y.1)
-
-  -- as one on `global`
-  pub to_global : (e : WorldEvent) → refusal o w e ≡ Some Reserved → IsForGlobal o ps now e
-  to_global e h = record {
-    found = F.0;
-    node = x.0;
-    process = x.1;
-    call = subst (λ (r : Text). IsLockCall x.0 x.1 r e) (eqb-true x.2 global_resource
-        (here (is 4) (x.2 == global_resource) Reserved L.more Reserved L.no_global refl B.1).0) x.3;
-    live = B.0;
-    idle = λ p b. cc (b, h);
-  }
-    where
-      F : Found e × (first_cause (local_causes w e) ≡ Some Reserved)
-      F = found (is 4) e Reserved refl refl refl h
-
-      x : (a : ℕ) × (q : Process) × (r : Text) × IsLockCall a q r e
-      x = only_locks w e Reserved refl F.1
-
-      L : Locking w x.0 x.1 x.2 e
-      L = locking w x.0 x.1 x.2 e x.3
-
-      B : IsLiveAt now x.0 x.1 × (first_cause (cause (x.2 == global_resource) Reserved ∷ L.more) ≡ Some Reserved)
-      B = behind_busy 4 x.0 x.1 x.2 L.more Reserved refl refl refl (ap first_cause (sym L.causes) ∙ F.1)
-
-  pub from_global : (e : WorldEvent) → IsForGlobal o ps now e → refusal o w e ≡ Some Reserved
-  from_global e G =
-      let L : Locking w G.node G.process global_resource e = locking w G.node G.process global_resource e G.call in
-      past_busy e G.node G.process global_resource L.more G.found G.live G.idle L.causes
-      ∙ hits (global_resource == global_resource) Reserved L.more (eq-eqb global_resource global_resource refl)
-
-  -- of a `set_lock`: as one that names a stranger
-  names : (a : ℕ) (target : Target) → names_members (w.node a) target ≡ false → NamesStranger now a target
-  names a All n = cc
-  names a (Named nodes) n =
-      let x : (c : ℕ) × Contains nodes c × ((w.node a).replica.members c ≡ false) =
-      some_stranger (w.node a).replica.members nodes n in
-      record { nodes = nodes; named = refl; stranger = x.0; among = x.1; unknown = x.2 }
-
-  pub to_stranger : (e : WorldEvent) → refusal o w e ≡ Some UnknownNode → IsForStranger o ps now e
-  to_stranger e h = record {
-    found = F.0;
-    node = x.0;
-    process = x.1;
-    resource = x.2;
-    requester = x.3;
-    target = x.4;
-    retries = x.5;
-    call = x.6;
-    live = B.0;
-    idle = λ p b. cc (b, h);
-    free = eqb-false x.2 global_resource C.0;
-    stranger = names x.0 x.4 (not_true _
-        (here (is 5) (not (names_members (w.node x.0) x.4)) UnknownNode (calls_spent (w.node x.0) ∷ []) UnknownNode refl
-        refl C.1).0);
-  }
-    where
-      F : Found e × (first_cause (local_causes w e) ≡ Some UnknownNode)
-      F = found (is 5) e UnknownNode refl refl refl h
-
-      x : (a : ℕ) × (p : Process) × (r z : Text) × (target : Target) × (retries : Retries)
-          × (e ≡ At a (Event.Calling (Call.SetLock p r z target retries)))
-      x = only_sets w e F.1
-
-      more : List Cause
-      more = cause (not (names_members (w.node x.0) x.4)) UnknownNode ∷ calls_spent (w.node x.0) ∷ []
-
-      B : IsLiveAt now x.0 x.1 × (first_cause (cause (x.2 == global_resource) Reserved ∷ more) ≡ Some UnknownNode)
-      B = behind_busy 5 x.0 x.1 x.2 more UnknownNode refl refl refl
-          (ap (λ (e : WorldEvent). first_cause (local_causes w e)) (sym x.6) ∙ F.1)
-
-      C : ((x.2 == global_resource) ≡ false) × (first_cause more ≡ Some UnknownNode)
-      C = behind (is 5) (x.2 == global_resource) Reserved more UnknownNode refl refl B.1
-
-  pub from_stranger : (e : WorldEvent) → IsForStranger o ps now e → refusal o w e ≡ Some UnknownNode
-  from_stranger e S = past_busy e S.node S.process S.resource more S.found S.live S.idle (ap (local_causes w) S.call)
-      ∙ past (S.resource == global_resource) Reserved more (ne_eqb S.resource global_resource S.free)
-      ∙ hits (not (names_members (w.node S.node) S.target)) UnknownNode (calls_spent (w.node S.node) ∷ [])
-      (ap not unknown)
-    where
-      more : List Cause
-      more = cause (not (names_members (w.node S.node) S.target)) UnknownNode ∷ calls_spent (w.node S.node) ∷ []
-
-      N : NamesStranger now S.node S.target
-      N = S.stranger
-
-      unknown : names_members (w.node S.node) S.target ≡ false
-      unknown = ap (names_members (w.node S.node)) N.named
-          ∙ stranger_in (w.node S.node).replica.members N.nodes N.stranger N.among N.unknown
 
   -- of an exit: as one of a process that isn't
   pub to_none : (e : WorldEvent) → refusal o w e ≡ Some NoSuchProcess → IsExitOfNone o ps now e

@@ -26,6 +26,7 @@ pub use Rattle.client_locks.proofs.TriedEvents
 pub use Rattle.client_locks.proofs.Tries
 pub use Rattle.client_locks.proofs.Walking
 pub use Rattle.headline.proofs.Answered
+pub use Rattle.headline.proofs.Callers
 pub use Rattle.headline.proofs.Clients as HeadlineClients
 pub use Rattle.headline.proofs.FittingAccounts
 pub use Rattle.headline.proofs.FittingChains

@@ -75,7 +75,7 @@ module _ (o : Opening) where
       go true = refl
       go false = refl
 
-  pub replying_chain : (a : ℕ) (rs : List Rule) (w : World) → Rules.MayAll o a rs w → Replying w
+  replying_chain : (a : ℕ) (rs : List Rule) (w : World) → Rules.MayAll o a rs w → Replying w
       → Replying (Rules.effects o a rs w)
   replying_chain a [] w m R = R
   replying_chain a (r ∷ rs) w m R =

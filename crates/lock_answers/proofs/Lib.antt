@@ -37,7 +37,6 @@ pub mod Pushed
 pub mod Held
 pub mod Watches
 pub mod Sources
-pub mod Owned
 pub mod Living
 pub mod CallSteps
 pub mod Spending

@@ -15,11 +15,11 @@ use Rattle.protocol_model.specs.Event.{Call, Event, Answer, Refusal, cause, firs
 use Rattle.protocol_model.specs.Turn.{Turn, begun, counted}
 use Rattle.protocol_model.specs.Registrar.{retry_global}
 use Rattle.protocol_model.specs.Client.{new_call, try_lock, delete_lock, retry_locks}
-use Rattle.protocol_model.specs.Answers.{answer_to, may_have, calls_at, answers_under, AtMostOne, NotYet, Once}
+use Rattle.protocol_model.specs.Answers.{answer_to, may_have, holder_in, calls_at, answers_under, AtMostOne, NotYet, Once}
 use Rattle.protocol_model.specs.ClientLocks.{is_gone}
 use Rattle.protocol_model.specs.Course.{Played, played, answers_of}
 use Rattle.protocol_model.specs.Fit.{is_numbered}
-use Rattle.protocol_model.specs.LockAnswers.{holder_in, IsCallOf, AnswersTheLiving, AtEachStep}
+use Rattle.protocol_model.specs.LockAnswers.{IsCallOf, AnswersTheLiving, AtEachStep}
 use Rattle.protocol_model.specs.World.{Opening, World, left, WorldEvent, At, Deliver, place, refusal, turn_of, accepted, happens, answers, local_causes}
 use Rattle.moves.proofs.Rules
 use Rattle.moves.proofs.Rules.{Rule}
@@ -49,7 +49,7 @@ use Rattle.lock_answers.proofs.Spared.{is_lock_answer, letter_watch}
 use Rattle.lock_answers.proofs.Verdicts.{is_verdict}
 use Rattle.lock_answers.proofs.Watches.{try-watch, delete-watch, retry-watch, again-watch}
 use Rattle.lock_answers.proofs.Sources.{Closed, closes, the_one, rule_closes, aside_silent, WasOpen, heard_source, again_source}
-use Rattle.lock_answers.proofs.Owned.{IsCalledBy, called_longer, last_called, owned_run}
+use Rattle.leftovers.proofs.Callers.{IsCalledBy, called_longer, last_called, owned_run}
 
 -- a lock call may have lock replies alone
 lock_reply : (call : Call) (reply : Reply) (p : Process) → holder_in call ≡ Some p → may_have call reply ≡ true

@@ -118,6 +118,12 @@ may_have (Call.DelLock p r q target) reply = elim reply [ True ↦ true | _ ↦ 
 may_have (Call.JoinBy m) reply = elim reply [ Joined ↦ true | NotMember ↦ true | ContactLeft ↦ true | _ ↦ false ]
 may_have _ reply = false
 
+-- the process that a lock call is made for
+abbrev pub holder_in : Call → Option Process
+holder_in (Call.SetLock p r q target retries) = Some p
+holder_in (Call.DelLock p r q target) = Some p
+holder_in _ = None
+
 -- the numbered calls that node a accepted, the first of which has number 1
 abbrev pub calls_at : ℕ → List Played → List Call
 calls_at a ps = flat_map (calls_in a) ps

@@ -12,7 +12,7 @@ use Rattle.protocol_model.specs.Node.{Retries, Times, targets}
 use Rattle.protocol_model.specs.Event.{Call, Event, Answer}
 use Rattle.protocol_model.specs.World.{Opening, in_world, World, left, WorldEvent, At, Deliver, opening_world, refusal, happens, answers, run}
 use Rattle.protocol_model.specs.Course.{course}
-use Rattle.protocol_model.specs.Answers.{calls_at}
+use Rattle.protocol_model.specs.Answers.{holder_in, calls_at}
 use Rattle.protocol_model.specs.ClientLocks.{Try, try_of, is_refused, is_gone, number, ExclusionAfter}
 
 -- the last `set_lock` of a process: its last try, the retries that it was given, how often it was tried, and whether something
@@ -109,12 +109,6 @@ deletion_from o w (e ∷ es) p d = deletion_from o (happens o w e) es p (deletio
 
 abbrev pub deletion_of : Opening → List WorldEvent → Process → Option Deletion
 deletion_of o es p = deletion_from o (opening_world o) es p None
-
--- the process that a lock call is made for
-abbrev pub holder_in : Call → Option Process
-holder_in (Call.SetLock p r q target retries) = Some p
-holder_in (Call.DelLock p r q target) = Some p
-holder_in _ = None
 
 -- call k of a node is this one, among those that it accepted behind these events
 abbrev pub IsCallOf : Opening → List WorldEvent → ℕ → ℕ → Call → Type 0

@@ -3,14 +3,15 @@
 -- it aren't there.
 -- o: the opening; ps: the accepted events; now: what is seen behind them; e: an event that comes next; a: a node; p: a process.
 use mathlib.Core.Logic.{◌⊎◌}
-use Rattle.std.specs.Prelude.{ℕ, true, false, ◌≡◌, ◌<◌, ◌≤◌, ◌↔◌, Contains, Some, length, List, []}
+use Rattle.std.specs.Prelude.{ℕ, true, false, ◌-◌, ◌≡◌, ◌<◌, ◌≤◌, ◌↔◌, Contains, Some, length, List, []}
+use Rattle.std.specs.List.{slice_get}
 use Rattle.registry_model.specs.Process.{Text, Process}
 use Rattle.protocol_model.specs.Node.{Target, Named, Retries}
 use Rattle.protocol_model.specs.Event.{Call, Event, Refusal, NoSuchNode, NodeLeft, NotLive, Busy, Reserved, UnknownNode, AlreadyJoined, NoSuchProcess, AlreadyExited, SerialsSpent, CallsSpent, last_u32, global_resource}
 use Rattle.protocol_model.specs.World.{Opening, in_world, WorldEvent, At, place, other}
 use Rattle.protocol_model.specs.Course.{Played, Seen, standing, IsRunning}
 use Rattle.protocol_model.specs.Fit.{JoinAs, is_numbered, accepted_at}
-use Rattle.protocol_model.specs.Answers.{WasSpawned, calls_at, answers_under}
+use Rattle.protocol_model.specs.Answers.{WasSpawned, holder_in, calls_at, answers_under}
 
 -- the event is a lock call of p at a on resource r
 pub data IsLockCall (a : ℕ) (p : Process) (r : Text) : WorldEvent → Type 0 where
@@ -49,15 +50,20 @@ pub record WaitsToJoin (ps : List Played) (a : ℕ) : Type 0 where
   pub accepted : Contains (accepted_at a ps) (JoinAs number contact)
   pub unanswered : answers_under a number ps ≡ []
 
+-- a has accepted a lock call of p that isn't answered yet
+pub record HasOpenCall (ps : List Played) (a : ℕ) (p : Process) : Type 0 where
+  pub number : ℕ
+  pub call : Call
+  pub positive : 0 < number
+  pub accepted : slice_get (calls_at a ps) (number - 1) ≡ Some call
+  pub holder : holder_in call ≡ Some p
+  pub unanswered : answers_under a number ps ≡ []
+
 module _ (o : Opening) (ps : List Played) (now : Seen) (e : WorldEvent) where
   -- the nodes that the event names are of the world, and the one where it happens hasn't left
   pub record FindsItsNode : Type 0 where
     pub running : IsRunning o (standing o ps) (place e)
     pub named : in_world o (other e) ≡ true
-
-  -- it isn't refused for another lock call of its process
-  abbrev pub IsNotBusy : Type 0
-  IsNotBusy = (p : Process) → now.refusal e ≡ Some (Busy p) → ⊥
 
   -- a node that it names isn't of the world
   abbrev pub IsNowhere : Type 0
@@ -77,6 +83,15 @@ module _ (o : Opening) (ps : List Played) (now : Seen) (e : WorldEvent) where
     pub call : IsLockCall node p resource e
     pub nobody : IsLiveAt now node p → ⊥
 
+  -- a lock call of p, a live process that has another one, which isn't answered yet
+  pub record IsOfBusy (p : Process) : Type 0 where
+    pub found : FindsItsNode
+    pub node : ℕ
+    pub resource : Text
+    pub call : IsLockCall node p resource e
+    pub live : IsLiveAt now node p
+    pub busy : HasOpenCall ps node p
+
   -- a lock call on the resource `global`
   pub record IsForGlobal : Type 0 where
     pub found : FindsItsNode
@@ -84,7 +99,7 @@ module _ (o : Opening) (ps : List Played) (now : Seen) (e : WorldEvent) where
     pub process : Process
     pub call : IsLockCall node process global_resource e
     pub live : IsLiveAt now node process
-    pub idle : IsNotBusy
+    pub idle : HasOpenCall ps node process → ⊥
 
   -- a `set_lock` that names a node which isn't a member
   pub record IsForStranger : Type 0 where
@@ -97,7 +112,7 @@ module _ (o : Opening) (ps : List Played) (now : Seen) (e : WorldEvent) where
     pub retries : Retries
     pub call : e ≡ At node (Event.Calling (Call.SetLock process resource requester target retries))
     pub live : IsLiveAt now node process
-    pub idle : IsNotBusy
+    pub idle : HasOpenCall ps node process → ⊥
     pub free : resource ≡ global_resource → ⊥
     pub stranger : NamesStranger now node target
 
@@ -144,12 +159,13 @@ module _ (o : Opening) (ps : List Played) (now : Seen) (e : WorldEvent) where
     pub only : (r : Refusal) → now.refusal e ≡ Some r → r ≡ CallsSpent
 
 -- An event is refused so exactly for this reason. A leave is refused as the clause `leave` of the headline says. Nothing is said of
--- three refusals: that a process has another lock call (`Busy`), and those that tell of more than is seen, that a link is empty
--- (`EmptyLink`) and that nothing waits for a retry (`NothingToRetry`)
+-- two refusals, which tell of more than is seen: that a link is empty (`EmptyLink`), and that nothing waits for a retry
+-- (`NothingToRetry`)
 pub record SaysWhy (o : Opening) (ps : List Played) (now : Seen) : Type 0 where
   pub no_such_node : (e : WorldEvent) → (now.refusal e ≡ Some NoSuchNode) ↔ IsNowhere o ps now e
   pub node_left : (e : WorldEvent) → (now.refusal e ≡ Some NodeLeft) ↔ IsLate o ps now e
   pub not_live : (e : WorldEvent) (p : Process) → (now.refusal e ≡ Some (NotLive p)) ↔ IsOfNobody o ps now e p
+  pub busy : (e : WorldEvent) (p : Process) → (now.refusal e ≡ Some (Busy p)) ↔ IsOfBusy o ps now e p
   pub reserved : (e : WorldEvent) → (now.refusal e ≡ Some Reserved) ↔ IsForGlobal o ps now e
   pub unknown_node : (e : WorldEvent) → (now.refusal e ≡ Some UnknownNode) ↔ IsForStranger o ps now e
   pub already_joined : (e : WorldEvent) → (now.refusal e ≡ Some AlreadyJoined) ↔ IsJoinOfJoined o ps now e
