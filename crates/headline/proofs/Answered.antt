@@ -101,6 +101,9 @@ module _ (o : Opening) where
         es (opening_world o) [] (whole_opens o)
         (record { kept = Theorem.kept_run o (Whole o) (ground o) (whole_opens o) []; ledgers = λ b. ledger_none b })
 
+    pub ledgers_run : Ledgers (world o es) (events o es)
+    ledgers_run = told.ledgers
+
     -- a look-up is entered once and answered once, and nothing but it and `spawn` is answered under number 0
     pub looks : (p : Played) → Contains (events o es) p → LooksUpOnce p
     looks = Theorem.looks o (Whole o) (ground o) (whole_opens o) es

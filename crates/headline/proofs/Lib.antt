@@ -21,6 +21,7 @@ pub mod LockAnswers
 pub mod LockSteps
 pub mod LockEvents
 pub mod Answered
+pub mod Unanswered
 pub mod Joiners
 pub mod Welcomed
 pub mod Spawning
