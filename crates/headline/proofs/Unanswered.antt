@@ -1,5 +1,5 @@
 -- An open lock call isn't answered yet.
-use Rattle.std.proofs.Common.{ℕ, Bool, true, false, ◌≡◌, Some, List, [], ◌∷◌, refl, sym, ap, ◌∙◌, subst}
+use Rattle.std.proofs.Common.{Bool, true, false, ◌≡◌, Some, List, [], ◌∷◌, refl, sym, ap, ◌∙◌, subst}
 use Rattle.std.specs.Prelude.{not, filter, if◌then◌else◌}
 use Rattle.registry_model.specs.Process.{Process}
 use Rattle.registry_model.specs.Call.{Reply, True, False}
@@ -9,7 +9,7 @@ use Rattle.protocol_model.specs.Answers.{answer_to, may_have, calls_at, answers_
 use Rattle.protocol_model.specs.World.{Opening, WorldEvent}
 use Rattle.protocol_model.specs.Course.{answers_of}
 use Rattle.fitting.proofs.Accounts.{is_word}
-use Rattle.fitting.proofs.Once.{is_under, is_lock_under, filter_twice}
+use Rattle.fitting.proofs.Once.{is_under, filter_twice}
 use Rattle.headline.specs.Clauses.{events, world}
 use Rattle.headline.proofs.LockAnswers.{is_for, IsCalled, Ledger}
 use Rattle.headline.proofs.Answered.{ledgers_run, answered}

@@ -1,9 +1,8 @@
 -- The last `set_lock` of a process behind every list of events: it was accepted under its number, and it is open as long as it
 -- isn't answered and the process isn't gone.
-use mathlib.Core.Logic.{◌⊎◌}
 use Rattle.std.proofs.Common.{ℕ, Bool, true, false, ◌==◌, ◌≡◌, ◌+◌, ◌-◌, ◌<◌, Option, Some, None, List, [], ◌∷◌, ◌++◌, length, refl, sym, ap, ◌∙◌, subst, arith, inl, inr}
 use Rattle.std.specs.Prelude.{◌&&◌, is_none, filter, Contains, if◌then◌else◌}
-use Rattle.std.specs.List.{slice_get, list_all}
+use Rattle.std.specs.List.{slice_get}
 use Rattle.std.proofs.lemmas.List.{append-nil}
 use Rattle.std.proofs.lemmas.List.Elements.{filter-append, Contains-append_right, Contains-append_left}
 use Rattle.std.proofs.lemmas.Grind.{flat_map-append}
@@ -19,15 +18,12 @@ use Rattle.protocol_model.specs.Course.{Played, played, answers_of}
 use Rattle.protocol_model.specs.Fit.{calls_in}
 use Rattle.protocol_model.specs.ClientLocks.{Try, try_of, is_refused, is_gone}
 use Rattle.protocol_model.specs.LockAnswers.{Tries, watched, next_try, first_try, tries_in, tries_by, tries_after, tries_of}
-use Rattle.protocol_model.specs.World.{Opening, World, WorldEvent, At, Deliver, place, opening_world, refusal, happens, accepted, answers, run, turn_of}
+use Rattle.protocol_model.specs.World.{Opening, World, WorldEvent, At, Deliver, place, opening_world, refusal, happens, accepted, turn_of}
 use Rattle.moves.proofs.Rules
 use Rattle.moves.proofs.Rules.{Rule}
-use Rattle.walk.proofs.ChainKinds.{Aside, suits}
-use Rattle.walk.proofs.Events.{IsSecond}
 use Rattle.walk.proofs.Orders.{ordered_keeps}
 use Rattle.walk.proofs.Walk.{OrderedWalk}
 use Rattle.leftovers.proofs.Chains.{up_before}
-use Rattle.leftovers.proofs.Clients.{Numbers}
 use Rattle.leftovers.proofs.FittingTheorem as Theorem
 use Rattle.leftovers.proofs.Found.{kept_in}
 use Rattle.leftovers.proofs.Ids.{is_process_same}
@@ -38,7 +34,7 @@ use Rattle.leftovers.proofs.Together
 use Rattle.leftovers.proofs.Together.{whole_opens}
 use Rattle.leftovers.proofs.Told.{chain_of}
 use Rattle.leftovers.specs.Clauses.{events, world}
-use Rattle.lock_answers.proofs.Behind.{Known, walk_of, Stands, stands}
+use Rattle.lock_answers.proofs.Behind.{walk_of, Stands, stands}
 use Rattle.lock_answers.proofs.EventTurns.{SetTurn, set_turn}
 use Rattle.lock_answers.proofs.LastTry.{tries_more}
 use Rattle.lock_answers.proofs.Nobody.{some_same}
@@ -285,15 +281,21 @@ module _ (o : Opening) (p : Process) where
                       | inl k ↦ elim (chain_open o a p n later begun (ordered_keeps o a taken x ordered m.1.0) m.1.1 k
                           live) [
                             | inl j ↦ j
-                            | inr j ↦ absurd (quiet (j.0, Contains-append_right (Rules.turn_by o a w Rules.CallsLock).answers
-                                (Rules.answers_by o a (x ∷ later) taken) _
-                                (Contains-append_right (Rules.turn_by o a taken x).answers
-                                (Rules.answers_by o a later begun) _ j.1)))
+                            | inr j ↦ absurd (quiet (
+                              j.0,
+                              Contains-append_right (Rules.turn_by o a w Rules.CallsLock).answers
+                                  (Rules.answers_by o a (x ∷ later) taken) _
+                                  (Contains-append_right (Rules.turn_by o a taken x).answers
+                                  (Rules.answers_by o a later begun) _ j.1),
+                            ))
                           ]
-                      | inr j ↦ absurd (quiet (j.0, Contains-append_right (Rules.turn_by o a w Rules.CallsLock).answers
-                          (Rules.answers_by o a (x ∷ later) taken) _
-                          (Contains-append_left (Rules.turn_by o a taken x).answers
-                          (Rules.answers_by o a later begun) _ j.1)))
+                      | inr j ↦ absurd (quiet (
+                        j.0,
+                        Contains-append_right (Rules.turn_by o a w Rules.CallsLock).answers
+                            (Rules.answers_by o a (x ∷ later) taken) _
+                            (Contains-append_left (Rules.turn_by o a taken x).answers
+                            (Rules.answers_by o a later begun) _ j.1),
+                      ))
                     ]
                   where
                     ordered : Rules.Ordered taken

@@ -1,6 +1,6 @@
 -- A lock call that is open stays so along the rules of a step, unless it is answered or its process dies.
 use mathlib.Core.Logic.{◌⊎◌}
-use Rattle.std.proofs.Common.{ℕ, Bool, true, false, ◌≡◌, Option, Some, None, List, [], ◌∷◌, refl, sym, ap, ◌∙◌, subst, inl, inr}
+use Rattle.std.proofs.Common.{ℕ, Bool, true, false, ◌≡◌, Some, None, List, [], ◌∷◌, refl, sym, ap, ◌∙◌, subst, inl, inr}
 use Rattle.std.specs.Prelude.{◌||◌, Contains, if◌then◌else◌}
 use Rattle.std.proofs.Math.Bool.{or-true}
 use Rattle.std.proofs.lemmas.Bool.{cases_eq}
@@ -55,8 +55,11 @@ module _ (p : Process) (n a : ℕ) (X : Type 0) (cs : List LockCall) (sorted : R
 
       go : (b : Bool) → is_process d.holder p ≡ b
           → ((d2 : LockCall) × (call_of p (stepped (Puts d) cs) ≡ Some d2) × (d2.number ≡ n)) ⊎ X
-      go true i = inl (d, find ∙ ap (λ (b : Bool). if b then Some d else call_of p cs) i,
-          t (is_process_same d.holder p i))
+      go true i = inl (
+        d,
+        find ∙ ap (λ (b : Bool). if b then Some d else call_of p cs) i,
+        t (is_process_same d.holder p i),
+      )
       go false i = inl (c, find ∙ ap (λ (b : Bool). if b then Some d else call_of p cs) i ∙ found, number)
   treated (Drops q) home t = go (is_process q p) refl
     where
@@ -152,16 +155,24 @@ module _ (o : Opening) (a : ℕ) (p : Process) (n : ℕ) where
       → IsOpenAt (effect o a r w) p n ⊎ IsSaid p n (turn_by o a w r).answers
   rule_open w r sorted m I up = elim (cases_eq p.node a) [
     | inl home ↦ here home
-    | inr ne ↦ inl (I.0, ap (λ (f : ℕ → Node). call_of p (f p.node).calls) (effect-node o a r w)
-        ∙ ap (λ (v : Node). call_of p v.calls) (node_there w a (turn_by o a w r) p.node ne) ∙ I.1, I.2)
+    | inr ne ↦ inl (
+      I.0,
+      ap (λ (f : ℕ → Node). call_of p (f p.node).calls) (effect-node o a r w)
+          ∙ ap (λ (v : Node). call_of p v.calls) (node_there w a (turn_by o a w r) p.node ne) ∙ I.1,
+      I.2,
+    )
   ]
     where
       here : p.node ≡ a → IsOpenAt (effect o a r w) p n ⊎ IsSaid p n (turn_by o a w r).answers
       here home = elim (treated p n a (IsSaid p n (answered a r (w.node a))) (w.node a).calls (sorted a) I.0 found I.2
           (step_of o.bound (w.node a) r) (put_home o a w (sorted a) r m.tested)
           (treats w home I.0 found I.2 r m up)) [
-            | inl k ↦ inl (k.0, ap (λ (v : Node). call_of p v.calls) (node_after w r home)
-                ∙ ap (call_of p) (calls_turn o a w r) ∙ k.1, k.2)
+            | inl k ↦ inl (
+              k.0,
+              ap (λ (v : Node). call_of p v.calls) (node_after w r home)
+                  ∙ ap (call_of p) (calls_turn o a w r) ∙ k.1,
+              k.2,
+            )
             | inr s ↦ inr (subst (IsSaid p n) (sym (answers_made o a (join_number w) r (w.node a))) s)
           ]
         where
@@ -180,8 +191,11 @@ module _ (o : Opening) (a : ℕ) (p : Process) (n : ℕ) where
       later : IsOpenAt (effects o a rs (effect o a r w)) p n ⊎ IsSaid p n (answers_by o a rs (effect o a r w))
           → IsOpenAt (effects o a (r ∷ rs) w) p n ⊎ IsSaid p n (answers_by o a (r ∷ rs) w)
       later (inl k) = inl k
-      later (inr s) = inr (s.0, Contains-append_right (turn_by o a w r).answers
-          (answers_by o a rs (effect o a r w)) _ s.1)
+      later (inr s) = inr (
+        s.0,
+        Contains-append_right (turn_by o a w r).answers
+            (answers_by o a rs (effect o a r w)) _ s.1,
+      )
 
   -- a call begins, or is answered at once
   pub begins_open : (w : World) (r : Rule) (c : LockCall) → Ordered w → May o a w r

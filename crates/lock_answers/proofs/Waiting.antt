@@ -1,6 +1,5 @@
 -- What the numbers and the tries read of a world beside events and answers is as it is seen.
-use mathlib.Core.Logic.{◌⊎◌}
-use Rattle.std.proofs.Common.{ℕ, zero, suc, Bool, true, false, ◌==◌, ◌≡◌, ◌+◌, Option, Some, None, List, [], ◌∷◌, ◌++◌, refl, sym, ap, ◌∙◌, subst, arith, inl, inr}
+use Rattle.std.proofs.Common.{ℕ, zero, suc, Bool, true, false, ◌≡◌, ◌+◌, Option, Some, None, List, [], ◌∷◌, ◌++◌, refl, sym, ap, ◌∙◌, subst, arith, inl, inr}
 use Rattle.std.specs.Prelude.{◌||◌, if◌then◌else◌}
 use Rattle.std.specs.List.{list_any}
 use Rattle.std.proofs.Math.Bool.{or-true}
@@ -40,7 +39,7 @@ use Rattle.lock_answers.proofs.Pushed.{happens_now}
 use Rattle.lock_answers.proofs.ReasonEvents.{ReasonsAt, reasons_next}
 use Rattle.lock_answers.proofs.ReasonSteps.{Reasons}
 use Rattle.lock_answers.proofs.Reasons.{MarksIn}
-use Rattle.lock_answers.proofs.RetriesUsed.{Spent, spent}
+use Rattle.lock_answers.proofs.RetriesUsed.{spent}
 use Rattle.lock_answers.proofs.Spending.{AreLeft, IsSpending}
 
 -- a call that waits is in this phase, and no deletion
@@ -197,7 +196,8 @@ module _ (o : Opening) (es : List WorldEvent) where
               failed = failed c found waits x i T;
               more = more c found waits x i T;
               alive = caller_alive o p es c found;
-              retry = retried c found waits;
+              retry = λ live. retried c found waits
+                  (neither (left w p.node) (is_dead (w.node p.node).watch p.serial) live).0;
             }
 
         by_call : (k : Option LockCall) → call_at w p ≡ k

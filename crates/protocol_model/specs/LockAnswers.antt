@@ -189,7 +189,7 @@ pub record IsUnanswered (o : Opening) (es : List WorldEvent) (p : Process) (t : 
   pub unanswered : answers_under p.node t.last.number (course o (opening_world o) es) ≡ []
 
 -- p isn't dead, and has a `set_lock` that isn't answered: its last try failed for a reason, another is left, and p's node accepts a
--- retry as long as it runs
+-- retry, unless it has left
 pub record WaitsForRetry (o : Opening) (es : List WorldEvent) (w : World) (p : Process) : Type 0 where
   pub alive : (seen o w).dead p ≡ false
   pub tries : Tries
@@ -197,9 +197,9 @@ pub record WaitsForRetry (o : Opening) (es : List WorldEvent) (w : World) (p : P
   pub call : IsUnanswered o es p tries
   pub failed : tries.met ≡ true
   pub more : AreUsedUp tries → ⊥
-  pub retry : left w p.node ≡ false → (seen o w).refusal (At p.node Event.Retry) ≡ None
+  pub retry : is_gone w p ≡ false → (seen o w).refusal (At p.node Event.Retry) ≡ None
 
--- Who is refused and who is gone, which tries and numbers read of the world w, is as it is seen of events, answers and w
+-- Who is refused and who is gone, which tries and numbers read of the world w, is as it is seen
 pub record ReadsTheSeen (o : Opening) (es : List WorldEvent) (w : World) : Type 0 where
   -- a process whose lock call is refused waits for a retry
   pub refused : (p : Process) → is_refused w p ≡ true → WaitsForRetry o es w p
@@ -210,8 +210,8 @@ pub record ReadsTheSeen (o : Opening) (es : List WorldEvent) (w : World) : Type 
   pub gone : (p : Process) →
       is_gone w p ≡ ((standing o (course o (opening_world o) es)).registry.left p.node || (seen o w).dead p)
 
--- Clients' locks behind the events es, of which the world is w: they exclude each other, what they are counted by is seen, and so is
--- answered in the step of each event that the world would accept now
+-- Clients' locks behind the events es, of which the world is w: they exclude each other, they are counted by what is seen, and so
+-- is answered in the step of each event that the world would accept now
 pub record ClientLocks (o : Opening) (es : List WorldEvent) (w : World) : Type 0 where
   pub exclusion : ExclusionAfter o es w
   pub reads : ReadsTheSeen o es w
