@@ -112,7 +112,7 @@ module _ (o : Opening) (p : Process) (l : Try) (so : Bool) (w0 : World)
     before c r e i = subst (MarksIn so) e.phase (K.marks c.holder c (found_at w a B.ordered c (LockPhase.Asking r) e) i)
 
     -- a round of p that has failed has a bad mark
-    fails : (c : LockCall) (r : Round) (granted : Nodes) → IsOpen (w.node a) c (LockPhase.Asking r) → c.holder ≡ p
+    pub fails : (c : LockCall) (r : Round) (granted : Nodes) → IsOpen (w.node a) c (LockPhase.Asking r) → c.holder ≡ p
         → is_over o.bound r ≡ true → ending o.bound (asked r) r ≡ GiveBack granted
         → (x : ℕ) × (is_bad (r.mark x) ≡ true)
     fails c r granted e i over failed = failed_bad o.bound r granted over failed below
