@@ -8,10 +8,12 @@ use Rattle.lock_answers.proofs.RetriesUsed.{uses_all_retries, uses_no_more}
 use Rattle.lock_answers.proofs.FailsReasoned.{fails_for_a_reason}
 use Rattle.lock_answers.proofs.Held.{is_held_somewhere}
 use Rattle.lock_answers.proofs.GivenBack.{given_back}
+use Rattle.lock_answers.proofs.Waiting.{reads_the_seen}
 
 pub client_locks : (o : Opening) (es : List WorldEvent) → ClientLocks o es (run o (opening_world o) es)
 client_locks o es = record {
   exclusion = exclusion o es;
+  reads = reads_the_seen o es;
   answers = λ e accepted. record {
     living = answers_the_living o es e accepted;
     spent = uses_all_retries o es e accepted;

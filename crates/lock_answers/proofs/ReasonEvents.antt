@@ -1,7 +1,7 @@
 -- Each accepted event keeps that a bad mark in p's round, or a denial on its way to p, has a reason.
 use Rattle.std.proofs.Common.{ℕ, Bool, true, false, ◌==◌, ◌≡◌, ◌+◌, Option, Some, None, List, [], ◌∷◌, refl, sym, ap, ◌∙◌, subst, inl, inr}
 use Rattle.std.specs.Prelude.{not, ◌&&◌, ◌||◌, if◌then◌else◌}
-use Rattle.std.proofs.lemmas.Bool.{cases_eq}
+use Rattle.std.proofs.lemmas.Bool.{cases_eq, eqb-true}
 use Rattle.registry_model.specs.Process.{Text, Process, is_process, Nodes}
 use Rattle.protocol_model.specs.Letter.{Letter, Client}
 use Rattle.protocol_model.specs.Links.{posted}
@@ -286,27 +286,32 @@ module _ (o : Opening) (p : Process) (w : World) (num : Numbers) (S : Known o w 
       A : Accepted o w e
       A = accepted_of o w e h
 
-      -- the call behind it: one that began anew, or the same
-      marks_in : (so : Bool) → ((d : LockCall) → call_at w p ≡ Some d → MarksIn so d.phase) → (k : Process)
+      -- the call behind it: one that began anew, or the same, which didn't wait, or is another node's
+      marks_in : (so : Bool) → ((d : LockCall) → call_at w p ≡ Some d
+          → (p.node ≡ a → is_waiting_call d.phase ≡ false) → MarksIn so d.phase) → (k : Process)
           → (c : LockCall) → call_at (accepted o w e) k ≡ Some c → k ≡ p → MarksIn so c.phase
       marks_in so old k c f s = elim (cases_eq p.node a) [
         | inl home ↦ here (call_at w p) refl (sym (T.calls p home) ∙ found)
-        | inr ne ↦ old c (sym (T.away p ne) ∙ found)
+        | inr ne ↦ old c (sym (T.away p ne) ∙ found) (λ home. absurd (ne home))
       ]
         where
           found : call_at (accepted o w e) p ≡ Some c
           found = subst (λ (j : Process). call_at (accepted o w e) j ≡ Some c) s f
 
-          by_phase : (d : LockCall) → call_at w p ≡ Some d → (g : LockPhase) → anew_in o.bound a members g d ≡ Some c
-              → MarksIn so c.phase
-          by_phase d j LockPhase.Waiting i =
+          -- a call that is the same is in the same phase
+          busy : (d : LockCall) → Some d ≡ Some c → is_waiting_call d.phase ≡ false → is_waiting_call c.phase ≡ false
+          busy d i q = subst (λ (x : LockCall). is_waiting_call x.phase ≡ false) (some_same d c i) q
+
+          by_phase : (d : LockCall) → call_at w p ≡ Some d → (g : LockPhase) → d.phase ≡ g
+              → anew_in o.bound a members g d ≡ Some c → MarksIn so c.phase
+          by_phase d j LockPhase.Waiting q i =
               begun_marks o.bound members (record d { retries = one_less d.retries }) c so i
-          by_phase d j (LockPhase.Asking r) i = old c (j ∙ i)
-          by_phase d j (LockPhase.Deleting owing) i = old c (j ∙ i)
+          by_phase d j (LockPhase.Asking r) q i = old c (j ∙ i) (λ home. busy d i (ap is_waiting_call q))
+          by_phase d j (LockPhase.Deleting owing) q i = old c (j ∙ i) (λ home. busy d i (ap is_waiting_call q))
 
           here : (g : Option LockCall) → call_at w p ≡ g → anew o.bound a members g ≡ Some c → MarksIn so c.phase
           here None j i = cc
-          here (Some d) j i = by_phase d j d.phase i
+          here (Some d) j i = by_phase d j d.phase refl i
 
       next : ((a == p.node) && is_refused w p) ≡ true → ReasonsAt o p (accepted o w e) (next_try o w e p members t)
       next refused x is = by t refl is
@@ -328,14 +333,15 @@ module _ (o : Opening) (p : Process) (w : World) (num : Numbers) (S : Known o w 
               by_call None i = cc
               by_call (Some d) i = by_phase d d.phase i
 
-          markless : (so : Bool) (d : LockCall) → call_at w p ≡ Some d → MarksIn so d.phase
-          markless so d j = by_phase d.phase
-              (sym (ap (λ (k : Option LockCall). elim k [ None ↦ false | Some y ↦ is_waiting_call y.phase ]) j) ∙ waits)
-            where
-              by_phase : (g : LockPhase) → is_waiting_call g ≡ true → MarksIn so g
-              by_phase LockPhase.Waiting i = tt
-              by_phase (LockPhase.Asking r) i = cc
-              by_phase (LockPhase.Deleting owing) i = cc
+          home : p.node ≡ a
+          home = sym (eqb-true a p.node (both (a == p.node) (is_refused w p) refused).0)
+
+          markless : (so : Bool) (d : LockCall) → call_at w p ≡ Some d
+              → (p.node ≡ a → is_waiting_call d.phase ≡ false) → MarksIn so d.phase
+          markless so d j busy =
+              let phase : is_refused w p ≡ is_waiting_call d.phase =
+              ap (λ (k : Option LockCall). elim k [ None ↦ false | Some y ↦ is_waiting_call y.phase ]) j in
+              cc (busy home, phase, waits)
 
           by : (g : Option Tries) → t ≡ g → next_try o w e p members g ≡ Some x → Reasons o p (accepted o w e) x
           by None i j = cc
@@ -362,7 +368,7 @@ module _ (o : Opening) (p : Process) (w : World) (num : Numbers) (S : Known o w 
           → ReasonsAt o p (accepted o w e) (if b then next_try o w e p members t else watched o w e p t)
       go true i = next i
       go false i = watched_reasons e h t R
-          (λ y j K k c f s. marks_in (now e h t R y) (λ d g. old_marks e h t R y K d g) k c f s)
+          (λ y j K k c f s. marks_in (now e h t R y) (λ d g b. old_marks e h t R y K d g) k c f s)
           (λ y j K was up c mine. posted_letters a (turn_of o w e) (now e h t R y) c T.sends
           (old_letters e h t R y K was c mine))
 

@@ -4,12 +4,19 @@
 
 ghost use Rattle.std.specs.Prelude.{List};
 ghost use Rattle.protocol_model.specs.World.{Opening, WorldEvent, opening_world, run};
-ghost use Rattle.protocol_model.specs.LockAnswers.{ClientLocks, AtEachStep, AnswersTheLiving, UsesAllRetries, UsesNoMore, FailsForAReason, IsHeldSomewhere, IsGivenBack};
+ghost use Rattle.protocol_model.specs.LockAnswers.{ReadsTheSeen, ClientLocks, AtEachStep, AnswersTheLiving, UsesAllRetries, UsesNoMore, FailsForAReason, IsHeldSomewhere, IsGivenBack};
 
-/// Clients' locks exclude each other behind every list of events, and whatever the world accepts next is answered as the laws below
-/// say.
+/// Clients' locks exclude each other behind every list of events, they are counted by what is seen, and whatever the world accepts
+/// next is answered as the laws below say.
 pub fn client_locks()
     ensures { (o : Opening) (es : List WorldEvent) → ClientLocks o es (run o (opening_world o) es) }
+{}
+
+/// Who is refused and who is gone is as it is seen. A refused process isn't dead, and its last `set_lock` isn't answered, failed
+/// for a reason and may be tried again; in a quiet world each last `set_lock` that isn't answered is refused, unless its process
+/// is gone. And a process is gone where its node has left, or shows that it is dead.
+pub fn reads_the_seen()
+    ensures { (o : Opening) (es : List WorldEvent) → ReadsTheSeen o es (run o (opening_world o) es) }
 {}
 
 /// No lock call is answered of a process that is dead or whose node has left, before the step or behind it.

@@ -3,7 +3,7 @@
 use mathlib.Core.Logic.{◌⊎◌}
 use Rattle.std.specs.Prelude.{ℕ, Bool, true, false, not, ◌&&◌, ◌||◌, ◌==◌, ◌+◌, ◌-◌, ◌≡◌, ◌<◌, ◌≤◌, Contains, Option, Some, None, is_none, List, [], ◌∷◌, ◌++◌, if◌then◌else◌}
 use Rattle.std.specs.List.{slice_get}
-use Rattle.registry_model.specs.Process.{Process, is_process, Nodes}
+use Rattle.registry_model.specs.Process.{Text, Process, is_process, Nodes}
 use Rattle.registry_model.specs.Call.{True, False}
 use Rattle.protocol_model.specs.Round.{is_empty}
 use Rattle.protocol_model.specs.Letter.{Id, Client, is_id, Letter}
@@ -11,9 +11,10 @@ use Rattle.protocol_model.specs.LockTable.{count, is_free_for}
 use Rattle.protocol_model.specs.Node.{Retries, Times, targets}
 use Rattle.protocol_model.specs.Event.{Call, Event, Answer}
 use Rattle.protocol_model.specs.World.{Opening, in_world, World, left, WorldEvent, At, Deliver, opening_world, refusal, happens, answers, run}
-use Rattle.protocol_model.specs.Course.{course}
-use Rattle.protocol_model.specs.Answers.{holder_in, calls_at}
+use Rattle.protocol_model.specs.Course.{course, standing, seen}
+use Rattle.protocol_model.specs.Answers.{holder_in, calls_at, answers_under}
 use Rattle.protocol_model.specs.ClientLocks.{Try, try_of, is_refused, is_gone, number, ExclusionAfter}
+use Rattle.protocol_model.specs.Leftovers.{IsQuiet}
 
 -- the last `set_lock` of a process: its last try, the retries that it was given, how often it was tried, and whether something
 -- happened since that try began for which it may fail
@@ -179,10 +180,41 @@ module _ (o : Opening) (es : List WorldEvent) (w : World) (e : WorldEvent) where
     pub held : IsHeldSomewhere
     pub deleted : IsGivenBack
 
--- Clients' locks behind the events es, of which the world is w: they exclude each other, and so is answered in the step of each
--- event that the world would accept now
+-- the call of these tries is a `set_lock` of p that was accepted, and that none of the events answers
+pub record IsUnanswered (o : Opening) (es : List WorldEvent) (p : Process) (t : Tries) : Type 0 where
+  pub resource : Text
+  pub requester : Text
+  pub id : t.last.id ≡ Client resource requester
+  pub call : IsCallOf o es p.node t.last.number (Call.SetLock p resource requester t.last.target t.retries)
+  pub unanswered : answers_under p.node t.last.number (course o (opening_world o) es) ≡ []
+
+-- p isn't dead, and has a `set_lock` that isn't answered: its last try failed for a reason, another is left, and p's node accepts a
+-- retry, unless it has left
+pub record WaitsForRetry (o : Opening) (es : List WorldEvent) (w : World) (p : Process) : Type 0 where
+  pub alive : (seen o w).dead p ≡ false
+  pub tries : Tries
+  pub last : tries_of o es p ≡ Some tries
+  pub call : IsUnanswered o es p tries
+  pub failed : tries.met ≡ true
+  pub more : AreUsedUp tries → ⊥
+  pub retry : is_gone w p ≡ false → (seen o w).refusal (At p.node Event.Retry) ≡ None
+
+-- Who is refused and who is gone, which tries and numbers read of the world w, is as it is seen
+pub record ReadsTheSeen (o : Opening) (es : List WorldEvent) (w : World) : Type 0 where
+  -- a process whose lock call is refused waits for a retry
+  pub refused : (p : Process) → is_refused w p ≡ true → WaitsForRetry o es w p
+  -- in a quiet world the last `set_lock` of a process that isn't gone is refused, unless it is answered
+  pub waits : (p : Process) (t : Tries) → IsQuiet o w → is_gone w p ≡ false → tries_of o es p ≡ Some t →
+      answers_under p.node t.last.number (course o (opening_world o) es) ≡ [] → is_refused w p ≡ true
+  -- a process is gone where its node has left, by the history, or shows that it is dead
+  pub gone : (p : Process) →
+      is_gone w p ≡ ((standing o (course o (opening_world o) es)).registry.left p.node || (seen o w).dead p)
+
+-- Clients' locks behind the events es, of which the world is w: they exclude each other, they are counted by what is seen, and so
+-- is answered in the step of each event that the world would accept now
 pub record ClientLocks (o : Opening) (es : List WorldEvent) (w : World) : Type 0 where
   pub exclusion : ExclusionAfter o es w
+  pub reads : ReadsTheSeen o es w
   pub answers : (e : WorldEvent) → refusal o w e ≡ None → LockAnswers o es w e
 
 -- whatever the opening, the events and the accepted one behind them
