@@ -3,11 +3,10 @@
 use Rattle.std.proofs.Common.{ℕ, Bool, true, false, ◌==◌, ◌≡◌, Option, Some, None, [], ◌∷◌, refl, sym, ap, ◌∙◌, subst, inl, inr}
 use Rattle.std.specs.Prelude.{not, ◌&&◌, ◌||◌, if◌then◌else◌}
 use mathlib.Core.Logic.{◌⊎◌}
-use Rattle.std.proofs.lemmas.Bool.{eqb-true}
 use Rattle.registry_model.specs.Process.{Process, is_process, Nodes, at}
 use Rattle.registry_model.specs.Call.{True}
 use Rattle.protocol_model.specs.Letter.{Id, is_id, Letter}
-use Rattle.protocol_model.specs.Round.{Mark, Out, Later, Owes, Granted, Refused, Lost, Gone, Round, is_out, is_owes, asked, asked_too, begin, greatest, owes, answer, down, mark_down}
+use Rattle.protocol_model.specs.Round.{Mark, Out, Later, Owes, Round, is_out, is_owes, asked, asked_too, begin, greatest, owes, answer, down, mark_down}
 use Rattle.registry_model.proofs.Updates.{by_test}
 use Rattle.protocol_model.specs.Node.{LockPhase, LockCall, call_of, put_call}
 use Rattle.protocol_model.specs.Event.{is_waiting_call}

@@ -1,9 +1,9 @@
 -- What answers and departures make of a round: whom it asks, who is still to answer, and its boss.
-use Rattle.std.proofs.Common.{ℕ, Bool, true, false, ◌==◌, ◌≡◌, ◌<◌, refl, sym, ap, ◌∙◌, subst}
+use Rattle.std.proofs.Common.{ℕ, Bool, true, false, ◌≡◌, ◌<◌, refl, sym, subst}
 use Rattle.std.specs.Prelude.{not, ◌&&◌, ◌||◌, if◌then◌else◌}
 use Rattle.std.proofs.lemmas.Bool.{eq-eqb}
 use Rattle.registry_model.specs.Process.{Nodes}
-use Rattle.protocol_model.specs.Round.{Mark, Out, Later, Owes, Granted, Refused, Lost, Gone, Round, is_out, is_empty, greatest, begin, asked, owes, asked_too, opens, answer, mark_down, down, is_over, is_refused, is_gone, has_granted, is_owes}
+use Rattle.protocol_model.specs.Round.{Mark, Out, Later, Owes, Round, is_out, is_empty, greatest, begin, asked, owes, asked_too, answer, mark_down, down, is_over, is_refused, is_gone, has_granted, is_owes}
 use Rattle.registry_model.proofs.Updates.{by_test}
 use Rattle.moves.proofs.Indices.{greatest_in}
 use Rattle.client_locks.proofs.Rounds.{mark_by, Answered, Own, Stays, Opened, answered, answer_boss}

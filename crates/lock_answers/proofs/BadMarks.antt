@@ -1,9 +1,9 @@
 -- A round that fails has a mark for it: some node refused, or has gone down.
-use Rattle.std.proofs.Common.{ℕ, Bool, true, false, ◌==◌, ◌≡◌, ◌<◌, refl, sym, ap, ◌∙◌}
+use Rattle.std.proofs.Common.{ℕ, Bool, true, false, ◌==◌, ◌≡◌, ◌<◌, refl, ap}
 use Rattle.std.specs.Prelude.{not, ◌&&◌, ◌||◌, if◌then◌else◌}
 use Rattle.registry_model.specs.Process.{Nodes}
 use Rattle.registry_model.proofs.Updates.{by_test}
-use Rattle.protocol_model.specs.Round.{Mark, Out, Later, Owes, Granted, Refused, Lost, Gone, Round, is_out, is_refused, is_gone, is_granted, has_granted, is_empty, greatest, begin, asked, owes, asked_too, opens, answer, mark_down, down, granted, is_over, is_held, asked_all, Ending, Held, GiveBack, ending}
+use Rattle.protocol_model.specs.Round.{Mark, Out, Later, Owes, Granted, Refused, Lost, Gone, Round, is_out, is_refused, is_gone, is_granted, has_granted, is_empty, greatest, begin, asked, owes, asked_too, answer, mark_down, down, granted, is_over, is_held, asked_all, Ending, Held, GiveBack, ending}
 use Rattle.moves.proofs.Indices.{both, some_of, empty_at, is_empty_from}
 use Rattle.leftovers.proofs.Rounds.{mark_by, Answered, Own, Stays, Opened, answered}
 

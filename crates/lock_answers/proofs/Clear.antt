@@ -5,7 +5,7 @@ use Rattle.std.proofs.lemmas.Bool.{eq-eqb}
 use Rattle.registry_model.specs.Process.{Nodes}
 use Rattle.registry_model.specs.Table.{Table}
 use Rattle.registry_model.specs.Registry.{Replica}
-use Rattle.protocol_model.specs.Round.{Mark, Out, Later, Owes, Granted, Refused, Lost, Gone, Round, is_out, is_granted, greatest, begin, asked, asked_too, owes, answer, mark_down, down, granted}
+use Rattle.protocol_model.specs.Round.{Mark, Out, Later, Owes, Granted, Round, is_out, is_granted, greatest, begin, asked, asked_too, owes, answer, mark_down, down, granted}
 use Rattle.protocol_model.specs.Letter.{Letter}
 use Rattle.protocol_model.specs.Node.{Node, Current, LockPhase, call_of, targets}
 use Rattle.protocol_model.specs.Client.{is_spent, in_phase}

@@ -4,9 +4,8 @@ use Rattle.std.proofs.Common.{ℕ, Bool, true, false, ◌==◌, ◌≡◌, Optio
 use Rattle.std.specs.Prelude.{not, ◌&&◌, nat_lt, if◌then◌else◌}
 use Rattle.std.proofs.lemmas.Bool.{cases_eq, eq-eqb, ne_eqb}
 use Rattle.registry_model.specs.Process.{Process, is_process, Nodes, nodes_of, at}
-use Rattle.registry_model.specs.Table.{StrikeOwner, put_all}
+use Rattle.registry_model.specs.Table.{StrikeOwner}
 use Rattle.registry_model.specs.Call.{Reply, change_of}
-use Rattle.registry_model.specs.Settlement.{Settled, settle}
 use Rattle.protocol_model.specs.Round.{Mark, is_owes, asked, rest, opens, answer}
 use Rattle.protocol_model.specs.Letter.{Id, Global, Client, Letter}
 use Rattle.protocol_model.specs.Links.{posted}
