@@ -83,7 +83,8 @@ module _ (o : Opening) (p : Process) where
         → SpendsAt (accepted o w (At a (Event.Calling (Call.SetLock q r z target retries)))) p
         (tries_by o w (At a (Event.Calling (Call.SetLock q r z target retries))) p t)
     set_spends a q r z target retries h x c f i d = by (is_process q p)
-        (sym ((set_turn o w S.ordered a q r z target retries h).calls p) ∙ subst (λ (y : Process). call_at (accepted o w event) y ≡ Some c) i f)
+        (sym ((set_turn o w S.ordered a q r z target retries h).calls p)
+        ∙ subst (λ (y : Process). call_at (accepted o w event) y ≡ Some c) i f)
       where
         event : WorldEvent
         event = At a (Event.Calling (Call.SetLock q r z target retries))
@@ -105,7 +106,8 @@ module _ (o : Opening) (p : Process) where
         → SpendsAt (accepted o w (At a (Event.Calling (Call.DelLock q r z target)))) p
         (tries_by o w (At a (Event.Calling (Call.DelLock q r z target))) p t)
     del_spends a q r z target h x c f i d = by (is_process q p)
-        (sym ((del_turn o w S.ordered a q r z target h).calls p) ∙ subst (λ (y : Process). call_at (accepted o w event) y ≡ Some c) i f)
+        (sym ((del_turn o w S.ordered a q r z target h).calls p)
+        ∙ subst (λ (y : Process). call_at (accepted o w event) y ≡ Some c) i f)
       where
         event : WorldEvent
         event = At a (Event.Calling (Call.DelLock q r z target))
