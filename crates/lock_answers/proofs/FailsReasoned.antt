@@ -1,5 +1,5 @@
--- A try is answered `false` for a reason: a node that it had to ask had left, or took its request while it couldn't grant the lock, or
--- it had nobody to ask.
+-- A try is answered `false` for a reason: a node that it had to ask had left, or took its request while it couldn't grant the lock,
+-- or it had nobody to ask.
 use mathlib.Core.Logic.{◌⊎◌}
 use Rattle.std.proofs.Common.{ℕ, Bool, true, false, ◌≡◌, Option, Some, None, List, refl, sym, ap, ◌∙◌, subst, inl, inr}
 use Rattle.std.specs.Prelude.{◌||◌, Contains}

@@ -21,7 +21,7 @@ use Rattle.lock_answers.proofs.Verdicts.{is_verdict}
 use Rattle.lock_answers.proofs.CallSteps.{found_at}
 use Rattle.lock_answers.proofs.CallTurns.{AskedNobody, FailedAnew, DeletedNothing}
 use Rattle.leftovers.proofs.Beginnings.{new_try, fresh}
-use Rattle.lock_answers.proofs.EventTurns.{AgainTurn, again_turn, SetTurn, set_turn, DelTurn, del_turn}
+use Rattle.lock_answers.proofs.EventTurns.{again_turn, set_turn, del_turn}
 use Rattle.lock_answers.proofs.Behind.{Known, is_plain}
 
 -- the answers of an accepted event are those of its turn
@@ -60,6 +60,9 @@ watched_from o w e p (Some y) x h =
 
 module _ (o : Opening) (w : World) (num : Numbers) (p : Process) (t : Option Tries) (S : Known o w num)
     (fit : Fits w p (last_of t)) (x : Tries) (s : Answer) where
+  abbrev members : ℕ → Nodes
+  members a = (w.node a).replica.members
+
   -- an answer under a new number isn't to an earlier try
   earlier : (e : WorldEvent) (a : ℕ) → watched o w e p t ≡ Some x → p.node ≡ a
       → x.last.number ≡ (w.node a).last_call + 1 → ⊥
@@ -81,16 +84,10 @@ module _ (o : Opening) (w : World) (num : Numbers) (p : Process) (t : Option Tri
       event : WorldEvent
       event = At a (Event.Calling (Call.SetLock q r z target retries))
 
-      members : Nodes
-      members = (w.node a).replica.members
+      N : AskedNobody o.bound a (members a) (new_try o w a q r z target retries) s
+      N = (set_turn o w S.ordered a q r z target retries h).said s (given_in_turn o w event s h A.given) v
 
-      T : SetTurn o w S.ordered a q r z target retries
-      T = set_turn o w S.ordered a q r z target retries h
-
-      N : AskedNobody o.bound a members (new_try o w a q r z target retries) s
-      N = T.said s (given_in_turn o w event s h A.given) v
-
-      by : (b : Bool) → (if b then first_try o w event p (try_of members ((w.node a).last_call + 1) (Client r z) target)
+      by : (b : Bool) → (if b then first_try o w event p (try_of (members a) ((w.node a).last_call + 1) (Client r z) target)
           retries else watched o w event p t) ≡ Some x → AsksNobody o x.last
       by true e =
           subst (λ (y : Tries). AsksNobody o y.last) (some_same _ x e) N.nobody
@@ -107,11 +104,8 @@ module _ (o : Opening) (w : World) (num : Numbers) (p : Process) (t : Option Tri
       event : WorldEvent
       event = At a (Event.Calling (Call.DelLock q r z target))
 
-      T : DelTurn o w S.ordered a q r z target
-      T = del_turn o w S.ordered a q r z target h
-
       N : DeletedNothing o.bound a (fresh o w a q r z target) s
-      N = T.said s (given_in_turn o w event s h A.given) v
+      N = (del_turn o w S.ordered a q r z target h).said s (given_in_turn o w event s h A.given) v
 
   -- a retry
   again_nobody : (a : ℕ) → refusal o w (At a Event.Retry) ≡ None → tries_by o w (At a Event.Retry) p t ≡ Some x
@@ -122,14 +116,8 @@ module _ (o : Opening) (w : World) (num : Numbers) (p : Process) (t : Option Tri
       event : WorldEvent
       event = At a Event.Retry
 
-      members : Nodes
-      members = (w.node a).replica.members
-
-      T : AgainTurn o w S.ordered a
-      T = again_turn o w S.ordered a
-
       F : FailedAnew o.bound a (w.node a) s
-      F = T.said s (given_in_turn o w event s h A.given) v
+      F = (again_turn o w S.ordered a).said s (given_in_turn o w event s h A.given) v
 
       home : p.node ≡ a
       home = sym A.node ∙ F.asked.node
@@ -152,21 +140,21 @@ module _ (o : Opening) (w : World) (num : Numbers) (p : Process) (t : Option Tri
           ap (λ (u : Try). u.target) one ∙ known.1.1.target
 
       by : (y : Tries) → t ≡ Some y → (b : Bool) → ((a == p.node) && is_refused w p) ≡ b
-          → (if b then next_try o w event p members (Some y) else watched o w event p (Some y)) ≡ Some x
+          → (if b then next_try o w event p (members a) (Some y) else watched o w event p (Some y)) ≡ Some x
           → AsksNobody o x.last
       by y e true i j =
           let I : IsOwn w p F.call = own y e (sym (ap (λ (g : Tries). g.last.number) (some_same _ x j))) in
           subst (λ (g : Tries). AsksNobody o g.last) (some_same _ x j)
-          (ap (λ (g : Target). is_empty o.bound (targets members g)) (target_of y e I) ∙ F.asked.nobody)
+          (ap (λ (g : Target). is_empty o.bound (targets (members a) g)) (target_of y e I) ∙ F.asked.nobody)
       by y e false i j =
           let I : IsOwn w p F.call = own y e (sym (ap (λ (g : Tries). g.last.number) (some_same _ x j))) in
           cc (refused I, i)
 
-      go : (g : Option Tries) → t ≡ g → (if (a == p.node) && is_refused w p then next_try o w event p members g
+      go : (g : Option Tries) → t ≡ g → (if (a == p.node) && is_refused w p then next_try o w event p (members a) g
           else watched o w event p g) ≡ Some x → AsksNobody o x.last
       go None e j = none ((a == p.node) && is_refused w p) j
         where
-          none : (b : Bool) → (if b then next_try o w event p members None else watched o w event p None) ≡ Some x
+          none : (b : Bool) → (if b then next_try o w event p (members a) None else watched o w event p None) ≡ Some x
               → AsksNobody o x.last
           none true k = cc
           none false k = cc
