@@ -13,7 +13,7 @@ pub fn headline_of_every_world()
 /// Clients' locks, of every world and of every list of events: at a running node no resource is held under two requesters, where a
 /// process holds a lock at a node as often as its `set_lock`s that asked it were answered `true`, less its `del_lock`s that went
 /// there, and not at all once it is dead or its node has left. And so is answered: `false` for a reason and when all retries are used
-/// up, `true` where a node that was asked hasn't left, a `del_lock` when the lock is back, and a process that is dead never.
+/// up, `true` where a node that was asked isn't told of as departed, a `del_lock` when the lock is back, and a process that is dead never.
 pub fn locks_of_every_world()
     ensures { LocksInEveryWorld }
 {}

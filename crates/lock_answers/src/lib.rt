@@ -34,8 +34,8 @@ pub fn uses_no_more()
     ensures { AtEachStep UsesNoMore }
 {}
 
-/// It is answered `false` where since its last try began a node that this had to ask has left, or took the caller's request while
-/// it couldn't grant the lock; or where there is nobody to ask.
+/// It is answered `false` where a node that its last try had to ask had left, or since that try began took the caller's request
+/// while it couldn't grant the lock; or where there is nobody to ask.
 pub fn fails_for_a_reason()
     ensures { AtEachStep FailsForAReason }
 {}

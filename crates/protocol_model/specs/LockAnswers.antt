@@ -16,8 +16,8 @@ use Rattle.protocol_model.specs.Answers.{holder_in, calls_at, answers_under}
 use Rattle.protocol_model.specs.ClientLocks.{Try, try_of, is_refused, is_gone, number, ExclusionAfter}
 use Rattle.protocol_model.specs.Leftovers.{IsQuiet}
 
--- the last `set_lock` of a process: its last try, the retries that it was given, how often it was tried, and whether something
--- happened since that try began for which it may fail
+-- the last `set_lock` of a process: its last try, the retries that it was given, how often it was tried, and whether that try met
+-- something for which it may fail
 pub record Tries : Type 0 where
   pub last : Try
   pub retries : Retries
