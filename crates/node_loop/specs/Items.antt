@@ -40,13 +40,13 @@ Asks ticket e a going b =
     ⊎ ((fault : StepFault) × (is_memory fault ≡ false) × (refusal_of (node_event e) a.core ≡ fault_of fault)
     × Refuses ticket (Step fault) a going b)
 
--- a task is refused by a node that has left, or where it knows no such contact; a leave waits
+-- a task is refused where its contact isn't of the world, and then by a node that has left; a leave waits
 abbrev pub Accepts : Option Ticket → Event → Looping → Bool → Looping → Type 0
 Accepts ticket e a going b =
-    MatchBool a.left (Refuses ticket NodeLeft a going b)
-    (MatchBool (knows_contact a.world e)
-    (MatchBool (is_leave e) (WaitsToLeave ticket a going b) (Asks ticket e a going b))
-    (Refuses ticket NoSuchNode a going b))
+    MatchBool (knows_contact a.world e)
+    (MatchBool a.left (Refuses ticket NodeLeft a going b)
+    (MatchBool (is_leave e) (WaitsToLeave ticket a going b) (Asks ticket e a going b)))
+    (Refuses ticket NoSuchNode a going b)
 
 abbrev pub Handles : ℕ → Item → Looping → Bool → Looping → Type 0
 Handles from (item.Letter l) a going b = Reads from l a going b

@@ -21,3 +21,4 @@ pub use node_log::{
 };
 pub use node_loop::NodeLoop;
 pub use replies::{TaskFault, TaskReply};
+pub use stepping::knows_contact;

@@ -1,7 +1,7 @@
 //! The steps of a node's loop.
 ghost use Rattle.std.specs.Prelude.{◌≡◌, ◌-◌};
 ghost use Rattle.std.specs.Option.{option_map};
-ghost use Rattle.node_log.specs.Events.{is_leave, knows_contact};
+ghost use Rattle.node_log.specs.Events.{is_leave, knows_contact as knows};
 ghost use Rattle.node_loop.specs.Held.{can_step, has_retry, is_due, has_leave, is_free_to_leave};
 ghost use Rattle.node_loop.specs.Steps.{Concludes, Tries};
 ghost use Rattle.node_loop.specs.Items.{Refuses, Reads, Accepts, Handles, Hears, Idles, Works};
@@ -14,7 +14,7 @@ use crate::waiting::Course;
 use name_table::Names;
 use node_log::{Answer, Call, Cause, Event, Letter, StepFault, WorldEvent};
 use std::alloc::Global;
-use term::NodeName;
+use term::{NodeName, NodeSet};
 
 /// What came of trying a step.
 #[derive(Debug, Drop)]
@@ -25,6 +25,16 @@ pub(crate) enum Tried {
     Refused(StepFault),
     /// No stamp is left, or memory was refused: the thread ends.
     Ended,
+}
+
+/// Whether the contact of an event is among these nodes, if it has one.
+pub fn knows_contact(nodes: &NodeSet, event: &Event) -> bool
+    ensures { result ≡ knows nodes.now event.now }
+{
+    match event {
+        Event::Call(Call::Join(contact)) => nodes.contains(contact),
+        _ => true,
+    }
 }
 
 /// The seat of a ticket.
@@ -152,26 +162,16 @@ impl<N: Names<Memory = Global>> NodeLoop<N> {
         self.desk.refuse(ticket, fault).is_ok()
     }
 
-    /// Whether the contact of an event is of the world, if it has one.
-    fn knows_contact(&self, event: &Event) -> bool
-        ensures { result ≡ knows_contact self.now.world event.now }
-    {
-        match event {
-            Event::Call(Call::Join(contact)) => self.world.contains(contact),
-            _ => true,
-        }
-    }
-
     /// A task is taken: it is refused, or it waits, or its step is made.
     fn accept(&mut self, task: Task) -> bool
         ensures { Accepts task.ticket task.event self.old result self.new }
     {
         let Task { ticket, event } = task;
+        if !knows_contact(&self.world, &event) {
+            return self.refuse(ticket, TaskFault::NoSuchNode);
+        }
         if self.left {
             return self.refuse(ticket, TaskFault::NodeLeft);
-        }
-        if !self.knows_contact(&event) {
-            return self.refuse(ticket, TaskFault::NoSuchNode);
         }
         if is_leave(&event) {
             return self.desk.wait_to_leave(ticket).is_ok();

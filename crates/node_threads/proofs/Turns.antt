@@ -49,25 +49,25 @@ module _ (a b : Looping) where
   asks ticket e going (inr r) = refuses ticket _ going r.3
 
   accepts : (ticket : Option Ticket) (e : Event) (going : Bool) → Accepts ticket e a going b → Same a b
-  accepts ticket e going h = at_left a.left h
+  accepts ticket e going h = at_contact (knows_contact a.world e) h
     where
       at_leave : (leaves : Bool) → MatchBool leaves (WaitsToLeave ticket a going b) (Asks ticket e a going b) → Same a b
       at_leave true h = waits ticket going h
       at_leave false h = asks ticket e going h
 
-      at_contact : (knows : Bool)
-          → MatchBool knows (MatchBool (is_leave e) (WaitsToLeave ticket a going b) (Asks ticket e a going b))
-          (Refuses ticket TaskFault.NoSuchNode a going b) → Same a b
-      at_contact true h = at_leave (is_leave e) h
-      at_contact false h = refuses ticket _ going h
-
       at_left : (left : Bool)
           → MatchBool left (Refuses ticket TaskFault.NodeLeft a going b)
-          (MatchBool (knows_contact a.world e)
-          (MatchBool (is_leave e) (WaitsToLeave ticket a going b) (Asks ticket e a going b))
-          (Refuses ticket TaskFault.NoSuchNode a going b)) → Same a b
+          (MatchBool (is_leave e) (WaitsToLeave ticket a going b) (Asks ticket e a going b)) → Same a b
       at_left true h = refuses ticket _ going h
-      at_left false h = at_contact (knows_contact a.world e) h
+      at_left false h = at_leave (is_leave e) h
+
+      at_contact : (knows : Bool)
+          → MatchBool knows
+          (MatchBool a.left (Refuses ticket TaskFault.NodeLeft a going b)
+          (MatchBool (is_leave e) (WaitsToLeave ticket a going b) (Asks ticket e a going b)))
+          (Refuses ticket TaskFault.NoSuchNode a going b) → Same a b
+      at_contact true h = at_left a.left h
+      at_contact false h = refuses ticket _ going h
 
   handles : (from : ℕ) (i : Item) (going : Bool) → Handles from i a going b → Same a b
   handles from (item.Letter l) going h = at_left a.left h

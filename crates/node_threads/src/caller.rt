@@ -1,6 +1,8 @@
 //! How a thread asks a node's thread.
-ghost use Rattle.std.specs.Prelude.{◌≡◌, ◌<◌, IfOk, IfSome};
-ghost use Rattle.node_threads.specs.Callers.{name_of, slot_of};
+ghost use Rattle.std.specs.Prelude.{◌≡◌, ◌<◌, false, IfOk, IfSome, Err};
+ghost use Rattle.node_loop.specs.Events.{knows_contact as knows};
+ghost use Rattle.node_threads.specs.Callers.{name_of, slot_of, nodes_of};
+ghost use Rattle.node_threads.specs.declared.fault.SeatFault.TheVariants.{NoSuchNode};
 
 use crate::address::Address;
 use crate::bell::Rest;
@@ -8,7 +10,7 @@ use crate::fault::SeatFault;
 use crate::hub::Hub;
 use crate::line::Line;
 use crate::standing::Standing;
-use node_loop::{Answer, Event, Item, Task, TaskFault, TaskReply, Ticket};
+use node_loop::{Answer, Event, Item, Task, TaskFault, TaskReply, Ticket, knows_contact};
 use std::alloc::{AllocError, Global};
 use std::sync::{Arc, Wait};
 use std::time::Clock;
@@ -97,7 +99,8 @@ impl Caller {
         self.slot
     }
 
-    /// Asks for an event, waits until the node has taken it, or refused it, and gives what was answered.
+    /// Asks for an event, waits until the node has taken it, or refused it, and gives what was answered. A contact that isn't of
+    /// the cluster is refused at once, also where the node has left.
     pub(crate) fn ask<R: Wait + Clock>(
         &mut self,
         rt: &R,
@@ -105,7 +108,11 @@ impl Caller {
     ) -> Result<Option<Answer>, SeatFault>
         ensures slot { slot_of self.new ≡ slot_of self.old }
         ensures node { name_of self.new ≡ name_of self.old }
+        ensures stranger { knows (nodes_of self.old) event ≡ false → result ≡ Err NoSuchNode }
     {
+        if !knows_contact(self.hub.nodes(), &event) {
+            return Err(SeatFault::NoSuchNode);
+        }
         let number = self.next;
         let Some(next) = number.checked_add(1) else {
             return Err(SeatFault::Closed);

@@ -187,7 +187,7 @@ where
         ensures lone { IfOk result (λ made. made.lone ≡ lone.now) }
         ensures seats { IfOk result (λ made. made.seats ≡ 0) }
     {
-        let shared = Shared::new(alloc, gate, yields)?;
+        let shared = Shared::new(alloc, world.nodes(), gate, yields)?;
         let joined = copied(alloc, cluster)?;
         let others = copied(alloc, lone)?;
         let berths = berths_of(alloc, &shared, world, cluster, lone)?;

@@ -1,11 +1,12 @@
-//! What the threads of a cluster share with its seats: the replies, and whether the cluster is being closed.
-ghost use Rattle.std.specs.Prelude.{◌≡◌, ◌<◌, vec_len};
+//! What the threads of a cluster share with its seats: its nodes, the replies, and whether the cluster is being closed.
+ghost use Rattle.std.specs.Prelude.{◌≡◌, ◌<◌, vec_len, IfOk};
 
 use crate::bell::{Bell, Rest};
 use node_loop::TaskReply;
 use std::alloc::{AllocError, Global};
 use std::sync::atomic::{AtomicBool, Ordering};
 use std::sync::{Mutex, Wait};
+use term::NodeSet;
 
 /// How many seats a cluster makes.
 pub(crate) const MOST_SEATS: u32 = 64;
@@ -21,9 +22,10 @@ struct Slot {
     bell: Bell,
 }
 
-/// The slots of all callers, and whether the cluster is being closed.
+/// The nodes of a cluster, the slots of all callers, and whether it is being closed.
 #[derive(Drop)]
 pub(crate) struct Hub {
+    nodes: NodeSet,
     closing: AtomicBool,
     slots: Vec<Slot>,
     ghost all: { vec_len slots ≡ 72 },
@@ -45,16 +47,26 @@ impl Slot {
 }
 
 impl Hub {
-    /// Slots without a reply.
-    pub(crate) fn new(alloc: Global) -> Result<Self, AllocError> {
+    /// Slots without a reply, for a cluster of these nodes.
+    pub(crate) fn new(alloc: Global, nodes: &NodeSet) -> Result<Self, AllocError>
+        ensures { IfOk result (λ hub. hub.nodes ≡ nodes.now) }
+    {
         let mut slots = Vec::new(alloc);
         for _ in 0..SLOTS {
             slots.push(Slot::new(alloc)?)?;
         }
         Ok(Hub {
+            nodes: nodes.copy(),
             closing: AtomicBool::new(false),
             slots,
         })
+    }
+
+    /// The nodes of the cluster.
+    pub(crate) fn nodes(&self) -> &NodeSet
+        ensures { result.now ≡ self.now.nodes }
+    {
+        &self.nodes
     }
 
     /// The rest of the caller with this slot, which its replies end.

@@ -4,6 +4,7 @@ use crate::hub::Hub;
 use node_loop::Gate;
 use std::alloc::{AllocError, Global};
 use std::sync::Arc;
+use term::NodeSet;
 
 /// The gate and the hub of a cluster, and how long its threads watch before they sleep.
 #[derive(Drop)]
@@ -15,10 +16,15 @@ pub(crate) struct Shared<G: Gate + Drop> {
 }
 
 impl<G: Gate + Drop> Shared<G> {
-    /// This gate, and a hub without replies.
-    pub(crate) fn new(alloc: Global, gate: G, yields: u32) -> Result<Self, AllocError> {
+    /// This gate, and a hub without replies for a cluster of these nodes.
+    pub(crate) fn new(
+        alloc: Global,
+        nodes: &NodeSet,
+        gate: G,
+        yields: u32,
+    ) -> Result<Self, AllocError> {
         let gate = Arc::new(alloc, gate)?;
-        let hub = Arc::new(alloc, Hub::new(alloc)?)?;
+        let hub = Arc::new(alloc, Hub::new(alloc, nodes)?)?;
         Ok(Shared { gate, hub, yields })
     }
 
