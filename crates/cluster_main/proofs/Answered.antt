@@ -12,7 +12,7 @@ use Rattle.arguments.specs.declared.task.ServeOptions.{ServeOptions}
 use Rattle.arguments.specs.declared.task.Task.TheVariants.{Serve}
 use Rattle.cluster_main.specs.Answering.{DoesFor, DoesNothing, DoesTask, Streams, Told}
 use Rattle.cluster_main.specs.Refusing.{IsRefused, IsShown, IsTold, status_for}
-use Rattle.cluster_main.specs.Serving.{Serves, served_status}
+use Rattle.cluster_main.specs.Serving.{Serves, TellsWhy, served_status}
 use Rattle.cluster_main.specs.declared.serving.Served.{Served}
 
 -- help, the version or an error was shown, or memory was refused
@@ -44,17 +44,19 @@ taken words s told status e d = rw e d
 
 -- consoles were served
 pub served : (words : List Word) (o : ServeOptions) (came : Served) (s : Streams) (told : Told) (status : ℕ)
-    → Asks words (Serve o) → Keeps s.input s.rest → Serves o s.old s.new came → status ≡ served_status came
+    → Asks words (Serve o) → Keeps s.input s.rest → Serves o s.old s.new came → TellsWhy told.old told.new came
+    → status ≡ served_status came
     → DoesFor words (refusals words) s told status
-served words o came s told status a u d e =
+served words o came s told status a u d y e =
     taken words s told status a.taken (inr (
       a.asked.0,
       inl (record {
         options = o;
         served = came;
-        told = a.asked.1;
+        given = a.asked.1;
         unread = u;
         serves = d;
+        why = y;
         status_is = e;
       }),
     ))

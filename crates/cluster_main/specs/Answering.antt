@@ -10,7 +10,7 @@ use Rattle.arguments.specs.Reading.{RefusesLists, Tells, Values}
 use Rattle.arguments.specs.declared.faults.ArgFault.{ArgFault}
 use Rattle.arguments.specs.declared.task.ServeOptions.{ServeOptions}
 use Rattle.cluster_main.specs.Refusing.{IsTold, status_for}
-use Rattle.cluster_main.specs.Serving.{Serves, served_status}
+use Rattle.cluster_main.specs.Serving.{Serves, TellsWhy, served_status}
 use Rattle.cluster_main.specs.declared.serving.Served.{Served}
 
 -- the status for a script that was played: 0 where it ended with no fault and printed no refusal, and else 1
@@ -52,13 +52,15 @@ pub record DoesNothing (s : Streams) : Type 0 where
   pub unread : Keeps s.input s.rest
   pub unprinted : Keeps s.old s.new
 
--- consoles were served, with the address and the nodes that these values tell, and nothing is read
-pub record ServesConsoles (value : Values) (s : Streams) (status : ℕ) : Type 0 where
+-- consoles were served, with the address and the nodes that these values give; nothing is read, and on standard error nothing is
+-- told once the program listens
+pub record ServesConsoles (value : Values) (s : Streams) (told : Told) (status : ℕ) : Type 0 where
   pub options : ServeOptions
   pub served : Served
-  pub told : Tells value options
+  pub given : Tells value options
   pub unread : Keeps s.input s.rest
   pub serves : Serves options s.old s.new served
+  pub why : TellsWhy told.old told.new served
   pub status_is : status ≡ served_status served
 
 -- the lists of nodes that these values give were refused, and the word for it was told
@@ -74,7 +76,7 @@ abbrev pub DoesTask : Entered → Streams → Told → ℕ → Type 0
 DoesTask entered s told status =
     ((name_in entered ≡ Some (codes "script")) × PlaysScript s status × Keeps told.old told.new)
     ⊎ ((name_in entered ≡ Some (codes "serve"))
-    × (ServesConsoles (value_in entered) s status ⊎ TellsWord (value_in entered) s told status))
+    × (ServesConsoles (value_in entered) s told status ⊎ TellsWord (value_in entered) s told status))
 
 -- what is done for words whose parse may give these kinds
 abbrev pub DoesFor : List Text → Kinds → Streams → Told → ℕ → Type 0

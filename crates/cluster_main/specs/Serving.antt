@@ -1,5 +1,5 @@
 -- What the program does where it is to serve consoles.
-use Rattle.std.specs.Prelude.{ℕ, ◌≡◌, true, codes, string_bytes, List, ◌++◌, Option, None, Ok}
+use Rattle.std.specs.Prelude.{ℕ, ◌≡◌, true, ⊤, codes, string_bytes, List, ◌++◌, Option, None, Ok}
 use Rattle.std.specs.Io.KnownBytes.{Appends, Keeps}
 use Rattle.arguments.specs.declared.task.ServeOptions.{ServeOptions}
 use Rattle.server.specs.Starting.{start_refused}
@@ -24,6 +24,12 @@ Serves o old new NotListening = Keeps old new
 Serves o old new NotAnnounced = AppendsPart old new (listening_line (string_bytes o.listen))
 Serves o old new (Ran r) = (between : Option (List ℕ)) × Appends old between (listening_line (string_bytes o.listen))
     × ServesCluster o.cluster o.lone between new r
+
+-- what is told on standard error: something only where nothing listens
+abbrev pub TellsWhy : Option (List ℕ) → Option (List ℕ) → Served → Type 0
+TellsWhy old new NotListening = ⊤
+TellsWhy old new NotAnnounced = Keeps old new
+TellsWhy old new (Ran r) = Keeps old new
 
 -- the status: 0 where the cluster was served to its end and its run was one of the world's, and else 1
 abbrev pub served_status : Served → ℕ

@@ -1,6 +1,6 @@
 //! What the program does where it is to serve consoles.
 ghost use Rattle.std.specs.Prelude.{◌≡◌};
-ghost use Rattle.cluster_main.specs.Serving.{IsPlaced, Serves, served_status, listening_line};
+ghost use Rattle.cluster_main.specs.Serving.{IsPlaced, Serves, TellsWhy, served_status, listening_line};
 ghost use Rattle.text_lines.specs.Writing.{Writes};
 
 use crate::lines::{hand_on, write_line};
@@ -73,7 +73,7 @@ where
     ))
 }
 
-/// Listens at the address and serves the consoles that come. Where nothing can listen there, it tells why.
+/// Listens at the address and serves the consoles that come. Where nothing can listen there, it tells why, and else nothing.
 pub(crate) fn serve<H, W, E>(
     rt: &H,
     alloc: Global,
@@ -87,7 +87,8 @@ where
     W: Write,
     E: Write,
     requires { IsPlaced options.now }
-    ensures { Serves options.now (W.contents writer.old) (W.contents writer.new) result }
+    ensures serves { Serves options.now (W.contents writer.old) (W.contents writer.new) result }
+    ensures why { TellsWhy (E.contents errors.old) (E.contents errors.new) result }
 {
     match TcpListener::bind(rt, options.listen.as_str()) {
         Ok(listener) => serve_at(rt, alloc, listener, options, writer),

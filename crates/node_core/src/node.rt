@@ -113,7 +113,7 @@ impl<N: Names<Memory = Global>> NodeCore<N> {
     /// Takes the step of an event: gives its answers, and puts its letters, each with its receiver, behind those that are
     /// there. They go to nodes of its world and say what their readers rely on, where what it reads does. A refused event
     /// changes nothing; where `Memory` is refused no letter is put there either, but the node isn't to be used any more.
-    /// What no node of the world says is passed over: a departure of this node or of a stranger, a join of a stranger.
+    /// Of what no node of the world says (a departure of this node or of a stranger, a join of a stranger) no clause says what it does.
     pub fn step(
         &mut self,
         event: &Event,

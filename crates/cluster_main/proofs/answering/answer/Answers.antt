@@ -30,7 +30,7 @@ returns-in-Ok-Serve g c =
     let words : List Text = map string_bytes c.in-Some.words.now in
     let task = subst (Asks words) c.in-Ok-Serve.field-0-is c.in-Ok-Serve.ensures.task in
     let d = served words c.in-Ok-Serve.options c.serve.result s told c.status.result task
-    (Keeps-refl (reader_remaining g.R.Read.remaining c.args.reader.now)) c.serve.ensures c.status.ensures in
+    (Keeps-refl (reader_remaining g.R.Read.remaining c.args.reader.now)) c.serve.ensures.serves c.serve.ensures.why c.status.ensures in
     rw c.in-Some.is (inl d)
 
 pub returns-in-Err : goal.returns-in-Err
