@@ -55,3 +55,9 @@ pub mod ReasonSteps
 pub mod ReasonEvents
 pub mod FailsReasoned
 pub mod ClientLocks
+pub mod QuietBase
+pub mod QuietTurns
+pub mod QuietSteps
+pub mod QuietEvents
+pub mod QuietCourse
+pub mod QuietCalls
