@@ -1,9 +1,9 @@
 -- One lock call alone in a quiet world: what is known of each world behind it, as long as letters alone are delivered.
-use Rattle.std.proofs.Common.{ℕ, Bool, true, false, ◌≡◌, ◌<◌, ◌+◌, ◌-◌, Option, Some, None, List, [], ◌∷◌, ◌++◌, refl, sym, ap, ◌∙◌, subst}
-use Rattle.std.specs.Prelude.{not, ◌&&◌, ◌==◌, nat_lt, is_none, find, if◌then◌else◌}
+use Rattle.std.proofs.Common.{ℕ, Bool, true, false, ◌≡◌, ◌+◌, ◌-◌, Option, Some, None, List, [], ◌∷◌, refl, sym, ap, ◌∙◌, subst}
+use Rattle.std.specs.Prelude.{not, ◌&&◌, nat_lt, is_none, find, if◌then◌else◌}
 use Rattle.registry_model.specs.Process.{Process, is_process, Nodes}
 use Rattle.registry_model.specs.Registry.{Replica}
-use Rattle.registry_model.specs.Call.{Reply, True, False}
+use Rattle.registry_model.specs.Call.{True, False}
 use Rattle.registry_model.proofs.Updates.{by_test}
 use Rattle.protocol_model.specs.Letter.{Id, is_id, is_resource, Letter}
 use Rattle.protocol_model.specs.LockTable.{Grant, Locks, is_grant_of, count, last_count, is_in_the_way, refused_by, is_free_for, grant, give_back}
@@ -178,7 +178,8 @@ module _ (o : Opening) (w : World) (p : Process) (id : Id) (k : ℕ) (asks : Nod
     pub says : Says Ready (v.node t).calls t u
 
   -- behind it all else stands as before
-  pub near_after : (Ready : Type 0) (v : World) (t : ℕ) (u : Turn) (l : Option Taken) → Near v → Step Ready v t u → Near (after_turn t v u l)
+  pub near_after : (Ready : Type 0) (v : World) (t : ℕ) (u : Turn) (l : Option Taken) → Near v
+      → Step Ready v t u → Near (after_turn t v u l)
   near_after Ready v t u l N S = record {
     same = λ c. by_test t (λ x b. Same (if b then u.node else v.node x) (w.node x)) S.same (λ x ne. N.same x) c;
     stay = N.stay;

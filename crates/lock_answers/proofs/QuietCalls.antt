@@ -1,30 +1,27 @@
 -- A `set_lock` with no retries that is called in a quiet world is answered as the lock is free.
 use mathlib.Core.Logic.{◌⊎◌}
 use Rattle.std.proofs.Common.{ℕ, Bool, true, false, ◌≡◌, ◌<◌, ◌+◌, Option, Some, None, List, [], ◌∷◌, ◌++◌, refl, sym, ap, ◌∙◌, subst, inl, inr, arith}
-use Rattle.std.specs.Prelude.{not, ◌&&◌, ◌||◌, ◌==◌, nat_lt, is_none, is_some, fold, Contains, if◌then◌else◌}
+use Rattle.std.specs.Prelude.{not, ◌&&◌, ◌||◌, ◌==◌, nat_lt, is_some, Contains, if◌then◌else◌}
 use Rattle.std.specs.List.{list_all}
-use Rattle.std.proofs.Math.Bool.{and-false}
 use Rattle.std.proofs.lemmas.List.Elements.{Contains-append_left, Contains-append_right, Contains-append_cases}
 use Rattle.std.proofs.lemmas.Bool.{eqb-true, eq-eqb, ltb-true}
 use Rattle.registry_model.specs.Process.{Text, Process, is_process, Nodes}
-use Rattle.registry_model.specs.Call.{Reply, True, False}
+use Rattle.registry_model.specs.Call.{True, False}
 use Rattle.registry_model.proofs.Lists.{Contains-cases, Contains-front, Contains-behind, Contains-nil}
-use Rattle.registry_model.proofs.Updates.{by_test}
 use Rattle.protocol_model.specs.Letter.{Id, Client, is_id, is_resource, Letter}
 use Rattle.protocol_model.specs.LockTable.{Grant, Locks, is_grant_of, count, last_count, is_free_for}
-use Rattle.protocol_model.specs.Round.{Mark, Out, Later, Owes, is_empty, begin, greatest}
+use Rattle.protocol_model.specs.Round.{Out, Later, Owes, is_empty, begin, greatest}
 use Rattle.protocol_model.specs.Watch.{is_dead, is_live}
-use Rattle.protocol_model.specs.Node.{Node, LockPhase, LockCall, Target, Times, targets, call_of, put_call, drop_call}
-use Rattle.protocol_model.specs.Event.{Call, Event, Answer, Refusal, NoSuchNode, NodeLeft, NotLive, Busy, Cause, cause, first_cause, lock_causes, names_members, calls_spent, UnknownNode, Reserved, global_resource}
-use Rattle.protocol_model.specs.Turn.{Turn, begun, counted, sent_to}
+use Rattle.protocol_model.specs.Node.{LockPhase, LockCall, Target, Times, targets, call_of, put_call, drop_call}
+use Rattle.protocol_model.specs.Event.{Answer, NoSuchNode, NodeLeft, NotLive, Busy, Cause, cause, first_cause, names_members, calls_spent, UnknownNode, Reserved, global_resource}
+use Rattle.protocol_model.specs.Turn.{Turn, begun, counted}
 use Rattle.protocol_model.specs.Registrar.{start}
 use Rattle.protocol_model.specs.Client.{in_phase, new_call, try_lock, ask_lock, close_call}
-use Rattle.protocol_model.specs.Calling.{call, event}
-use Rattle.protocol_model.specs.ClientLocks.{number, Holds}
+use Rattle.protocol_model.specs.ClientLocks.{Holds}
 use Rattle.protocol_model.specs.Answers.{answer_to}
-use Rattle.protocol_model.specs.Leftovers.{world, Always, IsQuiet, Runs}
-use Rattle.protocol_model.specs.QuietCalls.{is_delivery, called_once, IsFree, Tells, IsAnswerTo, IsQuietCall, AnswersIt, QuietCallsAreTold, QuietCallsAreAnswered}
-use Rattle.protocol_model.specs.World.{Opening, in_world, World, left, WorldEvent, At, place, opening_world, turn_of, refusal, accepted, happens, answers, all_answers, run}
+use Rattle.protocol_model.specs.Leftovers.{world, Always, IsQuiet}
+use Rattle.protocol_model.specs.QuietCalls.{is_delivery, called_once, IsFree, Tells, QuietCallsAreTold, QuietCallsAreAnswered}
+use Rattle.protocol_model.specs.World.{Opening, in_world, World, left, WorldEvent, opening_world, turn_of, refusal, happens, answers, all_answers, run}
 use Rattle.protocol_model.proofs.Ids
 use Rattle.protocol_model.proofs.Ids.{is_id_self}
 use Rattle.protocol_model.proofs.Meanings.{grants_the_free}
@@ -32,7 +29,7 @@ use Rattle.moves.proofs.Invariants.{Each, IsUp}
 use Rattle.moves.proofs.Indices.{both, not_true, not_false, empty_at, is_empty_from}
 use Rattle.leftovers.proofs.Base.{each-one}
 use Rattle.leftovers.proofs.RoundNumbers
-use Rattle.leftovers.proofs.Clients.{Numbers, lives, lives_by, IsLive, live_parts, call_at}
+use Rattle.leftovers.proofs.Clients.{Numbers, lives, lives_by, call_at}
 use Rattle.leftovers.proofs.Ids.{is_process_self}
 use Rattle.leftovers.proofs.Calls.{call_of-put, call_of-drop}
 use Rattle.leftovers.proofs.Near.{target_member}
@@ -41,8 +38,7 @@ use Rattle.leftovers.proofs.Grounds.{lock_state}
 use Rattle.leftovers.proofs.Families.{Whole, whole}
 use Rattle.leftovers.proofs.Quiet.{rid, calls_wait, live_counts}
 use Rattle.leftovers.proofs.LocksTold.{locks_are_as_told, free_locks_are_granted}
-use Rattle.lock_answers.proofs.Behind.{Known}
-use Rattle.lock_answers.proofs.QuietBase.{Same, starts_nothing, grants, verdict, due_answer, IsMark, Ours, Near, Asking, Says, GoesOn, Ends, Step}
+use Rattle.lock_answers.proofs.QuietBase.{Same, starts_nothing, grants, verdict, due_answer, IsMark, Ours, Asking, GoesOn, Ends, Step}
 use Rattle.lock_answers.proofs.QuietEvents.{Unchanged, Phase, Open, Over, Alone}
 use Rattle.lock_answers.proofs.QuietCourse.{goes_on, ends, given, all_said, open_until}
 
@@ -171,8 +167,11 @@ module _ (o : Opening) (es : List WorldEvent) (p : Process) (r z : Text) (target
 
   -- and only there
   free_only : IsFree o es p r z whom → verdict o w p id k whom ≡ true
-  free_only F = rw (F.somebody, is_empty_from o.bound (λ c. whom c && not (grants o w p id k whom c))
-      (λ c l. each c (whom c) refl)) refl
+  free_only F = rw (
+    F.somebody,
+    is_empty_from o.bound (λ c. whom c && not (grants o w p id k whom c))
+        (λ c l. each c (whom c) refl),
+  ) refl
     where
       their : (c : ℕ) → whom c ≡ true → (q : Process) (i : Id) → Holds o es q i c → is_resource i id ≡ true
           → is_id i id ≡ true
@@ -309,7 +308,7 @@ module _ (o : Opening) (es : List WorldEvent) (p : Process) (r z : Text) (target
         (Contains-append_cases (answers o w e) (all_answers o (happens o w e) ds) s c))
       where
         one : Contains (its ∷ []) s → s ≡ its
-        one i = elim (Contains-cases its [] s i) [ | inl same ↦ sym same | inr none ↦ absurd (Contains-nil s none) ]
+        one i = elim (Contains-cases its [] s i) [ inl same ↦ sym same | inr none ↦ absurd (Contains-nil s none) ]
 
         by : First → Contains (answers o w e) s ⊎ Contains (all_answers o (happens o w e) ds) s → Contains (its ∷ []) s
         by (inl (A, none)) (inl x) = absurd (Contains-nil s (subst (λ (ss : List Answer). Contains ss s) none x))

@@ -1,22 +1,20 @@
 -- One lock call alone in a quiet world: along all deliveries behind it there is no answer but its own, and it is open until then.
 use mathlib.Core.Logic.{◌⊎◌}
-use Rattle.std.proofs.Common.{ℕ, Bool, true, false, ◌≡◌, ◌<◌, ◌+◌, ◌-◌, Option, Some, None, List, [], ◌∷◌, ◌++◌, refl, sym, ap, ◌∙◌, subst, inl, inr}
-use Rattle.std.specs.Prelude.{◌&&◌, is_none, Contains, if◌then◌else◌}
+use Rattle.std.proofs.Common.{ℕ, Bool, true, false, ◌≡◌, ◌<◌, ◌+◌, ◌-◌, Option, Some, None, List, [], ◌∷◌, refl, sym, ap, ◌∙◌, subst, inl, inr}
+use Rattle.std.specs.Prelude.{is_none, Contains, if◌then◌else◌}
 use Rattle.std.specs.List.{list_all}
 use Rattle.std.proofs.Math.Bool.{and-false}
 use Rattle.std.proofs.lemmas.List.Elements.{Contains-append_left, Contains-append_right, Contains-append_cases}
 use Rattle.registry_model.specs.Process.{Process, Nodes}
-use Rattle.registry_model.proofs.Lists.{Contains-front, Contains-nil}
+use Rattle.registry_model.proofs.Lists.{Contains-nil}
 use Rattle.protocol_model.specs.Letter.{Id, Letter}
-use Rattle.protocol_model.specs.LockTable.{count}
 use Rattle.protocol_model.specs.Round.{Round}
 use Rattle.protocol_model.specs.Node.{Node, LockCall, call_of}
 use Rattle.protocol_model.specs.Event.{Answer, Refusal}
 use Rattle.protocol_model.specs.Turn.{Turn}
-use Rattle.protocol_model.specs.ClientLocks.{gives, is_gone}
+use Rattle.protocol_model.specs.ClientLocks.{gives}
 use Rattle.protocol_model.specs.QuietCalls.{is_delivery}
 use Rattle.protocol_model.specs.World.{Opening, World, WorldEvent, At, Deliver, place, turn_of, refusal, accepted, happens, answers, all_answers, run}
-use Rattle.moves.proofs.Invariants.{IsUp}
 use Rattle.moves.proofs.Indices.{both}
 use Rattle.moves.proofs.Rules.{Taken}
 use Rattle.leftovers.proofs.Base.{after_turn}
@@ -27,7 +25,6 @@ use Rattle.leftovers.proofs.Walking.{event_keeps}
 use Rattle.leftovers.proofs.HeadlineClients.{grounds}
 use Rattle.leftovers.proofs.Together.{All}
 use Rattle.leftovers.proofs.Started.{AllStarted}
-use Rattle.lock_answers.proofs.Behind.{Known}
 use Rattle.lock_answers.proofs.QuietBase.{due_answer, Near, Asking, Says, Nothing, GoesOn, Ends, Step, near_after}
 use Rattle.lock_answers.proofs.QuietEvents.{Unchanged, Phase, Open, Over, Alone, not_gone, delivery_step}
 

@@ -1,43 +1,32 @@
 -- One lock call alone in a quiet world: each delivery behind it is a step of the call, or changes nothing of it.
-use Rattle.std.proofs.Common.{ℕ, Bool, true, false, ◌≡◌, ◌<◌, ◌+◌, ◌-◌, Option, Some, None, List, [], ◌∷◌, ◌++◌, refl, sym, ap, ◌∙◌, subst, arith}
-use Rattle.std.specs.Prelude.{not, ◌&&◌, ◌||◌, ◌==◌, is_none, is_some, if◌then◌else◌}
-use Rattle.std.specs.List.{list_any}
+use Rattle.std.proofs.Common.{ℕ, Bool, true, false, ◌≡◌, ◌<◌, ◌+◌, Option, Some, None, List, [], ◌∷◌, ◌++◌, refl, sym, ap, ◌∙◌, subst, arith}
+use Rattle.std.specs.Prelude.{not, ◌&&◌, ◌||◌, ◌==◌, if◌then◌else◌}
 use Rattle.std.proofs.Math.Bool.{and-false}
 use Rattle.registry_model.specs.Process.{Process, is_process, Nodes}
-use Rattle.registry_model.proofs.Updates.{by_test, at_same}
 use Rattle.protocol_model.specs.Letter.{Id, Letter, is_down}
 use Rattle.protocol_model.specs.Links.{is_nil}
 use Rattle.protocol_model.specs.LockTable.{count, is_free_for}
 use Rattle.protocol_model.specs.Round.{Round}
 use Rattle.protocol_model.specs.Watch.{Watch, is_dead}
-use Rattle.protocol_model.specs.Node.{Node, LockPhase, LockCall, call_of}
-use Rattle.protocol_model.specs.Event.{Answer, Refusal, NoSuchNode, NodeLeft, EmptyLink, Cause, cause, first_cause}
+use Rattle.protocol_model.specs.Node.{LockPhase, LockCall, call_of}
+use Rattle.protocol_model.specs.Event.{NoSuchNode, NodeLeft, EmptyLink, cause, first_cause}
 use Rattle.protocol_model.specs.Turn.{Turn, begun}
 use Rattle.protocol_model.specs.Registrar.{registrar, start}
 use Rattle.protocol_model.specs.Client.{hear_lock, hear_lock_in}
 use Rattle.protocol_model.specs.Deciding.{hear_answer}
 use Rattle.protocol_model.specs.Reading.{judge, hear, take_back, read}
-use Rattle.protocol_model.specs.ClientLocks.{gives, is_gone}
-use Rattle.protocol_model.specs.World.{Opening, in_world, World, left, WorldEvent, Deliver, place, join_number, heard, turn_of, refusal, accepted, happens, answers}
+use Rattle.protocol_model.specs.ClientLocks.{is_gone}
+use Rattle.protocol_model.specs.World.{Opening, in_world, World, left, Deliver, join_number, heard, turn_of, refusal}
 use Rattle.moves.proofs.Invariants.{Each, IsUp}
-use Rattle.moves.proofs.Indices.{both, not_true, not_false}
-use Rattle.moves.proofs.Rules.{Taken}
-use Rattle.leftovers.proofs.Base.{after_turn}
-use Rattle.leftovers.proofs.RoundNumbers
-use Rattle.leftovers.proofs.RoundNumbers.{number_after, is_won, is_tried}
-use Rattle.leftovers.proofs.Rounds.{Rounded}
 use Rattle.leftovers.proofs.Sessions
 use Rattle.leftovers.proofs.Sessions.{Ask, Takes, Echo, View, Owed, view, settled, Live}
 use Rattle.leftovers.proofs.SessionMoves.{take_front}
 use Rattle.leftovers.proofs.Mail
 use Rattle.leftovers.proofs.Clients.{Numbers, lives, IsLive, live_parts, lives_by, call_at, RoundedIn}
 use Rattle.leftovers.proofs.Ids.{is_process_self}
-use Rattle.leftovers.proofs.Walking.{event_keeps}
-use Rattle.leftovers.proofs.HeadlineClients.{grounds}
-use Rattle.leftovers.proofs.Together.{All}
 use Rattle.leftovers.proofs.Started.{AllStarted}
 use Rattle.lock_answers.proofs.Behind.{Known}
-use Rattle.lock_answers.proofs.QuietBase.{Same, starts_nothing, same_free, grants, verdict, due_answer, Ours, Near, Asking, Says, Nothing, GoesOn, Ends, Step, near_after}
+use Rattle.lock_answers.proofs.QuietBase.{starts_nothing, same_free, grants, Ours, Near, Asking, Step}
 use Rattle.lock_answers.proofs.QuietSteps.{hears, idles, judges, takes_back}
 
 -- what is known of a delivery that is accepted

@@ -1,20 +1,17 @@
 -- The steps of one lock call alone in a quiet world: what each of its letters makes of the node that reads it.
-use Rattle.std.proofs.Common.{ℕ, Bool, true, false, ◌≡◌, ◌<◌, ◌+◌, Option, Some, None, List, [], ◌∷◌, ◌++◌, refl, sym, ap, ◌∙◌, subst}
-use Rattle.std.specs.Prelude.{not, ◌&&◌, ◌||◌, ◌==◌, find, if◌then◌else◌}
-use Rattle.std.proofs.Math.Bool.{and-false}
+use Rattle.std.proofs.Common.{ℕ, Bool, true, false, ◌≡◌, ◌<◌, Some, None, List, [], ◌∷◌, ◌++◌, refl, sym, ap, ◌∙◌, subst}
+use Rattle.std.specs.Prelude.{not, ◌&&◌, if◌then◌else◌}
 use Rattle.registry_model.specs.Process.{Process, is_process, Nodes, nodes_of}
-use Rattle.registry_model.specs.Call.{Reply, True, False}
+use Rattle.registry_model.specs.Call.{True, False}
 use Rattle.registry_model.proofs.Updates.{by_test}
 use Rattle.protocol_model.specs.Letter.{Id, Letter}
-use Rattle.protocol_model.specs.LockTable.{Locks, count, is_in_the_way, is_free_for, grant, give_back}
-use Rattle.protocol_model.specs.Round.{Mark, Out, Later, Owes, Granted, Refused, Lost, Gone, Round, is_empty, begin, greatest, is_owes, asked, rest, asked_too, opens, owes, answer, is_over, granted, Ending, Held, GiveBack, ending}
+use Rattle.protocol_model.specs.LockTable.{is_free_for}
+use Rattle.protocol_model.specs.Round.{Mark, Out, Later, Owes, Granted, Refused, Lost, Gone, Round, is_owes, asked, rest, asked_too, opens, owes, answer, is_over, Ending, Held, GiveBack, ending}
 use Rattle.protocol_model.specs.Node.{Node, LockPhase, LockCall, Retries, call_of, put_call, drop_call}
-use Rattle.protocol_model.specs.Event.{Answer}
-use Rattle.protocol_model.specs.Turn.{Turn, Send, begun, sent_to, with_locks, send, send_all, keep_call, end_call}
-use Rattle.protocol_model.specs.Registrar.{registrar, ask_rest}
-use Rattle.protocol_model.specs.Client.{is_spent, in_phase, close_call, give_lock, refuse_lock, end_lock_by, go_on_lock, hear_lock_in, hear_lock}
-use Rattle.protocol_model.specs.Deciding.{hear_answer}
-use Rattle.protocol_model.specs.Reading.{judge, hear, take_back, read}
+use Rattle.protocol_model.specs.Turn.{Turn, Send, begun, sent_to, send_all, keep_call}
+use Rattle.protocol_model.specs.Registrar.{ask_rest}
+use Rattle.protocol_model.specs.Client.{is_spent, in_phase, close_call, give_lock, end_lock_by, go_on_lock, hear_lock_in}
+use Rattle.protocol_model.specs.Reading.{judge, take_back}
 use Rattle.protocol_model.specs.Answers.{answer_to}
 use Rattle.protocol_model.specs.World.{Opening, World}
 use Rattle.moves.proofs.Invariants.{Each}
@@ -25,7 +22,7 @@ use Rattle.moves.proofs.Sends.{sent_to-append}
 use Rattle.leftovers.proofs.Calls.{call_of-put, call_of-drop}
 use Rattle.leftovers.proofs.Ids.{is_process_self}
 use Rattle.leftovers.proofs.Rounds.{Rounded, mark_by, answer_opens, answer_owed, rounded_answer}
-use Rattle.lock_answers.proofs.QuietBase.{Same, way_granted, way_back, grants, verdict, due_answer, IsMark, Ours, Near, Asking, Says, Nothing, GoesOn, Ends, Step}
+use Rattle.lock_answers.proofs.QuietBase.{Same, way_granted, way_back, grants, verdict, due_answer, IsMark, Ours, Near, Asking, Nothing, GoesOn, Ends, Step}
 use Rattle.lock_answers.proofs.QuietTurns.{fails, holds}
 
 -- a node so far, with these letters to be sent
@@ -147,7 +144,8 @@ module _ (o : Opening) (w : World) (p : Process) (id : Id) (k : ℕ) (asks : Nod
             → Step o w p id k asks Ready v t (end_lock_by o.bound t e now u)
         ends h Held i = ended true (holds o w p id k asks below r rounded A.marks h i) ss sends
         ends h (GiveBack s) i = subst
-            (λ (x : Retries). Step o w p id k asks Ready v t (if is_spent x then close_call o.bound t now false (give_lock o.bound t now s u)
+            (λ (x : Retries). Step o w p id k asks Ready v t (if is_spent x
+            then close_call o.bound t now false (give_lock o.bound t now s u)
             else keep_call (in_phase LockPhase.Waiting now) (give_lock o.bound t now s u))) (sym A.retries)
             (ended false (fails o w p id k asks below r A.marks h s i)
             (ss ++ Sends.to_each (nodes_of o.bound s) (Letter.GiveBack now.id now.holder false)) (back s))
@@ -231,7 +229,8 @@ module _ (o : Opening) (w : World) (p : Process) (id : Id) (k : ℕ) (asks : Nod
         go false e = record { same = N.same t; ways = N.ways t; sends = sends false e; says = Nothing refl refl }
 
     -- a grant is given back
-    pub takes_back : (number : ℕ → ℕ) (f : ℕ) → Step o w p id k asks Ready v t (take_back o.bound t number f id p false (begun (v.node t)))
+    pub takes_back : (number : ℕ → ℕ) (f : ℕ)
+        → Step o w p id k asks Ready v t (take_back o.bound t number f id p false (begun (v.node t)))
     takes_back number f = record {
       same = alike _ refl refl refl refl;
       ways = way_back id p (v.node t).locks ∙ N.ways t;

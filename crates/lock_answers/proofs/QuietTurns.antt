@@ -1,31 +1,17 @@
 -- The turns of one lock call alone in a quiet world: what each of its letters makes of the node that reads it.
-use Rattle.std.proofs.Common.{ℕ, Bool, true, false, ◌≡◌, ◌<◌, ◌+◌, Option, Some, None, List, [], ◌∷◌, ◌++◌, refl, sym, ap, ◌∙◌, subst, inl, inr}
-use Rattle.std.specs.Prelude.{not, ◌&&◌, ◌||◌, ◌==◌, find, if◌then◌else◌}
+use Rattle.std.proofs.Common.{ℕ, Bool, true, false, ◌≡◌, ◌<◌, refl, sym, ap, ◌∙◌}
+use Rattle.std.specs.Prelude.{not, ◌&&◌, ◌||◌, ◌==◌, if◌then◌else◌}
 use Rattle.std.proofs.Math.Bool.{and-false}
-use Rattle.std.proofs.lemmas.Bool.{cases_eq, eq-eqb, ne_eqb, eqb-true}
-use Rattle.registry_model.specs.Process.{Process, is_process, Nodes, nodes_of}
-use Rattle.registry_model.specs.Call.{Reply, True, False}
-use Rattle.protocol_model.specs.Letter.{Id, Letter}
-use Rattle.protocol_model.specs.LockTable.{Locks, count, is_in_the_way, is_free_for, grant, give_back}
-use Rattle.protocol_model.specs.Round.{Mark, Out, Later, Owes, Granted, Refused, Lost, Gone, Round, is_empty, begin, greatest, is_out, is_owes, is_refused, is_gone, has_granted, asked, rest, asked_too, opens, owes, answer, is_over, granted, is_held, asked_all, Ending, Held, GiveBack, ending}
-use Rattle.protocol_model.specs.Node.{Node, LockPhase, LockCall, Retries, call_of, put_call, drop_call}
-use Rattle.protocol_model.specs.Event.{Answer}
-use Rattle.protocol_model.specs.Turn.{Turn, Send, begun, sent_to, with_locks, send, keep_call, end_call}
-use Rattle.protocol_model.specs.Registrar.{registrar, ask_rest}
-use Rattle.protocol_model.specs.Client.{is_spent, in_phase, close_call, give_lock, refuse_lock, end_lock_by, go_on_lock, hear_lock_in, hear_lock}
-use Rattle.protocol_model.specs.Deciding.{hear_answer}
-use Rattle.protocol_model.specs.Reading.{judge, hear, take_back, read}
+use Rattle.std.proofs.lemmas.Bool.{eqb-true}
+use Rattle.registry_model.specs.Process.{Process, Nodes}
+use Rattle.protocol_model.specs.Letter.{Id}
+use Rattle.protocol_model.specs.Round.{Mark, Out, Later, Owes, Granted, Refused, Lost, Gone, Round, is_empty, is_out, is_owes, is_refused, is_gone, has_granted, asked, owes, is_over, granted, is_held, asked_all, Held, GiveBack, ending}
 use Rattle.protocol_model.specs.World.{Opening, World}
-use Rattle.moves.proofs.Invariants.{Each}
-use Rattle.moves.proofs.Indices.{both, some_of, empty_at, is_empty_from, not_true}
-use Rattle.moves.proofs.Rules.{Ordered, is_ordered}
-use Rattle.leftovers.proofs.Base.{each-one, each-all}
-use Rattle.leftovers.proofs.Calls.{call_of-put, call_of-drop}
-use Rattle.leftovers.proofs.Ids.{is_process_self}
-use Rattle.leftovers.proofs.Rounds.{Rounded, mark_by, answer_opens, answer_owed, rounded_answer, is_past, is_unasked, fits_boss}
+use Rattle.moves.proofs.Indices.{both, empty_at, is_empty_from}
+use Rattle.leftovers.proofs.Rounds.{Rounded, is_past, is_unasked, fits_boss}
 use Rattle.lock_answers.proofs.BadMarks.{is_bad, failed_bad}
 use Rattle.lock_answers.proofs.Winning.{held_some}
-use Rattle.lock_answers.proofs.QuietBase.{Same, way_granted, way_back, same_free, grants, verdict, due_answer, IsMark, Ours, Near, Asking, Says, Nothing, GoesOn, Ends, Step}
+use Rattle.lock_answers.proofs.QuietBase.{grants, verdict, IsMark}
 
 module _ (o : Opening) (w : World) (p : Process) (id : Id) (k : ℕ) (asks : Nodes)
     (below : (x : ℕ) → asks x ≡ true → x < o.bound) where
@@ -54,10 +40,10 @@ module _ (o : Opening) (w : World) (p : Process) (id : Id) (k : ℕ) (asks : Nod
       → ending o.bound (asked r) r ≡ GiveBack s → verdict o w p id k asks ≡ false
   fails r marks over s e =
       let one : (x : ℕ) × (is_bad (r.mark x) ≡ true) = failed_bad o.bound r s over e (λ h. below r.boss
-          (asked_mark r.boss (r.mark r.boss) (marks r.boss) (λ i. cc (ap (λ (m : Mark). not (is_out m)) i, h)))) in
+      (asked_mark r.boss (r.mark r.boss) (marks r.boss) (λ i. cc (ap (λ (m : Mark). not (is_out m)) i, h)))) in
       let bad : (asks one.0 ≡ true) × (grants o w p id k asks one.0 ≡ false) = bad_mark one.0 (r.mark one.0) (marks one.0) one.1 in
       ap (λ (b : Bool). not (is_empty o.bound asks) && b)
-          (unless_empty one.0 bad (is_empty o.bound (λ c. asks c && not (grants o w p id k asks c))) refl)
+      (unless_empty one.0 bad (is_empty o.bound (λ c. asks c && not (grants o w p id k asks c))) refl)
       ∙ and-false (not (is_empty o.bound asks))
     where
       unless_empty : (x : ℕ) → (asks x ≡ true) × (grants o w p id k asks x ≡ false) → (b : Bool)

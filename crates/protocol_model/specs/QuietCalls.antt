@@ -18,7 +18,7 @@ abbrev pub is_delivery : WorldEvent → Bool
 is_delivery (Deliver f c) = true
 is_delivery _ = false
 
--- p calls for a lock once
+-- p calls for a lock, to be tried once
 abbrev pub called_once : Process → Text → Text → Target → WorldEvent
 called_once p r z target = At p.node (Event.Calling (Call.SetLock p r z target (Times 0)))
 
@@ -40,7 +40,7 @@ pub record IsAnswerTo (a k : ℕ) (given : List Answer) (s : Answer) : Type 0 wh
   pub number : s.number ≡ k
 
 module _ (o : Opening) (es : List WorldEvent) (w : World) where
-  -- in a quiet world p calls for a lock once, and then some letters are delivered
+  -- in a quiet world p makes such a call, and then letters are delivered
   pub record IsQuietCall (p : Process) (r z : Text) (target : Target) (ds : List WorldEvent) : Type 0 where
     pub quiet : IsQuiet o w
     pub accepted : refusal o w (called_once p r z target) ≡ None
