@@ -57,3 +57,9 @@ pub mod OpenCalls
 pub mod LastCalls
 pub mod Waiting
 pub mod ClientLocks
+pub mod QuietBase
+pub mod QuietTurns
+pub mod QuietSteps
+pub mod QuietEvents
+pub mod QuietCourse
+pub mod QuietCalls

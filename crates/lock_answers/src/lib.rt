@@ -5,6 +5,8 @@
 ghost use Rattle.std.specs.Prelude.{List};
 ghost use Rattle.protocol_model.specs.World.{Opening, WorldEvent, opening_world, run};
 ghost use Rattle.protocol_model.specs.LockAnswers.{ReadsTheSeen, ClientLocks, AtEachStep, AnswersTheLiving, UsesAllRetries, UsesNoMore, FailsForAReason, IsHeldSomewhere, IsGivenBack};
+ghost use Rattle.protocol_model.specs.Leftovers.{Always};
+ghost use Rattle.protocol_model.specs.QuietCalls.{QuietCallsAreTold, QuietCallsAreAnswered};
 
 /// Clients' locks exclude each other behind every list of events, they are counted by what is seen, and whatever the world accepts
 /// next is answered as the laws below say.
@@ -48,4 +50,15 @@ pub fn is_held_somewhere()
 /// Where a `del_lock` is answered, each running node it went to has the lock as often as the process holds it there.
 pub fn deletions_are_done()
     ensures { AtEachStep IsGivenBack }
+{}
+
+/// A `set_lock` with no retries that is called while no letter waits is answered `true` where the lock is free at all nodes that it
+/// asks, and else `false`, whichever letters are delivered behind it.
+pub fn quiet_calls_are_told()
+    ensures { Always QuietCallsAreTold }
+{}
+
+/// And once no letter waits again it has been answered.
+pub fn quiet_calls_are_answered()
+    ensures { Always QuietCallsAreAnswered }
 {}
