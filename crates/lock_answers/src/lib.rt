@@ -8,8 +8,8 @@ ghost use Rattle.protocol_model.specs.LockAnswers.{ReadsTheSeen, ClientLocks, At
 ghost use Rattle.protocol_model.specs.Leftovers.{Always};
 ghost use Rattle.protocol_model.specs.QuietCalls.{QuietCallsAreTold, QuietCallsAreAnswered};
 
-/// Clients' locks exclude each other behind every list of events, they are counted by what is seen, and whatever the world accepts
-/// next is answered as the laws below say.
+/// Clients' locks exclude each other behind every list of events, they are counted by what is seen, and what comes next is answered
+/// as the laws below say.
 pub fn client_locks()
     ensures { (o : Opening) (es : List WorldEvent) → ClientLocks o es (run o (opening_world o) es) }
 {}

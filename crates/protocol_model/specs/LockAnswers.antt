@@ -15,6 +15,7 @@ use Rattle.protocol_model.specs.Course.{course, standing, seen}
 use Rattle.protocol_model.specs.Answers.{holder_in, calls_at, answers_under}
 use Rattle.protocol_model.specs.ClientLocks.{Try, try_of, is_refused, is_gone, number, ExclusionAfter}
 use Rattle.protocol_model.specs.Leftovers.{IsQuiet}
+use Rattle.protocol_model.specs.QuietCalls.{QuietCallsAreTold, QuietCallsAreAnswered}
 
 -- the last `set_lock` of a process: its last try, the retries that it was given, how often it was tried, and whether that try met
 -- something for which it may fail
@@ -211,11 +212,14 @@ pub record ReadsTheSeen (o : Opening) (es : List WorldEvent) (w : World) : Type 
       is_gone w p ≡ ((standing o (course o (opening_world o) es)).registry.left p.node || (seen o w).dead p)
 
 -- Clients' locks behind the events es, of which the world is w: they exclude each other, they are counted by what is seen, and so
--- is answered in the step of each event that the world would accept now
+-- is answered in the step of each event that the world would accept now; where it is quiet, a `set_lock` with no retries is answered
+-- as the lock is free
 pub record ClientLocks (o : Opening) (es : List WorldEvent) (w : World) : Type 0 where
   pub exclusion : ExclusionAfter o es w
   pub reads : ReadsTheSeen o es w
   pub answers : (e : WorldEvent) → refusal o w e ≡ None → LockAnswers o es w e
+  pub quiet : QuietCallsAreTold o es w
+  pub answered : QuietCallsAreAnswered o es w
 
 -- whatever the opening, the events and the accepted one behind them
 abbrev pub AtEachStep : (Opening → List WorldEvent → World → WorldEvent → Type 0) → Type 0
