@@ -56,10 +56,10 @@ pub mod FailsReasoned
 pub mod OpenCalls
 pub mod LastCalls
 pub mod Waiting
-pub mod ClientLocks
 pub mod QuietBase
 pub mod QuietTurns
 pub mod QuietSteps
 pub mod QuietEvents
 pub mod QuietCourse
 pub mod QuietCalls
+pub mod ClientLocks
