@@ -87,7 +87,7 @@ fails_for_a_reason o es e h p x s is A f = go (is_plain e) (is_last e) refl refl
         (K.kept y i) s
         (record { given = A.given; node = A.node; number = A.number ∙ sym (ap (λ (z : Tries). z.last.number) same) }) f)
 
-    go : (k l : Bool) → is_plain e ≡ k → is_last e ≡ l → AsksNobody o x.last ⊎ (x.met ≡ true)
+    go : (k l : Bool) → is_plain e ≡ k → is_last e ≡ l → AsksNobody x.last ⊎ (x.met ≡ true)
     go false l i j = inl (nobody_asked o w K.num p t K.known K.fits x s e i h by A (ap is_verdict f)).1
     go true true i j = inr (left_silent e j (given_in_turn o w e s h A.given))
     go true false i j = inr (watched_so t refl i j (sym (plain_tries o w p t e i) ∙ by))

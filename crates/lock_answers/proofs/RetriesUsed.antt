@@ -111,10 +111,10 @@ module _ (o : Opening) (es : List WorldEvent) (e : WorldEvent) (h : refusal o (r
   by : tries_by o w e p t ≡ Some x
   by = sym (tries_behind o p es e h) ∙ is
 
-  fails : s.reply ≡ False → AsksNobody o x.last ⊎ AreUsedUp x
+  fails : s.reply ≡ False → AsksNobody x.last ⊎ AreUsedUp x
   fails f = go (is_plain e) refl
     where
-      go : (b : Bool) → is_plain e ≡ b → AsksNobody o x.last ⊎ AreUsedUp x
+      go : (b : Bool) → is_plain e ≡ b → AsksNobody x.last ⊎ AreUsedUp x
       go false i = inl (nobody_asked o w K.num p t K.known K.fits x s e i h by A (ap is_verdict f)).1
       go true i = inr (plain_used o w K.num p t K.known K.fits K.kept e i h x by s A f)
 

@@ -123,8 +123,8 @@ pub record Answers (o : Opening) (w : World) (e : WorldEvent) (p : Process) (k :
   pub number : s.number ≡ k
 
 -- the try has nobody to ask
-abbrev pub AsksNobody : Opening → Try → Type 0
-AsksNobody o t = is_empty o.bound t.asks ≡ true
+abbrev pub AsksNobody : Try → Type 0
+AsksNobody t = (c : ℕ) → t.asks c ≡ false
 
 -- all retries that were given are used up
 pub record AreUsedUp (t : Tries) : Type 0 where
@@ -148,7 +148,7 @@ module _ (o : Opening) (es : List WorldEvent) (w : World) (e : WorldEvent) where
   -- `false` is answered where all retries are used up, or where there is nobody to ask
   abbrev pub UsesAllRetries : Type 0
   UsesAllRetries = (p : Process) (t : Tries) (s : Answer) → tries_of o (es ++ e ∷ []) p ≡ Some t →
-      Answers o w e p t.last.number s → s.reply ≡ False → AsksNobody o t.last ⊎ AreUsedUp t
+      Answers o w e p t.last.number s → s.reply ≡ False → AsksNobody t.last ⊎ AreUsedUp t
 
   -- and `true` within them
   abbrev pub UsesNoMore : Type 0
@@ -159,7 +159,7 @@ module _ (o : Opening) (es : List WorldEvent) (w : World) (e : WorldEvent) where
   -- lock; or where there is nobody to ask
   abbrev pub FailsForAReason : Type 0
   FailsForAReason = (p : Process) (t : Tries) (s : Answer) → tries_of o (es ++ e ∷ []) p ≡ Some t →
-      Answers o w e p t.last.number s → s.reply ≡ False → AsksNobody o t.last ⊎ (t.met ≡ true)
+      Answers o w e p t.last.number s → s.reply ≡ False → AsksNobody t.last ⊎ (t.met ≡ true)
 
   -- where `true` is answered, some node that was asked isn't told of as departed
   abbrev pub IsHeldSomewhere : Type 0
