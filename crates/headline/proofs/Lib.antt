@@ -29,6 +29,7 @@ pub mod Joiners
 pub mod Welcomed
 pub mod Spawning
 pub mod NextSerial
+pub mod Exiting
 pub mod LookingUp
 pub mod Causes
 pub mod Refusals
