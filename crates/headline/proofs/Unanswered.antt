@@ -32,7 +32,7 @@ module _ (o : Opening) (es : List WorldEvent) (p : Process) (c : LockCall)
   L : Ledger p.node (calls_at p.node (events o es)) ((world o es).node p.node).calls (answers_of (events o es))
   L = ledgers o es p.node
 
-  I : IsCalled (calls_at p.node (events o es)) c.number c.phase
+  I : IsCalled (calls_at p.node (events o es)) p c.number c.phase
   I = L.called p c e
 
   pub open_unanswered : answers_under p.node c.number (events o es) ≡ []

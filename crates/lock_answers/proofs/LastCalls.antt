@@ -39,7 +39,7 @@ use Rattle.lock_answers.proofs.EventTurns.{SetTurn, set_turn}
 use Rattle.lock_answers.proofs.LastTry.{tries_more}
 use Rattle.lock_answers.proofs.Nobody.{some_same}
 use Rattle.lock_answers.proofs.OpenCalls.{IsOpenAt, IsSaid, chain_open, begins_open}
-use Rattle.lock_answers.proofs.Owned.{calls_push, last_called}
+use Rattle.leftovers.proofs.Callers.{calls_push, last_called}
 use Rattle.lock_answers.proofs.Pushed.{answers_turn}
 
 -- where two lists make none, there is none
