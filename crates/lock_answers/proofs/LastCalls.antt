@@ -1,51 +1,32 @@
--- The last `set_lock` of a process behind every list of events: it was accepted under its number, and it is open as long as it
--- isn't answered and the process isn't gone.
-use Rattle.std.proofs.Common.{ℕ, Bool, true, false, ◌==◌, ◌≡◌, ◌+◌, ◌-◌, ◌<◌, Option, Some, None, List, [], ◌∷◌, ◌++◌, length, refl, sym, ap, ◌∙◌, subst, arith, inl, inr}
-use Rattle.std.specs.Prelude.{◌&&◌, is_none, filter, Contains, if◌then◌else◌}
+-- The last `set_lock` of a process behind every list of events: it was accepted under its number.
+use Rattle.std.proofs.Common.{ℕ, Bool, true, false, ◌==◌, ◌≡◌, ◌+◌, ◌-◌, ◌<◌, Option, Some, None, List, [], ◌∷◌, ◌++◌, length, refl, sym, ap, ◌∙◌, subst, arith}
+use Rattle.std.specs.Prelude.{◌&&◌, is_none, if◌then◌else◌}
 use Rattle.std.specs.List.{slice_get}
 use Rattle.std.proofs.lemmas.List.{append-nil}
-use Rattle.std.proofs.lemmas.List.Elements.{filter-append, Contains-append_right, Contains-append_left}
-use Rattle.std.proofs.lemmas.Grind.{flat_map-append}
-use Rattle.std.proofs.lemmas.Bool.{eq-eqb}
 use Rattle.registry_model.specs.Process.{Text, Process, is_process, Nodes}
-use Rattle.registry_model.proofs.Lists.{by_push, Contains-nil}
+use Rattle.registry_model.proofs.Lists.{by_push}
 use Rattle.protocol_model.specs.Letter.{Client}
-use Rattle.protocol_model.specs.Node.{LockCall, Target, Retries}
-use Rattle.protocol_model.specs.Event.{Call, Event, Answer, Refusal}
-use Rattle.protocol_model.specs.Client.{new_call}
-use Rattle.protocol_model.specs.Answers.{answer_to, calls_at, answers_under}
-use Rattle.protocol_model.specs.Course.{Played, played, answers_of}
+use Rattle.protocol_model.specs.Node.{Target, Retries}
+use Rattle.protocol_model.specs.Event.{Call, Event, Refusal}
+use Rattle.protocol_model.specs.Answers.{calls_at}
+use Rattle.protocol_model.specs.Course.{Played, played}
 use Rattle.protocol_model.specs.Fit.{calls_in}
-use Rattle.protocol_model.specs.ClientLocks.{Try, try_of, is_refused, is_gone}
+use Rattle.protocol_model.specs.ClientLocks.{Try, try_of, is_refused}
 use Rattle.protocol_model.specs.LockAnswers.{Tries, watched, next_try, first_try, tries_in, tries_by, tries_after, tries_of}
-use Rattle.protocol_model.specs.World.{Opening, World, WorldEvent, At, Deliver, place, opening_world, refusal, happens, accepted, turn_of}
-use Rattle.moves.proofs.Rules
-use Rattle.moves.proofs.Rules.{Rule}
-use Rattle.walk.proofs.Orders.{ordered_keeps}
-use Rattle.walk.proofs.Walk.{OrderedWalk}
-use Rattle.leftovers.proofs.Chains.{up_before}
+use Rattle.protocol_model.specs.World.{Opening, World, WorldEvent, At, Deliver, opening_world, refusal, happens, accepted}
 use Rattle.leftovers.proofs.FittingTheorem as Theorem
-use Rattle.leftovers.proofs.Found.{kept_in}
 use Rattle.leftovers.proofs.Ids.{is_process_same}
 use Rattle.leftovers.proofs.Passing.{slice_get-front}
 use Rattle.leftovers.proofs.Story.{ground}
 use Rattle.leftovers.proofs.Tied.{course-push, run-push}
 use Rattle.leftovers.proofs.Together
 use Rattle.leftovers.proofs.Together.{whole_opens}
-use Rattle.leftovers.proofs.Told.{chain_of}
 use Rattle.leftovers.specs.Clauses.{events, world}
-use Rattle.lock_answers.proofs.Behind.{walk_of, Stands, stands}
+use Rattle.leftovers.proofs.Callers.{calls_push, last_called}
+use Rattle.lock_answers.proofs.Behind.{Stands, stands}
 use Rattle.lock_answers.proofs.EventTurns.{SetTurn, set_turn}
 use Rattle.lock_answers.proofs.LastTry.{tries_more}
 use Rattle.lock_answers.proofs.Nobody.{some_same}
-use Rattle.lock_answers.proofs.OpenCalls.{IsOpenAt, IsSaid, chain_open, begins_open}
-use Rattle.lock_answers.proofs.Owned.{calls_push, last_called}
-use Rattle.lock_answers.proofs.Pushed.{answers_turn}
-
--- where two lists make none, there is none
-nil_parts : {A : Type 0} (xs ys : List A) → xs ++ ys ≡ [] → (xs ≡ []) × (ys ≡ [])
-nil_parts [] ys e = (refl, e)
-nil_parts (x ∷ xs) ys e = cc
 
 -- the call of these tries is that one of p among the accepted ones of its node
 pub record IsSet (calls : List Call) (p : Process) (t : Tries) : Type 0 where
@@ -195,134 +176,6 @@ module _ (o : Opening) (p : Process) where
               ∙ ap (λ (t : Retries). Some (Call.SetLock p I.resource I.requester x.last.target t)) (sym given);
         }
 
-    -- the answers under a number, behind the event
-    under_push : (n : ℕ) → answers_under p.node n (events o es ++ step ∷ [])
-        ≡ answers_under p.node n (events o es) ++ filter (λ s. (s.node == p.node) && (s.number == n)) step.answers
-    under_push n = ap (λ (ss : List Answer). filter (λ s. (s.node == p.node) && (s.number == n)) ss)
-        (flat_map-append (λ (q : Played). q.answers) (events o es) (step ∷ [])
-        ∙ ap (λ (ss : List Answer). answers_of (events o es) ++ ss) (append-nil step.answers))
-        ∙ filter-append (λ s. (s.node == p.node) && (s.number == n)) (answers_of (events o es)) step.answers
-
-    -- what isn't answered behind the event wasn't before, and isn't by the event
-    unsaid : (n : ℕ) → answers_under p.node n (events o es ++ step ∷ []) ≡ []
-        → (answers_under p.node n (events o es) ≡ []) × (IsSaid p n (turn_of o w e).answers → ⊥)
-    unsaid n none = (
-      (nil_parts (answers_under p.node n (events o es)) _ (sym (under_push n) ∙ none)).0,
-      λ s. Contains-nil (answer_to p.node n s.0)
-          (subst (λ (ss : List Answer). Contains ss (answer_to p.node n s.0))
-          (nil_parts (answers_under p.node n (events o es)) _ (sym (under_push n) ∙ none)).1
-          (kept_in (λ x. (x.node == p.node) && (x.number == n)) step.answers (answer_to p.node n s.0)
-          (subst (λ (ss : List Answer). Contains ss (answer_to p.node n s.0)) (sym (answers_turn o es e h)) s.1)
-          (rw (eq-eqb p.node p.node refl, eq-eqb n n refl) refl))),
-    )
-
-    W : OrderedWalk o w e
-    W = walk_of o w (known es).num (known es).known e h
-
-    -- an open call stays so
-    open_on : (n : ℕ) → is_gone (accepted o w e) p ≡ false → (IsSaid p n (turn_of o w e).answers → ⊥) → IsOpenAt w p n
-        → IsOpenAt (accepted o w e) p n
-    open_on n up silent I = elim (chain_open o (place e) p n (chain_of o w e W.walk.rest) w (known es).known.ordered
-        W.walk.may I (subst (λ (v : World). is_gone v p ≡ false) (sym W.walk.world) up)) [
-          | inl k ↦ subst (λ (v : World). IsOpenAt v p n) W.walk.world k
-          | inr s ↦ absurd (silent (subst (IsSaid p n) W.walk.answers s))
-        ]
-
-    -- a new call is open
-    open_new : (a n : ℕ) (r z : Text) (target : Target) (retries : Retries)
-        → e ≡ At a (Event.Calling (Call.SetLock p r z target retries)) → p.node ≡ a → n ≡ (w.node a).last_call + 1
-        → is_gone (accepted o w e) p ≡ false → (IsSaid p n (turn_of o w e).answers → ⊥) → IsOpenAt (accepted o w e) p n
-    open_new a n r z target retries event home number up silent =
-        subst (λ (d : WorldEvent). is_gone (accepted o w d) p ≡ false → (IsSaid p n (turn_of o w d).answers → ⊥)
-        → IsOpenAt (accepted o w d) p n) (sym event)
-        (λ u s. by (walk_of o w (known es).num (known es).known set
-        (subst (λ (d : WorldEvent). refusal o w d ≡ None) event h)) u s) up silent
-      where
-        set : WorldEvent
-        set = At a (Event.Calling (Call.SetLock p r z target retries))
-
-        new : LockCall
-        new = new_call o.bound a ((w.node a).last_call + 1) p r z target retries
-
-        by : (V : OrderedWalk o w set) → is_gone (accepted o w set) p ≡ false
-            → (IsSaid p n (turn_of o w set).answers → ⊥) → IsOpenAt (accepted o w set) p n
-        by V u s = subst (λ (v : World). IsOpenAt v p n) V.walk.world (chained V.walk.rest V.in_order.1.1.0 V.walk.may
-            (subst (λ (v : World). is_gone v p ≡ false) (sym V.walk.world) u)
-            (λ x. s (subst (IsSaid p n) V.walk.answers x)))
-          where
-            x : Rule
-            x = V.in_order.0
-
-            later : List Rule
-            later = V.in_order.1.0
-
-            -- behind the rule that takes the number
-            taken : World
-            taken = Rules.effect o a Rules.CallsLock w
-
-            chained : (rest : List Rule) → rest ≡ x ∷ later → Rules.MayAll o a (Rules.CallsLock ∷ rest) w
-                → is_gone (Rules.effects o a (Rules.CallsLock ∷ rest) w) p ≡ false
-                → (IsSaid p n (Rules.answers_by o a (Rules.CallsLock ∷ rest) w) → ⊥)
-                → IsOpenAt (Rules.effects o a (Rules.CallsLock ∷ rest) w) p n
-            chained rest is = subst (λ (rs : List Rule). Rules.MayAll o a (Rules.CallsLock ∷ rs) w
-                → is_gone (Rules.effects o a (Rules.CallsLock ∷ rs) w) p ≡ false
-                → (IsSaid p n (Rules.answers_by o a (Rules.CallsLock ∷ rs) w) → ⊥)
-                → IsOpenAt (Rules.effects o a (Rules.CallsLock ∷ rs) w) p n) (sym is) here
-              where
-                begun : World
-                begun = Rules.effect o a x taken
-
-                here : Rules.MayAll o a (Rules.CallsLock ∷ x ∷ later) w
-                    → is_gone (Rules.effects o a later begun) p ≡ false
-                    → (IsSaid p n (Rules.answers_by o a (Rules.CallsLock ∷ x ∷ later) w) → ⊥)
-                    → IsOpenAt (Rules.effects o a later begun) p n
-                here m live quiet = elim (begins_open o a p n taken x new ordered m.1.0 V.in_order.1.1.1 home refl
-                    (sym number)) [
-                      | inl k ↦ elim (chain_open o a p n later begun (ordered_keeps o a taken x ordered m.1.0) m.1.1 k
-                          live) [
-                            | inl j ↦ j
-                            | inr j ↦ absurd (quiet (
-                              j.0,
-                              Contains-append_right (Rules.turn_by o a w Rules.CallsLock).answers
-                                  (Rules.answers_by o a (x ∷ later) taken) _
-                                  (Contains-append_right (Rules.turn_by o a taken x).answers
-                                  (Rules.answers_by o a later begun) _ j.1),
-                            ))
-                          ]
-                      | inr j ↦ absurd (quiet (
-                        j.0,
-                        Contains-append_right (Rules.turn_by o a w Rules.CallsLock).answers
-                            (Rules.answers_by o a (x ∷ later) taken) _
-                            (Contains-append_left (Rules.turn_by o a taken x).answers
-                            (Rules.answers_by o a later begun) _ j.1),
-                      ))
-                    ]
-                  where
-                    ordered : Rules.Ordered taken
-                    ordered = ordered_keeps o a w Rules.CallsLock (known es).known.ordered m.0
-
-    open_next : ((y : Tries) → tries_of o es p ≡ Some y → is_gone w p ≡ false
-        → answers_under p.node y.last.number (events o es) ≡ [] → IsOpenAt w p y.last.number) → (x : Tries)
-        → tries_by o w e p (tries_of o es p) ≡ Some x → is_gone (accepted o w e) p ≡ false
-        → answers_under p.node x.last.number (events o es ++ step ∷ []) ≡ [] → IsOpenAt (accepted o w e) p x.last.number
-    open_next K x is up none = elim (goes x is) [
-      | Begins a r z target retries event home last given ↦ open_new a x.last.number r z target retries event home
-          (ap (λ (t : Try). t.number) last) up (unsaid x.last.number none).1
-      | GoesOn y i number id target given ↦ open_on x.last.number up (unsaid x.last.number none).1
-          (subst (IsOpenAt w p) (sym number) (K y i was
-          (ap (λ (k : ℕ). answers_under p.node k (events o es)) (sym number) ∙ (unsaid x.last.number none).0)))
-    ]
-      where
-        was : is_gone w p ≡ false
-        was = up_before o (place e) (chain_of o w e W.walk.rest) w p
-            (subst (λ (v : World). is_gone v p ≡ false) (sym W.walk.world) up)
-
   -- the last `set_lock` of p was accepted
   pub is_set : (es : List WorldEvent) (x : Tries) → tries_of o es p ≡ Some x → IsSet (calls_at p.node (events o es)) p x
   is_set es = behind (λ w t ps. (x : Tries) → t ≡ Some x → IsSet (calls_at p.node ps) p x) (λ x i. cc) set_next es
-
-  -- and it is open
-  pub stays_open : (es : List WorldEvent) (x : Tries) → tries_of o es p ≡ Some x → is_gone (world o es) p ≡ false
-      → answers_under p.node x.last.number (events o es) ≡ [] → IsOpenAt (world o es) p x.last.number
-  stays_open es = behind (λ w t ps. (x : Tries) → t ≡ Some x → is_gone w p ≡ false
-      → answers_under p.node x.last.number ps ≡ [] → IsOpenAt w p x.last.number) (λ x i. cc) open_next es

@@ -53,7 +53,6 @@ pub mod Meeting
 pub mod ReasonSteps
 pub mod ReasonEvents
 pub mod FailsReasoned
-pub mod OpenCalls
 pub mod LastCalls
 pub mod Waiting
 pub mod QuietBase

@@ -7,7 +7,7 @@ use Rattle.std.proofs.lemmas.Bool.{cases_eq}
 use Rattle.registry_model.specs.Process.{Process, is_process}
 use Rattle.registry_model.specs.History.{Entry, standing_of}
 use Rattle.protocol_model.specs.Node.{Node, LockPhase, LockCall, Retries, Times, Endless, call_of}
-use Rattle.protocol_model.specs.Event.{Event, is_waiting, is_waiting_call}
+use Rattle.protocol_model.specs.Event.{Call, Event, is_waiting, is_waiting_call}
 use Rattle.protocol_model.specs.Turn.{Turn}
 use Rattle.protocol_model.specs.Client.{is_spent}
 use Rattle.protocol_model.specs.Answers.{answers_under}
@@ -15,6 +15,7 @@ use Rattle.protocol_model.specs.Course.{standing}
 use Rattle.protocol_model.specs.Watch.{is_dead}
 use Rattle.protocol_model.specs.ClientLocks.{Try, is_refused, is_gone}
 use Rattle.protocol_model.specs.Leftovers.{IsQuiet}
+use Rattle.protocol_model.specs.Refusals.{HasOpenCall}
 use Rattle.protocol_model.specs.LockAnswers.{Tries, tries_of, AreUsedUp, IsUnanswered, WaitsForRetry, ReadsTheSeen}
 use Rattle.protocol_model.specs.World.{Opening, in_cluster, World, WorldEvent, At, Deliver, place, left, opening_world, refusal, accepted, turn_of}
 use Rattle.moves.proofs.Indices.{neither}
@@ -28,13 +29,12 @@ use Rattle.leftovers.proofs.Story.{written}
 use Rattle.leftovers.proofs.Tied.{run-push}
 use Rattle.leftovers.proofs.Together.{replicas, run_whole}
 use Rattle.leftovers.proofs.Tries.{IsTryOf}
-use Rattle.leftovers.proofs.Unanswered.{open_unanswered}
+use Rattle.leftovers.proofs.Unanswered.{open_waits, waits_open}
 use Rattle.leftovers.specs.Clauses.{events, world}
 use Rattle.lock_answers.proofs.Behind.{Stands, stands}
-use Rattle.lock_answers.proofs.LastCalls.{IsSet, behind, known, is_set, stays_open}
+use Rattle.lock_answers.proofs.LastCalls.{IsSet, behind, known, is_set}
 use Rattle.lock_answers.proofs.LastTry.{last_of}
 use Rattle.lock_answers.proofs.Nobody.{some_same}
-use Rattle.lock_answers.proofs.OpenCalls.{IsOpenAt}
 use Rattle.lock_answers.proofs.Pushed.{happens_now}
 use Rattle.lock_answers.proofs.ReasonEvents.{ReasonsAt, reasons_next}
 use Rattle.lock_answers.proofs.ReasonSteps.{Reasons}
@@ -161,12 +161,13 @@ module _ (o : Opening) (es : List WorldEvent) where
       unanswered : IsUnanswered o es p x
       unanswered =
           let I : IsSet _ p x = is_set o p es x is in
+          let C : (C : HasOpenCall (events o es) p.node p) × (C.number ≡ c.number) = open_waits o es p.node p c found in
           record {
             resource = I.resource;
             requester = I.requester;
             id = I.id;
             call = (I.positive, I.call);
-            unanswered = ap (λ (k : ℕ). answers_under p.node k (events o es)) T.number ∙ open_unanswered o es p c found;
+            unanswered = ap (λ (k : ℕ). answers_under p.node k (events o es)) (T.number ∙ sym C.1) ∙ C.0.unanswered;
           }
 
     -- its node accepts a retry
@@ -210,13 +211,22 @@ module _ (o : Opening) (es : List WorldEvent) where
     waits : (x : Tries) → IsQuiet o w → is_gone w p ≡ false → tries_of o es p ≡ Some x
         → answers_under p.node x.last.number (events o es) ≡ [] → is_refused w p ≡ true
     waits x quiet live is none =
-        let I : IsOpenAt w p x.last.number = stays_open o p es x is live none in
-        let up : left w p.node ≡ false =
-        (neither (left w p.node) (is_dead (w.node p.node).watch p.serial) live).0 in
+        let S : IsSet _ p x = is_set o p es x is in
+        let C : HasOpenCall (events o es) p.node p = record {
+          number = x.last.number;
+          call = Call.SetLock p S.resource S.requester x.last.target x.retries;
+          positive = S.positive;
+          accepted = S.call;
+          holder = refl;
+          unanswered = none;
+        } in
+        let up : (left w p.node ≡ false) × (is_dead (w.node p.node).watch p.serial ≡ false) =
+        neither (left w p.node) (is_dead (w.node p.node).watch p.serial) live in
+        let I : (c : LockCall) × (call_at w p ≡ Some c) × (c.number ≡ x.last.number) = waits_open o es p.node p C up.1 in
         let L : IsLive o w p = live_parts o w p
-        (caller_lives o w (known o p es).num (known o p es).known.clients p I.0 up I.1) in
+        (caller_lives o w (known o p es).num (known o p es).known.clients p I.0 up.0 I.1) in
         ap (λ (k : Option LockCall). elim k [ None ↦ false | Some c ↦ is_waiting_call c.phase ]) I.1
-        ∙ ap is_waiting_call (calls_wait o w (whole o es) quiet p I.0 (L.inside, up) I.1)
+        ∙ ap is_waiting_call (calls_wait o w (whole o es) quiet p I.0 (L.inside, up.0) I.1)
 
   -- all this together
   pub reads_the_seen : ReadsTheSeen o es w
