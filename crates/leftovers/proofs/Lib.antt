@@ -76,4 +76,5 @@ pub mod Verdicts
 pub mod Doomed
 pub mod DoomedEvents
 pub mod Carried
+pub mod WhenFree
 pub mod Nothing
