@@ -24,6 +24,7 @@ pub mod OpenCalls
 pub mod OpenEvents
 pub mod Answered
 pub mod Callers
+pub mod Unanswered
 pub mod Joiners
 pub mod Welcomed
 pub mod Spawning

@@ -139,12 +139,12 @@ pub fn joined_agree()
     ensures { JoinedAgree }
 {}
 
-/// A `no` is never given to a free name and a free process.
+/// A `no` is never given to a free name and a free process of a member.
 pub fn no_to_the_taken()
     ensures { NoToTheTaken }
 {}
 
-/// A `yes` is given to a free name and a free process only.
+/// A `yes` is given to a free name and a free process of a member only.
 pub fn yes_to_the_free_only()
     ensures { YesToTheFreeOnly }
 {}
