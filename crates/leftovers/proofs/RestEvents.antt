@@ -13,13 +13,13 @@ use Rattle.protocol_model.specs.Letter.{Letter, is_down}
 use Rattle.protocol_model.specs.LockTable.{is_free_for}
 use Rattle.protocol_model.specs.Node.{Node, Op, Current, LockPhase, LockCall, Times, call_of}
 use Rattle.protocol_model.specs.Event.{Call, Event, Refusal, cause, first_cause, names_members, calls_spent}
-use Rattle.protocol_model.specs.Turn.{Turn, begun, counted, enter, send, at_work, with_replica, reply_with}
+use Rattle.protocol_model.specs.Turn.{Turn, begun, count_call, enter, send, at_work, with_replica, reply_with}
 use Rattle.protocol_model.specs.Registrar.{registrar, start, retry_global, await_less, lose_contact}
 use Rattle.protocol_model.specs.Deciding.{hear_answer, lose}
 use Rattle.protocol_model.specs.Client.{new_call, hear_lock}
 use Rattle.protocol_model.specs.Calling.{die, kill, call, event, queued}
 use Rattle.protocol_model.specs.Reading.{admitted, welcomed, bereft, judge, take_back, refused_join, welcome, told_of, bereave, read, receive}
-use Rattle.protocol_model.specs.World.{Opening, in_world, World, left, WorldEvent, At, Deliver, place, refusal, join_number, heard, turn_of, apply, opened, closed, accepted, opening_world, in_cluster, local_causes}
+use Rattle.protocol_model.specs.World.{Opening, in_world, World, left, WorldEvent, At, Deliver, place, refusal, join_number, heard, turn_of, apply, letter_taken, leaver_closed_out, accepted, opening_world, in_cluster, local_causes}
 use Rattle.registry_model.proofs.Updates.{by_test, at_other}
 use Rattle.moves.proofs.Indices.{both, not_true}
 use Rattle.moves.proofs.Invariants
@@ -341,12 +341,12 @@ module _ (o : Opening) (w : World) (B : Base o w) (a : ℕ) (here : in_world o a
   call-rests (Call.LookUp look) h = record { sides = R.sides; work = R.work }
   call-rests (Call.OnName c) h = record { sides = R.sides; work = R.work }
   call-rests (Call.SetLock p r q target retries) h = try_lock-rests o a
-      (new_call o.bound a (v.last_call + 1) p r q target retries) (counted (begun v))
+      (new_call o.bound a (v.last_call + 1) p r q target retries) (count_call (begun v))
       (live_own a v.watch p (lock_tested a v p r
       (cause (not (names_members v target)) Refusal.UnknownNode ∷ calls_spent v ∷ []) h).0)
       (record { sides = R.sides; work = R.work })
   call-rests (Call.DelLock p r q target) h = delete_lock-rests o a
-      (new_call o.bound a (v.last_call + 1) p r q target (Times 0)) (counted (begun v))
+      (new_call o.bound a (v.last_call + 1) p r q target (Times 0)) (count_call (begun v))
       (live_own a v.watch p (lock_tested a v p r (calls_spent v ∷ []) h).0)
       (record { sides = R.sides; work = R.work })
   call-rests (Call.JoinBy m) h = record { sides = R.sides; work = R.work }
@@ -365,21 +365,21 @@ module _ (o : Opening) (w : World) (B : Base o w) (a : ℕ) (here : in_world o a
       (died p (enter (Entry.Exit p) (begun v)) (record { sides = R.sides; work = R.work }))
   event-rests Event.Leave h = record { sides = R.sides; work = R.work }
 
-closed-node : (e : WorldEvent) (w : World) → (closed e w).node ≡ w.node
+closed-node : (e : WorldEvent) (w : World) → (leaver_closed_out e w).node ≡ w.node
 closed-node (At a Event.Leave) w = refl
 closed-node (At a (Event.Calling c)) w = refl
 closed-node (At a Event.Retry) w = refl
 closed-node (At a (Event.Exiting p)) w = refl
 closed-node (Deliver f t) w = refl
 
-opened-node : (e : WorldEvent) (w : World) → (opened e w).node ≡ w.node
+opened-node : (e : WorldEvent) (w : World) → (letter_taken e w).node ≡ w.node
 opened-node (Deliver f t) w = refl
 opened-node (At a e) w = refl
 
 -- an accepted event changes its node alone
 pub accepted-node : (o : Opening) (w : World) (e : WorldEvent)
     → (accepted o w e).node ≡ at w.node (place e) (turn_of o w e).node
-accepted-node o w e = closed-node e (apply (place e) (turn_of o w e) (opened e w))
+accepted-node o w e = closed-node e (apply (place e) (turn_of o w e) (letter_taken e w))
     ∙ ap (λ (f : ℕ → Node). at f (place e) (turn_of o w e).node) (opened-node e w)
 
 -- it leaves its node at rest
