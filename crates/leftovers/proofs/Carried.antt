@@ -248,13 +248,15 @@ module _ (o : Opening) (w : World) (B : Base o w) where
 doomed_opens : (o : Opening) → Doomed o (opening_world o)
 doomed_opens o p client up dead = cc dead
 
+pub doomed_along : (o : Opening) (es : List WorldEvent) → Doomed o (world o es)
+doomed_along o es = between o (Families o) (families_keep o) (Doomed o)
+    (λ w e b c h D. doomed_next o w b.base e c.base h D) (families_open o) (doomed_opens o) es
+
 pub deaths_are_carried_out : Always DeathsAreCarriedOut
-deaths_are_carried_out o es p quiet up client known =
-    elim (between o (Families o) (families_keep o) (Doomed o)
-    (λ w e b c h D. doomed_next o w b.base e c.base h D) (families_open o) (doomed_opens o) es p client up known) [
-      | inl h ↦ h
-      | inr k ↦ absurd (cc (sym (ap (has_kill p) (quiet k.0 p.node k.1 up)) ∙ k.2))
-    ]
+deaths_are_carried_out o es p quiet up client known = elim (doomed_along o es p client up known) [
+  | inl h ↦ h
+  | inr k ↦ absurd (cc (sym (ap (has_kill p) (quiet k.0 p.node k.1 up)) ∙ k.2))
+]
 
 -- nor has a running node of a settled world a name of such a process
 pub known_dead_own_nothing : Always KnownDeadOwnNothing

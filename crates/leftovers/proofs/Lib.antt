@@ -78,4 +78,5 @@ pub mod Verdicts
 pub mod Doomed
 pub mod DoomedEvents
 pub mod Carried
+pub mod WhenFree
 pub mod Nothing

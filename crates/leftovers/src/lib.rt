@@ -2,7 +2,7 @@
 //! Each law is the contract of a function with an empty body.
 #![tactic(auto)]
 
-ghost use Rattle.protocol_model.specs.Leftovers.{Always, NothingIsLeft, HeldLocksStand, LocksAreAsTold, NoEmptyGrants, NobodyKeepsTheGlobalLock, DeadHoldersHoldNothing, FreeLocksAreGranted, DeathsAreKnown, DeathsAreCarriedOut, DeparturesAreTold, NoNameOnADepartedNode, DeadOwnersOwnNothing, KnownDeadOwnNothing};
+ghost use Rattle.protocol_model.specs.Leftovers.{Always, NothingIsLeft, HeldLocksStand, LocksAreAsTold, NoEmptyGrants, NobodyKeepsTheGlobalLock, DeadHoldersHoldNothing, FreeLocksAreGranted, DeathsAreKnown, DeathsAreCarriedOut, DeathsAreCarriedOutWhenFree, DeparturesAreTold, NoNameOnADepartedNode, DeadOwnersOwnNothing, KnownDeadOwnNothing};
 
 /// Nothing is left over: all that follows, in one record.
 pub fn nothing_is_left()
@@ -47,6 +47,11 @@ pub fn deaths_are_known()
 /// Where no letter waits a process that is dead in the registry is dead at its node, if that runs.
 pub fn deaths_are_carried_out()
     ensures { Always DeathsAreCarriedOut }
+{}
+
+/// And so it is at any time at which no operation holds in the group of that node.
+pub fn deaths_are_carried_out_when_free()
+    ensures { Always DeathsAreCarriedOutWhenFree }
 {}
 
 /// Where no letter waits each running node was told of each node that has left.

@@ -1,9 +1,9 @@
 -- Nothing is left over: once no letter waits, locks, deaths and departures are as they were told, and once no operation waits
 -- for a retry either, no name has a dead owner.
-use Rattle.std.specs.Prelude.{ℕ, true, false, ◌==◌, ◌≡◌, ◌<◌, ◌≤◌, Contains, List, []}
+use Rattle.std.specs.Prelude.{ℕ, true, false, ◌==◌, ◌≡◌, ◌<◌, ◌≤◌, IsTrue, Contains, List, []}
 use Rattle.registry_model.specs.Process.{Process}
 use Rattle.registry_model.specs.Table.{Pair}
-use Rattle.registry_model.specs.History.{registry_of}
+use Rattle.registry_model.specs.History.{standing_of, is_free, registry_of}
 use Rattle.protocol_model.specs.Letter.{Id, is_id, is_resource}
 use Rattle.protocol_model.specs.LockTable.{Grant, count, last_count, is_free_for}
 use Rattle.protocol_model.specs.Watch.{is_dead}
@@ -77,6 +77,11 @@ module _ (o : Opening) (es : List WorldEvent) (w : World) where
   DeathsAreCarriedOut = (p : Process) → IsQuiet o w → Runs o w p.node → (p.serial == 0) ≡ false → IsKnownDead o w p →
       IsDeadAtHome w p
 
+  -- And so it is at any time at which no operation holds in the group of that node
+  abbrev pub DeathsAreCarriedOutWhenFree : Type 0
+  DeathsAreCarriedOutWhenFree = (p : Process) → IsTrue (is_free (standing_of (in_cluster o) w.history) p.node) →
+      Runs o w p.node → (p.serial == 0) ≡ false → IsKnownDead o w p → IsDeadAtHome w p
+
   -- In a quiet world each running node was told of each node that has left
   abbrev pub DeparturesAreTold : Type 0
   DeparturesAreTold = (c d : ℕ) → IsQuiet o w → Runs o w c → left w d ≡ true → (w.node c).replica.told d ≡ true
@@ -108,6 +113,7 @@ module _ (o : Opening) (es : List WorldEvent) (w : World) where
     -- deaths
     pub known : DeathsAreKnown
     pub carried_out : DeathsAreCarriedOut
+    pub when_free : DeathsAreCarriedOutWhenFree
     -- departures and names
     pub departures : DeparturesAreTold
     pub departed : NoNameOnADepartedNode
