@@ -1,3 +1,5 @@
+pub mod Deliveries
 pub mod Ids
 pub mod Meanings
 pub mod Serials
+pub mod Waiting

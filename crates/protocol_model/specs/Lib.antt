@@ -21,6 +21,7 @@ pub mod Headline
 pub mod ClientLocks
 pub mod Leftovers
 pub mod Script
+pub mod Delivering
 pub mod SharedLaws
 pub mod RowWords
 pub mod Tests

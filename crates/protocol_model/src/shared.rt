@@ -1,6 +1,9 @@
-//! What the functions mean that the rules share with the statements on clients' locks, and how a world opens.
+//! What the functions mean that the rules share with the statements on clients' locks and on what is left over, and how a
+//! world opens.
+ghost use Rattle.protocol_model.specs.Delivering.{DeliversTheFirst};
+ghost use Rattle.protocol_model.specs.Leftovers.{WaitsBehindARound};
 ghost use Rattle.protocol_model.specs.SharedLaws.{ComparesIds, AsksMembers, GrantsTheFree, OpensEmpty};
-ghost use Rattle.protocol_model.specs.World.{Opening, opening_world};
+ghost use Rattle.protocol_model.specs.World.{Opening, World, opening_world};
 
 /// When two ids of locks are one, or of one resource.
 pub fn ids()
@@ -20,4 +23,14 @@ pub fn free_locks()
 /// How a world opens.
 pub fn opening()
     ensures { (o : Opening) → OpensEmpty o (opening_world o) }
+{}
+
+/// What waits for a retry.
+pub fn retries()
+    ensures { WaitsBehindARound }
+{}
+
+/// What is delivered next, and when a world is settled.
+pub fn deliveries()
+    ensures { (o : Opening) (w : World) → DeliversTheFirst o w }
 {}
