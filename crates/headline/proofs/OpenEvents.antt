@@ -23,6 +23,7 @@ use Rattle.protocol_model.specs.Answers.{answer_to, may_have, holder_in, calls_a
 use Rattle.protocol_model.specs.World.{Opening, World, WorldEvent, At, Deliver, place, opening_world, refusal, turn_of, accepted}
 use Rattle.protocol_model.specs.Course.{Played, played, answers_of, seen}
 use Rattle.protocol_model.specs.Refusals.{IsLiveAt, HasOpenCall}
+use Rattle.protocol_model.proofs.Waiting.{accepted-node}
 use Rattle.moves.proofs.Rules
 use Rattle.moves.proofs.Rules.{Rule}
 use Rattle.walk.proofs.Calls.{call_of-put_call}
@@ -31,7 +32,7 @@ use Rattle.walk.proofs.Walk.{OrderedWalk, InOrder, walked_in_order}
 use Rattle.fitting.proofs.Accounts.{is_word}
 use Rattle.fitting.proofs.Chains
 use Rattle.fitting.proofs.Once.{is_under, is_lock_under}
-use Rattle.fitting.proofs.Replies.{accepted-node, answers_given}
+use Rattle.fitting.proofs.Replies.{answers_given}
 use Rattle.fitting.proofs.Theorem
 use Rattle.fitting.proofs.Unanswered.{kept_in}
 use Rattle.headline.specs.Clauses.{events, world}

@@ -1,4 +1,5 @@
 pub mod Deliveries
+pub mod Idle
 pub mod Ids
 pub mod Meanings
 pub mod Serials

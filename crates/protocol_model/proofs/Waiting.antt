@@ -10,14 +10,14 @@ use Rattle.protocol_model.specs.Letter.{Global, Letter, is_down}
 use Rattle.protocol_model.specs.LockTable.{is_free_for}
 use Rattle.protocol_model.specs.Watch.{is_live, owed}
 use Rattle.protocol_model.specs.Node.{Node, Op, Current, LockPhase, LockCall, Times, call_of, targets}
-use Rattle.protocol_model.specs.Event.{Call, Event, Refusal}
+use Rattle.protocol_model.specs.Event.{Call, Event}
 use Rattle.protocol_model.specs.Turn.{Turn, begun, at_work, counted}
 use Rattle.protocol_model.specs.Registrar.{registrar, done, ask_rest, await_less, contact_left, lose_contact, start_queue, start_next, start_free, start, retry_global}
 use Rattle.protocol_model.specs.Deciding.{held, end_by, go_on, hear_answer, lose}
 use Rattle.protocol_model.specs.Client.{is_spent, one_less, try_lock, end_lock_by, go_on_lock, hear_lock_in, hear_lock, owe_less_in, owe_less, lose_node_in, lose_node, retry_in, retry_locks, new_call, delete_lock}
 use Rattle.protocol_model.specs.Calling.{die, kill, call, event}
 use Rattle.protocol_model.specs.Reading.{refused_join, welcome, told_of, lose_join, lose_current, bereave, read, receive}
-use Rattle.protocol_model.specs.World.{Opening, in_world, World, WorldEvent, At, Deliver, place, join_number, heard, turn_of, accepted}
+use Rattle.protocol_model.specs.World.{Opening, in_world, World, WorldEvent, At, Deliver, place, join_number, heard, refusal, turn_of, accepted}
 use Rattle.protocol_model.specs.Leftovers.{WaitsBehindARound}
 
 -- the operation waits there, or has a round there
@@ -293,7 +293,7 @@ by_turn o w (Deliver f t) = go (w.links.queue f t)
     go [] = kept (w.node t).current _ refl
     go (l ∷ ls) = received o.bound t (join_number w) f l (begun (w.node t))
 
--- the nodes behind an accepted event
+-- an accepted event changes its node alone
 pub accepted-node : (o : Opening) (w : World) (e : WorldEvent)
     → (accepted o w e).node ≡ at w.node (place e) (turn_of o w e).node
 accepted-node o w (Deliver f t) = refl
@@ -301,11 +301,13 @@ accepted-node o w (At a Event.Leave) = refl
 accepted-node o w (At a _) = refl
 
 pub waits_behind_a_round : WaitsBehindARound
-waits_behind_a_round o w e a op free h = go (a == place e) refl
-    (sym (ap (λ (f : ℕ → Node). (f a).current) (ap (λ (r : Option Refusal). (if is_none r then accepted o w e else w).node)
-    free ∙ accepted-node o w e)) ∙ h)
+waits_behind_a_round o w e a op h = by (is_none (refusal o w e)) h
   where
     go : (b : Bool) → (a == place e) ≡ b → (if b then (turn_of o w e).node else w.node a).current ≡ Current.Waiting op
         → Had (w.node a).current op
     go true i k = subst (λ (x : ℕ). Had (w.node x).current op) (sym (eqb-true a (place e) i)) (by_turn o w e op k)
     go false i k = inl k
+
+    by : (b : Bool) → ((if b then accepted o w e else w).node a).current ≡ Current.Waiting op → Had (w.node a).current op
+    by true k = go (a == place e) refl (sym (ap (λ (f : ℕ → Node). (f a).current) (accepted-node o w e)) ∙ k)
+    by false k = inl k

@@ -19,9 +19,9 @@ pub record IsFirstDelivery (o : Opening) (w : World) (e : WorldEvent) : Type 0 w
   pub waits : LetterWaits o w sender receiver
   pub first : (f t : ℕ) → LetterWaits o w f t → (sender < f) ⊎ ((sender ≡ f) × (receiver ≤ t))
 
--- What is delivered next in a world, and what is delivered by `settle`
+-- What is delivered next in a world, what `settle` delivers, and when it prints `settled`
 pub record DeliversTheFirst (o : Opening) (w : World) : Type 0 where
-  -- the next delivery is the first, and there is none in a quiet world alone
+  -- the next delivery is the first, and there is none exactly where the world is quiet
   pub none : (next_delivery o w ≡ None) ↔ IsQuiet o w
   pub some : (e : WorldEvent) → next_delivery o w ≡ Some e → IsFirstDelivery o w e
   -- each delivery of `settle` is the first in the world behind those before it
@@ -30,6 +30,6 @@ pub record DeliversTheFirst (o : Opening) (w : World) : Type 0 where
   -- there are no more than are allowed, and where there are fewer the world behind them is quiet
   pub limit : (most : ℕ) → length (settle o most w) ≤ most
   pub stops : (most : ℕ) → length (settle o most w) < most → IsQuiet o (run o w (settle o most w))
-  -- behind the deliveries of a script's line `settle` the line prints `settled` in a quiet world alone
+  -- behind its events a script's line `settle` prints `settled` exactly where the world is quiet then
   pub prints : (most : ℕ) (es : List WorldEvent) →
       Contains (printed o most w Line.Settle es) Output.Settled ↔ IsQuiet o (run o w es)

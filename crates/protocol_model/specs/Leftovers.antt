@@ -1,7 +1,7 @@
 -- Nothing is left over: once no letter waits, locks, deaths and departures are as they were told, and once no operation waits
 -- for a retry either, no name has a dead owner.
 use mathlib.Core.Logic.{◌⊎◌}
-use Rattle.std.specs.Prelude.{ℕ, true, false, ◌==◌, ◌≡◌, ◌<◌, ◌≤◌, Contains, None, List, []}
+use Rattle.std.specs.Prelude.{ℕ, true, false, ◌==◌, ◌≡◌, ◌<◌, ◌≤◌, Contains, List, []}
 use Rattle.registry_model.specs.Process.{Process}
 use Rattle.registry_model.specs.Table.{Pair}
 use Rattle.registry_model.specs.History.{registry_of}
@@ -10,7 +10,7 @@ use Rattle.protocol_model.specs.LockTable.{Grant, count, last_count, is_free_for
 use Rattle.protocol_model.specs.Watch.{is_dead}
 use Rattle.protocol_model.specs.Round.{Round}
 use Rattle.protocol_model.specs.Node.{Op, Current}
-use Rattle.protocol_model.specs.World.{Opening, in_world, in_cluster, World, left, WorldEvent, opening_world, refusal, happens, run}
+use Rattle.protocol_model.specs.World.{Opening, in_world, in_cluster, World, left, WorldEvent, opening_world, happens, run}
 use Rattle.protocol_model.specs.Course.{global_given}
 use Rattle.protocol_model.specs.ClientLocks.{is_gone, number, Holds}
 
@@ -30,7 +30,7 @@ pub record IsSettled (o : Opening) (w : World) : Type 0 where
 -- An operation waits for a retry only behind a round of its own: it waited before the event, or its node was asking for the
 -- global lock for it
 abbrev pub WaitsBehindARound : Type 0
-WaitsBehindARound = (o : Opening) (w : World) (e : WorldEvent) (a : ℕ) (op : Op) → refusal o w e ≡ None →
+WaitsBehindARound = (o : Opening) (w : World) (e : WorldEvent) (a : ℕ) (op : Op) →
     ((happens o w e).node a).current ≡ Current.Waiting op →
     ((w.node a).current ≡ Current.Waiting op) ⊎ ((round : Round) × ((w.node a).current ≡ Current.Asking op round))
 

@@ -22,6 +22,7 @@ pub mod ClientLocks
 pub mod Leftovers
 pub mod Script
 pub mod Delivering
+pub mod Idle
 pub mod SharedLaws
 pub mod RowWords
 pub mod Tests

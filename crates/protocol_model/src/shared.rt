@@ -1,6 +1,7 @@
 //! What the functions mean that the rules share with the statements on clients' locks and on what is left over, and how a
 //! world opens.
 ghost use Rattle.protocol_model.specs.Delivering.{DeliversTheFirst};
+ghost use Rattle.protocol_model.specs.Idle.{RefusesTheIdle};
 ghost use Rattle.protocol_model.specs.Leftovers.{WaitsBehindARound};
 ghost use Rattle.protocol_model.specs.SharedLaws.{ComparesIds, AsksMembers, GrantsTheFree, OpensEmpty};
 ghost use Rattle.protocol_model.specs.World.{Opening, World, opening_world};
@@ -33,4 +34,9 @@ pub fn retries()
 /// What is delivered next, and when a world is settled.
 pub fn deliveries()
     ensures { (o : Opening) (w : World) → DeliversTheFirst o w }
+{}
+
+/// What is refused since nothing waits.
+pub fn idle()
+    ensures { (o : Opening) (w : World) → RefusesTheIdle o w }
 {}
