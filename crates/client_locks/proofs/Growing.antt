@@ -93,7 +93,7 @@ same_refuse n a c s v = go (is_spent c.retries)
     go false = record { watch = refl; last = refl; current = refl }
 
 -- one dead more
-dead_too : (xs : List ℕ) (k s : ℕ) → list_any (λ d. d == s) xs ≡ true → list_any (λ d. d == s) (xs ++ k ∷ []) ≡ true
+pub dead_too : (xs : List ℕ) (k s : ℕ) → list_any (λ d. d == s) xs ≡ true → list_any (λ d. d == s) (xs ++ k ∷ []) ≡ true
 dead_too xs k s h = list_any-append (λ d. d == s) xs (k ∷ [])
     ∙ ap (λ (b : Bool). b || list_any (λ d. d == s) (k ∷ [])) h
 

@@ -3,11 +3,11 @@
 use Rattle.std.proofs.Common.{ℕ, Bool, true, false, ◌==◌, ◌≡◌, Option, Some, None, [], ◌∷◌, refl, sym, ap, ◌∙◌, subst, inl, inr}
 use Rattle.std.specs.Prelude.{not, ◌&&◌, ◌||◌, if◌then◌else◌}
 use mathlib.Core.Logic.{◌⊎◌}
-use Rattle.std.proofs.lemmas.Bool.{eqb-true}
-use Rattle.registry_model.specs.Process.{Process, is_process, at}
+use Rattle.registry_model.specs.Process.{Process, is_process, Nodes, at}
 use Rattle.registry_model.specs.Call.{True}
 use Rattle.protocol_model.specs.Letter.{Id, is_id, Letter}
-use Rattle.protocol_model.specs.Round.{Mark, Out, Later, Owes, Granted, Refused, Lost, Gone, Round, is_out, is_owes, asked, asked_too, opens, owes, answer, down, mark_down}
+use Rattle.protocol_model.specs.Round.{Mark, Out, Later, Owes, Round, is_out, is_owes, asked, asked_too, begin, greatest, owes, answer, down, mark_down}
+use Rattle.registry_model.proofs.Updates.{by_test}
 use Rattle.protocol_model.specs.Node.{LockPhase, LockCall, call_of, put_call}
 use Rattle.protocol_model.specs.Event.{is_waiting_call}
 use Rattle.protocol_model.specs.Turn.{Turn, begun, keep_call}
@@ -17,7 +17,7 @@ use Rattle.moves.proofs.Rules.{Rule, Taken, May, Ordered, IsOpen, effect, turn_b
 use Rattle.moves.proofs.Rules.Rule.{HearsLock, MarksLockDown, WinsLock, GivesUpLock, CountsGivenBack, EndsDeletion, CountsLockDown, EndsDeletionDown}
 use Rattle.client_locks.proofs.RoundNumbers.{is_tried}
 use Rattle.client_locks.proofs.Calls.{call_of-drop, home_of_call}
-use Rattle.client_locks.proofs.Rounds.{mark_by, answer_opens, answer_owed}
+use Rattle.client_locks.proofs.Rounds.{mark_by, Answered, Own, Stays, Opened, answered}
 use Rattle.client_locks.proofs.Mail.{turned}
 use Rattle.client_locks.proofs.Clients.{Numbers, call_at}
 use Rattle.client_locks.proofs.Numbers.{num_by, plus_if}
@@ -71,59 +71,40 @@ pub record Step (o : Opening) (a : ℕ) (r : Rule) (w : World) (num : Numbers) :
 
 -- whom a round asks doesn't change by answers and departures
 out_too : (m : Mark) → is_out (asked_too m) ≡ is_out m
-out_too Out = refl
 out_too Later = refl
-out_too Owes = refl
-out_too Granted = refl
-out_too Refused = refl
-out_too Lost = refl
-out_too Gone = refl
+out_too _ = refl
 
 out_down : (m : Mark) → is_out (mark_down m) ≡ is_out m
 out_down Out = refl
-out_down Later = refl
-out_down Owes = refl
-out_down Granted = refl
-out_down Refused = refl
-out_down Lost = refl
-out_down Gone = refl
+out_down _ = refl
 
 owes_not_out : (m : Mark) → is_owes m ≡ true → is_out m ≡ false
 owes_not_out Owes h = refl
-owes_not_out Out h = cc
-owes_not_out Later h = cc
-owes_not_out Granted h = cc
-owes_not_out Refused h = cc
-owes_not_out Lost h = cc
-owes_not_out Gone h = cc
+owes_not_out _ h = cc
 
 out_by : (g : Bool) → is_out (mark_by g) ≡ false
 out_by true = refl
 out_by false = refl
 
 pub asked_answer : (f : ℕ) (g : Bool) (r : Round) → owes r f ≡ true → (x : ℕ) → asked (answer f g r) x ≡ asked r x
-asked_answer f g r owed x = ap not (go (opens f g r) refl)
+asked_answer f g r owed x = ap not (go ((answer f g r).mark x) (answered f g r owed x))
   where
-    at_f : (x == f) ≡ true → is_out (r.mark x) ≡ false
-    at_f e = owes_not_out (r.mark x) (subst (λ (y : ℕ). is_owes (r.mark y) ≡ true) (sym (eqb-true x f e)) owed)
-
-    opened : (b : Bool) → (x == f) ≡ b → is_out (if b then Granted else asked_too (r.mark x)) ≡ is_out (r.mark x)
-    opened true e = sym (at_f e)
-    opened false e = out_too (r.mark x)
-
-    closed : (b : Bool) → (x == f) ≡ b → is_out (if b then mark_by g else r.mark x) ≡ is_out (r.mark x)
-    closed true e = out_by g ∙ sym (at_f e)
-    closed false e = refl
-
-    go : (b : Bool) → opens f g r ≡ b → is_out ((answer f g r).mark x) ≡ is_out (r.mark x)
-    go true e = ap is_out (answer_opens f g r e x) ∙ opened (x == f) refl
-    go false e = ap is_out (answer_owed f g r e owed x) ∙ closed (x == f) refl
+    go : (m : Mark) → Answered f g x (r.mark x) m → is_out m ≡ is_out (r.mark x)
+    go m (Own e) = out_by g ∙ sym (ap (λ (y : ℕ). is_out (r.mark y)) e ∙ owes_not_out (r.mark f) owed)
+    go m Stays = refl
+    go m Opened = out_too (r.mark x)
 
 pub asked_down : (d : ℕ) (r : Round) (x : ℕ) → asked (down d r) x ≡ asked r x
-asked_down d r x = ap not (go (x == d) refl)
+asked_down d r x = ap not (by_test d (λ y t. is_out (if t then mark_down (r.mark d) else r.mark y) ≡ is_out (r.mark y))
+    (out_down (r.mark d)) (λ y ne. refl) x)
+
+-- a round that begins asks those that it begins over
+pub asked_begin : (n : ℕ) (s : Nodes) (x : ℕ) → asked (begin n s) x ≡ s x
+asked_begin n s x = go (s x) (x == greatest n s)
   where
-    go : (b : Bool) → (x == d) ≡ b → is_out (if b then mark_down (r.mark d) else r.mark x) ≡ is_out (r.mark x)
-    go true e = out_down (r.mark d) ∙ ap (λ (y : ℕ). is_out (r.mark y)) (sym (eqb-true x d e))
+    go : (b e : Bool) → not (is_out (if b then (if e then Owes else Later) else Out)) ≡ b
+    go true true = refl
+    go true false = refl
     go false e = refl
 
 -- a try, by the phase

@@ -44,29 +44,15 @@ rounded_begin n s = by_test (greatest n s) (λ x t. fits_boss t ((begin n s).mar
 
 -- a mark of a node other than the boss, which owes its answer
 boss_granted : (m k : Mark) → is_owes k ≡ true → fits_boss false m k ≡ true → has_granted m ≡ true
-boss_granted Out Owes h e = cc
-boss_granted Later Owes h e = cc
-boss_granted Owes Owes h e = cc
 boss_granted Granted Owes h e = refl
-boss_granted Refused Owes h e = cc
 boss_granted Lost Owes h e = refl
-boss_granted Gone Owes h e = cc
-boss_granted m Out h e = cc
-boss_granted m Later h e = cc
-boss_granted m Granted h e = cc
-boss_granted m Refused h e = cc
-boss_granted m Lost h e = cc
-boss_granted m Gone h e = cc
+boss_granted _ Owes h e = cc
+boss_granted m _ h e = cc
 
 -- what is asked from now on isn't still to be asked
 past_asked_too : (k : Mark) → is_past (asked_too k) ≡ true
 past_asked_too Later = refl
-past_asked_too Out = refl
-past_asked_too Owes = refl
-past_asked_too Granted = refl
-past_asked_too Refused = refl
-past_asked_too Lost = refl
-past_asked_too Gone = refl
+past_asked_too _ = refl
 
 fits_granted : (m k : Mark) → has_granted m ≡ true → is_past k ≡ true → fits_boss false m k ≡ true
 fits_granted m k h e = rw h e
@@ -86,13 +72,8 @@ past_mark_by true = refl
 past_mark_by false = refl
 
 owes_not_granted : (m : Mark) → is_owes m ≡ true → has_granted m ≡ false
-owes_not_granted Out h = cc
-owes_not_granted Later h = cc
 owes_not_granted Owes h = refl
-owes_not_granted Granted h = cc
-owes_not_granted Refused h = cc
-owes_not_granted Lost h = cc
-owes_not_granted Gone h = cc
+owes_not_granted _ h = cc
 
 -- the boss's grant
 pub answer_opens : (f : ℕ) (g : Bool) (r : Round) → opens f g r ≡ true → (x : ℕ)
@@ -112,6 +93,31 @@ answer_boss f g r = go (opens f g r) (owes r f)
     go true c = refl
     go false true = refl
     go false false = refl
+
+-- who answers has the mark of its answer, and each other mark stays, or owes where it was to be asked later
+pub data Answered (f : ℕ) (g : Bool) (x : ℕ) (old : Mark) : Mark → Type 0 where
+  Own : x ≡ f → Answered f g x old (mark_by g)
+  Stays : Answered f g x old old
+  Opened : Answered f g x old (asked_too old)
+
+pub answered : (f : ℕ) (g : Bool) (r : Round) → owes r f ≡ true → (x : ℕ)
+    → Answered f g x (r.mark x) ((answer f g r).mark x)
+answered f g r owe x = go (opens f g r) refl
+  where
+    grants : (b : Bool) → opens f b r ≡ true → mark_by b ≡ Granted
+    grants true e = refl
+    grants false e = cc
+
+    opening : mark_by g ≡ Granted → Answered f g x (r.mark x) (if x == f then Granted else asked_too (r.mark x))
+    opening e = by_test f (λ y t. Answered f g y (r.mark y) (if t then Granted else asked_too (r.mark y)))
+        (subst (Answered f g f (r.mark f)) e (Own refl)) (λ y ne. Opened) x
+
+    owing : Answered f g x (r.mark x) (if x == f then mark_by g else r.mark x)
+    owing = by_test f (λ y t. Answered f g y (r.mark y) (if t then mark_by g else r.mark y)) (Own refl) (λ y ne. Stays) x
+
+    go : (b : Bool) → opens f g r ≡ b → Answered f g x (r.mark x) ((answer f g r).mark x)
+    go true e = subst (Answered f g x (r.mark x)) (sym (answer_opens f g r e x)) (opening (grants g e))
+    go false e = subst (Answered f g x (r.mark x)) (sym (answer_owed f g r e owe x)) owing
 
 pub rounded_answer : (f : ℕ) (g : Bool) (r : Round) → owes r f ≡ true → Rounded r → Rounded (answer f g r)
 rounded_answer f g r owe fit x = go (opens f g r) refl
@@ -187,12 +193,7 @@ fits_down false m k h = go (has_granted m) h
   where
     past : (j : Mark) → is_past j ≡ true → is_past (mark_down j) ≡ true
     past Out e = refl
-    past Later e = refl
-    past Owes e = refl
-    past Granted e = refl
-    past Refused e = refl
-    past Lost e = refl
-    past Gone e = refl
+    past _ e = refl
 
     unasked : (j : Mark) → is_unasked j ≡ true → is_unasked (mark_down j) ≡ true
     unasked Out e = refl

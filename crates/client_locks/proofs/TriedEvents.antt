@@ -2,12 +2,12 @@
 -- gives by the call.
 use mathlib.Core.Logic.{◌⊎◌}
 use Rattle.std.proofs.Common.{ℕ, Bool, true, false, ◌==◌, ◌≡◌, ◌+◌, ◌≤◌, Option, Some, None, List, ◌∷◌, refl, sym, ap, ◌∙◌, subst, arith, inl, inr}
-use Rattle.std.specs.Prelude.{not, ◌&&◌, if◌then◌else◌}
+use Rattle.std.specs.Prelude.{◌&&◌, if◌then◌else◌}
 use Rattle.std.specs.List.{list_all}
 use Rattle.std.proofs.lemmas.Bool.{eq-eqb}
 use Rattle.std.proofs.Math.Bool.{and-false}
 use Rattle.registry_model.specs.Process.{Text, Process, is_process, Nodes}
-use Rattle.protocol_model.specs.Round.{Out, Later, Owes, is_out, begin, greatest, asked}
+use Rattle.protocol_model.specs.Round.{asked}
 use Rattle.protocol_model.specs.Letter.{Id, Client, is_id}
 use Rattle.protocol_model.specs.Node.{LockPhase, LockCall, Target, Retries, call_of, targets}
 use Rattle.protocol_model.specs.Event.{Call, Event, Answer, is_waiting_call}
@@ -27,21 +27,12 @@ use Rattle.client_locks.proofs.Calls.{holder_of_call}
 use Rattle.client_locks.proofs.Clients.{Numbers, call_at}
 use Rattle.client_locks.proofs.Growing.{Replying, replying_keeps}
 use Rattle.client_locks.proofs.Answering.{any_true}
-use Rattle.client_locks.proofs.Ongoing.{is_deleting}
+use Rattle.client_locks.proofs.Ongoing.{is_deleting, asked_begin}
 use Rattle.client_locks.proofs.Chains.{is_calm, aside_calm, OrderedKept, calm_answers}
 use Rattle.client_locks.proofs.Numbering.{aside_hears, Numbered, last_effect, last_chain}
 use Rattle.client_locks.proofs.Told.{all_of_all, retry_calm, chain_of, first_heard}
 use Rattle.client_locks.proofs.Retried.{IsTriedAgain, retry_calls}
 use Rattle.client_locks.proofs.Tries.{IsTryOf, Fits, lost_without, fits_chain, won_heard, fits_beside, fits_begins}
-
--- a round that begins asks those that it begins over
-asked_begin : (n : ℕ) (s : Nodes) (x : ℕ) → asked (begin n s) x ≡ s x
-asked_begin n s x = go (s x) (x == greatest n s)
-  where
-    go : (b e : Bool) → not (is_out (if b then (if e then Owes else Later) else Out)) ≡ b
-    go true true = refl
-    go true false = refl
-    go false e = refl
 
 -- who is deleting doesn't wait
 waiting_not_deleting : (f : LockPhase) → is_waiting_call f ≡ true → is_deleting f ≡ false

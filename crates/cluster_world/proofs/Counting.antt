@@ -29,11 +29,11 @@ use Rattle.cluster_world.specs.declared.events.WorldEvent.{WorldEvent}
 use Rattle.cluster_world.specs.Held.{Held}
 use Rattle.cluster_world.specs.Seen.{opening_of, seen}
 use Rattle.cluster_world.specs.Playing.{events_of, accepts_all}
-use Rattle.cluster_world.specs.Excluding.{try_behind}
+use Rattle.cluster_world.specs.Locks.{try_behind}
 use Rattle.cluster_world.specs.Counting.{is_granted, has_to_ask, unless_gone, CountsGrant, CountsDeletion, Counts}
 use Rattle.cluster_world.specs.Seats.{most_events, verdict_in, next_number, next_for, awaiting, until_answered, WentThrough}
 use Rattle.cluster_world.proofs.Agreeing.{course_answers, all_answers-append}
-use Rattle.cluster_world.proofs.Excluding.{tally-append}
+use Rattle.cluster_world.proofs.Locks.{tally-append}
 use Rattle.cluster_world.proofs.Verdicts.{under, is_under}
 use Rattle.cluster_world.proofs.Winning.{is_waited, waits_for, grounds, Behind, IsNow, IsOf, answered_so, waited_so}
 use Rattle.cluster_world.proofs.Spent.{Spent, none_by, spent_step, spent_stays, spent_first}

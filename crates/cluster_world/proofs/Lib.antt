@@ -10,7 +10,7 @@ mod Holding
 mod Deliveries
 mod Starting
 pub mod Agreeing
-pub mod Excluding
+pub mod Locks
 pub mod Leftovers
 mod Running
 mod Verdicts

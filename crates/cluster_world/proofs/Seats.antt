@@ -22,7 +22,7 @@ use Rattle.cluster_world.specs.Seats.{most_events, verdict_in, next_number, next
 use Rattle.cluster_world.specs.Seen.{opening_of, seen}
 use Rattle.cluster_world.specs.Agreeing.{Agrees}
 use Rattle.cluster_world.proofs.Agreeing.{same_opening, agrees}
-use Rattle.cluster_world.proofs.Excluding.{excludes}
+use Rattle.cluster_world.proofs.Locks.{locks_behind}
 use Rattle.cluster_world.proofs.Leftovers.{leaves_nothing}
 use Rattle.cluster_world.proofs.Verdicts.{verdict_in-append}
 use Rattle.cluster_world.proofs.Counting.{counts}
@@ -277,7 +277,7 @@ module _ (a : ℕ) (c : Call) (old mid : Held) (now : List Answer) (P : Played (
     are = are;
     answered = answered;
     agrees = agreed;
-    excludes = excludes es given old new agreed;
+    locks = locks_behind es given old new agreed;
     leaves_nothing = leaves_nothing es given old new agreed;
     counts = counts es given old new v W (call_of c) a (are, answered);
   }

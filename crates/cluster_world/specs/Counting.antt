@@ -11,7 +11,7 @@ use Rattle.cluster_world.specs.Held.{Held}
 use Rattle.cluster_world.specs.Seen.{opening_of, seen}
 use Rattle.cluster_world.specs.Playing.{events_of}
 use Rattle.cluster_world.specs.Agreeing.{IsRunOf}
-use Rattle.cluster_world.specs.Excluding.{try_behind}
+use Rattle.cluster_world.specs.Locks.{try_behind}
 
 -- the call is answered, and granted
 abbrev pub is_granted : Option Bool → Bool

@@ -14,7 +14,7 @@ pub mod Starting
 pub mod Playing
 pub mod Agreeing
 pub mod Causes
-pub mod Excluding
+pub mod Locks
 pub mod Leftovers
 pub mod Counting
 pub mod Seats

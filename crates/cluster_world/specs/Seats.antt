@@ -22,7 +22,7 @@ use Rattle.cluster_world.specs.Refusals.{is_memory}
 use Rattle.cluster_world.specs.Seen.{opening_of, seen}
 use Rattle.cluster_world.specs.Playing.{RefusedWith, events_of, accepts_all}
 use Rattle.cluster_world.specs.Agreeing.{Agrees}
-use Rattle.cluster_world.specs.Excluding.{Excludes}
+use Rattle.cluster_world.specs.Locks.{LocksBehind}
 use Rattle.cluster_world.specs.Leftovers.{LeavesNothing}
 use Rattle.cluster_world.specs.Counting.{Counts}
 
@@ -91,7 +91,7 @@ HasWaited a k old new (Err (Refused r)) = r ≡ Memory
 HasWaited a k old new (Err NoMemory) = ⊥
 
 -- A call was accepted at node a and played, and then what it waits for. This is what it was answered, if it was, the
--- headline and the exclusion of locks hold and nothing is left over behind all that was played, and a lock call counts
+-- headline and the laws of locks hold and nothing is left over behind all that was played, and a lock call counts
 pub record Called (a : ℕ) (c : Call) (old new : Held) (verdict : Option Bool) : Type 0 where
   pub events : List WorldEvent
   pub given : List Answer
@@ -100,7 +100,7 @@ pub record Called (a : ℕ) (c : Call) (old new : Held) (verdict : Option Bool) 
       (AnyWorldEvent.At a (AnyEvent.Calling (call_of c)))
   pub answered : verdict_in a (next_number a (seen old)) (map answer_of given) ≡ verdict
   pub agrees : Agrees events given old new
-  pub excludes : Excludes events old new
+  pub locks : LocksBehind events old new
   pub leaves_nothing : LeavesNothing events old new
   pub counts : Counts (call_of c) verdict events old new
 

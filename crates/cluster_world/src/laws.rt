@@ -1,6 +1,6 @@
 //! What holds of every world, whatever is played on it.
 ghost use Rattle.cluster_world.specs.Agreeing.{EveryWorldAgrees};
-ghost use Rattle.cluster_world.specs.Excluding.{EveryWorldExcludes, NeverBothHold};
+ghost use Rattle.cluster_world.specs.Locks.{LocksInEveryWorld, NeverBothHold};
 ghost use Rattle.cluster_world.specs.Leftovers.{EveryWorldLeavesNothing};
 
 /// The headline, of every world and of every list of events: all answers to name calls and joins are those of one sequential registry
@@ -13,9 +13,9 @@ pub fn headline_of_every_world()
 /// Clients' locks, of every world and of every list of events: at a running node no resource is held under two requesters, where a
 /// process holds a lock at a node as often as its `set_lock`s that asked it were answered `true`, less its `del_lock`s that went
 /// there, and not at all once it is dead or its node has left. And so is answered: `false` for a reason and when all retries are used
-/// up, `true` where a node that was asked hasn't left, a `del_lock` when the lock is back, and a process that is dead never.
-pub fn exclusion_of_every_world()
-    ensures { EveryWorldExcludes }
+/// up, `true` where a node that was asked isn't told of as departed, a `del_lock` when the lock is back, and a process that is dead never.
+pub fn locks_of_every_world()
+    ensures { LocksInEveryWorld }
 {}
 
 /// Nothing is left over, in any world and behind any list of events: once no letter waits on any link to any running node, each

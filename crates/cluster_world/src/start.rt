@@ -5,7 +5,7 @@ ghost use Rattle.term.specs.NodeSets.{set_of, most_nodes};
 ghost use Rattle.node_core.specs.Held.{IsWithin};
 ghost use Rattle.cluster_world.specs.Seen.{opening_of, opening_core, seen};
 ghost use Rattle.cluster_world.specs.Agreeing.{AgreesAfter};
-ghost use Rattle.cluster_world.specs.Excluding.{LocksAfter};
+ghost use Rattle.cluster_world.specs.Locks.{LocksAfter};
 ghost use Rattle.protocol_model.specs.Leftovers.{NothingIsLeft};
 ghost use Rattle.cluster_world.specs.Starting.{repeats, start_refused, start_fault_of, Opens};
 
@@ -93,7 +93,7 @@ impl<N: Names<Memory = Global>> World<N> {
         ensures nodes { IfOk result (λ world. Opens cluster.now lone.now world) }
         ensures world { IfOk result (λ world. seen world ≡ opening_world (opening_of world)) }
         ensures agrees { IfOk result (λ world. AgreesAfter [] world) }
-        ensures excludes { IfOk result (λ world. LocksAfter (opening_of world) [] (seen world)) }
+        ensures locks { IfOk result (λ world. LocksAfter (opening_of world) [] (seen world)) }
         ensures leaves_nothing { IfOk result (λ world. NothingIsLeft (opening_of world) [] (seen world)) }
         ensures ok { IfOk result (λ world. start_refused cluster.now lone.now ≡ None) }
         ensures err { IfErr result (λ fault. start_refused cluster.now lone.now ≡ start_fault_of fault) }

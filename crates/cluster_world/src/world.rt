@@ -73,7 +73,7 @@ impl<N: Names<Memory = Global>> World<N> {
     ghost use Rattle.cluster_world.specs.Steps.{Moves, FailsAt};
     ghost use Rattle.cluster_world.specs.Playing.{Keeps, Played, RefusedWith, ran_out, Ran, WaitsOn};
     ghost use Rattle.cluster_world.specs.Agreeing.{Agrees};
-    ghost use Rattle.cluster_world.specs.Excluding.{Excludes};
+    ghost use Rattle.cluster_world.specs.Locks.{LocksBehind};
     ghost use Rattle.cluster_world.specs.Leftovers.{LeavesNothing};
 
     /// A node takes the step of an event: its letters go onto their links, and its entries into the history.
@@ -167,10 +167,10 @@ impl<N: Names<Memory = Global>> World<N> {
     pub fn play(&mut self, event: &WorldEvent) -> Result<Vec<Answer>, Refusal>
         ensures kept { Keeps self.old self.new }
         ensures agrees { IfOk result (λ answers. Agrees (event.now ∷ []) answers.items self.old self.new) }
-        ensures excludes { IfOk result (λ _. Excludes (event.now ∷ []) self.old self.new) }
+        ensures locks { IfOk result (λ _. LocksBehind (event.now ∷ []) self.old self.new) }
         ensures leaves_nothing { IfOk result (λ _. LeavesNothing (event.now ∷ []) self.old self.new) }
         ensures still_agrees { IfErr result (λ refusal. is_memory refusal ≡ false → Agrees [] [] self.old self.new) }
-        ensures still_excludes { IfErr result (λ refusal. is_memory refusal ≡ false → Excludes [] self.old self.new) }
+        ensures still_locks { IfErr result (λ refusal. is_memory refusal ≡ false → LocksBehind [] self.old self.new) }
         ensures still_leaves_nothing { IfErr result (λ refusal. is_memory refusal ≡ false → LeavesNothing [] self.old self.new) }
         ensures ok { IfOk result (λ answers. Played event.now self.old self.new [] answers.items) }
         ensures refused { IfErr result (λ refusal. RefusedWith refusal event.now self.old) }
@@ -202,7 +202,7 @@ impl<N: Names<Memory = Global>> World<N> {
     pub fn run(&mut self, events: &[WorldEvent]) -> RunEnd
         ensures ran { Ran events.now self.old self.new result.played result.answers.items result.refusal }
         ensures agrees { ran_out result.refusal ≡ false → Agrees (take result.played events.now) result.answers.items self.old self.new }
-        ensures excludes { ran_out result.refusal ≡ false → Excludes (take result.played events.now) self.old self.new }
+        ensures locks { ran_out result.refusal ≡ false → LocksBehind (take result.played events.now) self.old self.new }
         ensures leaves_nothing { ran_out result.refusal ≡ false → LeavesNothing (take result.played events.now) self.old self.new }
     {
         self.play_all(events)

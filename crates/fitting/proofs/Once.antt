@@ -234,7 +234,7 @@ abbrev pub is_lock_under : ℕ → ℕ → Answer → Bool
 is_lock_under a k s = is_under a k s && not (is_word s.reply)
 
 -- one test behind another
-filter_twice : {X : Type 0} (p q : X → Bool) (xs : List X) → filter p (filter q xs) ≡ filter (λ x. q x && p x) xs
+pub filter_twice : {X : Type 0} (p q : X → Bool) (xs : List X) → filter p (filter q xs) ≡ filter (λ x. q x && p x) xs
 filter_twice p q [] = refl
 filter_twice {X} p q (x ∷ xs) = go (q x) (filter_twice p q xs)
   where

@@ -1,4 +1,4 @@
--- Whose the accepted lock calls are: the open call of a process has the number of one of its own.
+-- Whose the accepted lock calls of a node are, also with one step more.
 use Rattle.std.proofs.Common.{ℕ, Bool, true, ◌≡◌, ◌+◌, ◌-◌, Some, List, [], ◌∷◌, ◌++◌, length, refl, sym, ap, ◌∙◌, subst, arith}
 use Rattle.std.specs.Prelude.{◌&&◌, if◌then◌else◌}
 use Rattle.std.specs.List.{slice_get}
@@ -6,24 +6,17 @@ use Rattle.std.proofs.lemmas.Bool.{eq-eqb}
 use Rattle.std.proofs.lemmas.List.{append-nil}
 use Rattle.std.proofs.lemmas.Grind.{flat_map-append}
 use Rattle.registry_model.specs.Process.{Process}
-use Rattle.protocol_model.specs.Node.{LockCall}
 use Rattle.protocol_model.specs.Event.{Call, Event}
 use Rattle.protocol_model.specs.Fit.{is_numbered, calls_in}
 use Rattle.protocol_model.specs.Answers.{holder_in, calls_at}
-use Rattle.protocol_model.specs.World.{Opening, World, WorldEvent, At}
+use Rattle.protocol_model.specs.World.{Opening, World, At}
 use Rattle.protocol_model.specs.Course.{Played, played}
-use Rattle.client_locks.proofs.Clients.{call_at}
-use Rattle.headline.specs.Clauses.{events, world}
 use Rattle.headline.proofs.Passing.{slice_get-front}
-use Rattle.headline.proofs.LockAnswers.{IsCalled, slice_get-behind}
-use Rattle.headline.proofs.Answered.{ledgers}
+use Rattle.headline.proofs.LockAnswers.{slice_get-behind}
 
 -- call k is a lock call made for p
 abbrev pub IsCalledBy : List Call → ℕ → Process → Type 0
 IsCalledBy calls k p = (call : Call) × (slice_get calls (k - 1) ≡ Some call) × (holder_in call ≡ Some p)
-
-abbrev pub Owned : World → List Played → Type 0
-Owned w ps = (p : Process) (c : LockCall) → call_at w p ≡ Some c → IsCalledBy (calls_at p.node ps) c.number p
 
 -- the calls of a node behind one step more
 pub calls_push : (b : ℕ) (ps : List Played) (p : Played) → calls_at b (ps ++ p ∷ []) ≡ calls_at b ps ++ calls_in b p
@@ -52,9 +45,3 @@ last_called o w ps a c numbered count = ap (λ (cs : List Call). slice_get cs ((
     calls = calls_push a ps (played o w (At a (Event.Calling c))) ∙ ap (λ (cs : List Call). calls_at a ps ++ cs)
         (ap (λ (b : Bool). if b && is_numbered c then c ∷ [] else []) (eq-eqb a a refl)
         ∙ ap (λ (b : Bool). if b then c ∷ [] else []) numbered)
-
--- so it is after every list of events
-pub owned_run : (o : Opening) (es : List WorldEvent) → Owned (world o es) (events o es)
-owned_run o es p c e =
-    let I : IsCalled (calls_at p.node (events o es)) p c.number c.phase = (ledgers o es p.node).called p c e in
-    (I.call, I.found, I.holder)

@@ -24,10 +24,12 @@ pub mod OpenCalls
 pub mod OpenEvents
 pub mod Answered
 pub mod Callers
+pub mod Unanswered
 pub mod Joiners
 pub mod Welcomed
 pub mod Spawning
 pub mod NextSerial
+pub mod Exiting
 pub mod LookingUp
 pub mod Causes
 pub mod Refusals

@@ -13,7 +13,7 @@ use Rattle.protocol_model.specs.Refusals.{FindsItsNode, IsLockCall, Sets, IsLive
 use Rattle.moves.proofs.Indices.{not_true, not_false}
 use Rattle.headline.proofs.Causes.{is, of_lock, second, behind, here, past, hits, some_stranger, stranger_in, Locking, locking, only_locks, only_sets}
 use Rattle.headline.proofs.NextSerial.{Spawned}
-use Rattle.headline.proofs.OpenEvents.{CallsSeen}
+use Rattle.headline.proofs.Unanswered.{CallsSeen}
 use Rattle.headline.proofs.Refusals
 
 -- o and ps: the opening and the events that made w

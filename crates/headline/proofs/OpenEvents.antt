@@ -1,48 +1,39 @@
--- Behind every list of events each accepted lock call is answered or open, where its process isn't dead. So a live process has an
--- open call exactly where its node has accepted one that isn't answered yet.
-use Rattle.std.proofs.Common.{ℕ, zero, suc, Bool, true, false, ◌==◌, ◌≡◌, ◌+◌, ◌-◌, ◌<◌, Option, Some, None, List, [], ◌∷◌, ◌++◌, length, refl, sym, ap, ◌∙◌, subst, inl, inr, arith}
+-- Behind every list of events each accepted lock call is answered or open, where its process isn't dead.
+use Rattle.std.proofs.Common.{ℕ, zero, suc, Bool, true, false, ◌==◌, ◌≡◌, ◌+◌, ◌-◌, ◌<◌, Some, None, List, [], ◌∷◌, ◌++◌, length, refl, sym, ap, ◌∙◌, subst, inl, inr, arith}
 use mathlib.Core.Logic.{◌⊎◌}
-use Rattle.std.specs.Prelude.{◌&&◌, not, is_some, if◌then◌else◌, Contains}
+use Rattle.std.specs.Prelude.{◌&&◌, if◌then◌else◌, Contains}
 use Rattle.std.specs.List.{slice_get}
-use Rattle.std.proofs.lemmas.Bool.{ne_eqb, eq-eqb, and_from}
+use Rattle.std.proofs.lemmas.Bool.{ne_eqb}
 use Rattle.std.proofs.lemmas.List.{append-nil, append_assoc}
 use Rattle.std.proofs.lemmas.List.Elements.{Contains-append_right}
 use Rattle.std.proofs.lemmas.Grind.{flat_map-append}
 use Rattle.registry_model.specs.Process.{Process}
 use Rattle.registry_model.specs.Call.{Reply, True, False}
-use Rattle.registry_model.proofs.Lists.{Contains-front, Contains-nil}
+use Rattle.registry_model.proofs.Lists.{Contains-front}
 use Rattle.registry_model.proofs.Updates.{by_test, at_same}
 use Rattle.protocol_model.specs.Node.{Node, LockPhase, LockCall, Times, call_of, put_call, targets}
 use Rattle.protocol_model.specs.Round.{begin}
-use Rattle.protocol_model.specs.Watch.{is_dead}
 use Rattle.protocol_model.specs.Client.{in_phase, new_call}
 use Rattle.protocol_model.specs.Event.{Call, Event, Answer}
 use Rattle.protocol_model.specs.Turn.{Turn}
 use Rattle.protocol_model.specs.Fit.{is_numbered, calls_in}
-use Rattle.protocol_model.specs.Answers.{answer_to, may_have, holder_in, calls_at, answers_under, AtMostOne, NotYet, Once}
+use Rattle.protocol_model.specs.Answers.{answer_to, holder_in, calls_at}
 use Rattle.protocol_model.specs.World.{Opening, World, WorldEvent, At, Deliver, place, opening_world, refusal, turn_of, accepted}
-use Rattle.protocol_model.specs.Course.{Played, played, answers_of, seen}
-use Rattle.protocol_model.specs.Refusals.{IsLiveAt, HasOpenCall}
+use Rattle.protocol_model.specs.Course.{Played, played, answers_of}
 use Rattle.protocol_model.proofs.Waiting.{accepted-node}
 use Rattle.moves.proofs.Rules
 use Rattle.moves.proofs.Rules.{Rule}
 use Rattle.walk.proofs.Calls.{call_of-put_call}
 use Rattle.walk.proofs.Orders.{ordered_keeps}
 use Rattle.walk.proofs.Walk.{OrderedWalk, InOrder, walked_in_order}
-use Rattle.fitting.proofs.Accounts.{is_word}
 use Rattle.fitting.proofs.Chains
-use Rattle.fitting.proofs.Once.{is_under, is_lock_under}
 use Rattle.fitting.proofs.Replies.{answers_given}
 use Rattle.fitting.proofs.Theorem
-use Rattle.fitting.proofs.Unanswered.{kept_in}
 use Rattle.headline.specs.Clauses.{events, world}
 use Rattle.headline.proofs.Together.{Whole, whole_opens, widens}
 use Rattle.headline.proofs.Story.{ground}
-use Rattle.headline.proofs.Passing.{filtered}
-use Rattle.headline.proofs.LockAnswers.{IsCalled, Ledger, given}
-use Rattle.headline.proofs.Answered.{ledgers, answered}
 use Rattle.headline.proofs.Callers.{IsCalledBy, calls_push}
-use Rattle.headline.proofs.OpenCalls.{Stands, Gone, Answered, Waits, stands_more, stands_chain, node_behind}
+use Rattle.headline.proofs.OpenCalls.{Stands, Answered, Waits, stands_more, stands_chain, node_behind}
 
 -- what is found in one list behind another is found in one of them
 slice_get-split : {A : Type 0} (xs ys : List A) (i : ℕ) (x : A) → slice_get (xs ++ ys) i ≡ Some x
@@ -60,19 +51,6 @@ only_one : {A : Type 0} (b : Bool) (y x : A) (j : ℕ) → slice_get (if b then 
 only_one true y x zero e = (cc e, refl)
 only_one true y x (suc j) e = cc
 only_one false y x j e = cc
-
--- no word is a reply that a lock call may have
-no_word : (call : Call) (reply : Reply) (p : Process) → holder_in call ≡ Some p → may_have call reply ≡ true
-    → is_word reply ≡ false
-no_word (Call.SetLock q r z target times) True p h m = refl
-no_word (Call.SetLock q r z target times) False p h m = refl
-no_word (Call.SetLock q r z target times) _ p h m = cc
-no_word (Call.DelLock q r z target) True p h m = refl
-no_word (Call.DelLock q r z target) _ p h m = cc
-no_word Call.Spawn reply p h m = cc
-no_word (Call.LookUp look) reply p h m = cc
-no_word (Call.OnName c) reply p h m = cc
-no_word (Call.JoinBy j) reply p h m = cc
 
 -- so stands each accepted lock call
 abbrev pub AllStand : World → List Played → Type 0
@@ -251,7 +229,7 @@ record Told (o : Opening) (w : World) (ps : List Played) : Type 0 where
   stand : AllStand w ps
 
 -- so it is after every list of events
-all_stand : (o : Opening) (es : List WorldEvent) → AllStand (world o es) (events o es)
+pub all_stand : (o : Opening) (es : List WorldEvent) → AllStand (world o es) (events o es)
 all_stand o es = told.stand
   where
     told : Told o (world o es) (events o es)
@@ -262,64 +240,3 @@ all_stand o es = told.stand
         })
         es (opening_world o) [] (whole_opens o)
         (record { kept = Theorem.kept_run o (Whole o) (ground o) (whole_opens o) []; stand = λ a p k pos I. cc I.1 })
-
--- Open calls are seen: who has one has an accepted lock call that isn't answered yet, and a live process that has such a call has
--- one open
-pub record CallsSeen (o : Opening) (ps : List Played) (w : World) : Type 0 where
-  pub has : (a : ℕ) (p : Process) → is_some (call_of p (w.node a).calls) ≡ true → HasOpenCall ps a p
-  pub shows : (a : ℕ) (p : Process) → IsLiveAt (seen o w) a p → HasOpenCall ps a p
-      → is_some (call_of p (w.node a).calls) ≡ true
-
-module _ (o : Opening) (es : List WorldEvent) where
-  abbrev ps : List Played
-  ps = events o es
-
-  -- where no lock call's answer stands under the number of a lock call, none does
-  unanswered : (a : ℕ) (p : Process) (k : ℕ) (call : Call) → slice_get (calls_at a ps) (k - 1) ≡ Some call
-      → holder_in call ≡ Some p → given a k (answers_of ps) ≡ [] → 0 < k → answers_under a k ps ≡ []
-  unanswered a p k call found of none pos = go (answers_under a k ps) refl ((answered o es).once a k pos)
-    where
-      go : (ss : List Answer) → answers_under a k ps ≡ ss → AtMostOne (calls_at a ps) a k ss → ss ≡ []
-      go ss e NotYet = refl
-      go ss e (Once c reply i may) =
-          let same : c ≡ call = cc (i, found) in
-          let word : is_word reply ≡ false = no_word call reply p of
-          (ap (λ (d : Call). may_have d reply) (sym same) ∙ may) in
-          let s : Answer = answer_to a k reply in
-          let among : Contains (answers_of ps) s × (is_under a k s ≡ true) =
-          filtered (is_under a k) (answers_of ps) s
-          (subst (λ (l : List Answer). Contains l s) (sym e) (Contains-front s [])) in
-          absurd (Contains-nil s (subst (λ (l : List Answer). Contains l s) none
-          (kept_in (is_lock_under a k) (answers_of ps) s among.0 (and_from _ _ among.1 (ap not word)))))
-
-  -- so it is after every list of events
-  pub calls_seen : CallsSeen o ps (world o es)
-  calls_seen = record {
-    has = λ a p h. shown a p (call_of p ((world o es).node a).calls) refl h;
-    shows = λ a p L C. waits a p L C (all_stand o es a p C.number C.positive (C.call, C.accepted, C.holder));
-  }
-    where
-      waits : (a : ℕ) (p : Process) (L : IsLiveAt (seen o (world o es)) a p) (C : HasOpenCall ps a p)
-          → Stands a p C.number (answers_of ps) ((world o es).node a)
-          → is_some (call_of p ((world o es).node a).calls) ≡ true
-      waits a p L C (Gone d) =
-          cc (d, ap (λ (b : ℕ). is_dead ((world o es).node b).watch p.serial) (sym L.home) ∙ L.alive)
-      waits a p L C (Answered s i h n) = absurd (Contains-nil s (subst (λ (l : List Answer). Contains l s) C.unanswered
-          (kept_in (is_under a C.number) (answers_of ps) s i (and_from _ _ (eq-eqb s.node a h)
-          (eq-eqb s.number C.number n)))))
-      waits a p L C (Waits c e n) = ap is_some e
-
-      shown : (a : ℕ) (p : Process) (x : Option LockCall) → call_of p ((world o es).node a).calls ≡ x → is_some x ≡ true
-          → HasOpenCall ps a p
-      shown a p None e h = cc
-      shown a p (Some c) e h =
-          let L : Ledger a (calls_at a ps) ((world o es).node a).calls (answers_of ps) = ledgers o es a in
-          let I : IsCalled (calls_at a ps) p c.number c.phase = L.called p c e in
-          record {
-            number = c.number;
-            call = I.call;
-            positive = I.positive;
-            accepted = I.found;
-            holder = I.holder;
-            unanswered = unanswered a p c.number I.call I.found I.holder (L.waits p c e) I.positive;
-          }

@@ -15,7 +15,7 @@ use Rattle.headline.proofs.Causes.{is, here, hits, some_cause, Counting, countin
 use Rattle.moves.proofs.Invariants.{Replicas}
 use Rattle.headline.proofs.Refusals
 use Rattle.headline.proofs.LockRefusals
-use Rattle.headline.proofs.OpenEvents.{CallsSeen, calls_seen}
+use Rattle.headline.proofs.Unanswered.{CallsSeen, calls_seen}
 use Rattle.headline.proofs.Joining.{NoneAsks, none_asks, joined_or_waits, has_joined_or_waits}
 use Rattle.headline.proofs.Spawning.{next_at}
 use Rattle.headline.proofs.NextSerial.{Spawned, spawned, is_next}

@@ -13,6 +13,7 @@ use Rattle.headline.proofs.Answered
 use Rattle.headline.proofs.Joiners
 use Rattle.headline.proofs.LookingUp.{look_ups_read_the_table}
 use Rattle.headline.proofs.NextSerial.{spawns_give_the_next}
+use Rattle.headline.proofs.Exiting.{exits_kill_at_once}
 use Rattle.headline.proofs.Reasons.{refusals_in_words}
 use Rattle.headline.proofs.Welcomed
 
@@ -86,6 +87,7 @@ agreement o es = record {
   looks = looks_up_once o es;
   reads = look_ups_read_the_table o es;
   spawns = spawns_give_the_next o es;
+  exited = exits_kill_at_once o es;
   answered = calls_are_answered_once o es;
   joiner = joiners_are_answered o es;
   free = shows_when_free o es;

@@ -1,6 +1,6 @@
 -- The clauses of the headline, each by itself, of every opening and every list of events.
 use mathlib.Core.Logic.{◌⊎◌}
-use Rattle.std.specs.Prelude.{ℕ, ◌≡◌, IsTrue, Contains, fold, Some, None, option_map, filter, flat_map, List, [], ◌∷◌, ◌++◌, if◌then◌else◌}
+use Rattle.std.specs.Prelude.{ℕ, true, ◌≡◌, IsTrue, Contains, fold, Some, None, option_map, filter, flat_map, List, [], ◌∷◌, ◌++◌, if◌then◌else◌}
 use Rattle.registry_model.specs.Process.{Process}
 use Rattle.registry_model.specs.Call.{Look, Yes, Joined, Pid, seen_in}
 use Rattle.registry_model.specs.History.{Entry, Standing, is_free, is_holding, old, after}
@@ -73,6 +73,11 @@ abbrev pub SpawnsGiveTheNext : Type 0
 SpawnsGiveTheNext = (o : Opening) (es : List WorldEvent) (a : ℕ) (q : Process) →
     Contains ((now o es).answers (At a (Event.Calling Call.Spawn))) (answer_to a 0 (Pid q)) →
     IsNextProcess (events o es) (now o es).dead a q
+
+-- who was let exit is dead from that step on
+abbrev pub ExitsKillAtOnce : Type 0
+ExitsKillAtOnce = (o : Opening) (es : List WorldEvent) (p : Played) (a : ℕ) (q : Process) → Contains (events o es) p →
+    p.event ≡ At a (Event.Exiting q) → (now o es).dead q ≡ true
 
 -- each numbered call is answered at most once, at its node and by a reply that it may have
 abbrev pub CallsAreAnsweredOnce : Type 0

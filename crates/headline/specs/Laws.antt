@@ -45,14 +45,14 @@ JoinedAgree = (o : Opening) (es : List WorldEvent) (a b : ℕ) → RunsJoined o 
     (now o es).holder ≡ None → ((d : ℕ) → ((world o es).node a).replica.told d ≡ ((world o es).node b).replica.told d) →
     ((world o es).node a).replica.table ≡ ((world o es).node b).replica.table
 
--- A `no` to `register` is never given to a free name and a free process: who is refused so saw the name or the
+-- A `no` to `register` is never given to a free name and a free process of a member: who is refused so saw the name or the
 -- process taken
 abbrev pub NoToTheTaken : Type 0
 NoToTheTaken = (o : Opening) (es : List WorldEvent) (before later : List Entry) (n k : ℕ) (x : Text) (p : Process) →
     (now o es).history ≡ before ++ Name n k (Register x p) No ∷ later
     → IsFreeFor (registry_of (in_cluster o) before) n x p → ⊥
 
--- A `yes` to `register` is only given to a free name and a free process
+-- A `yes` to `register` is only given to a free name and a free process of a member
 abbrev pub YesToTheFreeOnly : Type 0
 YesToTheFreeOnly = (o : Opening) (es : List WorldEvent) (before later : List Entry) (n k : ℕ) (x : Text) (p : Process) →
     (now o es).history ≡ before ++ Name n k (Register x p) Yes ∷ later

@@ -1,6 +1,6 @@
 -- The test that rows are checked by asks the headline, and no more; and where it passes, the headline stands as far as the nodes
--- below the bound tell. It doesn't ask `welcomed`, nor what a node would answer or refuse next, but for leaves: that is `reads`,
--- `spawns` and `refusals`.
+-- below the bound tell. It doesn't ask `exited` and `welcomed`, nor what a node would answer or refuse next, but for leaves: that
+-- is `reads`, `spawns` and `refusals`.
 use mathlib.Core.Logic.{◌⊎◌}
 use Rattle.std.specs.Prelude.{ℕ, true, ◌==◌, ◌≡◌, ◌<◌, IsTrue, Contains, Some, None, option_map, filter, flat_map, fold, List, [], ◌∷◌, ◌++◌, if◌then◌else◌}
 use Rattle.registry_model.specs.Call.{Yes}
@@ -33,8 +33,8 @@ pub record IsReplicaBelow (n : ℕ) (v u : Replica) : Type 0 where
 abbrev pub ShowsBelow : Opening → Registry → ℕ → Seen → Type 0
 ShowsBelow o r a now = IsReplicaBelow o.bound (now.node a) (replica_of r a)
 
--- The headline as far as the nodes below the bound tell: each of its clauses but `reads`, `spawns`, `welcomed` and `refusals`, where
--- a set of nodes stands for its part below the bound, and `calls` and `replies` are asked of nodes below it
+-- The headline as far as the nodes below the bound tell: each of its clauses but `reads`, `spawns`, `exited`, `welcomed` and
+-- `refusals`, where a set of nodes stands for its part below the bound, and `calls` and `replies` are asked of nodes below it
 pub record HeadlineBelow (o : Opening) (ps : List Played) (now : Seen) : Type 0 where
   pub history : now.history ≡ entries_of ps
   pub legal : IsLegal (in_cluster o) now.history

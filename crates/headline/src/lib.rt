@@ -4,7 +4,7 @@
 
 ghost use Rattle.protocol_model.specs.ClientLocks.{Exclusion};
 ghost use Rattle.protocol_model.specs.Headline.{Agreement};
-ghost use Rattle.headline.specs.Clauses.{HistoryGrows, HistoryIsLegal, HistoryFits, AnswersAreEntries, AnswersComeInTime, EntriesAreMadeAtHome, IsDecidedUnderLock, EachLookUpOnce, LookUpsReadTheTable, SpawnsGiveTheNext, CallsAreAnsweredOnce, JoinersAreAnswered, ShowsWhenFree, ShowsWhenHeld, YesIsWritten, JoinedIsWelcomed, LeaveWaits, RefusalsInWords, HolderHolds};
+ghost use Rattle.headline.specs.Clauses.{HistoryGrows, HistoryIsLegal, HistoryFits, AnswersAreEntries, AnswersComeInTime, EntriesAreMadeAtHome, IsDecidedUnderLock, EachLookUpOnce, LookUpsReadTheTable, SpawnsGiveTheNext, ExitsKillAtOnce, CallsAreAnsweredOnce, JoinersAreAnswered, ShowsWhenFree, ShowsWhenHeld, YesIsWritten, JoinedIsWelcomed, LeaveWaits, RefusalsInWords, HolderHolds};
 ghost use Rattle.headline.specs.Tie.{TestAsksTheHeadline, HeadlineWhereTestPasses};
 ghost use Rattle.headline.specs.Laws.{OneHolder, OneOwnerAtEach, JoinedAgree, NoToTheTaken, YesToTheFreeOnly, YesStands, YesIsFound, RefusedChangesNothing, SpawnsGiveNew, FixedAgreement};
 
@@ -67,6 +67,11 @@ pub fn look_ups_read_the_table()
 /// A `spawn` gives the least process of its node above all that were spawned there that isn't dead.
 pub fn spawns_give_the_next()
     ensures { SpawnsGiveTheNext }
+{}
+
+/// Who was let exit is dead from that step on.
+pub fn exits_kill_at_once()
+    ensures { ExitsKillAtOnce }
 {}
 
 /// Each numbered call is answered at most once, at its node and by a reply that it may have.
@@ -134,12 +139,12 @@ pub fn joined_agree()
     ensures { JoinedAgree }
 {}
 
-/// A `no` is never given to a free name and a free process.
+/// A `no` is never given to a free name and a free process of a member.
 pub fn no_to_the_taken()
     ensures { NoToTheTaken }
 {}
 
-/// A `yes` is given to a free name and a free process only.
+/// A `yes` is given to a free name and a free process of a member only.
 pub fn yes_to_the_free_only()
     ensures { YesToTheFreeOnly }
 {}
@@ -172,7 +177,7 @@ pub fn test_asks_the_headline()
 {}
 
 /// Where the test passes, the headline stands as far as the nodes below the bound tell: so the test asks all of its clauses but
-/// `welcomed` and those of what a node would answer or refuse next, `reads`, `spawns` and `refusals`.
+/// `exited`, `welcomed` and those of what a node would answer or refuse next, `reads`, `spawns` and `refusals`.
 pub fn headline_where_test_passes()
     ensures { HeadlineWhereTestPasses }
 {}

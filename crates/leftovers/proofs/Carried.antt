@@ -2,9 +2,9 @@
 use mathlib.Core.Logic.{◌⊎◌}
 use Rattle.std.proofs.Common.{ℕ, Bool, true, false, ◌==◌, ◌≡◌, ◌+◌, None, List, [], ◌∷◌, ◌++◌, refl, sym, ap, ◌∙◌, subst, inl, inr}
 use Rattle.std.specs.Prelude.{not, ◌&&◌, nat_lt, if◌then◌else◌, Contains}
-use Rattle.std.proofs.lemmas.Bool.{eq-eqb, eqb-true}
+use Rattle.std.proofs.lemmas.Bool.{eq-eqb}
 use Rattle.std.proofs.lemmas.List.{append_assoc}
-use Rattle.registry_model.specs.Process.{Process, at}
+use Rattle.registry_model.specs.Process.{Process}
 use Rattle.registry_model.specs.Registry.{Registry, Replica}
 use Rattle.registry_model.specs.Settlement.{settle}
 use Rattle.registry_model.specs.Call.{Joined}
@@ -15,23 +15,25 @@ use Rattle.registry_model.proofs.HistoryParts.{registry_of-append}
 use Rattle.registry_model.proofs.Deaths.{Kills, ByExit, dead-cases}
 use Rattle.protocol_model.specs.Letter.{Letter}
 use Rattle.protocol_model.specs.Links.{taken}
-use Rattle.protocol_model.specs.Watch.{Watch, is_dead, is_issued}
+use Rattle.protocol_model.specs.Watch.{is_dead}
 use Rattle.protocol_model.specs.Node.{Node, Op, Current, Times}
-use Rattle.protocol_model.specs.Event.{Call, Event, Refusal, cause}
+use Rattle.protocol_model.specs.Event.{Call, Event}
 use Rattle.protocol_model.specs.Turn.{Turn, begun, counted, enter, sent_to}
 use Rattle.protocol_model.specs.Registrar.{start, retry_global}
 use Rattle.protocol_model.specs.Client.{new_call, retry_locks}
 use Rattle.protocol_model.specs.Calling.{die, call}
 use Rattle.protocol_model.specs.World.{Opening, in_world, in_cluster, World, left, WorldEvent, At, Deliver, refusal, join_number, heard, turn_of, accepted, opening_world}
-use Rattle.moves.proofs.Indices.{both, not_false}
+use Rattle.moves.proofs.Indices.{both}
+use Rattle.moves.proofs.Rules.{Walked}
 use Rattle.moves.proofs.Invariants.{IsUp}
-use Rattle.walk.proofs.Events.{Accepted, accepted_of, no_cause}
+use Rattle.walk.proofs.Events.{Accepted, accepted_of}
+use Rattle.walk.proofs.Walk.{walked}
 use Rattle.protocol_model.specs.Leftovers.{world, Always, DeathsAreCarriedOut, KnownDeadOwnNothing}
 use Rattle.protocol_model.proofs.Waiting.{accepted-node}
-use Rattle.leftovers.proofs.Grounds.{Base, replicas, between}
+use Rattle.headline.proofs.Exiting.{dead_event, exit_kills}
+use Rattle.leftovers.proofs.Grounds.{Base, wide, replicas, between}
 use Rattle.leftovers.proofs.Extends.{are_harmless, has_kill, kill_later, Adds, adds_then, adds_same, adds_entry, add_send_all, add_start, add_retry, add_try, add_delete, add_retry_all, add_die, kills_by}
 use Rattle.leftovers.proofs.Verdicts.{Admitted, harmless_dead, admitted_dead}
-use Rattle.leftovers.proofs.Doomed.{dead_event, start-watch, dead_last}
 use Rattle.leftovers.proofs.DoomedEvents.{Doomed, kill_stays, letter_dead, Decides, Result, receive_result}
 use Rattle.leftovers.proofs.Families.{Families, families_keep, families_open, whole}
 use Rattle.leftovers.proofs.Names.{no_departed, owner_inside, no_dead}
@@ -138,12 +140,15 @@ module _ (o : Opening) (w : World) (B : Base o w) where
       was_up : IsUp o w p.node
       was_up = (up.0, accepted-left o w e p.node up.1)
 
+      walk : Walked o w e
+      walk = walked o w e B.ordered (wide o w B) h
+
       -- who was dead before
       before : (registry_of (in_cluster o) w.history).dead p ≡ true
           → (is_dead ((accepted o w e).node p.node).watch p.serial ≡ true)
           ⊎ ((x : ℕ) × (in_world o x ≡ true) × (has_kill p ((accepted o w e).links.queue x p.node) ≡ true))
       before d = elim (D p client was_up d) [
-        | inl k ↦ inl (dead_event o w B e h p.node p.serial k)
+        | inl k ↦ inl (dead_event o w e walk p.node p.serial k)
         | inr k ↦ letter k.0 k.1 (kill_stays o w p e k.0 p.node up.1 k.2)
       ]
         where
@@ -184,25 +189,12 @@ module _ (o : Opening) (w : World) (B : Base o w) where
           started = adds_then u (die o.bound a q u) (start o.bound a (die o.bound a q u)) (add_die o.bound a q u)
               (add_start o.bound a (die o.bound a q u))
 
-          home : q.node ≡ a
-          home =
-              let k : Accepted o w (At a (Event.Exiting q)) = accepted_of o w (At a (Event.Exiting q))
-              (ap (refusal o w) (sym i) ∙ h) in
-              eqb-true q.node a (both (q.node == a) (not (q.serial == 0))
-              (both ((q.node == a) && not (q.serial == 0)) _ (not_false (is_issued a (w.node a).watch q)
-              (no_cause (not (is_issued a (w.node a).watch q)) Refusal.NoSuchProcess
-              (cause (is_dead (w.node a).watch q.serial) Refusal.AlreadyExited ∷ []) k.local).0)).0).0
+          killed : is_dead ((accepted o w e).node q.node).watch q.serial ≡ true
+          killed = subst (λ (y : WorldEvent). Walked o w y → is_dead ((accepted o w y).node q.node).watch q.serial ≡ true)
+              (sym i) (exit_kills o w a q) walk
 
           died : p ≡ q → is_dead ((accepted o w e).node p.node).watch p.serial ≡ true
-          died s = subst (λ (y : WorldEvent). is_dead ((accepted o w y).node p.node).watch p.serial ≡ true) (sym i)
-              (subst (λ (z : Process). is_dead ((accepted o w (At a (Event.Exiting q))).node z.node).watch z.serial ≡ true)
-              (sym s)
-              (ap (λ (n : ℕ → Node). is_dead (n q.node).watch q.serial) (accepted-node o w (At a (Event.Exiting q)))
-              ∙ ap (λ (c : ℕ). is_dead (at w.node a (turn_of o w (At a (Event.Exiting q))).node c).watch q.serial) home
-              ∙ ap (λ (n : Node). is_dead n.watch q.serial)
-              (at_same w.node a (turn_of o w (At a (Event.Exiting q))).node)
-              ∙ ap (λ (v : Watch). is_dead v q.serial) (start-watch o.bound a (die o.bound a q u))
-              ∙ dead_last (w.node a).watch.dead q.serial))
+          died s = subst (λ (z : Process). is_dead ((accepted o w e).node z.node).watch z.serial ≡ true) (sym s) killed
 
           exit : ((registry_of (in_cluster o) w.history).dead p ≡ true)
               ⊎ Kills (registry_of (in_cluster o) w.history) p (Entry.Exit q)

@@ -1,68 +1,17 @@
--- Who is dead in the registry is dead at its running node, or a letter by which it dies is on its way there.
+-- Who is to die by a letter is dead once its node has read it.
 use Rattle.std.proofs.Common.{ℕ, Bool, true, false, ◌==◌, ◌≡◌, Option, Some, None, List, [], ◌∷◌, ◌++◌, refl, sym, ap, ◌∙◌}
 use Rattle.std.specs.Prelude.{not, ◌&&◌, ◌||◌, if◌then◌else◌}
 use Rattle.std.specs.List.{list_any}
 use Rattle.std.proofs.lemmas.Bool.{eq-eqb}
 use Rattle.registry_model.specs.Process.{Process, is_process}
-use Rattle.registry_model.proofs.Updates.{by_test}
-use Rattle.protocol_model.specs.Watch.{Watch, is_dead, is_live, with_dead, owed}
-use Rattle.protocol_model.specs.Node.{Node, Op, Current}
+use Rattle.protocol_model.specs.Watch.{is_dead, is_live, with_dead, owed}
+use Rattle.protocol_model.specs.Node.{Op, Current}
 use Rattle.protocol_model.specs.Turn.{Turn, with_queue}
 use Rattle.protocol_model.specs.Registrar.{start_queue, start_next, start_free, start, ask_join, contact_left}
 use Rattle.protocol_model.specs.Calling.{die, kill}
-use Rattle.protocol_model.specs.World.{Opening, World, WorldEvent, place, refusal, accepted}
-use Rattle.moves.proofs.Rules
-use Rattle.moves.proofs.Rules.{Rule, Walked, kills_in}
-use Rattle.walk.proofs.Orders.{effect-node}
-use Rattle.walk.proofs.Walk.{walked}
-use Rattle.walk.proofs.Runs.{rules_of}
+use Rattle.client_locks.proofs.Growing.{dead_too}
 use Rattle.client_locks.proofs.Ids.{is_process_same}
-use Rattle.leftovers.proofs.Grounds.{Base, wide}
-use Rattle.leftovers.proofs.Parts.{watch_by, parts}
-
--- nobody who died lives again
-dead_longer : (ds : List ℕ) (q s : ℕ) → list_any (λ d. d == s) ds ≡ true → list_any (λ d. d == s) (ds ++ q ∷ []) ≡ true
-dead_longer [] q s h = cc
-dead_longer (d ∷ ds) q s h = go (d == s) h (dead_longer ds q s)
-  where
-    go : (b : Bool) → (b || list_any (λ d. d == s) ds) ≡ true
-        → (list_any (λ d. d == s) ds ≡ true → list_any (λ d. d == s) (ds ++ q ∷ []) ≡ true)
-        → (b || list_any (λ d. d == s) (ds ++ q ∷ [])) ≡ true
-    go true k more = refl
-    go false k more = more k
-
-pub dead_last : (ds : List ℕ) (s : ℕ) → list_any (λ d. d == s) (ds ++ s ∷ []) ≡ true
-dead_last [] s = rw (eq-eqb s s refl) refl
-dead_last (d ∷ ds) s = go (d == s) (dead_last ds s)
-  where
-    go : (b : Bool) → list_any (λ d. d == s) (ds ++ s ∷ []) ≡ true
-        → (b || list_any (λ d. d == s) (ds ++ s ∷ [])) ≡ true
-    go true k = refl
-    go false k = k
-
-dead_stays : (r : Rule) (v : Watch) (s : ℕ) → is_dead v s ≡ true → is_dead (watch_by r v) s ≡ true
-dead_stays (Rules.Exits q) v s h = dead_longer v.dead q.serial s h
-dead_stays (Rules.Kills f l q receivers) v s h = dead_longer v.dead q.serial s h
-dead_stays Rules.Spawns v s h = h
-dead_stays _ v s h = h
-
-dead_rule : (o : Opening) (a : ℕ) (r : Rule) (w : World) (b s : ℕ) → is_dead (w.node b).watch s ≡ true
-    → is_dead ((Rules.effect o a r w).node b).watch s ≡ true
-dead_rule o a r w b s h = ap (λ (f : ℕ → Node). is_dead (f b).watch s) (effect-node o a r w)
-    ∙ by_test a (λ x t. is_dead (w.node x).watch s ≡ true
-    → is_dead (if t then (Rules.turn_by o a w r).node else w.node x).watch s ≡ true)
-    (λ k. ap (λ (v : Watch). is_dead v s) (parts o a w r).watch ∙ dead_stays r (w.node a).watch s k) (λ x ne k. k) b h
-
-dead_rules : (o : Opening) (a : ℕ) (rs : List Rule) (w : World) (b s : ℕ) → is_dead (w.node b).watch s ≡ true
-    → is_dead ((Rules.effects o a rs w).node b).watch s ≡ true
-dead_rules o a [] w b s h = h
-dead_rules o a (r ∷ rs) w b s h = dead_rules o a rs (Rules.effect o a r w) b s (dead_rule o a r w b s h)
-
-pub dead_event : (o : Opening) (w : World) → Base o w → (e : WorldEvent) → refusal o w e ≡ None → (b s : ℕ)
-    → is_dead (w.node b).watch s ≡ true → is_dead ((accepted o w e).node b).watch s ≡ true
-dead_event o w B e h b s d =
-    let k : Walked o w e = walked o w e B.ordered (wide o w B) h in
-    ap (λ (x : World). is_dead (x.node b).watch s) (sym k.world) ∙ dead_rules o (place e) (rules_of o w e k) w b s d
+use Rattle.headline.proofs.Exiting.{dead_last}
 
 -- the start of the next operation kills nobody, and changes no watch
 pub start-watch : (n a : ℕ) (u : Turn) → (start n a u).node.watch ≡ u.node.watch
@@ -97,7 +46,7 @@ kill_dead n a s (p ∷ ps) u h = go (is_live a u.node.watch p) (kill_dead n a s 
   where
     go : (b : Bool) → ((z : Turn) → is_dead z.node.watch s ≡ true → is_dead (kill n a ps z).node.watch s ≡ true)
         → is_dead (kill n a ps (if b then die n a p u else u)).node.watch s ≡ true
-    go true more = more (die n a p u) (dead_longer u.node.watch.dead p.serial s h)
+    go true more = more (die n a p u) (dead_too u.node.watch.dead p.serial s h)
     go false more = more u h
 
 pub kill_kills : (n a : ℕ) (p : Process) → p.node ≡ a → (p.serial == 0) ≡ false → (ps : List Process) (u : Turn)

@@ -4,6 +4,7 @@ pub use Rattle.client_locks.proofs.Calling
 pub use Rattle.client_locks.proofs.Calls
 pub use Rattle.client_locks.proofs.Chains
 pub use Rattle.client_locks.proofs.Clients
+pub use Rattle.client_locks.proofs.Deaths as ClientDeaths
 pub use Rattle.client_locks.proofs.Growing
 pub use Rattle.client_locks.proofs.HeardChains
 pub use Rattle.client_locks.proofs.Ids
@@ -42,6 +43,7 @@ pub use Rattle.headline.proofs.Theorem
 pub use Rattle.headline.proofs.Tied
 pub use Rattle.headline.proofs.Together
 pub use Rattle.headline.proofs.Turns
+pub use Rattle.headline.proofs.Unanswered
 pub use Rattle.join_gates.proofs.Made
 pub use Rattle.lock_sessions.proofs.Base
 pub use Rattle.walk.proofs.Events

@@ -17,7 +17,7 @@ use Rattle.walk.proofs.Orders.{effect-node}
 use Rattle.leftovers.proofs.Grounds.{Base, wide}
 use Rattle.leftovers.proofs.Parts.{replica_by, parts}
 use Rattle.leftovers.proofs.Departures.{told_by_rule}
-use Rattle.leftovers.proofs.RoundFacts.{asked_answer, asked_down, asked_begin}
+use Rattle.client_locks.proofs.Ongoing.{asked_answer, asked_down, asked_begin}
 use Rattle.leftovers.proofs.Phases.{StepOk, Puts, Drops, AllPhases, step_of, phases_stepped, calls_turn, put_home}
 
 -- is a member, or was told to have left
@@ -97,11 +97,11 @@ module _ (o : Opening) (a : ℕ) (w : World) (B : Base o w) where
   put_near : (r : Rule) → Rules.May o a w r → NearAt (w.node a)
       → StepOk (λ c. NearIn v c.phase) (step_of o.bound (w.node a) r)
   put_near (Rules.AsksLock c) m N = λ x e. member_near v x (target_member v.members c.target x
-      (asked_begin o.bound (targets v.members c.target) x e))
+      (sym (asked_begin o.bound (targets v.members c.target) x) ∙ e))
   put_near (Rules.HearsLock f id granted c r) m N = λ x e.
-      subst (NearIn v) m.tested.2.phase (N c.holder c m.tested.2.call) x (asked_answer f granted r m.tested.3 x e)
+      subst (NearIn v) m.tested.2.phase (N c.holder c m.tested.2.call) x (sym (asked_answer f granted r m.tested.3 x) ∙ e)
   put_near (Rules.MarksLockDown d c r) m N = λ x e.
-      subst (NearIn v) m.tested.1.phase (N c.holder c m.tested.1.call) x (asked_down d r x e)
+      subst (NearIn v) m.tested.1.phase (N c.holder c m.tested.1.call) x (sym (asked_down d r x) ∙ e)
   put_near (Rules.GivesUpLock c r granted) m N = go (is_spent c.retries)
     where
       go : (b : Bool) → StepOk (λ c. NearIn v c.phase)

@@ -16,7 +16,8 @@ use Rattle.walk.proofs.LockRounds.{IsOwn}
 use Rattle.walk.proofs.Calls.{is_ordered-drop_call, is_ordered-put_call}
 use Rattle.client_locks.proofs.Calls.{call_of-put, call_of-drop, holder_of_call}
 use Rattle.client_locks.proofs.Ids.{is_process_self}
-use Rattle.leftovers.proofs.RoundFacts.{is_to_come, is_before, asked_answer, asked_down, asked_begin, to_come_answer, to_come_down, to_come_gone, to_come_begin, boss_answer, boss_down, boss_begin, over_begin}
+use Rattle.client_locks.proofs.Ongoing.{asked_answer, asked_down, asked_begin}
+use Rattle.leftovers.proofs.RoundFacts.{is_to_come, is_before, to_come_answer, to_come_down, to_come_gone, to_come_begin, boss_answer, boss_down, boss_begin, over_begin}
 
 -- these are awaited: nodes of the world, of which none was told to have left; there is one
 pub record Awaited (o : Opening) (told s : Nodes) : Type 0 where
@@ -88,7 +89,7 @@ module _ (o : Opening) where
       record {
         on = record {
           untold = λ x h. to_come_begin o.bound s x (out x h (s x) refl);
-          inside = λ x h. inside x (asked_begin o.bound s x h);
+          inside = λ x h. inside x (sym (asked_begin o.bound s x) ∙ h);
           boss = boss_begin o.bound s one.0 one.1 one.2;
         };
         going = over_begin o.bound s;
@@ -102,7 +103,7 @@ module _ (o : Opening) where
       → RoundOn o told (answer f g r)
   answer_on told f g r owe R = record {
     untold = λ x h. to_come_answer f g r owe x (R.untold x h);
-    inside = λ x h. R.inside x (asked_answer f g r owe x h);
+    inside = λ x h. R.inside x (sym (asked_answer f g r owe x) ∙ h);
     boss = boss_answer f g r owe R.boss;
   }
 
@@ -116,7 +117,7 @@ module _ (o : Opening) where
         | inr k ↦ to_come_down d r x ne (R.untold x k)
       ]
     ];
-    inside = λ x h. R.inside x (asked_down d r x h);
+    inside = λ x h. R.inside x (sym (asked_down d r x) ∙ h);
     boss = boss_down d r R.boss;
   }
 

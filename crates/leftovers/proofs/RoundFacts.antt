@@ -1,12 +1,12 @@
 -- What answers and departures make of a round: whom it asks, who is still to answer, and its boss.
-use Rattle.std.proofs.Common.{ℕ, Bool, true, false, ◌==◌, ◌≡◌, ◌<◌, refl, sym, ap, ◌∙◌, subst}
+use Rattle.std.proofs.Common.{ℕ, Bool, true, false, ◌≡◌, ◌<◌, refl, sym, subst}
 use Rattle.std.specs.Prelude.{not, ◌&&◌, ◌||◌, if◌then◌else◌}
 use Rattle.std.proofs.lemmas.Bool.{eq-eqb}
 use Rattle.registry_model.specs.Process.{Nodes}
-use Rattle.protocol_model.specs.Round.{Mark, Out, Later, Owes, Granted, Refused, Lost, Gone, Round, is_out, is_empty, greatest, begin, asked, owes, asked_too, opens, answer, mark_down, down, is_over, is_refused, is_gone, has_granted, is_owes}
+use Rattle.protocol_model.specs.Round.{Mark, Out, Later, Owes, Round, is_out, is_empty, greatest, begin, asked, owes, asked_too, answer, mark_down, down, is_over, is_refused, is_gone, has_granted, is_owes}
 use Rattle.registry_model.proofs.Updates.{by_test}
 use Rattle.moves.proofs.Indices.{greatest_in}
-use Rattle.client_locks.proofs.Rounds.{mark_by, answer_opens, answer_owed, answer_boss}
+use Rattle.client_locks.proofs.Rounds.{mark_by, Answered, Own, Stays, Opened, answered, answer_boss}
 
 -- is to answer, now or later
 abbrev pub is_to_come : Mark → Bool
@@ -20,63 +20,12 @@ is_before Out = true
 is_before Later = true
 is_before _ = false
 
--- who answers has the mark of its answer, and each other mark stays, or owes where it was to be asked later
-pub data Answered (f x : ℕ) (old : Mark) : Mark → Type 0 where
-  Own : (g : Bool) → x ≡ f → Answered f x old (mark_by g)
-  Stays : Answered f x old old
-  Opened : Answered f x old (asked_too old)
-
-pub answered : (f : ℕ) (g : Bool) (r : Round) → owes r f ≡ true → (x : ℕ)
-    → Answered f x (r.mark x) ((answer f g r).mark x)
-answered f g r owe x = go (opens f g r) refl
-  where
-    opening : Answered f x (r.mark x) (if x == f then Granted else asked_too (r.mark x))
-    opening = by_test f (λ y t. Answered f y (r.mark y) (if t then Granted else asked_too (r.mark y)))
-        (Own true refl) (λ y ne. Opened) x
-
-    owing : Answered f x (r.mark x) (if x == f then mark_by g else r.mark x)
-    owing = by_test f (λ y t. Answered f y (r.mark y) (if t then mark_by g else r.mark y)) (Own g refl) (λ y ne. Stays) x
-
-    go : (b : Bool) → opens f g r ≡ b → Answered f x (r.mark x) ((answer f g r).mark x)
-    go true e = subst (Answered f x (r.mark x)) (sym (answer_opens f g r e x)) opening
-    go false e = subst (Answered f x (r.mark x)) (sym (answer_owed f g r e owe x)) owing
-
 pub asked_of_owes : (r : Round) (f : ℕ) → owes r f ≡ true → asked r f ≡ true
 asked_of_owes r f h = go (r.mark f) h
   where
     go : (m : Mark) → is_owes m ≡ true → not (is_out m) ≡ true
     go Owes e = refl
     go _ e = cc
-
--- whom it asks then it asked before
-pub asked_answer : (f : ℕ) (g : Bool) (r : Round) → owes r f ≡ true → (x : ℕ) → asked (answer f g r) x ≡ true
-    → asked r x ≡ true
-asked_answer f g r owe x h = go ((answer f g r).mark x) (answered f g r owe x) h
-  where
-    too : (m : Mark) → not (is_out (asked_too m)) ≡ true → not (is_out m) ≡ true
-    too Out e = cc
-    too _ e = refl
-
-    go : (m : Mark) → Answered f x (r.mark x) m → not (is_out m) ≡ true → asked r x ≡ true
-    go m (Own k e) q = ap (asked r) e ∙ asked_of_owes r f owe
-    go m Stays q = q
-    go m Opened q = too (r.mark x) q
-
-pub asked_down : (d : ℕ) (r : Round) (x : ℕ) → asked (down d r) x ≡ true → asked r x ≡ true
-asked_down d r x h = by_test d
-    (λ y t. not (is_out (if t then mark_down (r.mark d) else r.mark y)) ≡ true → not (is_out (r.mark y)) ≡ true)
-    (same (r.mark d)) (λ y ne k. k) x h
-  where
-    same : (m : Mark) → not (is_out (mark_down m)) ≡ true → not (is_out m) ≡ true
-    same Out k = cc
-    same _ k = refl
-
-pub asked_begin : (n : ℕ) (s : Nodes) (x : ℕ) → asked (begin n s) x ≡ true → s x ≡ true
-asked_begin n s x h = go (s x) h
-  where
-    go : (b : Bool) → not (is_out (if b then (if x == greatest n s then Owes else Later) else Out)) ≡ true → b ≡ true
-    go true k = refl
-    go false k = cc
 
 -- who isn't to answer before isn't then
 pub to_come_answer : (f : ℕ) (g : Bool) (r : Round) → owes r f ≡ true → (x : ℕ) → is_to_come (r.mark x) ≡ false
@@ -89,15 +38,10 @@ to_come_answer f g r owe x h = go ((answer f g r).mark x) (answered f g r owe x)
 
     too : (m : Mark) → is_to_come m ≡ false → is_to_come (asked_too m) ≡ false
     too Later e = cc
-    too Out e = refl
-    too Owes e = e
-    too Granted e = refl
-    too Refused e = refl
-    too Lost e = refl
-    too Gone e = refl
+    too _ e = e
 
-    go : (m : Mark) → Answered f x (r.mark x) m → is_to_come m ≡ false
-    go m (Own k e) = by k
+    go : (m : Mark) → Answered f g x (r.mark x) m → is_to_come m ≡ false
+    go m (Own e) = by g
     go m Stays = h
     go m Opened = too (r.mark x) h
 
@@ -136,8 +80,8 @@ boss_answer f g r owe h = subst (λ (y : ℕ). is_before ((answer f g r).mark y)
     too Out e = e
     too _ e = refl
 
-    go : (m : Mark) → Answered f r.boss (r.mark r.boss) m → is_before m ≡ false
-    go m (Own k e) = by k
+    go : (m : Mark) → Answered f g r.boss (r.mark r.boss) m → is_before m ≡ false
+    go m (Own e) = by g
     go m Stays = h
     go m Opened = too (r.mark r.boss) h
 

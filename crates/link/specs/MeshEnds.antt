@@ -30,9 +30,9 @@ module _ {L : Type 0} where
   Posts s to letter t = IsSameEnd s t × (joins (node_of s) to (mesh_of s) ≡ true)
       × (seen (mesh_of t) ≡ posted (node_of s) (only_to to letter) (seen (mesh_of s)))
 
-  -- a letter to this node was handed back
-  abbrev pub Refuses : MeshEnd L → ℕ → L → Type 0
-  Refuses s to letter = (fault : LinkFault) × IsUnsent fault (node_of s) to (mesh_of s)
+  -- a letter to this node was handed back, for this fault of the mesh
+  abbrev pub Refuses : MeshEnd L → ℕ → L → LinkFault → Type 0
+  Refuses s to letter fault = IsUnsent fault (node_of s) to (mesh_of s)
 
   -- the oldest letter from the least node that has sent one was taken
   abbrev pub Takes : MeshEnd L → ℕ → L → MeshEnd L → Type 0
@@ -43,3 +43,7 @@ module _ {L : Type 0} where
   -- no letter is on its way to the node
   abbrev pub Misses : MeshEnd L → Type 0
   Misses s = WaitsTowards (node_of s) None (mesh_of s)
+
+  -- a taking never fails
+  abbrev pub Fails : MeshEnd L → LinkFault → Type 0
+  Fails s fault = ⊥

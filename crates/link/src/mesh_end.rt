@@ -60,11 +60,13 @@ impl<'a, L: Drop> Post<L> for MeshEnd<'a, L> {
 }
 
 impl<'a, L: Drop> Inbox<L> for MeshEnd<'a, L> {
-    ghost use Rattle.link.specs.MeshEnds.{Takes, Misses};
+    ghost use Rattle.link.specs.MeshEnds.{Takes, Misses, Fails};
 
     ghost takes = { Takes };
 
     ghost misses = { Misses };
+
+    ghost fails = { Fails };
 
     fn take(&mut self) -> Result<Option<(NodeName, L)>, LinkFault> {
         let Some(from) = self.mesh.first_sender(&self.node) else {

@@ -20,7 +20,7 @@ impl Station for Narrow {
 impl Post<u32> for Narrow {
     ghost posts = { λ s to letter t. Unit {0} };
 
-    ghost refuses = { λ s to letter. Unit {0} };
+    ghost refuses = { λ s to letter fault. Unit {0} };
 
     fn send(&mut self, to: &NodeName, letter: u32) -> Result<(), Unsent<u32>> {
         let fault = LinkFault::Full;

@@ -1,11 +1,11 @@
 -- A round that fails has a mark for it: some node refused, or has gone down.
-use Rattle.std.proofs.Common.{ℕ, Bool, true, false, ◌==◌, ◌≡◌, ◌<◌, refl, sym, ap, ◌∙◌}
+use Rattle.std.proofs.Common.{ℕ, Bool, true, false, ◌==◌, ◌≡◌, ◌<◌, refl, ap}
 use Rattle.std.specs.Prelude.{not, ◌&&◌, ◌||◌, if◌then◌else◌}
 use Rattle.registry_model.specs.Process.{Nodes}
 use Rattle.registry_model.proofs.Updates.{by_test}
-use Rattle.protocol_model.specs.Round.{Mark, Out, Later, Owes, Granted, Refused, Lost, Gone, Round, is_out, is_refused, is_gone, is_granted, has_granted, is_empty, greatest, begin, asked, owes, asked_too, opens, answer, mark_down, down, granted, is_over, is_held, asked_all, Ending, Held, GiveBack, ending}
+use Rattle.protocol_model.specs.Round.{Mark, Out, Later, Owes, Granted, Refused, Lost, Gone, Round, is_out, is_refused, is_gone, is_granted, has_granted, is_empty, greatest, begin, asked, owes, asked_too, answer, mark_down, down, granted, is_over, is_held, asked_all, Ending, Held, GiveBack, ending}
 use Rattle.moves.proofs.Indices.{both, some_of, empty_at, is_empty_from}
-use Rattle.leftovers.proofs.Rounds.{mark_by, answer_opens, answer_owed}
+use Rattle.leftovers.proofs.Rounds.{mark_by, Answered, Own, Stays, Opened, answered}
 
 -- has refused, or has gone down
 abbrev pub is_bad : Mark → Bool
@@ -34,7 +34,7 @@ begin_good n s x h = go (s x) (x == greatest n s) h
 -- where an answer makes a bad mark, it is that of a node that refuses now, or it was there
 pub bad_answer : (f : ℕ) (g : Bool) (r : Round) → owes r f ≡ true → (so : Bool) → (g ≡ false → so ≡ true) → (x : ℕ)
     → (is_bad (r.mark x) ≡ true → so ≡ true) → is_bad ((answer f g r).mark x) ≡ true → so ≡ true
-bad_answer f g r owe so denied x before h = go (opens f g r) refl
+bad_answer f g r owe so denied x before h = go ((answer f g r).mark x) (answered f g r owe x) h
   where
     too : (m : Mark) → is_bad (asked_too m) ≡ true → is_bad m ≡ true
     too Later k = cc
@@ -44,17 +44,10 @@ bad_answer f g r owe so denied x before h = go (opens f g r) refl
     by true e k = cc
     by false e k = denied e
 
-    opening : (b : Bool) → is_bad (if b then Granted else asked_too (r.mark x)) ≡ true → so ≡ true
-    opening true k = cc
-    opening false k = before (too (r.mark x) k)
-
-    owing : (b : Bool) → is_bad (if b then mark_by g else r.mark x) ≡ true → so ≡ true
-    owing true k = by g refl k
-    owing false k = before k
-
-    go : (b : Bool) → opens f g r ≡ b → so ≡ true
-    go true e = opening (x == f) (sym (ap is_bad (answer_opens f g r e x)) ∙ h)
-    go false e = owing (x == f) (sym (ap is_bad (answer_owed f g r e owe x)) ∙ h)
+    go : (m : Mark) → Answered f g x (r.mark x) m → is_bad m ≡ true → so ≡ true
+    go m (Own e) k = by g refl k
+    go m Stays k = before k
+    go m Opened k = before (too (r.mark x) k)
 
 -- and where a node goes down that was asked
 pub bad_down : (d : ℕ) (r : Round) (so : Bool) → (asked r d ≡ true → so ≡ true) → (x : ℕ)

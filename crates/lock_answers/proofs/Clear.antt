@@ -5,7 +5,7 @@ use Rattle.std.proofs.lemmas.Bool.{eq-eqb}
 use Rattle.registry_model.specs.Process.{Nodes}
 use Rattle.registry_model.specs.Table.{Table}
 use Rattle.registry_model.specs.Registry.{Replica}
-use Rattle.protocol_model.specs.Round.{Mark, Out, Later, Owes, Granted, Refused, Lost, Gone, Round, is_out, is_granted, greatest, begin, asked, asked_too, owes, answer, mark_down, down, granted}
+use Rattle.protocol_model.specs.Round.{Mark, Out, Later, Owes, Granted, Round, is_out, is_granted, greatest, begin, asked, asked_too, owes, answer, mark_down, down, granted}
 use Rattle.protocol_model.specs.Letter.{Letter}
 use Rattle.protocol_model.specs.Node.{Node, Current, LockPhase, call_of, targets}
 use Rattle.protocol_model.specs.Client.{is_spent, in_phase}
@@ -21,7 +21,7 @@ use Rattle.walk.proofs.Orders.{effect-node}
 use Rattle.leftovers.proofs.Grounds.{Base, replicas}
 use Rattle.leftovers.proofs.Parts.{replica_by, parts}
 use Rattle.leftovers.proofs.Departures.{admitted-told}
-use Rattle.leftovers.proofs.RoundFacts.{Answered, Own, Stays, Opened, answered}
+use Rattle.leftovers.proofs.Rounds.{Answered, Own, Stays, Opened, answered}
 use Rattle.leftovers.proofs.Phases.{Puts, Drops, StepOk, AllPhases, step_of, phases_stepped, calls_turn, put_home}
 use Rattle.leftovers.proofs.Near.{Near, NearIn, is_near}
 
@@ -55,20 +55,15 @@ granted_answer f g r owe x ne h = go ((answer f g r).mark x) (answered f g r owe
     too Later e = refl
     too _ e = e
 
-    go : (m : Mark) → Answered f x (r.mark x) m → is_granted m ≡ false
-    go m (Own k e) = absurd (ne e)
+    go : (m : Mark) → Answered f g x (r.mark x) m → is_granted m ≡ false
+    go m (Own e) = absurd (ne e)
     go m Stays = h
     go m Opened = too (r.mark x) h
 
 -- who is down has no grant
 not_down : (m : Mark) → is_granted (mark_down m) ≡ false
 not_down Out = refl
-not_down Later = refl
-not_down Owes = refl
-not_down Granted = refl
-not_down Refused = refl
-not_down Lost = refl
-not_down Gone = refl
+not_down _ = refl
 
 -- nor does a departure
 pub granted_down : (d : ℕ) (r : Round) (x : ℕ) → granted r x ≡ false → granted (down d r) x ≡ false

@@ -8,10 +8,13 @@ use Rattle.lock_answers.proofs.RetriesUsed.{uses_all_retries, uses_no_more}
 use Rattle.lock_answers.proofs.FailsReasoned.{fails_for_a_reason}
 use Rattle.lock_answers.proofs.Held.{is_held_somewhere}
 use Rattle.lock_answers.proofs.GivenBack.{given_back}
+use Rattle.lock_answers.proofs.QuietCalls.{quiet_calls_are_told, quiet_calls_are_answered}
+use Rattle.lock_answers.proofs.Waiting.{reads_the_seen}
 
 pub client_locks : (o : Opening) (es : List WorldEvent) → ClientLocks o es (run o (opening_world o) es)
 client_locks o es = record {
   exclusion = exclusion o es;
+  reads = reads_the_seen o es;
   answers = λ e accepted. record {
     living = answers_the_living o es e accepted;
     spent = uses_all_retries o es e accepted;
@@ -20,4 +23,6 @@ client_locks o es = record {
     held = is_held_somewhere o es e accepted;
     deleted = given_back o es e accepted;
   };
+  quiet = quiet_calls_are_told o es;
+  answered = quiet_calls_are_answered o es;
 }

@@ -1,29 +1,26 @@
--- A try is answered `false` for a reason: a node that it had to ask had left, or took its request while it couldn't grant the lock, or
--- it had nobody to ask.
+-- A try is answered `false` for a reason: a node that it had to ask had left, or took its request while it couldn't grant the lock,
+-- or it had nobody to ask.
 use mathlib.Core.Logic.{◌⊎◌}
-use Rattle.std.proofs.Common.{ℕ, Bool, true, false, ◌≡◌, ◌<◌, Option, Some, None, List, refl, sym, ap, ◌∙◌, subst, arith, inl, inr}
-use Rattle.std.specs.Prelude.{◌||◌, nat_lt, Contains}
-use Rattle.std.proofs.lemmas.Bool.Decides.{nat_tests}
+use Rattle.std.proofs.Common.{ℕ, Bool, true, false, ◌≡◌, Option, Some, None, List, refl, sym, ap, ◌∙◌, subst, inl, inr}
+use Rattle.std.specs.Prelude.{◌||◌, Contains}
 use Rattle.registry_model.specs.Process.{Process}
 use Rattle.registry_model.specs.Call.{False}
 use Rattle.registry_model.proofs.Lists.{Contains-nil}
-use Rattle.protocol_model.specs.Round.{asked}
 use Rattle.protocol_model.specs.Node.{LockPhase}
 use Rattle.protocol_model.specs.Event.{Event, Answer}
 use Rattle.protocol_model.specs.LockAnswers.{Tries, meets, watched, tries_by, tries_of, Answers, AsksNobody, FailsForAReason, AtEachStep}
 use Rattle.protocol_model.specs.World.{Opening, World, WorldEvent, At, place, opening_world, refusal, run, turn_of}
-use Rattle.moves.proofs.Indices.{both}
 use Rattle.walk.proofs.Walk.{OrderedWalk}
 use Rattle.leftovers.proofs.Clients.{Numbers}
 use Rattle.leftovers.proofs.Tries.{Fits}
 use Rattle.lock_answers.proofs.LastTry.{last_of, tries_behind}
-use Rattle.lock_answers.proofs.BadMarks.{is_bad, failed_bad}
+use Rattle.lock_answers.proofs.BadMarks.{is_bad}
 use Rattle.lock_answers.proofs.Behind.{Known, walk_of, is_plain, plain_tries, Stands, stands}
 use Rattle.lock_answers.proofs.CallSteps.{found_at}
 use Rattle.lock_answers.proofs.Nobody.{given_in_turn, IsOwn, own_call, some_same, nobody_asked}
 use Rattle.lock_answers.proofs.ReasonEvents.{ReasonsAt, reasons_next}
 use Rattle.lock_answers.proofs.ReasonSteps.{Reasons, so, gone_so, is_last, plain_outcome}
-use Rattle.lock_answers.proofs.Reasons.{MarksIn, Reasoned, asked_same, is_inner, inner_hears, inner_keeps}
+use Rattle.lock_answers.proofs.Reasons.{MarksIn, Reasoned, fails, is_inner, inner_hears, inner_keeps}
 use Rattle.lock_answers.proofs.Verdicts.{is_verdict, GaveUp, Before}
 
 module _ (o : Opening) (w : World) (num : Numbers) (p : Process) (S : Known o w num) (e : WorldEvent)
@@ -49,21 +46,11 @@ module _ (o : Opening) (w : World) (num : Numbers) (p : Process) (S : Known o w 
   I = own_call here.world (place e) p y.last here.base.ordered here.here.fits G.call (LockPhase.Asking G.round)
       G.open_call (sym A.node ∙ G.node) (sym G.number ∙ A.number)
 
-  -- the boss of the round is below all nodes of the world
-  boss_below : asked G.round G.round.boss ≡ true → G.round.boss < o.bound
-  boss_below k =
-      let mine : y.last.asks G.round.boss ≡ true = sym ((asked_same here.world p y.last here.here.fits G.call I.found
-      G.round G.open_call.phase).1 G.round.boss) ∙ k in
-      grind (
-        arith,
-        nat_tests,
-        (both (nat_lt G.round.boss o.bound) (o.nodes G.round.boss) (R.nodes G.round.boss mine)).0,
-      )
-
   plain_fails : (y.met || meets o w e p y.last) ≡ true
   plain_fails =
-      let bad : (x : ℕ) × (is_bad (G.round.mark x) ≡ true) = failed_bad o.bound G.round G.granted G.over G.failed
-      boss_below in
+      let bad : (x : ℕ) × (is_bad (G.round.mark x) ≡ true) = fails o p y.last (so o p w num S y fit R e) w
+      (gone_so o p w num S y fit R e) (place e) here.world here.base here.here G.call G.round G.granted G.open_call
+      I.holder G.over G.failed in
       subst (MarksIn (y.met || meets o w e p y.last)) G.open_call.phase
       (here.here.marks G.call.holder G.call (found_at here.world (place e) here.base.ordered G.call
       (LockPhase.Asking G.round) G.open_call) I.holder) bad.0 bad.1
@@ -100,7 +87,7 @@ fails_for_a_reason o es e h p x s is A f = go (is_plain e) (is_last e) refl refl
         (K.kept y i) s
         (record { given = A.given; node = A.node; number = A.number ∙ sym (ap (λ (z : Tries). z.last.number) same) }) f)
 
-    go : (k l : Bool) → is_plain e ≡ k → is_last e ≡ l → AsksNobody o x.last ⊎ (x.met ≡ true)
+    go : (k l : Bool) → is_plain e ≡ k → is_last e ≡ l → AsksNobody x.last ⊎ (x.met ≡ true)
     go false l i j = inl (nobody_asked o w K.num p t K.known K.fits x s e i h by A (ap is_verdict f)).1
     go true true i j = inr (left_silent e j (given_in_turn o w e s h A.given))
     go true false i j = inr (watched_so t refl i j (sym (plain_tries o w p t e i) ∙ by))

@@ -79,7 +79,7 @@ module _ (o : Opening) (p : Process) where
   last_of_tries es id x = last_from es (opening_world o) id x (record { number = 0; last = None }) None refl
 
   -- one event more, at the end
-  tries_more : (es : List WorldEvent) (e : WorldEvent) (w : World) (t : Option Tries)
+  pub tries_more : (es : List WorldEvent) (e : WorldEvent) (w : World) (t : Option Tries)
       → tries_from o w (es ++ e ∷ []) p t ≡ tries_after o (run o w es) e p (tries_from o w es p t)
   tries_more [] e w t = refl
   tries_more (x ∷ es) e w t = tries_more es e (happens o w x) (tries_after o w x p t)

@@ -53,4 +53,12 @@ pub mod Meeting
 pub mod ReasonSteps
 pub mod ReasonEvents
 pub mod FailsReasoned
+pub mod LastCalls
+pub mod Waiting
+pub mod QuietBase
+pub mod QuietTurns
+pub mod QuietSteps
+pub mod QuietEvents
+pub mod QuietCourse
+pub mod QuietCalls
 pub mod ClientLocks

@@ -20,6 +20,7 @@ use Rattle.protocol_model.specs.ClientLocks.{is_gone}
 use Rattle.protocol_model.specs.Course.{Played, played, answers_of}
 use Rattle.protocol_model.specs.Fit.{is_numbered}
 use Rattle.protocol_model.specs.LockAnswers.{IsCallOf, AnswersTheLiving, AtEachStep}
+use Rattle.protocol_model.specs.Refusals.{HasOpenCall}
 use Rattle.protocol_model.specs.World.{Opening, World, left, WorldEvent, At, Deliver, place, refusal, turn_of, accepted, happens, answers, local_causes}
 use Rattle.protocol_model.proofs.Waiting.{accepted-node}
 use Rattle.moves.proofs.Rules
@@ -41,6 +42,8 @@ use Rattle.leftovers.proofs.Together
 use Rattle.leftovers.proofs.Together.{whole_opens, run_whole}
 use Rattle.leftovers.proofs.Doomed.{start-watch}
 use Rattle.leftovers.proofs.Grounds.{Base, wide, base_keeps, replicas}
+use Rattle.leftovers.proofs.Callers.{IsCalledBy, called_longer, last_called}
+use Rattle.leftovers.proofs.Unanswered.{open_waits}
 use Rattle.lock_answers.proofs.Winning.{Ground}
 use Rattle.lock_answers.proofs.Besides.{found_any}
 use Rattle.lock_answers.proofs.GrantEvents.{ground_run}
@@ -49,7 +52,6 @@ use Rattle.lock_answers.proofs.Spared.{is_lock_answer, letter_watch}
 use Rattle.lock_answers.proofs.Verdicts.{is_verdict}
 use Rattle.lock_answers.proofs.Watches.{try-watch, delete-watch, retry-watch, again-watch}
 use Rattle.lock_answers.proofs.Sources.{Closed, closes, the_one, rule_closes, aside_silent, WasOpen, heard_source, again_source}
-use Rattle.leftovers.proofs.Callers.{IsCalledBy, called_longer, last_called, owned_run}
 
 -- a lock call may have lock replies alone
 lock_reply : (call : Call) (reply : Reply) (p : Process) → holder_in call ≡ Some p → may_have call reply ≡ true
@@ -114,8 +116,11 @@ module _ (o : Opening) (es : List WorldEvent) (s : Answer) (call : Call) (p : Pr
   open_lives W = (sym (ap (λ (q : Process). q.node) same) ∙ W.3, rw (up, parts.alive) refl)
     where
       same : W.0 ≡ p
-      same = made_for W.0 W.1.number W.3 W.4
-          (called_longer W.0.node (events o es) (played o (world o es) e) W.1.number W.0 (owned_run o es W.0 W.1 W.2))
+      same =
+          let C : (C : HasOpenCall (events o es) W.0.node W.0) × (C.number ≡ W.1.number) =
+          open_waits o es W.0.node W.0 W.1 W.2 in
+          made_for W.0 C.0.number W.3 (C.1 ∙ W.4) (called_longer W.0.node (events o es) (played o (world o es) e)
+          C.0.number W.0 (C.0.call, C.0.accepted, C.0.holder))
 
       up : left (world o es) p.node ≡ false
       up = ap (left (world o es)) (sym (ap (λ (q : Process). q.node) same) ∙ W.3) ∙ running

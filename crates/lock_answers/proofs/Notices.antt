@@ -22,7 +22,7 @@ use Rattle.leftovers.proofs.Calls.{call_of-put, call_of-drop, holder_of_call}
 use Rattle.leftovers.proofs.Ids.{is_process_self}
 use Rattle.leftovers.proofs.Ongoing.{is_deleting}
 use Rattle.leftovers.proofs.Rest.{Among, ToldMore}
-use Rattle.leftovers.proofs.RoundFacts.{asked_down}
+use Rattle.leftovers.proofs.Ongoing.{asked_down}
 use Rattle.lock_answers.proofs.Clear.{ClearIn, granted_down, granted_gone, granted_asked}
 use Rattle.lock_answers.proofs.Winning.{held_some}
 
@@ -144,7 +144,7 @@ module _ (o : Opening) (a : ℕ) (told : Nodes) (d : ℕ) where
         let one : (x : ℕ) × (x < o.bound) × (granted (down d r) x ≡ true) =
         held_some o.bound (asked (down d r)) (down d r) e in (
           one.0,
-          ap (asks_in one.0) phase ∙ asked_down d r one.0 (granted_asked (down d r) one.0 one.2),
+          ap (asks_in one.0) phase ∙ sym (asked_down d r one.0) ∙ granted_asked (down d r) one.0 one.2,
           untold one.0 one.2 (u.node.replica.told one.0) refl,
         )
       where

@@ -1,7 +1,7 @@
 -- Each accepted event keeps that a bad mark in p's round, or a denial on its way to p, has a reason.
 use Rattle.std.proofs.Common.{ℕ, Bool, true, false, ◌==◌, ◌≡◌, ◌+◌, Option, Some, None, List, [], ◌∷◌, refl, sym, ap, ◌∙◌, subst, inl, inr}
 use Rattle.std.specs.Prelude.{not, ◌&&◌, ◌||◌, if◌then◌else◌}
-use Rattle.std.proofs.lemmas.Bool.{cases_eq}
+use Rattle.std.proofs.lemmas.Bool.{cases_eq, eqb-true}
 use Rattle.registry_model.specs.Process.{Text, Process, is_process, Nodes}
 use Rattle.protocol_model.specs.Letter.{Letter, Client}
 use Rattle.protocol_model.specs.Links.{posted}
@@ -72,6 +72,9 @@ begun_marks n members d c now e = subst (λ (k : LockCall). MarksIn now k.phase)
     (λ x bad. absurd (begin_good n (targets members d.target) x bad))
 
 module _ (o : Opening) (p : Process) (w : World) (num : Numbers) (S : Known o w num) where
+  abbrev members : ℕ → Nodes
+  members a = (w.node a).replica.members
+
   -- letters behind a turn that denies nobody
   posted_letters : (a : ℕ) (u : Turn) (now : Bool) (c : ℕ) → deny_none u.sends ≡ true
       → Each (Denies p now) (w.links.queue c p.node)
@@ -192,14 +195,11 @@ module _ (o : Opening) (p : Process) (w : World) (num : Numbers) (S : Known o w 
       T : DelTurn o w S.ordered a q r z target
       T = del_turn o w S.ordered a q r z target h
 
-      members : Nodes
-      members = (w.node a).replica.members
-
       by : (y : Tries) → Reasons o p w y → (c : LockCall) (b : Bool)
-          → (if b then deleted_over o.bound a members (fresh o w a q r z target) else call_at w p) ≡ Some c
+          → (if b then deleted_over o.bound a (members a) (fresh o w a q r z target) else call_at w p) ≡ Some c
           → MarksIn (now e h t R y) c.phase
       by y K c true i = subst (λ (k : LockCall). MarksIn (now e h t R y) k.phase)
-          (unless (is_empty o.bound (targets members target)) _ c i) tt
+          (unless (is_empty o.bound (targets (members a) target)) _ c i) tt
       by y K c false i = old_marks e h t R y K c i
 
   -- a try
@@ -213,9 +213,6 @@ module _ (o : Opening) (p : Process) (w : World) (num : Numbers) (S : Known o w 
       e : WorldEvent
       e = At a (Event.Calling (Call.SetLock q r z target retries))
 
-      members : Nodes
-      members = (w.node a).replica.members
-
       T : SetTurn o w S.ordered a q r z target retries
       T = set_turn o w S.ordered a q r z target retries h
 
@@ -223,18 +220,18 @@ module _ (o : Opening) (p : Process) (w : World) (num : Numbers) (S : Known o w 
       A = accepted_of o w e h
 
       last : Try
-      last = try_of members ((w.node a).last_call + 1) (Client r z) target
+      last = try_of (members a) ((w.node a).last_call + 1) (Client r z) target
 
       new : LockCall
       new = new_try o w a q r z target retries
 
       calls : (b : Bool) → is_process q p ≡ b → (k : Process) (c : LockCall) → call_at (accepted o w e) k ≡ Some c
-          → k ≡ p → (if b then begun_over o.bound a members new else call_at w p) ≡ Some c
-      calls b i k c f s = sym (ap (λ (g : Bool). if g then begun_over o.bound a members new else call_at w p) i)
+          → k ≡ p → (if b then begun_over o.bound a (members a) new else call_at w p) ≡ Some c
+      calls b i k c f s = sym (ap (λ (g : Bool). if g then begun_over o.bound a (members a) new else call_at w p) i)
           ∙ sym (T.calls p) ∙ subst (λ (j : Process). call_at (accepted o w e) j ≡ Some c) s f
 
-      nodes : (c : ℕ) → targets members target c ≡ true → in_world o c ≡ true
-      nodes c mine = S.family.proper.inside a c A.running A.place_inside (target_member members target c mine)
+      nodes : (c : ℕ) → targets (members a) target c ≡ true → in_world o c ≡ true
+      nodes c mine = S.family.proper.inside a c A.running A.place_inside (target_member (members a) target c mine)
 
       client : ((q.serial == 0) ≡ false) × (is_dead (w.node a).watch q.serial ≡ false)
       client = live_client a (w.node a).watch q T.live
@@ -247,7 +244,7 @@ module _ (o : Opening) (p : Process) (w : World) (num : Numbers) (S : Known o w 
             inside = ap (in_world o) home ∙ A.place_inside;
             nodes = nodes;
             gone = λ c mine gone. met_left o w e p last h c mine (nodes c mine) gone;
-            marks = λ k c f s. begun_marks o.bound members new c (meets o w e p last) (calls true i k c f s);
+            marks = λ k c f s. begun_marks o.bound (members a) new c (meets o w e p last) (calls true i k c f s);
             letters = λ up c mine. posted_letters a (turn_of o w e) (meets o w e p last) c T.sends
                 (idle_letters (meets o w e p last) c (ap (in_world o) home ∙ A.place_inside)
                 (subst (λ (k : Process). (k.serial == 0) ≡ false) own client.0) (up_then e h up) (nodes c mine)
@@ -277,38 +274,40 @@ module _ (o : Opening) (p : Process) (w : World) (num : Numbers) (S : Known o w 
       e : WorldEvent
       e = At a Event.Retry
 
-      members : Nodes
-      members = (w.node a).replica.members
-
       T : AgainTurn o w S.ordered a
       T = again_turn o w S.ordered a
 
       A : Accepted o w e
       A = accepted_of o w e h
 
-      -- the call behind it: one that began anew, or the same
-      marks_in : (so : Bool) → ((d : LockCall) → call_at w p ≡ Some d → MarksIn so d.phase) → (k : Process)
+      -- the call behind it: one that began anew, or the same, which didn't wait, or is another node's
+      marks_in : (so : Bool) → ((d : LockCall) → call_at w p ≡ Some d
+          → (p.node ≡ a → is_waiting_call d.phase ≡ false) → MarksIn so d.phase) → (k : Process)
           → (c : LockCall) → call_at (accepted o w e) k ≡ Some c → k ≡ p → MarksIn so c.phase
       marks_in so old k c f s = elim (cases_eq p.node a) [
         | inl home ↦ here (call_at w p) refl (sym (T.calls p home) ∙ found)
-        | inr ne ↦ old c (sym (T.away p ne) ∙ found)
+        | inr ne ↦ old c (sym (T.away p ne) ∙ found) (λ home. absurd (ne home))
       ]
         where
           found : call_at (accepted o w e) p ≡ Some c
           found = subst (λ (j : Process). call_at (accepted o w e) j ≡ Some c) s f
 
-          by_phase : (d : LockCall) → call_at w p ≡ Some d → (g : LockPhase) → anew_in o.bound a members g d ≡ Some c
-              → MarksIn so c.phase
-          by_phase d j LockPhase.Waiting i =
-              begun_marks o.bound members (record d { retries = one_less d.retries }) c so i
-          by_phase d j (LockPhase.Asking r) i = old c (j ∙ i)
-          by_phase d j (LockPhase.Deleting owing) i = old c (j ∙ i)
+          -- a call that is the same is in the same phase
+          busy : (d : LockCall) → Some d ≡ Some c → is_waiting_call d.phase ≡ false → is_waiting_call c.phase ≡ false
+          busy d i q = subst (λ (x : LockCall). is_waiting_call x.phase ≡ false) (some_same d c i) q
 
-          here : (g : Option LockCall) → call_at w p ≡ g → anew o.bound a members g ≡ Some c → MarksIn so c.phase
+          by_phase : (d : LockCall) → call_at w p ≡ Some d → (g : LockPhase) → d.phase ≡ g
+              → anew_in o.bound a (members a) g d ≡ Some c → MarksIn so c.phase
+          by_phase d j LockPhase.Waiting q i =
+              begun_marks o.bound (members a) (record d { retries = one_less d.retries }) c so i
+          by_phase d j (LockPhase.Asking r) q i = old c (j ∙ i) (λ home. busy d i (ap is_waiting_call q))
+          by_phase d j (LockPhase.Deleting owing) q i = old c (j ∙ i) (λ home. busy d i (ap is_waiting_call q))
+
+          here : (g : Option LockCall) → call_at w p ≡ g → anew o.bound a (members a) g ≡ Some c → MarksIn so c.phase
           here None j i = cc
-          here (Some d) j i = by_phase d j d.phase i
+          here (Some d) j i = by_phase d j d.phase refl i
 
-      next : ((a == p.node) && is_refused w p) ≡ true → ReasonsAt o p (accepted o w e) (next_try o w e p members t)
+      next : ((a == p.node) && is_refused w p) ≡ true → ReasonsAt o p (accepted o w e) (next_try o w e p (members a) t)
       next refused x is = by t refl is
         where
           waits : is_refused w p ≡ true
@@ -328,16 +327,17 @@ module _ (o : Opening) (p : Process) (w : World) (num : Numbers) (S : Known o w 
               by_call None i = cc
               by_call (Some d) i = by_phase d d.phase i
 
-          markless : (so : Bool) (d : LockCall) → call_at w p ≡ Some d → MarksIn so d.phase
-          markless so d j = by_phase d.phase
-              (sym (ap (λ (k : Option LockCall). elim k [ None ↦ false | Some y ↦ is_waiting_call y.phase ]) j) ∙ waits)
-            where
-              by_phase : (g : LockPhase) → is_waiting_call g ≡ true → MarksIn so g
-              by_phase LockPhase.Waiting i = tt
-              by_phase (LockPhase.Asking r) i = cc
-              by_phase (LockPhase.Deleting owing) i = cc
+          home : p.node ≡ a
+          home = sym (eqb-true a p.node (both (a == p.node) (is_refused w p) refused).0)
 
-          by : (g : Option Tries) → t ≡ g → next_try o w e p members g ≡ Some x → Reasons o p (accepted o w e) x
+          markless : (so : Bool) (d : LockCall) → call_at w p ≡ Some d
+              → (p.node ≡ a → is_waiting_call d.phase ≡ false) → MarksIn so d.phase
+          markless so d j busy =
+              let phase : is_refused w p ≡ is_waiting_call d.phase =
+              ap (λ (k : Option LockCall). elim k [ None ↦ false | Some y ↦ is_waiting_call y.phase ]) j in
+              cc (busy home, phase, waits)
+
+          by : (g : Option Tries) → t ≡ g → next_try o w e p (members a) g ≡ Some x → Reasons o p (accepted o w e) x
           by None i j = cc
           by (Some y) i j = subst (Reasons o p (accepted o w e))
               (some_same (record y { last = last; tried = y.tried + 1; met = meets o w e p last }) x j) (record {
@@ -352,17 +352,17 @@ module _ (o : Opening) (p : Process) (w : World) (num : Numbers) (S : Known o w 
               })
             where
               last : Try
-              last = try_of members y.last.number y.last.id y.last.target
+              last = try_of (members a) y.last.number y.last.id y.last.target
 
-              nodes : (c : ℕ) → targets members y.last.target c ≡ true → in_world o c ≡ true
+              nodes : (c : ℕ) → targets (members a) y.last.target c ≡ true → in_world o c ≡ true
               nodes c mine = S.family.proper.inside a c A.running A.place_inside
-                  (target_member members y.last.target c mine)
+                  (target_member (members a) y.last.target c mine)
 
       go : (b : Bool) → ((a == p.node) && is_refused w p) ≡ b
-          → ReasonsAt o p (accepted o w e) (if b then next_try o w e p members t else watched o w e p t)
+          → ReasonsAt o p (accepted o w e) (if b then next_try o w e p (members a) t else watched o w e p t)
       go true i = next i
       go false i = watched_reasons e h t R
-          (λ y j K k c f s. marks_in (now e h t R y) (λ d g. old_marks e h t R y K d g) k c f s)
+          (λ y j K k c f s. marks_in (now e h t R y) (λ d g b. old_marks e h t R y K d g) k c f s)
           (λ y j K was up c mine. posted_letters a (turn_of o w e) (now e h t R y) c T.sends
           (old_letters e h t R y K was c mine))
 

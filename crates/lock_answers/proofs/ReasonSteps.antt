@@ -52,7 +52,7 @@ or_second b c h = ap (λ (x : Bool). b || x) h ∙ or-true b
 -- the marks of a phase, where more is so
 pub marks_so : (so now : Bool) → (so ≡ true → now ≡ true) → (f : LockPhase) → MarksIn so f → MarksIn now f
 marks_so so now on (LockPhase.Asking r) h = λ x k. on (h x k)
-marks_so so now on LockPhase.Waiting h = tt
+marks_so so now on LockPhase.Waiting h = on h
 marks_so so now on (LockPhase.Deleting owing) h = tt
 
 module _ (o : Opening) (p : Process) (w : World) (num : Numbers) (S : Known o w num) (x : Tries)
@@ -72,6 +72,7 @@ module _ (o : Opening) (p : Process) (w : World) (num : Numbers) (S : Known o w 
     replying = S.replying;
     fits = fit;
     runs = λ c. refl;
+    nodes = R.nodes;
     marks = λ q c f i. marks_so x.met so (or_first x.met (meets o w e p x.last)) c.phase (R.marks q c f i);
     letters = λ up c mine. each_so p x.met so (or_first x.met (meets o w e p x.last)) (w.links.queue c p.node)
         (R.letters up c mine);

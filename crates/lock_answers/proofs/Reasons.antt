@@ -1,21 +1,22 @@
--- Along the rules of a step a bad mark in p's round, or a denial on its way to p, means that something happened for
--- which p's try may fail.
+-- Along the rules of a step a bad mark in p's round, a denial on its way to p, or that p's call waits for a retry, means
+-- that something happened for which p's try may fail.
 use mathlib.Core.Logic.{◌⊎◌}
-use Rattle.std.proofs.Common.{ℕ, Bool, true, false, ◌≡◌, Some, [], ◌∷◌, refl, sym, ap, ◌∙◌, subst, inl, inr}
-use Rattle.std.specs.Prelude.{not, ◌&&◌, ◌||◌, if◌then◌else◌}
+use Rattle.std.proofs.Common.{ℕ, Bool, true, false, ◌≡◌, ◌<◌, Some, [], ◌∷◌, refl, sym, ap, ◌∙◌, subst, arith, inl, inr}
+use Rattle.std.specs.Prelude.{not, ◌&&◌, ◌||◌, nat_lt, if◌then◌else◌}
+use Rattle.std.proofs.lemmas.Bool.Decides.{nat_tests}
 use Rattle.std.proofs.Math.Bool.{and-true}
-use Rattle.registry_model.specs.Process.{Process, is_process}
+use Rattle.registry_model.specs.Process.{Process, Nodes, is_process}
 use Rattle.protocol_model.specs.Letter.{Id, Letter, is_id}
 use Rattle.protocol_model.proofs.Ids.{is_id_self}
 use Rattle.protocol_model.specs.LockTable.{is_free_for, grant}
-use Rattle.protocol_model.specs.Round.{Round, asked}
+use Rattle.protocol_model.specs.Round.{Round, asked, is_over, GiveBack, ending}
 use Rattle.protocol_model.specs.Watch.{is_dead}
 use Rattle.protocol_model.specs.Node.{LockPhase, LockCall}
 use Rattle.protocol_model.specs.Event.{is_waiting_call}
 use Rattle.protocol_model.specs.Turn.{begun, send, sent_to, with_locks}
 use Rattle.protocol_model.specs.Client.{in_phase, is_spent}
 use Rattle.protocol_model.specs.ClientLocks.{Try, is_gone}
-use Rattle.protocol_model.specs.World.{Opening, World, left}
+use Rattle.protocol_model.specs.World.{Opening, in_world, World, left}
 use Rattle.moves.proofs.Indices.{both}
 use Rattle.moves.proofs.Rules
 use Rattle.moves.proofs.Rules.{Rule, IsOpen, May, effect, is_quiet}
@@ -34,15 +35,16 @@ use Rattle.leftovers.proofs.Tries.{IsTryOf, Fits, fits_chain}
 use Rattle.leftovers.proofs.Grounds.{Base}
 use Rattle.leftovers.proofs.RoundFacts.{asked_of_owes}
 use Rattle.leftovers.proofs.Phases.{StepOk, Puts, Drops, step_of}
-use Rattle.lock_answers.proofs.BadMarks.{is_bad, bad_answer, bad_down}
+use Rattle.lock_answers.proofs.BadMarks.{is_bad, bad_answer, bad_down, failed_bad}
 use Rattle.lock_answers.proofs.CallSteps.{AllCalls, found_at, calls_kept}
 use Rattle.lock_answers.proofs.Denials.{Denies, each_calm, is_judging, calm_rule}
 use Rattle.lock_answers.proofs.Nobody.{some_same}
 
--- where a round has a bad mark, this is so
+-- where a round has a bad mark, or the call waits, this is so
 abbrev pub MarksIn : Bool → LockPhase → Type 0
 MarksIn so (LockPhase.Asking r) = (x : ℕ) → is_bad (r.mark x) ≡ true → so ≡ true
-MarksIn so _ = Unit {0}
+MarksIn so LockPhase.Waiting = so ≡ true
+MarksIn so (LockPhase.Deleting owing) = Unit {0}
 
 abbrev pub MarksOf : Process → Bool → Process → LockCall → Type 0
 MarksOf p so q c = q ≡ p → MarksIn so c.phase
@@ -71,6 +73,7 @@ module _ (o : Opening) (p : Process) (l : Try) (so : Bool) (w0 : World)
     pub replying : Replying w
     pub fits : Fits w p (Some l)
     pub runs : (c : ℕ) → left w c ≡ left w0 c
+    pub nodes : (c : ℕ) → l.asks c ≡ true → in_world o c ≡ true
     pub marks : AllCalls (MarksOf p so) w
     pub letters : is_gone w p ≡ false → (c : ℕ) → l.asks c ≡ true → Each (Denies p so) (w.links.queue c p.node)
 
@@ -108,6 +111,18 @@ module _ (o : Opening) (p : Process) (l : Try) (so : Bool) (w0 : World)
         → is_bad (r.mark x) ≡ true → so ≡ true
     before c r e i = subst (MarksIn so) e.phase (K.marks c.holder c (found_at w a B.ordered c (LockPhase.Asking r) e) i)
 
+    -- a round of p that has failed has a bad mark
+    pub fails : (c : LockCall) (r : Round) (granted : Nodes) → IsOpen (w.node a) c (LockPhase.Asking r) → c.holder ≡ p
+        → is_over o.bound r ≡ true → ending o.bound (asked r) r ≡ GiveBack granted
+        → (x : ℕ) × (is_bad (r.mark x) ≡ true)
+    fails c r granted e i over failed = failed_bad o.bound r granted over failed below
+      where
+        below : asked r r.boss ≡ true → r.boss < o.bound
+        below k =
+            let mine : l.asks r.boss ≡ true =
+            sym ((asked_same w p l K.fits c (found c (LockPhase.Asking r) e i) r e.phase).1 r.boss) ∙ k in
+            grind (arith, nat_tests, (both (nat_lt r.boss o.bound) (o.nodes r.boss) (K.nodes r.boss mine)).0)
+
     marks_put : (r : Rule) → suits Hearing r ≡ true → May o a w r
         → StepOk (λ c. MarksOf p so c.holder c) (step_of o.bound (w.node a) r)
     marks_put (Rules.HearsLock f id g c r) h m = λ i x bad. bad_answer f g r m.tested.3 so (denied i) x
@@ -138,7 +153,10 @@ module _ (o : Opening) (p : Process) (l : Try) (so : Bool) (w0 : World)
         go : (b : Bool) → StepOk (λ d. MarksOf p so d.holder d)
             (if b then Drops c.holder else Puts (in_phase LockPhase.Waiting c))
         go true = tt
-        go false = λ i. tt
+        go false = λ i.
+            let one : (x : ℕ) × (is_bad (r.mark x) ≡ true) =
+            fails c r granted m.tested.0 i m.tested.1 m.tested.2 in
+            before c r m.tested.0 i one.0 one.1
     marks_put (Rules.CountsGivenBack f c owing) h m = λ i. tt
     marks_put (Rules.CountsLockDown d c owing) h m = λ i. tt
     marks_put (Rules.AsksLock c) h m = cc
@@ -182,6 +200,7 @@ module _ (o : Opening) (p : Process) (l : Try) (so : Bool) (w0 : World)
       fits = fits_chain o a (ordered_keeps o) (r ∷ []) w B.num p (Some l) (and-true (suits Hearing r) ∙ h) (m, tt)
           B.ordered K.replying K.fits;
       runs = λ c. ap (λ (v : World). left v c) (sym (effect-turn o a w r stay)) ∙ K.runs c;
+      nodes = K.nodes;
       marks = calls_kept o a w r B.ordered m (MarksOf p so) (marks_put r h m) K.marks;
       letters = λ up c mine. subst (λ (v : World). Each (Denies p so) (v.links.queue c p.node))
           (effect-turn o a w r stay) (letters_turn r m j up c mine);

@@ -88,10 +88,10 @@ module _ (o : Opening) (w : World) (num : Numbers) (p : Process) (t : Option Tri
       (no_more mine.0 E.call given (sym (ap (λ (y : Tries). y.retries) same) ∙ r) mine.2.left)
 
 -- all this holds behind every list of events
-abbrev Spent : Opening → Process → World → Option Tries → Type 0
+abbrev pub Spent : Opening → Process → World → Option Tries → Type 0
 Spent o p w t = Stands o p (λ v y. SpendsAt v p y) (λ v num e y S F k h. spends_next o p v num e y S F k h) w t
 
-spent : (o : Opening) (es : List WorldEvent) (p : Process) → Spent o p (run o (opening_world o) es) (tries_of o es p)
+pub spent : (o : Opening) (es : List WorldEvent) (p : Process) → Spent o p (run o (opening_world o) es) (tries_of o es p)
 spent o es p = stands o p (λ v y. SpendsAt v p y) (λ v num e y S F k h. spends_next o p v num e y S F k h) (λ q c f. cc)
     es
 
@@ -111,10 +111,10 @@ module _ (o : Opening) (es : List WorldEvent) (e : WorldEvent) (h : refusal o (r
   by : tries_by o w e p t ≡ Some x
   by = sym (tries_behind o p es e h) ∙ is
 
-  fails : s.reply ≡ False → AsksNobody o x.last ⊎ AreUsedUp x
+  fails : s.reply ≡ False → AsksNobody x.last ⊎ AreUsedUp x
   fails f = go (is_plain e) refl
     where
-      go : (b : Bool) → is_plain e ≡ b → AsksNobody o x.last ⊎ AreUsedUp x
+      go : (b : Bool) → is_plain e ≡ b → AsksNobody x.last ⊎ AreUsedUp x
       go false i = inl (nobody_asked o w K.num p t K.known K.fits x s e i h by A (ap is_verdict f)).1
       go true i = inr (plain_used o w K.num p t K.known K.fits K.kept e i h x by s A f)
 

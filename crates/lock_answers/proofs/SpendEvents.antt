@@ -24,7 +24,7 @@ use Rattle.lock_answers.proofs.Verdicts.{kept_in}
 use Rattle.lock_answers.proofs.Spending.{AreLeft, IsSpending, SpendsAt, Tried, tried_keeps}
 use Rattle.lock_answers.proofs.CallTurns.{unless, begun_over, anew_in, anew, deleted_over}
 use Rattle.leftovers.proofs.Beginnings.{new_try, fresh}
-use Rattle.lock_answers.proofs.EventTurns.{AgainTurn, again_turn, SetTurn, set_turn, DelTurn, del_turn}
+use Rattle.lock_answers.proofs.EventTurns.{AgainTurn, again_turn, set_turn, del_turn}
 use Rattle.lock_answers.proofs.Behind.{Known, base_of, walk_of, is_plain, plain_hears, plain_tries}
 
 -- one retry is used, where one is left
@@ -53,6 +53,9 @@ module _ (o : Opening) (p : Process) where
 
   module _ (w : World) (num : Numbers) (t : Option Tries) (S : Known o w num) (fit : Fits w p (last_of t))
       (k : SpendsAt w p t) where
+    abbrev members : ℕ → Nodes
+    members a = (w.node a).replica.members
+
     -- what is kept along the chain of an event that begins no try
     pub begins_plain : (e : WorldEvent) → is_plain e ≡ true → Tried p (tries_by o w e p t) w
     begins_plain e h = record {
@@ -80,27 +83,20 @@ module _ (o : Opening) (p : Process) where
         → SpendsAt (accepted o w (At a (Event.Calling (Call.SetLock q r z target retries)))) p
         (tries_by o w (At a (Event.Calling (Call.SetLock q r z target retries))) p t)
     set_spends a q r z target retries h x c f i d = by (is_process q p)
-        (sym (T.calls p) ∙ subst (λ (y : Process). call_at (accepted o w event) y ≡ Some c) i f)
+        (sym ((set_turn o w S.ordered a q r z target retries h).calls p)
+        ∙ subst (λ (y : Process). call_at (accepted o w event) y ≡ Some c) i f)
       where
         event : WorldEvent
         event = At a (Event.Calling (Call.SetLock q r z target retries))
 
-        members : Nodes
-        members = (w.node a).replica.members
-
-        new : LockCall
-        new = new_try o w a q r z target retries
-
-        T : SetTurn o w S.ordered a q r z target retries
-        T = set_turn o w S.ordered a q r z target retries h
-
         last : Try
-        last = try_of members ((w.node a).last_call + 1) (Client r z) target
+        last = try_of (members a) ((w.node a).last_call + 1) (Client r z) target
 
-        by : (b : Bool) → (if b then begun_over o.bound a members new else call_at w p) ≡ Some c
+        by : (b : Bool)
+            → (if b then begun_over o.bound a (members a) (new_try o w a q r z target retries) else call_at w p) ≡ Some c
             → IsSpending (if b then first_try o w event p last retries else watched o w event p t) c
         by true e = subst (IsSpending (first_try o w event p last retries))
-            (unless (is_empty o.bound (targets members target)) _ c e)
+            (unless (is_empty o.bound (targets (members a) target)) _ c e)
             (_, refl, record { left = fresh_left retries; more = λ y. cc })
         by false e = spends_watched w event t c (k p c e refl d)
 
@@ -110,24 +106,17 @@ module _ (o : Opening) (p : Process) where
         → SpendsAt (accepted o w (At a (Event.Calling (Call.DelLock q r z target)))) p
         (tries_by o w (At a (Event.Calling (Call.DelLock q r z target))) p t)
     del_spends a q r z target h x c f i d = by (is_process q p)
-        (sym (T.calls p) ∙ subst (λ (y : Process). call_at (accepted o w event) y ≡ Some c) i f)
+        (sym ((del_turn o w S.ordered a q r z target h).calls p)
+        ∙ subst (λ (y : Process). call_at (accepted o w event) y ≡ Some c) i f)
       where
         event : WorldEvent
         event = At a (Event.Calling (Call.DelLock q r z target))
 
-        T : DelTurn o w S.ordered a q r z target
-        T = del_turn o w S.ordered a q r z target h
-
-        members : Nodes
-        members = (w.node a).replica.members
-
-        new : LockCall
-        new = fresh o w a q r z target
-
-        by : (b : Bool) → (if b then deleted_over o.bound a members new else call_at w p) ≡ Some c
+        by : (b : Bool)
+            → (if b then deleted_over o.bound a (members a) (fresh o w a q r z target) else call_at w p) ≡ Some c
             → IsSpending (watched o w event p t) c
         by true e = cc (
-          ap (λ (y : LockCall). is_deleting y.phase) (unless (is_empty o.bound (targets members target)) _ c e),
+          ap (λ (y : LockCall). is_deleting y.phase) (unless (is_empty o.bound (targets (members a) target)) _ c e),
           d,
         )
         by false e = spends_watched w event t c (k p c e refl d)
@@ -142,9 +131,6 @@ module _ (o : Opening) (p : Process) where
         event : WorldEvent
         event = At a Event.Retry
 
-        members : Nodes
-        members = (w.node a).replica.members
-
         T : AgainTurn o w S.ordered a
         T = again_turn o w S.ordered a
 
@@ -154,7 +140,7 @@ module _ (o : Opening) (p : Process) where
         -- the tries of a call that wasn't refused, or is another node's
         same : ((a == p.node) && is_refused w p) ≡ false → call_at w p ≡ Some c
             → IsSpending (tries_by o w event p t) c
-        same e j = subst (λ (b : Bool). IsSpending (if b then next_try o w event p members t else watched o w event p t)
+        same e j = subst (λ (b : Bool). IsSpending (if b then next_try o w event p (members a) t else watched o w event p t)
             c) (sym e) (spends_watched w event t c (k p c j refl d))
 
         by_away : (p.node ≡ a → ⊥) → IsSpending (tries_by o w event p t) c
@@ -172,10 +158,10 @@ module _ (o : Opening) (p : Process) where
             let yes : ((a == p.node) && is_refused w p) ≡ true =
             ap (λ (b : Bool). b && is_refused w p) (eq-eqb a p.node (sym home)) ∙ refused y j
             ∙ ap is_waiting_call waits in
-            subst (λ (b : Bool). IsSpending (if b then next_try o w event p members t else watched o w event p t) c)
+            subst (λ (b : Bool). IsSpending (if b then next_try o w event p (members a) t else watched o w event p t) c)
             (sym yes) (
               _,
-              ap (next_try o w event p members) was.1,
+              ap (next_try o w event p (members a)) was.1,
               record {
                 left = subst (AreLeft was.0.retries (was.0.tried + 1)) (sym less)
                     (used was.0.retries y.retries was.0.tried (was.2.more (ap is_waiting_call waits)) was.2.left);
@@ -184,11 +170,11 @@ module _ (o : Opening) (p : Process) where
             )
 
         by_phase : p.node ≡ a → (y : LockCall) → call_at w p ≡ Some y → (g : LockPhase) → y.phase ≡ g
-            → anew_in o.bound a members g y ≡ Some c → IsSpending (tries_by o w event p t) c
+            → anew_in o.bound a (members a) g y ≡ Some c → IsSpending (tries_by o w event p t) c
         by_phase home y j LockPhase.Waiting waits e =
-            let one : in_phase (LockPhase.Asking (begin o.bound (targets members y.target)))
+            let one : in_phase (LockPhase.Asking (begin o.bound (targets (members a) y.target)))
             (record y { retries = one_less y.retries }) ≡ c =
-            unless (is_empty o.bound (targets members y.target)) _ c e in
+            unless (is_empty o.bound (targets (members a) y.target)) _ c e in
             next home y j waits (sym (ap (λ (v : LockCall). v.retries) one))
             (sym (ap (λ (v : LockCall). is_waiting_call v.phase) one))
         by_phase home y j (LockPhase.Asking r) g e = same (ap (λ (b : Bool). (a == p.node) && b)
@@ -196,7 +182,7 @@ module _ (o : Opening) (p : Process) where
         by_phase home y j (LockPhase.Deleting owing) g e = same (ap (λ (b : Bool). (a == p.node) && b)
             (refused y j ∙ ap is_waiting_call g) ∙ and-false (a == p.node)) (j ∙ e)
 
-        here : p.node ≡ a → (g : Option LockCall) → call_at w p ≡ g → anew o.bound a members g ≡ Some c
+        here : p.node ≡ a → (g : Option LockCall) → call_at w p ≡ g → anew o.bound a (members a) g ≡ Some c
             → IsSpending (tries_by o w event p t) c
         here home None j e = cc
         here home (Some y) j e = by_phase home y j y.phase refl e

@@ -4,12 +4,21 @@
 
 ghost use Rattle.std.specs.Prelude.{List};
 ghost use Rattle.protocol_model.specs.World.{Opening, WorldEvent, opening_world, run};
-ghost use Rattle.protocol_model.specs.LockAnswers.{ClientLocks, AtEachStep, AnswersTheLiving, UsesAllRetries, UsesNoMore, FailsForAReason, IsHeldSomewhere, IsGivenBack};
+ghost use Rattle.protocol_model.specs.LockAnswers.{ReadsTheSeen, ClientLocks, AtEachStep, AnswersTheLiving, UsesAllRetries, UsesNoMore, FailsForAReason, IsHeldSomewhere, IsGivenBack};
+ghost use Rattle.protocol_model.specs.Leftovers.{Always};
+ghost use Rattle.protocol_model.specs.QuietCalls.{QuietCallsAreTold, QuietCallsAreAnswered};
 
-/// Clients' locks exclude each other behind every list of events, and whatever the world accepts next is answered as the laws below
-/// say.
+/// Clients' locks exclude each other behind every list of events, they are counted by what is seen, and what comes next is answered
+/// as the laws below say.
 pub fn client_locks()
     ensures { (o : Opening) (es : List WorldEvent) → ClientLocks o es (run o (opening_world o) es) }
+{}
+
+/// Who is refused and who is gone is as it is seen. A refused process isn't dead, and its last `set_lock` isn't answered, failed
+/// for a reason and may be tried again; in a quiet world each last `set_lock` that isn't answered is refused, unless its process
+/// is gone. And a process is gone where its node has left, or shows that it is dead.
+pub fn reads_the_seen()
+    ensures { (o : Opening) (es : List WorldEvent) → ReadsTheSeen o es (run o (opening_world o) es) }
 {}
 
 /// No lock call is answered of a process that is dead or whose node has left, before the step or behind it.
@@ -27,8 +36,8 @@ pub fn uses_no_more()
     ensures { AtEachStep UsesNoMore }
 {}
 
-/// It is answered `false` where since its last try began a node that this had to ask has left, or took the caller's request while it
-/// couldn't grant the lock; or where there is nobody to ask.
+/// It is answered `false` where a node that its last try had to ask had left, or since that try began took the caller's request
+/// while it couldn't grant the lock; or where there is nobody to ask.
 pub fn fails_for_a_reason()
     ensures { AtEachStep FailsForAReason }
 {}
@@ -41,4 +50,15 @@ pub fn is_held_somewhere()
 /// Where a `del_lock` is answered, each running node it went to has the lock as often as the process holds it there.
 pub fn deletions_are_done()
     ensures { AtEachStep IsGivenBack }
+{}
+
+/// A `set_lock` with no retries that is called while no letter waits is answered `true` where the lock is free at all nodes that it
+/// asks, and else `false`, whichever letters are delivered behind it.
+pub fn quiet_calls_are_told()
+    ensures { Always QuietCallsAreTold }
+{}
+
+/// And once no letter waits again it has been answered.
+pub fn quiet_calls_are_answered()
+    ensures { Always QuietCallsAreAnswered }
 {}

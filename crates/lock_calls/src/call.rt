@@ -1,6 +1,7 @@
 //! Lock calls.
-ghost use Rattle.std.specs.Prelude.{◌≡◌, IfOk};
+ghost use Rattle.std.specs.Prelude.{◌≡◌, true, IfOk, OnErr};
 ghost use Rattle.protocol_model.specs.Event.{is_waiting_call};
+ghost use Rattle.transaction.specs.Calls.{is_named};
 ghost use Rattle.lock_calls.specs.Calls.{phase_of};
 
 use locker::Round;
@@ -59,7 +60,8 @@ pub struct LockCall {
 impl LockCall {
     /// The same call. Only named nodes take memory.
     pub fn copy(&self) -> Result<Self, AllocError>
-        ensures { IfOk result (λ copy. copy ≡ self.now) }
+        ensures copy { IfOk result (λ copy. copy ≡ self.now) }
+        ensures named { OnErr result (is_named self.now.nodes ≡ true) }
     {
         Ok(LockCall {
             holder: self.holder.copy(),

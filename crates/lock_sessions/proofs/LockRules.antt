@@ -4,9 +4,8 @@ use Rattle.std.proofs.Common.{ℕ, Bool, true, false, ◌==◌, ◌≡◌, Optio
 use Rattle.std.specs.Prelude.{not, ◌&&◌, nat_lt, if◌then◌else◌}
 use Rattle.std.proofs.lemmas.Bool.{cases_eq, eq-eqb, ne_eqb}
 use Rattle.registry_model.specs.Process.{Process, is_process, Nodes, nodes_of, at}
-use Rattle.registry_model.specs.Table.{StrikeOwner, put_all}
+use Rattle.registry_model.specs.Table.{StrikeOwner}
 use Rattle.registry_model.specs.Call.{Reply, change_of}
-use Rattle.registry_model.specs.Settlement.{Settled, settle}
 use Rattle.protocol_model.specs.Round.{Mark, is_owes, asked, rest, opens, answer}
 use Rattle.protocol_model.specs.Letter.{Id, Global, Client, Letter}
 use Rattle.protocol_model.specs.Links.{posted}
@@ -207,21 +206,10 @@ module _ (o : Opening) (a : ℕ) (w : World) (I : Proper o w) (L : Locks o w) (u
       (all (w.node a).replica.members (Letter.Apply (StrikeOwner p)) (λ n. tt) refl refl) (L.calls a) tt
       (asked_itself o a w I L up (Op.Strike p) r m.tested) refl (asked_granted o a w I L up (Op.Strike p) r m.tested)
   lock_rule (Rule.Admits j pairs r) e m = quietly o a w I L up _ None untaken
-      (sends-append o a w I L up (to_each (nodes_of o.bound (w.node a).replica.members) admission)
-      (record { to = j; letter = welcome } ∷ [])
-      (all (w.node a).replica.members admission (λ n. tt) refl refl) (one j welcome (λ n. tt) refl refl)) (L.calls a) tt
+      (sends-append o a w I L up (to_each (nodes_of o.bound (w.node a).replica.members) _) (record { to = j; letter = _ } ∷ [])
+      (all (w.node a).replica.members _ (λ n. tt) refl refl) (one j _ (λ n. tt) refl refl)) (L.calls a) tt
       (asked_itself o a w I L up (Op.Admission j pairs) r m.tested.0) refl
       (asked_granted o a w I L up (Op.Admission j pairs) r m.tested.0)
-    where
-      s : Settled
-      s = settle (w.node a).replica.table pairs
-
-      admission : Letter
-      admission = Letter.Admit j s.puts s.kills
-
-      welcome : Letter
-      welcome = Letter.Welcome (at (w.node a).replica.members j true) (put_all s.puts (w.node a).replica.table)
-          (w.node a).replica.told s.kills
   lock_rule (Rule.Passes j pairs r) e m = hands_back o a w I L up (asked r)
       (asked_granted o a w I L up (Op.Admission j pairs) r m.tested.0) _ _
   lock_rule (Rule.CountsApplied f op asked awaited reply) e m =

@@ -1,9 +1,10 @@
 -- What lies behind a round that ends held.
-use Rattle.std.proofs.Common.{ℕ, Bool, true, false, zero, suc, ◌==◌, ◌≡◌, ◌<◌, List, [], ◌∷◌, refl, sym, ap, ◌∙◌, inl, inr, arith}
+use Rattle.std.proofs.Common.{ℕ, Bool, true, false, ◌==◌, ◌≡◌, ◌<◌, List, [], ◌∷◌, refl, sym, ap, ◌∙◌}
 use Rattle.std.specs.Prelude.{not, ◌&&◌, ◌||◌, if◌then◌else◌}
-use Rattle.std.proofs.lemmas.Bool.{cases_eq, eq-eqb, eqb-true, and_parts, not-true}
+use Rattle.std.proofs.lemmas.Bool.{eq-eqb, eqb-true, and_parts, not-true}
 use Rattle.registry_model.specs.Process.{Nodes}
 use Rattle.registry_model.proofs.Updates.{by_test}
+use Rattle.protocol_model.proofs.Sets.{empty_at}
 use Rattle.protocol_model.specs.Round as protocol
 use Rattle.protocol_model.specs.Round.{Mark, Round, is_out, is_owes, is_granted, is_refused, is_gone, has_granted, granted, owes, opens, is_empty, is_over, is_held, greatest, asked_too, mark_down}
 use Rattle.locker.specs.Laws.{Move, Answers, GoesDown, after, IsGranted, HeldIsGranted}
@@ -99,16 +100,6 @@ opened-after (Answers c granted ∷ moves) r old = opened-after moves (protocol.
     (opened-answer c granted r old)
 opened-after (GoesDown c ∷ moves) r old = opened-after moves (protocol.down c r) (opened-down c r old)
 
--- no node below n passes where none does
-fails_at : (n : ℕ) (s : Nodes) → is_empty n s ≡ true → (c : ℕ) → c < n → s c ≡ false
-fails_at zero s e c l = absurd (omega arith)
-fails_at (suc n) s e c l =
-    let parts : (not (s n) ≡ true) × (is_empty n s ≡ true) = and_parts (not (s n)) (is_empty n s) e in
-    elim (cases_eq c n) [
-      | inl same ↦ ap s same ∙ not-true (s n) parts.0
-      | inr ne ↦ fails_at n s parts.1 c (omega arith)
-    ]
-
 -- what is left of a mark
 granted_or_gone : (m : Mark) → is_out m ≡ false → is_refused m ≡ false → is_owes m ≡ false → is_later m ≡ false
     → (has_granted m || is_gone m) ≡ true
@@ -125,11 +116,11 @@ granted_by_all : (n : ℕ) (members : Nodes) (r : Round) → IsOpened r → is_o
     → IsGranted n members r
 granted_by_all n members r opened over held = record {
   each = λ c l m. granted_or_gone (r.mark c)
-      (asked_too_of c m (fails_at n (λ c. members c && is_out (r.mark c)) third.1 c l))
-      (fails_at n (λ c. is_refused (r.mark c)) second.1 c l)
-      (fails_at n (owes r) (nobody_owes (r.mark r.boss) second.0 over) c l)
+      (asked_too_of c m (empty_at n (λ c. members c && is_out (r.mark c)) third.1 c l))
+      (empty_at n (λ c. is_refused (r.mark c)) second.1 c l)
+      (empty_at n (owes r) (nobody_owes (r.mark r.boss) second.0 over) c l)
       (opened second.0 c);
-  nobody_refused = λ c l. fails_at n (λ c. is_refused (r.mark c)) second.1 c l;
+  nobody_refused = λ c l. empty_at n (λ c. is_refused (r.mark c)) second.1 c l;
   somebody = not-true (is_empty n (granted r)) first.1;
 }
   where

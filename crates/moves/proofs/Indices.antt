@@ -5,6 +5,7 @@ use Rattle.std.proofs.lemmas.Bool.{cases_eq, eq-eqb}
 use Rattle.registry_model.specs.Process.{Nodes}
 use Rattle.registry_model.proofs.Updates.{by_test}
 use Rattle.protocol_model.specs.Round.{is_empty, greatest}
+pub use Rattle.protocol_model.proofs.Sets.{empty_at, is_empty_from}
 
 -- f, but v at (a, c)
 abbrev pub at_pair : {A : Type 0} → (ℕ → ℕ → A) → ℕ → ℕ → A → ℕ → ℕ → A
@@ -38,22 +39,6 @@ not_true false e = refl
 pub not_false : (b : Bool) → not b ≡ false → b ≡ true
 not_false true e = refl
 not_false false e = cc
-
--- nobody below n is in an empty set
-pub empty_at : (n : ℕ) (s : Nodes) → is_empty n s ≡ true → (c : ℕ) → c < n → s c ≡ false
-empty_at zero s e c l = absurd (omega arith)
-empty_at (suc n) s e c l =
-    let parts : (not (s n) ≡ true) × (is_empty n s ≡ true) = both (not (s n)) (is_empty n s) e in
-    elim (cases_eq c n) [
-      | inl q ↦ subst (λ (y : ℕ). s y ≡ false) (sym q) (not_true (s n) parts.0)
-      | inr ne ↦ empty_at n s parts.1 c (omega arith)
-    ]
-
--- a set without nodes below n is empty
-pub is_empty_from : (n : ℕ) (s : Nodes) → ((c : ℕ) → c < n → s c ≡ false) → is_empty n s ≡ true
-is_empty_from zero s none = refl
-is_empty_from (suc n) s none =
-    ap (λ (b : Bool). not b && is_empty n s) (none n (omega arith)) ∙ is_empty_from n s (λ c l. none c (omega arith))
 
 -- some node below n of a set that isn't empty
 pub some_of : (n : ℕ) (s : Nodes) → is_empty n s ≡ false → (c : ℕ) × (c < n) × (s c ≡ true)

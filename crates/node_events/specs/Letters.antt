@@ -1,5 +1,5 @@
 -- What a node sends, as the protocol has it.
-use Rattle.std.specs.Prelude.{ℕ}
+use Rattle.std.specs.Prelude.{ℕ, Bool, true, false}
 use Rattle.protocol_model.specs.Letter.{Letter as AnyLetter}
 use Rattle.protocol_model.specs.Turn.{Send}
 use Rattle.name_table.specs.Changes.{change_of}
@@ -34,6 +34,13 @@ letter_of JoinRefused = AnyLetter.JoinRefused
 letter_of (Admit body) = admit_letter body
 letter_of (Welcome body) = welcome_letter body.value
 letter_of Down = AnyLetter.Down
+
+-- it carries lists of names or processes, so a copy takes memory
+abbrev pub has_lists : Letter → Bool
+has_lists (JoinAsk pairs) = true
+has_lists (Admit body) = true
+has_lists (Welcome body) = true
+has_lists _ = false
 
 -- a letter with its receiver
 abbrev pub send_of : ℕ × Letter → Send

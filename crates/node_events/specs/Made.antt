@@ -1,5 +1,5 @@
 -- What one step has made so far.
-use Rattle.std.specs.Prelude.{ℕ, ◌≡◌, List, [], ◌∷◌, ◌++◌, map}
+use Rattle.std.specs.Prelude.{ℕ, ◌≡◌, ◌<◌, List, [], ◌∷◌, ◌++◌, length, map, take}
 use Rattle.protocol_model.specs.Turn.{Send}
 use Rattle.node_events.specs.declared.events.Answer.{Answer}
 use Rattle.node_events.specs.declared.events.Entry.{Entry}
@@ -28,6 +28,12 @@ pub record SendsAll (cs : List ℕ) (l : Letter) (t u : Made) : Type 0 where
   pub sends : map send_of u.letters ≡ map send_of t.letters ++ each cs l
   pub entries : u.entries ≡ t.entries
   pub answers : u.answers ≡ t.answers
+
+-- u is t with a letter more to each of the first of these nodes, but not to all
+pub record SendsSome (cs : List ℕ) (l : Letter) (t u : Made) : Type 0 where
+  pub count : ℕ
+  pub fewer : count < length cs
+  pub sends : SendsAll (take count cs) l t u
 
 -- an entry more
 abbrev pub entered : Entry → Made → Made

@@ -80,6 +80,11 @@ reply_of (Pid p) = AnyReply.Pid p
 reply_of Undefined = AnyReply.Undefined
 reply_of (Names list) = AnyReply.Names list.names.items
 
+-- it is a list of names, so a copy takes memory
+abbrev pub is_list : Reply → Bool
+is_list (Names list) = true
+is_list _ = false
+
 abbrev pub look_of : Look → AnyLook
 look_of (LooksUp x) = AnyLook.Whereis x
 look_of LooksAtAll = AnyLook.RegisteredNames

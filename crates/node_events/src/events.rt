@@ -1,5 +1,5 @@
 //! What may happen at a node, what it says to other nodes, and what it answers.
-ghost use Rattle.std.specs.Prelude.{◌≡◌, IfOk};
+ghost use Rattle.std.specs.Prelude.{◌≡◌, true, IfOk, OnErr};
 
 use crate::name_list::NameList;
 use exchange::{Admission, Welcome};
@@ -48,11 +48,12 @@ pub fn copied_pairs(pairs: &Vec<Pair>) -> Result<Vec<Pair>, AllocError>
 }
 
 impl Letter {
-    ghost use Rattle.node_events.specs.Letters.{letter_of};
+    ghost use Rattle.node_events.specs.Letters.{letter_of, has_lists};
 
-    /// The same letter. Only those of joins take memory.
+    /// The same letter. Only those of joins that carry lists take memory.
     pub fn copy(&self) -> Result<Self, AllocError>
-        ensures { IfOk result (λ copy. letter_of copy ≡ letter_of self.now) }
+        ensures copy { IfOk result (λ copy. letter_of copy ≡ letter_of self.now) }
+        ensures refused { OnErr result (has_lists self.now ≡ true) }
     {
         Ok(match self {
             Letter::SetLock(id, holder) => Letter::SetLock(id.copy(), holder.copy()),
@@ -158,12 +159,13 @@ pub enum Reply {
 }
 
 impl Reply {
-    ghost use Rattle.std.specs.Prelude.{IfOk};
-    ghost use Rattle.node_events.specs.Seen.{reply_of};
+    ghost use Rattle.std.specs.Prelude.{true, IfOk, OnErr};
+    ghost use Rattle.node_events.specs.Seen.{reply_of, is_list};
 
     /// The same reply. Only a list of names takes memory.
     pub fn copy(&self) -> Result<Self, AllocError>
-        ensures { IfOk result (λ copy. reply_of copy ≡ reply_of self.now) }
+        ensures copy { IfOk result (λ copy. reply_of copy ≡ reply_of self.now) }
+        ensures refused { OnErr result (is_list self.now ≡ true) }
     {
         Ok(match self {
             Reply::Yes => Reply::Yes,

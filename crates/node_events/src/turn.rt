@@ -1,5 +1,5 @@
 //! What one step has made so far.
-ghost use Rattle.std.specs.Prelude.{◌≡◌, OnOk};
+ghost use Rattle.std.specs.Prelude.{◌≡◌, OnOk, OnErr};
 
 use crate::events::{Answer, Entry, Letter};
 use std::alloc::{AllocError, Global};
@@ -27,7 +27,7 @@ impl Model for Turn {
 
 impl Turn {
     ghost use Rattle.term.specs.NodeSets.{IsNodeSet};
-    ghost use Rattle.node_events.specs.Made.{nothing, sent, SendsAll, entered, answered};
+    ghost use Rattle.node_events.specs.Made.{nothing, sent, SendsAll, SendsSome, entered, answered};
 
     /// Nothing is made yet.
     pub fn begin(alloc: Global) -> Self
@@ -42,15 +42,17 @@ impl Turn {
 
     /// A letter to a node.
     pub fn send(&mut self, to: NodeName, letter: Letter) -> Result<(), AllocError>
-        ensures { OnOk result (self.new ≡ sent to letter self.old) }
+        ensures ok { OnOk result (self.new ≡ sent to letter self.old) }
+        ensures unchanged { OnErr result (self.new ≡ self.old) }
     {
         self.letters.push((to, letter))?;
         Ok(())
     }
 
-    /// A letter to each of these nodes, in their order.
+    /// A letter to each of these nodes, in their order. Where memory is refused the first of them have theirs.
     pub fn send_all(&mut self, nodes: &NodeSet, letter: &Letter) -> Result<(), AllocError>
         ensures letters { OnOk result (SendsAll nodes.now letter.now self.old self.new) }
+        ensures some { OnErr result (SendsSome nodes.now letter.now self.old self.new) }
         ensures set { IsNodeSet nodes.now }
     {
         for node in nodes.as_slice() {

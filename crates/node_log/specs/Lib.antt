@@ -1,6 +1,6 @@
 pub use Rattle.cluster_world.specs.Agreeing
 pub use Rattle.cluster_world.specs.Events
-pub use Rattle.cluster_world.specs.Excluding
+pub use Rattle.cluster_world.specs.Locks
 pub use Rattle.cluster_world.specs.Held
 pub use Rattle.cluster_world.specs.NodeCoreHeld
 pub use Rattle.cluster_world.specs.NodeCoreSeen

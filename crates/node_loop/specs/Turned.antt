@@ -1,12 +1,13 @@
 -- What one turn does, in the words of the node's links.
 use Rattle.std.specs.Prelude.{ℕ, Bool, ◌≡◌, ◌⊎◌, List}
+use Rattle.link.specs.declared.faults.LinkFault.{LinkFault}
 use Rattle.tray.specs.Held.{Waiting}
 use Rattle.tray.specs.Draining.{DrainedAll}
 use Rattle.node_loop.specs.declared.item.Item.{Item}
 use Rattle.node_loop.specs.Held.{Looping}
 use Rattle.node_loop.specs.Items.{Works, Idles}
 
-module _ {S : Type 0} (posts : S → ℕ → Item → S → Type 0) (refuses : S → ℕ → Item → Type 0) (takes : S → ℕ → Item → S → Type 0) (misses : S → Type 0) where
+module _ {S : Type 0} (posts : S → ℕ → Item → S → Type 0) (refuses : S → ℕ → Item → LinkFault → Type 0) (takes : S → ℕ → Item → S → Type 0) (misses : S → Type 0) where
   -- an item is taken and handled
   pub record Took (m : Looping) (r : S) (going : Bool) (b : Looping) (t : S) : Type 0 where
     pub from : ℕ

@@ -111,7 +111,7 @@ idles a b going h = at_retry (is_due a) h
     at_retry true h = behind (Goes (by_event None Retry a)) now going b (λ went m g. goes now m (by_event None Retry a) went g) h
     at_retry false h = leaves now b going h
 
-module _ {S : Type 0} (posts : S → ℕ → Item → S → Type 0) (refused : S → ℕ → Item → Type 0) (takes : S → ℕ → Item → S → Type 0) (misses : S → Type 0) (held : ℕ → Type 0) where
+module _ {S : Type 0} (posts : S → ℕ → Item → S → Type 0) (refused : S → ℕ → Item → LinkFault → Type 0) (takes : S → ℕ → Item → S → Type 0) (misses : S → Type 0) (held : ℕ → Type 0) where
   pub turned : (a : Looping) (s : S) (going : Bool) (b : Looping) (t : S) → Turned posts refused takes misses held a s going b t
       → b.log.node ≡ a.log.node
   turned a s going b t h = at_end h.turned

@@ -63,11 +63,11 @@ impl<R: Wait + Drop, L: Drop> Station for RuledEnd<R, L> {
 }
 
 impl<R: Wait + Drop, L: Drop> Post<L> for RuledEnd<R, L> {
-    ghost use Rattle.node_threads.specs.Traffics.{Posts};
+    ghost use Rattle.node_threads.specs.Traffics.{Posts, Refuses};
 
     ghost posts = { Posts };
 
-    ghost refuses = { λ s to letter. Unit {0} };
+    ghost refuses = { Refuses };
 
     fn send(&mut self, to: &NodeName, letter: L) -> Result<(), Unsent<L>> {
         let Some(place) = place_of(self.lines.as_slice(), to) else {
@@ -81,11 +81,13 @@ impl<R: Wait + Drop, L: Drop> Post<L> for RuledEnd<R, L> {
 }
 
 impl<R: Wait + Drop, L: Drop> Inbox<L> for RuledEnd<R, L> {
-    ghost use Rattle.node_threads.specs.Traffics.{Takes};
+    ghost use Rattle.node_threads.specs.Traffics.{Takes, Fails};
 
     ghost takes = { Takes };
 
     ghost misses = { λ s. Unit {0} };
+
+    ghost fails = { Fails };
 
     fn take(&mut self) -> Result<Option<(NodeName, L)>, LinkFault> {
         match self.mailbox.take(&self.rt) {

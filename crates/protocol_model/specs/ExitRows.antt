@@ -1,7 +1,7 @@
 -- Rows about processes that die.
 use Rattle.std.specs.Prelude.{[], ◌∷◌}
 use Rattle.registry_model.specs.Call.{Yes, Ok, True, Pid, Undefined, Names}
-use Rattle.protocol_model.specs.Event.{Refusal}
+use Rattle.protocol_model.specs.Event.{Refusal, NotLive}
 use Rattle.protocol_model.specs.Script.{Row, Settle, TableAt, Okay, Error, Settled, TableIs}
 use Rattle.protocol_model.specs.RowWords.{row, world_of, a, b, d, q, r, x, y, z, pid, spawn, register, re_register, unregister, whereis, names, set_lock, retry, exit, said, shown, given, owned}
 
@@ -48,3 +48,9 @@ lone_node_strikes_in_a_round = row (world_of 4 [] (d ∷ []))
     (spawn d ∷ register d x (pid d 1) ∷ Settle ∷ TableAt d ∷ exit (pid d 1) ∷ TableAt d ∷ Settle ∷ TableAt d ∷ [])
     (given (pid d 1) ∷ said d 1 Yes ∷ Settled ∷ TableIs (owned x (pid d 1) []) ∷ Okay
     ∷ TableIs (owned x (pid d 1) []) ∷ Settled ∷ TableIs [] ∷ [])
+
+-- a process is dead at once when it exits: its lock call is refused before any letter is delivered
+abbrev pub dead_at_once : Row
+dead_at_once = row (world_of 2 (a ∷ b ∷ []) [])
+    (spawn a ∷ exit (pid a 1) ∷ set_lock (pid a 1) r q 0 ∷ [])
+    (given (pid a 1) ∷ Okay ∷ Error (NotLive (pid a 1)) ∷ [])

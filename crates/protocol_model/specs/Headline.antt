@@ -61,6 +61,8 @@ pub record Headline (o : Opening) (ps : List Played) (now : Seen) : Type 0 where
   -- a `spawn` gives the next process
   pub spawns : (a : ℕ) (q : Process) → Contains (now.answers (At a (Event.Calling Call.Spawn))) (answer_to a 0 (Pid q)) →
       IsNextProcess ps now.dead a q
+  -- who was let exit is dead from that step on
+  pub exited : (p : Played) (a : ℕ) (q : Process) → Contains ps p → p.event ≡ At a (Event.Exiting q) → now.dead q ≡ true
   -- each numbered call is answered at most once, by a reply that it may have
   pub answered : AnswersCalls ps
   -- where a step ends an admission, its joiner was answered `joined`, or has left

@@ -20,6 +20,7 @@ pub mod Refusals
 pub mod Headline
 pub mod ClientLocks
 pub mod Leftovers
+pub mod QuietCalls
 pub mod Script
 pub mod Delivering
 pub mod Idle

@@ -3,7 +3,7 @@
 use mathlib.Core.Logic.{◌⊎◌}
 use Rattle.std.specs.Prelude.{ℕ, Bool, true, false, not, ◌&&◌, ◌||◌, ◌==◌, ◌+◌, ◌-◌, ◌≡◌, ◌<◌, ◌≤◌, Contains, Option, Some, None, is_none, List, [], ◌∷◌, ◌++◌, if◌then◌else◌}
 use Rattle.std.specs.List.{slice_get}
-use Rattle.registry_model.specs.Process.{Process, is_process, Nodes}
+use Rattle.registry_model.specs.Process.{Text, Process, is_process, Nodes}
 use Rattle.registry_model.specs.Call.{True, False}
 use Rattle.protocol_model.specs.Round.{is_empty}
 use Rattle.protocol_model.specs.Letter.{Id, Client, is_id, Letter}
@@ -11,12 +11,14 @@ use Rattle.protocol_model.specs.LockTable.{count, is_free_for}
 use Rattle.protocol_model.specs.Node.{Retries, Times, targets}
 use Rattle.protocol_model.specs.Event.{Call, Event, Answer}
 use Rattle.protocol_model.specs.World.{Opening, in_world, World, left, WorldEvent, At, Deliver, opening_world, refusal, happens, answers, run}
-use Rattle.protocol_model.specs.Course.{course}
-use Rattle.protocol_model.specs.Answers.{holder_in, calls_at}
+use Rattle.protocol_model.specs.Course.{course, standing, seen}
+use Rattle.protocol_model.specs.Answers.{holder_in, calls_at, answers_under}
 use Rattle.protocol_model.specs.ClientLocks.{Try, try_of, is_refused, is_gone, number, ExclusionAfter}
+use Rattle.protocol_model.specs.Leftovers.{IsQuiet}
+use Rattle.protocol_model.specs.QuietCalls.{QuietCallsAreTold, QuietCallsAreAnswered}
 
--- the last `set_lock` of a process: its last try, the retries that it was given, how often it was tried, and whether something
--- happened since that try began for which it may fail
+-- the last `set_lock` of a process: its last try, the retries that it was given, how often it was tried, and whether that try met
+-- something for which it may fail
 pub record Tries : Type 0 where
   pub last : Try
   pub retries : Retries
@@ -121,8 +123,8 @@ pub record Answers (o : Opening) (w : World) (e : WorldEvent) (p : Process) (k :
   pub number : s.number ≡ k
 
 -- the try has nobody to ask
-abbrev pub AsksNobody : Opening → Try → Type 0
-AsksNobody o t = is_empty o.bound t.asks ≡ true
+abbrev pub AsksNobody : Try → Type 0
+AsksNobody t = (c : ℕ) → t.asks c ≡ false
 
 -- all retries that were given are used up
 pub record AreUsedUp (t : Tries) : Type 0 where
@@ -146,7 +148,7 @@ module _ (o : Opening) (es : List WorldEvent) (w : World) (e : WorldEvent) where
   -- `false` is answered where all retries are used up, or where there is nobody to ask
   abbrev pub UsesAllRetries : Type 0
   UsesAllRetries = (p : Process) (t : Tries) (s : Answer) → tries_of o (es ++ e ∷ []) p ≡ Some t →
-      Answers o w e p t.last.number s → s.reply ≡ False → AsksNobody o t.last ⊎ AreUsedUp t
+      Answers o w e p t.last.number s → s.reply ≡ False → AsksNobody t.last ⊎ AreUsedUp t
 
   -- and `true` within them
   abbrev pub UsesNoMore : Type 0
@@ -157,7 +159,7 @@ module _ (o : Opening) (es : List WorldEvent) (w : World) (e : WorldEvent) where
   -- lock; or where there is nobody to ask
   abbrev pub FailsForAReason : Type 0
   FailsForAReason = (p : Process) (t : Tries) (s : Answer) → tries_of o (es ++ e ∷ []) p ≡ Some t →
-      Answers o w e p t.last.number s → s.reply ≡ False → AsksNobody o t.last ⊎ (t.met ≡ true)
+      Answers o w e p t.last.number s → s.reply ≡ False → AsksNobody t.last ⊎ (t.met ≡ true)
 
   -- where `true` is answered, some node that was asked isn't told of as departed
   abbrev pub IsHeldSomewhere : Type 0
@@ -179,11 +181,45 @@ module _ (o : Opening) (es : List WorldEvent) (w : World) (e : WorldEvent) where
     pub held : IsHeldSomewhere
     pub deleted : IsGivenBack
 
--- Clients' locks behind the events es, of which the world is w: they exclude each other, and so is answered in the step of each
--- event that the world would accept now
+-- the call of these tries is a `set_lock` of p that was accepted, and that none of the events answers
+pub record IsUnanswered (o : Opening) (es : List WorldEvent) (p : Process) (t : Tries) : Type 0 where
+  pub resource : Text
+  pub requester : Text
+  pub id : t.last.id ≡ Client resource requester
+  pub call : IsCallOf o es p.node t.last.number (Call.SetLock p resource requester t.last.target t.retries)
+  pub unanswered : answers_under p.node t.last.number (course o (opening_world o) es) ≡ []
+
+-- p isn't dead, and has a `set_lock` that isn't answered: its last try failed for a reason, another is left, and p's node accepts a
+-- retry, unless it has left
+pub record WaitsForRetry (o : Opening) (es : List WorldEvent) (w : World) (p : Process) : Type 0 where
+  pub alive : (seen o w).dead p ≡ false
+  pub tries : Tries
+  pub last : tries_of o es p ≡ Some tries
+  pub call : IsUnanswered o es p tries
+  pub failed : tries.met ≡ true
+  pub more : AreUsedUp tries → ⊥
+  pub retry : is_gone w p ≡ false → (seen o w).refusal (At p.node Event.Retry) ≡ None
+
+-- Who is refused and who is gone, which tries and numbers read of the world w, is as it is seen
+pub record ReadsTheSeen (o : Opening) (es : List WorldEvent) (w : World) : Type 0 where
+  -- a process whose lock call is refused waits for a retry
+  pub refused : (p : Process) → is_refused w p ≡ true → WaitsForRetry o es w p
+  -- in a quiet world the last `set_lock` of a process that isn't gone is refused, unless it is answered
+  pub waits : (p : Process) (t : Tries) → IsQuiet o w → is_gone w p ≡ false → tries_of o es p ≡ Some t →
+      answers_under p.node t.last.number (course o (opening_world o) es) ≡ [] → is_refused w p ≡ true
+  -- a process is gone where its node has left, by the history, or shows that it is dead
+  pub gone : (p : Process) →
+      is_gone w p ≡ ((standing o (course o (opening_world o) es)).registry.left p.node || (seen o w).dead p)
+
+-- Clients' locks behind the events es, of which the world is w: they exclude each other, they are counted by what is seen, and so
+-- is answered in the step of each event that the world would accept now; where it is quiet, a `set_lock` with no retries is answered
+-- as the lock is free
 pub record ClientLocks (o : Opening) (es : List WorldEvent) (w : World) : Type 0 where
   pub exclusion : ExclusionAfter o es w
+  pub reads : ReadsTheSeen o es w
   pub answers : (e : WorldEvent) → refusal o w e ≡ None → LockAnswers o es w e
+  pub quiet : QuietCallsAreTold o es w
+  pub answered : QuietCallsAreAnswered o es w
 
 -- whatever the opening, the events and the accepted one behind them
 abbrev pub AtEachStep : (Opening → List WorldEvent → World → WorldEvent → Type 0) → Type 0

@@ -1,11 +1,14 @@
--- What the functions mean that the protocol's rules share with the statements on clients' locks, and how a world opens.
+-- What the functions mean that the protocol's rules and the statements share, and how a world opens.
+use mathlib.Core.Logic.{◌⊎◌}
 use Rattle.std.specs.Prelude.{ℕ, true, false, ◌≡◌, ◌<◌, ◌↔◌, Contains, List, []}
 use Rattle.registry_model.specs.Process.{Text, Process, Nodes}
+use Rattle.protocol_model.specs.Round.{is_empty}
 use Rattle.protocol_model.specs.Letter.{Id, Global, Client, is_id, is_resource}
 use Rattle.protocol_model.specs.LockTable.{Grant, Locks, count, last_count, is_free_for}
 use Rattle.protocol_model.specs.Watch.{is_dead}
 use Rattle.protocol_model.specs.Node.{Node, Current, All, Named, targets}
-use Rattle.protocol_model.specs.World.{Opening, in_cluster, World, left}
+use Rattle.protocol_model.specs.Event.{Call, Event}
+use Rattle.protocol_model.specs.World.{Opening, in_world, in_cluster, World, left, WorldEvent, At, Deliver, place, other}
 
 -- Two ids are one where they are the same, and of one resource where both are of the resource `global` or both name one text
 pub record ComparesIds : Type 0 where
@@ -25,6 +28,31 @@ pub record AsksMembers : Type 0 where
 abbrev pub GrantsTheFree : Type 0
 GrantsTheFree = (id : Id) (p : Process) (locks : Locks) → (is_free_for id p locks ≡ true)
     ↔ (((g : Grant) → Contains locks g → is_resource g.id id ≡ true → g.id ≡ id) × (count id p locks < last_count))
+
+-- A set is empty below n where it has no node there
+abbrev pub TellsTheEmpty : Type 0
+TellsTheEmpty = (n : ℕ) (s : Nodes) → (is_empty n s ≡ true) ↔ ((c : ℕ) → c < n → s c ≡ false)
+
+-- An event of a node happens there, and a delivery at the receiver
+pub data HappensAt : WorldEvent → ℕ → Type 0 where
+  AtNode : (a : ℕ) (e : Event) → HappensAt (At a e) a
+  AtReceiver : (f t : ℕ) → HappensAt (Deliver f t) t
+
+-- An event names the node at which it happens, a delivery the sender too, and a join its contact
+pub data NamesNode : WorldEvent → ℕ → Type 0 where
+  Place : (e : WorldEvent) (c : ℕ) → HappensAt e c → NamesNode e c
+  Sender : (f t : ℕ) → NamesNode (Deliver f t) f
+  Contact : (a m : ℕ) → NamesNode (At a (Event.Calling (Call.JoinBy m))) m
+
+-- `place` is where an event happens, and `place` and `other` are the nodes that it names
+pub record TellsItsPlaces : Type 0 where
+  pub happens : (e : WorldEvent) (c : ℕ) → HappensAt e c ↔ (c ≡ place e)
+  pub names : (e : WorldEvent) (c : ℕ) → NamesNode e c ↔ ((c ≡ place e) ⊎ (c ≡ other e))
+
+-- Of a world are the nodes of its opening below the bound, and of its cluster those of them that open joined
+pub record TellsItsNodes (o : Opening) : Type 0 where
+  pub world : (c : ℕ) → (in_world o c ≡ true) ↔ ((c < o.bound) × (o.nodes c ≡ true))
+  pub cluster : (c : ℕ) → (in_cluster o c ≡ true) ↔ ((c < o.bound) × (o.nodes c ≡ true) × (o.cluster c ≡ true))
 
 -- A node that has done nothing yet: nobody has a name, a lock or a serial there, is dead, was told of or calls
 pub record IsIdle (v : Node) : Type 0 where

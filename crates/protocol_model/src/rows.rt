@@ -8,7 +8,7 @@ ghost use Rattle.protocol_model.specs.RowWords.{a, b, c, q, r, z, pid};
 ghost use Rattle.protocol_model.specs.Check.{Computes};
 ghost use Rattle.protocol_model.specs.NameRows.{registered_name_is_found, write_is_found_at_once, nothing_is_registered_yet, every_node_finds_the_name, process_has_one_name, nothing_to_unregister, owner_on_a_lone_node, who_gets_no_name, name_moves_and_goes, name_moves_to_members_alone, lone_node_refuses_in_a_round};
 ghost use Rattle.protocol_model.specs.RoundRows.{boss_decides, failed_round_gives_all_back, nothing_to_retry, settle_has_a_limit, no_such_event};
-ghost use Rattle.protocol_model.specs.ExitRows.{second_name_and_both_struck, owner_dies_while_its_call_waits, dead_owner_is_struck, strike_comes_before_waiting_calls, dead_caller_is_not_answered, lone_node_strikes_in_a_round};
+ghost use Rattle.protocol_model.specs.ExitRows.{second_name_and_both_struck, owner_dies_while_its_call_waits, dead_owner_is_struck, strike_comes_before_waiting_calls, dead_caller_is_not_answered, lone_node_strikes_in_a_round, dead_at_once};
 ghost use Rattle.protocol_model.specs.LockRows.{holders_are_counted, retries_and_a_dead_holder, one_lock_call_at_a_time, locks_at_named_nodes, retries_without_end, set_twice_deleted_twice, refused_lock_call_gives_all_back, two_requesters_at_once, all_members_are_asked, retry_asks_the_members_of_now, asked_behind_a_deletion};
 ghost use Rattle.protocol_model.specs.DepartureRows.{boss_leaves_while_asked, owner_leaves_between_grant_and_write, no_leave_in_a_hold, departed_holder_keeps_nothing, one_notice_ends_many_rounds, no_node_left_to_ask, round_goes_on_without_a_departed_node, boss_leaves_after_its_grant, deletion_goes_on_without_a_departed_node};
 ghost use Rattle.protocol_model.specs.JoinRows.{cluster_wins_the_clash, joiner_wins_the_clash, members_grow_during_a_round, refused_joins, owner_leaves_during_an_admission, member_joins_again, welcome_on_its_way, joiner_leaves_early, killed_holder_keeps_no_lock, killed_before_it_was_spawned, departure_learnt_by_a_welcome, contact_known_to_have_left, departed_node_is_not_read, one_join_at_a_time, admitted_joiner_has_left};
@@ -37,7 +37,7 @@ pub fn rounds_give_the_lock_to_one()
     ensures no_such_event { Computes no_such_event }
 {}
 
-/// What becomes of the names of a process that dies.
+/// What becomes of the names and the lock calls of a process that dies.
 pub fn dead_owners_are_struck()
     ensures second_name_and_both_struck { Computes second_name_and_both_struck }
     ensures owner_dies_while_its_call_waits { Computes owner_dies_while_its_call_waits }
@@ -45,6 +45,7 @@ pub fn dead_owners_are_struck()
     ensures strike_comes_before_waiting_calls { Computes strike_comes_before_waiting_calls }
     ensures dead_caller_is_not_answered { Computes dead_caller_is_not_answered }
     ensures lone_node_strikes_in_a_round { Computes lone_node_strikes_in_a_round }
+    ensures dead_at_once { Computes dead_at_once }
 {}
 
 /// What clients' lock calls answer.

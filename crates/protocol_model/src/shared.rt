@@ -1,9 +1,12 @@
-//! What the functions mean that the rules share with the statements on clients' locks and on what is left over, and how a
-//! world opens.
+//! What the functions mean that the rules and the statements share, and how a world opens.
+ghost use Rattle.std.specs.Prelude.{◌≡◌, ◌-◌, ◌^◌, codes};
+ghost use Rattle.registry_model.specs.Process.{text_of};
 ghost use Rattle.protocol_model.specs.Delivering.{DeliversTheFirst};
 ghost use Rattle.protocol_model.specs.Idle.{RefusesTheIdle};
 ghost use Rattle.protocol_model.specs.Leftovers.{WaitsBehindARound};
-ghost use Rattle.protocol_model.specs.SharedLaws.{ComparesIds, AsksMembers, GrantsTheFree, OpensEmpty};
+ghost use Rattle.protocol_model.specs.LockTable.{last_count};
+ghost use Rattle.protocol_model.specs.Event.{last_u32, global_resource};
+ghost use Rattle.protocol_model.specs.SharedLaws.{ComparesIds, AsksMembers, GrantsTheFree, TellsTheEmpty, TellsItsPlaces, TellsItsNodes, OpensEmpty};
 ghost use Rattle.protocol_model.specs.World.{Opening, World, opening_world};
 
 /// When two ids of locks are one, or of one resource.
@@ -19,6 +22,28 @@ pub fn targets()
 /// When a lock table grants a lock.
 pub fn free_locks()
     ensures { GrantsTheFree }
+{}
+
+/// When a set of nodes is empty.
+pub fn empty_sets()
+    ensures { TellsTheEmpty }
+{}
+
+/// How many serials, numbers of calls and grants to one holder there are, and which resource is reserved.
+pub fn limits()
+    ensures numbers { last_u32 ≡ 2 ^ 32 - 1 }
+    ensures counts { last_count ≡ 2 ^ 32 - 1 }
+    ensures reserved { global_resource ≡ text_of (codes "global") }
+{}
+
+/// Where an event happens, and which nodes it names.
+pub fn places()
+    ensures { TellsItsPlaces }
+{}
+
+/// Which nodes are of a world, and which of its cluster.
+pub fn worlds()
+    ensures { (o : Opening) → TellsItsNodes o }
 {}
 
 /// How a world opens.

@@ -1,4 +1,5 @@
 pub mod Lists
+pub mod NodeLists
 pub mod Updates
 pub mod Tables
 pub mod Owners

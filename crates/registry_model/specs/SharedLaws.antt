@@ -1,5 +1,5 @@
 -- What the functions that registry and protocol share mean: relations by cases, and not by the functions' recursions.
-use Rattle.std.specs.Prelude.{true, false, ◌≡◌, ◌<◌, ◌≤◌, ◌↔◌, IsTrue, Contains, AllPairs, Option, Some, None, List, ◌∷◌, ◌++◌}
+use Rattle.std.specs.Prelude.{ℕ, true, false, ◌≡◌, ◌<◌, ◌≤◌, ◌↔◌, IsTrue, Contains, AllPairs, Option, Some, None, List, ◌∷◌, ◌++◌}
 use Rattle.registry_model.specs.Process.{Text, Process, Nodes}
 use Rattle.registry_model.specs.Table.{Pair, Table, is_rising, get, put_all, Change, Put, Remove, StrikeOwner}
 use Rattle.registry_model.specs.Call.{NameCall, Register, ReRegister, Unregister, Look, Whereis, RegisteredNames, Reply, Yes, No, Ok, UnknownNode, Pid, Undefined, Names}
@@ -27,6 +27,11 @@ pub data IsReplyTo (members : Nodes) (table : Table) : NameCall → Reply → Ty
   -- whoever has the name or a name
   OfAnyName : (x : Text) (p : Process) → members p.node ≡ true → IsReplyTo members table (ReRegister x p) Yes
   ToGiveUp : (x : Text) → IsReplyTo members table (Unregister x) Ok
+
+-- these are the nodes of the set below n, each once and rising
+pub record AreNodesBelow (n : ℕ) (s : Nodes) (nodes : List ℕ) : Type 0 where
+  pub below : (c : ℕ) → Contains nodes c ↔ ((c < n) × (s c ≡ true))
+  pub rising : AllPairs (λ c d. c < d) nodes
 
 -- all names that have an owner, each once and rising
 pub record AreNames (table : Table) (xs : List Text) : Type 0 where

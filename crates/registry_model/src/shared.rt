@@ -1,10 +1,15 @@
 //! What the functions that registry and protocol share mean.
-ghost use Rattle.std.specs.Prelude.{◌≡◌, ◌↔◌, IsTrue, if◌then◌else◌};
-ghost use Rattle.registry_model.specs.Process.{Nodes};
+ghost use Rattle.std.specs.Prelude.{ℕ, ◌≡◌, ◌↔◌, IsTrue, if◌then◌else◌};
+ghost use Rattle.registry_model.specs.Process.{Nodes, nodes_of};
 ghost use Rattle.registry_model.specs.Table.{Table, Change, is_rising, changed, without, put_all};
 ghost use Rattle.registry_model.specs.Call.{NameCall, Look, Reply, is_grant, change_of, reply_to, seen_in};
 ghost use Rattle.registry_model.specs.Settlement.{settle};
-ghost use Rattle.registry_model.specs.SharedLaws.{IsReplyTo, IsSeenIn, IsChanged, IsCarriedOut, IsWithout, IsWrittenOver, IsTheTable, Settles};
+ghost use Rattle.registry_model.specs.SharedLaws.{AreNodesBelow, IsReplyTo, IsSeenIn, IsChanged, IsCarriedOut, IsWithout, IsWrittenOver, IsTheTable, Settles};
+
+/// The nodes of a set as a list.
+pub fn nodes()
+    ensures { (n : ℕ) (s : Nodes) → AreNodesBelow n s (nodes_of n s) }
+{}
 
 /// Each name call has one reply.
 pub fn reply()

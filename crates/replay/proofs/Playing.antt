@@ -7,7 +7,7 @@ use Rattle.replay.specs.Steps.{steps_of}
 use Rattle.protocol_model.specs.World.{Opening, World, WorldEvent as AnyWorldEvent, happens, opening_world, run}
 use Rattle.node_log.specs.Held.{Held}
 use Rattle.node_log.specs.Agreeing.{AgreesAfter}
-use Rattle.node_log.specs.Excluding.{LocksAfter}
+use Rattle.node_log.specs.Locks.{LocksAfter}
 use Rattle.node_log.specs.Playing.{Keeps}
 use Rattle.node_log.specs.Seen.{opening_of, seen}
 use Rattle.node_log.proofs.Agreeing.{same_opening}
@@ -62,8 +62,8 @@ run_on ss s old new R M = record {
       (takes_all (opening_of old) (opening_world (opening_of old)) ss s R.takes
       (subst (λ (w : World). Takes (opening_of old) w s) (is_behind ss old R) M.takes));
   agrees = agrees;
-  excludes = subst (λ (es : List AnyWorldEvent). LocksAfter (opening_of new) es (seen new)) (sym (events_push ss s))
-      (M.excludes (events_in ss) R.agrees.is_run);
+  locks = subst (λ (es : List AnyWorldEvent). LocksAfter (opening_of new) es (seen new)) (sym (events_push ss s))
+      (M.locks (events_in ss) R.agrees.is_run);
   leaves_nothing = nothing_left (events_in (ss ++ s ∷ [])) new agrees;
 }
   where

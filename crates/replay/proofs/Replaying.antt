@@ -11,7 +11,7 @@ use Rattle.node_log.specs.Playing.{Keeps}
 use Rattle.node_log.specs.Seen.{opening_of, seen}
 use Rattle.node_log.specs.Starting.{Opens, repeats}
 use Rattle.node_log.specs.Agreeing.{AgreesAfter}
-use Rattle.node_log.specs.Excluding.{LocksAfter}
+use Rattle.node_log.specs.Locks.{LocksAfter}
 use Rattle.node_log.specs.Entries.{Entry, Logged}
 use Rattle.node_log.specs.declared.node_end.NodeEnd.{NodeEnd}
 use Rattle.node_log.specs.declared.transcript.Transcript.{Transcript}
@@ -116,7 +116,7 @@ module _ (cluster lone : List ℕ) (ends : List End) (ts : List Transcript) wher
 
 -- a world that was started is the run of no steps
 pub opened_run : (h : Held) → AgreesAfter [] h → LocksAfter (opening_of h) [] (seen h) → IsRun [] h
-opened_run h A E = record { takes = tt; agrees = A; excludes = E; leaves_nothing = nothing_left [] h A }
+opened_run h A E = record { takes = tt; agrees = A; locks = E; leaves_nothing = nothing_left [] h A }
 
 -- the node of an end is one of the world
 pub of_world : {N M : Type 0} (cluster lone : List ℕ) (es : List (NodeEnd N M)) (old new : Held) (events : ℕ) (logs : List Logged)

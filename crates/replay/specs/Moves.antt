@@ -4,7 +4,7 @@ use Rattle.node_log.specs.Held.{Held}
 use Rattle.node_log.specs.Seen.{opening_of, seen}
 use Rattle.node_log.specs.Playing.{Keeps}
 use Rattle.node_log.specs.Agreeing.{Agrees}
-use Rattle.node_log.specs.Excluding.{Excludes}
+use Rattle.node_log.specs.Locks.{LocksBehind}
 use Rattle.node_log.specs.Entries.{Entry}
 use Rattle.replay.specs.declared.faults.CloseFault.{CloseFault}
 use Rattle.replay.specs.declared.faults.CloseFault.TheVariants.{Torn, LeftInHold, Stranger, Memory}
@@ -19,7 +19,7 @@ pub record Moves (s : Step) (old new : Held) : Type 0 where
   pub takes : Takes (opening_of old) (seen old) s
   pub kept : Keeps old new
   pub agrees : Agrees (s.entry.event ∷ []) s.entry.answers old new
-  pub excludes : Excludes (s.entry.event ∷ []) old new
+  pub locks : LocksBehind (s.entry.event ∷ []) old new
 
 -- the world doesn't take the step
 abbrev pub Refuses : Step → Held → Type 0

@@ -7,7 +7,7 @@ use Rattle.node_log.specs.Entries.{Logged}
 use Rattle.node_log.specs.Held.{Held}
 use Rattle.node_log.specs.Seen.{opening_of, seen}
 use Rattle.node_log.specs.Agreeing.{AgreesAfter}
-use Rattle.node_log.specs.Excluding.{LocksAfter}
+use Rattle.node_log.specs.Locks.{LocksAfter}
 use Rattle.replay.specs.Steps.{Step, happening, events_in, steps_of}
 use Rattle.replay.specs.Merging.{IsNext, RisesBehind}
 
@@ -23,11 +23,11 @@ TakesAll o w [] = Unit {0}
 TakesAll o w (s ∷ ss) = Takes o w s × TakesAll o (happens o w (happening s)) ss
 
 -- these steps, from its opening on, made the world what it is, and took place in it; behind them the headline and the
--- exclusion of clients' locks hold, and nothing is left over
+-- laws of clients' locks hold, and nothing is left over
 pub record IsRun (ss : List Step) (h : Held) : Type 0 where
   pub takes : TakesAll (opening_of h) (opening_world (opening_of h)) ss
   pub agrees : AgreesAfter (events_in ss) h
-  pub excludes : LocksAfter (opening_of h) (events_in ss) (seen h)
+  pub locks : LocksAfter (opening_of h) (events_in ss) (seen h)
   pub leaves_nothing : NothingIsLeft (opening_of h) (events_in ss) (seen h)
 
 -- what a world that opened so is behind these steps

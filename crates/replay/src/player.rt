@@ -3,7 +3,7 @@ ghost use Rattle.std.specs.Prelude.{◌≡◌, ◌==◌, Some, IfOk, IfErr, OnOk
 ghost use Rattle.protocol_model.specs.World.{place};
 ghost use Rattle.node_log.specs.Events.{event_of};
 ghost use Rattle.node_log.specs.Agreeing.{Agrees};
-ghost use Rattle.node_log.specs.Excluding.{Excludes};
+ghost use Rattle.node_log.specs.Locks.{LocksBehind};
 ghost use Rattle.node_log.specs.Playing.{Keeps, Played, RefusedWith};
 ghost use Rattle.node_log.specs.Seen.{opening_of, seen};
 ghost use Rattle.node_log.specs.Logs.{event_of as logged_event, entry_of};
@@ -36,7 +36,7 @@ fn play_logged<N: Names<Memory = Global>>(
 ) -> Result<Vec<Answer>, Refusal>
     ensures kept { Keeps world.old world.new }
     ensures agrees { IfOk result (λ answers. Agrees (logged_event node.now event.now ∷ []) answers.items world.old world.new) }
-    ensures excludes { IfOk result (λ _. Excludes (logged_event node.now event.now ∷ []) world.old world.new) }
+    ensures locks { IfOk result (λ _. LocksBehind (logged_event node.now event.now ∷ []) world.old world.new) }
     ensures ok { IfOk result (λ answers. Played (logged_event node.now event.now) world.old world.new [] answers.items) }
     ensures refused { IfErr result (λ refusal. RefusedWith refusal (logged_event node.now event.now) world.old) }
 {

@@ -1,5 +1,6 @@
 //! Serving a cluster, from its start to the line that tells how it closed.
-ghost use Rattle.std.specs.Prelude.{◌≡◌, None, All, IfOk};
+ghost use Rattle.std.specs.Prelude.{◌≡◌, ◌+◌, ◌≤◌, ◌||◌, ℕ, None, All, IfOk, length};
+ghost use Rattle.term.specs.NodeSets.{most_nodes, set_of};
 ghost use Rattle.node_threads.specs.Starting.{start_refused};
 ghost use Rattle.server.specs.Serving.{ServesCluster};
 ghost use Rattle.server.specs.Served.{IsServed};
@@ -26,12 +27,25 @@ type ServedCluster = Cluster<OpenGate, IndexTable<Global>>;
 /// registration, so a node is awake when its next letter comes.
 const YIELDS: u32 = 500;
 
-/// The set of all these nodes, of which there are eight at most.
-fn set_of_all(cluster: &[NodeName], lone: &[NodeName]) -> NodeSet {
-    let mut set = NodeSet::empty();
-    for node in cluster.iter().chain(lone) {
+/// Puts these nodes into a set. Where it has no room for all of them, some are left out.
+fn put_all(set: &mut NodeSet, nodes: &[NodeName])
+    ensures all { length set.old + length nodes.now ≤ most_nodes
+        → (c : ℕ) → set_of set.new c ≡ (set_of set.old c || set_of nodes.now c) }
+    ensures room { length set.new ≤ length set.old + length nodes.now }
+{
+    for node in nodes {
         let _ = set.insert(node.copy());
     }
+}
+
+/// The set of all these nodes, of which there are eight at most.
+fn set_of_all(cluster: &[NodeName], lone: &[NodeName]) -> NodeSet
+    ensures { length cluster.now + length lone.now ≤ most_nodes
+        → (c : ℕ) → set_of result c ≡ (set_of cluster.now c || set_of lone.now c) }
+{
+    let mut set = NodeSet::empty();
+    put_all(&mut set, cluster);
+    put_all(&mut set, lone);
     set
 }
 

@@ -71,9 +71,10 @@ pub enum Nodes {
 }
 
 impl Nodes {
-    /// The nodes of a set. `None`: the set is empty.
+    /// The nodes of a set. `None`: the set is empty, which takes no memory.
     pub fn named(alloc: Global, nodes: NodeSet) -> Result<Option<Self>, AllocError>
-        ensures { IfOk result (λ named. named ≡ (if length nodes == 0 then None else Some (Named nodes))) }
+        ensures named { IfOk result (λ named. named ≡ (if length nodes == 0 then None else Some (Named nodes))) }
+        ensures refused { OnErr result (0 < length nodes) }
     {
         if nodes.is_empty() {
             return Ok(None);

@@ -1,8 +1,9 @@
 -- A slot sends one letter after another.
 use Rattle.std.proofs.Common.{◌≡◌, ◌+◌, ◌≤◌, ℕ, List, [], ◌∷◌, ◌++◌, length, refl, sym, ap, ◌∙◌, append_assoc, length-append, subst, arith}
+use Rattle.link.specs.declared.faults.LinkFault.{LinkFault}
 use Rattle.tray.specs.Draining.{Sends, Drained}
 
-module _ {L S : Type 0} (posts : S → ℕ → L → S → Type 0) (refuses : S → ℕ → L → Type 0) (to : ℕ) where
+module _ {L S : Type 0} (posts : S → ℕ → L → S → Type 0) (refuses : S → ℕ → L → LinkFault → Type 0) (to : ℕ) where
   -- one letter more is sent
   sends_more : (s t r : S) (sent : List L) (l : L) → Sends posts to s sent t → posts t to l r → Sends posts to s (sent ++ l ∷ []) r
   sends_more s t r [] l same goes = (r, subst (λ (x : S). posts x to l r) (sym same) goes, refl)
@@ -28,7 +29,7 @@ module _ {L S : Type 0} (posts : S → ℕ → L → S → Type 0) (refuses : S 
   }
 
   pub hands_back : (old : List L) (s : S) (l : L) (left : List L) (t : S) (i : ℕ) → Going old s (l ∷ left) t i
-      → refuses t to l → Drained posts refuses to old s (l ∷ left) t
+      → ((fault : LinkFault) × refuses t to l fault) → Drained posts refuses to old s (l ∷ left) t
   hands_back old s l left t i h back = record { sent = h.sent; split = h.split; sends = h.sends; stops = back }
 
   pub ends : (old : List L) (s : S) (left : List L) (t : S) (i : ℕ) → Going old s left t i → length old ≤ i

@@ -1,5 +1,6 @@
 -- The slots of a tray are drained one after another.
 use Rattle.std.proofs.Common.{◌≡◌, ◌+◌, ◌≤◌, ◌<◌, ℕ, List, [], ◌∷◌, ◌++◌, length, slice_set, slice_index_or, refl, sym, ap, subst, ◌∙◌, append_assoc, append-nil, length-append, arith}
+use Rattle.link.specs.declared.faults.LinkFault.{LinkFault}
 use Rattle.tray.specs.Held.{Waiting}
 use Rattle.tray.specs.Draining.{Drained, DrainedAll}
 
@@ -12,7 +13,7 @@ module _ {X : Type 0} where
   set_here [] x w rest = refl
   set_here (y ∷ done) x w rest = ap (λ (l : List X). y ∷ l) (set_here done x w rest)
 
-module _ {L S : Type 0} (posts : S → ℕ → L → S → Type 0) (refuses : S → ℕ → L → Type 0) where
+module _ {L S : Type 0} (posts : S → ℕ → L → S → Type 0) (refuses : S → ℕ → L → LinkFault → Type 0) where
   -- one slot more is drained
   drained_more : (vs ws : List (Waiting L)) (v w : Waiting L) (s t r : S) → DrainedAll posts refuses vs s ws t
       → w.receiver ≡ v.receiver → Drained posts refuses v.receiver v.letters t w.letters r

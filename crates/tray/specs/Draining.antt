@@ -1,5 +1,6 @@
 -- What sending from a tray comes to, in the words of the links.
 use Rattle.std.specs.Prelude.{◌≡◌, ℕ, List, [], ◌∷◌, ◌++◌}
+use Rattle.link.specs.declared.faults.LinkFault.{LinkFault}
 use Rattle.tray.specs.Held.{Waiting}
 
 module _ {L S : Type 0} (posts : S → ℕ → L → S → Type 0) where
@@ -8,13 +9,13 @@ module _ {L S : Type 0} (posts : S → ℕ → L → S → Type 0) where
   Sends to s [] t = s ≡ t
   Sends to s (l ∷ ls) t = (r : S) × posts s to l r × Sends to r ls t
 
-module _ {L S : Type 0} (refuses : S → ℕ → L → Type 0) where
-  -- of what is left for this node, the first was handed back
+module _ {L S : Type 0} (refuses : S → ℕ → L → LinkFault → Type 0) where
+  -- of what is left for this node, the first was handed back for some fault
   abbrev pub Stops : ℕ → List L → S → Type 0
   Stops to [] s = Unit {0}
-  Stops to (l ∷ ls) s = refuses s to l
+  Stops to (l ∷ ls) s = (fault : LinkFault) × refuses s to l fault
 
-module _ {L S : Type 0} (posts : S → ℕ → L → S → Type 0) (refuses : S → ℕ → L → Type 0) where
+module _ {L S : Type 0} (posts : S → ℕ → L → S → Type 0) (refuses : S → ℕ → L → LinkFault → Type 0) where
   -- what waited for a node is what was sent to it, in that order, and then what is left
   pub record Drained (to : ℕ) (old : List L) (s : S) (left : List L) (t : S) : Type 0 where
     pub sent : List L

@@ -1,7 +1,7 @@
 //! What a world keeps of its history: entries in little memory.
-ghost use Rattle.std.specs.Prelude.{◌≡◌, IfOk};
-ghost use Rattle.node_events.specs.Seen.{reply_of};
-ghost use Rattle.world_history.specs.Histories.{entry_of};
+ghost use Rattle.std.specs.Prelude.{◌≡◌, true, IfOk, OnErr};
+ghost use Rattle.node_events.specs.Seen.{reply_of, is_list};
+ghost use Rattle.world_history.specs.Histories.{entry_of, has_list};
 ghost use Rattle.world_history.specs.Kept.{reply_in, call_in, entry_in};
 
 use crate::entry::HistoryEntry;
@@ -83,7 +83,8 @@ pub(crate) enum KeptReply {
 impl KeptReply {
     /// The reply. Only a list of names takes memory.
     fn reply(&self) -> Result<Reply, AllocError>
-        ensures { IfOk result (λ reply. reply_of reply ≡ reply_of (reply_in self.now)) }
+        ensures reply { IfOk result (λ reply. reply_of reply ≡ reply_of (reply_in self.now)) }
+        ensures refused { OnErr result (is_list (reply_in self.now) ≡ true) }
     {
         Ok(match self {
             KeptReply::Yes => Reply::Yes,
@@ -155,7 +156,8 @@ impl KeptEntry {
 
     /// The entry, made again. Only a list of names takes memory.
     pub fn entry(&self) -> Result<HistoryEntry, AllocError>
-        ensures { IfOk result (λ entry. entry_of entry ≡ entry_of self.now) }
+        ensures entry { IfOk result (λ entry. entry_of entry ≡ entry_of self.now) }
+        ensures refused { OnErr result (has_list self.now ≡ true) }
     {
         Ok(match &self.kept {
             Kept::Name(decision) => HistoryEntry::Name(

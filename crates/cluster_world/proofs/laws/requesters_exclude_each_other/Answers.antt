@@ -1,4 +1,4 @@
-use Rattle.cluster_world.proofs.Excluding.{never_both}
+use Rattle.cluster_world.proofs.Locks.{never_both}
 use Rattle.cluster_world.proofs.laws.requesters_exclude_each_other.Goals as goal
 
 pub returns : goal.returns

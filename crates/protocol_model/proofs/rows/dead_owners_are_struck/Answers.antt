@@ -18,3 +18,6 @@ returns-clause-dead_caller_is_not_answered start = record { prints = refl; keeps
 
 pub returns-clause-lone_node_strikes_in_a_round : goal.returns-clause-lone_node_strikes_in_a_round
 returns-clause-lone_node_strikes_in_a_round start = record { prints = refl; keeps = refl }
+
+pub returns-clause-dead_at_once : goal.returns-clause-dead_at_once
+returns-clause-dead_at_once start = record { prints = refl; keeps = refl }

@@ -3,7 +3,7 @@ use Rattle.std.proofs.lemmas.Result.{IfOk-weaker, IfErr-weaker}
 use Rattle.cluster_world.specs.declared.events.WorldEvent.{WorldEvent}
 use Rattle.cluster_world.specs.Playing.{Played}
 use Rattle.cluster_world.proofs.Agreeing.{agrees_played, agrees_unchanged}
-use Rattle.cluster_world.proofs.Excluding.{excludes}
+use Rattle.cluster_world.proofs.Locks.{locks_behind}
 use Rattle.cluster_world.proofs.Leftovers.{leaves_nothing}
 use Rattle.cluster_world.proofs.world.World.play.Goals as goal
 
@@ -31,24 +31,24 @@ returns-in-Deliver-clause-still_agrees g c =
     IfErr-weaker c.deliver.result _ _ (λ r same kept. agrees_unchanged c.args.self.now c.deliver.new.self (same kept))
     c.deliver.ensures.unchanged
 
-pub returns-in-At-clause-excludes : goal.returns-in-At-clause-excludes
-returns-in-At-clause-excludes g c =
-    IfOk-weaker c.happen.result _ _ (λ answers A. excludes (c.args.event.now ∷ []) answers.items c.args.self.now
+pub returns-in-At-clause-locks : goal.returns-in-At-clause-locks
+returns-in-At-clause-locks g c =
+    IfOk-weaker c.happen.result _ _ (λ answers A. locks_behind (c.args.event.now ∷ []) answers.items c.args.self.now
     c.happen.new.self A) (returns-in-At-clause-agrees g c)
 
-pub returns-in-At-clause-still_excludes : goal.returns-in-At-clause-still_excludes
-returns-in-At-clause-still_excludes g c =
-    IfErr-weaker c.happen.result _ _ (λ r A kept. excludes [] [] c.args.self.now c.happen.new.self (A kept))
+pub returns-in-At-clause-still_locks : goal.returns-in-At-clause-still_locks
+returns-in-At-clause-still_locks g c =
+    IfErr-weaker c.happen.result _ _ (λ r A kept. locks_behind [] [] c.args.self.now c.happen.new.self (A kept))
     (returns-in-At-clause-still_agrees g c)
 
-pub returns-in-Deliver-clause-excludes : goal.returns-in-Deliver-clause-excludes
-returns-in-Deliver-clause-excludes g c =
-    IfOk-weaker c.deliver.result _ _ (λ answers A. excludes (c.args.event.now ∷ []) answers.items c.args.self.now
+pub returns-in-Deliver-clause-locks : goal.returns-in-Deliver-clause-locks
+returns-in-Deliver-clause-locks g c =
+    IfOk-weaker c.deliver.result _ _ (λ answers A. locks_behind (c.args.event.now ∷ []) answers.items c.args.self.now
     c.deliver.new.self A) (returns-in-Deliver-clause-agrees g c)
 
-pub returns-in-Deliver-clause-still_excludes : goal.returns-in-Deliver-clause-still_excludes
-returns-in-Deliver-clause-still_excludes g c =
-    IfErr-weaker c.deliver.result _ _ (λ r A kept. excludes [] [] c.args.self.now c.deliver.new.self (A kept))
+pub returns-in-Deliver-clause-still_locks : goal.returns-in-Deliver-clause-still_locks
+returns-in-Deliver-clause-still_locks g c =
+    IfErr-weaker c.deliver.result _ _ (λ r A kept. locks_behind [] [] c.args.self.now c.deliver.new.self (A kept))
     (returns-in-Deliver-clause-still_agrees g c)
 
 pub returns-in-At-clause-leaves_nothing : goal.returns-in-At-clause-leaves_nothing

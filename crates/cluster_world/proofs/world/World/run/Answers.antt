@@ -1,6 +1,6 @@
 use Rattle.std.proofs.Common.{take}
 use Rattle.cluster_world.proofs.Agreeing.{agrees}
-use Rattle.cluster_world.proofs.Excluding.{excludes}
+use Rattle.cluster_world.proofs.Locks.{locks_behind}
 use Rattle.cluster_world.proofs.Leftovers.{leaves_nothing}
 use Rattle.cluster_world.proofs.world.World.run.Goals as goal
 
@@ -11,9 +11,9 @@ returns-clause-agrees g c = λ kept.
     (record { nodes = c.play_all.ensures.nodes; cluster = c.play_all.ensures.cluster }) (c.play_all.ensures.world kept)
     c.play_all.ensures.answers
 
-pub returns-clause-excludes : goal.returns-clause-excludes
-returns-clause-excludes g c = λ kept.
-    excludes (take c.play_all.result.played c.args.events.now) c.play_all.result.answers.items c.args.self.now
+pub returns-clause-locks : goal.returns-clause-locks
+returns-clause-locks g c = λ kept.
+    locks_behind (take c.play_all.result.played c.args.events.now) c.play_all.result.answers.items c.args.self.now
     c.play_all.new.self (returns-clause-agrees g c kept)
 
 pub returns-clause-leaves_nothing : goal.returns-clause-leaves_nothing

@@ -2,7 +2,7 @@ use Rattle.std.proofs.Common.{ℕ, ◌∙◌, List, [], ap}
 use Rattle.std.specs.Prelude.{◌||◌}
 use Rattle.term.specs.NodeSets.{set_of}
 use Rattle.cluster_world.proofs.Agreeing.{agreed}
-use Rattle.cluster_world.proofs.Excluding.{excluded}
+use Rattle.cluster_world.proofs.Locks.{locks_after}
 use Rattle.cluster_world.proofs.Leftovers.{nothing_left}
 use Rattle.cluster_world.proofs.Starting.{opens_whole, opens_seen, joined_within, opens}
 use Rattle.cluster_world.proofs.world.World.start.Goals as goal
@@ -36,8 +36,8 @@ returns-clause-world g c =
 pub returns-clause-agrees : goal.returns-clause-agrees
 returns-clause-agrees g c = agreed [] _ (returns-clause-world g c)
 
-pub returns-clause-excludes : goal.returns-clause-excludes
-returns-clause-excludes g c = excluded [] _ (returns-clause-agrees g c)
+pub returns-clause-locks : goal.returns-clause-locks
+returns-clause-locks g c = locks_after [] _ (returns-clause-agrees g c)
 
 pub returns-clause-leaves_nothing : goal.returns-clause-leaves_nothing
 returns-clause-leaves_nothing g c = nothing_left [] _ (returns-clause-agrees g c)

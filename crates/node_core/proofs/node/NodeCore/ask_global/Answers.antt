@@ -10,4 +10,4 @@ returns-clause-turn g c =
     asks_global _ _ _ _ _ _ c.begin.result c.self.view_is c.self.invariant.members c.boss.ensures.protocol
     (c.set_lock.ensures ∙ ap (λ (h : Held). AnyLetter.SetLock (Global h.name) (registrar h.name)) (sym c.self.view_is))
     c.begin.ensures.protocol
-    c.in_ok-send.ensures
+    c.in_ok-send.ensures.ok

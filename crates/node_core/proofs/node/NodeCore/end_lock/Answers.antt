@@ -29,16 +29,16 @@ pub refuse_lock-requires : goal.refuse_lock-requires
 refuse_lock-requires g c = record {
   own = found_own _ c.args.self.now c.args.holder.now (Some c.in_ok-call.call) c.self.view_is
       c.self.invariant c.in-Some.ensures.ordered
-      (ap (λ (x : LockCall). Some (as_call x)) c.in_ok-call.ensures
+      (ap (λ (x : LockCall). Some (as_call x)) c.in_ok-call.ensures.copy
       ∙ same_found _ c.args.self.now c.args.holder.now (as_call c.in-Some.call.now) c.self.view_is c.in-Some.ensures.call);
 }
 
 pub returns-in-Held-clause-turn : goal.returns-in-Held-clause-turn
 returns-in-Held-clause-turn g c =
-    let found = ap (λ (x : LockCall). Some (as_call x)) c.in_ok-call.ensures
+    let found = ap (λ (x : LockCall). Some (as_call x)) c.in_ok-call.ensures.copy
     ∙ same_found _ c.args.self.now c.args.holder.now (as_call c.in-Some.call.now) c.self.view_is
     c.in-Some.ensures.call in
-    let asking = ap (λ (x : LockCall). x.phase) c.in_ok-call.ensures ∙ c.in-Asking.is in
+    let asking = ap (λ (x : LockCall). x.phase) c.in_ok-call.ensures.copy ∙ c.in-Asking.is in
     on_ok_weaker c.close_call.result
     (ends_held c.args.self.now c.args.turn.now c.in_ok-call.call c.args.holder.now c.in-Asking.round c.is_over.result
     found asking
@@ -50,10 +50,10 @@ returns-in-Held-clause-turn g c =
 
 pub returns-in_ok-give_lock-in-GiveBack-clause-turn : goal.returns-in_ok-give_lock-in-GiveBack-clause-turn
 returns-in_ok-give_lock-in-GiveBack-clause-turn g c =
-    let found = ap (λ (x : LockCall). Some (as_call x)) c.in_ok-call.ensures
+    let found = ap (λ (x : LockCall). Some (as_call x)) c.in_ok-call.ensures.copy
     ∙ same_found _ c.args.self.now c.args.holder.now (as_call c.in-Some.call.now) c.self.view_is
     c.in-Some.ensures.call in
-    let asking = ap (λ (x : LockCall). x.phase) c.in_ok-call.ensures ∙ c.in-Asking.is in
+    let asking = ap (λ (x : LockCall). x.phase) c.in_ok-call.ensures.copy ∙ c.in-Asking.is in
     on_ok_weaker c.refuse_lock.result
     (ends_failed c.args.self.now c.args.turn.now c.in_ok-call.call c.args.holder.now c.in-Asking.round c.is_over.result
     found asking

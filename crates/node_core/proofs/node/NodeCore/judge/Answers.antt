@@ -12,4 +12,4 @@ returns-clause-turn g c =
     c.in_ok-verdict.verdict
     c.is_grant-granted.result c.ask.new.self c.self.view_is (cc c.in_ok-verdict.ensures.verdict)
     c.is_grant-granted.ensures (cc c.in_ok-verdict.ensures.table) (cc made) unnumbered)
-    c.send.ensures
+    c.send.ensures.ok

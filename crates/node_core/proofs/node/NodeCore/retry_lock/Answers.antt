@@ -11,6 +11,6 @@ pub try_lock-requires : goal.try_lock-requires
 try_lock-requires g c = record {
   own = found_own _ c.args.self.now c.args.holder.now (Some c.in_ok-call.call) c.self.view_is c.self.invariant
       c.get.ensures.ordered
-      (ap (λ (x : LockCall). Some (as_call x)) c.in_ok-call.ensures ∙ c.in-Some.ensures.call
+      (ap (λ (x : LockCall). Some (as_call x)) c.in_ok-call.ensures.copy ∙ c.in-Some.ensures.call
       ∙ ap (λ (h : Held). call_of c.args.holder.now (seen h.calls)) c.self.view_is);
 }

@@ -18,4 +18,4 @@ returns g c =
     (λ sends. welcomed_by _ c.args.self.now c.args.joiner.now c.copy.result c.args.settled.now c.args.turn.now
     c.send.new.self _ c.self.view_is
     (ap welcome_letter c.in_ok-new.ensures.ok ∙ c.in_ok-welcome.ensures.letter) c.copy.ensures sends)
-    c.send.ensures
+    c.send.ensures.ok

@@ -20,4 +20,4 @@ returns-clause-turn g c = λ to.
     (subst (λ (ps : List Process). Makes (λ n a. kill n a ps) c.move_in.new.self c.args.turn.now c.kill.new.self
     c.kill.new.turn) c.as_slice.ensures.value c.in_ok-kill.ensures.turn) c.answer.ensures c.in_ok-answer.ensures
     c.copy.ensures)
-    c.send.ensures
+    c.send.ensures.ok

@@ -9,7 +9,8 @@ use Rattle.node_loop.proofs.node_loop.NodeLoop.accept.Goals as goal
 pub returns-in-Refused : goal.returns-in-Refused
 returns-in-Refused g c =
     at_true _ _ (knows_contact c.args.self.now.world c.args.task.event)
-    (sym c.knows_contact.ensures ∙ c.if-not-knows_contact.false)
+    (ap (λ (l : Looping). knows_contact l.world c.args.task.event) (sym c.self.view_is) ∙ sym c.knows_contact.ensures
+    ∙ c.if-not-knows_contact.false)
     (at_false _ _ c.args.self.now.left (ap (λ (l : Looping). l.left) (sym c.self.view_is) ∙ c.if-self.false)
     (at_false _ _ (is_leave c.args.task.event) (sym c.is_leave.ensures ∙ c.if-is_leave.false)
     (inr (

@@ -1,6 +1,6 @@
 use Rattle.lock_answers.proofs.ClientLocks.{client_locks}
 use Rattle.cluster_world.specs.Seen.{opening_with}
-use Rattle.cluster_world.proofs.laws.exclusion_of_every_world.Goals as goal
+use Rattle.cluster_world.proofs.laws.locks_of_every_world.Goals as goal
 
 pub returns : goal.returns
 returns c = λ nodes cluster es. client_locks (opening_with nodes cluster) es

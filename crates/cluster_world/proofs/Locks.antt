@@ -14,16 +14,16 @@ use Rattle.cluster_world.specs.Held.{Held}
 use Rattle.cluster_world.specs.Seen.{opening_with, opening_of, seen}
 use Rattle.cluster_world.specs.Playing.{events_of}
 use Rattle.cluster_world.specs.Agreeing.{AgreesAfter, Agrees}
-use Rattle.cluster_world.specs.Excluding.{LocksAfter, Excludes, NeverBothHold, HasLock, is_left, is_kept}
+use Rattle.cluster_world.specs.Locks.{LocksAfter, LocksBehind, NeverBothHold, HasLock, is_left, is_kept}
 
 -- where the headline stands behind events, locks are so behind them
-pub excluded : (es : List AnyWorldEvent) (h : Held) → AgreesAfter es h → LocksAfter (opening_of h) es (seen h)
-excluded es h A = subst (λ (w : World). LocksAfter (opening_of h) es w) (sym A.is_run) (client_locks (opening_of h) es)
+pub locks_after : (es : List AnyWorldEvent) (h : Held) → AgreesAfter es h → LocksAfter (opening_of h) es (seen h)
+locks_after es h A = subst (λ (w : World). LocksAfter (opening_of h) es w) (sym A.is_run) (client_locks (opening_of h) es)
 
 -- and behind what was run
-pub excludes : (es : List WorldEvent) (given : List Answer) (old new : Held) → Agrees es given old new
-    → Excludes es old new
-excludes es given old new A before is = excluded (before ++ events_of es) new (A before is).0
+pub locks_behind : (es : List WorldEvent) (given : List Answer) (old new : Held) → Agrees es given old new
+    → LocksBehind es old new
+locks_behind es given old new A before is = locks_after (before ++ events_of es) new (A before is).0
 
 module _ (o : Opening) (p : Process) (id : Id) (c : ℕ) where
   -- events behind others are counted behind them

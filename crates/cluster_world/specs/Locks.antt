@@ -12,20 +12,20 @@ use Rattle.cluster_world.specs.Playing.{events_of}
 use Rattle.cluster_world.specs.Agreeing.{IsRunOf}
 
 -- Clients' locks behind these events, of which the world now is: no resource is held under two requesters at a node that hasn't
--- left it, and so is answered what comes next
+-- left it, they are counted by what is seen, and so is answered what comes next
 abbrev pub LocksAfter : Opening → List AnyWorldEvent → World → Type 0
 LocksAfter o es w = ClientLocks o es w
 
 -- Whatever made the old world what it was, that and then these events made the new one, locks exclude each other and are
 -- answered so behind them all
-abbrev pub Excludes : List WorldEvent → Held → Held → Type 0
-Excludes es old new = (before : List AnyWorldEvent) → IsRunOf before old
+abbrev pub LocksBehind : List WorldEvent → Held → Held → Type 0
+LocksBehind es old new = (before : List AnyWorldEvent) → IsRunOf before old
     → LocksAfter (opening_of new) (before ++ events_of es) (seen new)
 
 -- So it is in every world, whatever nodes it has and whichever of them are joined at first, after every list of
 -- events
-abbrev pub EveryWorldExcludes : Type 0
-EveryWorldExcludes = (nodes cluster : List ℕ) (es : List AnyWorldEvent) → LocksAfter (opening_with nodes cluster) es
+abbrev pub LocksInEveryWorld : Type 0
+LocksInEveryWorld = (nodes cluster : List ℕ) (es : List AnyWorldEvent) → LocksAfter (opening_with nodes cluster) es
     (run (opening_with nodes cluster) (opening_world (opening_with nodes cluster)) es)
 
 -- the event leaves p its lock of this id at c: it is refused, or behind it p is neither dead nor on a node that has

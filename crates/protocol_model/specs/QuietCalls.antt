@@ -1,0 +1,65 @@
+-- What a `set_lock` with no retries is answered in a quiet world. es: the events so far; w: the world that they made.
+use mathlib.Core.Logic.{◌⊎◌}
+use Rattle.std.specs.Prelude.{ℕ, Bool, true, false, ◌+◌, ◌≡◌, ◌<◌, Contains, None, List, ◌∷◌}
+use Rattle.std.specs.List.{list_all}
+use Rattle.registry_model.specs.Process.{Text, Process, Nodes}
+use Rattle.registry_model.specs.Call.{Reply, True, False}
+use Rattle.protocol_model.specs.Round.{is_empty}
+use Rattle.protocol_model.specs.Letter.{Client}
+use Rattle.protocol_model.specs.LockTable.{last_count}
+use Rattle.protocol_model.specs.Node.{Target, Times, targets}
+use Rattle.protocol_model.specs.Event.{Call, Event, Answer}
+use Rattle.protocol_model.specs.World.{Opening, World, WorldEvent, At, Deliver, refusal, all_answers, run}
+use Rattle.protocol_model.specs.ClientLocks.{number, Holds}
+use Rattle.protocol_model.specs.Leftovers.{IsQuiet}
+
+-- a letter is delivered
+abbrev pub is_delivery : WorldEvent → Bool
+is_delivery (Deliver f c) = true
+is_delivery _ = false
+
+-- p calls for a lock, to be tried once
+abbrev pub called_once : Process → Text → Text → Target → WorldEvent
+called_once p r z target = At p.node (Event.Calling (Call.SetLock p r z target (Times 0)))
+
+-- A lock is free for p at these nodes, and there is one: nobody holds its resource there under another requester, and p holds
+-- it less often than can be
+pub record IsFree (o : Opening) (es : List WorldEvent) (p : Process) (r z : Text) (asks : Nodes) : Type 0 where
+  pub somebody : is_empty o.bound asks ≡ false
+  pub others : (c : ℕ) (q : Process) (y : Text) → asks c ≡ true → Holds o es q (Client r y) c → y ≡ z
+  pub room : (c : ℕ) → asks c ≡ true → number o es p (Client r z) c < last_count
+
+-- the reply is `true` where this is so, and else `false`
+abbrev pub Tells : Type 0 → Reply → Type 0
+Tells So reply = ((reply ≡ True) × So) ⊎ ((reply ≡ False) × (So → ⊥))
+
+-- one of these answers is to call k of node a
+pub record IsAnswerTo (a k : ℕ) (given : List Answer) (s : Answer) : Type 0 where
+  pub listed : Contains given s
+  pub node : s.node ≡ a
+  pub number : s.number ≡ k
+
+module _ (o : Opening) (es : List WorldEvent) (w : World) where
+  -- in a quiet world p makes such a call, and then letters are delivered
+  pub record IsQuietCall (p : Process) (r z : Text) (target : Target) (ds : List WorldEvent) : Type 0 where
+    pub quiet : IsQuiet o w
+    pub accepted : refusal o w (called_once p r z target) ≡ None
+    pub delivered : list_all is_delivery ds ≡ true
+
+  -- what answers the call in these steps
+  abbrev pub AnswersIt : Process → Text → Text → Target → List WorldEvent → Answer → Type 0
+  AnswersIt p r z target ds s =
+      IsAnswerTo p.node ((w.node p.node).last_call + 1) (all_answers o w (called_once p r z target ∷ ds)) s
+
+  -- The call is answered `true` where the lock is free for p at the members that it asks, and else `false`, whichever letters
+  -- are delivered in whatever order
+  abbrev pub QuietCallsAreTold : Type 0
+  QuietCallsAreTold = (p : Process) (r z : Text) (target : Target) (ds : List WorldEvent) → IsQuietCall p r z target ds →
+      (s : Answer) → AnswersIt p r z target ds s →
+      Tells (IsFree o es p r z (targets (w.node p.node).replica.members target)) s.reply
+
+  -- and once no letter waits again it has been answered
+  abbrev pub QuietCallsAreAnswered : Type 0
+  QuietCallsAreAnswered = (p : Process) (r z : Text) (target : Target) (ds : List WorldEvent) →
+      IsQuietCall p r z target ds → IsQuiet o (run o w (called_once p r z target ∷ ds)) →
+      (s : Answer) × AnswersIt p r z target ds s
