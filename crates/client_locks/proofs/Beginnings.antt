@@ -60,10 +60,10 @@ module _ (o : Opening) (w : World) (a : ℕ) where
   }
 
   -- the rule behind the number is one of two
-  pub either : (P : List Rule → Type 0) (r s x : Rule) (later rest : List Rule) → rest ≡ x ∷ later
+  pub either_rule : (P : List Rule → Type 0) (r s x : Rule) (later rest : List Rule) → rest ≡ x ∷ later
       → (x ≡ r) ⊎ (x ≡ s) → MayAll o a (CallsLock ∷ rest) w → (MayAll o a (CallsLock ∷ r ∷ later) w → P (r ∷ later))
       → (MayAll o a (CallsLock ∷ s ∷ later) w → P (s ∷ later)) → P rest
-  either P r s x later rest is second m one other =
+  either_rule P r s x later rest is second m one other =
       (subst (λ (rs : List Rule). MayAll o a (CallsLock ∷ rs) w → P rs) (sym is) (elim second [
         | inl e ↦ subst (λ (y : Rule). MayAll o a (CallsLock ∷ y ∷ later) w → P (y ∷ later)) (sym e) one
         | inr e ↦ subst (λ (y : Rule). MayAll o a (CallsLock ∷ y ∷ later) w → P (y ∷ later)) (sym e) other
@@ -92,9 +92,9 @@ module _ (o : Opening) (w : World) (a : ℕ) where
     deleting = in_phase (LockPhase.Deleting (targets (numbered.node a).replica.members target)) fresh
 
     module _ (kept : OrderedKept o) (order : Ordered w) (rest : List Rule) where
-      pub asks : (retries : Retries) → MayAll o a (CallsLock ∷ AsksLock (new_try retries) ∷ rest) w
+      pub try_asks : (retries : Retries) → MayAll o a (CallsLock ∷ AsksLock (new_try retries) ∷ rest) w
           → Begins q (AsksLock (new_try retries)) (Some (asking retries))
-      asks retries m = begins_by q (AsksLock (new_try retries)) (Some (asking retries)) home
+      try_asks retries m = begins_by q (AsksLock (new_try retries)) (Some (asking retries)) home
           (call_after a None (turn_by o a numbered (AsksLock (new_try retries))) numbered q (Some (asking retries)) home
           (calls_put a numbered order1 (asking retries) home))
           (λ c e. let same : asking retries ≡ c = cc e in sym (ap (λ (j : LockCall). j.number) same))
@@ -105,9 +105,9 @@ module _ (o : Opening) (w : World) (a : ℕ) where
           home : q.node ≡ a
           home = beginner_home o a numbered (new_try retries) order1 m.1.0.tested.0
 
-      pub fails : (retries : Retries) → MayAll o a (CallsLock ∷ FailsLock (new_try retries) ∷ rest) w
+      pub try_fails : (retries : Retries) → MayAll o a (CallsLock ∷ FailsLock (new_try retries) ∷ rest) w
           → Begins q (FailsLock (new_try retries)) None
-      fails retries m = begins_by q (FailsLock (new_try retries)) None home
+      try_fails retries m = begins_by q (FailsLock (new_try retries)) None home
           (call_after a None (turn_by o a numbered (FailsLock (new_try retries))) numbered q None home
           (λ k. call_of-drop k q (numbered.node a).calls)) (λ c e. cc)
         where

@@ -11,20 +11,20 @@ use Rattle.protocol_model.specs.Letter.{Id, is_id}
 use Rattle.protocol_model.specs.Round.{asked}
 use Rattle.protocol_model.specs.Node.{LockPhase, LockCall}
 use Rattle.protocol_model.specs.Event.{Answer, is_waiting_call}
-use Rattle.protocol_model.specs.ClientLocks.{is_gone}
+use Rattle.protocol_model.specs.ClientLocks.{is_no_more}
 use Rattle.protocol_model.specs.World.{Opening, World}
 use Rattle.moves.proofs.Rules.{Rule, May, MayAll, Ordered, effect, effects, turn_by, answers_by}
 use Rattle.moves.proofs.Rules.Rule.{AsksLock, FailsLock, HearsLock, MarksLockDown, WinsLock, GivesUpLock, DeletesLock, DeletesNothing, CountsGivenBack, EndsDeletion, CountsLockDown, EndsDeletionDown}
 use Rattle.moves.proofs.Indices.{both, not_true}
 use Rattle.walk.proofs.ChainKinds.{Aside, Hearing, suits}
-use Rattle.client_locks.proofs.RoundNumbers.{is_tried, is_won, is_true_to}
+use Rattle.client_locks.proofs.RoundNumbers.{is_tried, is_won_by_round, is_true_to_call}
 use Rattle.client_locks.proofs.Ids.{is_process_same}
 use Rattle.client_locks.proofs.Clients.{Numbers, call_at}
 use Rattle.client_locks.proofs.Numbers.{num_by, nums_by}
 use Rattle.client_locks.proofs.Growing.{Replying, replying_keeps, gone_keeps}
 use Rattle.client_locks.proofs.Answering.{any_true, gives_true, not_true_answers}
 use Rattle.client_locks.proofs.Steps.{is_step, is_counting, nums_same, calls_from}
-use Rattle.client_locks.proofs.Ongoing.{Step, tries, rests, stepped}
+use Rattle.client_locks.proofs.Ongoing.{Step, call_tries, call_rests, call_stepped}
 
 -- a rule that answers no lock call `true` and deletes nothing
 abbrev pub is_calm : Rule → Bool
@@ -69,25 +69,25 @@ aside_calm r h = rw (aside_gives_none r h, aside_counts_none r h) refl
 
 -- what is won by answers of which none is `true`
 pub won_nothing : (id : Id) (x : ℕ) (ss : List Answer) (k : Option LockCall) → ((b m : ℕ) → any_true b m ss ≡ false)
-    → is_won id x ss k ≡ false
+    → is_won_by_round id x ss k ≡ false
 won_nothing id x ss None none = refl
 won_nothing id x ss (Some c) none = rw (none c.holder.node c.number) (and-false (is_tried id x c))
 
 -- answers before that are of no use to this call
 pub won_later : (id : Id) (x : ℕ) (xs ys : List Answer) (k : Option LockCall)
     → ((c : LockCall) → k ≡ Some c → any_true c.holder.node c.number xs ≡ false)
-    → is_won id x (xs ++ ys) k ≡ is_won id x ys k
+    → is_won_by_round id x (xs ++ ys) k ≡ is_won_by_round id x ys k
 won_later id x xs ys None none = refl
 won_later id x xs ys (Some c) none = ap (λ (b : Bool). is_tried id x c && b)
-    (list_any-append (is_true_to c) xs ys ∙ ap (λ (b : Bool). b || list_any (is_true_to c) ys) (none c refl))
+    (list_any-append (is_true_to_call c) xs ys ∙ ap (λ (b : Bool). b || list_any (is_true_to_call c) ys) (none c refl))
 
 -- nothing is won by a call that tries nothing
-pub won_untried : (id : Id) (x : ℕ) (ss : List Answer) (k : Option LockCall) → tries id x k ≡ false
-    → is_won id x ss k ≡ false
+pub won_untried : (id : Id) (x : ℕ) (ss : List Answer) (k : Option LockCall) → call_tries id x k ≡ false
+    → is_won_by_round id x ss k ≡ false
 won_untried id x ss None h = refl
-won_untried id x ss (Some c) h = ap (λ (b : Bool). b && list_any (is_true_to c) ss) h
+won_untried id x ss (Some c) h = ap (λ (b : Bool). b && list_any (is_true_to_call c) ss) h
 
-pub rest_tries : (id : Id) (x : ℕ) (k : Option LockCall) → rests k ≡ true → tries id x k ≡ false
+pub rest_tries : (id : Id) (x : ℕ) (k : Option LockCall) → call_rests k ≡ true → call_tries id x k ≡ false
 rest_tries id x None h = refl
 rest_tries id x (Some c) h = go c.phase h (is_id c.id id)
   where
@@ -100,15 +100,15 @@ rest_tries id x (Some c) h = go c.phase h (is_id c.id id)
 
 module _ (o : Opening) (a : ℕ) where
   -- who is gone stays gone
-  gone_chain : (rs : List Rule) (w : World) (p : Process) → is_gone w p ≡ true → is_gone (effects o a rs w) p ≡ true
+  gone_chain : (rs : List Rule) (w : World) (p : Process) → is_no_more w p ≡ true → is_no_more (effects o a rs w) p ≡ true
   gone_chain [] w p h = h
   gone_chain (r ∷ rs) w p h = gone_chain rs (effect o a r w) p (gone_keeps o a w r p h)
 
-  pub up_before : (rs : List Rule) (w : World) (p : Process) → is_gone (effects o a rs w) p ≡ false
-      → is_gone w p ≡ false
-  up_before rs w p h = go (is_gone w p) refl
+  pub up_before : (rs : List Rule) (w : World) (p : Process) → is_no_more (effects o a rs w) p ≡ false
+      → is_no_more w p ≡ false
+  up_before rs w p h = go (is_no_more w p) refl
     where
-      go : (b : Bool) → is_gone w p ≡ b → b ≡ false
+      go : (b : Bool) → is_no_more w p ≡ b → b ≡ false
       go false e = refl
       go true e = absurd (cc (gone_chain rs w p e, h))
 
@@ -128,7 +128,7 @@ module _ (o : Opening) (a : ℕ) where
 
   -- and changes no number
   pub calm_nums : (rs : List Rule) (w : World) (num : Numbers) → list_all is_calm rs ≡ true → MayAll o a rs w
-      → (p : Process) → is_gone (effects o a rs w) p ≡ false → (id : Id) (x : ℕ)
+      → (p : Process) → is_no_more (effects o a rs w) p ≡ false → (id : Id) (x : ℕ)
       → nums_by o a rs w num p id x ≡ num p id x
   calm_nums [] w num h m p up id x = refl
   calm_nums (r ∷ rs) w num h m p up id x =
@@ -174,5 +174,5 @@ module _ (o : Opening) (a : ℕ) where
   from_heard w num r h m order R = go (is_step r) refl
     where
       go : (b : Bool) → is_step r ≡ b → From w (effect o a r w)
-      go true e = from_step w num r (stepped o a w num order R r e m)
+      go true e = from_step w num r (call_stepped o a w num order R r e m)
       go false e = λ p d k. (d, (calls_from o a w num r (aside_or_step r h e) m p d k, refl))

@@ -109,9 +109,9 @@ pub record Mail (a : ℕ) (t : Option Taken) (u : Turn) (w : World) (p : Process
   pub downs : Moved (echoes p (read_on a t x p.node)) (echoes p (sent_on a u x p.node))
       (echoes p (w.links.queue x p.node)) (echoes p ((turned a t u w).links.queue x p.node))
 
-pub mail : (o : Opening) (a : ℕ) (t : Option Taken) (u : Turn) (w : World) → FrontTaken o a w t → (p : Process) (x : ℕ)
+pub mail_moves : (o : Opening) (a : ℕ) (t : Option Taken) (u : Turn) (w : World) → FrontTaken o a w t → (p : Process) (x : ℕ)
     → left w p.node ≡ false → left w x ≡ false → Mail a t u w p x
-mail o a t u w front p x up_p up_x = record {
+mail_moves o a t u w front p x up_p up_x = record {
   ups = all_moved (ask_of p) (read_on a t p.node x) (sent_on a u p.node x) (w.links.queue p.node x)
       ((turned a t u w).links.queue p.node x) (links_moved o a t u w front p.node x up_x);
   downs = all_moved (echo_of p) (read_on a t x p.node) (sent_on a u x p.node) (w.links.queue x p.node)

@@ -12,7 +12,7 @@ use Rattle.protocol_model.specs.Watch.{is_dead}
 use Rattle.protocol_model.specs.Node.{Node}
 use Rattle.protocol_model.specs.Event.{Event}
 use Rattle.protocol_model.specs.Turn.{Turn}
-use Rattle.protocol_model.specs.World.{Opening, in_world, World, left, At, closed}
+use Rattle.protocol_model.specs.World.{Opening, in_world, World, left, At, leaver_closed_out}
 use Rattle.moves.proofs.Rules.{Exits, Leaves, die_to}
 use Rattle.moves.proofs.Invariants.{IsUp}
 use Rattle.moves.proofs.Sends.{sent_to-all}
@@ -75,8 +75,8 @@ module _ (o : Opening) (a : ℕ) (w : World) (num : Numbers) (C : Clients o w nu
           ∙ dead_now (w.node a).watch.dead q.serial
 
   -- the node is closed out
-  pub closes : Clients o (closed (At a Event.Leave) w) (num_by a Leaves w num)
-  closes = record {
+  pub leaver_closes : Clients o (leaver_closed_out (At a Event.Leave) w) (num_by a Leaves w num)
+  leaver_closes = record {
     tables = C.tables;
     named = λ f n. named_if f n (n == a);
     rounds = C.rounds;
@@ -99,21 +99,21 @@ module _ (o : Opening) (a : ℕ) (w : World) (num : Numbers) (C : Clients o w nu
           go true e h = cc
           go false e h = (e, h)
 
-      same : (p : Process) → (p.node == a) ≡ false → lives o (closed (At a Event.Leave) w) p ≡ lives o w p
+      same : (p : Process) → (p.node == a) ≡ false → lives o (leaver_closed_out (At a Event.Leave) w) p ≡ lives o w p
       same p e = ap (λ (b : Bool). in_world o p.node && (not (if b then true else left w p.node) &&
           (not (p.serial == 0) && not (is_dead (w.node p.node).watch p.serial)))) e
 
       strange : (p : Process) (id : Id) (x : ℕ) (b : Bool) → (p.node == a) ≡ b
-          → lives o (closed (At a Event.Leave) w) p ≡ false → none_if b (num p id x) ≡ 0
+          → lives o (leaver_closed_out (At a Event.Leave) w) p ≡ false → none_if b (num p id x) ≡ 0
       strange p id x true e h = refl
       strange p id x false e h = C.strangers p id x (sym (same p e) ∙ h)
 
-      goes_on : (p : Process) (x : ℕ) → lives o (closed (At a Event.Leave) w) p ≡ true
-          → IsUp o (closed (At a Event.Leave) w) x
-          → Holding (closed (At a Event.Leave) w) (num_by a Leaves w num) p x
+      goes_on : (p : Process) (x : ℕ) → lives o (leaver_closed_out (At a Event.Leave) w) p ≡ true
+          → IsUp o (leaver_closed_out (At a Event.Leave) w) x
+          → Holding (leaver_closed_out (At a Event.Leave) w) (num_by a Leaves w num) p x
       goes_on p x h up =
           let kp : ((p.node == a) ≡ false) × (left w p.node ≡ false) = stays p.node
-          (live_parts o (closed (At a Event.Leave) w) p h).up in
+          (live_parts o (leaver_closed_out (At a Event.Leave) w) p h).up in
           let kx : ((x == a) ≡ false) × (left w x ≡ false) = stays x up.1 in
           live_along (view (call_at w p) x) (view (call_at w p) x)
           (asks p (w.links.queue p.node x)) (asks p (if x == a then [] else w.links.queue p.node x))

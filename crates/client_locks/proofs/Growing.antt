@@ -17,7 +17,7 @@ use Rattle.protocol_model.specs.Turn.{Turn, begun, send_all, enter, keep_call}
 use Rattle.protocol_model.specs.Registrar.{registrar, ask_rest, answer_op}
 use Rattle.protocol_model.specs.Client.{in_phase, close_call, give_lock, refuse_lock, is_spent}
 use Rattle.protocol_model.specs.Reading.{judge, take_back}
-use Rattle.protocol_model.specs.ClientLocks.{is_gone}
+use Rattle.protocol_model.specs.ClientLocks.{is_no_more}
 use Rattle.protocol_model.specs.World.{Opening, World, left, opening_world, join_number}
 use Rattle.moves.proofs.Rules.{Rule, Taken, May, effect, turn_by, takes}
 use Rattle.moves.proofs.Rules.Rule.{CallsName, CallsJoin, CallsLock, Exits, Begins, BeginsStrike, Retries, AsksJoin, HearsAnswer, MarksDown, GivesUp, Grants, Denies, Strikes, Admits, Passes, CountsApplied, CountsDown, Finishes, Judges, TakesBack, EndsJoin, Kills, IsWelcomed, LosesContact, HearsLock, GivesUpLock, Leaves}
@@ -138,7 +138,7 @@ module _ (o : Opening) (a : ℕ) (w : World) where
   last_grows _ = omega arith
 
   gone_turned : (t : Option Taken) (u : Turn) (p : Process) → ((s : ℕ) → is_dead (w.node a).watch s ≡ true
-      → is_dead u.node.watch s ≡ true) → is_gone w p ≡ true → is_gone (turned a t u w) p ≡ true
+      → is_dead u.node.watch s ≡ true) → is_no_more w p ≡ true → is_no_more (turned a t u w) p ≡ true
   gone_turned t u p dead h = by_test a (λ c t. (left w c || is_dead (w.node c).watch p.serial) ≡ true
       → (left w c || is_dead (if t then u.node else w.node c).watch p.serial) ≡ true)
       (λ k. go (left w a) (is_dead (w.node a).watch p.serial) refl k) (λ x ne k. k) p.node h
@@ -150,7 +150,7 @@ module _ (o : Opening) (a : ℕ) (w : World) where
       go false false e k = cc
 
   -- who is gone stays gone
-  pub gone_keeps : (r : Rule) (p : Process) → is_gone w p ≡ true → is_gone (effect o a r w) p ≡ true
+  pub gone_keeps : (r : Rule) (p : Process) → is_no_more w p ≡ true → is_no_more (effect o a r w) p ≡ true
   gone_keeps Leaves p h = go (p.node == a) (left w p.node) (is_dead (w.node p.node).watch p.serial)
       (gone_turned None (turn_by o a w Leaves) p (λ s k. k) h)
     where

@@ -9,12 +9,12 @@ use Rattle.registry_model.specs.Process.{Process, is_process}
 use Rattle.protocol_model.specs.Letter.{Id}
 use Rattle.protocol_model.specs.Node.{LockCall}
 use Rattle.protocol_model.specs.Event.{Answer, is_waiting_call}
-use Rattle.protocol_model.specs.ClientLocks.{is_gone}
+use Rattle.protocol_model.specs.ClientLocks.{is_no_more}
 use Rattle.protocol_model.specs.World.{Opening, World}
 use Rattle.moves.proofs.Rules.{Rule, MayAll, Ordered, effect, effects, turn_by, answers_by}
 use Rattle.moves.proofs.Indices.{both}
 use Rattle.walk.proofs.ChainKinds.{Aside, Hearing, suits}
-use Rattle.client_locks.proofs.RoundNumbers.{is_tried, is_won}
+use Rattle.client_locks.proofs.RoundNumbers.{is_tried, is_won_by_round}
 use Rattle.client_locks.proofs.Ids.{is_process_same, is_process_self}
 use Rattle.client_locks.proofs.Calls.{holder_of_call}
 use Rattle.client_locks.proofs.Clients.{Numbers, call_at}
@@ -22,7 +22,7 @@ use Rattle.client_locks.proofs.Numbers.{num_by, nums_by, plus_if}
 use Rattle.client_locks.proofs.Growing.{Replying, replying_keeps}
 use Rattle.client_locks.proofs.Answering.{is_true, any_true, not_true_answers}
 use Rattle.client_locks.proofs.Steps.{is_step, nums_same, calls_aside, calls_from}
-use Rattle.client_locks.proofs.Ongoing.{GoesOnFrom, Step, tries, rests, stepped}
+use Rattle.client_locks.proofs.Ongoing.{GoesOnFrom, Step, call_tries, call_rests, call_stepped}
 use Rattle.client_locks.proofs.Chains.{OrderedKept, aside_or_step, aside_gives_none, aside_counts_none, won_later, won_untried, rest_tries, up_before, Distinct, distinct_from, from_heard}
 
 and_and_false : (b c : Bool) → (b && (c && false)) ≡ false
@@ -71,7 +71,7 @@ module _ (o : Opening) (a : ℕ) (kept : OrderedKept o) where
           → any_true b m (answers_by o a rs (effect o a r w)) ≡ false)
           → any_true b m (answers_by o a (r ∷ rs) w) ≡ false
       go heard true e later =
-          let S : Step o a r w num = stepped o a w num order R r e k.0 in
+          let S : Step o a r w num = call_stepped o a w num order R r e k.0 in
           join (S.answers b m ∙ ap (λ (t : Bool). S.ended && ((a == b) && t))
           (not_number w m W S.call.holder S.call S.home S.found S.busy) ∙ and_and_false S.ended (a == b))
           (later (waits_step w num r m S W))
@@ -83,15 +83,15 @@ module _ (o : Opening) (a : ℕ) (kept : OrderedKept o) where
   -- the number after the chain
   pub heard_nums : (rs : List Rule) (w : World) (num : Numbers) → list_all (suits Hearing) rs ≡ true → MayAll o a rs w
       → Ordered w → Replying w → Distinct o a w
-      → (p : Process) → is_gone (effects o a rs w) p ≡ false → (id : Id) (x : ℕ)
-      → nums_by o a rs w num p id x ≡ plus_if (is_won id x (answers_by o a rs w) (call_at w p)) (num p id x)
+      → (p : Process) → is_no_more (effects o a rs w) p ≡ false → (id : Id) (x : ℕ)
+      → nums_by o a rs w num p id x ≡ plus_if (is_won_by_round id x (answers_by o a rs w) (call_at w p)) (num p id x)
   heard_nums [] w num h k order R D p up id x = go (call_at w p)
     where
       nothing : (b : Bool) (i : ℕ) → i ≡ plus_if (b && false) i
       nothing true i = refl
       nothing false i = refl
 
-      go : (c : Option LockCall) → num p id x ≡ plus_if (is_won id x [] c) (num p id x)
+      go : (c : Option LockCall) → num p id x ≡ plus_if (is_won_by_round id x [] c) (num p id x)
       go None = refl
       go (Some c) = nothing (is_tried id x c) (num p id x)
   heard_nums (r ∷ rs) w num h k order R D p up id x =
@@ -113,24 +113,24 @@ module _ (o : Opening) (a : ℕ) (kept : OrderedKept o) where
       -- no rule of this call
       apart : call_at w1 p ≡ call_at w p → num_by a r w num p id x ≡ num p id x
           → ((c : LockCall) → call_at w p ≡ Some c → any_true c.holder.node c.number first ≡ false)
-          → plus_if (is_won id x later (call_at w1 p)) (num_by a r w num p id x) ≡ plus_if
-          (is_won id x (first ++ later) (call_at w p)) (num p id x)
-      apart ec en none = ap (λ (i : ℕ). plus_if (is_won id x later (call_at w1 p)) i) en
-          ∙ ap (λ (c : Option LockCall). plus_if (is_won id x later c) (num p id x)) ec
+          → plus_if (is_won_by_round id x later (call_at w1 p)) (num_by a r w num p id x) ≡ plus_if
+          (is_won_by_round id x (first ++ later) (call_at w p)) (num p id x)
+      apart ec en none = ap (λ (i : ℕ). plus_if (is_won_by_round id x later (call_at w1 p)) i) en
+          ∙ ap (λ (c : Option LockCall). plus_if (is_won_by_round id x later c) (num p id x)) ec
           ∙ ap (λ (b : Bool). plus_if b (num p id x)) (sym (won_later id x first later (call_at w p) none))
 
       -- a step of this call
       own : suits Hearing r ≡ true → list_all (suits Hearing) rs ≡ true → (S : Step o a r w num)
           → is_process S.call.holder p ≡ true
-          → plus_if (is_won id x later (call_at w1 p)) (num_by a r w num p id x) ≡ plus_if
-          (is_won id x (first ++ later) (call_at w p)) (num p id x)
+          → plus_if (is_won_by_round id x later (call_at w1 p)) (num_by a r w num p id x) ≡ plus_if
+          (is_won_by_round id x (first ++ later) (call_at w p)) (num p id x)
       own heard all S e =
-          ap (λ (c : Option LockCall). plus_if (is_won id x later c) (num_by a r w num p id x))
+          ap (λ (c : Option LockCall). plus_if (is_won_by_round id x later c) (num_by a r w num p id x))
           (S.calls p ∙ ap (λ (b : Bool). if b then S.next else call_at w p) e)
-          ∙ ap (λ (i : ℕ). plus_if (is_won id x later S.next) i) (S.nums p id x
+          ∙ ap (λ (i : ℕ). plus_if (is_won_by_round id x later S.next) i) (S.nums p id x
           ∙ ap (λ (b : Bool). plus_if (b && (S.ended && is_tried id x S.call)) (num p id x)) e)
           ∙ by_end S.ended refl
-          ∙ ap (λ (c : Option LockCall). plus_if (is_won id x (first ++ later) c) (num p id x)) (sym was)
+          ∙ ap (λ (c : Option LockCall). plus_if (is_won_by_round id x (first ++ later) c) (num p id x)) (sym was)
         where
           was : call_at w p ≡ Some S.call
           was = subst (λ (q : Process). call_at w q ≡ Some S.call) (is_process_same S.call.holder p e) S.found
@@ -144,11 +144,11 @@ module _ (o : Opening) (a : ℕ) (kept : OrderedKept o) where
           true_all = list_any-append (is_true S.call.holder.node S.call.number) first later
               ∙ ap (λ (b : Bool). b || any_true S.call.holder.node S.call.number later) true_first
 
-          untried : rests S.next ≡ true → is_won id x later S.next ≡ false
+          untried : call_rests S.next ≡ true → is_won_by_round id x later S.next ≡ false
           untried rest = won_untried id x later S.next (rest_tries id x S.next rest)
 
           -- the call has ended well: nothing else is won
-          ended_well : rests S.next ≡ true → S.ended ≡ true → plus_if (is_won id x later S.next)
+          ended_well : call_rests S.next ≡ true → S.ended ≡ true → plus_if (is_won_by_round id x later S.next)
               (plus_if (true && (S.ended && is_tried id x S.call)) (num p id x)) ≡ plus_if
               (is_tried id x S.call && any_true S.call.holder.node S.call.number (first ++ later)) (num p id x)
           ended_well rest end = ap (λ (b : Bool). plus_if b (plus_if (true && (S.ended && is_tried id x S.call))
@@ -159,10 +159,10 @@ module _ (o : Opening) (a : ℕ) (kept : OrderedKept o) where
               ∙ ap (λ (b : Bool). plus_if b (num p id x)) (and-true (is_tried id x S.call)))
 
           -- it has ended otherwise: it isn't answered `true` any more
-          number_waits : rests S.next ≡ true → Waits S.call.number w1
+          number_waits : call_rests S.next ≡ true → Waits S.call.number w1
           number_waits rest q d home eq n = split (is_process S.call.holder q) refl (sym (S.calls q) ∙ eq)
             where
-              phase_of : (next : Option LockCall) → rests next ≡ true → next ≡ Some d → is_waiting_call d.phase ≡ true
+              phase_of : (next : Option LockCall) → call_rests next ≡ true → next ≡ Some d → is_waiting_call d.phase ≡ true
               phase_of None h i = cc
               phase_of (Some c) h i = let same : c ≡ d = cc i in subst (λ (j : LockCall). is_waiting_call j.phase
                   ≡ true) same h
@@ -178,7 +178,7 @@ module _ (o : Opening) (a : ℕ) (kept : OrderedKept o) where
                     i,
                   ))
 
-          failed : rests S.next ≡ true → S.ended ≡ false → plus_if (is_won id x later S.next)
+          failed : call_rests S.next ≡ true → S.ended ≡ false → plus_if (is_won_by_round id x later S.next)
               (plus_if (true && (S.ended && is_tried id x S.call)) (num p id x)) ≡ plus_if
               (is_tried id x S.call && any_true S.call.holder.node S.call.number (first ++ later)) (num p id x)
           failed rest end = ap (λ (b : Bool). plus_if b (plus_if (true && (S.ended && is_tried id x S.call))
@@ -192,8 +192,8 @@ module _ (o : Opening) (a : ℕ) (kept : OrderedKept o) where
 
           -- it goes on as the same try
           on : (next : Option LockCall) → ((d : LockCall) → next ≡ Some d → GoesOnFrom S.call d) →
-              ((i : Id) (y : ℕ) → tries i y next ≡ is_tried i y S.call) → S.ended ≡ false
-              → plus_if (is_won id x later next) (plus_if (true && (S.ended && is_tried id x S.call)) (num p id x))
+              ((i : Id) (y : ℕ) → call_tries i y next ≡ is_tried i y S.call) → S.ended ≡ false
+              → plus_if (is_won_by_round id x later next) (plus_if (true && (S.ended && is_tried id x S.call)) (num p id x))
               ≡ plus_if (is_tried id x S.call && any_true S.call.holder.node S.call.number (first ++ later))
               (num p id x)
           on None same tried end = ap (λ (b : Bool). plus_if (b && is_tried id x S.call) (num p id x)) end
@@ -210,7 +210,7 @@ module _ (o : Opening) (a : ℕ) (kept : OrderedKept o) where
               ∙ sym (ap (λ (b : Bool). plus_if (is_tried id x S.call && b) (num p id x))
               (true_all ∙ ap (λ (b : Bool). b || any_true S.call.holder.node S.call.number later) end))
 
-          by_end : (b : Bool) → S.ended ≡ b → plus_if (is_won id x later S.next)
+          by_end : (b : Bool) → S.ended ≡ b → plus_if (is_won_by_round id x later S.next)
               (plus_if (true && (S.ended && is_tried id x S.call)) (num p id x)) ≡ plus_if
               (is_tried id x S.call && any_true S.call.holder.node S.call.number (first ++ later)) (num p id x)
           by_end b end = elim S.goes [
@@ -218,21 +218,21 @@ module _ (o : Opening) (a : ℕ) (kept : OrderedKept o) where
             | inr rest ↦ by_rest rest b end
           ]
             where
-              by_rest : rests S.next ≡ true → (b : Bool) → S.ended ≡ b → plus_if (is_won id x later S.next)
+              by_rest : call_rests S.next ≡ true → (b : Bool) → S.ended ≡ b → plus_if (is_won_by_round id x later S.next)
                   (plus_if (true && (S.ended && is_tried id x S.call)) (num p id x)) ≡ plus_if
                   (is_tried id x S.call && any_true S.call.holder.node S.call.number (first ++ later)) (num p id x)
               by_rest rest true end = ended_well rest end
               by_rest rest false end = failed rest end
 
       go : suits Hearing r ≡ true → (t : Bool) → is_step r ≡ t
-          → plus_if (is_won id x later (call_at w1 p)) (num_by a r w num p id x) ≡ plus_if
-          (is_won id x (first ++ later) (call_at w p)) (num p id x)
-      go heard true e = by_holder (stepped o a w num order R r e k.0)
-          (is_process (stepped o a w num order R r e k.0).call.holder p) refl
+          → plus_if (is_won_by_round id x later (call_at w1 p)) (num_by a r w num p id x) ≡ plus_if
+          (is_won_by_round id x (first ++ later) (call_at w p)) (num p id x)
+      go heard true e = by_holder (call_stepped o a w num order R r e k.0)
+          (is_process (call_stepped o a w num order R r e k.0).call.holder p) refl
         where
           by_holder : (S : Step o a r w num) (b : Bool) → is_process S.call.holder p ≡ b
-              → plus_if (is_won id x later (call_at w1 p)) (num_by a r w num p id x) ≡ plus_if
-              (is_won id x (first ++ later) (call_at w p)) (num p id x)
+              → plus_if (is_won_by_round id x later (call_at w1 p)) (num_by a r w num p id x) ≡ plus_if
+              (is_won_by_round id x (first ++ later) (call_at w p)) (num p id x)
           by_holder S true i = own heard (both (suits Hearing r) (list_all (suits Hearing) rs) h).1 S i
           by_holder S false i = apart (S.calls p ∙ ap (λ (b : Bool). if b then S.next else call_at w p) i)
               (S.nums p id x ∙ ap (λ (b : Bool). plus_if (b && (S.ended && is_tried id x S.call)) (num p id x)) i)

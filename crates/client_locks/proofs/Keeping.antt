@@ -28,7 +28,7 @@ use Rattle.client_locks.proofs.Numbers.{num_by}
 use Rattle.client_locks.proofs.LockRules.{on_marks_lock_down, on_hears_lock}
 use Rattle.client_locks.proofs.LockEnds.{on_wins_lock, on_gives_up_lock, on_asks_lock, on_closes}
 use Rattle.client_locks.proofs.Deletions.{on_deletes_lock, on_deletes_nothing, on_counts_given_back, on_ends_deletion, on_counts_lock_down, on_ends_deletion_down}
-use Rattle.client_locks.proofs.Deaths.{dies, closes}
+use Rattle.client_locks.proofs.Deaths.{dies, leaver_closes}
 use Rattle.client_locks.proofs.Quiet.{Quiet, quiet_begun, quiet_send, quiet_send_all, quiet_work, quiet_queue, quiet_replica, quiet_enter, quiet_ask_global, quiet_finish, quiet_write, quiet_give_up, quiet_ask_rest, quiet_admit}
 use Rattle.client_locks.proofs.Unread.{Unread, unread_none, unread_letter, unread_answer, unread_gone, unread_ignored}
 
@@ -185,7 +185,7 @@ module _ (o : Opening) (a : ℕ) (w : World) (num : Numbers) (P : Proper o w) (o
   clients_keeps (Kills f l p receivers) m = dies o a w num C p receivers []
       (eqb-true p.node a (both (p.node == a) (not (p.serial == 0))
       (both ((p.node == a) && not (p.serial == 0)) (not (is_dead v.watch p.serial)) m.tested.4).0).0)
-  clients_keeps Leaves m = closes o a (turned a None (turn_by o a w Leaves) w) num
+  clients_keeps Leaves m = leaver_closes o a (turned a None (turn_by o a w Leaves) w) num
       (quietly None (turn_by o a w Leaves) tt (unread_none o a w)
       (quiet_send_all a v o.bound _ Letter.Down (enter (Entry.Left a) (begun v)) refl
       (quiet_enter a v (Entry.Left a) (begun v) (quiet_begun a v))))

@@ -57,9 +57,9 @@ all_moved f lost got before after m = record {
 }
 
 -- where nothing came or went
-pub unmoved : {A : Type 0} (lost got before after : List A) → lost ≡ [] → got ≡ [] → Moved lost got before after
+pub letters_unmoved : {A : Type 0} (lost got before after : List A) → lost ≡ [] → got ≡ [] → Moved lost got before after
     → after ≡ before
-unmoved {A = A} lost got before after el eg m =
+letters_unmoved {A = A} lost got before after el eg m =
     m.now ∙ ap (λ (xs : List A). m.middle ++ xs) eg ∙ append-nil m.middle
     ∙ sym (m.was ∙ ap (λ (xs : List A). xs ++ m.middle) el)
 

@@ -17,7 +17,7 @@ use Rattle.moves.proofs.Rules.{Rule, Taken, May, Ordered, IsOpen, effect, turn_b
 use Rattle.moves.proofs.Rules.Rule.{HearsLock, MarksLockDown, WinsLock, GivesUpLock, CountsGivenBack, EndsDeletion, CountsLockDown, EndsDeletionDown}
 use Rattle.client_locks.proofs.RoundNumbers.{is_tried}
 use Rattle.client_locks.proofs.Calls.{call_of-drop, home_of_call}
-use Rattle.client_locks.proofs.Rounds.{mark_by, Answered, Own, Stays, Opened, answered}
+use Rattle.client_locks.proofs.Rounds.{mark_by, Answered, Own, Stays, Opened, mark_answered}
 use Rattle.client_locks.proofs.Mail.{turned}
 use Rattle.client_locks.proofs.Clients.{Numbers, call_at}
 use Rattle.client_locks.proofs.Numbers.{num_by, plus_if}
@@ -27,14 +27,14 @@ use Rattle.client_locks.proofs.Answering.{any_true, not_true_answers}
 use Rattle.client_locks.proofs.Steps.{is_step, call_after}
 
 -- the call, if there is one, is a try of this id at x
-abbrev pub tries : Id → ℕ → Option LockCall → Bool
-tries id x None = false
-tries id x (Some c) = is_tried id x c
+abbrev pub call_tries : Id → ℕ → Option LockCall → Bool
+call_tries id x None = false
+call_tries id x (Some c) = is_tried id x c
 
 -- nothing is tried: there is no call, or it waits for a retry
-abbrev pub rests : Option LockCall → Bool
-rests None = true
-rests (Some c) = is_waiting_call c.phase
+abbrev pub call_rests : Option LockCall → Bool
+call_rests None = true
+call_rests (Some c) = is_waiting_call c.phase
 
 -- the call is a deletion
 abbrev pub is_deleting : LockPhase → Bool
@@ -67,7 +67,7 @@ pub record Step (o : Opening) (a : ℕ) (r : Rule) (w : World) (num : Numbers) :
   pub nums : (p : Process) (id : Id) (x : ℕ) → num_by a r w num p id x ≡ plus_if
       (is_process call.holder p && (ended && is_tried id x call)) (num p id x)
   -- it goes on as the same try, or tries nothing any more
-  pub goes : (((id : Id) (x : ℕ) → tries id x next ≡ is_tried id x call) × (ended ≡ false)) ⊎ (rests next ≡ true)
+  pub goes : (((id : Id) (x : ℕ) → call_tries id x next ≡ is_tried id x call) × (ended ≡ false)) ⊎ (call_rests next ≡ true)
 
 -- whom a round asks doesn't change by answers and departures
 out_too : (m : Mark) → is_out (asked_too m) ≡ is_out m
@@ -87,7 +87,7 @@ out_by true = refl
 out_by false = refl
 
 pub asked_answer : (f : ℕ) (g : Bool) (r : Round) → owes r f ≡ true → (x : ℕ) → asked (answer f g r) x ≡ asked r x
-asked_answer f g r owed x = ap not (go ((answer f g r).mark x) (answered f g r owed x))
+asked_answer f g r owed x = ap not (go ((answer f g r).mark x) (mark_answered f g r owed x))
   where
     go : (m : Mark) → Answered f g x (r.mark x) m → is_out m ≡ is_out (r.mark x)
     go m (Own e) = out_by g ∙ sym (ap (λ (y : ℕ). is_out (r.mark y)) e ∙ owes_not_out (r.mark f) owed)
@@ -183,39 +183,39 @@ module _ (o : Opening) (a : ℕ) (w : World) (num : Numbers) (order : Ordered w)
       goes = inr refl;
     }
 
-  pub stepped : (r : Rule) → is_step r ≡ true → May o a w r → Step o a r w num
-  stepped (HearsLock f id g c r) h m = goes_on c (LockPhase.Asking r) m.tested.2 (HearsLock f id g c r)
+  pub call_stepped : (r : Rule) → is_step r ≡ true → May o a w r → Step o a r w num
+  call_stepped (HearsLock f id g c r) h m = goes_on c (LockPhase.Asking r) m.tested.2 (HearsLock f id g c r)
       (takes o a (HearsLock f id g c r)) (turn_by o a w (HearsLock f id g c r))
       (LockPhase.Asking (answer f g r)) refl refl refl
       (ap (put_call (in_phase (LockPhase.Asking (answer f g r)) c))
       (same_ask_rest o.bound a f g (Letter.SetLock c.id c.holder) r (w.node a)).calls)
       (λ b i. not_true_answers o a w b i (HearsLock f id g c r) refl m R) (λ p j x. refl)
       (λ j x. ap (λ (b : Bool). is_id c.id j && b) (asked_answer f g r m.tested.3 x))
-  stepped (MarksLockDown d c r) h m = goes_on c (LockPhase.Asking r) m.tested.1 (MarksLockDown d c r) None
+  call_stepped (MarksLockDown d c r) h m = goes_on c (LockPhase.Asking r) m.tested.1 (MarksLockDown d c r) None
       (turn_by o a w (MarksLockDown d c r)) (LockPhase.Asking (down d r)) refl refl refl refl
       (λ b i. refl) (λ p j x. refl) (λ j x. ap (λ (b : Bool). is_id c.id j && b) (asked_down d r x))
-  stepped (CountsGivenBack f c owing) h m = goes_on c (LockPhase.Deleting owing) m.tested.1 (CountsGivenBack f c owing)
+  call_stepped (CountsGivenBack f c owing) h m = goes_on c (LockPhase.Deleting owing) m.tested.1 (CountsGivenBack f c owing)
       (takes o a (CountsGivenBack f c owing)) (turn_by o a w (CountsGivenBack f c owing))
       (LockPhase.Deleting (at owing f false)) refl refl refl refl
       (λ b i. refl) (λ p j x. refl) (λ j x. refl)
-  stepped (CountsLockDown d c owing) h m = goes_on c (LockPhase.Deleting owing) m.tested.1
+  call_stepped (CountsLockDown d c owing) h m = goes_on c (LockPhase.Deleting owing) m.tested.1
       (CountsLockDown d c owing) None (turn_by o a w (CountsLockDown d c owing))
       (LockPhase.Deleting (at owing d false)) refl refl refl refl
       (λ b i. refl) (λ p j x. refl) (λ j x. refl)
-  stepped (WinsLock c r) h m = ends c (LockPhase.Asking r) m.tested.0 (WinsLock c r) None refl refl refl
+  call_stepped (WinsLock c r) h m = ends c (LockPhase.Asking r) m.tested.0 (WinsLock c r) None refl refl refl
       (λ p id x. ap (λ (b : Bool). plus_if (is_process c.holder p && b) (num p id x))
       (sym (tried_by c (LockPhase.Asking r) m.tested.0 id x)))
-  stepped (EndsDeletion f c owing) h m = ends c (LockPhase.Deleting owing) m.tested.1 (EndsDeletion f c owing)
+  call_stepped (EndsDeletion f c owing) h m = ends c (LockPhase.Deleting owing) m.tested.1 (EndsDeletion f c owing)
       (takes o a (EndsDeletion f c owing)) refl refl refl
       (λ p id x. no_plus_end (is_process c.holder p) (is_id c.id id) (num p id x)
       ∙ ap (λ (b : Bool). plus_if (is_process c.holder p && (true && b)) (num p id x))
       (sym (tried_by c (LockPhase.Deleting owing) m.tested.1 id x)))
-  stepped (EndsDeletionDown d c owing) h m = ends c (LockPhase.Deleting owing) m.tested.1
+  call_stepped (EndsDeletionDown d c owing) h m = ends c (LockPhase.Deleting owing) m.tested.1
       (EndsDeletionDown d c owing) None refl refl refl
       (λ p id x. no_plus_end (is_process c.holder p) (is_id c.id id) (num p id x)
       ∙ ap (λ (b : Bool). plus_if (is_process c.holder p && (true && b)) (num p id x))
       (sym (tried_by c (LockPhase.Deleting owing) m.tested.1 id x)))
-  stepped (GivesUpLock c r s) h m = go (is_spent c.retries) refl
+  call_stepped (GivesUpLock c r s) h m = go (is_spent c.retries) refl
     where
       spent_home : c.holder.node ≡ a
       spent_home = home c (LockPhase.Asking r) m.tested.0
@@ -252,7 +252,7 @@ module _ (o : Opening) (a : ℕ) (w : World) (num : Numbers) (order : Ordered w)
           same true d e = cc
           same false d e = phase_goes_on c LockPhase.Waiting (sym (ap is_deleting m.tested.0.phase)) d e
 
-          resting : (b : Bool) → rests (if b then None else Some waiting) ≡ true
+          resting : (b : Bool) → call_rests (if b then None else Some waiting) ≡ true
           resting true = refl
           resting false = refl
-  stepped _ h m = cc
+  call_stepped _ h m = cc

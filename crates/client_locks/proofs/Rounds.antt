@@ -100,9 +100,9 @@ pub data Answered (f : ℕ) (g : Bool) (x : ℕ) (old : Mark) : Mark → Type 0 
   Stays : Answered f g x old old
   Opened : Answered f g x old (asked_too old)
 
-pub answered : (f : ℕ) (g : Bool) (r : Round) → owes r f ≡ true → (x : ℕ)
+pub mark_answered : (f : ℕ) (g : Bool) (r : Round) → owes r f ≡ true → (x : ℕ)
     → Answered f g x (r.mark x) ((answer f g r).mark x)
-answered f g r owe x = go (opens f g r) refl
+mark_answered f g r owe x = go (opens f g r) refl
   where
     grants : (b : Bool) → opens f b r ≡ true → mark_by b ≡ Granted
     grants true e = refl

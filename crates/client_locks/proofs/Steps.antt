@@ -12,7 +12,7 @@ use Rattle.protocol_model.specs.Watch.{is_dead}
 use Rattle.protocol_model.specs.Node.{Node, LockCall, call_of}
 use Rattle.protocol_model.specs.Turn.{Turn, begun, enter}
 use Rattle.protocol_model.specs.Registrar.{registrar}
-use Rattle.protocol_model.specs.ClientLocks.{is_gone}
+use Rattle.protocol_model.specs.ClientLocks.{is_no_more}
 use Rattle.protocol_model.specs.World.{Opening, World, left, join_number}
 use Rattle.moves.proofs.Rules.{Rule, Taken, May, effect, turn_by}
 use Rattle.moves.proofs.Rules.Rule.{Exits, HearsAnswer, Finishes, Judges, TakesBack, Kills, AsksLock, FailsLock, HearsLock, MarksLockDown, WinsLock, GivesUpLock, DeletesLock, DeletesNothing, CountsGivenBack, EndsDeletion, CountsLockDown, EndsDeletionDown, Leaves}
@@ -61,7 +61,7 @@ call_after a t u w q next home calls p = go (is_process q p) refl
 module _ (o : Opening) (a : ℕ) (w : World) (num : Numbers) where
   -- who is dead now is gone
   gone_now : (q : Process) (u : Turn) → q.node ≡ a → is_dead u.node.watch q.serial ≡ true
-      → is_gone (turned a None u w) q ≡ true
+      → is_no_more (turned a None u w) q ≡ true
   gone_now q u home h = ap (λ (b : Bool). left w q.node || b) (ap (λ (v : Node). is_dead v.watch q.serial)
       (node_here w a u q.node home) ∙ h) ∙ or-true (left w q.node)
 
@@ -73,25 +73,25 @@ module _ (o : Opening) (a : ℕ) (w : World) (num : Numbers) where
   kill_home f l p receivers m = eqb-true p.node a (both (p.node == a) (not (p.serial == 0))
       (both ((p.node == a) && not (p.serial == 0)) _ m.tested.4).0).0
 
-  exit_gone : (p : Process) → May o a w (Exits p) → is_gone (effect o a (Exits p) w) p ≡ true
+  exit_gone : (p : Process) → May o a w (Exits p) → is_no_more (effect o a (Exits p) w) p ≡ true
   exit_gone p m = gone_now p (turn_by o a w (Exits p)) (exit_home p m) (dead_now (w.node a).watch.dead p.serial)
 
   kill_gone : (f : ℕ) (l : Letter) (p : Process) (receivers : Nodes) → May o a w (Kills f l p receivers)
-      → is_gone (effect o a (Kills f l p receivers) w) p ≡ true
+      → is_no_more (effect o a (Kills f l p receivers) w) p ≡ true
   kill_gone f l p receivers m = gone_now p (turn_by o a w (Kills f l p receivers)) (kill_home f l p receivers m)
       (dead_now (w.node a).watch.dead p.serial)
 
   -- a process that isn't gone isn't the one that died
-  not_it : (q p : Process) (w1 : World) → is_gone w1 q ≡ true → is_gone w1 p ≡ false → is_process q p ≡ false
+  not_it : (q p : Process) (w1 : World) → is_no_more w1 q ≡ true → is_no_more w1 p ≡ false → is_process q p ≡ false
   not_it q p w1 gone up = go (is_process q p) refl
     where
       go : (b : Bool) → is_process q p ≡ b → b ≡ false
       go false e = refl
-      go true e = absurd (cc (subst (λ (k : Process). is_gone w1 k ≡ true) (is_process_same q p e) gone, up))
+      go true e = absurd (cc (subst (λ (k : Process). is_no_more w1 k ≡ true) (is_process_same q p e) gone, up))
 
   -- the numbers stay
   pub nums_same : (r : Rule) → is_counting r ≡ false → May o a w r → (p : Process) (id : Id) (x : ℕ)
-      → is_gone (effect o a r w) p ≡ false → num_by a r w num p id x ≡ num p id x
+      → is_no_more (effect o a r w) p ≡ false → num_by a r w num p id x ≡ num p id x
   nums_same (Exits q) h m p id x up = ap (λ (b : Bool). none_if b (num p id x))
       (not_it q p (effect o a (Exits q) w) (exit_gone q m) up)
   nums_same (Kills f l q receivers) h m p id x up = ap (λ (b : Bool). none_if b (num p id x))
@@ -138,7 +138,7 @@ module _ (o : Opening) (a : ℕ) (w : World) (num : Numbers) where
 
   -- a rule of no lock call leaves the call of each process that isn't gone, and begins none
   pub calls_aside : (r : Rule) → suits Aside r ≡ true → May o a w r → (p : Process)
-      → is_gone (effect o a r w) p ≡ false → call_at (effect o a r w) p ≡ call_at w p
+      → is_no_more (effect o a r w) p ≡ false → call_at (effect o a r w) p ≡ call_at w p
   calls_aside (Exits q) h m p up = call_after a None (turn_by o a w (Exits q)) w q None (exit_home q m)
       (λ k. call_of-drop k q (w.node a).calls) p
       ∙ ap (λ (b : Bool). if b then None else call_at w p) (not_it q p (effect o a (Exits q) w) (exit_gone q m) up)

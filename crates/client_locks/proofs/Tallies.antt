@@ -6,14 +6,14 @@ use Rattle.std.proofs.lemmas.Bool.{eqb-true, eq-eqb}
 use Rattle.registry_model.specs.Process.{Process}
 use Rattle.protocol_model.specs.Letter.{Id, Client}
 use Rattle.protocol_model.specs.Event.{Answer, Refusal}
-use Rattle.protocol_model.specs.ClientLocks.{Try, gives, is_gone, Tally, tallied, tally_after, tally_from, number, Exclusion}
+use Rattle.protocol_model.specs.ClientLocks.{Try, gives, is_no_more, Tally, tallied, tally_after, tally_from, holds_count, Exclusion}
 use Rattle.protocol_model.specs.World.{Opening, World, WorldEvent, place, opening_world, refusal, happens, accepted, answers, turn_of, run}
 use Rattle.moves.proofs.Rules.{answers_by}
 use Rattle.moves.proofs.Indices.{both}
 use Rattle.walk.proofs.Walk.{OrderedWalk, walked_in_order}
 use Rattle.walk.proofs.Orders.{ordered_keeps}
 use Rattle.client_locks.proofs.RoundNumbers
-use Rattle.client_locks.proofs.RoundNumbers.{number_after, number_from}
+use Rattle.client_locks.proofs.RoundNumbers.{round_count_after, round_count_from}
 use Rattle.client_locks.proofs.Clients.{Numbers}
 use Rattle.client_locks.proofs.Opening.{no_numbers}
 use Rattle.client_locks.proofs.Told.{chain_of}
@@ -59,36 +59,36 @@ module _ (o : Opening) (F : World → Type 0) (G : Grounds o F) where
       (id : Id) (x : ℕ) → Fits w p k.last → Fits (run o w es) p (tally_from o w es p id x k).last
   fits_behind [] w num S k p id x fit = fit
   fits_behind (e ∷ es) w num S k p id x fit =
-      fits_behind es (happens o w e) (λ q i y. number_after o w e q i y (num q i y)) (event_keeps o F G w e num S)
+      fits_behind es (happens o w e) (λ q i y. round_count_after o w e q i y (num q i y)) (event_keeps o F G w e num S)
       (tally_after o w e p id x k) p id x (fits_keeps w e num S k p id x fit)
 
   -- after an event the tally has the number by the rounds
   tally_keeps : (w : World) (e : WorldEvent) (num : Numbers) → State o F G w num → (k : Tally) (p : Process) (id : Id)
       (x : ℕ) → Fits w p k.last → k.number ≡ num p id x
-      → (tally_after o w e p id x k).number ≡ number_after o w e p id x (num p id x)
+      → (tally_after o w e p id x k).number ≡ round_count_after o w e p id x (num p id x)
   tally_keeps w e num S k p id x fit same = go (refusal o w e) refl
     where
       go : (r : Option Refusal) → refusal o w e ≡ r → (if is_none r then tallied o w e p id x k else k).number
-          ≡ (if is_none r then RoundNumbers.counted o w e p id x (num p id x) else num p id x)
+          ≡ (if is_none r then RoundNumbers.next_round_count o w e p id x (num p id x) else num p id x)
       go (Some r) h = same
-      go None h = ap (λ (b : Bool). if is_gone (happens o w e) p then 0 else (if b then k.number + 1 else
+      go None h = ap (λ (b : Bool). if is_no_more (happens o w e) p then 0 else (if b then k.number + 1 else
           (if gives w e p id x then k.number - 1 else k.number)))
           ((accepted_tried w e num S p k.last fit h).won id x)
-          ∙ ap (λ (n : ℕ). RoundNumbers.counted o w e p id x n) same
+          ∙ ap (λ (n : ℕ). RoundNumbers.next_round_count o w e p id x n) same
 
   -- so the numbers are one
   same_numbers : (es : List WorldEvent) (w : World) (num : Numbers) → State o F G w num → (k : Tally) (p : Process)
       (id : Id) (x : ℕ) → Fits w p k.last → k.number ≡ num p id x
-      → (tally_from o w es p id x k).number ≡ number_from o w es p id x (num p id x)
+      → (tally_from o w es p id x k).number ≡ round_count_from o w es p id x (num p id x)
   same_numbers [] w num S k p id x fit same = same
   same_numbers (e ∷ es) w num S k p id x fit same =
-      same_numbers es (happens o w e) (λ q i y. number_after o w e q i y (num q i y)) (event_keeps o F G w e num S)
+      same_numbers es (happens o w e) (λ q i y. round_count_after o w e q i y (num q i y)) (event_keeps o F G w e num S)
       (tally_after o w e p id x k) p id x (fits_keeps w e num S k p id x fit)
       (tally_keeps w e num S k p id x fit same)
 
   -- after every list of events
   pub numbers_agree : (es : List WorldEvent) (p : Process) (id : Id) (x : ℕ)
-      → number o es p id x ≡ RoundNumbers.number o es p id x
+      → holds_count o es p id x ≡ RoundNumbers.round_count o es p id x
   numbers_agree es p id x = same_numbers es (opening_world o) no_numbers (opening_state o F G)
       (record { number = 0; last = None }) p id x (fits_opens o p) refl
 

@@ -10,14 +10,14 @@ use Rattle.protocol_model.specs.Letter.{Id, is_id, Client, Letter}
 use Rattle.protocol_model.specs.Node.{Node, LockPhase, LockCall, Target, Retries, Times, call_of, targets}
 use Rattle.protocol_model.specs.Event.{Call, Event, Answer}
 use Rattle.protocol_model.specs.Client.{new_call, in_phase}
-use Rattle.protocol_model.specs.ClientLocks.{gives, is_gone}
+use Rattle.protocol_model.specs.ClientLocks.{gives, is_no_more}
 use Rattle.protocol_model.specs.World.{Opening, World, WorldEvent, At, Deliver, place}
 use Rattle.moves.proofs.Rules.{Rule, MayAll, Ordered, effect, effects, turn_by, answers_by, first_by, first_by_letter}
 use Rattle.moves.proofs.Rules.Rule.{CallsLock, AsksLock, FailsLock, DeletesLock, DeletesNothing}
 use Rattle.moves.proofs.Indices.{both}
 use Rattle.walk.proofs.ChainKinds.{Aside, Again, Hearing, suits}
 use Rattle.walk.proofs.Walk.{InOrder}
-use Rattle.client_locks.proofs.RoundNumbers.{is_won}
+use Rattle.client_locks.proofs.RoundNumbers.{is_won_by_round}
 use Rattle.client_locks.proofs.Calls.{call_of-drop, holder_of_call}
 use Rattle.client_locks.proofs.Clients.{Numbers, call_at, part_same, node_here}
 use Rattle.client_locks.proofs.Numbers.{num_by, nums_by, plus_if, less_if}
@@ -42,14 +42,14 @@ retry_calm v r h = aside_calm r h
 
 -- what an event is to make of a number k
 abbrev pub told_by : World → WorldEvent → List Answer → Process → Id → ℕ → ℕ → ℕ
-told_by w e ss p id x k = if is_won id x ss (call_at w p) then k + 1 else (if gives w e p id x then k - 1 else k)
+told_by w e ss p id x k = if is_won_by_round id x ss (call_at w p) then k + 1 else (if gives w e p id x then k - 1 else k)
 
 told_none : (w : World) (e : WorldEvent) (ss : List Answer) (p : Process) (id : Id) (x k : ℕ)
-    → is_won id x ss (call_at w p) ≡ false → gives w e p id x ≡ false → told_by w e ss p id x k ≡ k
+    → is_won_by_round id x ss (call_at w p) ≡ false → gives w e p id x ≡ false → told_by w e ss p id x k ≡ k
 told_none w e ss p id x k hw hg = rw (hw, hg) refl
 
 told_won : (w : World) (e : WorldEvent) (ss : List Answer) (p : Process) (id : Id) (x k : ℕ) → gives w e p id x ≡ false
-    → told_by w e ss p id x k ≡ plus_if (is_won id x ss (call_at w p)) k
+    → told_by w e ss p id x k ≡ plus_if (is_won_by_round id x ss (call_at w p)) k
 told_won w e ss p id x k hg = rw hg refl
 
 -- the chain of an event
@@ -60,7 +60,7 @@ module _ (o : Opening) (kept : OrderedKept o) (w : World) (num : Numbers) (order
     (N : Numbered o w) where
   -- the chain's numbers are those that the event and its answers tell, and calls stay numbered
   pub record Tied (e : WorldEvent) (rest : List Rule) : Type 0 where
-    pub numbers : (p : Process) → is_gone (effects o (place e) (chain_of o w e rest) w) p ≡ false → (id : Id) (x : ℕ)
+    pub numbers : (p : Process) → is_no_more (effects o (place e) (chain_of o w e rest) w) p ≡ false → (id : Id) (x : ℕ)
         → nums_by o (place e) (chain_of o w e rest) w num p id x ≡ told_by w e
         (answers_by o (place e) (chain_of o w e rest) w) p id x (num p id x)
     pub numbered : Numbered o (effects o (place e) (chain_of o w e rest) w)
@@ -158,7 +158,7 @@ module _ (o : Opening) (kept : OrderedKept o) (w : World) (num : Numbers) (order
     -- nothing is counted
     try_numbers : (s : Rule) (rest : List Rule) → list_all is_calm (CallsLock ∷ s ∷ rest) ≡ true
         → MayAll o a (CallsLock ∷ s ∷ rest) w
-        → (k : Process) → is_gone (effects o a (CallsLock ∷ s ∷ rest) w) k ≡ false → (id : Id) (x : ℕ)
+        → (k : Process) → is_no_more (effects o a (CallsLock ∷ s ∷ rest) w) k ≡ false → (id : Id) (x : ℕ)
         → nums_by o a (CallsLock ∷ s ∷ rest) w num k id x ≡ told_by w attempt
         (answers_by o a (CallsLock ∷ s ∷ rest) w) k id x (num k id x)
     try_numbers s rest calm m k up id x = calm_nums o a (CallsLock ∷ s ∷ rest) w num calm m k up id x
@@ -209,7 +209,7 @@ module _ (o : Opening) (kept : OrderedKept o) (w : World) (num : Numbers) (order
         home = beginner_home o a (effect o a CallsLock w) new_try order1 m.1.0.tested.0
 
   told_gives : (e : WorldEvent) (ss : List Answer) (p : Process) (id : Id) (x k : ℕ)
-      → is_won id x ss (call_at w p) ≡ false → told_by w e ss p id x k ≡ less_if (gives w e p id x) k
+      → is_won_by_round id x ss (call_at w p) ≡ false → told_by w e ss p id x k ≡ less_if (gives w e p id x) k
   told_gives e ss p id x k hw = rw hw refl
 
   and_assoc : (b c d : Bool) → (b && (c && d)) ≡ ((b && c) && d)

@@ -11,7 +11,7 @@ use Rattle.protocol_model.specs.Round.{asked}
 use Rattle.protocol_model.specs.Letter.{Id, Client, is_id}
 use Rattle.protocol_model.specs.Node.{LockPhase, LockCall, Target, Retries, call_of, targets}
 use Rattle.protocol_model.specs.Event.{Call, Event, Answer, is_waiting_call}
-use Rattle.protocol_model.specs.ClientLocks.{Try, try_of, tried_again, is_refused, last_try, is_won}
+use Rattle.protocol_model.specs.ClientLocks.{Try, try_of, tried_again, waits_for_retry, last_try, is_won}
 use Rattle.protocol_model.specs.World.{Opening, in_world, World, WorldEvent, At, Deliver, place, accepted, turn_of}
 use Rattle.moves.proofs.Rules.{Rule, MayAll, Ordered, effect, effects, answers_by}
 use Rattle.moves.proofs.Rules.Rule.{CallsLock, AsksLock, FailsLock, DeletesLock, DeletesNothing}
@@ -19,7 +19,7 @@ use Rattle.registry_model.proofs.Updates.{by_test}
 use Rattle.moves.proofs.Indices.{both}
 use Rattle.walk.proofs.ChainKinds.{Aside, Again, Hearing, suits}
 use Rattle.walk.proofs.Walk.{InOrder}
-use Rattle.client_locks.proofs.Beginnings.{either, numbered, Begins, number_taken, same_targets, attempt, new_try, asking, deletion, fresh, deleting, asks, fails, deletes, deletes_nothing, deletes_silent, nothing_silent}
+use Rattle.client_locks.proofs.Beginnings.{either_rule, numbered, Begins, number_taken, same_targets, attempt, new_try, asking, deletion, fresh, deleting, try_asks, try_fails, deletes, deletes_nothing, deletes_silent, nothing_silent}
 use Rattle.client_locks.proofs.RoundNumbers
 use Rattle.client_locks.proofs.RoundNumbers.{is_tried}
 use Rattle.client_locks.proofs.Ids.{is_process_same}
@@ -44,7 +44,7 @@ waiting_not_deleting (LockPhase.Deleting owing) h = cc
 both_lost : (p : Process) (id : Id) (x : ℕ) (ss : List Answer) (t : Option Try) (k : Option LockCall)
     → ((s : Try) → t ≡ Some s → any_true p.node s.number ss ≡ false)
     → ((c : LockCall) → k ≡ Some c → any_true c.holder.node c.number ss ≡ false)
-    → is_won p id x ss t ≡ RoundNumbers.is_won id x ss k
+    → is_won p id x ss t ≡ RoundNumbers.is_won_by_round id x ss k
 both_lost p id x ss t None new old = lost_without p id x ss t new
 both_lost p id x ss t (Some c) new old = lost_without p id x ss t new
     ∙ sym (ap (λ (b : Bool). is_tried id x c && b) (old c refl) ∙ and-false (is_tried id x c))
@@ -53,7 +53,7 @@ module _ (o : Opening) (kept : OrderedKept o) (w : World) (num : Numbers) (order
     (N : Numbered o w) (p : Process) (t : Option Try) (F : Fits w p t) where
   -- what is shown of an event: what it gives, and that the last try behind it fits
   pub record Tried (e : WorldEvent) (ss : List Answer) (end : World) : Type 0 where
-    pub won : (id : Id) (x : ℕ) → is_won p id x ss (last_try w e p t) ≡ RoundNumbers.is_won id x ss (call_at w p)
+    pub won : (id : Id) (x : ℕ) → is_won p id x ss (last_try w e p t) ≡ RoundNumbers.is_won_by_round id x ss (call_at w p)
     pub fits : Fits end p (last_try w e p t)
 
   -- of an event that is this chain
@@ -134,7 +134,7 @@ module _ (o : Opening) (kept : OrderedKept o) (w : World) (num : Numbers) (order
     try_won : (s : Rule) (rest : List Rule) → list_all is_calm (CallsLock ∷ s ∷ rest) ≡ true
         → MayAll o a (CallsLock ∷ s ∷ rest) w → (id : Id) (x : ℕ)
         → is_won p id x (answers_by o a (CallsLock ∷ s ∷ rest) w) (last_try w event p t)
-        ≡ RoundNumbers.is_won id x (answers_by o a (CallsLock ∷ s ∷ rest) w) (call_at w p)
+        ≡ RoundNumbers.is_won_by_round id x (answers_by o a (CallsLock ∷ s ∷ rest) w) (call_at w p)
     try_won s rest calm m id x = both_lost p id x (answers_by o a (CallsLock ∷ s ∷ rest) w)
         (last_try w event p t) (call_at w p)
         (λ k e. calm_answers o a (CallsLock ∷ s ∷ rest) w calm m R p.node k.number)
@@ -163,7 +163,7 @@ module _ (o : Opening) (kept : OrderedKept o) (w : World) (num : Numbers) (order
         first = asking o w a q r z target retries
 
         B : Begins o w a q (AsksLock new) (Some first)
-        B = asks o w a q r z target kept order rest retries m
+        B = try_asks o w a q r z target kept order rest retries m
 
         all : (id : Id) (x : ℕ) → is_tried id x first ≡ (is_id (Client r z) id && targets
             (w.node a).replica.members target x)
@@ -187,7 +187,7 @@ module _ (o : Opening) (kept : OrderedKept o) (w : World) (num : Numbers) (order
     }
       where
         B : Begins o w a q (FailsLock new) None
-        B = fails o w a q r z target kept order rest retries m
+        B = try_fails o w a q r z target kept order rest retries m
 
   -- a deletion
   module _ (a : ℕ) (q : Process) (r z : Text) (target : Target) where
@@ -265,18 +265,18 @@ module _ (o : Opening) (kept : OrderedKept o) (w : World) (num : Numbers) (order
         go (Some s) i false j = let same : s ≡ s2 = cc j in (s, (i, sym (ap (λ (y : Try). y.number) same)))
 
     -- an open call is of the last try
-    next_own : (b : Bool) → ((a == p.node) && is_refused w p) ≡ b → (d : LockCall)
+    next_own : (b : Bool) → ((a == p.node) && waits_for_retry w p) ≡ b → (d : LockCall)
         → call_at (accepted o w again) p ≡ Some d → is_deleting d.phase ≡ false
         → (s : Try) × ((next_try b ≡ Some s) × IsTryOf s d)
     next_own b i d e hd = go (was_open p d e) b i
       where
-        refused_by : (c : LockCall) → call_at w p ≡ Some c → is_refused w p ≡ is_waiting_call c.phase
+        refused_by : (c : LockCall) → call_at w p ≡ Some c → waits_for_retry w p ≡ is_waiting_call c.phase
         refused_by c f = ap (λ (k : Option LockCall). elim k [ None ↦ false | Some c ↦ is_waiting_call c.phase ]) f
 
         tried : (s : Try) → t ≡ Some s → tried_again members t ≡ Some (try_of members s.number s.id s.target)
         tried s f = ap (tried_again members) f
 
-        go : Was p.node p d → (g : Bool) → ((a == p.node) && is_refused w p) ≡ g
+        go : Was p.node p d → (g : Bool) → ((a == p.node) && waits_for_retry w p) ≡ g
             → (s : Try) × ((next_try g ≡ Some s) × IsTryOf s d)
         go (inl f) false j = F.own d f hd
         go (inl f) true j =
@@ -289,13 +289,13 @@ module _ (o : Opening) (kept : OrderedKept o) (w : World) (num : Numbers) (order
                   number = known.1.1.number;
                   id = known.1.1.id;
                   target = known.1.1.target;
-                  asks = inl (sym (refused_by d f) ∙ (both (a == p.node) (is_refused w p) j).1);
+                  asks = inl (sym (refused_by d f) ∙ (both (a == p.node) (waits_for_retry w p) j).1);
                 },
               ),
             )
         go (inr f) false j =
-            let found : ((a == p.node) && is_refused w p) ≡ true =
-            ap (λ (y : Bool). y && is_refused w p) (eq-eqb a p.node (sym f.1.1.1))
+            let found : ((a == p.node) && waits_for_retry w p) ≡ true =
+            ap (λ (y : Bool). y && waits_for_retry w p) (eq-eqb a p.node (sym f.1.1.1))
             ∙ refused_by f.0 f.1.0 ∙ f.1.1.0.refused in
             absurd (cc (j, found))
         go (inr f) true j =
@@ -333,11 +333,11 @@ module _ (o : Opening) (kept : OrderedKept o) (w : World) (num : Numbers) (order
           (λ s e. calm_answers o a rest w calm m R p.node s.number)
           (λ c e. calm_answers o a rest w calm m R c.holder.node c.number);
       fits = record {
-        own = next_own ((a == p.node) && is_refused w p) refl;
-        alone = λ s e q c k f n. alone s (same_number ((a == p.node) && is_refused w p) s e) q c k (was_open q c f) n;
+        own = next_own ((a == p.node) && waits_for_retry w p) refl;
+        alone = λ s e q c k f n. alone s (same_number ((a == p.node) && waits_for_retry w p) s e) q c k (was_open q c f) n;
         below = λ s e.
             let one : (s0 : Try) × ((t ≡ Some s0) × (s.number ≡ s0.number)) = same_number
-            ((a == p.node) && is_refused w p) s e in
+            ((a == p.node) && waits_for_retry w p) s e in
             omega (arith, F.below one.0 one.1.0, one.1.1, last p.node);
       };
     }
@@ -361,11 +361,11 @@ module _ (o : Opening) (kept : OrderedKept o) (w : World) (num : Numbers) (order
   call_tried a (Call.OnName c) rest m h = aside_tried (At a (Event.Calling (Call.OnName c))) rest refl m h
   call_tried a (Call.JoinBy j) rest m h = aside_tried (At a (Event.Calling (Call.JoinBy j))) rest refl m h
   call_tried a (Call.SetLock q r z target retries) rest m h =
-      either o w a (TriedBy (attempt o w a q r z target retries)) _ _ h.0 h.1.0 rest h.1.1.0 h.1.1.1 m
+      either_rule o w a (TriedBy (attempt o w a q r z target retries)) _ _ h.0 h.1.0 rest h.1.1.0 h.1.1.1 m
       (λ k. asked_tried a q r z target retries h.1.0 k h.1.1.2)
       (λ k. failed_tried a q r z target retries h.1.0 k h.1.1.2)
   call_tried a (Call.DelLock q r z target) rest m h =
-      either o w a (TriedBy (deletion o w a q r z target)) _ _ h.0 h.1.0 rest h.1.1.0 h.1.1.1 m
+      either_rule o w a (TriedBy (deletion o w a q r z target)) _ _ h.0 h.1.0 rest h.1.1.0 h.1.1.1 m
       (λ k. deleted_tried a q r z target h.1.0 k h.1.1.2)
       (λ k. deleted_nothing_tried a q r z target h.1.0 k h.1.1.2)
 

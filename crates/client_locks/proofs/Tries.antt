@@ -25,7 +25,7 @@ use Rattle.client_locks.proofs.Clients.{Numbers, call_at}
 use Rattle.client_locks.proofs.Growing.{Replying, replying_keeps}
 use Rattle.client_locks.proofs.Answering.{is_true, any_true, not_true_answers}
 use Rattle.client_locks.proofs.Steps.{is_step, calls_from}
-use Rattle.client_locks.proofs.Ongoing.{is_deleting, GoesOnFrom, Step, tries, rests, stepped}
+use Rattle.client_locks.proofs.Ongoing.{is_deleting, GoesOnFrom, Step, call_tries, call_rests, call_stepped}
 use Rattle.client_locks.proofs.Chains.{OrderedKept, aside_or_step, aside_gives_none, won_untried, rest_tries}
 use Rattle.client_locks.proofs.HeardChains.{Waits, answered_none}
 use Rattle.client_locks.proofs.Numbering.{Numbered, last_effect}
@@ -85,7 +85,7 @@ module _ (o : Opening) (a : ℕ) (kept : OrderedKept o) where
     where
       one : suits Hearing r ≡ true → (t : Bool) → is_step r ≡ t → any_true b m (turn_by o a w r).answers ≡ false
       one heard true e =
-          let S : Step o a r w num = stepped o a w num order R r e k.0 in
+          let S : Step o a r w num = call_stepped o a w num order R r e k.0 in
           S.answers b m ∙ ap (λ (t : Bool). S.ended && (t && (S.call.number == m))) other ∙ and-false S.ended
       one heard false e = not_true_answers o a w b m r (aside_gives_none r (aside_or_step r heard e)) k.0 R
 
@@ -111,16 +111,16 @@ module _ (o : Opening) (a : ℕ) (kept : OrderedKept o) where
               → (is_waiting_call c.phase ≡ true) ⊎ ((id : Id) (x : ℕ) → is_tried id x c ≡ (is_id s.id id && s.asks x))
           asks s T c j = elim S.goes [
             | inl g ↦ by_asks g.0 T.asks
-            | inr rest ↦ inl (sym (ap rests j) ∙ rest)
+            | inr rest ↦ inl (sym (ap call_rests j) ∙ rest)
           ]
             where
-              by_asks : ((id : Id) (x : ℕ) → tries id x S.next ≡ is_tried id x S.call)
+              by_asks : ((id : Id) (x : ℕ) → call_tries id x S.next ≡ is_tried id x S.call)
                   → (is_waiting_call S.call.phase ≡ true)
                   ⊎ ((id : Id) (x : ℕ) → is_tried id x S.call ≡ (is_id s.id id && s.asks x))
                   → (is_waiting_call c.phase ≡ true)
                   ⊎ ((id : Id) (x : ℕ) → is_tried id x c ≡ (is_id s.id id && s.asks x))
               by_asks g (inl waits) = absurd (cc (waits, S.busy))
-              by_asks g (inr same) = inr (λ id x. sym (ap (tries id x) j) ∙ g id x ∙ same id x)
+              by_asks g (inr same) = inr (λ id x. sym (ap (call_tries id x) j) ∙ g id x ∙ same id x)
 
           own : (c : LockCall) → is_deleting c.phase ≡ false → (b : Bool) → is_process S.call.holder p ≡ b
               → (if b then S.next else call_at w p) ≡ Some c → (s : Try) × ((t ≡ Some s) × IsTryOf s c)
@@ -151,7 +151,7 @@ module _ (o : Opening) (a : ℕ) (kept : OrderedKept o) where
           alone s e q c h n false i j = F.alone s e q c h j n
 
       go : (b : Bool) → is_step r ≡ b → Fits (effect o a r w) p t
-      go true e = by_step (stepped o a w num order R r e m)
+      go true e = by_step (call_stepped o a w num order R r e m)
       go false e =
           let plain : suits Aside r ≡ true = aside_or_step r heard e in
           record {
@@ -175,7 +175,7 @@ module _ (o : Opening) (a : ℕ) (kept : OrderedKept o) where
   pub won_heard : (rs : List Rule) (w : World) (num : Numbers) (p : Process) (t : Option Try)
       → list_all (suits Hearing) rs ≡ true → MayAll o a rs w → Ordered w → Replying w → Fits w p t
       → (id : Id) (x : ℕ)
-      → is_won p id x (answers_by o a rs w) t ≡ RoundNumbers.is_won id x (answers_by o a rs w) (call_at w p)
+      → is_won p id x (answers_by o a rs w) t ≡ RoundNumbers.is_won_by_round id x (answers_by o a rs w) (call_at w p)
   won_heard rs w num p t heard m order R F id x = go (call_at w p) refl
     where
       ss : List Answer
@@ -201,7 +201,7 @@ module _ (o : Opening) (a : ℕ) (kept : OrderedKept o) where
 
       -- the call asks by its round whom the try asks
       busy : (c : LockCall) → call_at w p ≡ Some c → is_waiting_call c.phase ≡ false → is_deleting c.phase ≡ false
-          → is_won p id x ss t ≡ RoundNumbers.is_won id x ss (Some c)
+          → is_won p id x ss t ≡ RoundNumbers.is_won_by_round id x ss (Some c)
       busy c e hw hd =
           let was : (s : Try) × ((t ≡ Some s) × IsTryOf s c) = F.own c e hd in
           ap (is_won p id x ss) was.1.0
@@ -216,12 +216,12 @@ module _ (o : Opening) (a : ℕ) (kept : OrderedKept o) where
           asks s (inl waiting) = absurd (cc (waiting, hw))
           asks s (inr same) = sym (same id x)
 
-      go : (k : Option LockCall) → call_at w p ≡ k → is_won p id x ss t ≡ RoundNumbers.is_won id x ss k
+      go : (k : Option LockCall) → call_at w p ≡ k → is_won p id x ss t ≡ RoundNumbers.is_won_by_round id x ss k
       go None e = lost (λ c f. absurd (cc (e, f)))
       go (Some c) e = by_phase (is_waiting_call c.phase) (is_deleting c.phase) refl refl
         where
           by_phase : (b d : Bool) → is_waiting_call c.phase ≡ b → is_deleting c.phase ≡ d
-              → is_won p id x ss t ≡ RoundNumbers.is_won id x ss (Some c)
+              → is_won p id x ss t ≡ RoundNumbers.is_won_by_round id x ss (Some c)
           by_phase true d hw hd =
               lost (λ k f. let same : c ≡ k = cc (e, f) in inl (subst (λ (y : LockCall). is_waiting_call y.phase ≡ true)
               same hw))

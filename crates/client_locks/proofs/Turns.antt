@@ -17,9 +17,9 @@ use Rattle.moves.proofs.Invariants.{IsUp}
 use Rattle.client_locks.proofs.Ids.{is_process_same, is_process_self}
 use Rattle.client_locks.proofs.LockTables.{Sound}
 use Rattle.client_locks.proofs.Sessions.{Ask, Echo, view, Live, live_along}
-use Rattle.client_locks.proofs.Mail.{asks, echoes, unmoved, read_on, sent_on, turned, is_named, all_named, ask_of, echo_of}
+use Rattle.client_locks.proofs.Mail.{asks, echoes, letters_unmoved, read_on, sent_on, turned, is_named, all_named, ask_of, echo_of}
 use Rattle.client_locks.proofs.Plain.{all_plain, asks_plain_sent, echoes_plain_sent, named_plain_sent}
-use Rattle.client_locks.proofs.Clients.{Numbers, lives, IsLive, live_parts, call_at, Holding, RoundedIn, Clients, kept, part_same, node_here, node_there, Mail, mail}
+use Rattle.client_locks.proofs.Clients.{Numbers, lives, IsLive, live_parts, call_at, Holding, RoundedIn, Clients, kept, part_same, node_here, node_there, Mail, mail_moves}
 
 -- a list of letters that brings nothing
 nothing_if : {A : Type 0} (f : List Letter → List A) (b : Bool) (ls : List Letter) → f ls ≡ [] → f [] ≡ []
@@ -78,7 +78,7 @@ module _ (o : Opening) (a : ℕ) (t : Option Taken) (u : Turn) (w : World) where
         session : (p : Process) (x : ℕ) → lives o w p ≡ true → IsUp o w x → Holding (turned a t u w) num p x
         session p x h up =
             let live : IsLive o w p = live_parts o w p h in
-            let m : Mail a t u w p x = mail o a t u w front p x live.up up.1 in
+            let m : Mail a t u w p x = mail_moves o a t u w front p x live.up up.1 in
             let none : (asks p (read_on a t p.node x) ≡ []) × (echoes p (read_on a t x p.node) ≡ []) = unread p x h up
             in
             live_along (view (call_at w p) x) (view (call_at (turned a t u w) p) x)
@@ -87,11 +87,11 @@ module _ (o : Opening) (a : ℕ) (t : Option Taken) (u : Turn) (w : World) where
             (λ id. count id p (w.node x).locks) (λ id. count id p (at w.node a u.node x).locks)
             (λ id. num p id x) (λ id. num p id x)
             (ap (λ (c : Option LockCall). view c x) (same_call p))
-            (unmoved (asks p (read_on a t p.node x)) (asks p (sent_on a u p.node x)) (asks p (w.links.queue p.node x))
+            (letters_unmoved (asks p (read_on a t p.node x)) (asks p (sent_on a u p.node x)) (asks p (w.links.queue p.node x))
             (asks p ((turned a t u w).links.queue p.node x))
             none.0 (nothing_if (asks p) (p.node == a) (sent_to x u.sends)
             (asks_plain_sent a x u.sends p S.sends live.client) refl) m.ups)
-            (unmoved (echoes p (read_on a t x p.node)) (echoes p (sent_on a u x p.node))
+            (letters_unmoved (echoes p (read_on a t x p.node)) (echoes p (sent_on a u x p.node))
             (echoes p (w.links.queue x p.node)) (echoes p ((turned a t u w).links.queue x p.node))
             none.1 (nothing_if (echoes p) (x == a) (sent_to p.node u.sends)
             (echoes_plain_sent a p.node u.sends p S.sends) refl) m.downs)
@@ -217,18 +217,18 @@ module _ (o : Opening) (a : ℕ) (t : Option Taken) (u : Turn) (w : World) (num 
           → Holding (turned a t u w) num2 p x
       other p x ne h up =
           let live : IsLive o w p = live_parts o w p h in
-          let m : Mail a t u w p x = mail o a t u w front p x live.up up.1 in
+          let m : Mail a t u w p x = mail_moves o a t u w front p x live.up up.1 in
           live_along (view (call_at w p) x) (view (call_at (turned a t u w) p) x)
           (asks p (w.links.queue p.node x)) (asks p ((turned a t u w).links.queue p.node x))
           (echoes p (w.links.queue x p.node)) (echoes p ((turned a t u w).links.queue x p.node))
           (λ id. count id p (w.node x).locks) (λ id. count id p (at w.node a u.node x).locks)
           (λ id. num p id x) (λ id. num2 p id x)
           (ap (λ (c : Option LockCall). view c x) (same_call p ne))
-          (unmoved (asks p (read_on a t p.node x)) (asks p (sent_on a u p.node x)) (asks p (w.links.queue p.node x))
+          (letters_unmoved (asks p (read_on a t p.node x)) (asks p (sent_on a u p.node x)) (asks p (w.links.queue p.node x))
           (asks p ((turned a t u w).links.queue p.node x))
           (H.ask p p.node x) (nothing_if (asks p) (p.node == a) (sent_to x u.sends)
           (ap (asks p) (D.sent x) ∙ no_ask_if p l (L.other p ne) (whom x)) refl) m.ups)
-          (unmoved (echoes p (read_on a t x p.node)) (echoes p (sent_on a u x p.node))
+          (letters_unmoved (echoes p (read_on a t x p.node)) (echoes p (sent_on a u x p.node))
           (echoes p (w.links.queue x p.node)) (echoes p ((turned a t u w).links.queue x p.node))
           (H.other p x p.node ne) (no_echo_sent p x) m.downs)
           (same_counts p x)
@@ -241,7 +241,7 @@ module _ (o : Opening) (a : ℕ) (t : Option Taken) (u : Turn) (w : World) (num 
 
       own : (x : ℕ) → IsUp o w x → lives o (turned a t u w) q ≡ true → Holding (turned a t u w) num2 q x
       own x up h =
-          let m : Mail a t u w q x = mail o a t u w front q x (up_of q h) up.1 in
+          let m : Mail a t u w q x = mail_moves o a t u w front q x (up_of q h) up.1 in
           let sends : asks q (sent_on a u q.node x) ≡ (if whom x then ask_of q l else []) = ap
           (λ (b : Bool). asks q (if b then sent_to x u.sends else [])) (eq-eqb q.node a home)
           ∙ ap (asks q) (D.sent x) ∙ asked_if (whom x) in
@@ -316,17 +316,17 @@ module _ (o : Opening) (a f : ℕ) (asking : Letter) (u : Turn) (w : World) (num
           → Holding (turned a its_letter u w) num p x
       apart p x h up read sends counts =
           let live : IsLive o w p = live_parts o w p h in
-          let m : Mail a its_letter u w p x = mail o a its_letter u w front p x live.up up.1 in
+          let m : Mail a its_letter u w p x = mail_moves o a its_letter u w front p x live.up up.1 in
           live_along (view (call_at w p) x) (view (call_at (turned a its_letter u w) p) x)
           (asks p (w.links.queue p.node x)) (asks p ((turned a its_letter u w).links.queue p.node x))
           (echoes p (w.links.queue x p.node)) (echoes p ((turned a its_letter u w).links.queue x p.node))
           (λ id. count id p (w.node x).locks) (λ id. count id p (at w.node a u.node x).locks)
           (λ id. num p id x) (λ id. num p id x)
           (ap (λ (c : Option LockCall). view c x) (same_call p))
-          (unmoved (asks p (read_on a its_letter p.node x)) (asks p (sent_on a u p.node x))
+          (letters_unmoved (asks p (read_on a its_letter p.node x)) (asks p (sent_on a u p.node x))
           (asks p (w.links.queue p.node x)) (asks p ((turned a its_letter u w).links.queue p.node x))
           read (no_ask_sent p x) m.ups)
-          (unmoved (echoes p (read_on a its_letter x p.node)) (echoes p (sent_on a u x p.node))
+          (letters_unmoved (echoes p (read_on a its_letter x p.node)) (echoes p (sent_on a u x p.node))
           (echoes p (w.links.queue x p.node)) (echoes p ((turned a its_letter u w).links.queue x p.node))
           (no_echo_read p x) sends m.downs)
           counts
@@ -341,7 +341,7 @@ module _ (o : Opening) (a f : ℕ) (asking : Letter) (u : Turn) (w : World) (num
       at_home : lives o w q ≡ true → IsUp o w a → Holding (turned a its_letter u w) num q a
       at_home h up =
           let live : IsLive o w q = live_parts o w q h in
-          let m : Mail a its_letter u w q a = mail o a its_letter u w front q a live.up up.1 in
+          let m : Mail a its_letter u w q a = mail_moves o a its_letter u w front q a live.up up.1 in
           let reads : asks q (read_on a its_letter q.node a) ≡ ask_of q asking = ap
           (λ (b : Bool). asks q (if b && (a == a) then asking ∷ [] else [])) (eq-eqb q.node f home)
           ∙ ap (λ (b : Bool). asks q (if b then asking ∷ [] else [])) (eq-eqb a a refl)

@@ -7,7 +7,7 @@ use Rattle.protocol_model.specs.Letter.{Id, is_id, is_resource}
 use Rattle.protocol_model.specs.LockTable.{count}
 use Rattle.protocol_model.specs.Watch.{is_dead}
 use Rattle.protocol_model.specs.Event.{Answer, Refusal}
-use Rattle.protocol_model.specs.ClientLocks.{is_gone}
+use Rattle.protocol_model.specs.ClientLocks.{is_no_more}
 use Rattle.protocol_model.specs.World.{Opening, in_world, World, left, WorldEvent, place, opening_world, refusal, happens, accepted, answers, turn_of, run}
 use Rattle.moves.proofs.Rules.{Rule, May, MayAll, Ordered, Walked, effect, effects, answers_by}
 use Rattle.moves.proofs.Invariants.{Proper, IsUp}
@@ -15,7 +15,7 @@ use Rattle.walk.proofs.Receiving.{WelcomeWidens}
 use Rattle.walk.proofs.Walk.{OrderedWalk, walked_in_order}
 use Rattle.walk.proofs.Orders.{ordered_keeps, ordered_opens}
 use Rattle.walk.proofs.Joins.{JoinsOnce, joins_once_opens, joins_once_keeps}
-use Rattle.client_locks.proofs.RoundNumbers.{counted, number_after, number_from, number}
+use Rattle.client_locks.proofs.RoundNumbers.{next_round_count, round_count_after, round_count_from, round_count}
 use Rattle.client_locks.proofs.LockTables.{one_requester}
 use Rattle.client_locks.proofs.Sessions.{Live, live_along, settled, settled_le, view, due}
 use Rattle.client_locks.proofs.Mail.{asks, echoes}
@@ -51,7 +51,7 @@ clients_along o w num num2 e C = record {
 }
 
 -- who is gone doesn't live
-gone_not_living : (o : Opening) (w : World) (p : Process) → is_gone w p ≡ true → lives o w p ≡ false
+gone_not_living : (o : Opening) (w : World) (p : Process) → is_no_more w p ≡ true → lives o w p ≡ false
 gone_not_living o w p h = go (in_world o p.node) (left w p.node) (not (p.serial == 0))
     (is_dead (w.node p.node).watch p.serial) h
   where
@@ -92,8 +92,8 @@ module _ (o : Opening) (F : World → Type 0) (G : Grounds o F) where
 
   -- an accepted event
   accepted_keeps : (w : World) (e : WorldEvent) (num : Numbers) → State w num → refusal o w e ≡ None
-      → State (accepted o w e) (λ p id x. counted o w e p id x (num p id x))
-  accepted_keeps w e num S h = subst (λ (v : World). State v (λ p id x. counted o w e p id x (num p id x))) W.world
+      → State (accepted o w e) (λ p id x. next_round_count o w e p id x (num p id x))
+  accepted_keeps w e num S h = subst (λ (v : World). State v (λ p id x. next_round_count o w e p id x (num p id x))) W.world
       (record {
         family = K.family;
         once = K.once;
@@ -101,7 +101,7 @@ module _ (o : Opening) (F : World → Type 0) (G : Grounds o F) where
         replying = K.replying;
         numbered = T.numbered;
         clients = clients_along o end (nums_by o (place e) chain w num)
-            (λ p id x. counted o w e p id x (num p id x)) same K.clients;
+            (λ p id x. next_round_count o w e p id x (num p id x)) same K.clients;
       })
     where
       walked : OrderedWalk o w e
@@ -132,32 +132,32 @@ module _ (o : Opening) (F : World → Type 0) (G : Grounds o F) where
       answered = ap (λ (r : Option Refusal). if is_none r then (turn_of o w e).answers else []) h
           ∙ sym walked.walk.answers
 
-      same : (p : Process) (id : Id) (x : ℕ) → counted o w e p id x (num p id x) ≡ nums_by o
+      same : (p : Process) (id : Id) (x : ℕ) → next_round_count o w e p id x (num p id x) ≡ nums_by o
           (place e) chain w num p id x
       same p id x =
-          ap (λ (v : World). if is_gone v p then 0 else told_by w e (answers o w e) p id x (num p id x)) happened
-          ∙ ap (λ (ss : List Answer). if is_gone end p then 0 else told_by w e ss p id x (num p id x)) answered
-          ∙ go (is_gone end p) refl
+          ap (λ (v : World). if is_no_more v p then 0 else told_by w e (answers o w e) p id x (num p id x)) happened
+          ∙ ap (λ (ss : List Answer). if is_no_more end p then 0 else told_by w e ss p id x (num p id x)) answered
+          ∙ go (is_no_more end p) refl
         where
-          go : (b : Bool) → is_gone end p ≡ b → (if b then 0 else told_by w e (answers_by o (place e) chain w) p id x
+          go : (b : Bool) → is_no_more end p ≡ b → (if b then 0 else told_by w e (answers_by o (place e) chain w) p id x
               (num p id x)) ≡ nums_by o (place e) chain w num p id x
           go true k = sym (K.clients.strangers p id x (gone_not_living o end p k))
           go false k = sym (T.numbers p k id x)
 
   pub event_keeps : (w : World) (e : WorldEvent) (num : Numbers) → State w num
-      → State (happens o w e) (λ p id x. number_after o w e p id x (num p id x))
+      → State (happens o w e) (λ p id x. round_count_after o w e p id x (num p id x))
   event_keeps w e num S = go (refusal o w e) refl
     where
       go : (r : Option Refusal) → refusal o w e ≡ r
-          → State (if is_none r then accepted o w e else w) (λ p id x. if is_none r then counted o w e p id x
+          → State (if is_none r then accepted o w e else w) (λ p id x. if is_none r then next_round_count o w e p id x
           (num p id x) else num p id x)
       go None h = accepted_keeps w e num S h
       go (Some r) h = S
 
   pub run_state : (w : World) (es : List WorldEvent) (num : Numbers) → State w num
-      → State (run o w es) (λ p id x. number_from o w es p id x (num p id x))
+      → State (run o w es) (λ p id x. round_count_from o w es p id x (num p id x))
   run_state w [] num S = S
-  run_state w (e ∷ es) num S = run_state (happens o w e) es (λ p id x. number_after o w e p id x (num p id x))
+  run_state w (e ∷ es) num S = run_state (happens o w e) es (λ p id x. round_count_after o w e p id x (num p id x))
       (event_keeps w e num S)
 
   pub opening_state : State (opening_world o) no_numbers
@@ -186,11 +186,11 @@ module _ (o : Opening) (F : World → Type 0) (G : Grounds o F) where
           omega (arith, most, settled_le i (asks p (w.links.queue p.node c)) (count i p (w.node c).locks), h)
 
   pub excluded : (es : List WorldEvent) (c : ℕ) → in_world o c ≡ true → left (run o (opening_world o) es) c ≡ false →
-      (p q : Process) (i j : Id) → 0 < number o es p i c → 0 < number o es q j c → is_resource i j ≡ true
+      (p q : Process) (i j : Id) → 0 < round_count o es p i c → 0 < round_count o es q j c → is_resource i j ≡ true
       → is_id i j ≡ true
   excluded es c inside up p q i j hp hq r =
-      let S : State (run o (opening_world o) es) (λ k id x. number o es k id x) = run_state
+      let S : State (run o (opening_world o) es) (λ k id x. round_count o es k id x) = run_state
       (opening_world o) es no_numbers opening_state in
       one_requester ((run o (opening_world o) es).node c).locks (S.clients.tables c) i p j q
-      (stands (run o (opening_world o) es) (λ k id x. number o es k id x) S.clients c (inside, up) p i hp)
-      (stands (run o (opening_world o) es) (λ k id x. number o es k id x) S.clients c (inside, up) q j hq) r
+      (stands (run o (opening_world o) es) (λ k id x. round_count o es k id x) S.clients c (inside, up) p i hp)
+      (stands (run o (opening_world o) es) (λ k id x. round_count o es k id x) S.clients c (inside, up) q j hq) r

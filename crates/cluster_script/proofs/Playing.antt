@@ -5,7 +5,7 @@ use Rattle.std.specs.List.{list_all}
 use Rattle.std.specs.Io.KnownBytes.{Appends}
 use Rattle.protocol_model.specs.Event.{Answer as AnyAnswer, Refusal as AnyRefusal}
 use Rattle.protocol_model.specs.World.{Opening, refusal as refused, happens, accepted, answers}
-use Rattle.protocol_model.specs.Script.{Play, Output, Said, Error, played, okay}
+use Rattle.protocol_model.specs.Script.{Play, Output, Said, Error, outputs_of, okay}
 use Rattle.command_lines.specs.Held.{Held}
 use Rattle.command_lines.specs.Playing.{Played}
 use Rattle.command_lines.specs.Seen.{opening_with, opening_of, seen}
@@ -62,13 +62,13 @@ module _ (h : Held) (e : WorldEvent) where
       ≡ map Shows (okay (opening_of h) settle_limit (event_of e)
       ++ map Said (answers (opening_of h) (seen h) (event_of e)))
   shown-accepted r =
-      ap (λ (x : Option AnyRefusal). map Shows (played (opening_of h) settle_limit (seen h) (event_of e) x)) r
+      ap (λ (x : Option AnyRefusal). map Shows (outputs_of (opening_of h) settle_limit (seen h) (event_of e) x)) r
 
   -- what is printed for a refused event
   pub shown-refused : (r : AnyRefusal) → refused (opening_of h) (seen h) (event_of e) ≡ Some r
       → shown (opening_of h) (seen h) (Ok (Play (event_of e))) ≡ Shows (Error r) ∷ []
   shown-refused r q = ap (λ (x : Option AnyRefusal). map Shows
-      (played (opening_of h) settle_limit (seen h) (event_of e) x)) q
+      (outputs_of (opening_of h) settle_limit (seen h) (event_of e) x)) q
 
   -- a refused event changes nothing
   pub happens-refused : (r : AnyRefusal) → refused (opening_of h) (seen h) (event_of e) ≡ Some r

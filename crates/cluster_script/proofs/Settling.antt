@@ -6,7 +6,7 @@ use Rattle.std.specs.Io.KnownBytes.{Appends}
 use Rattle.std.proofs.KnownBytes.{Appends-trans, Appends-nil}
 use Rattle.std.proofs.Math.Bool.{and-true}
 use Rattle.protocol_model.specs.Event.{Answer as AnyAnswer}
-use Rattle.protocol_model.specs.World.{Opening, World, WorldEvent as AnyEvent, happens, answers, all_answers, run, settle, next_delivery}
+use Rattle.protocol_model.specs.World.{Opening, World, WorldEvent as AnyEvent, happens, answers, all_answers, run, deliveries_left, next_delivery}
 use Rattle.protocol_model.specs.Script.{Settle, Output, Said, settled}
 use Rattle.command_lines.specs.Held.{Held}
 use Rattle.command_lines.specs.Seen.{opening_of, seen}
@@ -35,16 +35,16 @@ settle_limit-is = refl
 -- the deliveries of `settle` from a world on, at most m of them
 module _ (o : Opening) where
   -- the next delivery, and those behind it
-  pub settle-next : (m : ℕ) (w : World) (e : AnyEvent) → next_delivery o w ≡ Some e → settle o (suc m) w ≡ e
-      ∷ settle o m (happens o w e)
+  pub settle-next : (m : ℕ) (w : World) (e : AnyEvent) → next_delivery o w ≡ Some e → deliveries_left o (suc m) w ≡ e
+      ∷ deliveries_left o m (happens o w e)
   settle-next m w e h = ap (λ (x : Option AnyEvent). elim x as (λ _. List AnyEvent)
-      [ None ↦ [] | Some e ↦ e ∷ settle o m (happens o w e) ]) h
+      [ None ↦ [] | Some e ↦ e ∷ deliveries_left o m (happens o w e) ]) h
 
   -- none, where no letter waits
-  pub settle-none : (m : ℕ) (w : World) → next_delivery o w ≡ None → settle o m w ≡ []
+  pub settle-none : (m : ℕ) (w : World) → next_delivery o w ≡ None → deliveries_left o m w ≡ []
   settle-none zero w h = refl
   settle-none (suc m) w h = ap (λ (x : Option AnyEvent). elim x as (λ _. List AnyEvent)
-      [ None ↦ [] | Some e ↦ e ∷ settle o m (happens o w e) ]) h
+      [ None ↦ [] | Some e ↦ e ∷ deliveries_left o m (happens o w e) ]) h
 
 -- k deliveries were made and their answers written; the others are those that the world makes as it stands
 pub record Settles (k : ℕ) (old now : Held) (a b : Option (List ℕ)) : Type 0 where
@@ -52,23 +52,23 @@ pub record Settles (k : ℕ) (old now : Held) (a b : Option (List ℕ)) : Type 0
   pub given : List AnyAnswer
   pub counted : most + k ≡ 100000
   pub opening : opening_of now ≡ opening_of old
-  pub world : run (opening_of old) (seen old) (settle (opening_of old) settle_limit (seen old))
-      ≡ run (opening_of old) (seen now) (settle (opening_of old) most (seen now))
-  pub answered : all_answers (opening_of old) (seen old) (settle (opening_of old) settle_limit (seen old))
-      ≡ given ++ all_answers (opening_of old) (seen now) (settle (opening_of old) most (seen now))
+  pub world : run (opening_of old) (seen old) (deliveries_left (opening_of old) settle_limit (seen old))
+      ≡ run (opening_of old) (seen now) (deliveries_left (opening_of old) most (seen now))
+  pub answered : all_answers (opening_of old) (seen old) (deliveries_left (opening_of old) settle_limit (seen old))
+      ≡ given ++ all_answers (opening_of old) (seen now) (deliveries_left (opening_of old) most (seen now))
   pub wrote : Appends a b (answers_text given)
 
 module _ (o : Opening) where
   pub run-next : (m : ℕ) (w v : World) (e : AnyEvent) → next_delivery o w ≡ Some e → v ≡ happens o w e
-      → run o w (settle o (suc m) w) ≡ run o v (settle o m v)
+      → run o w (deliveries_left o (suc m) w) ≡ run o v (deliveries_left o m v)
   run-next m w v e h q = ap (λ (es : List AnyEvent). run o w es) (settle-next o m w e h)
-      ∙ ap (λ (x : World). run o x (settle o m x)) (sym q)
+      ∙ ap (λ (x : World). run o x (deliveries_left o m x)) (sym q)
 
   pub all_answers-next : (m : ℕ) (w v : World) (e : AnyEvent) → next_delivery o w ≡ Some e → v ≡ happens o w e
-      → all_answers o w (settle o (suc m) w) ≡ answers o w e ++ all_answers o v (settle o m v)
+      → all_answers o w (deliveries_left o (suc m) w) ≡ answers o w e ++ all_answers o v (deliveries_left o m v)
   all_answers-next m w v e h q =
       ap (λ (es : List AnyEvent). all_answers o w es) (settle-next o m w e h)
-      ∙ ap (λ (x : World). answers o w e ++ all_answers o x (settle o m x)) (sym q)
+      ∙ ap (λ (x : World). answers o w e ++ all_answers o x (deliveries_left o m x)) (sym q)
 
 -- the lines of two lists of answers
 pub answers_text-append : (xs ys : List AnyAnswer) → answers_text (xs ++ ys) ≡ answers_text xs ++ answers_text ys
@@ -84,8 +84,8 @@ Settles-start old a = record {
   given = [];
   counted = omega arith;
   opening = refl;
-  world = ap (λ (n : ℕ). run (opening_of old) (seen old) (settle (opening_of old) n (seen old))) settle_limit-is;
-  answered = ap (λ (n : ℕ). all_answers (opening_of old) (seen old) (settle (opening_of old) n (seen old)))
+  world = ap (λ (n : ℕ). run (opening_of old) (seen old) (deliveries_left (opening_of old) n (seen old))) settle_limit-is;
+  answered = ap (λ (n : ℕ). all_answers (opening_of old) (seen old) (deliveries_left (opening_of old) n (seen old)))
       settle_limit-is;
   wrote = Appends-nil a;
 }
@@ -105,17 +105,17 @@ module _ (k : ℕ) (old now : Held) (a b : Option (List ℕ)) (S : Settles k old
 
     -- all answers, where the next delivery leads to v
     pub answered-next : (v : World) → v ≡ happens (opening_of old) (seen now) e
-        → all_answers (opening_of old) (seen old) (settle (opening_of old) settle_limit (seen old))
+        → all_answers (opening_of old) (seen old) (deliveries_left (opening_of old) settle_limit (seen old))
         ≡ (S.given ++ answers (opening_of old) (seen now) e)
-        ++ all_answers (opening_of old) v (settle (opening_of old) (most-next l).0 v)
+        ++ all_answers (opening_of old) v (deliveries_left (opening_of old) (most-next l).0 v)
     answered-next v q =
         S.answered
-        ∙ ap (λ (n : ℕ). S.given ++ all_answers (opening_of old) (seen now) (settle (opening_of old) n (seen now)))
+        ∙ ap (λ (n : ℕ). S.given ++ all_answers (opening_of old) (seen now) (deliveries_left (opening_of old) n (seen now)))
         (most-next l).1
         ∙ ap (λ (ss : List AnyAnswer). S.given ++ ss)
         (all_answers-next (opening_of old) (most-next l).0 (seen now) v e at_opening q)
         ∙ sym (append_assoc S.given (answers (opening_of old) (seen now) e)
-        (all_answers (opening_of old) v (settle (opening_of old) (most-next l).0 v)))
+        (all_answers (opening_of old) v (deliveries_left (opening_of old) (most-next l).0 v)))
 
     -- the next delivery was made
     pub Settles-next : (new : Held) (c : Option (List ℕ)) → opening_of new ≡ opening_of now → seen new
@@ -132,7 +132,7 @@ module _ (k : ℕ) (old now : Held) (a b : Option (List ℕ)) (S : Settles k old
           counted = omega (arith, S.counted, (most-next l).1);
           opening = n ∙ S.opening;
           world = S.world
-              ∙ ap (λ (x : ℕ). run (opening_of old) (seen now) (settle (opening_of old) x (seen now))) (most-next l).1
+              ∙ ap (λ (x : ℕ). run (opening_of old) (seen now) (deliveries_left (opening_of old) x (seen now))) (most-next l).1
               ∙ run-next (opening_of old) (most-next l).0 (seen now) (seen new) e at_opening q2;
           answered = answered-next (seen new) q2;
           wrote = subst (λ (t : List ℕ). Appends a c t)
@@ -156,10 +156,10 @@ Said-fine-last (s ∷ given) x = Said-fine-last given x
 
 -- what `settle` prints
 pub settle-text : (h : Held) → shown_on h (Ok Settle)
-    ≡ answers_text (all_answers (opening_of h) (seen h) (settle (opening_of h) settle_limit (seen h)))
-    ++ output_line (ends_at (opening_of h) (run (opening_of h) (seen h) (settle (opening_of h) settle_limit (seen h))))
-settle-text h = Said-text-last (all_answers (opening_of h) (seen h) (settle (opening_of h) settle_limit (seen h)))
-    (ends_at (opening_of h) (run (opening_of h) (seen h) (settle (opening_of h) settle_limit (seen h))))
+    ≡ answers_text (all_answers (opening_of h) (seen h) (deliveries_left (opening_of h) settle_limit (seen h)))
+    ++ output_line (ends_at (opening_of h) (run (opening_of h) (seen h) (deliveries_left (opening_of h) settle_limit (seen h))))
+settle-text h = Said-text-last (all_answers (opening_of h) (seen h) (deliveries_left (opening_of h) settle_limit (seen h)))
+    (ends_at (opening_of h) (run (opening_of h) (seen h) (deliveries_left (opening_of h) settle_limit (seen h))))
 
 -- how it ends, by the link on which a letter waits
 pub settled-waits : (r : Option (ℕ × ℕ)) (h : Held) → WaitsOn r h → ends_at (opening_of h) (seen h)
@@ -177,7 +177,7 @@ module _ (k : ℕ) (old now : Held) (a b : Option (List ℕ)) (S : Settles k old
       let p2 : AppendsPart b c (answers_text (answers (opening_of old) (seen now) e)) =
       subst (λ (o : Opening). AppendsPart b c (answers_text (answers o (seen now) e))) S.opening p in
       let v = happens (opening_of old) (seen now) e in
-      let more = all_answers (opening_of old) v (settle (opening_of old) (most-next k old now a b S l).0 v) in
+      let more = all_answers (opening_of old) v (deliveries_left (opening_of old) (most-next k old now a b S l).0 v) in
       let given = answers (opening_of old) (seen now) e in
       let q : AppendsPart a c (answers_text (S.given ++ given)) =
       subst (λ (t : List ℕ). AppendsPart a c t) (sym (answers_text-append S.given given))
@@ -189,24 +189,24 @@ module _ (k : ℕ) (old now : Held) (a b : Option (List ℕ)) (S : Settles k old
       (AppendsPart-more a c _ _ (subst (λ (ss : List AnyAnswer). AppendsPart a c (answers_text ss))
       (sym (answered-next k old now a b S e h l v refl)) all))
 
-  module _ (none : settle (opening_of old) S.most (seen now) ≡ []) (s : Bool)
+  module _ (none : deliveries_left (opening_of old) S.most (seen now) ≡ []) (s : Bool)
       (ends : ends_at (opening_of now) (seen now) ≡ settle_end s) where
-    pub world-end : run (opening_of old) (seen old) (settle (opening_of old) settle_limit (seen old)) ≡ seen now
+    pub world-end : run (opening_of old) (seen old) (deliveries_left (opening_of old) settle_limit (seen old)) ≡ seen now
     world-end = S.world ∙ ap (λ (es : List AnyEvent). run (opening_of old) (seen now) es) none
 
-    pub answers-end : all_answers (opening_of old) (seen old) (settle (opening_of old) settle_limit (seen old))
+    pub answers-end : all_answers (opening_of old) (seen old) (deliveries_left (opening_of old) settle_limit (seen old))
         ≡ S.given
     answers-end = S.answered ∙ ap (λ (es : List AnyEvent). S.given ++ all_answers (opening_of old) (seen now) es) none
         ∙ append-nil S.given
 
     pub output-end : ends_at (opening_of old) (run (opening_of old) (seen old)
-        (settle (opening_of old) settle_limit (seen old))) ≡ settle_end s
+        (deliveries_left (opening_of old) settle_limit (seen old))) ≡ settle_end s
     output-end = ap (λ (w : World). ends_at (opening_of old) w) world-end
         ∙ ap (λ (o : Opening). ends_at o (seen now)) (sym S.opening) ∙ ends
 
     pub text-end : shown_on old (Ok Settle) ≡ answers_text S.given ++ output_line (settle_end s)
     text-end = settle-text old ∙ ap (λ (x : Output). answers_text
-        (all_answers (opening_of old) (seen old) (settle (opening_of old) settle_limit (seen old))) ++ output_line x)
+        (all_answers (opening_of old) (seen old) (deliveries_left (opening_of old) settle_limit (seen old))) ++ output_line x)
         output-end
         ∙ ap (λ (ss : List AnyAnswer). answers_text ss ++ output_line (settle_end s)) answers-end
 
@@ -224,9 +224,9 @@ module _ (k : ℕ) (old now : Held) (a b : Option (List ℕ)) (S : Settles k old
           (Appends-trans a b c (answers_text S.given) (output_line (settle_end s)) S.wrote w);
       fine_is = q ∙ fine-end s ∙ ap is_fine_output (sym output-end)
           ∙ sym (Said-fine-last (all_answers (opening_of old) (seen old)
-          (settle (opening_of old) settle_limit (seen old)))
+          (deliveries_left (opening_of old) settle_limit (seen old)))
           (ends_at (opening_of old) (run (opening_of old) (seen old)
-          (settle (opening_of old) settle_limit (seen old)))));
+          (deliveries_left (opening_of old) settle_limit (seen old)))));
     }
       where
         fine-end : (t : Bool) → t ≡ is_fine_output (settle_end t)
@@ -256,12 +256,12 @@ is_none-by (Some v) false e = refl
 
 module _ (k : ℕ) (old now : Held) (a b : Option (List ℕ)) (S : Settles k old now a b) where
   -- no letter waits
-  pub none_waits : next_delivery (opening_of now) (seen now) ≡ None → settle (opening_of old) S.most (seen now) ≡ []
+  pub none_waits : next_delivery (opening_of now) (seen now) ≡ None → deliveries_left (opening_of old) S.most (seen now) ≡ []
   none_waits h = settle-none (opening_of old) S.most (seen now)
       (subst (λ (o : Opening). next_delivery o (seen now) ≡ None) S.opening h)
 
   -- all deliveries were made
-  pub none_left : 100000 ≤ k → settle (opening_of old) S.most (seen now) ≡ []
+  pub none_left : 100000 ≤ k → deliveries_left (opening_of old) S.most (seen now) ≡ []
   none_left l =
       let z : S.most ≡ 0 = omega (arith, S.counted) in
-      ap (λ (n : ℕ). settle (opening_of old) n (seen now)) z
+      ap (λ (n : ℕ). deliveries_left (opening_of old) n (seen now)) z

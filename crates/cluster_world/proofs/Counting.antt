@@ -11,13 +11,13 @@ use Rattle.protocol_model.specs.Course.{course}
 use Rattle.protocol_model.specs.Event.{Call as AnyCall, Event as AnyEvent, Answer as AnyAnswer, Cause, UnknownNode, calls_spent, cause, first_cause, lock_causes, names_members}
 use Rattle.protocol_model.specs.Letter.{Id, Client, is_id}
 use Rattle.protocol_model.specs.Node.{Target, Retries, targets}
-use Rattle.protocol_model.specs.ClientLocks.{Try, Tally, try_of, last_try, tally_from, tally_after, number, gives}
+use Rattle.protocol_model.specs.ClientLocks.{Try, Tally, try_of, last_try, tally_from, tally_after, holds_count, gives}
 use Rattle.protocol_model.specs.World.{Opening, World, WorldEvent as AnyWorldEvent, opening_world, refusal, happens, answers, run, all_answers}
 use Rattle.lock_answers.proofs.Events.{accepted_of, lock_tested, live_own, none_of}
 use Rattle.lock_answers.proofs.Clients.{Numbers, call_at}
 use Rattle.lock_answers.proofs.Ids.{is_process_self}
 use Rattle.lock_answers.proofs.Opening.{no_numbers}
-use Rattle.lock_answers.proofs.RoundNumbers.{number_after, number_from}
+use Rattle.lock_answers.proofs.RoundNumbers.{round_count_after, round_count_from}
 use Rattle.lock_answers.proofs.Tallies.{fits_opens, fits_behind}
 use Rattle.lock_answers.proofs.Tries.{Fits}
 use Rattle.lock_answers.proofs.Walking.{event_keeps, run_state, opening_state}
@@ -61,7 +61,7 @@ module _ (o : Opening) (before : List AnyWorldEvent) (w : World) (is : w ≡ run
   nothing = record { number = 0; last = None }
 
   abbrev num : Numbers
-  num p i c = number_from o (opening_world o) before p i c 0
+  num p i c = round_count_from o (opening_world o) before p i c 0
 
   stands : Behind o w num
   stands = subst (λ (v : World). Behind o v num) (sym is)
@@ -102,20 +102,20 @@ module _ (o : Opening) (before : List AnyWorldEvent) (w : World) (is : w ≡ run
     abbrev played : List AnyWorldEvent
     played = until_answered o p.node (next_number p.node w) w attempt
 
-    pub attempted : refusal o w attempt ≡ None → (i : Id) (c : ℕ) → number o (before ++ played) p i c
+    pub attempted : refusal o w attempt ≡ None → (i : Id) (c : ℕ) → holds_count o (before ++ played) p i c
         ≡ unless_gone (run o w played) p (if is_id (Client r q) i
         && has_to_ask c (try_behind o (before ++ played) p i c)
         && is_granted (verdict_in p.node (next_number p.node w) (all_answers o w played))
-        then number o before p i c + 1 else number o before p i c)
+        then holds_count o before p i c + 1 else holds_count o before p i c)
     attempted free i c = subst
         (λ (t : Tally). t.number ≡ unless_gone (run o w played) p (if is_id (Client r q) i && has_to_ask c t.last
         && is_granted (verdict_in p.node (next_number p.node w) (all_answers o w played))
-        then number o before p i c + 1 else number o before p i c))
+        then holds_count o before p i c + 1 else holds_count o before p i c))
         (sym (then_on played p i c))
         (answered_so o p i c k (Client r q) w num stands attempt
         (awaiting o p.node k most_events (happens o w attempt)) (tally p i c) (tally p i c).number free begun refl
         (λ up. refl) (λ of now h. waited_so o p i c k (Client r q) most_events (happens o w attempt)
-        (λ s x y. number_after o w attempt s x y (num s x y)) (event_keeps o (All o) (grounds o) w attempt num stands)
+        (λ s x y. round_count_after o w attempt s x y (num s x y)) (event_keeps o (All o) (grounds o) w attempt num stands)
         (tally_after o w attempt p i c (tally p i c)) (tally p i c).number of now h)
         (once p.node k (omega arith) played))
       where
@@ -142,13 +142,13 @@ module _ (o : Opening) (before : List AnyWorldEvent) (w : World) (is : w ≡ run
     abbrev gone_on : List AnyWorldEvent
     gone_on = until_answered o p.node (next_number p.node w) w deletion
 
-    pub deleted : accepts_all o w gone_on ≡ true → (i : Id) (c : ℕ) → number o (before ++ gone_on) p i c
+    pub deleted : accepts_all o w gone_on ≡ true → (i : Id) (c : ℕ) → holds_count o (before ++ gone_on) p i c
         ≡ unless_gone (run o w gone_on) p (if is_id (Client r q) i && targets (w.node p.node).replica.members target c
-        then number o before p i c - 1 else number o before p i c)
+        then holds_count o before p i c - 1 else holds_count o before p i c)
     deleted free i c = subst
         (λ (t : Tally). IsNow o p i c (run o w gone_on) t n)
         (sym (then_on gone_on p i c))
-        (spent_stays o p later (happens o w deletion) (λ s x y. number_after o w deletion s x y (num s x y))
+        (spent_stays o p later (happens o w deletion) (λ s x y. round_count_after o w deletion s x y (num s x y))
         (event_keeps o (All o) (grounds o) w deletion num stands) i c (tally_after o w deletion p i c (tally p i c)) n
         parts.1 waited one.1 one.0)
       where
@@ -159,7 +159,7 @@ module _ (o : Opening) (before : List AnyWorldEvent) (w : World) (is : w ≡ run
         given = is_id (Client r q) i && targets (w.node p.node).replica.members target c
 
         n : ℕ
-        n = if given then number o before p i c - 1 else number o before p i c
+        n = if given then holds_count o before p i c - 1 else holds_count o before p i c
 
         later : List AnyWorldEvent
         later = if is_some (verdict_in p.node (next_number p.node w) (answers o w deletion)) then []
@@ -194,7 +194,7 @@ module _ (o : Opening) (before : List AnyWorldEvent) (w : World) (is : w ≡ run
 
         one : IsNow o p i c (happens o w deletion) (tally_after o w deletion p i c (tally p i c)) n
             × Spent o p (happens o w deletion) (tally_after o w deletion p i c (tally p i c)).last
-        one = spent_step o p w num stands deletion i c (tally p i c) (number o before p i c) given accepted refl
+        one = spent_step o p w num stands deletion i c (tally p i c) (holds_count o before p i c) given accepted refl
             (spent_first o p w num stands (tally p i c).last fit idle) (λ alive. refl) goes
 
 -- an accepted lock call is of a process of its node
@@ -230,18 +230,18 @@ module _ (es : List WorldEvent) (given : List Answer) (old new : Held) (v : Opti
   set_counts : (p : Process) (r q : Text) (target : Target) (retries : Retries)
       → IsFor (AnyCall.SetLock p r q target retries) p.node → CountsGrant p (Client r q) v es old new
   set_counts p r q target retries f before is i c = subst
-      (λ (l : List AnyWorldEvent). number o (before ++ l) p i c ≡ unless_gone (seen new) p
+      (λ (l : List AnyWorldEvent). holds_count o (before ++ l) p i c ≡ unless_gone (seen new) p
       (if is_id (Client r q) i && has_to_ask c (try_behind o (before ++ l) p i c) && is_granted v
-      then number o before p i c + 1 else number o before p i c))
+      then holds_count o before p i c + 1 else holds_count o before p i c))
       (sym f.0)
       (attempted o before w is p r q target retries
       (first_free (AnyCall.SetLock p r q target retries) p.node f) i c
       ∙ ap (λ (b : Option Bool). unless_gone (run o w played) p
       (if is_id (Client r q) i && has_to_ask c (try_behind o (before ++ played) p i c) && is_granted b
-      then number o before p i c + 1 else number o before p i c)) verdict
+      then holds_count o before p i c + 1 else holds_count o before p i c)) verdict
       ∙ ap (λ (y : World). unless_gone y p
       (if is_id (Client r q) i && has_to_ask c (try_behind o (before ++ played) p i c) && is_granted v
-      then number o before p i c + 1 else number o before p i c)) (sym (W.world ∙ ap (run o w) f.0)))
+      then holds_count o before p i c + 1 else holds_count o before p i c)) (sym (W.world ∙ ap (run o w) f.0)))
     where
       played : List AnyWorldEvent
       played = until_answered o p.node (next_number p.node w) w
@@ -253,14 +253,14 @@ module _ (es : List WorldEvent) (given : List Answer) (old new : Held) (v : Opti
   deletion_counts : (p : Process) (r q : Text) (target : Target)
       → IsFor (AnyCall.DelLock p r q target) p.node → CountsDeletion p (Client r q) target es old new
   deletion_counts p r q target f before is i c = subst
-      (λ (l : List AnyWorldEvent). number o (before ++ l) p i c ≡ unless_gone (seen new) p n)
+      (λ (l : List AnyWorldEvent). holds_count o (before ++ l) p i c ≡ unless_gone (seen new) p n)
       (sym f.0)
       (deleted o before w is p r q target (ap (accepts_all o w) (sym f.0) ∙ W.accepted) i c
       ∙ ap (λ (y : World). unless_gone y p n) (sym (W.world ∙ ap (run o w) f.0)))
     where
       n : ℕ
       n = if is_id (Client r q) i && targets (w.node p.node).replica.members target c
-          then number o before p i c - 1 else number o before p i c
+          then holds_count o before p i c - 1 else holds_count o before p i c
 
   -- so the call counts
   pub counts : (call : AnyCall) (a : ℕ) → IsFor call a → Counts call v es old new

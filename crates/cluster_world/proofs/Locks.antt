@@ -5,7 +5,7 @@ use Rattle.std.proofs.lemmas.Bool.{and_parts}
 use Rattle.lock_answers.proofs.ClientLocks.{client_locks}
 use Rattle.registry_model.specs.Process.{Process}
 use Rattle.node_core.specs.declared.Answer.{Answer}
-use Rattle.protocol_model.specs.ClientLocks.{Tally, tally_from, tally_after, last_try, is_won, is_gone, gives, Holds}
+use Rattle.protocol_model.specs.ClientLocks.{Tally, tally_from, tally_after, last_try, is_won, is_no_more, gives, Holds}
 use Rattle.protocol_model.specs.Event.{Refusal as AnyRefusal}
 use Rattle.protocol_model.specs.Letter.{Id, Client}
 use Rattle.protocol_model.specs.World.{Opening, World, WorldEvent as AnyWorldEvent, opening_world, refusal, happens, answers, run}
@@ -34,10 +34,10 @@ module _ (o : Opening) (p : Process) (id : Id) (c : ℕ) where
 
   -- a grant counts
   counts : (w : World) (e : AnyWorldEvent) (k : Tally) → refusal o w e ≡ None
-      → is_won p id c (answers o w e) (last_try w e p k.last) ≡ true → is_gone (happens o w e) p ≡ false
+      → is_won p id c (answers o w e) (last_try w e p k.last) ≡ true → is_no_more (happens o w e) p ≡ false
       → 0 < (tally_after o w e p id c k).number
   counts w e k free won alive =
-      go (refusal o w e) (is_gone (happens o w e) p) (is_won p id c (answers o w e) (last_try w e p k.last)) free won
+      go (refusal o w e) (is_no_more (happens o w e) p) (is_won p id c (answers o w e) (last_try w e p k.last)) free won
       alive
     where
       go : (r : Option AnyRefusal) (gone won : Bool) → r ≡ None → won ≡ true → gone ≡ false
@@ -55,7 +55,7 @@ module _ (o : Opening) (p : Process) (id : Id) (c : ℕ) where
   -- what leaves p the lock keeps its number
   stays : (w : World) (e : AnyWorldEvent) (k : Tally) → is_left o w e p id c ≡ true → 0 < k.number
       → 0 < (tally_after o w e p id c k).number
-  stays w e k = go (refusal o w e) (is_gone (happens o w e) p) (gives w e p id c)
+  stays w e k = go (refusal o w e) (is_no_more (happens o w e) p) (gives w e p id c)
       (is_won p id c (answers o w e) (last_try w e p k.last))
     where
       go : (r : Option AnyRefusal) (gone given won : Bool) → (is_some r || (not gone && not given)) ≡ true

@@ -11,7 +11,7 @@ use Rattle.protocol_model.specs.Event.{Event as AnyEvent, Answer as AnyAnswer, R
 use Rattle.protocol_model.specs.Turn.{Turn, begun}
 use Rattle.protocol_model.specs.Calling.{event}
 use Rattle.protocol_model.specs.Reading.{receive}
-use Rattle.protocol_model.specs.World.{World, WorldEvent as AnyWorldEvent, in_world, left, other, refusal, accepted, happens, answers, turn_of, heard, apply, opened, join_number}
+use Rattle.protocol_model.specs.World.{World, WorldEvent as AnyWorldEvent, in_world, left, other, refusal, accepted, happens, answers, turn_of, heard, apply, letter_taken, join_number}
 use Rattle.term.specs.NodeSets.{set_of}
 use Rattle.link.specs.Faults.{joins, IsUndelivered, IsStranger}
 use Rattle.link.specs.Held.{Held as Mesh, place, has, closed_at, seen as links_of}
@@ -428,7 +428,7 @@ module _ (h : Held) (whole : IsWhole h) (f t : ℕ) where
       pub refuses_delivery : (r : Refusal) → FailsAt r t (FromPeer f letter) off_link → RefusedWith r (Deliver f t) h
       refuses_delivery r F = subst (λ (x : Refusal). RefusedWith x (Deliver f t) h) (sym (only_memory r F)) free
 
-      opened_is : seen off_link ≡ opened (AnyWorldEvent.Deliver f t) (seen h)
+      opened_is : seen off_link ≡ letter_taken (AnyWorldEvent.Deliver f t) (seen h)
       opened_is = ap (λ (w : Links AnyLetter). record (seen h) { links = w })
           (ap (mapped letter_of) off ∙ mapped-taken letter_of f t (links_of h.links))
 
@@ -454,7 +454,7 @@ module _ (h : Held) (whole : IsWhole h) (f t : ℕ) where
           accepted = free;
           happens = happens_by h (AnyWorldEvent.Deliver f t) (seen new) M.turn free
               (M.world ∙ ap (apply t M.turn) opened_is
-              ∙ ap (λ (u : Turn). apply t u (opened (AnyWorldEvent.Deliver f t) (seen h))) turn);
+              ∙ ap (λ (u : Turn). apply t u (letter_taken (AnyWorldEvent.Deliver f t) (seen h))) turn);
           answers = answers_by h (AnyWorldEvent.Deliver f t) (map answer_of given) free
               (M.answers ∙ ap (λ (u : Turn). u.answers) turn);
         }

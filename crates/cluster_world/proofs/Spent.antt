@@ -9,13 +9,13 @@ use Rattle.protocol_model.specs.Letter.{Id, Global}
 use Rattle.protocol_model.specs.Watch.{is_dead}
 use Rattle.protocol_model.specs.Node.{LockCall, Target}
 use Rattle.protocol_model.specs.Event.{Call, Event, is_waiting_call}
-use Rattle.protocol_model.specs.ClientLocks.{Try, Tally, try_of, tried_again, is_refused, last_try, is_won, gives, is_gone, tally_after, tally_from}
+use Rattle.protocol_model.specs.ClientLocks.{Try, Tally, try_of, tried_again, waits_for_retry, last_try, is_won, gives, is_no_more, tally_after, tally_from}
 use Rattle.protocol_model.specs.World.{Opening, World, WorldEvent, At, Deliver, in_world, left, refusal, happens, accepted, answers, run}
 use Rattle.lock_answers.proofs.Orders.{ordered_keeps}
 use Rattle.lock_answers.proofs.Answering.{any_true}
 use Rattle.lock_answers.proofs.Clients.{Numbers, call_at}
 use Rattle.lock_answers.proofs.RoundNumbers
-use Rattle.lock_answers.proofs.RoundNumbers.{number_after}
+use Rattle.lock_answers.proofs.RoundNumbers.{round_count_after}
 use Rattle.lock_answers.proofs.Tallies.{accepted_tried}
 use Rattle.lock_answers.proofs.TriedEvents.{Tried}
 use Rattle.lock_answers.proofs.Tries.{Fits, lost_without}
@@ -28,7 +28,7 @@ use Rattle.cluster_world.proofs.Winning.{is_plain, is_waited, waited_plain, wait
 plain_last : (w : World) (e : WorldEvent) (p : Process) (t : Option Try) (s : Try) → is_plain e ≡ true
     → last_try w e p t ≡ Some s → (u : Try) × ((t ≡ Some u) × (u.number ≡ s.number))
 plain_last w (Deliver f b) p t s h is = (s, (is, refl))
-plain_last w (At a Event.Retry) p t s h is = go ((a == p.node) && is_refused w p) t is
+plain_last w (At a Event.Retry) p t s h is = go ((a == p.node) && waits_for_retry w p) t is
   where
     go : (b : Bool) (u : Option Try) → (if b then tried_again (w.node a).replica.members u else u) ≡ Some s
         → (v : Try) × ((u ≡ Some v) × (v.number ≡ s.number))
@@ -98,7 +98,7 @@ module _ (o : Opening) where
         → (any_true p.node m (answers o w e) ≡ false) × Silent (happens o w e) m
     silent_step w num S e free plain up m fit = (
       ap (is_won clerk (Global 0) 0 (answers o w e)) (sym same) ∙ T.won (Global 0) 0
-          ∙ ap (RoundNumbers.is_won (Global 0) 0 (answers o w e)) none,
+          ∙ ap (RoundNumbers.is_won_by_round (Global 0) 0 (answers o w e)) none,
       subst (λ (v : World). Fits v clerk (Some (shown m))) (sym (happened o w e free))
           (subst (λ (t : Option Try). Fits (accepted o w e) clerk t) same T.fits),
     )
@@ -115,9 +115,9 @@ module _ (o : Opening) where
 
     -- the try has a number under which nothing comes any more
     abbrev pub Spent : World → Option Try → Type 0
-    Spent w t = (s : Try) → t ≡ Some s → is_gone w p ≡ false → Silent w s.number
+    Spent w t = (s : Try) → t ≡ Some s → is_no_more w p ≡ false → Silent w s.number
 
-    runs : (w : World) → is_gone w p ≡ false → left w p.node ≡ false
+    runs : (w : World) → is_no_more w p ≡ false → left w p.node ≡ false
     runs w h = go (left w p.node) (is_dead (w.node p.node).watch p.serial) h
       where
         go : (b d : Bool) → (b || d) ≡ false → b ≡ false
@@ -127,7 +127,7 @@ module _ (o : Opening) where
     -- a deletion, and what it waits for, wins nothing by it
     pub spent_step : (w : World) (num : Numbers) → Behind o w num → (e : WorldEvent) (i : Id) (c : ℕ) (j : Tally)
         (n : ℕ) (given : Bool) → refusal o w e ≡ None → is_plain e ≡ true → Spent w j.last
-        → (is_gone w p ≡ false → j.number ≡ n) → gives w e p i c ≡ given
+        → (is_no_more w p ≡ false → j.number ≡ n) → gives w e p i c ≡ given
         → IsNow o p i c (happens o w e) (tally_after o w e p i c j) (if given then n - 1 else n)
         × Spent (happens o w e) (tally_after o w e p i c j).last
     spent_step w num S e i c j n given free plain spent same goes = (
@@ -138,11 +138,11 @@ module _ (o : Opening) where
       λ s is up. (on s (sym (last_so o p i c w e j free) ∙ is) up).1,
     )
       where
-        on : (s : Try) → last_try w e p j.last ≡ Some s → is_gone (happens o w e) p ≡ false
+        on : (s : Try) → last_try w e p j.last ≡ Some s → is_no_more (happens o w e) p ≡ false
             → (any_true p.node s.number (answers o w e) ≡ false) × Silent (happens o w e) s.number
         on s is up =
             let was : (u : Try) × ((j.last ≡ Some u) × (u.number ≡ s.number)) = plain_last w e p j.last s plain is in
-            let alive : is_gone w p ≡ false = gone_before o w num S e free p up in
+            let alive : is_no_more w p ≡ false = gone_before o w num S e free p up in
             subst (λ (m : ℕ). (any_true p.node m (answers o w e) ≡ false) × Silent (happens o w e) m) was.1.1
             (silent_step w num S e free plain (runs w alive) was.0.number (spent was.0 was.1.0 alive))
 
@@ -160,7 +160,7 @@ module _ (o : Opening) where
         × Spent (happens o w e) (tally_after o w e p i c j).last =
         spent_step w num S e i c j n false (none_by (refusal o w e) fine.0) (waited_plain e plain.0) spent
         (λ alive. now_up o p i c w j n now alive) (waited_gives w e p i c plain.0) in
-        spent_stays es (happens o w e) (λ q x y. number_after o w e q x y (num q x y))
+        spent_stays es (happens o w e) (λ q x y. round_count_after o w e q x y (num q x y))
         (event_keeps o (All o) (grounds o) w e num S) i c (tally_after o w e p i c j) n fine.1 plain.1 one.1 one.0
 
     -- a try whose process has no open call is spent

@@ -9,13 +9,13 @@ use Rattle.std.proofs.lemmas.List.Folds.{list_all-append}
 use Rattle.registry_model.specs.Process.{Process, nodes_of}
 use Rattle.protocol_model.specs.Letter.{Id, is_id}
 use Rattle.protocol_model.specs.Event.{Call, Event, Answer, Refusal}
-use Rattle.protocol_model.specs.ClientLocks.{Try, Tally, try_of, tried_again, is_refused, last_try, is_won, gives, is_gone, tallied, tally_after, tally_from}
+use Rattle.protocol_model.specs.ClientLocks.{Try, Tally, try_of, tried_again, waits_for_retry, last_try, is_won, gives, is_no_more, tallied, tally_after, tally_from}
 use Rattle.protocol_model.specs.World.{Opening, in_world, World, WorldEvent, At, Deliver, place, refusal, happens, accepted, answers, run, all_answers, deliveries, next_delivery}
 use Rattle.lock_answers.proofs.Walk.{OrderedWalk, walked_in_order}
 use Rattle.lock_answers.proofs.Answering.{any_true}
 use Rattle.lock_answers.proofs.Chains.{up_before}
 use Rattle.lock_answers.proofs.Clients.{Numbers}
-use Rattle.lock_answers.proofs.RoundNumbers.{number_after}
+use Rattle.lock_answers.proofs.RoundNumbers.{round_count_after}
 use Rattle.lock_answers.proofs.Told.{chain_of}
 use Rattle.lock_answers.proofs.Walking.{Grounds, State, event_keeps}
 use Rattle.lock_answers.proofs.Together.{All, all_opens, all_keeps, widens}
@@ -91,7 +91,7 @@ IsOf k id t = (s : Try) × ((t ≡ Some s) × ((s.number ≡ k) × (s.id ≡ id)
 pub stays_of : (w : World) (e : WorldEvent) (p : Process) (k : ℕ) (id : Id) (t : Option Try) → is_waited e ≡ true
     → IsOf k id t → IsOf k id (last_try w e p t)
 stays_of w (Deliver f b) p k id t h is = is
-stays_of w (At a Event.Retry) p k id t h is = go ((a == p.node) && is_refused w p)
+stays_of w (At a Event.Retry) p k id t h is = go ((a == p.node) && waits_for_retry w p)
   where
     again : tried_again (w.node a).replica.members t
         ≡ Some (try_of (w.node a).replica.members is.0.number is.0.id is.0.target)
@@ -122,9 +122,9 @@ module _ (o : Opening) where
 
   -- who isn't gone wasn't gone
   pub gone_before : (w : World) (num : Numbers) → Behind w num → (e : WorldEvent) → refusal o w e ≡ None
-      → (p : Process) → is_gone (happens o w e) p ≡ false → is_gone w p ≡ false
+      → (p : Process) → is_no_more (happens o w e) p ≡ false → is_no_more w p ≡ false
   gone_before w num S e h p up = up_before o (place e) (chain_of o w e walked.walk.rest) w p
-      (ap (λ (v : World). is_gone v p) (walked.walk.world ∙ sym (happened w e h)) ∙ up)
+      (ap (λ (v : World). is_no_more v p) (walked.walk.world ∙ sym (happened w e h)) ∙ up)
     where
       walked : OrderedWalk o w e
       walked = walked_in_order o w e S.ordered (grounds.wide w S.family S.once) h
@@ -132,14 +132,14 @@ module _ (o : Opening) where
   module _ (p : Process) (i : Id) (c : ℕ) where
     -- what an accepted event makes of a number n
     pub counted_so : (w : World) (e : WorldEvent) (k : Tally) (n : ℕ) (won given : Bool) → refusal o w e ≡ None
-        → (is_gone (happens o w e) p ≡ false → (k.number ≡ n)
+        → (is_no_more (happens o w e) p ≡ false → (k.number ≡ n)
         × (is_won p i c (answers o w e) (last_try w e p k.last) ≡ won))
         → gives w e p i c ≡ given
         → (tally_after o w e p i c k).number ≡ unless_gone (happens o w e) p
         (if won then n + 1 else (if given then n - 1 else n))
     counted_so w e k n won given free same goes =
         ap (λ (r : Option Refusal). (if is_none r then tallied o w e p i c k else k).number) free
-        ∙ go (is_gone (happens o w e) p) (gives w e p i c) same goes
+        ∙ go (is_no_more (happens o w e) p) (gives w e p i c) same goes
       where
         go : (gone d : Bool) → (gone ≡ false → (k.number ≡ n)
             × (is_won p i c (answers o w e) (last_try w e p k.last) ≡ won)) → d ≡ given
@@ -160,7 +160,7 @@ module _ (o : Opening) where
     abbrev pub IsNow : World → Tally → ℕ → Type 0
     IsNow w k n = k.number ≡ unless_gone w p n
 
-    pub now_up : (w : World) (k : Tally) (n : ℕ) → IsNow w k n → is_gone w p ≡ false → k.number ≡ n
+    pub now_up : (w : World) (k : Tally) (n : ℕ) → IsNow w k n → is_no_more w p ≡ false → k.number ≡ n
     now_up w k n is up = is ∙ ap (λ (b : Bool). if b then 0 else n) up
 
     module _ (k : ℕ) (id : Id) where
@@ -193,7 +193,7 @@ module _ (o : Opening) where
       -- an event, and then others where it leaves the call unanswered
       pub answered_so : (w : World) (num : Numbers) → Behind w num → (e : WorldEvent) (es : List WorldEvent) (j : Tally)
           (n : ℕ) → refusal o w e ≡ None → IsOf k id (last_try w e p j.last) → gives w e p i c ≡ false
-          → (is_gone (happens o w e) p ≡ false → j.number ≡ n)
+          → (is_no_more (happens o w e) p ≡ false → j.number ≡ n)
           → (IsOf k id (tally_after o w e p i c j).last
           → IsNow (happens o w e) (tally_after o w e p i c j) n → Once (happens o w e) es
           → CountsSo (happens o w e) es (tally_after o w e p i c j) n)
@@ -237,7 +237,7 @@ module _ (o : Opening) where
           → IsNow w j n → Once w (awaiting o p.node k most w) → CountsSo w (awaiting o p.node k most w) j n
       waited_so zero w num S j n is now once = nothing w j n now
       waited_so (suc most) w num S j n is now once = go (refusal o w e) refl once
-          (λ free is2 now2 h2. waited_so most (happens o w e) (λ q x y. number_after o w e q x y (num q x y))
+          (λ free is2 now2 h2. waited_so most (happens o w e) (λ q x y. round_count_after o w e q x y (num q x y))
           (event_keeps o (All o) grounds w e num S) (tally_after o w e p i c j) n is2 now2 h2)
         where
           e : WorldEvent

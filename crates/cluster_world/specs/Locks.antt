@@ -1,7 +1,7 @@
 -- Clients' locks of a world.
 use Rattle.std.specs.Prelude.{ℕ, Bool, true, false, ◌≡◌, ◌&&◌, ◌||◌, not, Option, None, is_some, List, [], ◌∷◌, ◌++◌}
 use Rattle.registry_model.specs.Process.{Text, Process}
-use Rattle.protocol_model.specs.ClientLocks.{Try, tally_from, last_try, is_won, is_gone, gives}
+use Rattle.protocol_model.specs.ClientLocks.{Try, tally_from, last_try, is_won, is_no_more, gives}
 use Rattle.protocol_model.specs.LockAnswers.{ClientLocks}
 use Rattle.protocol_model.specs.Letter.{Id, Client}
 use Rattle.protocol_model.specs.World.{Opening, World, WorldEvent as AnyWorldEvent, in_world, left, opening_world, refusal, happens, answers, run}
@@ -31,7 +31,7 @@ LocksInEveryWorld = (nodes cluster : List ℕ) (es : List AnyWorldEvent) → Loc
 -- the event leaves p its lock of this id at c: it is refused, or behind it p is neither dead nor on a node that has
 -- left, and it is no `del_lock` of that id by p that goes to c
 abbrev pub is_left : Opening → World → AnyWorldEvent → Process → Id → ℕ → Bool
-is_left o w e p id c = is_some (refusal o w e) || (not (is_gone (happens o w e) p) && not (gives w e p id c))
+is_left o w e p id c = is_some (refusal o w e) || (not (is_no_more (happens o w e) p) && not (gives w e p id c))
 
 -- so does each of these events
 abbrev pub is_kept : Opening → World → List AnyWorldEvent → Process → Id → ℕ → Bool
@@ -55,7 +55,7 @@ pub record HasLock (o : Opening) (es : List AnyWorldEvent) (p : Process) (id : I
   pub accepted : refusal o (made_by o before) event ≡ None
   pub granted : is_won p id c (answers o (made_by o before) event)
       (last_try (made_by o before) event p (try_behind o before p id c)) ≡ true
-  pub alive : is_gone (happens o (made_by o before) event) p ≡ false
+  pub alive : is_no_more (happens o (made_by o before) event) p ≡ false
   pub kept : is_kept o (happens o (made_by o before) event) later p id c ≡ true
 
 -- Two requesters whose granted locks on one resource asked a common running node never both hold it there

@@ -137,14 +137,14 @@ settles_still b es given f g v u decided entered words same current queue =
     (owed-same b f g same v.current))
 
 -- accounts over a turn
-pub settled : (b : ℕ) (new : List Numbered) (es history : List Entry) (given before : List Answer)
+pub account_settled : (b : ℕ) (new : List Numbered) (es history : List Entry) (given before : List Answer)
     (f g : ℕ → Option Reply) (v u : Node) (accepted : List Numbered)
     → SettlesNode b new es given f g v u
     → accepted ≡ flat_map (decided_at b) history ++ own f v
     → flat_map (entered_at b) history ≡ filter (is_word_at b) before ++ owed_by b f v.current
     → (accepted ++ new ≡ flat_map (decided_at b) (history ++ es) ++ own g u)
     × (flat_map (entered_at b) (history ++ es) ≡ filter (is_word_at b) (before ++ given) ++ owed_by b g u.current)
-settled b new es history given before f g v u accepted S calls answers = (
+account_settled b new es history given before f g v u accepted S calls answers = (
   ap (λ (l : List Numbered). l ++ new) calls
       ∙ append_assoc (flat_map (decided_at b) history) (own f v) new
       ∙ ap (λ (l : List Numbered). flat_map (decided_at b) history ++ l) S.calls

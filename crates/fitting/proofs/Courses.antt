@@ -8,7 +8,7 @@ use Rattle.registry_model.specs.History.{Entry}
 use Rattle.protocol_model.specs.Event.{Refusal}
 use Rattle.protocol_model.specs.World.{Opening, World, WorldEvent, turn_of, refusal, accepted, opening_world}
 use Rattle.protocol_model.specs.Course.{Played, played, entries_of}
-use Rattle.protocol_model.specs.Fit.{is_exit, is_left, is_told, is_read, exit_of, left_of, told_of}
+use Rattle.protocol_model.specs.Fit.{is_exit, is_left, is_told, is_read, exit_of, left_of, notice_of}
 use Rattle.fitting.proofs.Events.{read_of}
 use Rattle.moves.proofs.Rules
 use Rattle.fitting.proofs.Rests.{Rested, rested_keeps, rested_opens}
@@ -22,7 +22,7 @@ Match test own ps = filter test (entries_of ps) ≡ flat_map own ps
 pub record FitsApart (ps : List Played) : Type 0 where
   pub exits : Match is_exit exit_of ps
   pub departures : Match is_left left_of ps
-  pub notices : Match is_told told_of ps
+  pub notices : Match is_told notice_of ps
   pub reads : Match is_read read_of ps
 
 match-push : (test : Entry → Bool) (own : Played → List Entry) (ps : List Played) (p : Played)
@@ -57,11 +57,11 @@ apart_keeps o w e ps W is A = record {
   fits = record {
     exits = match-push is_exit exit_of ps (played o w e) A.fits.exits E.exits;
     departures = match-push is_left left_of ps (played o w e) A.fits.departures E.departures;
-    notices = match-push is_told told_of ps (played o w e) A.fits.notices E.notices;
+    notices = match-push is_told notice_of ps (played o w e) A.fits.notices E.notices;
     reads = match-push is_read read_of ps (played o w e) A.fits.reads E.reads;
   };
 }
   where
-    E : Own (turn_of o w e).entries (exit_of (played o w e)) (left_of (played o w e)) (told_of (played o w e))
+    E : Own (turn_of o w e).entries (exit_of (played o w e)) (left_of (played o w e)) (notice_of (played o w e))
         (read_of (played o w e))
     E = event_enters o w e A.rested is W

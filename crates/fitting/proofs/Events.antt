@@ -12,7 +12,7 @@ use Rattle.registry_model.specs.Call.{Reply, seen_in}
 use Rattle.fitting.proofs.Rests.{Rested, looked-answers, place_runs}
 use Rattle.protocol_model.specs.World.{Opening, World, WorldEvent, At, Deliver, join_number, turn_of, refusal, answers}
 use Rattle.protocol_model.specs.Course.{Played, played, is_down_first}
-use Rattle.protocol_model.specs.Fit.{is_exit, is_left, is_told, is_read, exit_of, left_of, told_of}
+use Rattle.protocol_model.specs.Fit.{is_exit, is_left, is_told, is_read, exit_of, left_of, notice_of}
 use Rattle.moves.proofs.Rules
 use Rattle.moves.proofs.Indices.{both}
 use Rattle.join_gates.proofs.Made.{entered, entries_made}
@@ -103,7 +103,7 @@ letter_enters o w f t (_ ∷ ls) rest es quiet e = rest_chain o t rest w es quie
 
 -- what an accepted event enters of them
 pub event_enters : (o : Opening) (w : World) (e : WorldEvent) → Rested w → refusal o w e ≡ None → Rules.Walked o w e
-    → Own (turn_of o w e).entries (exit_of (played o w e)) (left_of (played o w e)) (told_of (played o w e))
+    → Own (turn_of o w e).entries (exit_of (played o w e)) (left_of (played o w e)) (notice_of (played o w e))
     (read_of (played o w e))
 event_enters o w (Deliver f t) R N W = letter_enters o w f t (w.links.queue f t) W.rest
     (turn_of o w (Deliver f t)).entries W.quiet W.entries

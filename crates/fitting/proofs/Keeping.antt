@@ -21,7 +21,7 @@ use Rattle.join_gates.proofs.Still.{effect-node, effect-history}
 use Rattle.join_gates.proofs.Shown.{LoneOwners}
 use Rattle.join_gates.proofs.Moves.{knocking, waiting}
 use Rattle.join_gates.proofs.Joins.{gate_by, gates_keep, gates_open}
-use Rattle.fitting.proofs.Accounts.{reply_by, own as own_calls, owed_by, is_word_at, replies_to, Accounts, SettlesNode, settled}
+use Rattle.fitting.proofs.Accounts.{reply_by, own as own_calls, owed_by, is_word_at, replies_to, Accounts, SettlesNode, account_settled}
 use Rattle.fitting.proofs.Settling.{joins_elsewhere, settles_other, settles_join}
 use Rattle.fitting.proofs.Working.{accepted_by, goes_on, settles_self}
 
@@ -135,7 +135,7 @@ accounts_keep o a w r accepted given P R R2 own O M A = record {
         × (flat_map (entered_at b) (w.history ++ es) ≡ filter (is_word_at b) (given ++ xs) ++ owed_by b (row b)
         (at w.node a (Rules.turn_by o a w r).node b).current))
         (sym (answers_made o a (join_number w) r (w.node a)))
-        (settled b (if b == a then accepted_by r (w.node a) else []) es w.history (answered a r (w.node a)) given
+        (account_settled b (if b == a then accepted_by r (w.node a) else []) es w.history (answered a r (w.node a)) given
         (replies_to A.gate b) (row b) (w.node b)
         (at w.node a (Rules.turn_by o a w r).node b) (accepted b) (settles_by o a w r A.gate P R A.gates M b)
         (A.calls b) (A.answers b))))

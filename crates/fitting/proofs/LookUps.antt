@@ -14,7 +14,7 @@ use Rattle.registry_model.proofs.Lists.{Contains-cases, Contains-nil}
 use Rattle.protocol_model.specs.Watch.{next_serial}
 use Rattle.protocol_model.specs.Event.{Call, Event, Answer}
 use Rattle.protocol_model.specs.Turn.{Turn}
-use Rattle.protocol_model.specs.Fit.{exit_of, left_of, told_of, accepted_at, calls_in}
+use Rattle.protocol_model.specs.Fit.{exit_of, left_of, notice_of, accepted_at, calls_in}
 use Rattle.protocol_model.specs.Answers.{answer_to, is_unnumbered, IsNoLookUp, LooksUpOnce}
 use Rattle.protocol_model.specs.World.{Opening, World, WorldEvent, At, Deliver, place, turn_of, refusal, accepted}
 use Rattle.protocol_model.specs.Course.{Played, played, answers_of}
@@ -26,7 +26,7 @@ use Rattle.fitting.proofs.Events.{Own, event_enters, read_of}
 use Rattle.fitting.proofs.Within.{Within}
 use Rattle.fitting.proofs.Admissions.{all_map}
 use Rattle.fitting.proofs.Chains.{Book}
-use Rattle.fitting.proofs.Replies.{Spares, is_used, is_answered, found, all_two, unused_before, word_used, IsOfCall, IsOfAnswer, of_call, takes_none, numbers_within, answers_given}
+use Rattle.fitting.proofs.Replies.{Spares, is_used, is_answered, answer_found, all_two, unused_before, word_used, IsOfCall, IsOfAnswer, of_call, takes_none, numbers_within, answers_given}
 
 -- what is said of each step by itself
 pub record IsOwnStep (p : Played) : Type 0 where
@@ -67,7 +67,7 @@ module _ (o : Opening) (w : World) (e : WorldEvent) (ps : List Played) (R : Repl
       (λ (s : Answer). is_word_at a s ≡ true → is_used (accepted_at a qs) s.number ≡ true)
       (λ s h t k. word_used o (accepted o w e) qs a s.number C
       (subst (λ (l : List Answer). is_answered (filter (is_word_at a) l) s.number ≡ true) behind (h k)))
-      u.answers (found (is_word_at a) (answers_of ps) u.answers) (units u.answers)
+      u.answers (answer_found (is_word_at a) (answers_of ps) u.answers) (units u.answers)
     where
       units : (xs : List Answer) → AllByRecursion (λ (s : Answer). Unit {0}) xs
       units [] = tt
@@ -117,7 +117,7 @@ module _ (o : Opening) (w : World) (e : WorldEvent) (ps : List Played) (R : Repl
       (subst (λ (l : List Answer). Contains l s) (answers_given o w e is) c)
 
   -- the look-ups among its entries are those of the event
-  own : Own u.entries (exit_of p) (left_of p) (told_of p) (read_of p)
+  own : Own u.entries (exit_of p) (left_of p) (notice_of p) (read_of p)
   own = event_enters o w e rested is W
 
   -- no look-up and no `spawn`

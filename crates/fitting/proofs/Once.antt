@@ -22,7 +22,7 @@ use Rattle.moves.proofs.Invariants.{Replicas}
 use Rattle.fitting.proofs.Accounts.{own, owed_by, is_word, is_word_at, replies_to}
 use Rattle.fitting.proofs.Admissions.{all_map}
 use Rattle.fitting.proofs.Chains.{Book}
-use Rattle.fitting.proofs.Replies.{Spare, Spares, is_used, is_answered, found, filter_same, word_used}
+use Rattle.fitting.proofs.Replies.{Spare, Spares, is_used, is_answered, answer_found, filter_same, word_used}
 
 -- node a answers under number k
 abbrev pub is_under : ℕ → ℕ → Answer → Bool
@@ -304,5 +304,5 @@ answers_once o w ps B X R locks a k pos = by_kind (is_used (accepted_at a ps) k)
         (all_map (λ (s : Answer). is_word_at a s ≡ true
         → is_answered (filter (is_word_at a) (answers_of ps)) s.number ≡ true)
         (λ (s : Answer). is_lock_under a k s ≡ is_under a k s) (no_words unused) (answers_of ps)
-        (found (is_word_at a) [] (answers_of ps))))
+        (answer_found (is_word_at a) [] (answers_of ps))))
         (locks a k pos)

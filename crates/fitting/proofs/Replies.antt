@@ -231,13 +231,13 @@ abbrev pub is_answered : List Answer → ℕ → Bool
 is_answered xs n = list_any (λ s. s.number == n) xs
 
 -- each that passes a test has its number among those that do
-pub found : (test : Answer → Bool) (before xs : List Answer)
+pub answer_found : (test : Answer → Bool) (before xs : List Answer)
     → AllByRecursion (λ s. test s ≡ true → is_answered (filter test (before ++ xs)) s.number ≡ true) xs
-found test before [] = tt
-found test before (x ∷ xs) = (
+answer_found test before [] = tt
+answer_found test before (x ∷ xs) = (
   here,
   subst (λ (l : List Answer). AllByRecursion (λ s. test s ≡ true → is_answered (filter test l) s.number ≡ true) xs)
-      (append_assoc before (x ∷ []) xs) (found test (before ++ x ∷ []) xs),
+      (append_assoc before (x ∷ []) xs) (answer_found test (before ++ x ∷ []) xs),
 )
   where
     here : test x ≡ true → is_answered (filter test (before ++ x ∷ xs)) x.number ≡ true
@@ -292,7 +292,7 @@ answers_at-words o w ps a B X = filter_same (is_answer_at a (accepted_at a ps)) 
     (all_two (λ (s : Answer). is_word s.reply ≡ false → Spare ps s.node s.number)
     (λ (s : Answer). is_word_at a s ≡ true → is_answered (filter (is_word_at a) (answers_of ps)) s.number ≡ true)
     (λ (s : Answer). is_answer_at a (accepted_at a ps) s ≡ is_word_at a s) same (answers_of ps) X.answers
-    (found (is_word_at a) [] (answers_of ps)))
+    (answer_found (is_word_at a) [] (answers_of ps)))
   where
     same : (s : Answer) → (is_word s.reply ≡ false → Spare ps s.node s.number)
         → (is_word_at a s ≡ true → is_answered (filter (is_word_at a) (answers_of ps)) s.number ≡ true)

@@ -14,7 +14,7 @@ use Rattle.protocol_model.specs.LockTable.{is_free_for}
 use Rattle.protocol_model.specs.Watch.{is_live, owed}
 use Rattle.protocol_model.specs.Node.{Node, Op, Current, LockPhase, LockCall, Times, targets, call_of, put_call}
 use Rattle.protocol_model.specs.Event.{Call, Event, Answer}
-use Rattle.protocol_model.specs.Turn.{Turn, Send, begun, enter, counted, with_queue, at_work, keep_call, end_call, reply_with}
+use Rattle.protocol_model.specs.Turn.{Turn, Send, begun, enter, count_call, with_queue, at_work, keep_call, end_call, reply_with}
 use Rattle.protocol_model.specs.Registrar
 use Rattle.protocol_model.specs.Deciding
 use Rattle.protocol_model.specs.Client
@@ -415,12 +415,12 @@ module _ (S T : ℕ → Type 0) (weaken : (k : ℕ) → S k → T k) (a : ℕ) w
         → Within u → Within (Calling.call n a k c u)
     makes_call k Call.Spawn u zero_is s W = replies 0 _ _ (λ e. zero_is refl) (becomes _ u refl W.word W)
     makes_call k (Call.LookUp look) u zero_is s W = replies 0 _ _ (λ e. zero_is refl) (enters (Entry.Read a look _) u W)
-    makes_call k (Call.OnName c) u zero_is s W = queues _ (counted u) (becomes _ u refl W.word W)
+    makes_call k (Call.OnName c) u zero_is s W = queues _ (count_call u) (becomes _ u refl W.word W)
     makes_call k (Call.SetLock p r q target retries) u zero_is s W =
         tries (Client.new_call n a k p r q target retries) _ (s refl) (becomes _ u refl W.word W)
     makes_call k (Call.DelLock p r q target) u zero_is s W =
         deletes (Client.new_call n a k p r q target (Times 0)) _ (s refl) (becomes _ u refl W.word W)
-    makes_call k (Call.JoinBy m) u zero_is s W = queues _ (counted u) (becomes _ u refl W.word W)
+    makes_call k (Call.JoinBy m) u zero_is s W = queues _ (count_call u) (becomes _ u refl W.word W)
 
 -- what a node makes of an event has only such numbers
 pub event_within : (S T : ℕ → Type 0) (weaken : (k : ℕ) → S k → T k) (o : Opening) (w : World) (e : WorldEvent)

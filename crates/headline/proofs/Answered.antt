@@ -112,8 +112,8 @@ module _ (o : Opening) where
 
     -- each answer stands under its event's node, and each numbered call is answered at most once, by a reply that it
     -- may have
-    pub answered : AnswersCalls (events o es)
-    answered = record {
+    pub calls_answered : AnswersCalls (events o es)
+    calls_answered = record {
       place = λ p s c d. (told.kept.steps p c).place s d;
       once = answers_once o (world o es) (events o es) told.kept.book told.kept.spares
           (replicas o (world o es) (run_whole o es).kept) (λ a k pos. (told.ledgers a).once k pos);

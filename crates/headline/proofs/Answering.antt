@@ -13,7 +13,7 @@ use Rattle.protocol_model.specs.LockTable.{is_free_for}
 use Rattle.protocol_model.specs.Watch.{is_live, next_serial}
 use Rattle.protocol_model.specs.Node.{Op, Current, LockCall, Times, call_of}
 use Rattle.protocol_model.specs.Event.{Call, Event}
-use Rattle.protocol_model.specs.Turn.{Turn, begun, with_replica, at_work, enter, send, send_all, reply_with, counted}
+use Rattle.protocol_model.specs.Turn.{Turn, begun, with_replica, at_work, enter, send, send_all, reply_with, count_call}
 use Rattle.protocol_model.specs.Registrar.{registrar, start, ask_rest, await_less, finish, done, write, decide, lose_contact, contact_left, retry_global}
 use Rattle.protocol_model.specs.Deciding.{admit, held, end_by, go_on, hear_answer, lose}
 use Rattle.protocol_model.specs.Client.{new_call, hear_lock, owe_less, lose_node, retry_locks}
@@ -273,11 +273,11 @@ module _ (n a : ℕ) (number : ℕ → ℕ) where
   }) (tame_none u e.answers)
   tame_call k (Call.OnName c) u e = tame_none (call n a k (Call.OnName c) u) e.answers
   tame_call k (Call.SetLock p r q target retries) u e =
-      tame_same (counted u) (call n a k (Call.SetLock p r q target retries) u)
-      (same_try n a (new_call n a k p r q target retries) (counted u)) (tame_none (counted u) e.answers)
+      tame_same (count_call u) (call n a k (Call.SetLock p r q target retries) u)
+      (same_try n a (new_call n a k p r q target retries) (count_call u)) (tame_none (count_call u) e.answers)
   tame_call k (Call.DelLock p r q target) u e =
-      tame_same (counted u) (call n a k (Call.DelLock p r q target) u)
-      (same_delete n a (new_call n a k p r q target (Times 0)) (counted u)) (tame_none (counted u) e.answers)
+      tame_same (count_call u) (call n a k (Call.DelLock p r q target) u)
+      (same_delete n a (new_call n a k p r q target (Times 0)) (count_call u)) (tame_none (count_call u) e.answers)
   tame_call k (Call.JoinBy m) u e = tame_none (call n a k (Call.JoinBy m) u) e.answers
 
   -- a retry

@@ -10,7 +10,7 @@ use Rattle.registry_model.proofs.Lists.{Contains-front, Contains-behind, Contain
 use Rattle.protocol_model.specs.Event.{Event, Refusal, HoldsLock}
 use Rattle.protocol_model.specs.World.{Opening, in_world, World, At, refusal}
 use Rattle.protocol_model.specs.Course.{Played, seen, entries_of, global_given}
-use Rattle.protocol_model.specs.Fit.{Fits, accepted_at, decided_at, is_exit, is_left, is_told, exit_of, left_of, told_of}
+use Rattle.protocol_model.specs.Fit.{Fits, accepted_at, decided_at, is_exit, is_left, is_told, exit_of, left_of, notice_of}
 use Rattle.protocol_model.specs.Answers.{answers_at, entered_at}
 use Rattle.protocol_model.specs.Headline.{standing, Shows, IsRunning, GroupShows, HasTheLock, Headline}
 use Rattle.protocol_model.specs.Tests.{are_nodes, is_replica, is_numbered_call, is_answer}
@@ -103,7 +103,7 @@ module _ (o : Opening) where
       (flat_map (decided_at a) (entries_of ps)) (accepted_at a ps) (f.calls a))))
       (Same.entries_of (filter is_exit (entries_of ps)) (flat_map exit_of ps) f.exits))
       (Same.entries_of (filter is_left (entries_of ps)) (flat_map left_of ps) f.departures))
-      (Same.entries_of (filter is_told (entries_of ps)) (flat_map told_of ps) f.notices)
+      (Same.entries_of (filter is_told (entries_of ps)) (flat_map notice_of ps) f.notices)
 
   module _ (ps : List Played) (w : World) (H : Headline o ps (seen o w)) where
     -- the history

@@ -11,7 +11,7 @@ use Rattle.protocol_model.specs.Fit.{is_numbered}
 use Rattle.protocol_model.specs.World.{World, WorldEvent, At, Deliver, local_causes}
 use Rattle.moves.proofs.Indices.{neither}
 use Rattle.protocol_model.specs.Refusals.{IsLockCall, Sets, Deletes}
-use Rattle.headline.proofs.Making.{passes}
+use Rattle.headline.proofs.Making.{item_passes}
 
 -- the refusals in the order in which they come
 abbrev pub rank : Refusal → ℕ
@@ -29,8 +29,8 @@ rank CallsSpent = 10
 rank _ = 11
 
 -- the refusal is of this rank
-abbrev pub is : ℕ → Refusal → Bool
-is k r = rank r == k
+abbrev pub is_kind : ℕ → Refusal → Bool
+is_kind k r = rank r == k
 
 -- those that only lock calls have, and those that only exits have
 abbrev pub of_lock : Refusal → Bool
@@ -45,40 +45,40 @@ of_exit AlreadyExited = true
 of_exit _ = false
 
 -- some of these refusals is of this kind
-abbrev pub has : (Refusal → Bool) → List Cause → Bool
-has kind cs = list_any (λ c. kind c.refusal) cs
+abbrev pub has_cause : (Refusal → Bool) → List Cause → Bool
+has_cause kind cs = list_any (λ c. kind c.refusal) cs
 
 -- a refusal of a kind that none of them has
-pub never : (kind : Refusal → Bool) (cs : List Cause) (q : Refusal) → has kind cs ≡ false → kind q ≡ true
+pub never_caused : (kind : Refusal → Bool) (cs : List Cause) (q : Refusal) → has_cause kind cs ≡ false → kind q ≡ true
     → first_cause cs ≡ Some q → ⊥
-never kind [] q n k e = cc
-never kind (c ∷ cs) q n k e = go c.stands e (λ h. never kind cs q parts.1 k h)
+never_caused kind [] q n k e = cc
+never_caused kind (c ∷ cs) q n k e = go c.stands e (λ h. never_caused kind cs q parts.1 k h)
   where
-    parts : (kind c.refusal ≡ false) × (has kind cs ≡ false)
-    parts = neither (kind c.refusal) (has kind cs) n
+    parts : (kind c.refusal ≡ false) × (has_cause kind cs ≡ false)
+    parts = neither (kind c.refusal) (has_cause kind cs) n
 
     go : (b : Bool) → (if b then Some c.refusal else first_cause cs) ≡ Some q → (first_cause cs ≡ Some q → ⊥) → ⊥
     go true h more = let same : c.refusal ≡ q = cc in cc (parts.0, ap kind same, k)
     go false h more = more h
 
 -- the first has no cause where the refusal is of another kind
-pub behind : (kind : Refusal → Bool) (b : Bool) (r : Refusal) (cs : List Cause) (q : Refusal) → kind r ≡ false
+pub cause_behind : (kind : Refusal → Bool) (b : Bool) (r : Refusal) (cs : List Cause) (q : Refusal) → kind r ≡ false
     → kind q ≡ true → first_cause (cause b r ∷ cs) ≡ Some q → (b ≡ false) × (first_cause cs ≡ Some q)
-behind kind true r cs q n k e = let same : r ≡ q = cc in absurd (cc (n, ap kind same, k))
-behind kind false r cs q n k e = (refl, e)
+cause_behind kind true r cs q n k e = let same : r ≡ q = cc in absurd (cc (n, ap kind same, k))
+cause_behind kind false r cs q n k e = (refl, e)
 
 -- the first has cause where no other has this refusal
-pub here : (kind : Refusal → Bool) (b : Bool) (r : Refusal) (cs : List Cause) (q : Refusal) → has kind cs ≡ false
+pub cause_here : (kind : Refusal → Bool) (b : Bool) (r : Refusal) (cs : List Cause) (q : Refusal) → has_cause kind cs ≡ false
     → kind q ≡ true → first_cause (cause b r ∷ cs) ≡ Some q → (b ≡ true) × (r ≡ q)
-here kind true r cs q n k e = (refl, cc)
-here kind false r cs q n k e = absurd (never kind cs q n k e)
+cause_here kind true r cs q n k e = (refl, cc)
+cause_here kind false r cs q n k e = absurd (never_caused kind cs q n k e)
 
 -- it has none, or it has
-pub past : (b : Bool) (r : Refusal) (cs : List Cause) → b ≡ false → first_cause (cause b r ∷ cs) ≡ first_cause cs
-past b r cs e = ap (λ (t : Bool). if t then Some r else first_cause cs) e
+pub cause_past : (b : Bool) (r : Refusal) (cs : List Cause) → b ≡ false → first_cause (cause b r ∷ cs) ≡ first_cause cs
+cause_past b r cs e = ap (λ (t : Bool). if t then Some r else first_cause cs) e
 
-pub hits : (b : Bool) (r : Refusal) (cs : List Cause) → b ≡ true → first_cause (cause b r ∷ cs) ≡ Some r
-hits b r cs e = ap (λ (t : Bool). if t then Some r else first_cause cs) e
+pub cause_hits : (b : Bool) (r : Refusal) (cs : List Cause) → b ≡ true → first_cause (cause b r ∷ cs) ≡ Some r
+cause_hits b r cs e = ap (λ (t : Bool). if t then Some r else first_cause cs) e
 
 -- not 0, or above 0
 pub above_zero : (s : ℕ) → not (s == 0) ≡ true → 0 < s
@@ -104,12 +104,12 @@ pub stranger_in : (s : Nodes) (xs : List ℕ) (c : ℕ) → Contains xs c → s 
 stranger_in s xs c h f = go (list_all s xs) refl
   where
     go : (b : Bool) → list_all s xs ≡ b → b ≡ false
-    go true e = cc (passes s xs c e h, f)
+    go true e = cc (item_passes s xs c e h, f)
     go false e = refl
 
 -- no event has a refusal of the world behind the first two
-pub local_world : (w : World) (e : WorldEvent) → (has (is 0) (local_causes w e) ≡ false)
-    × (has (is 1) (local_causes w e) ≡ false)
+pub local_world : (w : World) (e : WorldEvent) → (has_cause (is_kind 0) (local_causes w e) ≡ false)
+    × (has_cause (is_kind 1) (local_causes w e) ≡ false)
 local_world w (Deliver f t) = (refl, refl)
 local_world w (At a (Event.Calling Call.Spawn)) = (refl, refl)
 local_world w (At a (Event.Calling (Call.LookUp look))) = (refl, refl)
@@ -125,9 +125,9 @@ module _ (w : World) where
   -- what is tested of a lock call first, and then
   pub record Locking (a : ℕ) (p : Process) (r : Text) (e : WorldEvent) : Type 0 where
     pub more : List Cause
-    pub no_dead : has (is 2) more ≡ false
-    pub no_busy : has (is 3) more ≡ false
-    pub no_global : has (is 4) more ≡ false
+    pub no_dead : has_cause (is_kind 2) more ≡ false
+    pub no_busy : has_cause (is_kind 3) more ≡ false
+    pub no_global : has_cause (is_kind 4) more ≡ false
     pub causes : local_causes w e ≡ lock_causes a (w.node a) p r ++ more
 
   -- what is tested of it behind its process
@@ -156,69 +156,69 @@ module _ (w : World) where
   -- `set_lock`s is one
   pub only_locks : (e : WorldEvent) (q : Refusal) → of_lock q ≡ true → first_cause (local_causes w e) ≡ Some q
       → (a : ℕ) × (p : Process) × (r : Text) × IsLockCall a p r e
-  only_locks (Deliver f t) q k h = absurd (never of_lock (local_causes w (Deliver f t)) q refl k h)
+  only_locks (Deliver f t) q k h = absurd (never_caused of_lock (local_causes w (Deliver f t)) q refl k h)
   only_locks (At a (Event.Calling (Call.SetLock p r z target retries))) q k h = (a, p, r, Sets z target retries)
   only_locks (At a (Event.Calling (Call.DelLock p r z target))) q k h = (a, p, r, Deletes z target)
   only_locks (At a (Event.Calling c)) q k h =
-      absurd (never of_lock (local_causes w (At a (Event.Calling c))) q refl k h)
-  only_locks (At a e) q k h = absurd (never of_lock (local_causes w (At a e)) q refl k h)
+      absurd (never_caused of_lock (local_causes w (At a (Event.Calling c))) q refl k h)
+  only_locks (At a e) q k h = absurd (never_caused of_lock (local_causes w (At a e)) q refl k h)
 
   pub only_exits : (e : WorldEvent) (q : Refusal) → of_exit q ≡ true → first_cause (local_causes w e) ≡ Some q
       → (a : ℕ) × (p : Process) × (e ≡ At a (Event.Exiting p))
-  only_exits (Deliver f t) q k h = absurd (never of_exit (local_causes w (Deliver f t)) q refl k h)
+  only_exits (Deliver f t) q k h = absurd (never_caused of_exit (local_causes w (Deliver f t)) q refl k h)
   only_exits (At a (Event.Exiting p)) q k h = (a, p, refl)
   only_exits (At a (Event.Calling c)) q k h =
-      absurd (never of_exit (local_causes w (At a (Event.Calling c))) q (go c) k h)
+      absurd (never_caused of_exit (local_causes w (At a (Event.Calling c))) q (go c) k h)
     where
-      go : (c : Call) → has of_exit (local_causes w (At a (Event.Calling c))) ≡ false
+      go : (c : Call) → has_cause of_exit (local_causes w (At a (Event.Calling c))) ≡ false
       go Call.Spawn = refl
       go (Call.LookUp look) = refl
       go (Call.OnName c) = refl
       go (Call.SetLock p r q target retries) = refl
       go (Call.DelLock p r q target) = refl
       go (Call.JoinBy m) = refl
-  only_exits (At a e) q k h = absurd (never of_exit (local_causes w (At a e)) q refl k h)
+  only_exits (At a e) q k h = absurd (never_caused of_exit (local_causes w (At a e)) q refl k h)
 
   pub only_sets : (e : WorldEvent) → first_cause (local_causes w e) ≡ Some UnknownNode
       → (a : ℕ) × (p : Process) × (r z : Text) × (target : Target) × (retries : Retries)
       × (e ≡ At a (Event.Calling (Call.SetLock p r z target retries)))
   only_sets (At a (Event.Calling (Call.SetLock p r z target retries))) h = (a, p, r, z, target, retries, refl)
   only_sets (At a (Event.Calling c)) h =
-      absurd (never (is 5) (local_causes w (At a (Event.Calling c))) UnknownNode refl refl h)
-  only_sets (At a e) h = absurd (never (is 5) (local_causes w (At a e)) UnknownNode refl refl h)
-  only_sets (Deliver f t) h = absurd (never (is 5) (local_causes w (Deliver f t)) UnknownNode refl refl h)
+      absurd (never_caused (is_kind 5) (local_causes w (At a (Event.Calling c))) UnknownNode refl refl h)
+  only_sets (At a e) h = absurd (never_caused (is_kind 5) (local_causes w (At a e)) UnknownNode refl refl h)
+  only_sets (Deliver f t) h = absurd (never_caused (is_kind 5) (local_causes w (Deliver f t)) UnknownNode refl refl h)
 
   -- so is one with the refusal of `spawn`s, and one with that of joins
   pub only_spawns : (e : WorldEvent) → first_cause (local_causes w e) ≡ Some SerialsSpent
       → (a : ℕ) × (e ≡ At a (Event.Calling Call.Spawn))
   only_spawns (At a (Event.Calling Call.Spawn)) h = (a, refl)
   only_spawns (At a (Event.Calling c)) h =
-      absurd (never (is 8) (local_causes w (At a (Event.Calling c))) SerialsSpent refl refl h)
-  only_spawns (At a e) h = absurd (never (is 8) (local_causes w (At a e)) SerialsSpent refl refl h)
-  only_spawns (Deliver f t) h = absurd (never (is 8) (local_causes w (Deliver f t)) SerialsSpent refl refl h)
+      absurd (never_caused (is_kind 8) (local_causes w (At a (Event.Calling c))) SerialsSpent refl refl h)
+  only_spawns (At a e) h = absurd (never_caused (is_kind 8) (local_causes w (At a e)) SerialsSpent refl refl h)
+  only_spawns (Deliver f t) h = absurd (never_caused (is_kind 8) (local_causes w (Deliver f t)) SerialsSpent refl refl h)
 
   pub only_joins : (e : WorldEvent) → first_cause (local_causes w e) ≡ Some AlreadyJoined
       → (a : ℕ) × (m : ℕ) × (e ≡ At a (Event.Calling (Call.JoinBy m)))
   only_joins (At a (Event.Calling (Call.JoinBy m))) h = (a, m, refl)
   only_joins (At a (Event.Calling c)) h =
-      absurd (never (is 9) (local_causes w (At a (Event.Calling c))) AlreadyJoined refl refl h)
-  only_joins (At a e) h = absurd (never (is 9) (local_causes w (At a e)) AlreadyJoined refl refl h)
-  only_joins (Deliver f t) h = absurd (never (is 9) (local_causes w (Deliver f t)) AlreadyJoined refl refl h)
+      absurd (never_caused (is_kind 9) (local_causes w (At a (Event.Calling c))) AlreadyJoined refl refl h)
+  only_joins (At a e) h = absurd (never_caused (is_kind 9) (local_causes w (At a e)) AlreadyJoined refl refl h)
+  only_joins (Deliver f t) h = absurd (never_caused (is_kind 9) (local_causes w (Deliver f t)) AlreadyJoined refl refl h)
 
   -- the numbers are looked at last
-  last_cause : (a : ℕ) (cs : List Cause) → has (is 10) cs ≡ false
+  last_cause : (a : ℕ) (cs : List Cause) → has_cause (is_kind 10) cs ≡ false
       → first_cause (cs ++ calls_spent (w.node a) ∷ []) ≡ Some CallsSpent → ((w.node a).last_call == last_u32) ≡ true
-  last_cause a [] n e = (here (is 10) ((w.node a).last_call == last_u32) CallsSpent [] CallsSpent refl refl e).0
+  last_cause a [] n e = (cause_here (is_kind 10) ((w.node a).last_call == last_u32) CallsSpent [] CallsSpent refl refl e).0
   last_cause a (c ∷ cs) n e = last_cause a cs parts.1
-      (behind (is 10) c.stands c.refusal (cs ++ calls_spent (w.node a) ∷ []) CallsSpent parts.0 refl e).1
+      (cause_behind (is_kind 10) c.stands c.refusal (cs ++ calls_spent (w.node a) ∷ []) CallsSpent parts.0 refl e).1
     where
-      parts : (is 10 c.refusal ≡ false) × (has (is 10) cs ≡ false)
-      parts = neither (is 10 c.refusal) (has (is 10) cs) n
+      parts : (is_kind 10 c.refusal ≡ false) × (has_cause (is_kind 10) cs ≡ false)
+      parts = neither (is_kind 10 c.refusal) (has_cause (is_kind 10) cs) n
 
   -- and where they are spent, something speaks against the call
   pub some_cause : (a : ℕ) (cs : List Cause) → ((w.node a).last_call == last_u32) ≡ true
       → first_cause (cs ++ calls_spent (w.node a) ∷ []) ≡ None → ⊥
-  some_cause a [] s e = cc (hits ((w.node a).last_call == last_u32) CallsSpent [] s, e)
+  some_cause a [] s e = cc (cause_hits ((w.node a).last_call == last_u32) CallsSpent [] s, e)
   some_cause a (c ∷ cs) s e = go c.stands e (some_cause a cs s)
     where
       go : (b : Bool) → (if b then Some c.refusal else first_cause (cs ++ calls_spent (w.node a) ∷ [])) ≡ None
@@ -229,7 +229,7 @@ module _ (w : World) where
   -- what a numbered call is refused for before that
   pub record Counting (a : ℕ) (call : Call) : Type 0 where
     pub first : List Cause
-    pub others : has (is 10) first ≡ false
+    pub others : has_cause (is_kind 10) first ≡ false
     pub causes : local_causes w (At a (Event.Calling call)) ≡ first ++ calls_spent (w.node a) ∷ []
 
   pub counting : (a : ℕ) (call : Call) → is_numbered call ≡ true → Counting a call
@@ -252,7 +252,7 @@ module _ (w : World) where
       × (((w.node a).last_call == last_u32) ≡ true)
   only_calls (At a (Event.Calling call)) h = go (is_numbered call) refl
     where
-      none : (call : Call) → is_numbered call ≡ false → has (is 10) (local_causes w (At a (Event.Calling call))) ≡ false
+      none : (call : Call) → is_numbered call ≡ false → has_cause (is_kind 10) (local_causes w (At a (Event.Calling call))) ≡ false
       none Call.Spawn n = refl
       none (Call.LookUp look) n = refl
       none _ n = cc
@@ -263,6 +263,6 @@ module _ (w : World) where
       go true n =
           let C : Counting a call = counting a call n in
           (a, call, refl, n, last_cause a C.first C.others (ap first_cause (sym C.causes) ∙ h))
-      go false n = absurd (never (is 10) (local_causes w (At a (Event.Calling call))) CallsSpent (none call n) refl h)
-  only_calls (At a e) h = absurd (never (is 10) (local_causes w (At a e)) CallsSpent refl refl h)
-  only_calls (Deliver f t) h = absurd (never (is 10) (local_causes w (Deliver f t)) CallsSpent refl refl h)
+      go false n = absurd (never_caused (is_kind 10) (local_causes w (At a (Event.Calling call))) CallsSpent (none call n) refl h)
+  only_calls (At a e) h = absurd (never_caused (is_kind 10) (local_causes w (At a e)) CallsSpent refl refl h)
+  only_calls (Deliver f t) h = absurd (never_caused (is_kind 10) (local_causes w (Deliver f t)) CallsSpent refl refl h)

@@ -11,7 +11,7 @@ use Rattle.protocol_model.specs.World.{Opening, World, WorldEvent, At, left, ref
 use Rattle.protocol_model.specs.Course.{Played, Seen, standing, seen}
 use Rattle.protocol_model.specs.Refusals.{FindsItsNode, IsLockCall, Sets, IsLiveAt, NamesStranger, HasOpenCall, IsOfBusy, IsForGlobal, IsForStranger}
 use Rattle.moves.proofs.Indices.{not_true, not_false}
-use Rattle.headline.proofs.Causes.{is, of_lock, second, behind, here, past, hits, some_stranger, stranger_in, Locking, locking, only_locks, only_sets}
+use Rattle.headline.proofs.Causes.{is_kind, of_lock, second, cause_behind, cause_here, cause_past, cause_hits, some_stranger, stranger_in, Locking, locking, only_locks, only_sets}
 use Rattle.headline.proofs.NextSerial.{Spawned}
 use Rattle.headline.proofs.Unanswered.{CallsSeen}
 use Rattle.headline.proofs.Refusals
@@ -30,7 +30,7 @@ module _ (o : Opening) (ps : List Played) (w : World) (departed : (d : ℕ) → 
   past_live : (e : WorldEvent) (a : ℕ) (p : Process) (r : Text) (more : List Cause) → Found e → IsLiveAt now a p
       → local_causes w e ≡ lock_causes a (w.node a) p r ++ more → refusal o w e ≡ first_cause (second w a p r more)
   past_live e a p r more F live causes = Refusals.as_local o ps w departed S e F ∙ ap first_cause causes
-      ∙ past (not (is_live a (w.node a).watch p)) (NotLive p) (second w a p r more)
+      ∙ cause_past (not (is_live a (w.node a).watch p)) (NotLive p) (second w a p r more)
       (ap not (Refusals.seen_live o ps w departed S a p live))
 
   -- as one of a process that has another
@@ -56,11 +56,11 @@ module _ (o : Opening) (ps : List Played) (w : World) (departed : (d : ℕ) → 
 
       B : (not (is_live x.0 (w.node x.0).watch x.1) ≡ false)
           × (first_cause (second w x.0 x.1 x.2 L.more) ≡ Some (Busy p))
-      B = behind (is 3) (not (is_live x.0 (w.node x.0).watch x.1)) (NotLive x.1) (second w x.0 x.1 x.2 L.more) (Busy p)
+      B = cause_behind (is_kind 3) (not (is_live x.0 (w.node x.0).watch x.1)) (NotLive x.1) (second w x.0 x.1 x.2 L.more) (Busy p)
           refl refl (ap first_cause (sym L.causes) ∙ F.1)
 
       D : (is_some (call_of x.1 (w.node x.0).calls) ≡ true) × (Busy x.1 ≡ Busy p)
-      D = here (is 3) (is_some (call_of x.1 (w.node x.0).calls)) (Busy x.1)
+      D = cause_here (is_kind 3) (is_some (call_of x.1 (w.node x.0).calls)) (Busy x.1)
           (cause (x.2 == global_resource) Reserved ∷ L.more) (Busy p) L.no_busy refl B.1
 
       same : x.1 ≡ p
@@ -70,7 +70,7 @@ module _ (o : Opening) (ps : List Played) (w : World) (departed : (d : ℕ) → 
   from_busy e p B =
       let L : Locking w B.node p B.resource e = locking w B.node p B.resource e B.call in
       past_live e B.node p B.resource L.more B.found B.live L.causes
-      ∙ hits (is_some (call_of p (w.node B.node).calls)) (Busy p)
+      ∙ cause_hits (is_some (call_of p (w.node B.node).calls)) (Busy p)
       (cause (B.resource == global_resource) Reserved ∷ L.more) (V.shows B.node p B.live B.busy)
 
   -- one of a live process that has no other is refused for what comes then
@@ -82,19 +82,19 @@ module _ (o : Opening) (ps : List Played) (w : World) (departed : (d : ℕ) → 
       go : (b : Bool) → is_some (call_of p (w.node a).calls) ≡ b
           → refusal o w e ≡ first_cause (cause (r == global_resource) Reserved ∷ more)
       go true k = absurd (idle (V.has a p k))
-      go false k = past_live e a p r more F live causes ∙ past (is_some (call_of p (w.node a).calls)) (Busy p)
+      go false k = past_live e a p r more F live causes ∙ cause_past (is_some (call_of p (w.node a).calls)) (Busy p)
           (cause (r == global_resource) Reserved ∷ more) k
 
   -- and where it is refused for that, its process is live
   behind_busy : (k : ℕ) (a : ℕ) (p : Process) (r : Text) (more : List Cause) (q : Refusal) → (2 == k) ≡ false
-      → (3 == k) ≡ false → is k q ≡ true → first_cause (lock_causes a (w.node a) p r ++ more) ≡ Some q
+      → (3 == k) ≡ false → is_kind k q ≡ true → first_cause (lock_causes a (w.node a) p r ++ more) ≡ Some q
       → IsLiveAt now a p × (first_cause (cause (r == global_resource) Reserved ∷ more) ≡ Some q)
   behind_busy k a p r more q two three i h =
       let x : (not (is_live a (w.node a).watch p) ≡ false) × (first_cause (second w a p r more) ≡ Some q) =
-      behind (is k) (not (is_live a (w.node a).watch p)) (NotLive p) (second w a p r more) q two i h in
+      cause_behind (is_kind k) (not (is_live a (w.node a).watch p)) (NotLive p) (second w a p r more) q two i h in
       let y : (is_some (call_of p (w.node a).calls) ≡ false)
       × (first_cause (cause (r == global_resource) Reserved ∷ more) ≡ Some q) =
-      behind (is k) (is_some (call_of p (w.node a).calls)) (Busy p) (cause (r == global_resource) Reserved ∷ more) q
+      cause_behind (is_kind k) (is_some (call_of p (w.node a).calls)) (Busy p) (cause (r == global_resource) Reserved ∷ more) q
       three i x.1 in
       (Refusals.live_seen o ps w departed S a p (not_false (is_live a (w.node a).watch p) x.0), y.1)
 
@@ -105,7 +105,7 @@ module _ (o : Opening) (ps : List Played) (w : World) (departed : (d : ℕ) → 
     node = x.0;
     process = x.1;
     call = subst (λ (r : Text). IsLockCall x.0 x.1 r e) (eqb-true x.2 global_resource
-        (here (is 4) (x.2 == global_resource) Reserved L.more Reserved L.no_global refl B.1).0) x.3;
+        (cause_here (is_kind 4) (x.2 == global_resource) Reserved L.more Reserved L.no_global refl B.1).0) x.3;
     live = B.0;
     idle = λ b. cc (
       from_busy e x.1
@@ -115,7 +115,7 @@ module _ (o : Opening) (ps : List Played) (w : World) (departed : (d : ℕ) → 
   }
     where
       F : Found e × (first_cause (local_causes w e) ≡ Some Reserved)
-      F = Refusals.found o ps w departed S (is 4) e Reserved refl refl refl h
+      F = Refusals.found o ps w departed S (is_kind 4) e Reserved refl refl refl h
 
       x : (a : ℕ) × (q : Process) × (r : Text) × IsLockCall a q r e
       x = only_locks w e Reserved refl F.1
@@ -130,7 +130,7 @@ module _ (o : Opening) (ps : List Played) (w : World) (departed : (d : ℕ) → 
   from_global e G =
       let L : Locking w G.node G.process global_resource e = locking w G.node G.process global_resource e G.call in
       past_busy e G.node G.process global_resource L.more G.found G.live G.idle L.causes
-      ∙ hits (global_resource == global_resource) Reserved L.more (eq-eqb global_resource global_resource refl)
+      ∙ cause_hits (global_resource == global_resource) Reserved L.more (eq-eqb global_resource global_resource refl)
 
   -- of a `set_lock`: as one that names a stranger
   names : (a : ℕ) (target : Target) → names_members (w.node a) target ≡ false → NamesStranger now a target
@@ -164,12 +164,12 @@ module _ (o : Opening) (ps : List Played) (w : World) (departed : (d : ℕ) → 
     );
     free = eqb-false x.2 global_resource C.0;
     stranger = names x.0 x.4 (not_true _
-        (here (is 5) (not (names_members (w.node x.0) x.4)) UnknownNode (calls_spent (w.node x.0) ∷ []) UnknownNode refl
+        (cause_here (is_kind 5) (not (names_members (w.node x.0) x.4)) UnknownNode (calls_spent (w.node x.0) ∷ []) UnknownNode refl
         refl C.1).0);
   }
     where
       F : Found e × (first_cause (local_causes w e) ≡ Some UnknownNode)
-      F = Refusals.found o ps w departed S (is 5) e UnknownNode refl refl refl h
+      F = Refusals.found o ps w departed S (is_kind 5) e UnknownNode refl refl refl h
 
       x : (a : ℕ) × (p : Process) × (r z : Text) × (target : Target) × (retries : Retries)
           × (e ≡ At a (Event.Calling (Call.SetLock p r z target retries)))
@@ -183,12 +183,12 @@ module _ (o : Opening) (ps : List Played) (w : World) (departed : (d : ℕ) → 
           (ap (λ (e : WorldEvent). first_cause (local_causes w e)) (sym x.6) ∙ F.1)
 
       C : ((x.2 == global_resource) ≡ false) × (first_cause more ≡ Some UnknownNode)
-      C = behind (is 5) (x.2 == global_resource) Reserved more UnknownNode refl refl B.1
+      C = cause_behind (is_kind 5) (x.2 == global_resource) Reserved more UnknownNode refl refl B.1
 
   pub from_stranger : (e : WorldEvent) → IsForStranger o ps now e → refusal o w e ≡ Some UnknownNode
   from_stranger e S = past_busy e S.node S.process S.resource more S.found S.live S.idle (ap (local_causes w) S.call)
-      ∙ past (S.resource == global_resource) Reserved more (ne_eqb S.resource global_resource S.free)
-      ∙ hits (not (names_members (w.node S.node) S.target)) UnknownNode (calls_spent (w.node S.node) ∷ [])
+      ∙ cause_past (S.resource == global_resource) Reserved more (ne_eqb S.resource global_resource S.free)
+      ∙ cause_hits (not (names_members (w.node S.node) S.target)) UnknownNode (calls_spent (w.node S.node) ∷ [])
       (ap not unknown)
     where
       more : List Cause

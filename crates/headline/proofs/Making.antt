@@ -24,12 +24,12 @@ use Rattle.join_gates.proofs.Made.{entered, entries_made}
 use Rattle.headline.proofs.Together.{Whole, widens, rule_whole, course_keeps}
 
 -- what a list has throughout is so of each of its items
-pub passes : {A : Type 0} (test : A → Bool) (xs : List A) (x : A) → list_all test xs ≡ true → Contains xs x
+pub item_passes : {A : Type 0} (test : A → Bool) (xs : List A) (x : A) → list_all test xs ≡ true → Contains xs x
     → test x ≡ true
-passes {A} test [] x e c = absurd (Contains-nil x c)
-passes {A} test (y ∷ ys) x e c = elim (Contains-cases y ys x c) [
+item_passes {A} test [] x e c = absurd (Contains-nil x c)
+item_passes {A} test (y ∷ ys) x e c = elim (Contains-cases y ys x c) [
   | inl q ↦ subst (λ (z : A). test z ≡ true) q (and_parts (test y) (list_all test ys) e).0
-  | inr d ↦ passes test ys x (and_parts (test y) (list_all test ys) e).1 d
+  | inr d ↦ item_passes test ys x (and_parts (test y) (list_all test ys) e).1 d
 ]
 
 -- the entry is of node a, and is made by a letter where it needs one
@@ -134,7 +134,7 @@ made_keeps o ps w e S W V r H p x c d = elim (Contains-push_cases ps (played o w
     now : Contains (played o w e).entries x → IsMadeIn (played o w e) x
     now k =
         let all : is_made (place e) (is_delivery e) x ≡ true =
-        passes (is_made (place e) (is_delivery e)) (turn_of o w e).entries x (event_made o w e W r) k in
+        item_passes (is_made (place e) (is_delivery e)) (turn_of o w e).entries x (event_made o w e W r) k in
         let parts : ((maker_of x == place e) ≡ true) × ((not (is_by_letter x) || is_delivery e) ≡ true) =
         and_parts (maker_of x == place e) (not (is_by_letter x) || is_delivery e) all in
         record {

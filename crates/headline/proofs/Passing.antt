@@ -59,10 +59,10 @@ slice_get-front (y ∷ xs) ys zero x e = e
 slice_get-front (y ∷ xs) ys (suc k) x e = slice_get-front xs ys k x e
 
 -- what passes a filter passes its test, and is of the list
-pub filtered : {A : Type 0} (test : A → Bool) (xs : List A) (x : A) → Contains (filter test xs) x →
+pub item_filtered : {A : Type 0} (test : A → Bool) (xs : List A) (x : A) → Contains (filter test xs) x →
     Contains xs x × (test x ≡ true)
-filtered test [] x c = absurd (Contains-nil x c)
-filtered {A} test (y ∷ xs) x c = go (test y) refl c (filtered test xs x)
+item_filtered test [] x c = absurd (Contains-nil x c)
+item_filtered {A} test (y ∷ xs) x c = go (test y) refl c (item_filtered test xs x)
   where
     go : (b : Bool) → test y ≡ b → Contains (if b then y ∷ filter test xs else filter test xs) x →
         (Contains (filter test xs) x → Contains xs x × (test x ≡ true)) → Contains (y ∷ xs) x × (test x ≡ true)
@@ -89,7 +89,7 @@ under_own : (a k : ℕ) (ps : List Played) (s : Answer) → Contains (answers_un
     (s.node ≡ a) × (s.number ≡ k)
 under_own a k ps s c =
     let passes : Contains (answers_of ps) s × ((s.node == a) && (s.number == k) ≡ true) =
-    filtered _ (answers_of ps) s c in
+    item_filtered _ (answers_of ps) s c in
     let parts : ((s.node == a) ≡ true) × ((s.number == k) ≡ true) = and_parts _ _ passes.1 in
     (eqb-true s.node a parts.0, eqb-true s.number k parts.1)
 
@@ -121,7 +121,7 @@ once_more ps p passes a k l before = go (filter (λ s. (s.node == a) && (s.numbe
         Told.answer_by u (answer_to a k u.reply) own.0 own.1 refl)
       where
         there : Contains p.answers s × ((s.node == a) && (s.number == k) ≡ true)
-        there = filtered _ p.answers s (subst (λ (ss : List Answer). Contains ss s) (sym e) (Contains-front s new))
+        there = item_filtered _ p.answers s (subst (λ (ss : List Answer). Contains ss s) (sym e) (Contains-front s new))
 
         own : ((s.node == a) ≡ true) × ((s.number == k) ≡ true)
         own = and_parts _ _ there.1

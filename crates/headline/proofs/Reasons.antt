@@ -11,7 +11,7 @@ use Rattle.protocol_model.specs.Course.{Played, standing, seen}
 use Rattle.protocol_model.specs.Answers.{IsNextProcess}
 use Rattle.protocol_model.specs.Refusals.{IsJoinOfJoined, IsBeyondSerials, IsBeyondCalls, SaysWhy}
 use Rattle.headline.specs.Clauses.{events, world, RefusalsInWords}
-use Rattle.headline.proofs.Causes.{is, here, hits, some_cause, Counting, counting, only_spawns, only_joins, only_calls}
+use Rattle.headline.proofs.Causes.{is_kind, cause_here, cause_hits, some_cause, Counting, counting, only_spawns, only_joins, only_calls}
 use Rattle.moves.proofs.Invariants.{Replicas}
 use Rattle.headline.proofs.Refusals
 use Rattle.headline.proofs.LockRefusals
@@ -39,7 +39,7 @@ module _ (o : Opening) (ps : List Played) (w : World) (departed : (d : ℕ) → 
   }
     where
       F : Found e × (first_cause (local_causes w e) ≡ Some SerialsSpent)
-      F = Refusals.found o ps w departed S (is 8) e SerialsSpent refl refl refl h
+      F = Refusals.found o ps w departed S (is_kind 8) e SerialsSpent refl refl refl h
 
       x : (a : ℕ) × (e ≡ At a (Event.Calling Call.Spawn))
       x = only_spawns w e F.1
@@ -49,13 +49,13 @@ module _ (o : Opening) (ps : List Played) (w : World) (departed : (d : ℕ) → 
 
       over : last_u32 < next_serial (w.node x.0).watch
       over = ltb-true last_u32 (next_serial (w.node x.0).watch)
-          (here (is 8) (nat_lt last_u32 (next_serial (w.node x.0).watch)) SerialsSpent [] SerialsSpent refl refl
+          (cause_here (is_kind 8) (nat_lt last_u32 (next_serial (w.node x.0).watch)) SerialsSpent [] SerialsSpent refl refl
           (ap (λ (e : WorldEvent). first_cause (local_causes w e)) (sym x.1) ∙ F.1)).0
 
   from_serials : (e : WorldEvent) → IsBeyondSerials o ps (seen o w) e → refusal o w e ≡ Some SerialsSpent
   from_serials e B = Refusals.as_local o ps w departed S e B.found
       ∙ ap (λ (e : WorldEvent). first_cause (local_causes w e)) B.spawn
-      ∙ hits (nat_lt last_u32 (next_serial (w.node B.node).watch)) SerialsSpent []
+      ∙ cause_hits (nat_lt last_u32 (next_serial (w.node B.node).watch)) SerialsSpent []
       (go (nat_lt last_u32 (next_serial (w.node B.node).watch)) refl)
     where
       next : IsNextProcess ps (seen o w).dead B.node (next_at w B.node)
@@ -76,12 +76,12 @@ module _ (o : Opening) (ps : List Played) (w : World) (departed : (d : ℕ) → 
     contact = x.1;
     call = x.2;
     joined = joined_or_waits o w ps S.given.kept R x.0
-        (here (is 9) (has_joined (w.node x.0)) AlreadyJoined (calls_spent (w.node x.0) ∷ []) AlreadyJoined refl refl
+        (cause_here (is_kind 9) (has_joined (w.node x.0)) AlreadyJoined (calls_spent (w.node x.0) ∷ []) AlreadyJoined refl refl
         (ap (λ (e : WorldEvent). first_cause (local_causes w e)) (sym x.2) ∙ F.1)).0;
   }
     where
       F : Found e × (first_cause (local_causes w e) ≡ Some AlreadyJoined)
-      F = Refusals.found o ps w departed S (is 9) e AlreadyJoined refl refl refl h
+      F = Refusals.found o ps w departed S (is_kind 9) e AlreadyJoined refl refl refl h
 
       x : (a : ℕ) × (m : ℕ) × (e ≡ At a (Event.Calling (Call.JoinBy m)))
       x = only_joins w e F.1
@@ -89,7 +89,7 @@ module _ (o : Opening) (ps : List Played) (w : World) (departed : (d : ℕ) → 
   from_joined : (e : WorldEvent) → IsJoinOfJoined o ps (seen o w) e → refusal o w e ≡ Some AlreadyJoined
   from_joined e J = Refusals.as_local o ps w departed S e J.found
       ∙ ap (λ (e : WorldEvent). first_cause (local_causes w e)) J.call
-      ∙ hits (has_joined (w.node J.node)) AlreadyJoined (calls_spent (w.node J.node) ∷ [])
+      ∙ cause_hits (has_joined (w.node J.node)) AlreadyJoined (calls_spent (w.node J.node) ∷ [])
       (has_joined_or_waits o w ps S.given.kept R J.node N J.joined)
 
   -- of a numbered call: as one that has no number left
@@ -105,7 +105,7 @@ module _ (o : Opening) (ps : List Played) (w : World) (departed : (d : ℕ) → 
     where
       x : (a : ℕ) × (call : Call) × (e ≡ At a (Event.Calling call)) × (is_numbered call ≡ true)
           × (((w.node a).last_call == last_u32) ≡ true)
-      x = only_calls w e (Refusals.found o ps w departed S (is 10) e CallsSpent refl refl refl h).1
+      x = only_calls w e (Refusals.found o ps w departed S (is_kind 10) e CallsSpent refl refl refl h).1
 
   from_calls : (e : WorldEvent) → IsBeyondCalls o ps (seen o w) e → refusal o w e ≡ Some CallsSpent
   from_calls e B = go (refusal o w e) refl

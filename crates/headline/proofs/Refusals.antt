@@ -9,7 +9,7 @@ use Rattle.protocol_model.specs.World.{Opening, in_world, World, WorldEvent, At,
 use Rattle.protocol_model.specs.Course.{Played, Seen, standing, seen}
 use Rattle.protocol_model.specs.Refusals.{FindsItsNode, IsLockCall, IsLiveAt, IsIssuedBy, IsNowhere, IsLate, IsOfNobody, IsExitOfNone, IsExitOfDead}
 use Rattle.moves.proofs.Indices.{neither, both, not_true, not_false}
-use Rattle.headline.proofs.Causes.{is, of_lock, second, behind, here, past, hits, above_zero, not_zero, local_world, Locking, locking, only_locks, only_exits}
+use Rattle.headline.proofs.Causes.{is_kind, of_lock, second, cause_behind, cause_here, cause_past, cause_hits, above_zero, not_zero, local_world, Locking, locking, only_locks, only_exits}
 use Rattle.headline.proofs.Spawning.{serial_at}
 use Rattle.headline.proofs.NextSerial.{last_at, Spawned}
 
@@ -32,9 +32,9 @@ module _ (o : Opening) (ps : List Played) (w : World) (departed : (d : ℕ) → 
       → kind q ≡ true → refusal o w e ≡ Some q → Found e × (first_cause (local_causes w e) ≡ Some q)
   found kind e q n l k h =
       let x : (outside e ≡ false) × (first_cause (cause (left w (place e)) NodeLeft ∷ local_causes w e) ≡ Some q) =
-      behind kind (outside e) NoSuchNode (cause (left w (place e)) NodeLeft ∷ local_causes w e) q n k h in
+      cause_behind kind (outside e) NoSuchNode (cause (left w (place e)) NodeLeft ∷ local_causes w e) q n k h in
       let y : (left w (place e) ≡ false) × (first_cause (local_causes w e) ≡ Some q) =
-      behind kind (left w (place e)) NodeLeft (local_causes w e) q l k x.1 in
+      cause_behind kind (left w (place e)) NodeLeft (local_causes w e) q l k x.1 in
       let z : (not (in_world o (place e)) ≡ false) × (not (in_world o (other e)) ≡ false) = neither _ _ x.0 in (
         record {
           running = (not_false (in_world o (place e)) z.0, departed (place e) ∙ y.0);
@@ -48,9 +48,9 @@ module _ (o : Opening) (ps : List Played) (w : World) (departed : (d : ℕ) → 
   in_the_world e i j = ap (λ (b : Bool). not b || not (in_world o (other e))) i ∙ ap not j
 
   pub as_local : (e : WorldEvent) → Found e → refusal o w e ≡ first_cause (local_causes w e)
-  as_local e F = past (outside e) NoSuchNode (cause (left w (place e)) NodeLeft ∷ local_causes w e)
+  as_local e F = cause_past (outside e) NoSuchNode (cause (left w (place e)) NodeLeft ∷ local_causes w e)
       (in_the_world e F.running.0 F.named)
-      ∙ past (left w (place e)) NodeLeft (local_causes w e) (sym (departed (place e)) ∙ F.running.1)
+      ∙ cause_past (left w (place e)) NodeLeft (local_causes w e) (sym (departed (place e)) ∙ F.running.1)
 
   -- who is live by the watch is so by what is seen
   pub live_seen : (a : ℕ) (p : Process) → is_live a (w.node a).watch p ≡ true → IsLiveAt now a p
@@ -128,7 +128,7 @@ module _ (o : Opening) (ps : List Played) (w : World) (departed : (d : ℕ) → 
   -- a refusal as of a node that isn't of the world
   pub to_nowhere : (e : WorldEvent) → refusal o w e ≡ Some NoSuchNode → IsNowhere o ps now e
   to_nowhere e h = go (in_world o (place e)) refl (in_world o (other e)) refl
-      (here (is 0) (outside e) NoSuchNode (cause (left w (place e)) NodeLeft ∷ local_causes w e) NoSuchNode
+      (cause_here (is_kind 0) (outside e) NoSuchNode (cause (left w (place e)) NodeLeft ∷ local_causes w e) NoSuchNode
       (local_world w e).0 refl h).0
     where
       go : (b : Bool) → in_world o (place e) ≡ b → (c : Bool) → in_world o (other e) ≡ c → (not b || not c) ≡ true
@@ -138,7 +138,7 @@ module _ (o : Opening) (ps : List Played) (w : World) (departed : (d : ℕ) → 
       go true i true j x = cc
 
   pub from_nowhere : (e : WorldEvent) → IsNowhere o ps now e → refusal o w e ≡ Some NoSuchNode
-  from_nowhere e h = hits (outside e) NoSuchNode (cause (left w (place e)) NodeLeft ∷ local_causes w e) (elim h [
+  from_nowhere e h = cause_hits (outside e) NoSuchNode (cause (left w (place e)) NodeLeft ∷ local_causes w e) (elim h [
     | inl i ↦ ap (λ (b : Bool). not b || not (in_world o (other e))) i
     | inr j ↦ go (in_world o (place e)) j
   ])
@@ -152,20 +152,20 @@ module _ (o : Opening) (ps : List Played) (w : World) (departed : (d : ℕ) → 
   to_late e h =
       let x : (outside e ≡ false)
       × (first_cause (cause (left w (place e)) NodeLeft ∷ local_causes w e) ≡ Some NodeLeft) =
-      behind (is 1) (outside e) NoSuchNode (cause (left w (place e)) NodeLeft ∷ local_causes w e) NodeLeft refl refl h
+      cause_behind (is_kind 1) (outside e) NoSuchNode (cause (left w (place e)) NodeLeft ∷ local_causes w e) NodeLeft refl refl h
       in
       let z : (not (in_world o (place e)) ≡ false) × (not (in_world o (other e)) ≡ false) = neither _ _ x.0 in
       record {
         inside = not_false (in_world o (place e)) z.0;
         named = not_false (in_world o (other e)) z.1;
         gone = departed (place e)
-            ∙ (here (is 1) (left w (place e)) NodeLeft (local_causes w e) NodeLeft (local_world w e).1 refl x.1).0;
+            ∙ (cause_here (is_kind 1) (left w (place e)) NodeLeft (local_causes w e) NodeLeft (local_world w e).1 refl x.1).0;
       }
 
   pub from_late : (e : WorldEvent) → IsLate o ps now e → refusal o w e ≡ Some NodeLeft
-  from_late e L = past (outside e) NoSuchNode (cause (left w (place e)) NodeLeft ∷ local_causes w e)
+  from_late e L = cause_past (outside e) NoSuchNode (cause (left w (place e)) NodeLeft ∷ local_causes w e)
       (in_the_world e L.inside L.named)
-      ∙ hits (left w (place e)) NodeLeft (local_causes w e) (sym (departed (place e)) ∙ L.gone)
+      ∙ cause_hits (left w (place e)) NodeLeft (local_causes w e) (sym (departed (place e)) ∙ L.gone)
 
   -- of a lock call: as one of nobody
   pub to_nobody : (e : WorldEvent) (p : Process) → refusal o w e ≡ Some (NotLive p) → IsOfNobody o ps now e p
@@ -193,7 +193,7 @@ module _ (o : Opening) (ps : List Played) (w : World) (departed : (d : ℕ) → 
       L = locking w a x.1 x.2 e x.3
 
       first : (not (is_live a (w.node a).watch x.1) ≡ true) × (NotLive x.1 ≡ NotLive p)
-      first = here (is 2) (not (is_live a (w.node a).watch x.1)) (NotLive x.1)
+      first = cause_here (is_kind 2) (not (is_live a (w.node a).watch x.1)) (NotLive x.1)
           (second w a x.1 x.2 L.more) (NotLive p) L.no_dead refl
           (ap first_cause (sym L.causes) ∙ F.1)
 
@@ -207,7 +207,7 @@ module _ (o : Opening) (ps : List Played) (w : World) (departed : (d : ℕ) → 
   from_nobody e p N =
       let L : Locking w N.node p N.resource e = locking w N.node p N.resource e N.call in
       as_local e N.found ∙ ap first_cause L.causes
-      ∙ hits (not (is_live N.node (w.node N.node).watch p)) (NotLive p) (second w N.node p N.resource L.more)
+      ∙ cause_hits (not (is_live N.node (w.node N.node).watch p)) (NotLive p) (second w N.node p N.resource L.more)
       (ap not (not_seen N.node p N.nobody))
 
   -- of an exit: as one of a process that isn't
@@ -220,21 +220,21 @@ module _ (o : Opening) (ps : List Played) (w : World) (departed : (d : ℕ) → 
     none = λ I. cc (
       seen_issued x.0 x.1 I,
       not_true (is_issued x.0 (w.node x.0).watch x.1)
-          (here (is 6) (not (is_issued x.0 (w.node x.0).watch x.1)) NoSuchProcess
+          (cause_here (is_kind 6) (not (is_issued x.0 (w.node x.0).watch x.1)) NoSuchProcess
           (cause (is_dead (w.node x.0).watch x.1.serial) AlreadyExited ∷ []) NoSuchProcess refl refl
           (ap (λ (e : WorldEvent). first_cause (local_causes w e)) (sym x.2) ∙ F.1)).0,
     );
   }
     where
       F : Found e × (first_cause (local_causes w e) ≡ Some NoSuchProcess)
-      F = found (is 6) e NoSuchProcess refl refl refl h
+      F = found (is_kind 6) e NoSuchProcess refl refl refl h
 
       x : (a : ℕ) × (p : Process) × (e ≡ At a (Event.Exiting p))
       x = only_exits w e NoSuchProcess refl F.1
 
   pub from_none : (e : WorldEvent) → IsExitOfNone o ps now e → refusal o w e ≡ Some NoSuchProcess
   from_none e N = as_local e N.found ∙ ap (λ (e : WorldEvent). first_cause (local_causes w e)) N.exit
-      ∙ hits (not (is_issued N.node (w.node N.node).watch N.process)) NoSuchProcess
+      ∙ cause_hits (not (is_issued N.node (w.node N.node).watch N.process)) NoSuchProcess
       (cause (is_dead (w.node N.node).watch N.process.serial) AlreadyExited ∷ [])
       (ap not (not_issued N.node N.process N.none))
 
@@ -247,18 +247,18 @@ module _ (o : Opening) (ps : List Played) (w : World) (departed : (d : ℕ) → 
     exit = x.2;
     issued = I;
     dead = ap (λ (a : ℕ). is_dead (w.node a).watch x.1.serial) I.home
-        ∙ (here (is 7) (is_dead (w.node x.0).watch x.1.serial) AlreadyExited [] AlreadyExited refl refl B.1).0;
+        ∙ (cause_here (is_kind 7) (is_dead (w.node x.0).watch x.1.serial) AlreadyExited [] AlreadyExited refl refl B.1).0;
   }
     where
       F : Found e × (first_cause (local_causes w e) ≡ Some AlreadyExited)
-      F = found (is 7) e AlreadyExited refl refl refl h
+      F = found (is_kind 7) e AlreadyExited refl refl refl h
 
       x : (a : ℕ) × (p : Process) × (e ≡ At a (Event.Exiting p))
       x = only_exits w e AlreadyExited refl F.1
 
       B : (not (is_issued x.0 (w.node x.0).watch x.1) ≡ false)
           × (first_cause (cause (is_dead (w.node x.0).watch x.1.serial) AlreadyExited ∷ []) ≡ Some AlreadyExited)
-      B = behind (is 7) (not (is_issued x.0 (w.node x.0).watch x.1)) NoSuchProcess
+      B = cause_behind (is_kind 7) (not (is_issued x.0 (w.node x.0).watch x.1)) NoSuchProcess
           (cause (is_dead (w.node x.0).watch x.1.serial) AlreadyExited ∷ []) AlreadyExited refl refl
           (ap (λ (e : WorldEvent). first_cause (local_causes w e)) (sym x.2) ∙ F.1)
 
@@ -267,10 +267,10 @@ module _ (o : Opening) (ps : List Played) (w : World) (departed : (d : ℕ) → 
 
   pub from_dead : (e : WorldEvent) → IsExitOfDead o ps now e → refusal o w e ≡ Some AlreadyExited
   from_dead e D = as_local e D.found ∙ ap (λ (e : WorldEvent). first_cause (local_causes w e)) D.exit
-      ∙ past (not (is_issued D.node (w.node D.node).watch D.process)) NoSuchProcess
+      ∙ cause_past (not (is_issued D.node (w.node D.node).watch D.process)) NoSuchProcess
       (cause (is_dead (w.node D.node).watch D.process.serial) AlreadyExited ∷ [])
       (ap not (seen_issued D.node D.process D.issued))
-      ∙ hits (is_dead (w.node D.node).watch D.process.serial) AlreadyExited []
+      ∙ cause_hits (is_dead (w.node D.node).watch D.process.serial) AlreadyExited []
       (ap (λ (a : ℕ). is_dead (w.node a).watch D.process.serial) (sym home) ∙ D.dead)
     where
       home : D.process.node ≡ D.node

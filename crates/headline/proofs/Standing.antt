@@ -11,7 +11,7 @@ use Rattle.registry_model.specs.Legal.{IsLegal}
 use Rattle.protocol_model.specs.Event.{Event, Answer}
 use Rattle.protocol_model.specs.World.{Opening, in_cluster, World, At, place, opening_world, refusal, run}
 use Rattle.protocol_model.specs.Course.{Played, entries_of, answers_of, course, seen, global_given}
-use Rattle.protocol_model.specs.Fit.{IsPrefix, IsMadeIn, accepted_at, decided_at, is_exit, is_left, is_told, exit_of, left_of, told_of}
+use Rattle.protocol_model.specs.Fit.{IsPrefix, IsMadeIn, accepted_at, decided_at, is_exit, is_left, is_told, exit_of, left_of, notice_of}
 use Rattle.protocol_model.specs.Answers.{answers_at, entered_at, LooksUpOnce, JoinerIsAnswered}
 use Rattle.protocol_model.specs.Headline.{standing, EachStep, IsRunning}
 use Rattle.protocol_model.specs.Tests.{is_numbered_call, is_answer, are_entries, are_nodes}
@@ -63,12 +63,12 @@ module _ (o : Opening) (ps : List Played) (w : World) (A : Along o ps w) where
     calls : (a : ℕ) → a < o.bound → IsPrefix (flat_map (decided_at a) (entries_of ps)) (accepted_at a ps)
     exits : filter is_exit (entries_of ps) ≡ flat_map exit_of ps
     departures : filter is_left (entries_of ps) ≡ flat_map left_of ps
-    notices : filter is_told (entries_of ps) ≡ flat_map told_of ps
+    notices : filter is_told (entries_of ps) ≡ flat_map notice_of ps
 
   fitting : Fitting
   fitting =
       let h : List Entry = entries_of ps in
-      let one : (_ ≡ true) × (are_entries (filter is_told h) (flat_map told_of ps) ≡ true) = and_parts _ _ between.fits
+      let one : (_ ≡ true) × (are_entries (filter is_told h) (flat_map notice_of ps) ≡ true) = and_parts _ _ between.fits
       in
       let two : (_ ≡ true) × (are_entries (filter is_left h) (flat_map left_of ps) ≡ true) = and_parts _ _ one.0 in
       let three : (_ ≡ true) × (are_entries (filter is_exit h) (flat_map exit_of ps) ≡ true) = and_parts _ _ two.0 in

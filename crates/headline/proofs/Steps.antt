@@ -31,10 +31,10 @@ use Rattle.headline.proofs.Turns.{is_yes, begins, is_busy}
 use Rattle.headline.proofs.Answering.{seen_in-yes, turn_tame}
 
 -- a list of which no item passes
-pub fails : {A : Type 0} (test : A → Bool) (xs : List A) (x : A) → list_any test xs ≡ false → Contains xs x
+pub item_fails : {A : Type 0} (test : A → Bool) (xs : List A) (x : A) → list_any test xs ≡ false → Contains xs x
     → test x ≡ false
-fails {A} test [] x e c = absurd (Contains-nil x c)
-fails {A} test (y ∷ ys) x e c = go (test y) refl e (λ k d. fails test ys x k d)
+item_fails {A} test [] x e c = absurd (Contains-nil x c)
+item_fails {A} test (y ∷ ys) x e c = go (test y) refl e (λ k d. item_fails test ys x k d)
   where
     go : (b : Bool) → test y ≡ b → (b || list_any test ys) ≡ false
         → (list_any test ys ≡ false → Contains ys x → test x ≡ false) → test x ≡ false
@@ -200,7 +200,7 @@ module _ (o : Opening) (w : World) (e : WorldEvent) (W : Whole o w) (V : Whole o
     where
       go : (b : Bool) → list_any is_yes turn.answers ≡ b → b ≡ true
       go true i = refl
-      go false i = absurd (cc (fails is_yes turn.answers s i c, ap (λ (r : Reply). is_reply r Yes) y))
+      go false i = absurd (cc (item_fails is_yes turn.answers s i c, ap (λ (r : Reply). is_reply r Yes) y))
 
   not_busy : list_any is_yes turn.answers ≡ true → is_busy turn ≡ false
   not_busy y = calm (is_busy turn) (ap (λ (b : Bool). b && is_busy turn) (sym y) ∙ turn_tame o w e)

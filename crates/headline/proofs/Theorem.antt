@@ -51,7 +51,7 @@ pub looks_up_once : EachLookUpOnce
 looks_up_once o es = Answered.looks o es
 
 pub calls_are_answered_once : CallsAreAnsweredOnce
-calls_are_answered_once o es = Answered.answered o es
+calls_are_answered_once o es = Answered.calls_answered o es
 
 pub joiners_are_answered : JoinersAreAnswered
 joiners_are_answered o es = Joiners.joiner o es

@@ -18,9 +18,9 @@ use Rattle.fitting.proofs.Accounts.{is_word}
 use Rattle.fitting.proofs.Once.{is_under, is_lock_under}
 use Rattle.fitting.proofs.Unanswered.{kept_in}
 use Rattle.headline.specs.Clauses.{events, world}
-use Rattle.headline.proofs.Passing.{filtered}
+use Rattle.headline.proofs.Passing.{item_filtered}
 use Rattle.headline.proofs.LockAnswers.{IsCalled, Ledger, given}
-use Rattle.headline.proofs.Answered.{ledgers, answered}
+use Rattle.headline.proofs.Answered.{ledgers, calls_answered}
 use Rattle.headline.proofs.OpenCalls.{Stands, Gone, Answered, Waits}
 use Rattle.headline.proofs.OpenEvents.{all_stand}
 
@@ -54,7 +54,7 @@ module _ (o : Opening) (es : List WorldEvent) where
   -- where no lock call's answer stands under the number of a lock call, none does
   unanswered : (a : ℕ) (p : Process) (k : ℕ) (call : Call) → slice_get (calls_at a ps) (k - 1) ≡ Some call
       → holder_in call ≡ Some p → given a k (answers_of ps) ≡ [] → 0 < k → answers_under a k ps ≡ []
-  unanswered a p k call found of none pos = go (answers_under a k ps) refl ((answered o es).once a k pos)
+  unanswered a p k call found of none pos = go (answers_under a k ps) refl ((calls_answered o es).once a k pos)
     where
       go : (ss : List Answer) → answers_under a k ps ≡ ss → AtMostOne (calls_at a ps) a k ss → ss ≡ []
       go ss e NotYet = refl
@@ -64,7 +64,7 @@ module _ (o : Opening) (es : List WorldEvent) where
           (ap (λ (d : Call). may_have d reply) (sym same) ∙ may) in
           let s : Answer = answer_to a k reply in
           let among : Contains (answers_of ps) s × (is_under a k s ≡ true) =
-          filtered (is_under a k) (answers_of ps) s
+          item_filtered (is_under a k) (answers_of ps) s
           (subst (λ (l : List Answer). Contains l s) (sym e) (Contains-front s [])) in
           absurd (Contains-nil s (subst (λ (l : List Answer). Contains l s) none
           (kept_in (is_lock_under a k) (answers_of ps) s among.0 (and_from _ _ among.1 (ap not word)))))

@@ -11,7 +11,7 @@ use Rattle.registry_model.specs.Legal.{IsLegal}
 use Rattle.protocol_model.specs.Event.{Event, Answer, HoldsLock}
 use Rattle.protocol_model.specs.World.{Opening, in_cluster, WorldEvent, At}
 use Rattle.protocol_model.specs.Course.{Played, Seen, entries_of}
-use Rattle.protocol_model.specs.Fit.{IsPrefix, IsMadeIn, accepted_at, decided_at, is_exit, is_left, is_told, exit_of, left_of, told_of}
+use Rattle.protocol_model.specs.Fit.{IsPrefix, IsMadeIn, accepted_at, decided_at, is_exit, is_left, is_told, exit_of, left_of, notice_of}
 use Rattle.protocol_model.specs.Answers.{answers_at, entered_at, AnswersInTime, LooksUpOnce, AnswersCalls, JoinerIsAnswered}
 use Rattle.protocol_model.specs.Headline.{Headline, EachStep, IsRunning, standing}
 use Rattle.protocol_model.specs.Check.{keeps_headline}
@@ -41,7 +41,7 @@ pub record HeadlineBelow (o : Opening) (ps : List Played) (now : Seen) : Type 0 
   pub calls : (a : ℕ) → a < o.bound → IsPrefix (flat_map (decided_at a) (entries_of ps)) (accepted_at a ps)
   pub exits : filter is_exit (entries_of ps) ≡ flat_map exit_of ps
   pub departures : filter is_left (entries_of ps) ≡ flat_map left_of ps
-  pub notices : filter is_told (entries_of ps) ≡ flat_map told_of ps
+  pub notices : filter is_told (entries_of ps) ≡ flat_map notice_of ps
   pub replies : (a : ℕ) → a < o.bound → IsPrefix (answers_at a ps) (flat_map (entered_at a) (entries_of ps))
   pub in_time : EachStep ps (λ before p. AnswersInTime (standing o before) p (fold after (standing o before) p.entries))
   pub free : (a : ℕ) → IsRunning o (standing o ps) a → IsTrue (is_free (standing o ps) a) →

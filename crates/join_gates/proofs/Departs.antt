@@ -5,7 +5,7 @@ use Rattle.std.proofs.lemmas.Bool.{cases_eq, eq-eqb, ne_eqb}
 use Rattle.protocol_model.specs.Letter.{Letter}
 use Rattle.protocol_model.specs.Node.{Current}
 use Rattle.protocol_model.specs.Turn.{Turn}
-use Rattle.protocol_model.specs.World.{Opening, World, left, Deliver, join_number, apply, opened}
+use Rattle.protocol_model.specs.World.{Opening, World, left, Deliver, join_number, apply, letter_taken}
 use Rattle.moves.proofs.Rules
 use Rattle.registry_model.proofs.Updates.{by_test}
 use Rattle.moves.proofs.Indices.{at_pair}
@@ -13,7 +13,7 @@ use Rattle.moves.proofs.Invariants.{is_down_last, current, Proper, Replicas}
 use Rattle.join_gates.proofs.Tokens.{Gate, Away, Knock, Turned, Entering, is_away, is_turned, are_plain, plain_knocks, plain_returns, knocks, returns, returns_of, queued_of, knocks-append, returns-append, admissions, jobs}
 use Rattle.join_gates.proofs.Links.{sent_none, taken_none, taken_one}
 use Rattle.join_gates.proofs.Pairs.{self_pair, queue_same, at_refusal, at_welcome}
-use Rattle.join_gates.proofs.Gates.{Gates, moved, unmoved, shut}
+use Rattle.join_gates.proofs.Gates.{Gates, moved, gates_unmoved, shut}
 use Rattle.join_gates.proofs.Turns.{calm_turn, facts_by}
 use Rattle.join_gates.proofs.Calm.{sends_plain, quietly}
 use Rattle.join_gates.proofs.Still.{effect-legal, clears}
@@ -44,17 +44,17 @@ gate_dropped a f (Letter.JoinAsk p) gate = at_pair gate f a Away
 gate_dropped a f _ gate = gate
 
 -- of a node that is told to have left no answer to a join is dropped
-pub drops : (o : Opening) (a : ℕ) (w : World) (gate : ℕ → ℕ → Gate) (f : ℕ) (l : Letter)
+pub letter_drops : (o : Opening) (a : ℕ) (w : World) (gate : ℕ → ℕ → Gate) (f : ℕ) (l : Letter)
     → Proper o w → Replicas o w → Replicas o (Rules.effect o a (Rules.Drops f l) w)
     → Rules.May o a w (Rules.Drops f l) → Gates o w gate
     → Gates o (Rules.effect o a (Rules.Drops f l) w) (gate_dropped a f l gate)
-drops o a w gate f (Letter.JoinAsk p) P R R2 M G =
+letter_drops o a w gate f (Letter.JoinAsk p) P R R2 M G =
     moved o w v gate f a Away (knocks rest) (returns_on w f a) (admissions f (jobs (w.node a)))
     G (λ x l. l)
-    (λ x y l. sent_none knocks knocks-append (opened (Deliver f a) w) a u (λ y. refl) x y
+    (λ x y l. sent_none knocks knocks-append (letter_taken (Deliver f a) w) a u (λ y. refl) x y
     ∙ taken_one knocks knocks-append w f a (Letter.JoinAsk p) rest front x y)
     (λ l. here.1)
-    (λ x y l. sent_none returns returns-append (opened (Deliver f a) w) a u (λ y. refl) y x
+    (λ x y l. sent_none returns returns-append (letter_taken (Deliver f a) w) a u (λ y. refl) y x
     ∙ taken_none returns returns-append w f a (Letter.JoinAsk p) rest front refl y x
     ∙ self_pair (returns_on w) f a x y)
     (λ l. G.back f a l ∙ ap returns_of here.0)
@@ -81,13 +81,13 @@ drops o a w gate f (Letter.JoinAsk p) P R R2 M G =
 
     here : (gate f a ≡ Knock p) × (knocks rest ≡ [])
     here = knocking o a w gate f p rest M.running front G
-drops o a w gate f Letter.JoinRefused P R R2 M G =
+letter_drops o a w gate f Letter.JoinRefused P R R2 M G =
     absurd (cc (sym (ap returns M.front.1.1) ∙ G.back a f M.running
     ∙ no_answer o w gate a f P R M.running M.tested.0 G))
-drops o a w gate f (Letter.Welcome members pairs told kills) P R R2 M G =
+letter_drops o a w gate f (Letter.Welcome members pairs told kills) P R R2 M G =
     absurd (cc (sym (ap returns M.front.1.1) ∙ G.back a f M.running
     ∙ no_answer o w gate a f P R M.running M.tested.0 G))
-drops o a w gate f l P R R2 M G = calm_turn o a w (Rules.turn_by o a w (Rules.Drops f l)) gate
+letter_drops o a w gate f l P R R2 M G = calm_turn o a w (Rules.turn_by o a w (Rules.Drops f l)) gate
     (Rules.taking f l) M.front refl refl
     (quietly o a w (Rules.Drops f l) refl M) (clears o a w (Rules.Drops f l) refl M R2) refl (λ j m e k. refl) G
 
@@ -96,10 +96,10 @@ pub is_told : (o : Opening) (a : ℕ) (w : World) (gate : ℕ → ℕ → Gate) 
     → Proper o w → Replicas o (Rules.effect o a (Rules.IsTold f) w) → Rules.May o a w (Rules.IsTold f)
     → Gates o w gate
     → Gates o (Rules.effect o a (Rules.IsTold f) w) gate
-is_told o a w gate f P R2 M G = unmoved o w v gate G (λ x l. l)
-    (λ x y l. sent_none knocks knocks-append (opened (Deliver f a) w) a u (λ y. refl) x y
+is_told o a w gate f P R2 M G = gates_unmoved o w v gate G (λ x l. l)
+    (λ x y l. sent_none knocks knocks-append (letter_taken (Deliver f a) w) a u (λ y. refl) x y
     ∙ taken_none knocks knocks-append w f a Letter.Down rest front refl x y)
-    (λ x y l. sent_none returns returns-append (opened (Deliver f a) w) a u (λ y. refl) x y
+    (λ x y l. sent_none returns returns-append (letter_taken (Deliver f a) w) a u (λ y. refl) x y
     ∙ taken_none returns returns-append w f a Letter.Down rest front refl x y)
     (λ x y l. by_test a (λ y t. admissions x (jobs (if t then u.node else w.node y))
     ≡ admissions x (jobs (w.node y))) refl (λ y ne. refl) y)
@@ -144,7 +144,7 @@ is_told o a w gate f P R2 M G = unmoved o w v gate G (λ x l. l)
 pub leaves : (o : Opening) (a : ℕ) (w : World) (gate : ℕ → ℕ → Gate)
     → Replicas o (Rules.effect o a Rules.Leaves w) → Rules.May o a w Rules.Leaves → Gates o w gate
     → Gates o (Rules.effect o a Rules.Leaves w) gate
-leaves o a w gate R2 M G = unmoved o w v gate G runs
+leaves o a w gate R2 M G = gates_unmoved o w v gate G runs
     (λ x y l. by_test a (λ y t. (if t then true else left w y) ≡ false
     → knocks (if t then [] else (apply a u w).links.queue x y) ≡ knocks (w.links.queue x y))
     (λ e. cc) (λ y ne e. sent_none knocks knocks-append w a u (plain_knocks u.sends plain) x y) y l)

@@ -103,14 +103,14 @@ moved o w v gate j m g k b q G runs K knows B backs Q queues facts here = record
 }
 
 -- no gate moves
-pub unmoved : (o : Opening) (w v : World) (gate : ℕ → ℕ → Gate)
+pub gates_unmoved : (o : Opening) (w v : World) (gate : ℕ → ℕ → Gate)
     → Gates o w gate → ((x : ℕ) → left v x ≡ false → left w x ≡ false)
     → ((x y : ℕ) → left v y ≡ false → on_links knocks knocks-append v x y ≡ on_links knocks knocks-append w x y)
     → ((x y : ℕ) → left v y ≡ false → on_links returns returns-append v x y ≡ on_links returns returns-append w x y)
     → ((x y : ℕ) → left v y ≡ false → admissions x (jobs (v.node y)) ≡ admissions x (jobs (w.node y)))
     → ((x y : ℕ) → Facts o w x y (gate x y) → Facts o v x y (gate x y))
     → Gates o v gate
-unmoved o w v gate G runs K B Q facts = record {
+gates_unmoved o w v gate G runs K B Q facts = record {
   knock = λ x y l. K x y l ∙ G.knock x y (runs y l);
   back = λ x y l. B y x l ∙ G.back x y (runs x l);
   queued = λ x y l. Q x y l ∙ G.queued x y (runs y l);

@@ -15,7 +15,7 @@ use Rattle.join_gates.proofs.Calm.{quietly, tail_one, once_push}
 use Rattle.join_gates.proofs.Still.{effect-node, still, not_done, finish_going}
 use Rattle.join_gates.proofs.Shown.{LoneOwners, let_in}
 use Rattle.join_gates.proofs.Moves.{waiting, asks_join, queues_join, refuses_join, passes, admits, ends_join, is_welcomed, loses_contact}
-use Rattle.join_gates.proofs.Departs.{gate_dropped, ignores, drops, is_told, leaves}
+use Rattle.join_gates.proofs.Departs.{gate_dropped, ignores, letter_drops, is_told, leaves}
 
 -- the gates after a rule
 abbrev pub gate_by : Opening → ℕ → World → Rules.Rule → (ℕ → ℕ → Gate) → ℕ → ℕ → Gate
@@ -55,7 +55,7 @@ gates_keep o a w (Rules.IsWelcomed f k members pairs told kills) gate P R R2 own
     is_welcomed o a w gate f k members pairs told kills R2 M G
 gates_keep o a w (Rules.LosesContact k m) gate P R R2 own O M G = loses_contact o a w gate k m P R R2 M G
 gates_keep o a w (Rules.Ignores f l) gate P R R2 own O M G = ignores o a w gate f l R2 M G
-gates_keep o a w (Rules.Drops f l) gate P R R2 own O M G = drops o a w gate f l P R R2 M G
+gates_keep o a w (Rules.Drops f l) gate P R R2 own O M G = letter_drops o a w gate f l P R R2 M G
 gates_keep o a w (Rules.IsTold f) gate P R R2 own O M G = is_told o a w gate f P R2 M G
 gates_keep o a w Rules.Leaves gate P R R2 own O M G = leaves o a w gate R2 M G
 gates_keep o a w (Rules.Finishes op asked awaited reply) gate P R R2 own O M G =

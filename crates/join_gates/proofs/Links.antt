@@ -5,7 +5,7 @@ use Rattle.std.specs.Prelude.{◌&&◌, not, if◌then◌else◌, drop}
 use Rattle.std.proofs.lemmas.List.{append-nil}
 use Rattle.protocol_model.specs.Letter.{Letter}
 use Rattle.protocol_model.specs.Turn.{Turn, sent_to}
-use Rattle.protocol_model.specs.World.{World, left, Deliver, apply, opened}
+use Rattle.protocol_model.specs.World.{World, left, Deliver, apply, letter_taken}
 use Rattle.registry_model.proofs.Updates.{by_test}
 use Rattle.moves.proofs.Indices.{at_pair}
 
@@ -43,7 +43,7 @@ module _ {X : Type 0} (F : List Letter → List X) (split : (xs ys : List Letter
   -- the letter that is taken is of another kind
   pub taken_none : (w : World) (f a : ℕ) (l : Letter) (rest : List Letter) → w.links.queue f a ≡ l ∷ rest
       → F (l ∷ rest) ≡ F rest
-      → (x y : ℕ) → on_links (opened (Deliver f a) w) x y ≡ on_links w x y
+      → (x y : ℕ) → on_links (letter_taken (Deliver f a) w) x y ≡ on_links w x y
   taken_none w f a l rest front same = by_test f
       (λ x s. (y : ℕ) → F (if s && (y == a) then drop 1 (w.links.queue x y) else w.links.queue x y)
       ≡ F (w.links.queue x y))
@@ -53,7 +53,7 @@ module _ {X : Type 0} (F : List Letter → List X) (split : (xs ys : List Letter
 
   -- the letter that is taken is of this kind
   pub taken_one : (w : World) (f a : ℕ) (l : Letter) (rest : List Letter) → w.links.queue f a ≡ l ∷ rest
-      → (x y : ℕ) → on_links (opened (Deliver f a) w) x y ≡ at_pair (on_links w) f a (F rest) x y
+      → (x y : ℕ) → on_links (letter_taken (Deliver f a) w) x y ≡ at_pair (on_links w) f a (F rest) x y
   taken_one w f a l rest front = by_test f (λ x s. (y : ℕ)
       → F (if s && (y == a) then drop 1 (w.links.queue x y) else w.links.queue x y)
       ≡ (if s then (if y == a then F rest else F (w.links.queue x y)) else F (w.links.queue x y)))

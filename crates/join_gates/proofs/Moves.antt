@@ -13,7 +13,7 @@ use Rattle.protocol_model.specs.Letter.{Letter}
 use Rattle.protocol_model.specs.Round.{Round}
 use Rattle.protocol_model.specs.Node.{Node, Op, Current}
 use Rattle.protocol_model.specs.Turn.{Turn, Send, sent_to}
-use Rattle.protocol_model.specs.World.{Opening, World, left, Deliver, join_number, number_in, opened}
+use Rattle.protocol_model.specs.World.{Opening, World, left, Deliver, join_number, number_in, letter_taken}
 use Rattle.moves.proofs.Rules
 use Rattle.moves.proofs.Sends.{sent_to-append, to_each}
 use Rattle.registry_model.proofs.Updates.{by_test, at_same}
@@ -107,10 +107,10 @@ pub queues_join : (o : Opening) (a : ℕ) (w : World) (gate : ℕ → ℕ → Ga
 queues_join o a w gate f pairs R2 M G = moved o w v gate f a (Wait pairs) (knocks rest) (returns_on w f a)
     (admissions f (jobs u.node))
     G (λ x l. l)
-    (λ x y l. sent_none knocks knocks-append (opened (Deliver f a) w) a u (λ y. refl) x y
+    (λ x y l. sent_none knocks knocks-append (letter_taken (Deliver f a) w) a u (λ y. refl) x y
     ∙ taken_one knocks knocks-append w f a (Letter.JoinAsk pairs) rest front x y)
     (λ l. here.1)
-    (λ x y l. sent_none returns returns-append (opened (Deliver f a) w) a u (λ y. refl) y x
+    (λ x y l. sent_none returns returns-append (letter_taken (Deliver f a) w) a u (λ y. refl) y x
     ∙ taken_none returns returns-append w f a (Letter.JoinAsk pairs) rest front refl y x
     ∙ self_pair (returns_on w) f a x y)
     (λ l. G.back f a l ∙ ap returns_of here.0)
@@ -173,13 +173,13 @@ pub refuses_join : (o : Opening) (a : ℕ) (w : World) (gate : ℕ → ℕ → G
 refuses_join o a w gate f pairs P R2 M G = moved o w v gate f a Turned (knocks rest) (returns_on w f a ++ false ∷ [])
     (admissions f (jobs (w.node a)))
     G (λ x l. l)
-    (λ x y l. sent_none knocks knocks-append (opened (Deliver f a) w) a u
+    (λ x y l. sent_none knocks knocks-append (letter_taken (Deliver f a) w) a u
     (none_sent knocks refl f Letter.JoinRefused refl) x y
     ∙ taken_one knocks knocks-append w f a (Letter.JoinAsk pairs) rest front x y)
     (λ l. here.1)
-    (λ x y l. sent_one returns returns-append (opened (Deliver f a) w) a u f (false ∷ [])
+    (λ x y l. sent_one returns returns-append (letter_taken (Deliver f a) w) a u f (false ∷ [])
     (one_sent returns refl f Letter.JoinRefused) y x l
-    ∙ swap_pair (on_links returns returns-append (opened (Deliver f a) w)) f a _ x y
+    ∙ swap_pair (on_links returns returns-append (letter_taken (Deliver f a) w)) f a _ x y
     ∙ taken x y)
     (λ l. ap (λ (t : List Bool). t ++ false ∷ []) (G.back f a l ∙ ap returns_of here.0))
     (λ x y l. queue_same w a u.node f a (λ x. refl) x y)
@@ -205,17 +205,17 @@ refuses_join o a w gate f pairs P R2 M G = moved o w v gate f a Turned (knocks r
     here : (gate f a ≡ Knock pairs) × (knocks rest ≡ [])
     here = knocking o a w gate f pairs rest M.running front G
 
-    same : (x y : ℕ) → returns_on (opened (Deliver f a) w) x y ≡ returns_on w x y
+    same : (x y : ℕ) → returns_on (letter_taken (Deliver f a) w) x y ≡ returns_on w x y
     same x y = taken_none returns returns-append w f a (Letter.JoinAsk pairs) rest front refl y x
 
-    taken : (x y : ℕ) → at_pair (returns_on (opened (Deliver f a) w)) f a
-        (returns_on (opened (Deliver f a) w) f a ++ false ∷ []) x y
+    taken : (x y : ℕ) → at_pair (returns_on (letter_taken (Deliver f a) w)) f a
+        (returns_on (letter_taken (Deliver f a) w) f a ++ false ∷ []) x y
         ≡ at_pair (returns_on w) f a (returns_on w f a ++ false ∷ []) x y
     taken x y = go (x == f) (y == a)
       where
         go : (s t : Bool) → (if s then (if t then returns_on
-            (opened (Deliver f a) w) f a ++ false ∷ [] else returns_on (opened (Deliver f a) w) x y) else returns_on
-            (opened (Deliver f a) w) x y)
+            (letter_taken (Deliver f a) w) f a ++ false ∷ [] else returns_on (letter_taken (Deliver f a) w) x y) else returns_on
+            (letter_taken (Deliver f a) w) x y)
             ≡ (if s then (if t then returns_on w f a ++ false ∷ [] else returns_on w x y) else returns_on w x y)
         go true true = ap (λ (t : List Bool). t ++ false ∷ []) (same f a)
         go true false = same x y
@@ -405,10 +405,10 @@ pub ends_join : (o : Opening) (a : ℕ) (w : World) (gate : ℕ → ℕ → Gate
 ends_join o a w gate f k R2 M G = moved o w v gate a f Away (knocks_on w a f) (returns rest)
     (admissions a (jobs (w.node f)))
     G (λ x l. l)
-    (λ x y l. sent_none knocks knocks-append (opened (Deliver f a) w) a u (λ y. refl) x y
+    (λ x y l. sent_none knocks knocks-append (letter_taken (Deliver f a) w) a u (λ y. refl) x y
     ∙ taken_none knocks knocks-append w f a Letter.JoinRefused rest front refl x y ∙ self_pair (knocks_on w) a f x y)
     (λ l. G.knock a f l ∙ ap knocks_of here.0)
-    (λ x y l. sent_none returns returns-append (opened (Deliver f a) w) a u (λ y. refl) y x
+    (λ x y l. sent_none returns returns-append (letter_taken (Deliver f a) w) a u (λ y. refl) y x
     ∙ taken_one returns returns-append w f a Letter.JoinRefused rest front y x
     ∙ swap_pair (on_links returns returns-append w) a f (returns rest) x y)
     (λ l. here.1)
@@ -446,11 +446,11 @@ pub is_welcomed : (o : Opening) (a : ℕ) (w : World) (gate : ℕ → ℕ → Ga
 is_welcomed o a w gate f k members pairs told kills R2 M G =
     moved o w v gate a f Away (knocks_on w a f) (returns rest) (admissions a (jobs (w.node f)))
     G (λ x l. l)
-    (λ x y l. sent_none knocks knocks-append (opened (Deliver f a) w) a u
+    (λ x y l. sent_none knocks knocks-append (letter_taken (Deliver f a) w) a u
     (none_sent knocks refl f Letter.Applied refl) x y
     ∙ taken_none knocks knocks-append w f a letter rest front refl x y ∙ self_pair (knocks_on w) a f x y)
     (λ l. G.knock a f l ∙ ap knocks_of here.0)
-    (λ x y l. sent_none returns returns-append (opened (Deliver f a) w) a u
+    (λ x y l. sent_none returns returns-append (letter_taken (Deliver f a) w) a u
     (none_sent returns refl f Letter.Applied refl) y x
     ∙ taken_one returns returns-append w f a letter rest front y x
     ∙ swap_pair (on_links returns returns-append w) a f (returns rest) x y)

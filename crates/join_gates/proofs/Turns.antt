@@ -17,7 +17,7 @@ use Rattle.moves.proofs.Invariants.{replica, current, standing_at}
 use Rattle.join_gates.proofs.Tokens.{Gate, is_turned, is_entering, is_plain, are_plain, plain_knocks, plain_returns, knocks-plain, returns-plain, knocks, returns, admissions, admissions-append, asked_for, jobs, knocks-append, returns-append}
 use Rattle.join_gates.proofs.Links.{sent_none, taken_none}
 use Rattle.join_gates.proofs.Pasts.{Admitted, touch, have_done, standing_of-append, lone_along, admitted_along}
-use Rattle.join_gates.proofs.Gates.{Facts, Gates, Once, OnceIn, unmoved, kept}
+use Rattle.join_gates.proofs.Gates.{Facts, Gates, Once, OnceIn, gates_unmoved, kept}
 
 -- node v becomes u, and what joins ask of it stays
 pub record Quietly (v u : Node) : Type 0 where
@@ -128,7 +128,7 @@ module _ (o : Opening) (a : ℕ) (w : World) (u : Turn) (gate : ℕ → ℕ → 
       → all_legal (standing_at o w) u.entries ≡ true
       → ((j m : ℕ) → is_entering (gate j m) ≡ true → left w j ≡ false → have_done m u.entries ≡ false)
       → Gates o w gate → Gates o (apply a u (record w { links = ls })) gate
-  calm_on ls closed K B plain Q clear legal going G = unmoved o w v gate G runs
+  calm_on ls closed K B plain Q clear legal going G = gates_unmoved o w v gate G runs
       (λ x y l. sent_none knocks knocks-append (record w { links = ls }) a u (plain_knocks u.sends plain) x y ∙ K x y)
       (λ x y l. sent_none returns returns-append (record w { links = ls }) a u (plain_returns u.sends plain) x y
       ∙ B x y)

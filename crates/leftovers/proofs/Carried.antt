@@ -18,7 +18,7 @@ use Rattle.protocol_model.specs.Links.{taken}
 use Rattle.protocol_model.specs.Watch.{is_dead}
 use Rattle.protocol_model.specs.Node.{Node, Op, Current, Times}
 use Rattle.protocol_model.specs.Event.{Call, Event}
-use Rattle.protocol_model.specs.Turn.{Turn, begun, counted, enter, sent_to}
+use Rattle.protocol_model.specs.Turn.{Turn, begun, count_call, enter, sent_to}
 use Rattle.protocol_model.specs.Registrar.{start, retry_global}
 use Rattle.protocol_model.specs.Client.{new_call, retry_locks}
 use Rattle.protocol_model.specs.Calling.{die, call}
@@ -27,7 +27,7 @@ use Rattle.moves.proofs.Indices.{both}
 use Rattle.moves.proofs.Rules.{Walked}
 use Rattle.moves.proofs.Invariants.{IsUp}
 use Rattle.walk.proofs.Events.{Accepted, accepted_of}
-use Rattle.walk.proofs.Walk.{walked}
+use Rattle.walk.proofs.Walk.{event_walked}
 use Rattle.protocol_model.specs.Leftovers.{world, Always, DeathsAreCarriedOut, KnownDeadOwnNothing}
 use Rattle.protocol_model.proofs.Waiting.{accepted-node}
 use Rattle.headline.proofs.Exiting.{dead_event, exit_kills}
@@ -77,14 +77,14 @@ module _ (o : Opening) (w : World) (B : Base o w) where
   call_adds a (Call.LookUp look) = adds_entry (begun (w.node a))
       (call o.bound a ((w.node a).last_call + 1) (Call.LookUp look) (begun (w.node a))) _ refl refl refl
   call_adds a (Call.OnName c) = adds_same (begun (w.node a)) _ refl refl
-  call_adds a (Call.SetLock p r q target retries) = adds_then (begun (w.node a)) (counted (begun (w.node a))) _
-      (adds_same (begun (w.node a)) (counted (begun (w.node a))) refl refl)
+  call_adds a (Call.SetLock p r q target retries) = adds_then (begun (w.node a)) (count_call (begun (w.node a))) _
+      (adds_same (begun (w.node a)) (count_call (begun (w.node a))) refl refl)
       (add_try o.bound a (new_call o.bound a ((w.node a).last_call + 1) p r q target retries)
-      (counted (begun (w.node a))))
-  call_adds a (Call.DelLock p r q target) = adds_then (begun (w.node a)) (counted (begun (w.node a))) _
-      (adds_same (begun (w.node a)) (counted (begun (w.node a))) refl refl)
+      (count_call (begun (w.node a))))
+  call_adds a (Call.DelLock p r q target) = adds_then (begun (w.node a)) (count_call (begun (w.node a))) _
+      (adds_same (begun (w.node a)) (count_call (begun (w.node a))) refl refl)
       (add_delete o.bound a (new_call o.bound a ((w.node a).last_call + 1) p r q target (Times 0))
-      (counted (begun (w.node a))))
+      (count_call (begun (w.node a))))
   call_adds a (Call.JoinBy m) = adds_same (begun (w.node a)) _ refl refl
 
   -- how an event may make somebody dead
@@ -141,7 +141,7 @@ module _ (o : Opening) (w : World) (B : Base o w) where
       was_up = (up.0, accepted-left o w e p.node up.1)
 
       walk : Walked o w e
-      walk = walked o w e B.ordered (wide o w B) h
+      walk = event_walked o w e B.ordered (wide o w B) h
 
       -- who was dead before
       before : (registry_of (in_cluster o) w.history).dead p ≡ true

@@ -61,7 +61,7 @@ module _ (o : Opening) where
 
   -- clients' locks by the numbers of their rounds, after every list of events
   pub lock_state : (es : List WorldEvent)
-      → State o (All o) (grounds o) (run o (opening_world o) es) (λ p id x. RoundNumbers.number o es p id x)
+      → State o (All o) (grounds o) (run o (opening_world o) es) (λ p id x. RoundNumbers.round_count o es p id x)
   lock_state es = run_state o (All o) (grounds o) (opening_world o) es no_numbers
       (opening_state o (All o) (grounds o))
 

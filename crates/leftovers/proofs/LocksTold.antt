@@ -11,7 +11,7 @@ use Rattle.protocol_model.specs.Letter.{Id, Global, Client, is_id, is_resource}
 use Rattle.protocol_model.specs.LockTable.{Grant, Locks, is_grant_of, count, is_in_the_way, refused_by, last_count}
 use Rattle.protocol_model.specs.Watch.{is_dead}
 use Rattle.protocol_model.specs.Node.{Current}
-use Rattle.protocol_model.specs.ClientLocks.{is_gone, number}
+use Rattle.protocol_model.specs.ClientLocks.{is_no_more, holds_count}
 use Rattle.protocol_model.specs.Course.{global_given}
 use Rattle.protocol_model.specs.World.{Opening, in_world, World, left, WorldEvent}
 use Rattle.moves.proofs.Indices.{both, not_true}
@@ -213,14 +213,14 @@ module _ (o : Opening) (w : World) (W : Whole o w) (Q : IsQuiet o w) where
 
 -- the numbers of the statement are those of the rounds
 same_number : (o : Opening) (es : List WorldEvent) (p : Process) (id : Id) (c : ℕ)
-    → number o es p id c ≡ RoundNumbers.number o es p id c
+    → holds_count o es p id c ≡ RoundNumbers.round_count o es p id c
 same_number o es p id c = numbers_agree o (All o) (grounds o) es p id c
 
 module _ (o : Opening) (es : List WorldEvent) where
   num : Numbers
-  num p id x = RoundNumbers.number o es p id x
+  num p id x = RoundNumbers.round_count o es p id x
 
-  told : Clients o (world o es) (λ p id x. RoundNumbers.number o es p id x)
+  told : Clients o (world o es) (λ p id x. RoundNumbers.round_count o es p id x)
   told = (lock_state o es).clients
 
 pub held_locks_stand : Always HeldLocksStand
@@ -228,7 +228,7 @@ held_locks_stand o es c up id p = subst (λ (n : ℕ). n ≤ count id p ((world 
     (sym (same_number o es p id c)) (go (lives o (world o es) p) refl)
   where
     go : (b : Bool) → lives o (world o es) p ≡ b
-        → RoundNumbers.number o es p id c ≤ count id p ((world o es).node c).locks
+        → RoundNumbers.round_count o es p id c ≤ count id p ((world o es).node c).locks
     go false h = omega (arith, (told o es).strangers p id c h)
     go true h = omega (
       arith,
@@ -240,12 +240,12 @@ pub locks_are_as_told : Always LocksAreAsTold
 locks_are_as_told o es c quiet up id p = go (lives o (world o es) p) refl ∙ sym (same_number o es p id c)
   where
     go : (b : Bool) → lives o (world o es) p ≡ b
-        → count id p ((world o es).node c).locks ≡ RoundNumbers.number o es p id c
+        → count id p ((world o es).node c).locks ≡ RoundNumbers.round_count o es p id c
     go false h = none_counts id p ((world o es).node c).locks
         (none_of_dead o (world o es) (whole o es) quiet p c up h) ∙ sym ((told o es).strangers p id c h)
     go true h =
         let l : IsLive o (world o es) p = live_parts o (world o es) p h in
-        live_counts o (world o es) (whole o es) quiet (λ q i x. RoundNumbers.number o es q i x) (told o es) p id c h
+        live_counts o (world o es) (whole o es) quiet (λ q i x. RoundNumbers.round_count o es q i x) (told o es) p id c h
         (l.inside, l.up) up
 
 pub no_empty_grants : Always NoEmptyGrants
@@ -257,9 +257,9 @@ nobody_keeps_the_global_lock o es c b quiet up =
     not_given ((world o es).node c).locks b (no_global_grants o (world o es) (whole o es) quiet c up)
 
 pub dead_holders_hold_nothing : Always DeadHoldersHoldNothing
-dead_holders_hold_nothing o es c quiet up g listed = go (is_gone (world o es) g.holder) refl
+dead_holders_hold_nothing o es c quiet up g listed = go (is_no_more (world o es) g.holder) refl
   where
-    dead : is_gone (world o es) g.holder ≡ true → lives o (world o es) g.holder ≡ false
+    dead : is_no_more (world o es) g.holder ≡ true → lives o (world o es) g.holder ≡ false
     dead h = off (in_world o g.holder.node) (left (world o es) g.holder.node) (g.holder.serial == 0)
         (is_dead ((world o es).node g.holder.node).watch g.holder.serial) h
       where
@@ -270,7 +270,7 @@ dead_holders_hold_nothing o es c quiet up g listed = go (is_gone (world o es) g.
         off true false false true h = refl
         off true false false false h = cc h
 
-    go : (b : Bool) → is_gone (world o es) g.holder ≡ b → b ≡ false
+    go : (b : Bool) → is_no_more (world o es) g.holder ≡ b → b ≡ false
     go false h = refl
     go true h =
         let counted : 0 < count g.id g.holder ((world o es).node c).locks =

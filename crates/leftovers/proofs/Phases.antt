@@ -24,10 +24,10 @@ pub data CallStep : Type 0 where
   Puts : (call : LockCall) → CallStep
   Drops : (holder : Process) → CallStep
 
-abbrev pub stepped : CallStep → List LockCall → List LockCall
-stepped Same cs = cs
-stepped (Puts c) cs = put_call c cs
-stepped (Drops p) cs = drop_call p cs
+abbrev pub after_call_step : CallStep → List LockCall → List LockCall
+after_call_step Same cs = cs
+after_call_step (Puts c) cs = put_call c cs
+after_call_step (Drops p) cs = drop_call p cs
 
 abbrev pub step_of : ℕ → Node → Rule → CallStep
 step_of n v (Rules.Exits p) = Drops p
@@ -61,7 +61,7 @@ AllPhases P cs = (p : Process) (c : LockCall) → call_of p cs ≡ Some c → P 
 
 -- it stays so where a call that is put is in such a phase
 pub phases_stepped : (P : LockPhase → Type 0) (a : ℕ) (cs : List LockCall) → is_ordered a cs ≡ true → (s : CallStep)
-    → StepOk (λ c. c.holder.node ≡ a) s → StepOk (λ c. P c.phase) s → AllPhases P cs → AllPhases P (stepped s cs)
+    → StepOk (λ c. c.holder.node ≡ a) s → StepOk (λ c. P c.phase) s → AllPhases P cs → AllPhases P (after_call_step s cs)
 phases_stepped P a cs sorted Same home ok all = all
 phases_stepped P a cs sorted (Puts d) home ok all = λ p c e. go p c (is_process d.holder p)
     (sym (call_of-put a p d cs home sorted) ∙ e)
@@ -79,7 +79,7 @@ module _ (o : Opening) (a : ℕ) (w : World) where
   abbrev v : Node
   v = w.node a
 
-  pub calls_turn : (r : Rule) → (Rules.turn_by o a w r).node.calls ≡ stepped (step_of o.bound v r) v.calls
+  pub calls_turn : (r : Rule) → (Rules.turn_by o a w r).node.calls ≡ after_call_step (step_of o.bound v r) v.calls
   calls_turn (Rules.HearsAnswer f id granted op r) = go (opens f granted r)
     where
       go : (t : Bool) → (at_work (Current.Asking op (answer f granted r))
@@ -98,7 +98,7 @@ module _ (o : Opening) (a : ℕ) (w : World) where
     where
       go : (t : Bool) → (if t then close_call o.bound a c false (give_lock o.bound a c granted (begun v))
           else keep_call (in_phase LockPhase.Waiting c) (give_lock o.bound a c granted (begun v))).node.calls
-          ≡ stepped (if t then Drops c.holder else Puts (in_phase LockPhase.Waiting c)) v.calls
+          ≡ after_call_step (if t then Drops c.holder else Puts (in_phase LockPhase.Waiting c)) v.calls
       go true = refl
       go false = refl
   calls_turn (Rules.Judges f id p) = go (is_free_for id p v.locks)

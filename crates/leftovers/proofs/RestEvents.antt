@@ -13,7 +13,7 @@ use Rattle.protocol_model.specs.Letter.{Letter, is_down}
 use Rattle.protocol_model.specs.LockTable.{is_free_for}
 use Rattle.protocol_model.specs.Node.{Node, Op, Current, LockPhase, LockCall, Times, call_of}
 use Rattle.protocol_model.specs.Event.{Call, Event, Refusal, cause, first_cause, names_members, calls_spent}
-use Rattle.protocol_model.specs.Turn.{Turn, begun, counted, enter, send, at_work, with_replica, reply_with}
+use Rattle.protocol_model.specs.Turn.{Turn, begun, count_call, enter, send, at_work, with_replica, reply_with}
 use Rattle.protocol_model.specs.Registrar.{registrar, start, retry_global, await_less, lose_contact}
 use Rattle.protocol_model.specs.Deciding.{hear_answer, lose}
 use Rattle.protocol_model.specs.Client.{new_call, hear_lock}
@@ -342,12 +342,12 @@ module _ (o : Opening) (w : World) (B : Base o w) (a : ℕ) (here : in_world o a
   call-rests (Call.LookUp look) h = record { sides = R.sides; work = R.work }
   call-rests (Call.OnName c) h = record { sides = R.sides; work = R.work }
   call-rests (Call.SetLock p r q target retries) h = try_lock-rests o a
-      (new_call o.bound a (v.last_call + 1) p r q target retries) (counted (begun v))
+      (new_call o.bound a (v.last_call + 1) p r q target retries) (count_call (begun v))
       (live_own a v.watch p (lock_tested a v p r
       (cause (not (names_members v target)) Refusal.UnknownNode ∷ calls_spent v ∷ []) h).0)
       (record { sides = R.sides; work = R.work })
   call-rests (Call.DelLock p r q target) h = delete_lock-rests o a
-      (new_call o.bound a (v.last_call + 1) p r q target (Times 0)) (counted (begun v))
+      (new_call o.bound a (v.last_call + 1) p r q target (Times 0)) (count_call (begun v))
       (live_own a v.watch p (lock_tested a v p r (calls_spent v ∷ []) h).0)
       (record { sides = R.sides; work = R.work })
   call-rests (Call.JoinBy m) h = record { sides = R.sides; work = R.work }

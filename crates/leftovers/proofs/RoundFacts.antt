@@ -6,7 +6,7 @@ use Rattle.registry_model.specs.Process.{Nodes}
 use Rattle.protocol_model.specs.Round.{Mark, Out, Later, Owes, Round, is_out, is_empty, greatest, begin, asked, owes, asked_too, answer, mark_down, down, is_over, is_refused, is_gone, has_granted, is_owes}
 use Rattle.registry_model.proofs.Updates.{by_test}
 use Rattle.moves.proofs.Indices.{greatest_in}
-use Rattle.client_locks.proofs.Rounds.{mark_by, Answered, Own, Stays, Opened, answered, answer_boss}
+use Rattle.client_locks.proofs.Rounds.{mark_by, Answered, Own, Stays, Opened, mark_answered, answer_boss}
 
 -- is to answer, now or later
 abbrev pub is_to_come : Mark → Bool
@@ -30,7 +30,7 @@ asked_of_owes r f h = go (r.mark f) h
 -- who isn't to answer before isn't then
 pub to_come_answer : (f : ℕ) (g : Bool) (r : Round) → owes r f ≡ true → (x : ℕ) → is_to_come (r.mark x) ≡ false
     → is_to_come ((answer f g r).mark x) ≡ false
-to_come_answer f g r owe x h = go ((answer f g r).mark x) (answered f g r owe x)
+to_come_answer f g r owe x h = go ((answer f g r).mark x) (mark_answered f g r owe x)
   where
     by : (k : Bool) → is_to_come (mark_by k) ≡ false
     by true = refl
@@ -70,7 +70,7 @@ to_come_begin n s x h = rw h refl
 pub boss_answer : (f : ℕ) (g : Bool) (r : Round) → owes r f ≡ true → is_before (r.mark r.boss) ≡ false
     → is_before ((answer f g r).mark (answer f g r).boss) ≡ false
 boss_answer f g r owe h = subst (λ (y : ℕ). is_before ((answer f g r).mark y) ≡ false) (sym (answer_boss f g r))
-    (go ((answer f g r).mark r.boss) (answered f g r owe r.boss))
+    (go ((answer f g r).mark r.boss) (mark_answered f g r owe r.boss))
   where
     by : (k : Bool) → is_before (mark_by k) ≡ false
     by true = refl

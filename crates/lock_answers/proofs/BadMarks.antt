@@ -5,7 +5,7 @@ use Rattle.registry_model.specs.Process.{Nodes}
 use Rattle.registry_model.proofs.Updates.{by_test}
 use Rattle.protocol_model.specs.Round.{Mark, Out, Later, Owes, Granted, Refused, Lost, Gone, Round, is_out, is_refused, is_gone, is_granted, has_granted, is_empty, greatest, begin, asked, owes, asked_too, answer, mark_down, down, granted, is_over, is_held, asked_all, Ending, Held, GiveBack, ending}
 use Rattle.moves.proofs.Indices.{both, some_of, empty_at, is_empty_from}
-use Rattle.leftovers.proofs.Rounds.{mark_by, Answered, Own, Stays, Opened, answered}
+use Rattle.leftovers.proofs.Rounds.{mark_by, Answered, Own, Stays, Opened, mark_answered}
 
 -- has refused, or has gone down
 abbrev pub is_bad : Mark → Bool
@@ -34,7 +34,7 @@ begin_good n s x h = go (s x) (x == greatest n s) h
 -- where an answer makes a bad mark, it is that of a node that refuses now, or it was there
 pub bad_answer : (f : ℕ) (g : Bool) (r : Round) → owes r f ≡ true → (so : Bool) → (g ≡ false → so ≡ true) → (x : ℕ)
     → (is_bad (r.mark x) ≡ true → so ≡ true) → is_bad ((answer f g r).mark x) ≡ true → so ≡ true
-bad_answer f g r owe so denied x before h = go ((answer f g r).mark x) (answered f g r owe x) h
+bad_answer f g r owe so denied x before h = go ((answer f g r).mark x) (mark_answered f g r owe x) h
   where
     too : (m : Mark) → is_bad (asked_too m) ≡ true → is_bad m ≡ true
     too Later k = cc

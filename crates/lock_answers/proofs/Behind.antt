@@ -14,7 +14,7 @@ use Rattle.walk.proofs.Orders.{ordered_keeps}
 use Rattle.leftovers.proofs.Clients.{Numbers}
 use Rattle.leftovers.proofs.Numbering.{aside_hears}
 use Rattle.leftovers.proofs.Opening.{no_numbers}
-use Rattle.leftovers.proofs.RoundNumbers.{number_after}
+use Rattle.leftovers.proofs.RoundNumbers.{round_count_after}
 use Rattle.leftovers.proofs.Tallies.{accepted_tried, fits_opens}
 use Rattle.leftovers.proofs.Told.{chain_of, all_of_all, first_heard}
 use Rattle.leftovers.proofs.Tries.{Fits}
@@ -98,7 +98,7 @@ module _ (o : Opening) (p : Process) where
     stands_after : (w : World) (e : WorldEvent) (t : Option Tries) → Stands w t
         → Stands (happens o w e) (tries_after o w e p t)
     stands_after w e t S = record {
-      num = λ q i y. number_after o w e q i y (S.num q i y);
+      num = λ q i y. round_count_after o w e q i y (S.num q i y);
       known = event_keeps o (All o) (grounds o) w e S.num S.known;
       fits = (go (refusal o w e) refl).0;
       kept = (go (refusal o w e) refl).1;

@@ -10,7 +10,7 @@ use Rattle.walk.proofs.Orders.{effect-node}
 use Rattle.leftovers.proofs.Calls.{call_of-put, call_of-drop, holder_of_call, home_of_call}
 use Rattle.leftovers.proofs.Clients.{call_at}
 use Rattle.leftovers.proofs.Ids.{is_process_same}
-use Rattle.leftovers.proofs.Phases.{CallStep, Same, Puts, Drops, stepped, step_of, StepOk, calls_turn, put_home}
+use Rattle.leftovers.proofs.Phases.{CallStep, Same, Puts, Drops, after_call_step, step_of, StepOk, calls_turn, put_home}
 
 -- so it is of each open call
 abbrev pub AllCalls : (Process → LockCall → Type 0) → World → Type 0
@@ -31,7 +31,7 @@ home_of a q cs c sorted e = sym (ap (λ (k : Process). k.node) (holder_of_call q
 calls_stepped : (P : Process → LockCall → Type 0) (a : ℕ) (cs : List LockCall) → is_ordered a cs ≡ true → (s : CallStep)
     → StepOk (λ c. c.holder.node ≡ a) s → StepOk (λ c. P c.holder c) s
     → ((q : Process) (c : LockCall) → call_of q cs ≡ Some c → P q c)
-    → (q : Process) (c : LockCall) → call_of q (stepped s cs) ≡ Some c → P q c
+    → (q : Process) (c : LockCall) → call_of q (after_call_step s cs) ≡ Some c → P q c
 calls_stepped P a cs sorted Same home ok all = all
 calls_stepped P a cs sorted (Puts d) home ok all = λ q c e. go q c (is_process d.holder q) refl
     (sym (call_of-put a q d cs home sorted) ∙ e)
@@ -59,7 +59,7 @@ calls_kept o a w r sorted m P ok all q c e = by_test a
     (λ x ne i k. all q c (subst (λ (y : ℕ). call_of q (w.node y).calls ≡ Some c) i k)) q.node refl
     (sym (ap (λ (f : ℕ → Node). call_of q (f q.node).calls) (effect-node o a r w)) ∙ e)
   where
-    here : call_of q (stepped (step_of o.bound (w.node a) r) (w.node a).calls) ≡ Some c → P q c
+    here : call_of q (after_call_step (step_of o.bound (w.node a) r) (w.node a).calls) ≡ Some c → P q c
     here = calls_stepped P a (w.node a).calls (sorted a) (step_of o.bound (w.node a) r)
         (put_home o a w (sorted a) r m.tested) ok
         (λ p d k. all p d (subst (λ (y : ℕ). call_of p (w.node y).calls ≡ Some d)

@@ -37,9 +37,9 @@ pub deny_push : (ss : List Send) (s : Send) → is_no_denial s.letter ≡ true �
 deny_push ss s h k = pass_append is_no_denial ss (s ∷ []) k (rw h refl)
 
 -- what there is unless b
-pub unless : {A : Type 0} (b : Bool) (x y : A) → (if b then None else Some x) ≡ Some y → x ≡ y
-unless true x y e = cc
-unless false x y e = cc
+pub some_unless : {A : Type 0} (b : Bool) (x y : A) → (if b then None else Some x) ≡ Some y → x ≡ y
+some_unless true x y e = cc
+some_unless false x y e = cc
 
 module _ (n a : ℕ) where
   -- a turn leaves the lock calls, answers none of them, and denies nobody a lock

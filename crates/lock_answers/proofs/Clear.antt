@@ -21,7 +21,7 @@ use Rattle.walk.proofs.Orders.{effect-node}
 use Rattle.leftovers.proofs.Grounds.{Base, replicas}
 use Rattle.leftovers.proofs.Parts.{replica_by, parts}
 use Rattle.leftovers.proofs.Departures.{admitted-told}
-use Rattle.leftovers.proofs.Rounds.{Answered, Own, Stays, Opened, answered}
+use Rattle.leftovers.proofs.Rounds.{Answered, Own, Stays, Opened, mark_answered}
 use Rattle.leftovers.proofs.Phases.{Puts, Drops, StepOk, AllPhases, step_of, phases_stepped, calls_turn, put_home}
 use Rattle.leftovers.proofs.Near.{Near, NearIn, is_near}
 
@@ -49,7 +49,7 @@ granted_begin n s x = go (s x) (x == greatest n s)
 -- an answer of another gives none
 pub granted_answer : (f : ℕ) (g : Bool) (r : Round) → owes r f ≡ true → (x : ℕ) → (x ≡ f → ⊥)
     → granted r x ≡ false → granted (answer f g r) x ≡ false
-granted_answer f g r owe x ne h = go ((answer f g r).mark x) (answered f g r owe x)
+granted_answer f g r owe x ne h = go ((answer f g r).mark x) (mark_answered f g r owe x)
   where
     too : (m : Mark) → is_granted m ≡ false → is_granted (asked_too m) ≡ false
     too Later e = refl

@@ -21,7 +21,7 @@ use Rattle.walk.proofs.Orders.{ordered_keeps}
 use Rattle.walk.proofs.Walk.{InOrder}
 use Rattle.leftovers.proofs.Clients.{Numbers, lives, IsLive, live_parts, lives_by, call_at}
 use Rattle.leftovers.proofs.Answering.{any_true}
-use Rattle.leftovers.proofs.Beginnings.{either, numbered, same_targets, attempt, new_try, deletion, fresh, deletes_silent, nothing_silent}
+use Rattle.leftovers.proofs.Beginnings.{either_rule, numbered, same_targets, attempt, new_try, deletion, fresh, deletes_silent, nothing_silent}
 use Rattle.leftovers.proofs.Chains.{is_calm, aside_calm, calm_answers}
 use Rattle.leftovers.proofs.HeardChains.{answered_none}
 use Rattle.leftovers.proofs.Numbering.{Numbered}
@@ -171,7 +171,7 @@ module _ (o : Opening) (w : World) (num : Numbers) (K : Known o w num) (N : Numb
   ends_on (Deliver f b) rest m h here running is same =
       λ d last answered. heard_ends f b rest m h d last here running is same answered
   ends_on (At a (Event.Calling (Call.SetLock q r z target retries))) rest m h here running is same =
-      either o w a (Ends event) _ _ h.0 h.1.0 rest h.1.1.0 h.1.1.1 m
+      either_rule o w a (Ends event) _ _ h.0 h.1.0 rest h.1.1.0 h.1.1.1 m
       (λ k. by_silence event (AsksLock new ∷ h.1.0) (silent a (CallsLock ∷ AsksLock new ∷ h.1.0) calm k))
       (λ k. by_silence event (FailsLock new ∷ h.1.0) (silent a (CallsLock ∷ FailsLock new ∷ h.1.0) calm k))
     where
@@ -184,7 +184,7 @@ module _ (o : Opening) (w : World) (num : Numbers) (K : Known o w num) (N : Numb
       calm : list_all is_calm h.1.0 ≡ true
       calm = all_of_all (suits Aside) is_calm aside_calm h.1.0 h.1.1.2
   ends_on (At a (Event.Calling (Call.DelLock q r z target))) rest m h here running is same =
-      either o w a (Ends (deletion o w a q r z target)) _ _ h.0 h.1.0 rest h.1.1.0 h.1.1.1 m
+      either_rule o w a (Ends (deletion o w a q r z target)) _ _ h.0 h.1.0 rest h.1.1.0 h.1.1.1 m
       (λ k. by_silence (deletion o w a q r z target) (DeletesLock (fresh o w a q r z target) ∷ h.1.0)
       (λ n. deletes_silent o w a q r z target K.replying h.1.0 h.1.1.2 p.node n k))
       (λ k d last answered. nothing_ends a q r z target h.1.0 k h.1.1.2 d last answered)

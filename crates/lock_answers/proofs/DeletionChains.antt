@@ -23,14 +23,14 @@ use Rattle.leftovers.proofs.Answering.{is_true, any_true, not_true_answers}
 use Rattle.leftovers.proofs.Ongoing.{is_deleting}
 use Rattle.leftovers.proofs.Chains.{from_heard}
 use Rattle.leftovers.proofs.Numbering.{last_effect}
-use Rattle.lock_answers.proofs.Settled.{Stands, stands_keeps, ran, lived}
+use Rattle.lock_answers.proofs.Settled.{Stands, stands_keeps, node_ran, process_lived}
 use Rattle.lock_answers.proofs.OpenDeletions.{Known, known_keeps, Next, Stayed, Lessened, Ended, view_deleting, lives_stays, drop_after, open_home, open_found, nums_stay, follows}
 
 -- who lives behind a chain lived before it
 pub lived_chain : (o : Opening) (a : ℕ) (rs : List Rule) (w : World) (p : Process) → lives o (effects o a rs w) p ≡ true
     → lives o w p ≡ true
 lived_chain o a [] w p h = h
-lived_chain o a (r ∷ rs) w p h = lived o a r w p (lived_chain o a rs (effect o a r w) p h)
+lived_chain o a (r ∷ rs) w p h = process_lived o a r w p (lived_chain o a rs (effect o a r w) p h)
 
 -- an answer `true` under this number at this node
 true_parts : (b c : Bool) → (((b && c) && true) || false) ≡ true → (b ≡ true) × (c ≡ true)
@@ -66,7 +66,7 @@ module _ (o : Opening) (p : Process) (k : ℕ) (nodes : Nodes) where
       still : lives o (effect o a r w) p ≡ true → ((c : LockCall) → call_at w p ≡ Some c → is_deleting c.phase ≡ true)
           → (x : ℕ) → IsUp o (effect o a r w) x → (b b1 : Bool) → view (call_at w p) x ≡ due_if b
           → view (call_at (effect o a r w) p) x ≡ due_if b1 → Stands w p x → Stands (effect o a r w) p x
-      still living busy x up b b1 v v1 S = stands_keeps o a w num K.clients p (lived o a r w p living) r m
+      still living busy x up b b1 v v1 S = stands_keeps o a w num K.clients p (process_lived o a r w p living) r m
           (num_by a r w num) known.clients living x up b b1 v v1
           (λ id. nums_stay o a w num K p r h m (lives_stays o (effect o a r w) p living) busy x id) S
 
@@ -91,7 +91,7 @@ module _ (o : Opening) (p : Process) (k : ℕ) (nodes : Nodes) where
               → d.number ≡ k → (owing : Nodes) × (d.phase ≡ LockPhase.Deleting owing)
               × ((x : ℕ) → IsUp o (effect o a r w) x → nodes x ≡ true → owing x ≡ false
               → Stands (effect o a r w) p x)
-          own up1 d e1 n1 = by_next (follows o a w num K p c owing found deleting (lived o a r w p living) r h m
+          own up1 d e1 n1 = by_next (follows o a w num K p c owing found deleting (process_lived o a r w p living) r h m
               (lives_stays o (effect o a r w) p living))
             where
               living : lives o (effect o a r w) p ≡ true
@@ -108,7 +108,7 @@ module _ (o : Opening) (p : Process) (k : ℕ) (nodes : Nodes) where
 
               before : (owing : Nodes) × (c.phase ≡ LockPhase.Deleting owing)
                   × ((x : ℕ) → IsUp o w x → nodes x ≡ true → owing x ≡ false → Stands w p x)
-              before = D.own (ran o a r w p.node up1) c found (F.1.1 ∙ n1)
+              before = D.own (node_ran o a r w p.node up1) c found (F.1.1 ∙ n1)
 
               owing : Nodes
               owing = before.0
@@ -132,7 +132,7 @@ module _ (o : Opening) (p : Process) (k : ℕ) (nodes : Nodes) where
                   ∙ deleting in (
                     owing,
                     phase,
-                    λ x up there free. at_node owing phase x up (before.2 x (up.0, ran o a r w x up.1) there free),
+                    λ x up there free. at_node owing phase x up (before.2 x (up.0, node_ran o a r w x up.1) there free),
                   )
               by_next (Lessened f back s) =
                   let same : in_phase (LockPhase.Deleting (at owing f false)) c ≡ d = cc (s, e1) in
@@ -141,8 +141,8 @@ module _ (o : Opening) (p : Process) (k : ℕ) (nodes : Nodes) where
                     at owing f false,
                     phase,
                     λ x up there free. at_node (at owing f false) phase x up (elim (cases_eq x f) [
-                      | inl e ↦ subst (λ (y : ℕ). IsUp o w y → Stands w p y) (sym e) back (up.0, ran o a r w x up.1)
-                      | inr ne ↦ before.2 x (up.0, ran o a r w x up.1) there
+                      | inl e ↦ subst (λ (y : ℕ). IsUp o w y → Stands w p y) (sym e) back (up.0, node_ran o a r w x up.1)
+                      | inr ne ↦ before.2 x (up.0, node_ran o a r w x up.1) there
                           (sym (at_other owing f false x ne) ∙ free)
                     ]),
                   )
@@ -154,7 +154,7 @@ module _ (o : Opening) (p : Process) (k : ℕ) (nodes : Nodes) where
         stands = λ x up there. still living (λ c e. cc (e, E.ended)) x up false false
             (ap (λ (j : Option LockCall). view j x) E.ended)
             (ap (λ (j : Option LockCall). view j x) (none (call_at (effect o a r w) p) refl))
-            (E.stands x (up.0, ran o a r w x up.1) there);
+            (E.stands x (up.0, node_ran o a r w x up.1) there);
       }
         where
           none : (j : Option LockCall) → call_at (effect o a r w) p ≡ j → call_at (effect o a r w) p ≡ None
@@ -170,7 +170,7 @@ module _ (o : Opening) (p : Process) (k : ℕ) (nodes : Nodes) where
           → ((q : Process) → call_at (effect o a r w) q ≡ (if is_process d.holder q then None else call_at w q))
           → IsDeleted (effect o a r w)
       closes D living d now e parts calls = by_next (follows o a w num K p d owing found deleting
-          (lived o a r w p living) r h m (lives_stays o (effect o a r w) p living))
+          (process_lived o a r w p living) r h m (lives_stays o (effect o a r w) p living))
         where
           same : d.holder ≡ p
           same = D.alone d.holder d (open_home o a w num K d now e ∙ eqb-true a p.node parts.0)
@@ -185,7 +185,7 @@ module _ (o : Opening) (p : Process) (k : ℕ) (nodes : Nodes) where
 
           before : (owing : Nodes) × (d.phase ≡ LockPhase.Deleting owing)
               × ((x : ℕ) → IsUp o w x → nodes x ≡ true → owing x ≡ false → Stands w p x)
-          before = D.own (live_parts o w p (lived o a r w p living)).up d found (eqb-true d.number k parts.1)
+          before = D.own (live_parts o w p (process_lived o a r w p living)).up d found (eqb-true d.number k parts.1)
 
           owing : Nodes
           owing = before.0
@@ -202,8 +202,8 @@ module _ (o : Opening) (p : Process) (k : ℕ) (nodes : Nodes) where
                 (view_deleting d owing (call_at w p) found deleting x)
                 (ap (λ (j : Option LockCall). view j x) s)
                 (elim (cases_eq x f) [
-                  | inl i ↦ subst (λ (y : ℕ). IsUp o w y → Stands w p y) (sym i) back (up.0, ran o a r w x up.1)
-                  | inr ne ↦ before.2 x (up.0, ran o a r w x up.1) there
+                  | inl i ↦ subst (λ (y : ℕ). IsUp o w y → Stands w p y) (sym i) back (up.0, node_ran o a r w x up.1)
+                  | inr ne ↦ before.2 x (up.0, node_ran o a r w x up.1) there
                       (sym (at_other owing f false x ne)
                       ∙ empty_at o.bound (at owing f false) empty x (below_bound o (effect o a r w) x up))
                 ]);

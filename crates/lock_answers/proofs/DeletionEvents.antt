@@ -8,7 +8,7 @@ use Rattle.protocol_model.specs.Letter.{Id}
 use Rattle.protocol_model.specs.Round.{begin}
 use Rattle.protocol_model.specs.Node.{Node, LockPhase, LockCall, call_of, targets}
 use Rattle.protocol_model.specs.Client.{in_phase}
-use Rattle.protocol_model.specs.ClientLocks.{is_gone}
+use Rattle.protocol_model.specs.ClientLocks.{is_no_more}
 use Rattle.protocol_model.specs.LockAnswers.{Deletion}
 use Rattle.protocol_model.specs.World.{Opening, World, left}
 use Rattle.moves.proofs.Rules.{Rule, IsNew, IsRetried, May, MayAll, effect, effects, turn_by}
@@ -27,7 +27,7 @@ use Rattle.leftovers.proofs.Beginnings.{numbered, Begins, number_taken}
 use Rattle.leftovers.proofs.Chains.{aside_counts_none}
 use Rattle.leftovers.proofs.Numbering.{aside_hears, Numbered, last_effect, last_chain, from_self, from_retry, beginner_home}
 use Rattle.leftovers.proofs.Told.{all_of_all}
-use Rattle.lock_answers.proofs.Settled.{Stands, stands_keeps, ran, lived}
+use Rattle.lock_answers.proofs.Settled.{Stands, stands_keeps, node_ran, process_lived}
 use Rattle.lock_answers.proofs.OpenDeletions.{Known, known_keeps, view_deleting, lives_stays}
 use Rattle.lock_answers.proofs.DeletionChains.{Deletes, deletes_chain, lived_chain}
 
@@ -41,7 +41,7 @@ known_chain o a (r ∷ rs) w num K m =
 ran_chain : (o : Opening) (a : ℕ) (rs : List Rule) (w : World) (x : ℕ) → left (effects o a rs w) x ≡ false
     → left w x ≡ false
 ran_chain o a [] w x h = h
-ran_chain o a (r ∷ rs) w x h = ran o a r w x (ran_chain o a rs (effect o a r w) x h)
+ran_chain o a (r ∷ rs) w x h = node_ran o a r w x (ran_chain o a rs (effect o a r w) x h)
 
 -- a retry leaves an open deletion alone
 module _ (o : Opening) (a : ℕ) (p : Process) (v : Node) (c : LockCall) (owing : Nodes)
@@ -73,7 +73,7 @@ module _ (o : Opening) (a : ℕ) (p : Process) (v : Node) (c : LockCall) (owing 
           ]
 
   left_alone : (r : Rule) (w : World) (num : Numbers) → Known o w num → suits (Again v) r ≡ true → May o a w r
-      → call_at w p ≡ Some c → is_gone (effect o a r w) p ≡ false → Left r w num
+      → call_at w p ≡ Some c → is_no_more (effect o a r w) p ≡ false → Left r w num
   left_alone (AsksLock d) w num K h m found up = record {
     call = call_after a None (turn_by o a w (AsksLock d)) w d.holder (Some first) home
         (calls_put a w K.ordered first home) p
@@ -121,7 +121,7 @@ module _ (o : Opening) (a : ℕ) (p : Process) (v : Node) (c : LockCall) (owing 
       → Stands (effects o a rs (effect o a r w)) p x) =
       retried rs (effect o a r w) (num_by a r w num) K1 parts.1 m.1 one.call living in (
         more.0,
-        λ x up S. more.1 x up (stands_keeps o a w num K.clients p (lived o a r w p living1) r m.0
+        λ x up S. more.1 x up (stands_keeps o a w num K.clients p (process_lived o a r w p living1) r m.0
             (num_by a r w num) K1.clients living1 x (up.0, ran_chain o a rs (effect o a r w) x up.1)
             (owing x) (owing x) (view_deleting c owing (call_at w p) found deleting x)
             (view_deleting c owing (call_at (effect o a r w) p) one.call deleting x) (λ id. one.nums id x) S),
@@ -231,19 +231,19 @@ module _ (o : Opening) (w : World) (num : Numbers) (K : Known o w num) (N : Numb
         own up d e i false j f =
             let before : (owing : Nodes) × (d.phase ≡ LockPhase.Deleting owing)
             × ((x : ℕ) → IsUp o w x → nodes x ≡ true → owing x ≡ false → Stands w p x) =
-            D.own (ran o a CallsLock w p.node (ran o a r w1 p.node up)) d f i in
+            D.own (node_ran o a CallsLock w p.node (node_ran o a r w1 p.node up)) d f i in
             let living2 : lives o w2 p ≡ true = caller_lives o w2 (num_by a r w1 num1) K2.clients p d up e in
-            let living1 : lives o w1 p ≡ true = lived o a r w1 p living2 in
+            let living1 : lives o w1 p ≡ true = process_lived o a r w1 p living2 in
             let found1 : call_at w1 p ≡ Some d = same_calls p ∙ f in (
               before.0,
               before.1,
               λ x up2 there free.
-                  let up1 : IsUp o w1 x = (up2.0, ran o a r w1 x up2.1) in
-                  let first : Stands w1 p x = stands_keeps o a w num K.clients p (lived o a CallsLock w p living1)
+                  let up1 : IsUp o w1 x = (up2.0, node_ran o a r w1 x up2.1) in
+                  let first : Stands w1 p x = stands_keeps o a w num K.clients p (process_lived o a CallsLock w p living1)
                   CallsLock m.0 num1 K1.clients living1 x up1 (before.0 x) (before.0 x)
                   (view_deleting d before.0 (call_at w p) f before.1 x)
                   (view_deleting d before.0 (call_at w1 p) found1 before.1 x) (λ id. refl)
-                  (before.2 x (up1.0, ran o a CallsLock w x up1.1) there free) in
+                  (before.2 x (up1.0, node_ran o a CallsLock w x up1.1) there free) in
                   stands_keeps o a w1 num1 K1.clients p living1 r m.1.0 (num_by a r w1 num1) K2.clients living2 x up2
                   (before.0 x) (before.0 x) (view_deleting d before.0 (call_at w1 p) found1 before.1 x)
                   (view_deleting d before.0 (call_at w2 p) e before.1 x) (λ id. nums j id x) first,

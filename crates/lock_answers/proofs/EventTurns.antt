@@ -7,7 +7,7 @@ use Rattle.registry_model.proofs.Lists.{Contains-nil}
 use Rattle.protocol_model.specs.Watch.{is_live}
 use Rattle.protocol_model.specs.Node.{Node, LockCall, Target, Retries, call_of}
 use Rattle.protocol_model.specs.Event.{Event, Answer, Refusal, cause, calls_spent, names_members}
-use Rattle.protocol_model.specs.Turn.{Turn, begun, counted}
+use Rattle.protocol_model.specs.Turn.{Turn, begun, count_call}
 use Rattle.protocol_model.specs.Client.{try_lock, delete_lock}
 use Rattle.protocol_model.specs.World.{Opening, World, WorldEvent, At, refusal, turn_of, accepted}
 use Rattle.moves.proofs.Rules.{Ordered}
@@ -92,13 +92,13 @@ module _ (o : Opening) (w : World) (sorted : Ordered w) (a : ℕ) (q : Process) 
         no_call (Some c) e = cc
 
         u : Turn
-        u = try_lock o.bound a tried (counted (begun (w.node a)))
+        u = try_lock o.bound a tried (count_call (begun (w.node a)))
 
         Q : Quietly o.bound a u (turn_of o w trying)
         Q = start_quiet o.bound a u
 
-        T : TryTurn o.bound a tried (counted (begun (w.node a))) u
-        T = try_turn o.bound a tried (counted (begun (w.node a))) own.0 own.1 (sorted a)
+        T : TryTurn o.bound a tried (count_call (begun (w.node a))) u
+        T = try_turn o.bound a tried (count_call (begun (w.node a))) own.0 own.1 (sorted a)
 
   -- a deletion
   abbrev ending : WorldEvent
@@ -132,10 +132,10 @@ module _ (o : Opening) (w : World) (sorted : Ordered w) (a : ℕ) (q : Process) 
           (lock_tested a (w.node a) q r (calls_spent (w.node a) ∷ []) (accepted_of o w ending h).local).0).0
 
       u : Turn
-      u = delete_lock o.bound a ended (counted (begun (w.node a)))
+      u = delete_lock o.bound a ended (count_call (begun (w.node a)))
 
       Q : Quietly o.bound a u (turn_of o w ending)
       Q = start_quiet o.bound a u
 
-      T : DeleteTurn o.bound a ended (counted (begun (w.node a))) u
-      T = delete_turn o.bound a ended (counted (begun (w.node a))) home (sorted a)
+      T : DeleteTurn o.bound a ended (count_call (begun (w.node a))) u
+      T = delete_turn o.bound a ended (count_call (begun (w.node a))) home (sorted a)

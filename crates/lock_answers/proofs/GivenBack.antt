@@ -12,7 +12,7 @@ use Rattle.registry_model.proofs.Lists.{Contains-front, by_push}
 use Rattle.protocol_model.specs.LockTable.{count}
 use Rattle.protocol_model.specs.Node.{LockCall}
 use Rattle.protocol_model.specs.Event.{Answer, Refusal}
-use Rattle.protocol_model.specs.ClientLocks.{number}
+use Rattle.protocol_model.specs.ClientLocks.{holds_count}
 use Rattle.protocol_model.specs.LockAnswers.{Deletion, deletion_by, deletion_of, Answers, IsGivenBack, AtEachStep}
 use Rattle.protocol_model.specs.Answers.{AnswersCalls}
 use Rattle.protocol_model.specs.Course.{Played, played, course, answers_of}
@@ -28,9 +28,9 @@ use Rattle.leftovers.proofs.Answering.{is_true, any_true}
 use Rattle.leftovers.proofs.Tallies.{numbers_agree}
 use Rattle.leftovers.proofs.Told.{chain_of}
 use Rattle.leftovers.proofs.Walking.{State}
-use Rattle.leftovers.proofs.Answered.{answered}
+use Rattle.leftovers.proofs.Answered.{calls_answered}
 use Rattle.leftovers.proofs.HeadlineClients.{grounds}
-use Rattle.leftovers.proofs.HeadlineSteps.{fails}
+use Rattle.leftovers.proofs.HeadlineSteps.{item_fails}
 use Rattle.leftovers.proofs.Tied.{course-push, run-push}
 use Rattle.leftovers.proofs.Together.{All, widens}
 use Rattle.leftovers.proofs.Grounds.{lock_state}
@@ -45,12 +45,12 @@ use Rattle.lock_answers.proofs.DeletionNumbers.{deletion-push, numbered, answere
 module _ (o : Opening) (es : List WorldEvent) where
   -- what is known of the world that they made
   abbrev num : Numbers
-  num p id x = RoundNumbers.number o es p id x
+  num p id x = RoundNumbers.round_count o es p id x
 
-  S : State o (All o) (grounds o) (run o (opening_world o) es) (λ p id x. RoundNumbers.number o es p id x)
+  S : State o (All o) (grounds o) (run o (opening_world o) es) (λ p id x. RoundNumbers.round_count o es p id x)
   S = lock_state o es
 
-  known : Known o (run o (opening_world o) es) (λ p id x. RoundNumbers.number o es p id x)
+  known : Known o (run o (opening_world o) es) (λ p id x. RoundNumbers.round_count o es p id x)
   known = record { all = S.family; ordered = S.ordered; replying = S.replying; clients = S.clients }
 
   -- an accepted event is a chain of rules
@@ -113,7 +113,7 @@ module _ (o : Opening) (es : List WorldEvent) (e : WorldEvent)
       (Contains-append_right (answers_of (course o (opening_world o) es)) step.answers s c))
 
   calls : AnswersCalls (course o (opening_world o) (es ++ e ∷ []))
-  calls = answered o (es ++ e ∷ [])
+  calls = calls_answered o (es ++ e ∷ [])
 
   here : (s : Answer) → Contains (answers o before e) s → s.node ≡ place e
   here s c = calls.place step s (subst (λ (ps : List Played). Contains ps step) (sym steps)
@@ -140,7 +140,7 @@ module _ (o : Opening) (es : List WorldEvent) (e : WorldEvent)
             → any_true p.node d.number (turn_of o before e).answers ≡ true
         go true h = h
         go false h =
-            let none : is_true p.node d.number s ≡ false = fails (is_true p.node d.number)
+            let none : is_true p.node d.number s ≡ false = item_fails (is_true p.node d.number)
             (turn_of o before e).answers s h (subst (λ (ss : List Answer). Contains ss s) taken A.given) in
             let one : is_true p.node d.number s ≡ true = rw (
               eq-eqb s.node p.node A.node,
@@ -160,7 +160,7 @@ module _ (o : Opening) (es : List WorldEvent) (e : WorldEvent)
 
     -- then a node that runs has the lock as often as p holds it
     counts : (c : ℕ) → d.nodes c ≡ true → in_world o c ≡ true → left (accepted o before e) c ≡ false
-        → count d.id p ((accepted o before e).node c).locks ≡ number o (es ++ e ∷ []) p d.id c
+        → count d.id p ((accepted o before e).node c).locks ≡ holds_count o (es ++ e ∷ []) p d.id c
     counts c there inside up = elim ended [
       | inl E ↦ by_end (subst (λ (v : World). IsDeleted o p d.number d.nodes v) W.walk.world E.0)
           (subst (λ (v : World). lives o v p ≡ true) W.walk.world E.1)
@@ -171,7 +171,7 @@ module _ (o : Opening) (es : List WorldEvent) (e : WorldEvent)
         C = subst (λ (v : World). Clients o v (num o (es ++ e ∷ []))) behind (S o (es ++ e ∷ [])).clients
 
         by_end : IsDeleted o p d.number d.nodes (accepted o before e) → lives o (accepted o before e) p ≡ true
-            → count d.id p ((accepted o before e).node c).locks ≡ number o (es ++ e ∷ []) p d.id c
+            → count d.id p ((accepted o before e).node c).locks ≡ holds_count o (es ++ e ∷ []) p d.id c
         by_end E living = stands_counts o c (accepted o before e) (num o (es ++ e ∷ [])) C p living c (inside, up) false
             (ap (λ (j : Option LockCall). view j c) E.ended) (E.stands c (inside, up) there) d.id
             ∙ sym (numbers_agree o (All o) (grounds o) (es ++ e ∷ []) p d.id c)
@@ -179,6 +179,6 @@ module _ (o : Opening) (es : List WorldEvent) (e : WorldEvent)
 -- where a `del_lock` is answered, who has to give the lock back has done so
 pub given_back : AtEachStep IsGivenBack
 given_back o es e free p d s c is A there inside up = subst
-    (λ (v : World). left v c ≡ false → count d.id p (v.node c).locks ≡ number o (es ++ e ∷ []) p d.id c)
+    (λ (v : World). left v c ≡ false → count d.id p (v.node c).locks ≡ holds_count o (es ++ e ∷ []) p d.id c)
     (sym (happens-accepted o (run o (opening_world o) es) e free))
     (counts o es e free p d is s A c there inside) up

@@ -15,7 +15,7 @@ use Rattle.protocol_model.proofs.Waiting.{accepted-node}
 use Rattle.moves.proofs.Rules
 use Rattle.moves.proofs.Rules.{Rule, Walked, is_quiet}
 use Rattle.walk.proofs.Runs.{rules_of}
-use Rattle.walk.proofs.Walk.{walked}
+use Rattle.walk.proofs.Walk.{event_walked}
 use Rattle.leftovers.proofs.Growing.{Replying, replying_keeps, replying_opens}
 use Rattle.leftovers.proofs.Told.{all_of_all}
 use Rattle.leftovers.proofs.Grounds.{Base, wide, between}
@@ -97,7 +97,7 @@ module _ (o : Opening) where
   }
     where
       W : Walked o w e
-      W = walked o w e B.ordered (wide o w B) h
+      W = event_walked o w e B.ordered (wide o w B) h
 
       delivered : (f t : ℕ) (ls : List Letter) → w.links.queue f t ≡ Letter.Down ∷ ls
           → Clear (accepted o w (Deliver f t))

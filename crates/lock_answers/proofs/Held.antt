@@ -23,7 +23,7 @@ use Rattle.walk.proofs.Events.{accepted_of, IsSecond}
 use Rattle.walk.proofs.Orders.{ordered_keeps}
 use Rattle.walk.proofs.Walk.{OrderedWalk, InOrder, walked_in_order}
 use Rattle.leftovers.proofs.Answering.{is_true, any_true}
-use Rattle.leftovers.proofs.Beginnings.{either, deletes_silent, nothing_silent}
+use Rattle.leftovers.proofs.Beginnings.{either_rule, deletes_silent, nothing_silent}
 use Rattle.leftovers.proofs.Chains.{is_calm, aside_calm, calm_answers}
 use Rattle.leftovers.proofs.Opening.{no_numbers}
 use Rattle.leftovers.proofs.Numbering.{Numbered}
@@ -85,7 +85,7 @@ module _ (o : Opening) (w : World) (G : Ground o w) (N : Numbered o w) (p : Proc
       by (inl e) = ap (λ (x : Rule). is_calm x && list_all is_calm h.1.0) e ∙ later
       by (inr e) = ap (λ (x : Rule). is_calm x && list_all is_calm h.1.0) e ∙ later
   call_silent a (Call.DelLock q r z target) rest m h k F home last =
-      either o w a (λ rs. any_true p.node s.number (Rules.answers_by o a (CallsLock ∷ rs) w) ≡ false) _ _ h.0 h.1.0 rest
+      either_rule o w a (λ rs. any_true p.node s.number (Rules.answers_by o a (CallsLock ∷ rs) w) ≡ false) _ _ h.0 h.1.0 rest
       h.1.1.0 h.1.1.1 m
       (λ n. deletes_silent o w a q r z target G.replying h.1.0 h.1.1.2 p.node s.number n)
       (λ n. nothing_silent o w a q r z target G.replying h.1.0 h.1.1.2 p.node s.number n (λ i. low))

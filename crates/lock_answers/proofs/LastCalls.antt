@@ -11,7 +11,7 @@ use Rattle.protocol_model.specs.Event.{Call, Event, Refusal}
 use Rattle.protocol_model.specs.Answers.{calls_at}
 use Rattle.protocol_model.specs.Course.{Played, played}
 use Rattle.protocol_model.specs.Fit.{calls_in}
-use Rattle.protocol_model.specs.ClientLocks.{Try, try_of, is_refused}
+use Rattle.protocol_model.specs.ClientLocks.{Try, try_of, waits_for_retry}
 use Rattle.protocol_model.specs.LockAnswers.{Tries, watched, next_try, first_try, tries_in, tries_by, tries_after, tries_of}
 use Rattle.protocol_model.specs.World.{Opening, World, WorldEvent, At, Deliver, opening_world, refusal, happens, accepted}
 use Rattle.leftovers.proofs.FittingTheorem as Theorem
@@ -113,7 +113,7 @@ module _ (o : Opening) (p : Process) where
             (i ∙ ap (λ (k : Process). At a (Event.Calling (Call.SetLock k r z target retries))) own)
             (ap (λ (k : Process). k.node) (sym own) ∙ T.home) refl refl)
         go false same j = goes_watched (tries_of o es p) refl x j
-    goes_in (At a Event.Retry) i x is = go ((a == p.node) && is_refused w p) is
+    goes_in (At a Event.Retry) i x is = go ((a == p.node) && waits_for_retry w p) is
       where
         go : (b : Bool) → (if b then next_try o w e p (w.node a).replica.members (tries_of o es p)
             else watched o w e p (tries_of o es p)) ≡ Some x → Goes x

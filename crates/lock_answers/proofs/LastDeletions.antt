@@ -14,7 +14,7 @@ use Rattle.walk.proofs.ChainKinds.{Aside, suits}
 use Rattle.walk.proofs.Orders.{ordered_keeps}
 use Rattle.walk.proofs.Walk.{InOrder}
 use Rattle.leftovers.proofs.Ids.{is_process_same}
-use Rattle.leftovers.proofs.Beginnings.{either, numbered, Begins, same_targets, attempt, new_try, asking, deletion, fresh, deleting, asks, fails, deletes, deletes_nothing}
+use Rattle.leftovers.proofs.Beginnings.{either_rule, numbered, Begins, same_targets, attempt, new_try, asking, deletion, fresh, deleting, try_asks, try_fails, deletes, deletes_nothing}
 use Rattle.leftovers.proofs.Clients.{Numbers}
 use Rattle.leftovers.proofs.Numbers.{num_by}
 use Rattle.leftovers.proofs.Numbering.{Numbered}
@@ -46,12 +46,12 @@ module _ (o : Opening) (w : World) (num : Numbers) (K : Known o w num) (N : Numb
     asked : (rest : List Rule) → MayAll o a (CallsLock ∷ AsksLock asker ∷ rest) w
         → list_all (suits Aside) rest ≡ true → After (attempt o w a q r z target retries) (AsksLock asker ∷ rest)
     asked rest m h = tried (AsksLock asker) rest (Some (asking o w a q r z target retries)) m h
-        (asks o w a q r z target (ordered_keeps o) K.ordered rest retries m) (λ id x. refl)
+        (try_asks o w a q r z target (ordered_keeps o) K.ordered rest retries m) (λ id x. refl)
 
     failed : (rest : List Rule) → MayAll o a (CallsLock ∷ FailsLock asker ∷ rest) w
         → list_all (suits Aside) rest ≡ true → After (attempt o w a q r z target retries) (FailsLock asker ∷ rest)
     failed rest m h = tried (FailsLock asker) rest None m h
-        (fails o w a q r z target (ordered_keeps o) K.ordered rest retries m) (λ id x. refl)
+        (try_fails o w a q r z target (ordered_keeps o) K.ordered rest retries m) (λ id x. refl)
 
   -- a deletion
   module _ (a : ℕ) (q : Process) (r z : Text) (target : Target) where
@@ -119,8 +119,8 @@ module _ (o : Opening) (w : World) (num : Numbers) (K : Known o w num) (N : Numb
   told_on (Deliver f b) rest m h = DeletionEvents.heard o w num K N p b (chain_of o w (Deliver f b) rest)
       (first_heard o (ordered_keeps o) w num K.ordered K.replying N f b (w.links.queue f b) rest h) m t T
   told_on (At a (Event.Calling (Call.SetLock q r z target retries))) rest m h =
-      either o w a (After (attempt o w a q r z target retries)) _ _ h.0 h.1.0 rest h.1.1.0 h.1.1.1 m
+      either_rule o w a (After (attempt o w a q r z target retries)) _ _ h.0 h.1.0 rest h.1.1.0 h.1.1.1 m
       (λ k. asked a q r z target retries h.1.0 k h.1.1.2) (λ k. failed a q r z target retries h.1.0 k h.1.1.2)
   told_on (At a (Event.Calling (Call.DelLock q r z target))) rest m h =
-      either o w a (After (deletion o w a q r z target)) _ _ h.0 h.1.0 rest h.1.1.0 h.1.1.1 m
+      either_rule o w a (After (deletion o w a q r z target)) _ _ h.0 h.1.0 rest h.1.1.0 h.1.1.1 m
       (λ k. deleted a q r z target h.1.0 k h.1.1.2) (λ k. deleted_nothing a q r z target h.1.0 k h.1.1.2)

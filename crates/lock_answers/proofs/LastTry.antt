@@ -4,7 +4,7 @@ use Rattle.std.specs.Prelude.{◌&&◌, option_map, is_none, if◌then◌else◌
 use Rattle.registry_model.specs.Process.{Process, is_process, Nodes}
 use Rattle.protocol_model.specs.Letter.{Id, Client}
 use Rattle.protocol_model.specs.Event.{Call, Event, Refusal}
-use Rattle.protocol_model.specs.ClientLocks.{Try, try_of, tried_again, is_refused, last_try, Tally, tallied, tally_after, tally_from}
+use Rattle.protocol_model.specs.ClientLocks.{Try, try_of, tried_again, waits_for_retry, last_try, Tally, tallied, tally_after, tally_from}
 use Rattle.protocol_model.specs.LockAnswers.{Tries, watched, next_try, first_try, tries_in, tries_by, tries_after, tries_from, tries_of}
 use Rattle.protocol_model.specs.World.{Opening, World, WorldEvent, At, Deliver, opening_world, refusal, happens, run}
 
@@ -34,7 +34,7 @@ module _ (o : Opening) (p : Process) where
           ≡ (if b then Some s else last_of t)
       go true = refl
       go false = last_watched w e t
-  last_in w e t (At a Event.Retry) = go ((a == p.node) && is_refused w p)
+  last_in w e t (At a Event.Retry) = go ((a == p.node) && waits_for_retry w p)
     where
       members : Nodes
       members = (w.node a).replica.members

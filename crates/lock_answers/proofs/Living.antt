@@ -12,11 +12,11 @@ use Rattle.registry_model.proofs.Updates.{at_same}
 use Rattle.protocol_model.specs.Watch.{Watch, is_dead, is_live}
 use Rattle.protocol_model.specs.Node.{Node, LockCall, Times}
 use Rattle.protocol_model.specs.Event.{Call, Event, Answer, Refusal, cause, first_cause, names_members, calls_spent}
-use Rattle.protocol_model.specs.Turn.{Turn, begun, counted}
+use Rattle.protocol_model.specs.Turn.{Turn, begun, count_call}
 use Rattle.protocol_model.specs.Registrar.{retry_global}
 use Rattle.protocol_model.specs.Client.{new_call, try_lock, delete_lock, retry_locks}
 use Rattle.protocol_model.specs.Answers.{answer_to, may_have, holder_in, calls_at, answers_under, AtMostOne, NotYet, Once}
-use Rattle.protocol_model.specs.ClientLocks.{is_gone}
+use Rattle.protocol_model.specs.ClientLocks.{is_no_more}
 use Rattle.protocol_model.specs.Course.{Played, played, answers_of}
 use Rattle.protocol_model.specs.Fit.{is_numbered}
 use Rattle.protocol_model.specs.LockAnswers.{IsCallOf, AnswersTheLiving, AtEachStep}
@@ -34,7 +34,7 @@ use Rattle.leftovers.proofs.FittingTheorem as Theorem
 use Rattle.leftovers.proofs.Clients.{IsLive, live_parts, call_at, caller_lives}
 use Rattle.leftovers.proofs.Told.{chain_of}
 use Rattle.leftovers.specs.Clauses.{events, world}
-use Rattle.leftovers.proofs.Answered.{answered}
+use Rattle.leftovers.proofs.Answered.{calls_answered}
 use Rattle.leftovers.proofs.Found.{kept_in, in_flat}
 use Rattle.leftovers.proofs.LockEvents.{letter_hears}
 use Rattle.leftovers.proofs.Story.{ground}
@@ -51,7 +51,7 @@ use Rattle.lock_answers.proofs.Pushed.{events_push, answers_turn, happens_now, a
 use Rattle.lock_answers.proofs.Spared.{is_lock_answer, letter_watch}
 use Rattle.lock_answers.proofs.Verdicts.{is_verdict}
 use Rattle.lock_answers.proofs.Watches.{try-watch, delete-watch, retry-watch, again-watch}
-use Rattle.lock_answers.proofs.Sources.{Closed, closes, the_one, rule_closes, aside_silent, WasOpen, heard_source, again_source}
+use Rattle.lock_answers.proofs.Sources.{Closed, closed_call, the_one, rule_closes, aside_silent, WasOpen, heard_source, again_source}
 
 -- a lock call may have lock replies alone
 lock_reply : (call : Call) (reply : Reply) (p : Process) → holder_in call ≡ Some p → may_have call reply ≡ true
@@ -72,7 +72,7 @@ module _ (o : Opening) (es : List WorldEvent) (s : Answer) (call : Call) (p : Pr
   -- the answer is one to a lock call
   lock : is_lock_answer s ≡ true
   lock = go (answers_under s.node s.number (events o (es ++ e ∷ [])))
-      ((answered o (es ++ e ∷ [])).once s.node s.number called.0)
+      ((calls_answered o (es ++ e ∷ [])).once s.node s.number called.0)
       (kept_in (λ x. (x.node == s.node) && (x.number == s.number)) (answers_of (events o (es ++ e ∷ []))) s
       (subst (λ (ps : List Played). Contains (answers_of ps) s) (sym (events_push o es e is))
       (in_flat (λ x. x.answers) (events o es) [] (played o (world o es) e) s given))
@@ -112,7 +112,7 @@ module _ (o : Opening) (es : List WorldEvent) (s : Answer) (call : Call) (p : Pr
   running = (accepted_of o (world o es) e is).running
 
   -- an open call is of a process that lives
-  open_lives : WasOpen o (place e) s lock called.0 (world o es) → (p.node ≡ place e) × (is_gone (world o es) p ≡ false)
+  open_lives : WasOpen o (place e) s lock called.0 (world o es) → (p.node ≡ place e) × (is_no_more (world o es) p ≡ false)
   open_lives W = (sym (ap (λ (q : Process). q.node) same) ∙ W.3, rw (up, parts.alive) refl)
     where
       same : W.0 ≡ p
@@ -130,9 +130,9 @@ module _ (o : Opening) (es : List WorldEvent) (s : Answer) (call : Call) (p : Pr
           (subst (λ (q : Process). call_at (world o es) q ≡ Some W.1) same W.2))
 
   -- and lives behind the step, where nobody dies by it
-  still : p.node ≡ place e → is_gone (world o es) p ≡ false → left (accepted o (world o es) e) ≡ left (world o es)
+  still : p.node ≡ place e → is_no_more (world o es) p ≡ false → left (accepted o (world o es) e) ≡ left (world o es)
       → (turn_of o (world o es) e).node.watch ≡ ((world o es).node (place e)).watch
-      → is_gone (accepted o (world o es) e) p ≡ false
+      → is_no_more (accepted o (world o es) e) p ≡ false
   still home alive stays watch = ap (λ (f : ℕ → Bool). f p.node
       || is_dead ((accepted o (world o es) e).node p.node).watch p.serial) stays
       ∙ ap (λ (x : Watch). left (world o es) p.node || is_dead x p.serial) same ∙ alive
@@ -148,7 +148,7 @@ module _ (o : Opening) (es : List WorldEvent) (s : Answer) (call : Call) (p : Pr
 
   -- what is shown
   abbrev Lives : Type 0
-  Lives = (is_gone (world o es) p ≡ false) × (is_gone (accepted o (world o es) e) p ≡ false)
+  Lives = (is_no_more (world o es) p ≡ false) × (is_no_more (accepted o (world o es) e) p ≡ false)
 
   count : (a : ℕ) → ((world o es).node a).last_call ≡ length (calls_at a (events o es))
   count = (Theorem.kept_run o (Together.Whole o) (ground o) (whole_opens o) es).book.count
@@ -185,8 +185,8 @@ module _ (o : Opening) (es : List WorldEvent) (s : Answer) (call : Call) (p : Pr
         dead = not_true (is_dead ((world o es).node a).watch q.serial)
             (both ((q.node == a) && not (q.serial == 0)) (not (is_dead ((world o es).node a).watch q.serial)) live).1
 
-        alive : is_gone (world o es) p ≡ false
-        alive = subst (λ (x : Process). is_gone (world o es) x ≡ false) same
+        alive : is_no_more (world o es) p ≡ false
+        alive = subst (λ (x : Process). is_no_more (world o es) x ≡ false) same
             (rw (ap (left (world o es)) (home ∙ sym at_place) ∙ running) (ap (λ (n : ℕ). is_dead
             ((world o es).node n).watch q.serial) home ∙ dead))
 
@@ -209,7 +209,7 @@ module _ (o : Opening) (es : List WorldEvent) (s : Answer) (call : Call) (p : Pr
 
   -- so the answer is under the new number
   new_number : (a : ℕ) (c : Call) (new : LockCall) → new.number ≡ ((world o es).node a).last_call + 1
-      → ((x : Rule) → IsSecond o a (world o es) c x → (closes x ≡ None) ⊎ (closes x ≡ Some new)) → (x : Rule)
+      → ((x : Rule) → IsSecond o a (world o es) c x → (closed_call x ≡ None) ⊎ (closed_call x ≡ Some new)) → (x : Rule)
       → (later rest : List Rule) → rest ≡ x ∷ later → IsSecond o a (world o es) c x
       → list_all (suits Aside) later ≡ true → Rules.MayAll o a (CallsLock ∷ rest) (world o es)
       → Contains (Rules.answers_by o a (CallsLock ∷ rest) (world o es)) s
@@ -218,7 +218,7 @@ module _ (o : Opening) (es : List WorldEvent) (s : Answer) (call : Call) (p : Pr
       (second_closes a x later (subst (λ (rs : List Rule). Rules.MayAll o a (CallsLock ∷ rs) (world o es)) is m) h
       (subst (λ (rs : List Rule). Contains (Rules.answers_by o a (CallsLock ∷ rs) (world o es)) s) is k))
     where
-      by : (closes x ≡ None) ⊎ (closes x ≡ Some new) → Closed x s → s.number ≡ ((world o es).node a).last_call + 1
+      by : (closed_call x ≡ None) ⊎ (closed_call x ≡ Some new) → Closed x s → s.number ≡ ((world o es).node a).last_call + 1
       by (inl i) C = cc (i, C.1)
       by (inr i) C =
           let is_new : new ≡ C.0 = cc (i, C.1) in
@@ -252,8 +252,8 @@ module _ (o : Opening) (es : List WorldEvent) (s : Answer) (call : Call) (p : Pr
 
       number : s.number ≡ ((world o es).node a).last_call + 1
       number = new_number a (Call.SetLock q r z target times) new refl (λ x i. elim i [
-        | inl none ↦ inl (ap closes none)
-        | inr one ↦ inr (ap closes one)
+        | inl none ↦ inl (ap closed_call none)
+        | inr one ↦ inr (ap closed_call one)
       ]) h.0 h.1.0 H.walk.rest h.1.1.0 h.1.1.1 h.1.1.2 m k
 
       stays : e ≡ At a (Event.Calling (Call.SetLock q r z target times))
@@ -263,8 +263,8 @@ module _ (o : Opening) (es : List WorldEvent) (s : Answer) (call : Call) (p : Pr
       watch : e ≡ At a (Event.Calling (Call.SetLock q r z target times))
           → (turn_of o (world o es) e).node.watch ≡ ((world o es).node (place e)).watch
       watch i = subst (λ (x : WorldEvent). (turn_of o (world o es) x).node.watch ≡ ((world o es).node (place x)).watch)
-          (sym i) (start-watch o.bound a (try_lock o.bound a new (counted (begun ((world o es).node a))))
-          ∙ try-watch o.bound a new (counted (begun ((world o es).node a))))
+          (sym i) (start-watch o.bound a (try_lock o.bound a new (count_call (begun ((world o es).node a))))
+          ∙ try-watch o.bound a new (count_call (begun ((world o es).node a))))
   by_event (At a (Event.Calling (Call.DelLock q r z target))) j m h free k = new_lives a
       (Call.DelLock q r z target) q j refl refl live number (stays j) (watch j)
     where
@@ -276,8 +276,8 @@ module _ (o : Opening) (es : List WorldEvent) (s : Answer) (call : Call) (p : Pr
 
       number : s.number ≡ ((world o es).node a).last_call + 1
       number = new_number a (Call.DelLock q r z target) new refl (λ x i. elim i [
-        | inl none ↦ inl (ap closes none)
-        | inr one ↦ inr (ap closes one)
+        | inl none ↦ inl (ap closed_call none)
+        | inr one ↦ inr (ap closed_call one)
       ]) h.0 h.1.0 H.walk.rest h.1.1.0 h.1.1.1 h.1.1.2 m k
 
       stays : e ≡ At a (Event.Calling (Call.DelLock q r z target))
@@ -287,10 +287,10 @@ module _ (o : Opening) (es : List WorldEvent) (s : Answer) (call : Call) (p : Pr
       watch : e ≡ At a (Event.Calling (Call.DelLock q r z target))
           → (turn_of o (world o es) e).node.watch ≡ ((world o es).node (place e)).watch
       watch i = subst (λ (x : WorldEvent). (turn_of o (world o es) x).node.watch ≡ ((world o es).node (place x)).watch)
-          (sym i) (start-watch o.bound a (delete_lock o.bound a new (counted (begun ((world o es).node a))))
-          ∙ delete-watch o.bound a new (counted (begun ((world o es).node a))))
+          (sym i) (start-watch o.bound a (delete_lock o.bound a new (count_call (begun ((world o es).node a))))
+          ∙ delete-watch o.bound a new (count_call (begun ((world o es).node a))))
   by_event (At a Event.Retry) j m h free k =
-      let one : (p.node ≡ place e) × (is_gone (world o es) p ≡ false) = open_lives
+      let one : (p.node ≡ place e) × (is_no_more (world o es) p ≡ false) = open_lives
       (subst (λ (n : ℕ). WasOpen o n s lock called.0 (world o es)) (sym (ap place j))
       (again_source o a s lock called.0 (world o es) H.walk.rest (world o es) h m G.base k)) in
       (one.1, still one.0 one.1 (ap (λ (x : WorldEvent). left (accepted o (world o es) x)) j) watch)
@@ -304,7 +304,7 @@ module _ (o : Opening) (es : List WorldEvent) (s : Answer) (call : Call) (p : Pr
           ∙ retry-watch o.bound a again.node.calls again
           ∙ again-watch o.bound a ((world o es).node a).current (begun ((world o es).node a)))
   by_event (Deliver f t) j m h free k =
-      let one : (p.node ≡ place e) × (is_gone (world o es) p ≡ false) = open_lives
+      let one : (p.node ≡ place e) × (is_no_more (world o es) p ≡ false) = open_lives
       (subst (λ (n : ℕ). WasOpen o n s lock called.0 (world o es)) (sym (ap place j))
       (heard_source o t s lock called.0 (chain_of o (world o es) (Deliver f t) H.walk.rest) (world o es)
       (letter_hears o (world o es) (events o es) (run_whole o es) f t ((world o es).links.queue f t) H.walk.rest h) m
@@ -320,8 +320,8 @@ module _ (o : Opening) (es : List WorldEvent) (s : Answer) (call : Call) (p : Pr
       watch = subst (λ (x : WorldEvent). (turn_of o (world o es) x).node.watch ≡ ((world o es).node (place x)).watch)
           (sym j) (letter_watch o (world o es) f t some)
 
-  pub lives_on : (is_gone (world o es) p ≡ false) × (is_gone (happens o (world o es) e) p ≡ false)
-  lives_on = subst (λ (v : World). (is_gone (world o es) p ≡ false) × (is_gone v p ≡ false))
+  pub lives_on : (is_no_more (world o es) p ≡ false) × (is_no_more (happens o (world o es) e) p ≡ false)
+  lives_on = subst (λ (v : World). (is_no_more (world o es) p ≡ false) × (is_no_more v p ≡ false))
       (sym (happens_now o es e is))
       (by_event e refl H.walk.may H.in_order (accepted_of o (world o es) e is).local in_turn)
 

@@ -12,9 +12,9 @@ use Rattle.protocol_model.specs.Round.{Mark, Out, Later, Owes, Granted, Refused,
 use Rattle.protocol_model.specs.Watch.{is_dead}
 use Rattle.protocol_model.specs.Node.{LockPhase, LockCall}
 use Rattle.protocol_model.specs.Event.{Refusal}
-use Rattle.protocol_model.specs.ClientLocks.{Try, is_gone}
+use Rattle.protocol_model.specs.ClientLocks.{Try, is_no_more}
 use Rattle.protocol_model.specs.LockAnswers.{is_asked_first, meets}
-use Rattle.protocol_model.specs.World.{Opening, in_world, World, left, WorldEvent, Deliver, refusal, accepted, happens, opened}
+use Rattle.protocol_model.specs.World.{Opening, in_world, World, left, WorldEvent, Deliver, refusal, accepted, happens, letter_taken}
 use Rattle.moves.proofs.Indices.{both, neither, empty_at}
 use Rattle.moves.proofs.Rules
 use Rattle.moves.proofs.Rules.{Rule, May}
@@ -118,7 +118,7 @@ owed_call (Some c) x j h = go c.phase refl h
 
 -- a process of the world that isn't gone lives
 pub lives_yet : (o : Opening) (w : World) (p : Process) → in_world o p.node ≡ true → (p.serial == 0) ≡ false
-    → is_gone w p ≡ false → lives o w p ≡ true
+    → is_no_more w p ≡ false → lives o w p ≡ true
 lives_yet o w p inside client up =
     let parts : (left w p.node ≡ false) × (is_dead (w.node p.node).watch p.serial ≡ false) =
     neither (left w p.node) (is_dead (w.node p.node).watch p.serial) up in
@@ -129,7 +129,7 @@ pub denied_so : (o : Opening) (w : World) (num : Numbers) → Known o w num → 
     → (so : Bool) → (gone : (c : ℕ) → l.asks c ≡ true → left w c ≡ true → so ≡ true)
     → Fits w p (Some l) → in_world o p.node ≡ true → (p.serial == 0) ≡ false
     → (meets o w (Deliver f t) p l ≡ true → so ≡ true) → (r : Rule) → May o t w r
-    → is_gone_by w (opened (Deliver f t) w) t (Rules.takes o t r) ≡ true → JudgedSo o p l so w gone t w r
+    → is_gone_by w (letter_taken (Deliver f t) w) t (Rules.takes o t r) ≡ true → JudgedSo o p l so w gone t w r
 denied_so o w num S f t p l so gone fit inside client met (Rules.Judges g id q) m taken = λ up i mine unfree.
     met (met_denied o w f t p l (sym same ∙ sym home ∙ ap (λ (k : Process). k.node) i) mine (request up i)
     (ap (λ (k : Id). is_free_for k p (w.node t).locks) (sym (is_same up i))
@@ -147,7 +147,7 @@ denied_so o w num S f t p l so gone fit inside client met (Rules.Judges g id q) 
     home : q.node ≡ g
     home = eqb-true q.node g (front_named o g t w (Letter.SetLock id q) (S.clients.named g t) m.front.1)
 
-    is_same : is_gone w p ≡ false → q ≡ p → id ≡ l.id
+    is_same : is_no_more w p ≡ false → q ≡ p → id ≡ l.id
     is_same up i = is_id_same id one.0 one.2 ∙ sym owed.id
         ∙ sym (asked_same w p l fit owed.call owed.found owed.round owed.phase).0
       where
@@ -166,7 +166,7 @@ denied_so o w num S f t p l so gone fit inside client met (Rules.Judges g id q) 
         owed = owed_call (call_at w p) t one.0 one.1
 
     -- and it is p's request for the lock
-    request : is_gone w p ≡ false → q ≡ p → is_asked_first l.id p (w.links.queue f t) ≡ true
+    request : is_no_more w p ≡ false → q ≡ p → is_asked_first l.id p (w.links.queue f t) ≡ true
     request up i = ap (λ (y : ℕ). is_asked_first l.id p (w.links.queue y t)) (sym same)
         ∙ ap (is_asked_first l.id p) m.front.1.1 ∙ ap (λ (k : Id). is_id k l.id && is_process q p) (is_same up i)
         ∙ ap (λ (b : Bool). b && is_process q p) (is_id_self l.id) ∙ ap (λ (k : Process). is_process k p) i

@@ -8,7 +8,7 @@ use Rattle.protocol_model.specs.Letter.{Client}
 use Rattle.protocol_model.specs.Round.{is_empty}
 use Rattle.protocol_model.specs.Node.{LockPhase, LockCall, Target, Retries, targets}
 use Rattle.protocol_model.specs.Event.{Call, Event, Answer, Refusal, is_waiting_call}
-use Rattle.protocol_model.specs.ClientLocks.{Try, try_of, is_refused}
+use Rattle.protocol_model.specs.ClientLocks.{Try, try_of, waits_for_retry}
 use Rattle.protocol_model.specs.LockAnswers.{Tries, watched, next_try, first_try, tries_by, Answers, AsksNobody}
 use Rattle.protocol_model.specs.World.{Opening, in_world, World, WorldEvent, At, place, refusal, answers, turn_of}
 use Rattle.moves.proofs.Indices.{both, empty_at}
@@ -152,8 +152,8 @@ module _ (o : Opening) (w : World) (num : Numbers) (p : Process) (t : Option Tri
       own y e n = own_call w a p y.last S.ordered (subst (λ (g : Option Tries). Fits w p (last_of g)) e fit) F.call
           LockPhase.Waiting (record { call = F.found; phase = F.waited }) home (sym F.asked.number ∙ A.number ∙ n)
 
-      refused : IsOwn w p F.call → ((a == p.node) && is_refused w p) ≡ true
-      refused I = ap (λ (b : Bool). b && is_refused w p) (eq-eqb a p.node (sym home))
+      refused : IsOwn w p F.call → ((a == p.node) && waits_for_retry w p) ≡ true
+      refused I = ap (λ (b : Bool). b && waits_for_retry w p) (eq-eqb a p.node (sym home))
           ∙ ap (λ (g : Option LockCall). elim g [ None ↦ false | Some z ↦ is_waiting_call z.phase ]) I.found
           ∙ ap is_waiting_call F.waited
 
@@ -164,7 +164,7 @@ module _ (o : Opening) (w : World) (num : Numbers) (p : Process) (t : Option Tri
           let one : y.last ≡ known.0 = cc same in
           ap (λ (u : Try). u.target) one ∙ known.1.1.target
 
-      by : (y : Tries) → t ≡ Some y → (b : Bool) → ((a == p.node) && is_refused w p) ≡ b
+      by : (y : Tries) → t ≡ Some y → (b : Bool) → ((a == p.node) && waits_for_retry w p) ≡ b
           → (if b then next_try o w event p (members a) (Some y) else watched o w event p (Some y)) ≡ Some x
           → AsksNobody x.last
       by y e true i j =
@@ -176,15 +176,15 @@ module _ (o : Opening) (w : World) (num : Numbers) (p : Process) (t : Option Tri
           let I : IsOwn w p F.call = own y e (sym (ap (λ (g : Tries). g.last.number) (some_same _ x j))) in
           cc (refused I, i)
 
-      go : (g : Option Tries) → t ≡ g → (if (a == p.node) && is_refused w p then next_try o w event p (members a) g
+      go : (g : Option Tries) → t ≡ g → (if (a == p.node) && waits_for_retry w p then next_try o w event p (members a) g
           else watched o w event p g) ≡ Some x → AsksNobody x.last
-      go None e j = none ((a == p.node) && is_refused w p) j
+      go None e j = none ((a == p.node) && waits_for_retry w p) j
         where
           none : (b : Bool) → (if b then next_try o w event p (members a) None else watched o w event p None) ≡ Some x
               → AsksNobody x.last
           none true k = cc
           none false k = cc
-      go (Some y) e j = by y e ((a == p.node) && is_refused w p) refl j
+      go (Some y) e j = by y e ((a == p.node) && waits_for_retry w p) refl j
 
   -- so a lock call or a retry answers `false` to a try that has nobody to ask, and no try `true`
   pub nobody_asked : (e : WorldEvent) → is_plain e ≡ false → refusal o w e ≡ None → tries_by o w e p t ≡ Some x

@@ -8,7 +8,7 @@ use Rattle.protocol_model.specs.Round.{Round, is_empty, answer, down}
 use Rattle.protocol_model.specs.Node.{LockPhase, LockCall, call_of, put_call, drop_call}
 use Rattle.protocol_model.specs.Turn.{Turn, begun, keep_call}
 use Rattle.protocol_model.specs.Client.{in_phase, close_call, give_lock, is_spent}
-use Rattle.protocol_model.specs.ClientLocks.{is_gone}
+use Rattle.protocol_model.specs.ClientLocks.{is_no_more}
 use Rattle.protocol_model.specs.World.{Opening, World}
 use Rattle.moves.proofs.Rules
 use Rattle.moves.proofs.Rules.{Rule, Taken, IsOpen, May, Ordered, effect, turn_by, takes}
@@ -63,7 +63,7 @@ view_deleting c owing k e h x = ap (λ (j : Option LockCall). view j x) e
     ∙ ap (λ (f : LockPhase). view_in c.id f x) h
 
 -- who lives isn't gone
-pub lives_stays : (o : Opening) (w : World) (p : Process) → lives o w p ≡ true → is_gone w p ≡ false
+pub lives_stays : (o : Opening) (w : World) (p : Process) → lives o w p ≡ true → is_no_more w p ≡ false
 lives_stays o w p h = let l : IsLive o w p = live_parts o w p h in rw (l.up, l.alive) refl
 
 module _ (o : Opening) (a : ℕ) (w : World) (num : Numbers) (K : Known o w num) where
@@ -91,7 +91,7 @@ module _ (o : Opening) (a : ℕ) (w : World) (num : Numbers) (K : Known o w num)
 
   module _ (p : Process) where
     -- the numbers of a process whose call, if it has one, is a deletion
-    pub nums_stay : (r : Rule) → suits Hearing r ≡ true → May o a w r → is_gone (effect o a r w) p ≡ false
+    pub nums_stay : (r : Rule) → suits Hearing r ≡ true → May o a w r → is_no_more (effect o a r w) p ≡ false
         → ((c : LockCall) → call_at w p ≡ Some c → is_deleting c.phase ≡ true) → (x : ℕ) (id : Id)
         → num_by a r w num p id x ≡ num p id x
     nums_stay (Rules.WinsLock d r) h m up busy x id = go (is_process d.holder p) refl
@@ -148,7 +148,7 @@ module _ (o : Opening) (a : ℕ) (w : World) (num : Numbers) (K : Known o w num)
           cc (owes, deleting)
 
       -- each rule of an open call, or of none
-      pub follows : (r : Rule) → suits Hearing r ≡ true → May o a w r → is_gone (effect o a r w) p ≡ false
+      pub follows : (r : Rule) → suits Hearing r ≡ true → May o a w r → is_no_more (effect o a r w) p ≡ false
           → Next o w p c owing (call_at (effect o a r w) p)
       follows (Rules.HearsLock f id g d r) h m up = by_call d (LockPhase.Asking r) m.tested.2
           (Rules.HearsLock f id g d r) _

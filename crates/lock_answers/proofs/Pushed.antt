@@ -8,7 +8,7 @@ use Rattle.protocol_model.specs.Course.{Played, played}
 use Rattle.protocol_model.specs.World.{Opening, WorldEvent, place, opening_world, refusal, happens, accepted, answers, turn_of}
 use Rattle.leftovers.specs.Clauses.{events, world}
 use Rattle.leftovers.proofs.Tied.{course-push}
-use Rattle.leftovers.proofs.Answered.{answered}
+use Rattle.leftovers.proofs.Answered.{calls_answered}
 
 module _ (o : Opening) (es : List WorldEvent) (e : WorldEvent) (is : refusal o (world o es) e ≡ None) where
   -- the course behind it
@@ -29,4 +29,4 @@ module _ (o : Opening) (es : List WorldEvent) (e : WorldEvent) (is : refusal o (
   happens_now = ap (λ (x : Option Refusal). if is_none x then accepted o (world o es) e else world o es) is
 
   pub answer_place : (s : Answer) → Contains (answers o (world o es) e) s → s.node ≡ place e
-  answer_place s c = (answered o (es ++ e ∷ [])).place (played o (world o es) e) s played_last c
+  answer_place s c = (calls_answered o (es ++ e ∷ [])).place (played o (world o es) e) s played_last c

@@ -14,7 +14,7 @@ use Rattle.protocol_model.specs.Round.{Out, Later, Owes, is_empty, begin, greate
 use Rattle.protocol_model.specs.Watch.{is_dead, is_live}
 use Rattle.protocol_model.specs.Node.{LockPhase, LockCall, Target, Times, targets, call_of, put_call, drop_call}
 use Rattle.protocol_model.specs.Event.{Answer, NoSuchNode, NodeLeft, NotLive, Busy, Cause, cause, first_cause, names_members, calls_spent, UnknownNode, Reserved, global_resource}
-use Rattle.protocol_model.specs.Turn.{Turn, begun, counted}
+use Rattle.protocol_model.specs.Turn.{Turn, begun, count_call}
 use Rattle.protocol_model.specs.Registrar.{start}
 use Rattle.protocol_model.specs.Client.{in_phase, new_call, try_lock, ask_lock, close_call}
 use Rattle.protocol_model.specs.ClientLocks.{Holds}
@@ -190,7 +190,7 @@ module _ (o : Opening) (es : List WorldEvent) (p : Process) (r z : Text) (target
   IsAlone v b = Alone o w W.started p id k whom below living v b
 
   abbrev num : Numbers
-  num q i x = RoundNumbers.number o es q i x
+  num q i x = RoundNumbers.round_count o es q i x
 
   counts : (x : ℕ) → IsUp o w x → num p id x ≡ count id p (w.node x).locks
   counts x up = sym (live_counts o w W quiet num (lock_state o es).clients p id x living C.up up)
@@ -213,7 +213,7 @@ module _ (o : Opening) (es : List WorldEvent) (p : Process) (r z : Text) (target
   fresh = new_call o.bound p.node k p r z target (Times 0)
 
   abbrev before : Turn
-  before = counted (begun (w.node p.node))
+  before = count_call (begun (w.node p.node))
 
   abbrev Stepped : Turn → Type 0
   Stepped u = Step o w p id k whom (Unchanged o w W.started p id k whom below living num) w p.node u

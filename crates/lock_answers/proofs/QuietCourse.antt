@@ -19,7 +19,7 @@ use Rattle.moves.proofs.Indices.{both}
 use Rattle.moves.proofs.Rules.{Taken}
 use Rattle.leftovers.proofs.Base.{after_turn}
 use Rattle.leftovers.proofs.RoundNumbers
-use Rattle.leftovers.proofs.RoundNumbers.{number_after, is_won, is_tried}
+use Rattle.leftovers.proofs.RoundNumbers.{round_count_after, is_won_by_round, is_tried}
 use Rattle.leftovers.proofs.Clients.{Numbers, lives, call_at, part_same, node_here}
 use Rattle.leftovers.proofs.Walking.{event_keeps}
 use Rattle.leftovers.proofs.HeadlineClients.{grounds}
@@ -47,7 +47,7 @@ module _ (o : Opening) (w : World) (started : AllStarted w) (p : Process) (id : 
     next = after_turn (place e) v u l
 
     abbrev pub num2 : Numbers
-    num2 q i x = number_after o v e q i x (A.num q i x)
+    num2 q i x = round_count_after o v e q i x (A.num q i x)
 
     now : happens o v e ≡ next
     now = ap (λ (r : Option Refusal). if is_none r then accepted o v e else v) h ∙ so
@@ -73,16 +73,16 @@ module _ (o : Opening) (w : World) (started : AllStarted w) (p : Process) (id : 
     same_numbers : answers o v e ≡ [] → Unchanged o w started p id k whom below living A.num
         → Unchanged o w started p id k whom below living num2
     same_numbers none U x up = ap (λ (r : Option Refusal). if is_none r
-        then RoundNumbers.counted o v e p id x (A.num p id x) else A.num p id x) h
-        ∙ ap (λ (c : Bool). if c then 0 else (if is_won id x (answers o v e) (call_at v p)
+        then RoundNumbers.next_round_count o v e p id x (A.num p id x) else A.num p id x) h
+        ∙ ap (λ (c : Bool). if c then 0 else (if is_won_by_round id x (answers o v e) (call_at v p)
         then A.num p id x + 1 else (if gives v e p id x then A.num p id x - 1 else A.num p id x)))
         (not_gone o w started p id k whom below living (happens o v e) near)
         ∙ ap (λ (c : Bool). if c then A.num p id x + 1
         else (if gives v e p id x then A.num p id x - 1 else A.num p id x))
-        (ap (λ (ss : List Answer). is_won id x ss (call_at v p)) none ∙ no_win (call_at v p))
+        (ap (λ (ss : List Answer). is_won_by_round id x ss (call_at v p)) none ∙ no_win (call_at v p))
         ∙ ap (λ (c : Bool). if c then A.num p id x - 1 else A.num p id x) (silent x) ∙ U x up
       where
-        no_win : (c : Option LockCall) → is_won id x [] c ≡ false
+        no_win : (c : Option LockCall) → is_won_by_round id x [] c ≡ false
         no_win None = refl
         no_win (Some c) = and-false (is_tried id x c)
 

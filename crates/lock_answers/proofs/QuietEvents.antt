@@ -15,7 +15,7 @@ use Rattle.protocol_model.specs.Registrar.{registrar, start}
 use Rattle.protocol_model.specs.Client.{hear_lock, hear_lock_in}
 use Rattle.protocol_model.specs.Deciding.{hear_answer}
 use Rattle.protocol_model.specs.Reading.{judge, hear, take_back, read}
-use Rattle.protocol_model.specs.ClientLocks.{is_gone}
+use Rattle.protocol_model.specs.ClientLocks.{is_no_more}
 use Rattle.protocol_model.specs.World.{Opening, in_world, World, left, Deliver, join_number, heard, turn_of, refusal}
 use Rattle.moves.proofs.Invariants.{Each, IsUp}
 use Rattle.leftovers.proofs.Sessions
@@ -80,7 +80,7 @@ module _ (o : Opening) (w : World) (started : AllStarted w) (p : Process) (id : 
         (record { inside = mine.inside; up = N.stay p.node ∙ mine.up; client = mine.client; alive = alive })
 
     -- nor is p gone
-    pub not_gone : is_gone v p ≡ false
+    pub not_gone : is_no_more v p ≡ false
     not_gone = rw (N.stay p.node ∙ mine.up, alive) refl
 
   module _ (v : World) (b : Bool) (A : Alone v b) where

@@ -11,7 +11,7 @@ use Rattle.protocol_model.specs.Node.{LockPhase, LockCall, Target, Retries, call
 use Rattle.protocol_model.specs.Event.{Call, Event, is_waiting_call}
 use Rattle.protocol_model.specs.Turn.{Turn, sent_to}
 use Rattle.protocol_model.specs.Client.{one_less}
-use Rattle.protocol_model.specs.ClientLocks.{Try, try_of, is_refused, is_gone}
+use Rattle.protocol_model.specs.ClientLocks.{Try, try_of, waits_for_retry, is_no_more}
 use Rattle.protocol_model.specs.LockAnswers.{Tries, watched, next_try, first_try, tries_by, meets}
 use Rattle.protocol_model.specs.World.{Opening, in_world, World, left, WorldEvent, At, place, refusal, accepted, turn_of}
 use Rattle.moves.proofs.Indices.{both, not_true}
@@ -32,7 +32,7 @@ use Rattle.registry_model.specs.Process.{nodes_of}
 use Rattle.lock_answers.proofs.LastTry.{last_of}
 use Rattle.lock_answers.proofs.BadMarks.{begin_good}
 use Rattle.lock_answers.proofs.CallSteps.{AllCalls}
-use Rattle.lock_answers.proofs.CallTurns.{unless, is_no_denial, deny_none, begun_over, anew_in, anew, deleted_over}
+use Rattle.lock_answers.proofs.CallTurns.{some_unless, is_no_denial, deny_none, begun_over, anew_in, anew, deleted_over}
 use Rattle.lock_answers.proofs.Denials.{Denies, each_calm, each_unheard, each_so}
 use Rattle.leftovers.proofs.Beginnings.{new_try, fresh}
 use Rattle.lock_answers.proofs.EventTurns.{AgainTurn, again_turn, SetTurn, set_turn, DelTurn, del_turn}
@@ -68,7 +68,7 @@ each_true p now h (l ∷ ls) = ((λ d. h), each_true p now h ls)
 begun_marks : (n : ℕ) (members : Nodes) (d c : LockCall) (now : Bool) → begun_over n 0 members d ≡ Some c
     → MarksIn now c.phase
 begun_marks n members d c now e = subst (λ (k : LockCall). MarksIn now k.phase)
-    (unless (is_empty n (targets members d.target)) _ c e)
+    (some_unless (is_empty n (targets members d.target)) _ c e)
     (λ x bad. absurd (begin_good n (targets members d.target) x bad))
 
 module _ (o : Opening) (p : Process) (w : World) (num : Numbers) (S : Known o w num) where
@@ -83,14 +83,14 @@ module _ (o : Opening) (p : Process) (w : World) (num : Numbers) (S : Known o w 
       (λ i. each_calm p now u.sends calm p.node)
 
   -- who isn't gone behind an event wasn't before
-  up_then : (e : WorldEvent) → refusal o w e ≡ None → is_gone (accepted o w e) p ≡ false → is_gone w p ≡ false
+  up_then : (e : WorldEvent) → refusal o w e ≡ None → is_no_more (accepted o w e) p ≡ false → is_no_more w p ≡ false
   up_then e h up =
       let W : OrderedWalk o w e = walk_of o w num S e h in
       up_before o (place e) (chain_of o w e W.walk.rest) w p
-      (subst (λ (v : World). is_gone v p ≡ false) (sym W.walk.world) up)
+      (subst (λ (v : World). is_no_more v p ≡ false) (sym W.walk.world) up)
 
   -- a process that asks nobody is denied nothing by a node that runs
-  idle_letters : (now : Bool) (c : ℕ) → in_world o p.node ≡ true → (p.serial == 0) ≡ false → is_gone w p ≡ false
+  idle_letters : (now : Bool) (c : ℕ) → in_world o p.node ≡ true → (p.serial == 0) ≡ false → is_no_more w p ≡ false
       → in_world o c ≡ true → (left w c ≡ true → now ≡ true) → view (call_at w p) c ≡ Idle
       → Each (Denies p now) (w.links.queue c p.node)
   idle_letters now c inside client up known gone idle = go (left w c) refl
@@ -108,7 +108,7 @@ module _ (o : Opening) (p : Process) (w : World) (num : Numbers) (S : Known o w 
     now y = y.met || meets o w e p y.last
 
     watched_reasons : ((y : Tries) → t ≡ Some y → Reasons o p w y → AllCalls (MarksOf p (now y)) (accepted o w e))
-        → ((y : Tries) → t ≡ Some y → Reasons o p w y → is_gone w p ≡ false → is_gone (accepted o w e) p ≡ false
+        → ((y : Tries) → t ≡ Some y → Reasons o p w y → is_no_more w p ≡ false → is_no_more (accepted o w e) p ≡ false
         → (c : ℕ) → y.last.asks c ≡ true → Each (Denies p (now y)) ((accepted o w e).links.queue c p.node))
         → ReasonsAt o p (accepted o w e) (watched o w e p t)
     watched_reasons marks letters x is = go t refl is
@@ -128,7 +128,7 @@ module _ (o : Opening) (p : Process) (w : World) (num : Numbers) (S : Known o w 
     old_marks : (y : Tries) → Reasons o p w y → (c : LockCall) → call_at w p ≡ Some c → MarksIn (now y) c.phase
     old_marks y K c f = marks_so y.met (now y) (or_first y.met (meets o w e p y.last)) c.phase (K.marks p c f refl)
 
-    old_letters : (y : Tries) → Reasons o p w y → is_gone w p ≡ false → (c : ℕ) → y.last.asks c ≡ true
+    old_letters : (y : Tries) → Reasons o p w y → is_no_more w p ≡ false → (c : ℕ) → y.last.asks c ≡ true
         → Each (Denies p (now y)) (w.links.queue c p.node)
     old_letters y K up c mine = each_so p y.met (now y) (or_first y.met (meets o w e p y.last))
         (w.links.queue c p.node) (K.letters up c mine)
@@ -166,7 +166,7 @@ module _ (o : Opening) (p : Process) (w : World) (num : Numbers) (S : Known o w 
       same q c f s = subst (λ (k : Process). call_at w k ≡ Some c) s
           (sym (part_same (λ v. call_of q v.calls) w a u refl q.node) ∙ f)
 
-      letters : (y : Tries) → Reasons o p w y → is_gone w p ≡ false → (c : ℕ) → y.last.asks c ≡ true
+      letters : (y : Tries) → Reasons o p w y → is_no_more w p ≡ false → (c : ℕ) → y.last.asks c ≡ true
           → Each (Denies p (now (At a Event.Leave) h t R y))
           (if p.node == a then [] else (posted a (λ z. sent_to z u.sends) w.links).queue c p.node)
       letters y K up c mine = go (p.node == a)
@@ -199,7 +199,7 @@ module _ (o : Opening) (p : Process) (w : World) (num : Numbers) (S : Known o w 
           → (if b then deleted_over o.bound a (members a) (fresh o w a q r z target) else call_at w p) ≡ Some c
           → MarksIn (now e h t R y) c.phase
       by y K c true i = subst (λ (k : LockCall). MarksIn (now e h t R y) k.phase)
-          (unless (is_empty o.bound (targets (members a) target)) _ c i) tt
+          (some_unless (is_empty o.bound (targets (members a) target)) _ c i) tt
       by y K c false i = old_marks e h t R y K c i
 
   -- a try
@@ -269,7 +269,7 @@ module _ (o : Opening) (p : Process) (w : World) (num : Numbers) (S : Known o w 
   -- a retry
   again_reasons : (a : ℕ) → refusal o w (At a Event.Retry) ≡ None → (t : Option Tries) → ReasonsAt o p w t
       → ReasonsAt o p (accepted o w (At a Event.Retry)) (tries_by o w (At a Event.Retry) p t)
-  again_reasons a h t R = go ((a == p.node) && is_refused w p) refl
+  again_reasons a h t R = go ((a == p.node) && waits_for_retry w p) refl
     where
       e : WorldEvent
       e = At a Event.Retry
@@ -307,11 +307,11 @@ module _ (o : Opening) (p : Process) (w : World) (num : Numbers) (S : Known o w 
           here None j i = cc
           here (Some d) j i = by_phase d j d.phase refl i
 
-      next : ((a == p.node) && is_refused w p) ≡ true → ReasonsAt o p (accepted o w e) (next_try o w e p (members a) t)
+      next : ((a == p.node) && waits_for_retry w p) ≡ true → ReasonsAt o p (accepted o w e) (next_try o w e p (members a) t)
       next refused x is = by t refl is
         where
-          waits : is_refused w p ≡ true
-          waits = (both (a == p.node) (is_refused w p) refused).1
+          waits : waits_for_retry w p ≡ true
+          waits = (both (a == p.node) (waits_for_retry w p) refused).1
 
           -- the call that waits asks nobody, and has no marks
           idle : (c : ℕ) → view (call_at w p) c ≡ Idle
@@ -328,12 +328,12 @@ module _ (o : Opening) (p : Process) (w : World) (num : Numbers) (S : Known o w 
               by_call (Some d) i = by_phase d d.phase i
 
           home : p.node ≡ a
-          home = sym (eqb-true a p.node (both (a == p.node) (is_refused w p) refused).0)
+          home = sym (eqb-true a p.node (both (a == p.node) (waits_for_retry w p) refused).0)
 
           markless : (so : Bool) (d : LockCall) → call_at w p ≡ Some d
               → (p.node ≡ a → is_waiting_call d.phase ≡ false) → MarksIn so d.phase
           markless so d j busy =
-              let phase : is_refused w p ≡ is_waiting_call d.phase =
+              let phase : waits_for_retry w p ≡ is_waiting_call d.phase =
               ap (λ (k : Option LockCall). elim k [ None ↦ false | Some y ↦ is_waiting_call y.phase ]) j in
               cc (busy home, phase, waits)
 
@@ -358,7 +358,7 @@ module _ (o : Opening) (p : Process) (w : World) (num : Numbers) (S : Known o w 
               nodes c mine = S.family.proper.inside a c A.running A.place_inside
                   (target_member (members a) y.last.target c mine)
 
-      go : (b : Bool) → ((a == p.node) && is_refused w p) ≡ b
+      go : (b : Bool) → ((a == p.node) && waits_for_retry w p) ≡ b
           → ReasonsAt o p (accepted o w e) (if b then next_try o w e p (members a) t else watched o w e p t)
       go true i = next i
       go false i = watched_reasons e h t R

@@ -9,9 +9,9 @@ use Rattle.registry_model.proofs.Lists.{Contains-nil}
 use Rattle.protocol_model.specs.Letter.{Letter}
 use Rattle.protocol_model.specs.Node.{LockPhase}
 use Rattle.protocol_model.specs.Event.{Call, Event, Answer}
-use Rattle.protocol_model.specs.ClientLocks.{is_gone}
+use Rattle.protocol_model.specs.ClientLocks.{is_no_more}
 use Rattle.protocol_model.specs.LockAnswers.{Tries, meets}
-use Rattle.protocol_model.specs.World.{Opening, in_world, World, left, WorldEvent, At, Deliver, place, join_number, opened}
+use Rattle.protocol_model.specs.World.{Opening, in_world, World, left, WorldEvent, At, Deliver, place, join_number, letter_taken}
 use Rattle.moves.proofs.Indices.{both}
 use Rattle.moves.proofs.Invariants.{Each}
 use Rattle.moves.proofs.Rules
@@ -39,7 +39,7 @@ pub record Reasons (o : Opening) (p : Process) (w : World) (x : Tries) : Type 0 
   pub nodes : (c : ℕ) → x.last.asks c ≡ true → in_world o c ≡ true
   pub gone : (c : ℕ) → x.last.asks c ≡ true → left w c ≡ true → x.met ≡ true
   pub marks : AllCalls (MarksOf p x.met) w
-  pub letters : is_gone w p ≡ false → (c : ℕ) → x.last.asks c ≡ true
+  pub letters : is_no_more w p ≡ false → (c : ℕ) → x.last.asks c ≡ true
       → Each (Denies p x.met) (w.links.queue c p.node)
 
 -- what is so makes it so
@@ -140,14 +140,14 @@ module _ (o : Opening) (p : Process) (w : World) (num : Numbers) (S : Known o w 
         (subst (λ (y : WorldEvent). meets o w y p x.last ≡ true) (sym same) h)
 
     heard : (rs : List Rule) → list_all (suits Hearing) rs ≡ true → LeaveLocks rs → list_all is_quiet rs ≡ true
-        → TakeGone o t w (opened (Deliver f t) w) rs → MayAll o t rs w → Outcome t rs
+        → TakeGone o t w (letter_taken (Deliver f t) w) rs → MayAll o t rs w → Outcome t rs
     heard [] h k q g m = none t
     heard (r ∷ rs) h k q g m =
         let quiet : (is_quiet r ≡ true) × (list_all is_quiet rs ≡ true) = both (is_quiet r) (list_all is_quiet rs) q in
-        let taken : (is_gone_by w (opened (Deliver f t) w) t (Rules.takes o t r) ≡ true)
-        × TakeGone o t w (opened (Deliver f t) w) rs =
-        both (is_gone_by w (opened (Deliver f t) w) t (Rules.takes o t r))
-        (list_all (λ s. is_gone_by w (opened (Deliver f t) w) t (Rules.takes o t s)) rs) g in
+        let taken : (is_gone_by w (letter_taken (Deliver f t) w) t (Rules.takes o t r) ≡ true)
+        × TakeGone o t w (letter_taken (Deliver f t) w) rs =
+        both (is_gone_by w (letter_taken (Deliver f t) w) t (Rules.takes o t r))
+        (list_all (λ s. is_gone_by w (letter_taken (Deliver f t) w) t (Rules.takes o t s)) rs) g in
         some t r rs (stays r quiet.0)
         (denied_so o w num S f t p x.last so gone_so fit R.inside R.client met_so r m.0 taken.0) h k quiet.1 m
       where
@@ -158,7 +158,7 @@ module _ (o : Opening) (p : Process) (w : World) (num : Numbers) (S : Known o w 
     delivered : (ls : List Letter) (rest : List Rule)
         → list_all (suits Hearing) (Rules.first_by_letter o t f ls ++ rest) ≡ true
         → LeaveLocks (Rules.first_by_letter o t f ls ++ rest) → list_all is_quiet rest ≡ true
-        → TakeGone o t w (opened (Deliver f t) w) (Rules.first_by_letter o t f ls ++ rest)
+        → TakeGone o t w (letter_taken (Deliver f t) w) (Rules.first_by_letter o t f ls ++ rest)
         → MayAll o t (Rules.first_by_letter o t f ls ++ rest) w → Outcome t (Rules.first_by_letter o t f ls ++ rest)
     delivered [] rest h k q g m = heard rest h k q g m
     delivered (Letter.Down ∷ ls) rest h k q g m = some t (Rules.IsTold f) rest refl tt h k q m

@@ -15,7 +15,7 @@ use Rattle.protocol_model.specs.Node.{LockPhase, LockCall}
 use Rattle.protocol_model.specs.Event.{is_waiting_call}
 use Rattle.protocol_model.specs.Turn.{begun, send, sent_to, with_locks}
 use Rattle.protocol_model.specs.Client.{in_phase, is_spent}
-use Rattle.protocol_model.specs.ClientLocks.{Try, is_gone}
+use Rattle.protocol_model.specs.ClientLocks.{Try, is_no_more}
 use Rattle.protocol_model.specs.World.{Opening, in_world, World, left}
 use Rattle.moves.proofs.Indices.{both}
 use Rattle.moves.proofs.Rules
@@ -75,11 +75,11 @@ module _ (o : Opening) (p : Process) (l : Try) (so : Bool) (w0 : World)
     pub runs : (c : ℕ) → left w c ≡ left w0 c
     pub nodes : (c : ℕ) → l.asks c ≡ true → in_world o c ≡ true
     pub marks : AllCalls (MarksOf p so) w
-    pub letters : is_gone w p ≡ false → (c : ℕ) → l.asks c ≡ true → Each (Denies p so) (w.links.queue c p.node)
+    pub letters : is_no_more w p ≡ false → (c : ℕ) → l.asks c ≡ true → Each (Denies p so) (w.links.queue c p.node)
 
   -- where a node that the try has to ask denies p the lock, it is so
   abbrev pub JudgedSo : ℕ → World → Rule → Type 0
-  JudgedSo a w (Rules.Judges f id q) = is_gone w p ≡ false → q ≡ p → l.asks a ≡ true
+  JudgedSo a w (Rules.Judges f id q) = is_no_more w p ≡ false → q ≡ p → l.asks a ≡ true
       → is_free_for id q (w.node a).locks ≡ false → so ≡ true
   JudgedSo a w _ = Unit {0}
 
@@ -102,7 +102,7 @@ module _ (o : Opening) (p : Process) (l : Try) (so : Bool) (w0 : World)
         ∙ home_of_call a c.holder (w.node a).calls c (B.ordered a) e.call
 
     -- whose process isn't gone
-    stays : (c : LockCall) → call_at w p ≡ Some c → left w p.node ≡ false → is_gone w p ≡ false
+    stays : (c : LockCall) → call_at w p ≡ Some c → left w p.node ≡ false → is_no_more w p ≡ false
     stays c e up =
         let L : IsLive o w p = live_parts o w p (caller_lives o w B.num B.clients p c up e) in
         ap (λ (b : Bool). b || is_dead (w.node p.node).watch p.serial) L.up ∙ L.alive
@@ -164,7 +164,7 @@ module _ (o : Opening) (p : Process) (l : Try) (so : Bool) (w0 : World)
     marks_put r h m = tt
 
     -- what is sent to p
-    sent : (r : Rule) → JudgedSo a w r → is_gone w p ≡ false → l.asks a ≡ true
+    sent : (r : Rule) → JudgedSo a w r → is_no_more w p ≡ false → l.asks a ≡ true
         → Each (Denies p so) (sent_to p.node (Rules.turn_by o a w r).sends)
     sent (Rules.Judges f id q) j up mine = go (is_free_for id q (w.node a).locks) refl
       where
@@ -180,7 +180,7 @@ module _ (o : Opening) (p : Process) (l : Try) (so : Bool) (w0 : World)
             (λ i d. j up (is_process_same q p (both (is_process q p) true d).0) mine e)
     sent r j up mine = each_calm p so (Rules.turn_by o a w r).sends (calm_rule o a w r refl) p.node
 
-    letters_turn : (r : Rule) → May o a w r → JudgedSo a w r → is_gone (effect o a r w) p ≡ false → (c : ℕ)
+    letters_turn : (r : Rule) → May o a w r → JudgedSo a w r → is_no_more (effect o a r w) p ≡ false → (c : ℕ)
         → l.asks c ≡ true
         → Each (Denies p so)
         ((after_turn a w (Rules.turn_by o a w r) (Rules.takes o a r)).links.queue c p.node)
@@ -189,7 +189,7 @@ module _ (o : Opening) (p : Process) (l : Try) (so : Bool) (w0 : World)
         (each-popped (Denies p so) a (Rules.takes o a r) w.links.queue c p.node (K.letters was c mine))
         (λ i. sent r j was (ap l.asks (sym i) ∙ mine))
       where
-        was : is_gone w p ≡ false
+        was : is_no_more w p ≡ false
         was = up_before o a (r ∷ []) w p up
 
     -- a rule keeps it

@@ -9,7 +9,7 @@ use Rattle.protocol_model.specs.Letter.{Id, is_id, Letter}
 use Rattle.protocol_model.specs.LockTable.{Locks, is_grant_of, count, is_free_for, grant, give_back}
 use Rattle.protocol_model.specs.Node.{Node}
 use Rattle.protocol_model.specs.Watch.{is_dead}
-use Rattle.protocol_model.specs.ClientLocks.{is_gone}
+use Rattle.protocol_model.specs.ClientLocks.{is_no_more}
 use Rattle.protocol_model.specs.World.{Opening, World, left}
 use Rattle.moves.proofs.Rules
 use Rattle.moves.proofs.Rules.{Rule, May, effect, turn_by}
@@ -81,23 +81,23 @@ dropped_less f id p t true h same = omega (arith, same refl)
 dropped_less f id p t false h same = omega (arith, count_dropped f id p t h)
 
 -- who runs behind a rule ran before it
-pub ran : (o : Opening) (a : ℕ) (r : Rule) (w : World) (x : ℕ) → left (effect o a r w) x ≡ false → left w x ≡ false
-ran o a Rules.Leaves w x h = by_test a (λ y b. (if b then true else left w y) ≡ false → left w y ≡ false) (λ k. cc k)
+pub node_ran : (o : Opening) (a : ℕ) (r : Rule) (w : World) (x : ℕ) → left (effect o a r w) x ≡ false → left w x ≡ false
+node_ran o a Rules.Leaves w x h = by_test a (λ y b. (if b then true else left w y) ≡ false → left w y ≡ false) (λ k. cc k)
     (λ y ne k. k) x h
-ran o a _ w x h = h
+node_ran o a _ w x h = h
 
 -- and who lives behind it lived before
-pub lived : (o : Opening) (a : ℕ) (r : Rule) (w : World) (p : Process) → lives o (effect o a r w) p ≡ true
+pub process_lived : (o : Opening) (a : ℕ) (r : Rule) (w : World) (p : Process) → lives o (effect o a r w) p ≡ true
     → lives o w p ≡ true
-lived o a r w p h = go (left w p.node) (is_dead (w.node p.node).watch p.serial) refl refl (is_gone w p) refl
+process_lived o a r w p h = go (left w p.node) (is_dead (w.node p.node).watch p.serial) refl refl (is_no_more w p) refl
   where
     l : IsLive o (effect o a r w) p
     l = live_parts o (effect o a r w) p h
 
-    stays : is_gone (effect o a r w) p ≡ false
+    stays : is_no_more (effect o a r w) p ≡ false
     stays = rw (l.up, l.alive) refl
 
-    go : (b d : Bool) → left w p.node ≡ b → is_dead (w.node p.node).watch p.serial ≡ d → (g : Bool) → is_gone w p ≡ g
+    go : (b d : Bool) → left w p.node ≡ b → is_dead (w.node p.node).watch p.serial ≡ d → (g : Bool) → is_no_more w p ≡ g
         → lives o w p ≡ true
     go b d eb ed true e = absurd (cc (gone_keeps o a w r p e, stays))
     go false false eb ed false e = lives_by o w p (record
@@ -183,7 +183,7 @@ module _ (o : Opening) (a : ℕ) (w : World) (num : Numbers) (C : Clients o w nu
       → ((id : Id) → num1 p id x ≡ num p id x) → Stands w p x → Stands (effect o a r w) p x
   stands_keeps r m num1 C1 living1 x up1 b b1 v v1 same S id = omega (
     arith,
-    left_over w num p x (view (call_at w p) x) b v (C.sessions p x living (up1.0, ran o a r w x up1.1)) id,
+    left_over w num p x (view (call_at w p) x) b v (C.sessions p x living (up1.0, node_ran o a r w x up1.1)) id,
     left_over (effect o a r w) num1 p x (view (call_at (effect o a r w) p) x) b1 v1
         (C1.sessions p x living1 up1) id,
     same id,

@@ -32,18 +32,18 @@ use Rattle.lock_answers.proofs.Spared.{is_lock_answer}
 use Rattle.lock_answers.proofs.Verdicts.{word_no_verdict}
 
 -- the call that a rule answers
-abbrev pub closes : Rule → Option LockCall
-closes (Rules.FailsLock c) = Some c
-closes (Rules.WinsLock c r) = Some c
-closes (Rules.GivesUpLock c r granted) = Some c
-closes (Rules.DeletesNothing c) = Some c
-closes (Rules.EndsDeletion f c owing) = Some c
-closes (Rules.EndsDeletionDown d c owing) = Some c
-closes _ = None
+abbrev pub closed_call : Rule → Option LockCall
+closed_call (Rules.FailsLock c) = Some c
+closed_call (Rules.WinsLock c r) = Some c
+closed_call (Rules.GivesUpLock c r granted) = Some c
+closed_call (Rules.DeletesNothing c) = Some c
+closed_call (Rules.EndsDeletion f c owing) = Some c
+closed_call (Rules.EndsDeletionDown d c owing) = Some c
+closed_call _ = None
 
 -- the rule answers a call by its number
 abbrev pub Closed : Rule → Answer → Type 0
-Closed r s = (c : LockCall) × (closes r ≡ Some c) × (c.number ≡ s.number)
+Closed r s = (c : LockCall) × (closed_call r ≡ Some c) × (c.number ≡ s.number)
 
 -- the only one of a list
 pub the_one : {A : Type 0} (y x : A) → Contains (y ∷ []) x → y ≡ x
@@ -64,7 +64,7 @@ module _ (o : Opening) (a : ℕ) (w : World) (R : Replicas o w) (s : Answer) (lo
   not_zero : (r : Reply) → Contains (answer_to a 0 r ∷ []) s → ⊥
   not_zero r c = absurd (omega (arith, ap (λ (x : Answer). x.number) (the_one (answer_to a 0 r) s c), numbered))
 
-  ends : (r : Rule) (c : LockCall) (reply : Reply) → closes r ≡ Some c → Contains (answer_to a c.number reply ∷ []) s
+  ends : (r : Rule) (c : LockCall) (reply : Reply) → closed_call r ≡ Some c → Contains (answer_to a c.number reply ∷ []) s
       → Closed r s
   ends r c reply e k = (c, e, ap (λ (x : Answer). x.number) (the_one (answer_to a c.number reply) s k))
 
@@ -106,7 +106,7 @@ module _ (o : Opening) (a : ℕ) (w : World) (R : Replicas o w) (s : Answer) (lo
       (subst (λ (ss : List Answer). Contains ss s) (answers_made o a (join_number w) r (w.node a)) k)
 
 -- a rule of no lock call answers none
-aside_closes : (r : Rule) → suits Aside r ≡ true → (c : LockCall) → closes r ≡ Some c → ⊥
+aside_closes : (r : Rule) → suits Aside r ≡ true → (c : LockCall) → closed_call r ≡ Some c → ⊥
 aside_closes (Rules.FailsLock c) h d e = cc h
 aside_closes (Rules.WinsLock c r) h d e = cc h
 aside_closes (Rules.GivesUpLock c r granted) h d e = cc h
@@ -152,7 +152,7 @@ module _ (o : Opening) (a : ℕ) (s : Answer) (lock : is_lock_answer s ≡ true)
             ap (λ (x : LockCall). x.number) same ∙ n,
           )
 
-      go : (r : Rule) → suits Hearing r ≡ true → Rules.May o a w r → (d : LockCall) → closes r ≡ Some d
+      go : (r : Rule) → suits Hearing r ≡ true → Rules.May o a w r → (d : LockCall) → closed_call r ≡ Some d
           → d.number ≡ s.number → WasOpen w
       go (Rules.FailsLock c) h m d e n = cc h
       go (Rules.DeletesNothing c) h m d e n = cc h

@@ -8,7 +8,7 @@ use Rattle.protocol_model.specs.Round.{begin, is_empty}
 use Rattle.protocol_model.specs.Node.{LockPhase, LockCall, Target, Retries, Times, Endless, targets}
 use Rattle.protocol_model.specs.Event.{Call, Event, is_waiting_call}
 use Rattle.protocol_model.specs.Client.{is_spent, one_less, in_phase}
-use Rattle.protocol_model.specs.ClientLocks.{Try, try_of, is_refused}
+use Rattle.protocol_model.specs.ClientLocks.{Try, try_of, waits_for_retry}
 use Rattle.protocol_model.specs.Letter.{Client}
 use Rattle.protocol_model.specs.LockAnswers.{Tries, watched, next_try, first_try, tries_by}
 use Rattle.protocol_model.specs.World.{Opening, World, WorldEvent, At, place, refusal, accepted}
@@ -22,7 +22,7 @@ use Rattle.leftovers.proofs.Tries.{Fits}
 use Rattle.lock_answers.proofs.LastTry.{last_of, last_watched}
 use Rattle.lock_answers.proofs.Verdicts.{kept_in}
 use Rattle.lock_answers.proofs.Spending.{AreLeft, IsSpending, SpendsAt, Tried, tried_keeps}
-use Rattle.lock_answers.proofs.CallTurns.{unless, begun_over, anew_in, anew, deleted_over}
+use Rattle.lock_answers.proofs.CallTurns.{some_unless, begun_over, anew_in, anew, deleted_over}
 use Rattle.leftovers.proofs.Beginnings.{new_try, fresh}
 use Rattle.lock_answers.proofs.EventTurns.{AgainTurn, again_turn, set_turn, del_turn}
 use Rattle.lock_answers.proofs.Behind.{Known, base_of, walk_of, is_plain, plain_hears, plain_tries}
@@ -96,7 +96,7 @@ module _ (o : Opening) (p : Process) where
             → (if b then begun_over o.bound a (members a) (new_try o w a q r z target retries) else call_at w p) ≡ Some c
             → IsSpending (if b then first_try o w event p last retries else watched o w event p t) c
         by true e = subst (IsSpending (first_try o w event p last retries))
-            (unless (is_empty o.bound (targets (members a) target)) _ c e)
+            (some_unless (is_empty o.bound (targets (members a) target)) _ c e)
             (_, refl, record { left = fresh_left retries; more = λ y. cc })
         by false e = spends_watched w event t c (k p c e refl d)
 
@@ -116,7 +116,7 @@ module _ (o : Opening) (p : Process) where
             → (if b then deleted_over o.bound a (members a) (fresh o w a q r z target) else call_at w p) ≡ Some c
             → IsSpending (watched o w event p t) c
         by true e = cc (
-          ap (λ (y : LockCall). is_deleting y.phase) (unless (is_empty o.bound (targets (members a) target)) _ c e),
+          ap (λ (y : LockCall). is_deleting y.phase) (some_unless (is_empty o.bound (targets (members a) target)) _ c e),
           d,
         )
         by false e = spends_watched w event t c (k p c e refl d)
@@ -138,16 +138,16 @@ module _ (o : Opening) (p : Process) where
         found = subst (λ (y : Process). call_at (accepted o w event) y ≡ Some c) i f
 
         -- the tries of a call that wasn't refused, or is another node's
-        same : ((a == p.node) && is_refused w p) ≡ false → call_at w p ≡ Some c
+        same : ((a == p.node) && waits_for_retry w p) ≡ false → call_at w p ≡ Some c
             → IsSpending (tries_by o w event p t) c
         same e j = subst (λ (b : Bool). IsSpending (if b then next_try o w event p (members a) t else watched o w event p t)
             c) (sym e) (spends_watched w event t c (k p c j refl d))
 
         by_away : (p.node ≡ a → ⊥) → IsSpending (tries_by o w event p t) c
-        by_away ne = same (ap (λ (b : Bool). b && is_refused w p) (ne_eqb a p.node (λ e. ne (sym e))))
+        by_away ne = same (ap (λ (b : Bool). b && waits_for_retry w p) (ne_eqb a p.node (λ e. ne (sym e))))
             (sym (T.away p ne) ∙ found)
 
-        refused : (y : LockCall) → call_at w p ≡ Some y → is_refused w p ≡ is_waiting_call y.phase
+        refused : (y : LockCall) → call_at w p ≡ Some y → waits_for_retry w p ≡ is_waiting_call y.phase
         refused y j = ap (λ (g : Option LockCall). elim g [ None ↦ false | Some z ↦ is_waiting_call z.phase ]) j
 
         -- of one that was refused
@@ -155,8 +155,8 @@ module _ (o : Opening) (p : Process) where
             → c.retries ≡ one_less y.retries → is_waiting_call c.phase ≡ false → IsSpending (tries_by o w event p t) c
         next home y j waits less busy =
             let was : IsSpending t y = k p y j refl (ap is_deleting waits) in
-            let yes : ((a == p.node) && is_refused w p) ≡ true =
-            ap (λ (b : Bool). b && is_refused w p) (eq-eqb a p.node (sym home)) ∙ refused y j
+            let yes : ((a == p.node) && waits_for_retry w p) ≡ true =
+            ap (λ (b : Bool). b && waits_for_retry w p) (eq-eqb a p.node (sym home)) ∙ refused y j
             ∙ ap is_waiting_call waits in
             subst (λ (b : Bool). IsSpending (if b then next_try o w event p (members a) t else watched o w event p t) c)
             (sym yes) (
@@ -174,7 +174,7 @@ module _ (o : Opening) (p : Process) where
         by_phase home y j LockPhase.Waiting waits e =
             let one : in_phase (LockPhase.Asking (begin o.bound (targets (members a) y.target)))
             (record y { retries = one_less y.retries }) ≡ c =
-            unless (is_empty o.bound (targets (members a) y.target)) _ c e in
+            some_unless (is_empty o.bound (targets (members a) y.target)) _ c e in
             next home y j waits (sym (ap (λ (v : LockCall). v.retries) one))
             (sym (ap (λ (v : LockCall). is_waiting_call v.phase) one))
         by_phase home y j (LockPhase.Asking r) g e = same (ap (λ (b : Bool). (a == p.node) && b)

@@ -13,7 +13,7 @@ use Rattle.protocol_model.specs.Client.{is_spent}
 use Rattle.protocol_model.specs.Answers.{answers_under}
 use Rattle.protocol_model.specs.Course.{standing}
 use Rattle.protocol_model.specs.Watch.{is_dead}
-use Rattle.protocol_model.specs.ClientLocks.{Try, is_refused, is_gone}
+use Rattle.protocol_model.specs.ClientLocks.{Try, waits_for_retry, is_no_more}
 use Rattle.protocol_model.specs.Leftovers.{IsQuiet}
 use Rattle.protocol_model.specs.Refusals.{HasOpenCall}
 use Rattle.protocol_model.specs.LockAnswers.{Tries, tries_of, AreUsedUp, IsUnanswered, WaitsForRetry, ReadsTheSeen}
@@ -180,7 +180,7 @@ module _ (o : Opening) (es : List WorldEvent) where
         refl
 
     -- a refused call is such a call
-    refused : is_refused w p ≡ true → WaitsForRetry o es w p
+    refused : waits_for_retry w p ≡ true → WaitsForRetry o es w p
     refused h = by_call (call_at w p) refl h
       where
         by_try : (c : LockCall) → call_at w p ≡ Some c → is_waiting_call c.phase ≡ true
@@ -208,8 +208,8 @@ module _ (o : Opening) (es : List WorldEvent) where
             (ap is_deleting (waiting_phase c.phase j))) (tries_of o es p) refl
 
     -- in a quiet world the last `set_lock` waits, unless it is answered
-    waits : (x : Tries) → IsQuiet o w → is_gone w p ≡ false → tries_of o es p ≡ Some x
-        → answers_under p.node x.last.number (events o es) ≡ [] → is_refused w p ≡ true
+    waits : (x : Tries) → IsQuiet o w → is_no_more w p ≡ false → tries_of o es p ≡ Some x
+        → answers_under p.node x.last.number (events o es) ≡ [] → waits_for_retry w p ≡ true
     waits x quiet live is none =
         let S : IsSet _ p x = is_set o p es x is in
         let C : HasOpenCall (events o es) p.node p = record {

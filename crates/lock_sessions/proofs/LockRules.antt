@@ -24,7 +24,7 @@ use Rattle.lock_sessions.proofs.Base.{not_both, is_leave, others, farewell, ran_
 use Rattle.lock_sessions.proofs.LockTables.{Row, Nobody, grants_of, globals, is_global, share, drop_holder-row}
 use Rattle.lock_sessions.proofs.Sessions.{Request, Stage, Free, Session, fits, answers_at, share_at, mark_in, request_in, answer_in, found, found-append, found-letters, AsRequester, requester_turn}
 use Rattle.lock_sessions.proofs.Locking.{IsNamed, is_client, IsClients, AllClients, IsRound, asks_itself, Locks, call_of-client, put_call-clients, drop_call-clients, lock_turn}
-use Rattle.lock_sessions.proofs.Rounds.{stays, owes_answer}
+use Rattle.lock_sessions.proofs.Rounds.{mark_stays, owes_answer}
 use Rattle.lock_sessions.proofs.LockTurns.{Turned, QuietSends, QuietTaken, nothing_sent, quiet_one, quiet_all, quiet_taken, quietly, plainly, moved_to, begins, hears, marks_down, gives_back, asked_granted, asked_itself, hands_back}
 use Rattle.lock_sessions.proofs.JudgeTurns.{named_front, judges, takes_back, is_told}
 
@@ -267,7 +267,7 @@ module _ (o : Opening) (a : ℕ) (w : World) (I : Proper o w) (L : Locks o w) (u
       stay : (x : ℕ) → IsUp o w x → (s : Stage) → Session w a x s → found answer_in (letters_from (taking f l) x) ≡ []
           → AsRequester o a w up (begun (w.node a)) (taking f l) m.front x s
       stay x ux s S heard = moved_to o a w I L up (begun (w.node a)) (taking f l) m.front x s s
-          (mark_in (w.node a).current x) [] [] (stays s (mark_in (w.node a).current x) S.mark) refl refl heard
+          (mark_in (w.node a).current x) [] [] (mark_stays s (mark_in (w.node a).current x) S.mark) refl refl heard
 
       silent : (x : ℕ) → x ≡ f → (s : Stage) → Session w a x s → answer_in l ≡ []
       silent x k s S = unheard a (w.node a) f l m.tested.1 (named_front o a w I L up f l m.front) s

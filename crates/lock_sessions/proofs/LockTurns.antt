@@ -21,7 +21,7 @@ use Rattle.lock_sessions.proofs.Base.{not_both, after_turn, letters_from, each-o
 use Rattle.lock_sessions.proofs.LockTables.{globals}
 use Rattle.lock_sessions.proofs.Sessions.{Request, Asks, Returns, Stage, HasGrant, HasRefusal, Session, fits, requests_at, answers_at, mark_in, request_in, answer_in, found, found-one, found-all, found-none, taken_as, found-letters, AsRequester, requester_turn, quiet_turn}
 use Rattle.lock_sessions.proofs.Locking.{IsNamed, AllClients, BossFirst, IsRound, asks_itself, Locks, LocalTurn}
-use Rattle.lock_sessions.proofs.Rounds.{owes_ungranted, Moved, asked_at, is_asked, stays, is_heard, out_fits, held_fits, gives_up, asks_more, finishes, begin-first, down-first, answer-opens, answer-owed, opens-boss, answer-first, over-owes, HeldRound, ending-held, ending-given}
+use Rattle.lock_sessions.proofs.Rounds.{owes_ungranted, Moved, asked_at, is_asked, mark_stays, is_heard, out_fits, held_fits, gives_up, asks_more, finishes, begin-first, down-first, answer-opens, answer-owed, opens-boss, answer-first, over-owes, HeldRound, ending-held, ending-given}
 
 module _ (o : Opening) (a : ℕ) (w : World) (I : Proper o w) (L : Locks o w) (up : IsUp o w a) where
   -- each pair of running nodes stands at a stage after the turn too
@@ -196,10 +196,10 @@ module _ (o : Opening) (a : ℕ) (w : World) (I : Proper o w) (L : Locks o w) (u
 
           other : (x ≡ boss → ⊥) → (b : Bool) → members x ≡ b
               → AsRequester o a w up (ask_global o.bound a op (with_queue ops (begun (w.node a)))) None tt x s
-          other ne true e = moved_to _ None tt x s s Mark.Later [] [] (stays s Mark.Later (out_fits s out))
+          other ne true e = moved_to _ None tt x s s Mark.Later [] [] (mark_stays s Mark.Later (out_fits s out))
               (rw (e, ne_eqb x boss ne) refl)
               (ap (found request_in) (sent_to-one x boss set_lock) ∙ rw (ne_eqb boss x (λ k. ne (sym k))) refl) refl
-          other ne false e = moved_to _ None tt x s s Mark.Out [] [] (stays s Mark.Out out) (rw e refl)
+          other ne false e = moved_to _ None tt x s s Mark.Out [] [] (mark_stays s Mark.Out out) (rw e refl)
               (ap (found request_in) (sent_to-one x boss set_lock) ∙ rw (ne_eqb boss x (λ k. ne (sym k))) refl) refl
 
   -- the registrar hears an answer; the boss's grant opens the round to the rest
@@ -263,7 +263,7 @@ module _ (o : Opening) (a : ℕ) (w : World) (I : Proper o w) (L : Locks o w) (u
                 ∙ ap (at r.mark f (if granted then Mark.Granted else Mark.Refused)) e
                 ∙ at_same r.mark f (if granted then Mark.Granted else Mark.Refused))
                 refl (heard_here x e)
-            | inr ne ↦ moved_to u t front x s s (r.mark x) [] [] (stays s (r.mark x) (fit x s S))
+            | inr ne ↦ moved_to u t front x s s (r.mark x) [] [] (mark_stays s (r.mark x) (fit x s S))
                 (ap (λ (y : Round). y.mark x) is_marked
                 ∙ at_other r.mark f (if granted then Mark.Granted else Mark.Refused) x ne) refl (heard_other x ne)
           ]
@@ -341,7 +341,7 @@ module _ (o : Opening) (a : ℕ) (w : World) (I : Proper o w) (L : Locks o w) (u
 
       move : (x : ℕ) → IsUp o w x → (s : Stage) → Session w a x s → AsRequester o a w up u None tt x s
       move x ux s S = moved_to u None tt x s s (r.mark x) [] []
-          (stays s (r.mark x) (now_fits (Current.Asking op r) cur x s S))
+          (mark_stays s (r.mark x) (now_fits (Current.Asking op r) cur x s S))
           (at_other r.mark d (mark_down (r.mark d)) x (other x ux)) refl refl
 
   -- the round is given up

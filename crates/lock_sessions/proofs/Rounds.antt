@@ -31,11 +31,11 @@ is_asked Returning e = record { mark = refl; requests = refl; answers = refl; sh
 is_asked _ e = cc
 
 -- nothing is sent or heard
-pub stays : (s : Stage) (m : Mark) → fits s m ≡ true → Moved s s m [] []
-stays Returning m e = record { mark = e; requests = refl; answers = refl; share = refl }
-stays AskedAgain m e = record { mark = e; requests = refl; answers = refl; share = refl }
-stays Asked m e = record { mark = e; requests = refl; answers = refl; share = refl }
-stays _ m e = record { mark = e; requests = refl; answers = refl; share = refl }
+pub mark_stays : (s : Stage) (m : Mark) → fits s m ≡ true → Moved s s m [] []
+mark_stays Returning m e = record { mark = e; requests = refl; answers = refl; share = refl }
+mark_stays AskedAgain m e = record { mark = e; requests = refl; answers = refl; share = refl }
+mark_stays Asked m e = record { mark = e; requests = refl; answers = refl; share = refl }
+mark_stays _ m e = record { mark = e; requests = refl; answers = refl; share = refl }
 
 -- it gets the lock back
 pub gets_back : (s : Stage) → fits s Mark.Granted ≡ true → Moved s Returning Mark.Out (Returns ∷ []) []
@@ -96,8 +96,8 @@ held_fits s Mark.Gone f o r l = absurd (gone_fits s f)
 -- the round is given up: who granted gets the lock back
 pub gives_up : (s : Stage) (m : Mark) → fits s m ≡ true → is_owes m ≡ false
     → (e : Stage) × Moved s e Mark.Out (if is_granted m then Returns ∷ [] else []) []
-gives_up s Mark.Out f o = (s, stays s Mark.Out f)
-gives_up s Mark.Later f o = (s, stays s Mark.Out (later_fits s f))
+gives_up s Mark.Out f o = (s, mark_stays s Mark.Out f)
+gives_up s Mark.Later f o = (s, mark_stays s Mark.Out (later_fits s f))
 gives_up s Mark.Owes f o = cc
 gives_up s Mark.Granted f o = (Returning, gets_back s f)
 gives_up s Mark.Refused f o = (Free, is_forgotten s f)
@@ -107,7 +107,7 @@ gives_up s Mark.Gone f o = absurd (gone_fits s f)
 -- the boss has granted: who was to be asked later is asked
 pub asks_more : (s : Stage) (m : Mark) → fits s m ≡ true → is_unasked m ≡ true
     → (e : Stage) × Moved s e (asked_too m) (if not (is_out m) then Asks ∷ [] else []) []
-asks_more s Mark.Out f u = (s, stays s Mark.Out f)
+asks_more s Mark.Out f u = (s, mark_stays s Mark.Out f)
 asks_more s Mark.Later f u = (asked_at s, is_asked s (later_fits s f))
 asks_more s Mark.Gone f u = absurd (gone_fits s f)
 asks_more s _ f u = cc
@@ -116,7 +116,7 @@ asks_more s _ f u = cc
 pub finishes : (s : Stage) (b : Bool) → fits s (if b then Mark.Granted else Mark.Out) ≡ true
     → (e : Stage) × Moved s e Mark.Out (if b then Returns ∷ [] else []) []
 finishes s true f = (Returning, gets_back s f)
-finishes s false f = (s, stays s Mark.Out f)
+finishes s false f = (s, mark_stays s Mark.Out f)
 
 -- a node that is asked judges: it sends g, and its share is the requester's from then on where it grants
 pub record Judged (s e : Stage) (g : Bool) : Type 0 where

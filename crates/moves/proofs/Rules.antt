@@ -15,13 +15,13 @@ use Rattle.protocol_model.specs.LockTable.{is_free_for, drop_holder}
 use Rattle.protocol_model.specs.Watch.{is_live, is_issued, is_dead, next_serial, with_dead, owed}
 use Rattle.protocol_model.specs.Node.{Node, Op, Current, LockPhase, LockCall, call_of, drop_call, targets, holds_global, wrote}
 use Rattle.protocol_model.specs.Event.{Call, Event, Answer, is_join, has_joined}
-use Rattle.protocol_model.specs.Turn.{Turn, begun, with_replica, with_locks, with_watch, with_calls, with_queue, at_work, counted, keep_call, send, send_all, enter, reply_with}
+use Rattle.protocol_model.specs.Turn.{Turn, begun, with_replica, with_locks, with_watch, with_calls, with_queue, at_work, count_call, keep_call, send, send_all, enter, reply_with}
 use Rattle.protocol_model.specs.Registrar.{registrar, ask_global, finish, done, write, give_up, ask_rest, contact_left, ask_join}
 use Rattle.protocol_model.specs.Deciding.{admit}
 use Rattle.protocol_model.specs.Client.{in_phase, close_call, ask_lock, give_lock, refuse_lock, ask_back}
 use Rattle.protocol_model.specs.Calling.{die, queued, spawned, looked}
 use Rattle.protocol_model.specs.Reading.{admitted, welcomed, judge, take_back, told_of}
-use Rattle.protocol_model.specs.World.{Opening, in_world, World, left, WorldEvent, At, Deliver, place, join_number, turn_of, apply, opened, closed, accepted}
+use Rattle.protocol_model.specs.World.{Opening, in_world, World, left, WorldEvent, At, Deliver, place, join_number, turn_of, apply, letter_taken, leaver_closed_out, accepted}
 
 -- f: the sender of the letter that is read. Arguments that a test fixes are named, so that proofs have them
 pub data Rule : Type 0 where
@@ -173,9 +173,9 @@ pub record IsOpen (v : Node) (c : LockCall) (now : LockPhase) : Type 0 where
 module _ (o : Opening) (a : ℕ) where
   -- what the node makes of it
   abbrev pub made : (ℕ → ℕ) → Rule → Turn → Turn
-  made number (CallsName c) u = queued o.bound a (Op.Name (u.node.last_call + 1) c) (counted u)
-  made number (CallsJoin m) u = queued o.bound a (Op.Join (u.node.last_call + 1) m) (counted u)
-  made number CallsLock u = counted u
+  made number (CallsName c) u = queued o.bound a (Op.Name (u.node.last_call + 1) c) (count_call u)
+  made number (CallsJoin m) u = queued o.bound a (Op.Join (u.node.last_call + 1) m) (count_call u)
+  made number CallsLock u = count_call u
   made number Spawns u = spawned o.bound a (next_serial u.node.watch) u
   made number (LooksUp look) u = looked o.bound a look (seen_in u.node.replica.table look) u
   made number (Exits p) u = die o.bound a p (enter (Entry.Exit p) u)
@@ -348,11 +348,11 @@ module _ (o : Opening) (a : ℕ) where
   -- the world without the letter that is taken
   abbrev pub without_letter : Option Taken → World → World
   without_letter None w = w
-  without_letter (Some t) w = opened (Deliver t.sender a) w
+  without_letter (Some t) w = letter_taken (Deliver t.sender a) w
 
   -- a node that leaves is closed out
   abbrev pub closed_by : Rule → World → World
-  closed_by Leaves w = closed (At a Event.Leave) w
+  closed_by Leaves w = leaver_closed_out (At a Event.Leave) w
   closed_by _ w = w
 
   -- what the node does by the rule, with what it sends, enters and answers

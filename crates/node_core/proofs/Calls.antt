@@ -7,7 +7,7 @@ use Rattle.protocol_model.specs.Node.{Node, LockCall as AnyLockCall, call_of as 
 use Rattle.protocol_model.specs.Event.{Call as AnyCall, Cause, cause, first_cause}
 use Rattle.protocol_model.specs.Event as refused
 use Rattle.protocol_model.specs.Watch.{is_live}
-use Rattle.protocol_model.specs.Turn.{Turn, counted}
+use Rattle.protocol_model.specs.Turn.{Turn, count_call}
 use Rattle.protocol_model.specs.Calling.{call}
 use Rattle.protocol_model.specs.Client.{try_lock, delete_lock}
 use Rattle.term.specs.declared.lock_id.LockId.{LockId}
@@ -81,7 +81,7 @@ module _ (h h1 k : Held) (t u : Made) (c : LockCall) (p : Process) (id : LockId)
     -- it is
     begins : (id.resource == refused.global_resource) ≡ false
         → turn_of k u ≡ rule (as_call c) (turn_of h1 t)
-        → turn_of k u ≡ rule (by_id (Client id.resource id.requester)) (counted (turn_of h t))
+        → turn_of k u ≡ rule (by_id (Client id.resource id.requester)) (count_call (turn_of h t))
     begins other made = made ∙ ap (λ (d : LockCall). rule (as_call d) (turn_of h1 t)) is
         ∙ ap (λ (i : Id). rule (by_id i) (turn_of h1 t)) (is_client id other)
         ∙ ap (λ (x : Held). rule (by_id (Client id.resource id.requester)) (turn_of x t)) state
@@ -125,7 +125,7 @@ module _ (h h1 k : Held) (t u : Made) (c : LockCall) (p : Process) (id : LockId)
         (subst (λ (y : Held). turn_of k u ≡ delete_lock (bound_of y.world) y.name (as_call c) (turn_of h1 t)) state
         M.turn)
         ∙ ap (λ (r : Retries). delete_lock (bound_of h.world) h.name
-        (record (by_id (Client id.resource id.requester)) { retries = retries_of r }) (counted (turn_of h t))) once
+        (record (by_id (Client id.resource id.requester)) { retries = retries_of r }) (count_call (turn_of h t))) once
         ∙ ap (λ (y : Call). call (bound_of h.world) h.name (h.last_call + 1) (call_of y) (turn_of h t)) (sym same);
   }
     where

@@ -15,7 +15,7 @@ use Rattle.protocol_model.specs.Event.{Call as AnyCall, Event as AnyEvent}
 use Rattle.protocol_model.specs.Watch.{owed, is_live}
 use Rattle.protocol_model.specs.Node.{Op as AnyOp, Current, LockCall, LockPhase, Times, call_of, targets}
 use Rattle.protocol_model.specs.Round.{Round, is_empty, rest, opens, owes, asked, answer, down, is_over, Ending, ending}
-use Rattle.protocol_model.specs.Turn.{Turn, with_replica, with_locks, with_queue, at_work, counted, keep_call, send, send_all, enter, reply_with}
+use Rattle.protocol_model.specs.Turn.{Turn, with_replica, with_locks, with_queue, at_work, count_call, keep_call, send, send_all, enter, reply_with}
 use Rattle.protocol_model.specs.Registrar.{registrar, give_global, answer_op, finish, done, write, decide, ask_rest, await_less, contact_left, lose_contact, ask_join, start, start_next, start_queue, start_free, retry_global}
 use Rattle.protocol_model.specs.Client.{is_spent, one_less, in_phase, new_call, close_call, ask_lock, try_lock, give_lock, refuse_lock, end_lock, end_lock_by, go_on_lock, hear_lock, hear_lock_in, ask_back, delete_lock, owe_less, owe_less_in, lose_node, lose_node_in, retry_in, retry_locks}
 use Rattle.protocol_model.specs.Deciding.{admit, held, end_by, end_round, go_on, hear_answer, lose}
@@ -371,8 +371,8 @@ module _ (n a : ℕ) (number : ℕ → ℕ) where
   calls k AnyCall.Spawn u = refl
   calls k (AnyCall.LookUp look) u = looks look (seen_in u.node.replica.table look) u
   calls k (AnyCall.OnName c) u = refl
-  calls k (AnyCall.SetLock p r q target retries) u = tries (new_call n a k p r q target retries) (counted u)
-  calls k (AnyCall.DelLock p r q target) u = deletes (new_call n a k p r q target (Times 0)) (counted u)
+  calls k (AnyCall.SetLock p r q target retries) u = tries (new_call n a k p r q target retries) (count_call u)
+  calls k (AnyCall.DelLock p r q target) u = deletes (new_call n a k p r q target (Times 0)) (count_call u)
   calls k (AnyCall.JoinBy m) u = refl
 
   pub event_numbered : (world : Nodes) (e : AnyEvent) → Passes (event n a world e)

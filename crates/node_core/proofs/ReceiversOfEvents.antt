@@ -12,7 +12,7 @@ use Rattle.protocol_model.specs.Letter.{Letter as AnyLetter}
 use Rattle.protocol_model.specs.Event.{Call as AnyCall, Event as AnyEvent}
 use Rattle.protocol_model.specs.Node.{Op as AnyOp, Current, LockPhase, Times}
 use Rattle.protocol_model.specs.Round.{greatest}
-use Rattle.protocol_model.specs.Turn.{Turn, begun, counted, enter}
+use Rattle.protocol_model.specs.Turn.{Turn, begun, count_call, enter}
 use Rattle.protocol_model.specs.Registrar.{retry_global}
 use Rattle.protocol_model.specs.Client.{new_call, retry_locks}
 use Rattle.protocol_model.specs.Calling.{event, call, die}
@@ -66,9 +66,9 @@ module _ {n a : ℕ} {world : Nodes} where
   calls_for k (ReRegister x p) u of W = numbers k (NameCall.ReRegister x p) u W
   calls_for k (Unregister x) u of W = numbers k (NameCall.Unregister x) u W
   calls_for k (SetsLock p id nodes retries) u of W =
-      tries (new_call n a k p id.resource id.requester (target_of nodes) (retries_of retries)) (counted u) W
+      tries (new_call n a k p id.resource id.requester (target_of nodes) (retries_of retries)) (count_call u) W
   calls_for k (DeletesLock p id nodes) u of W =
-      deletes (new_call n a k p id.resource id.requester (target_of nodes) (Times 0)) (counted u) W
+      deletes (new_call n a k p id.resource id.requester (target_of nodes) (Times 0)) (count_call u) W
 
   -- what an exit does
   exits : (p : Process) (u : Turn) → IsWithin n a world u → IsWithin n a world (event n a world (AnyEvent.Exiting p) u)

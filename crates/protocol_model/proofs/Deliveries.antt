@@ -9,7 +9,7 @@ use Rattle.registry_model.proofs.Lists.{Contains-cases, Contains-front, Contains
 use Rattle.protocol_model.specs.Links.{is_nil}
 use Rattle.protocol_model.specs.Letter.{Letter}
 use Rattle.protocol_model.specs.Event.{Answer, Refusal}
-use Rattle.protocol_model.specs.World.{Opening, in_world, World, left, WorldEvent, Deliver, refusal, happens, run, all_answers, next_delivery, settle}
+use Rattle.protocol_model.specs.World.{Opening, in_world, World, left, WorldEvent, Deliver, refusal, happens, run, all_answers, next_delivery, deliveries_left}
 use Rattle.protocol_model.specs.Leftovers.{IsQuiet}
 use Rattle.protocol_model.specs.Script.{Line, Output, Said, Settled, settled, printed}
 use Rattle.protocol_model.specs.Delivering.{LetterWaits, IsFirstDelivery, DeliversTheFirst}
@@ -203,24 +203,24 @@ module _ (o : Opening) where
   -- the deliveries of `settle`, where the next is this
   abbrev settle_by : ℕ → World → Option WorldEvent → List WorldEvent
   settle_by most w None = []
-  settle_by most w (Some e) = e ∷ settle o most (happens o w e)
+  settle_by most w (Some e) = e ∷ deliveries_left o most (happens o w e)
 
-  settle_is : (most : ℕ) (w : World) → settle o (suc most) w ≡ settle_by most w (next_delivery o w)
+  settle_is : (most : ℕ) (w : World) → deliveries_left o (suc most) w ≡ settle_by most w (next_delivery o w)
   settle_is most w = go (next_delivery o w)
     where
       go : (x : Option WorldEvent) → elim x as (λ _. List WorldEvent)
-          [ None ↦ [] | Some e ↦ e ∷ settle o most (happens o w e) ] ≡ settle_by most w x
+          [ None ↦ [] | Some e ↦ e ∷ deliveries_left o most (happens o w e) ] ≡ settle_by most w x
       go None = refl
       go (Some e) = refl
 
   each_first : (most : ℕ) (w : World) (before after : List WorldEvent) (e : WorldEvent)
-      → settle o most w ≡ before ++ e ∷ after → IsFirstDelivery o (run o w before) e
+      → deliveries_left o most w ≡ before ++ e ∷ after → IsFirstDelivery o (run o w before) e
   each_first zero w [] after e h = cc
   each_first zero w (d ∷ before) after e h = cc
   each_first (suc most) w before after e h = go (λ v b i. each_first most v b after e i) (next_delivery o w) refl before
       (sym (settle_is most w) ∙ h)
     where
-      go : ((v : World) (before : List WorldEvent) → settle o most v ≡ before ++ e ∷ after
+      go : ((v : World) (before : List WorldEvent) → deliveries_left o most v ≡ before ++ e ∷ after
           → IsFirstDelivery o (run o v before) e)
           → (x : Option WorldEvent) → next_delivery o w ≡ x → (before : List WorldEvent) → settle_by most w x ≡ before ++ e ∷ after → IsFirstDelivery o (run o w before) e
       go by None i [] h = cc
@@ -228,26 +228,26 @@ module _ (o : Opening) where
       go by (Some d) i [] h = let same : d ≡ e = cc h in next_first o w e (i ∙ ap Some same)
       go by (Some d) i (c ∷ before) h =
           let same : d ≡ c = cc h in
-          let more : settle o most (happens o w d) ≡ before ++ e ∷ after = cc h in
+          let more : deliveries_left o most (happens o w d) ≡ before ++ e ∷ after = cc h in
           subst (λ (v : WorldEvent). IsFirstDelivery o (run o (happens o w v) before) e) same
           (by (happens o w d) before more)
 
-  in_limit : (most : ℕ) (w : World) → length (settle o most w) ≤ most
+  in_limit : (most : ℕ) (w : World) → length (deliveries_left o most w) ≤ most
   in_limit zero w = omega arith
   in_limit (suc most) w = subst (λ (es : List WorldEvent). length es ≤ suc most) (sym (settle_is most w))
       (go (in_limit most) (next_delivery o w))
     where
-      go : ((v : World) → length (settle o most v) ≤ most) → (x : Option WorldEvent) → length (settle_by most w x) ≤ suc most
+      go : ((v : World) → length (deliveries_left o most v) ≤ most) → (x : Option WorldEvent) → length (settle_by most w x) ≤ suc most
       go by None = omega arith
       go by (Some e) = omega (arith, by (happens o w e))
 
-  stops_quiet : (most : ℕ) (w : World) → length (settle o most w) < most → IsQuiet o (run o w (settle o most w))
+  stops_quiet : (most : ℕ) (w : World) → length (deliveries_left o most w) < most → IsQuiet o (run o w (deliveries_left o most w))
   stops_quiet zero w h = absurd (omega (arith, h))
   stops_quiet (suc most) w h = subst (λ (es : List WorldEvent). IsQuiet o (run o w es)) (sym (settle_is most w))
       (go (stops_quiet most) (next_delivery o w) refl
       (subst (λ (es : List WorldEvent). length es < suc most) (settle_is most w) h))
     where
-      go : ((v : World) → length (settle o most v) < most → IsQuiet o (run o v (settle o most v)))
+      go : ((v : World) → length (deliveries_left o most v) < most → IsQuiet o (run o v (deliveries_left o most v)))
           → (x : Option WorldEvent) → next_delivery o w ≡ x → length (settle_by most w x) < suc most
           → IsQuiet o (run o w (settle_by most w x))
       go by None i l = (next_quiet o w).0 i

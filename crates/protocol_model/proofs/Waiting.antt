@@ -11,7 +11,7 @@ use Rattle.protocol_model.specs.LockTable.{is_free_for}
 use Rattle.protocol_model.specs.Watch.{is_live, owed}
 use Rattle.protocol_model.specs.Node.{Node, Op, Current, LockPhase, LockCall, Times, call_of, targets}
 use Rattle.protocol_model.specs.Event.{Call, Event}
-use Rattle.protocol_model.specs.Turn.{Turn, begun, at_work, counted}
+use Rattle.protocol_model.specs.Turn.{Turn, begun, at_work, count_call}
 use Rattle.protocol_model.specs.Registrar.{registrar, done, ask_rest, await_less, contact_left, lose_contact, start_queue, start_next, start_free, start, retry_global}
 use Rattle.protocol_model.specs.Deciding.{held, end_by, go_on, hear_answer, lose}
 use Rattle.protocol_model.specs.Client.{is_spent, one_less, try_lock, end_lock_by, go_on_lock, hear_lock_in, hear_lock, owe_less_in, owe_less, lose_node_in, lose_node, retry_in, retry_locks, new_call, delete_lock}
@@ -142,8 +142,8 @@ module _ (n a : ℕ) where
   called k Call.Spawn u = refl
   called k (Call.LookUp look) u = refl
   called k (Call.OnName c) u = refl
-  called k (Call.SetLock p r q target retries) u = tried (new_call n a k p r q target retries) (counted u)
-  called k (Call.DelLock p r q target) u = deleted (new_call n a k p r q target (Times 0)) (counted u)
+  called k (Call.SetLock p r q target retries) u = tried (new_call n a k p r q target retries) (count_call u)
+  called k (Call.DelLock p r q target) u = deleted (new_call n a k p r q target (Times 0)) (count_call u)
   called k (Call.JoinBy m) u = refl
 
   retried : (c : Current) (u : Turn) → u.node.current ≡ c → Keeps u.node.current (retry_global n a c u).node.current

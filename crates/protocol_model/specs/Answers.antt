@@ -104,9 +104,9 @@ pub record IsNextProcess (ps : List Played) (dead : Process → Bool) (a : ℕ) 
   pub home : q.node ≡ a
   pub serial : 0 < q.serial
   pub alive : dead q ≡ false
-  pub above : (r : Process) → r.node ≡ a → WasSpawned ps r → r.serial < q.serial
-  pub between : (r : Process) → r.node ≡ a → 0 < r.serial → r.serial < q.serial →
-      ((s : Process) → s.node ≡ a → WasSpawned ps s → s.serial < r.serial) → dead r ≡ true
+  pub above : (spawned : Process) → spawned.node ≡ a → WasSpawned ps spawned → spawned.serial < q.serial
+  pub between : (skipped : Process) → skipped.node ≡ a → 0 < skipped.serial → skipped.serial < q.serial →
+      ((spawned : Process) → spawned.node ≡ a → WasSpawned ps spawned → spawned.serial < skipped.serial) → dead skipped ≡ true
 
 -- the replies that a numbered call may have
 abbrev pub may_have : Call → Reply → Bool

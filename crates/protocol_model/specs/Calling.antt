@@ -8,7 +8,7 @@ use Rattle.protocol_model.specs.Letter.{Letter}
 use Rattle.protocol_model.specs.Watch.{is_live, next_serial, with_spawned, with_dead}
 use Rattle.protocol_model.specs.Node.{Op, Times, drop_call}
 use Rattle.protocol_model.specs.Event.{Call, Event}
-use Rattle.protocol_model.specs.Turn.{Turn, with_watch, with_calls, with_queue, counted, send_all, enter, reply_with}
+use Rattle.protocol_model.specs.Turn.{Turn, with_watch, with_calls, with_queue, count_call, send_all, enter, reply_with}
 use Rattle.protocol_model.specs.Registrar.{start, retry_global}
 use Rattle.protocol_model.specs.Client.{new_call, try_lock, delete_lock, retry_locks}
 
@@ -38,10 +38,10 @@ module _ (n a : ℕ) where
   abbrev pub call : ℕ → Call → Turn → Turn
   call k Call.Spawn u = spawned (next_serial u.node.watch) u
   call k (Call.LookUp look) u = looked look (seen_in u.node.replica.table look) u
-  call k (Call.OnName c) u = queued (Op.Name k c) (counted u)
-  call k (Call.SetLock p r q target retries) u = try_lock n a (new_call n a k p r q target retries) (counted u)
-  call k (Call.DelLock p r q target) u = delete_lock n a (new_call n a k p r q target (Times 0)) (counted u)
-  call k (Call.JoinBy m) u = queued (Op.Join k m) (counted u)
+  call k (Call.OnName c) u = queued (Op.Name k c) (count_call u)
+  call k (Call.SetLock p r q target retries) u = try_lock n a (new_call n a k p r q target retries) (count_call u)
+  call k (Call.DelLock p r q target) u = delete_lock n a (new_call n a k p r q target (Times 0)) (count_call u)
+  call k (Call.JoinBy m) u = queued (Op.Join k m) (count_call u)
 
   module _ (world : Nodes) where
     -- what an accepted event does; a leave says `Down` to every other node, and is the last step of its node

@@ -14,7 +14,7 @@ use Rattle.protocol_model.specs.Links.{is_nil}
 use Rattle.protocol_model.specs.Event.{Call, Event, Answer, Refusal, HoldsLock}
 use Rattle.protocol_model.specs.World.{Opening, in_world, in_cluster, World, WorldEvent, At, opening_world, place, refusal, happens, holder}
 use Rattle.protocol_model.specs.Course.{Played, played, entries_of, answers_of, global_given}
-use Rattle.protocol_model.specs.Fit.{accepted_at, decided_at, is_exit, is_left, is_told, is_read, exit_of, left_of, told_of, maker_of, is_by_letter, is_delivery}
+use Rattle.protocol_model.specs.Fit.{accepted_at, decided_at, is_exit, is_left, is_told, is_read, exit_of, left_of, notice_of, maker_of, is_by_letter, is_delivery}
 use Rattle.protocol_model.specs.Answers.{answer_to, answers_at, entered_at, is_prompt, due, is_admission_of, is_unnumbered, may_have, calls_at, answers_under}
 use Rattle.protocol_model.specs.Script.{Row, output, events}
 use Rattle.protocol_model.specs.Tests.{are_nodes, is_list, is_prefix, is_replica, is_numbered_call, is_look, is_answer, are_entries}
@@ -27,7 +27,7 @@ fits o ps =
     (λ a. not (is_prefix is_numbered_call (flat_map (decided_at a) (entries_of ps)) (accepted_at a ps)))
     && are_entries (filter is_exit (entries_of ps)) (flat_map exit_of ps)
     && are_entries (filter is_left (entries_of ps)) (flat_map left_of ps)
-    && are_entries (filter is_told (entries_of ps)) (flat_map told_of ps)
+    && are_entries (filter is_told (entries_of ps)) (flat_map notice_of ps)
 
 -- the entry is made by the node of its step, and by a letter where it needs one
 abbrev pub is_made_in : Played → Entry → Bool

@@ -26,8 +26,8 @@ tried_again members None = None
 tried_again members (Some t) = Some (try_of members t.number t.id t.target)
 
 -- the lock call of p was refused, and waits for a retry
-abbrev pub is_refused : World → Process → Bool
-is_refused w p = elim (call_of p (w.node p.node).calls) [ None ↦ false | Some c ↦ is_waiting_call c.phase ]
+abbrev pub waits_for_retry : World → Process → Bool
+waits_for_retry w p = elim (call_of p (w.node p.node).calls) [ None ↦ false | Some c ↦ is_waiting_call c.phase ]
 
 -- the last try of p, which was t before this accepted event: its `set_lock` begins one, and so does a retry where it was refused
 abbrev pub last_try : World → WorldEvent → Process → Option Try → Option Try
@@ -36,7 +36,7 @@ last_try w e p t = elim e [
       if is_process q p
       then Some (try_of (w.node a).replica.members ((w.node a).last_call + 1) (Client r z) target)
       else t
-  | At a Event.Retry ↦ if (a == p.node) && is_refused w p then tried_again (w.node a).replica.members t else t
+  | At a Event.Retry ↦ if (a == p.node) && waits_for_retry w p then tried_again (w.node a).replica.members t else t
   | _ ↦ t
 ]
 
@@ -57,46 +57,46 @@ gives w e p id c = elim e [
   | _ ↦ false
 ]
 
--- p is dead at its node, or its node has left
-abbrev pub is_gone : World → Process → Bool
-is_gone w p = left w p.node || is_dead (w.node p.node).watch p.serial
+-- p is no more: it is dead at its node, or its node has left
+abbrev pub is_no_more : World → Process → Bool
+is_no_more w p = left w p.node || is_dead (w.node p.node).watch p.serial
 
 -- how often p holds a lock at a node, and its last try
 pub record Tally : Type 0 where
   pub number : ℕ
   pub last : Option Try
 
--- what an accepted event makes of a number k, where t is p's last try: one more where its `set_lock` is answered `true` and the
+-- what an accepted event makes of a count n, where t is p's last try: one more where its `set_lock` is answered `true` and the
 -- try had to ask c, one less where its `del_lock` goes to c, and none for good where it is gone
-abbrev pub counted : Opening → World → WorldEvent → Process → Id → ℕ → Option Try → ℕ → ℕ
-counted o w e p id c t k =
-    if is_gone (happens o w e) p
+abbrev pub next_count : Opening → World → WorldEvent → Process → Id → ℕ → Option Try → ℕ → ℕ
+next_count o w e p id c t n =
+    if is_no_more (happens o w e) p
     then 0
-    else (if is_won p id c (answers o w e) t then k + 1 else (if gives w e p id c then k - 1 else k))
+    else (if is_won p id c (answers o w e) t then n + 1 else (if gives w e p id c then n - 1 else n))
 
 -- behind an accepted event
 abbrev pub tallied : Opening → World → WorldEvent → Process → Id → ℕ → Tally → Tally
-tallied o w e p id c k = record {
-  number = counted o w e p id c (last_try w e p k.last) k.number;
-  last = last_try w e p k.last;
+tallied o w e p id c tally = record {
+  number = next_count o w e p id c (last_try w e p tally.last) tally.number;
+  last = last_try w e p tally.last;
 }
 
 -- a refused event changes nothing
 abbrev pub tally_after : Opening → World → WorldEvent → Process → Id → ℕ → Tally → Tally
-tally_after o w e p id c k = if is_none (refusal o w e) then tallied o w e p id c k else k
+tally_after o w e p id c tally = if is_none (refusal o w e) then tallied o w e p id c tally else tally
 
 -- behind these events
 abbrev pub tally_from : Opening → World → List WorldEvent → Process → Id → ℕ → Tally → Tally
-tally_from o w [] p id c k = k
-tally_from o w (e ∷ es) p id c k = tally_from o (happens o w e) es p id c (tally_after o w e p id c k)
+tally_from o w [] p id c tally = tally
+tally_from o w (e ∷ es) p id c tally = tally_from o (happens o w e) es p id c (tally_after o w e p id c tally)
 
 -- how often p holds the lock at c. It is a function of the opening and the events alone: they determine answers and members
-abbrev pub number : Opening → List WorldEvent → Process → Id → ℕ → ℕ
-number o es p id c = (tally_from o (opening_world o) es p id c (record { number = 0; last = None })).number
+abbrev pub holds_count : Opening → List WorldEvent → Process → Id → ℕ → ℕ
+holds_count o es p id c = (tally_from o (opening_world o) es p id c (record { number = 0; last = None })).number
 
 -- p holds the lock at c
 abbrev pub Holds : Opening → List WorldEvent → Process → Id → ℕ → Type 0
-Holds o es p id c = 0 < number o es p id c
+Holds o es p id c = 0 < holds_count o es p id c
 
 -- behind these events, of which the world is w, no resource is held under two requesters at a running node
 abbrev pub ExclusionAfter : Opening → List WorldEvent → World → Type 0

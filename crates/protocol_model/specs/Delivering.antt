@@ -1,7 +1,7 @@
 -- What it means to deliver: the first letter that waits is delivered, and so on until none waits.
 use mathlib.Core.Logic.{◌⊎◌}
 use Rattle.std.specs.Prelude.{ℕ, true, ◌≡◌, ◌<◌, ◌≤◌, ◌↔◌, Contains, Some, None, length, List, [], ◌∷◌, ◌++◌}
-use Rattle.protocol_model.specs.World.{Opening, in_world, World, WorldEvent, Deliver, run, next_delivery, settle}
+use Rattle.protocol_model.specs.World.{Opening, in_world, World, WorldEvent, Deliver, run, next_delivery, deliveries_left}
 use Rattle.protocol_model.specs.Leftovers.{Runs, IsQuiet}
 use Rattle.protocol_model.specs.Script.{Line, Output, printed}
 
@@ -25,11 +25,11 @@ pub record DeliversTheFirst (o : Opening) (w : World) : Type 0 where
   pub none : (next_delivery o w ≡ None) ↔ IsQuiet o w
   pub some : (e : WorldEvent) → next_delivery o w ≡ Some e → IsFirstDelivery o w e
   -- each delivery of `settle` is the first in the world behind those before it
-  pub each : (most : ℕ) (before after : List WorldEvent) (e : WorldEvent) → settle o most w ≡ before ++ e ∷ after →
+  pub each : (most : ℕ) (before after : List WorldEvent) (e : WorldEvent) → deliveries_left o most w ≡ before ++ e ∷ after →
       IsFirstDelivery o (run o w before) e
   -- there are no more than are allowed, and where there are fewer the world behind them is quiet
-  pub limit : (most : ℕ) → length (settle o most w) ≤ most
-  pub stops : (most : ℕ) → length (settle o most w) < most → IsQuiet o (run o w (settle o most w))
+  pub limit : (most : ℕ) → length (deliveries_left o most w) ≤ most
+  pub stops : (most : ℕ) → length (deliveries_left o most w) < most → IsQuiet o (run o w (deliveries_left o most w))
   -- behind its events a script's line `settle` prints `settled` exactly where the world is quiet then
   pub prints : (most : ℕ) (es : List WorldEvent) →
       Contains (printed o most w Line.Settle es) Output.Settled ↔ IsQuiet o (run o w es)

@@ -71,8 +71,8 @@ abbrev pub left_of : Played → List Entry
 left_of p = elim p.event [ At a Event.Leave ↦ Entry.Left a ∷ [] | _ ↦ [] ]
 
 -- the entry of a `Down` that was delivered
-abbrev pub told_of : Played → List Entry
-told_of p = elim p.event [ Deliver d a ↦ if p.down then Entry.Told a d ∷ [] else [] | _ ↦ [] ]
+abbrev pub notice_of : Played → List Entry
+notice_of p = elim p.event [ Deliver d a ↦ if p.down then Entry.Told a d ∷ [] else [] | _ ↦ [] ]
 
 -- the node that makes an entry: that of the operation or of the event; for a join its contact, but the joiner where the contact
 -- has left
@@ -117,4 +117,4 @@ pub record Fits (ps : List Played) : Type 0 where
   -- all accepted exits and leaves and all delivered notices are entered, in order, and no others
   pub exits : filter is_exit (entries_of ps) ≡ flat_map exit_of ps
   pub departures : filter is_left (entries_of ps) ≡ flat_map left_of ps
-  pub notices : filter is_told (entries_of ps) ≡ flat_map told_of ps
+  pub notices : filter is_told (entries_of ps) ≡ flat_map notice_of ps

@@ -12,7 +12,7 @@ use Rattle.protocol_model.specs.Round.{Round}
 use Rattle.protocol_model.specs.Node.{Op, Current}
 use Rattle.protocol_model.specs.World.{Opening, in_world, in_cluster, World, left, WorldEvent, opening_world, happens, run}
 use Rattle.protocol_model.specs.Course.{global_given}
-use Rattle.protocol_model.specs.ClientLocks.{is_gone, number, Holds}
+use Rattle.protocol_model.specs.ClientLocks.{is_no_more, holds_count, Holds}
 
 -- node c is of the world and hasn't left
 abbrev pub Runs : Opening → World → ℕ → Type 0
@@ -50,12 +50,12 @@ world o es = run o (opening_world o) es
 module _ (o : Opening) (es : List WorldEvent) (w : World) where
   -- At any time a running node's lock table has each lock for each process at least as often as the process holds it
   abbrev pub HeldLocksStand : Type 0
-  HeldLocksStand = (c : ℕ) → Runs o w c → (id : Id) (p : Process) → number o es p id c ≤ count id p (w.node c).locks
+  HeldLocksStand = (c : ℕ) → Runs o w c → (id : Id) (p : Process) → holds_count o es p id c ≤ count id p (w.node c).locks
 
   -- In a quiet world it has each lock for each process exactly so often
   abbrev pub LocksAreAsTold : Type 0
   LocksAreAsTold = (c : ℕ) → IsQuiet o w → Runs o w c → (id : Id) (p : Process) →
-      count id p (w.node c).locks ≡ number o es p id c
+      count id p (w.node c).locks ≡ holds_count o es p id c
 
   -- and lists no grant but those of locks that are held
   abbrev pub NoEmptyGrants : Type 0
@@ -68,14 +68,14 @@ module _ (o : Opening) (es : List WorldEvent) (w : World) where
   -- In a quiet world no lock of a process that is dead, or whose node has left, stands at a running node
   abbrev pub DeadHoldersHoldNothing : Type 0
   DeadHoldersHoldNothing = (c : ℕ) → IsQuiet o w → Runs o w c → (g : Grant) → Contains (w.node c).locks g →
-      is_gone w g.holder ≡ false
+      is_no_more w g.holder ≡ false
 
   -- In a quiet world a running node grants a lock to whoever asks for it, unless its resource is held there under another
   -- requester or it is held as often as can be
   abbrev pub FreeLocksAreGranted : Type 0
   FreeLocksAreGranted = (c : ℕ) → IsQuiet o w → Runs o w c → (id : Id) (p : Process) →
       ((q : Process) (i : Id) → Holds o es q i c → is_resource i id ≡ true → is_id i id ≡ true) →
-      number o es p id c < last_count → is_free_for id p (w.node c).locks ≡ true
+      holds_count o es p id c < last_count → is_free_for id p (w.node c).locks ≡ true
 
   -- At any time who is dead at its node is dead in the registry
   abbrev pub DeathsAreKnown : Type 0
@@ -98,7 +98,7 @@ module _ (o : Opening) (es : List WorldEvent) (w : World) where
   -- In a settled world no running node has a name of a process that is dead at its node
   abbrev pub DeadOwnersOwnNothing : Type 0
   DeadOwnersOwnNothing = (c : ℕ) → IsSettled o w → Runs o w c → (pair : Pair) → Contains (w.node c).replica.table pair →
-      is_gone w pair.owner ≡ false
+      is_no_more w pair.owner ≡ false
 
   -- nor of one that is dead in the registry
   abbrev pub KnownDeadOwnNothing : Type 0

@@ -13,7 +13,7 @@ use Rattle.protocol_model.specs.Event.{Call, Event, Answer}
 use Rattle.protocol_model.specs.World.{Opening, in_world, World, left, WorldEvent, At, Deliver, opening_world, refusal, happens, answers, run}
 use Rattle.protocol_model.specs.Course.{course, standing, seen}
 use Rattle.protocol_model.specs.Answers.{holder_in, calls_at, answers_under}
-use Rattle.protocol_model.specs.ClientLocks.{Try, try_of, is_refused, is_gone, number, ExclusionAfter}
+use Rattle.protocol_model.specs.ClientLocks.{Try, try_of, waits_for_retry, is_no_more, holds_count, ExclusionAfter}
 use Rattle.protocol_model.specs.Leftovers.{IsQuiet}
 use Rattle.protocol_model.specs.QuietCalls.{QuietCallsAreTold, QuietCallsAreAnswered}
 
@@ -62,7 +62,7 @@ tries_in o w e p t (At a (Event.Calling (Call.SetLock q r z target retries))) =
     then first_try o w e p (try_of (w.node a).replica.members ((w.node a).last_call + 1) (Client r z) target) retries
     else watched o w e p t
 tries_in o w e p t (At a Event.Retry) =
-    if (a == p.node) && is_refused w p then next_try o w e p (w.node a).replica.members t else watched o w e p t
+    if (a == p.node) && waits_for_retry w p then next_try o w e p (w.node a).replica.members t else watched o w e p t
 tries_in o w e p t _ = watched o w e p t
 
 -- what an accepted event makes of it
@@ -90,7 +90,7 @@ pub record Deletion : Type 0 where
 
 -- what an accepted event makes of it
 abbrev pub deletion_by : World → WorldEvent → Process → Option Deletion → Option Deletion
-deletion_by w e p d = elim e [
+deletion_by w e p deletion = elim e [
   | At a (Event.Calling (Call.DelLock q r z target)) ↦
       if is_process q p
       then Some (record {
@@ -98,16 +98,16 @@ deletion_by w e p d = elim e [
         id = Client r z;
         nodes = targets (w.node a).replica.members target;
       })
-      else d
-  | _ ↦ d
+      else deletion
+  | _ ↦ deletion
 ]
 
 abbrev pub deletion_after : Opening → World → WorldEvent → Process → Option Deletion → Option Deletion
-deletion_after o w e p d = if is_none (refusal o w e) then deletion_by w e p d else d
+deletion_after o w e p deletion = if is_none (refusal o w e) then deletion_by w e p deletion else deletion
 
 abbrev pub deletion_from : Opening → World → List WorldEvent → Process → Option Deletion → Option Deletion
-deletion_from o w [] p d = d
-deletion_from o w (e ∷ es) p d = deletion_from o (happens o w e) es p (deletion_after o w e p d)
+deletion_from o w [] p deletion = deletion
+deletion_from o w (e ∷ es) p deletion = deletion_from o (happens o w e) es p (deletion_after o w e p deletion)
 
 abbrev pub deletion_of : Opening → List WorldEvent → Process → Option Deletion
 deletion_of o es p = deletion_from o (opening_world o) es p None
@@ -143,7 +143,7 @@ module _ (o : Opening) (es : List WorldEvent) (w : World) (e : WorldEvent) where
   abbrev pub AnswersTheLiving : Type 0
   AnswersTheLiving = (s : Answer) (call : Call) (p : Process) → Contains (answers o w e) s →
       IsCallOf o (es ++ e ∷ []) s.node s.number call → holder_in call ≡ Some p →
-      (is_gone w p ≡ false) × (is_gone (happens o w e) p ≡ false)
+      (is_no_more w p ≡ false) × (is_no_more (happens o w e) p ≡ false)
 
   -- `false` is answered where all retries are used up, or where there is nobody to ask
   abbrev pub UsesAllRetries : Type 0
@@ -168,9 +168,9 @@ module _ (o : Opening) (es : List WorldEvent) (w : World) (e : WorldEvent) where
 
   -- where a `del_lock` is answered, each running node that it went to has the lock for p as often as p holds it there
   abbrev pub IsGivenBack : Type 0
-  IsGivenBack = (p : Process) (d : Deletion) (s : Answer) (c : ℕ) → deletion_of o (es ++ e ∷ []) p ≡ Some d →
-      Answers o w e p d.number s → d.nodes c ≡ true → in_world o c ≡ true → left (happens o w e) c ≡ false →
-      count d.id p ((happens o w e).node c).locks ≡ number o (es ++ e ∷ []) p d.id c
+  IsGivenBack = (p : Process) (deletion : Deletion) (s : Answer) (c : ℕ) → deletion_of o (es ++ e ∷ []) p ≡ Some deletion →
+      Answers o w e p deletion.number s → deletion.nodes c ≡ true → in_world o c ≡ true → left (happens o w e) c ≡ false →
+      count deletion.id p ((happens o w e).node c).locks ≡ holds_count o (es ++ e ∷ []) p deletion.id c
 
   -- What the answers of this step say to those who called for locks
   pub record LockAnswers : Type 0 where
@@ -198,18 +198,18 @@ pub record WaitsForRetry (o : Opening) (es : List WorldEvent) (w : World) (p : P
   pub call : IsUnanswered o es p tries
   pub failed : tries.met ≡ true
   pub more : AreUsedUp tries → ⊥
-  pub retry : is_gone w p ≡ false → (seen o w).refusal (At p.node Event.Retry) ≡ None
+  pub retry : is_no_more w p ≡ false → (seen o w).refusal (At p.node Event.Retry) ≡ None
 
 -- Who is refused and who is gone, which tries and numbers read of the world w, is as it is seen
 pub record ReadsTheSeen (o : Opening) (es : List WorldEvent) (w : World) : Type 0 where
   -- a process whose lock call is refused waits for a retry
-  pub refused : (p : Process) → is_refused w p ≡ true → WaitsForRetry o es w p
+  pub refused : (p : Process) → waits_for_retry w p ≡ true → WaitsForRetry o es w p
   -- in a quiet world the last `set_lock` of a process that isn't gone is refused, unless it is answered
-  pub waits : (p : Process) (t : Tries) → IsQuiet o w → is_gone w p ≡ false → tries_of o es p ≡ Some t →
-      answers_under p.node t.last.number (course o (opening_world o) es) ≡ [] → is_refused w p ≡ true
+  pub waits : (p : Process) (t : Tries) → IsQuiet o w → is_no_more w p ≡ false → tries_of o es p ≡ Some t →
+      answers_under p.node t.last.number (course o (opening_world o) es) ≡ [] → waits_for_retry w p ≡ true
   -- a process is gone where its node has left, by the history, or shows that it is dead
   pub gone : (p : Process) →
-      is_gone w p ≡ ((standing o (course o (opening_world o) es)).registry.left p.node || (seen o w).dead p)
+      is_no_more w p ≡ ((standing o (course o (opening_world o) es)).registry.left p.node || (seen o w).dead p)
 
 -- Clients' locks behind the events es, of which the world is w: they exclude each other, they are counted by what is seen, and so
 -- is answered in the step of each event that the world would accept now; where it is quiet, a `set_lock` with no retries is answered

@@ -10,7 +10,7 @@ use Rattle.protocol_model.specs.LockTable.{last_count}
 use Rattle.protocol_model.specs.Node.{Target, Times, targets}
 use Rattle.protocol_model.specs.Event.{Call, Event, Answer}
 use Rattle.protocol_model.specs.World.{Opening, World, WorldEvent, At, Deliver, refusal, all_answers, run}
-use Rattle.protocol_model.specs.ClientLocks.{number, Holds}
+use Rattle.protocol_model.specs.ClientLocks.{holds_count, Holds}
 use Rattle.protocol_model.specs.Leftovers.{IsQuiet}
 
 -- a letter is delivered
@@ -27,7 +27,7 @@ called_once p r z target = At p.node (Event.Calling (Call.SetLock p r z target (
 pub record IsFree (o : Opening) (es : List WorldEvent) (p : Process) (r z : Text) (asks : Nodes) : Type 0 where
   pub somebody : is_empty o.bound asks ≡ false
   pub others : (c : ℕ) (q : Process) (y : Text) → asks c ≡ true → Holds o es q (Client r y) c → y ≡ z
-  pub room : (c : ℕ) → asks c ≡ true → number o es p (Client r z) c < last_count
+  pub room : (c : ℕ) → asks c ≡ true → holds_count o es p (Client r z) c < last_count
 
 -- the reply is `true` where this is so, and else `false`
 abbrev pub Tells : Type 0 → Reply → Type 0

@@ -147,7 +147,7 @@ module _ (o : Opening) (ps : List Played) (now : Seen) (e : WorldEvent) where
     pub node : ℕ
     pub spawn : e ≡ At node (Event.Calling Call.Spawn)
     pub spent : (q : Process) → q.node ≡ node → 0 < q.serial → q.serial ≤ last_u32 →
-        ((s : Process) → s.node ≡ node → WasSpawned ps s → s.serial < q.serial) → now.dead q ≡ true
+        ((spawned : Process) → spawned.node ≡ node → WasSpawned ps spawned → spawned.serial < q.serial) → now.dead q ≡ true
 
   -- a numbered call of a node that has accepted as many as there are numbers, for which nothing else speaks
   pub record IsBeyondCalls : Type 0 where
@@ -156,7 +156,7 @@ module _ (o : Opening) (ps : List Played) (now : Seen) (e : WorldEvent) where
     pub called : e ≡ At node (Event.Calling call)
     pub numbered : is_numbered call ≡ true
     pub spent : length (calls_at node ps) ≡ last_u32
-    pub only : (r : Refusal) → now.refusal e ≡ Some r → r ≡ CallsSpent
+    pub only : (refusal : Refusal) → now.refusal e ≡ Some refusal → refusal ≡ CallsSpent
 
 -- An event is refused so exactly for this reason. A leave is refused as the clause `leave` of the headline says. Two refusals tell
 -- of more than is seen: that a link is empty (`EmptyLink`), and that nothing waits for a retry (`NothingToRetry`). When they come

@@ -4,8 +4,8 @@ use Rattle.registry_model.specs.Process.{Process, nodes_of}
 use Rattle.registry_model.specs.Table.{Table}
 use Rattle.protocol_model.specs.Letter.{Id}
 use Rattle.protocol_model.specs.Event.{Event, Answer, Refusal, NoSuchNode, NodeLeft}
-use Rattle.protocol_model.specs.World.{Opening, in_world, World, left, WorldEvent, At, opening_world, refusal, answers, run, all_answers, next_delivery, settle}
-use Rattle.protocol_model.specs.ClientLocks.{number}
+use Rattle.protocol_model.specs.World.{Opening, in_world, World, left, WorldEvent, At, opening_world, refusal, answers, run, all_answers, next_delivery, deliveries_left}
+use Rattle.protocol_model.specs.ClientLocks.{holds_count}
 use Rattle.protocol_model.specs.LockAnswers.{tries_of}
 
 -- a line of a script
@@ -36,7 +36,7 @@ module _ (o : Opening) (limit : ℕ) where
   -- the events of a line
   abbrev pub events_in : World → Line → List WorldEvent
   events_in w (Play e) = e ∷ []
-  events_in w Settle = settle o limit w
+  events_in w Settle = deliveries_left o limit w
   events_in w (TableAt a) = []
   events_in w (MembersAt a) = []
 
@@ -52,9 +52,9 @@ module _ (o : Opening) (limit : ℕ) where
   okay _ = []
 
   -- an event prints its answers, or why it is refused
-  abbrev pub played : World → WorldEvent → Option Refusal → List Output
-  played w e None = okay e ++ map Said (answers o w e)
-  played w e (Some refusal) = Error refusal ∷ []
+  abbrev pub outputs_of : World → WorldEvent → Option Refusal → List Output
+  outputs_of w e None = okay e ++ map Said (answers o w e)
+  outputs_of w e (Some refusal) = Error refusal ∷ []
 
   -- what stands behind the answers of a `Settle`, by the next delivery, if there is one
   abbrev pub settled : Option WorldEvent → Output
@@ -68,7 +68,7 @@ module _ (o : Opening) (limit : ℕ) where
 
   -- what a line prints, whose events are es
   abbrev pub printed : World → Line → List WorldEvent → List Output
-  printed w (Play e) es = played w e (refusal o w e)
+  printed w (Play e) es = outputs_of w e (refusal o w e)
   printed w Settle es = map Said (all_answers o w es) ++ settled (next_delivery o (run o w es)) ∷ []
   printed w (TableAt a) es = shown_at w a (TableIs (w.node a).replica.table) ∷ []
   printed w (MembersAt a) es = shown_at w a (MembersAre (nodes_of o.bound (w.node a).replica.members)) ∷ []
@@ -92,7 +92,7 @@ first_lines k r = record r { lines = take k r.lines }
 
 -- how often p has the lock of this id at c, behind the first k lines of a row, for each of these k
 abbrev pub numbers_behind : Row → List ℕ → Process → Id → ℕ → List ℕ
-numbers_behind r ks p id c = map (λ k. number r.opening (events (first_lines k r)) p id c) ks
+numbers_behind r ks p id c = map (λ k. holds_count r.opening (events (first_lines k r)) p id c) ks
 
 -- how often the last `set_lock` of p was tried, behind the first k lines of a row, for each of these k
 abbrev pub tried_behind : Row → List ℕ → Process → List (Option ℕ)

@@ -55,8 +55,8 @@ abbrev pub at_work : Current → Turn → Turn
 at_work c u = become (record u.node { current = c }) u
 
 -- one numbered call more
-abbrev pub counted : Turn → Turn
-counted u = become (record u.node { last_call = u.node.last_call + 1 }) u
+abbrev pub count_call : Turn → Turn
+count_call u = become (record u.node { last_call = u.node.last_call + 1 }) u
 
 -- the lock call stands so now
 abbrev pub keep_call : LockCall → Turn → Turn

@@ -92,18 +92,18 @@ apply a u w = record {
 }
 
 -- before its turn, the letter that is delivered is taken
-abbrev pub opened : WorldEvent → World → World
-opened (Deliver f t) w = record w { links = taken f t w.links }
-opened _ w = w
+abbrev pub letter_taken : WorldEvent → World → World
+letter_taken (Deliver f t) w = record w { links = taken f t w.links }
+letter_taken _ w = w
 
 -- after its turn, a node that leaves is closed out
-abbrev pub closed : WorldEvent → World → World
-closed (At a Event.Leave) w = record w { links = closed_out a w.links }
-closed _ w = w
+abbrev pub leaver_closed_out : WorldEvent → World → World
+leaver_closed_out (At a Event.Leave) w = record w { links = closed_out a w.links }
+leaver_closed_out _ w = w
 
 -- what an accepted event makes of the world
 abbrev pub accepted : Opening → World → WorldEvent → World
-accepted o w e = closed e (apply (place e) (turn_of o w e) (opened e w))
+accepted o w e = leaver_closed_out e (apply (place e) (turn_of o w e) (letter_taken e w))
 
 -- an event happens; a refused one changes nothing
 abbrev pub happens : Opening → World → WorldEvent → World
@@ -131,9 +131,9 @@ abbrev pub next_delivery : Opening → World → Option WorldEvent
 next_delivery o w = find (λ e. is_none (refusal o w e)) (deliveries o)
 
 -- the first of these, again and again, until all links are empty; at most this many
-abbrev pub settle : Opening → ℕ → World → List WorldEvent
-settle o zero w = []
-settle o (suc most) w = elim (next_delivery o w) [ None ↦ [] | Some e ↦ e ∷ settle o most (happens o w e) ]
+abbrev pub deliveries_left : Opening → ℕ → World → List WorldEvent
+deliveries_left o zero w = []
+deliveries_left o (suc most) w = elim (next_delivery o w) [ None ↦ [] | Some e ↦ e ∷ deliveries_left o most (happens o w e) ]
 
 -- the running joined node that holds the global lock: the least, though there is at most one
 abbrev pub holder : Opening → World → Option ℕ

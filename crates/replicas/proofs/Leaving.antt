@@ -14,7 +14,7 @@ use Rattle.protocol_model.specs.Watch.{is_dead}
 use Rattle.protocol_model.specs.Node.{Node, Current}
 use Rattle.protocol_model.specs.Reading.{bereft}
 use Rattle.protocol_model.specs.Turn.{Turn, sent_to}
-use Rattle.protocol_model.specs.World.{Opening, in_world, in_cluster, World, At, apply, closed}
+use Rattle.protocol_model.specs.World.{Opening, in_world, in_cluster, World, At, apply, leaver_closed_out}
 use Rattle.protocol_model.specs.Event.{Event}
 use Rattle.registry_model.proofs.Updates.{by_test}
 use Rattle.moves.proofs.Indices.{both}
@@ -171,7 +171,7 @@ module _ (o : Opening) (w : World) (P : Proper o w) (X : Exclusive o w) (J : Joi
   abbrev closed_scene : Scene → Scene
   closed_scene T = record T { gone = at T.gone a true; mail = cleared T.mail }
 
-  scene_of-closed : (w2 : World) → scene_of o (closed (At a Event.Leave) w2) ≡ closed_scene (scene_of o w2)
+  scene_of-closed : (w2 : World) → scene_of o (leaver_closed_out (At a Event.Leave) w2) ≡ closed_scene (scene_of o w2)
   scene_of-closed w2 = ap (λ (mail : ℕ → ℕ → List Letter). record (closed_scene (scene_of o w2)) { mail = mail })
       (fun_ext (λ x. fun_ext (λ y. go x y (y == a))))
     where

@@ -10,13 +10,13 @@ use Rattle.protocol_model.specs.Letter.{Letter}
 use Rattle.protocol_model.specs.Event.{Answer}
 use Rattle.protocol_model.specs.Node.{Node}
 use Rattle.protocol_model.specs.Turn.{Turn, begun}
-use Rattle.protocol_model.specs.World.{Opening, in_world, World, left, Deliver, join_number, apply, opened}
+use Rattle.protocol_model.specs.World.{Opening, in_world, World, left, Deliver, join_number, apply, letter_taken}
 use Rattle.registry_model.proofs.Updates.{at_same}
 use Rattle.moves.proofs.Indices.{both}
 use Rattle.moves.proofs.Rules
 use Rattle.moves.proofs.Rules.{Rule, Taken, taking, is_quiet}
 use Rattle.walk.proofs.Worlds.{onto, apply-onto, apply-begun, opened-apply, stays_front}
-use Rattle.walk.proofs.Extends.{extended}
+use Rattle.walk.proofs.Extends.{turn_extended}
 use Rattle.walk.proofs.ChainKinds.{Kind, suits, may_go_on, is_allowed, leaves_locks, may_begin, is_fit, begin_quiet, begin_allowed, begin_suits, fit_begins, fit_quiet, fit_leaves}
 
 -- a rule that isn't a leave closes nobody out
@@ -97,7 +97,7 @@ gone_by-itself w b a (Some t) h =
 
 -- the one that is delivered is
 pub gone_by-delivery : (w : World) (f a : ℕ) (l : Letter) (rest : List Letter) → w.links.queue f a ≡ l ∷ rest
-    → is_gone_by w (opened (Deliver f a) w) a (taking f l) ≡ true
+    → is_gone_by w (letter_taken (Deliver f a) w) a (taking f l) ≡ true
 gone_by-delivery w f a l rest front =
     rw (eq-eqb f f refl, eq-eqb a a refl, front) (lt-ltb (length rest) (suc (length rest)) (omega arith))
 
@@ -259,7 +259,7 @@ module _ (o : Opening) (a : ℕ) (K : Kind) where
         → Rules.Tested o a (apply a u b) u.node r
         → Chain w first b (Rules.made o a (join_number (apply a u b)) r u)
     chain_more w first b u r running h q none tested =
-        subst (Chain w first b) (sym (extended o a (join_number (apply a u b)) r u))
+        subst (Chain w first b) (sym (turn_extended o a (join_number (apply a u b)) r u))
         (chain_on w first b b u (Rules.made o a (join_number (apply a u b)) r (begun u.node)) r h
         (λ t k. k) (ap (is_gone_by w b a) none) q (may_more b u r running none tested) (turn_behind b u r)
         (effect_more b u r (fit_quiet K r q) none))
@@ -272,7 +272,7 @@ module _ (o : Opening) (a : ℕ) (K : Kind) where
         → Chain w (r ∷ s ∷ []) w
         (Rules.made o a (join_number (apply a (Rules.turn_by o a w r) w)) s (Rules.turn_by o a w r))
     chain_two w r s running m untaken e q none tested =
-        subst (Chain w (r ∷ s ∷ []) w) (sym (extended o a (join_number (apply a u w)) s u)) (record {
+        subst (Chain w (r ∷ s ∷ []) w) (sym (turn_extended o a (join_number (apply a u w)) s u)) (record {
           rest = [];
           quiet = refl;
           fit = refl;
@@ -297,13 +297,13 @@ module _ (o : Opening) (a : ℕ) (K : Kind) where
         → left w a ≡ false → Chain w first w u → is_fit K r ≡ true → Rules.takes o a r ≡ taking f l
         → in_world o f ≡ true → w.links.queue f a ≡ l ∷ rest
         → Rules.Tested o a (apply a u w) u.node r
-        → Chain w first (opened (Deliver f a) w) (Rules.made o a (join_number (apply a u w)) r u)
+        → Chain w first (letter_taken (Deliver f a) w) (Rules.made o a (join_number (apply a u w)) r u)
     chain_letter w first u r f l rest running h q some known front tested =
-        subst (Chain w first (opened (Deliver f a) w)) (sym (extended o a (join_number (apply a u w)) r u))
-        (chain_on w first w (opened (Deliver f a) w) u
+        subst (Chain w first (letter_taken (Deliver f a) w)) (sym (turn_extended o a (join_number (apply a u w)) r u))
+        (chain_on w first w (letter_taken (Deliver f a) w) u
         (Rules.made o a (join_number (apply a u w)) r (begun u.node)) r h
-        (gone_by-itself w (opened (Deliver f a) w) a)
-        (ap (is_gone_by w (opened (Deliver f a) w) a) some ∙ gone_by-delivery w f a l rest front) q may
+        (gone_by-itself w (letter_taken (Deliver f a) w) a)
+        (ap (is_gone_by w (letter_taken (Deliver f a) w) a) some ∙ gone_by-delivery w f a l rest front) q may
         (turn_behind w u r) effect)
       where
         may : Rules.May o a (apply a u w) r
@@ -315,13 +315,13 @@ module _ (o : Opening) (a : ℕ) (K : Kind) where
         }
 
         effect : Rules.effect o a r (apply a u w) ≡ apply a
-            (onto u (Rules.made o a (join_number (apply a u w)) r (begun u.node))) (opened (Deliver f a) w)
+            (onto u (Rules.made o a (join_number (apply a u w)) r (begun u.node))) (letter_taken (Deliver f a) w)
         effect = closed_by-quiet o a r
             (apply a (Rules.turn_by o a (apply a u w) r) (Rules.without_letter o a (Rules.takes o a r) (apply a u w)))
             (fit_quiet K r q)
             ∙ ap (λ (t : Option Taken). apply a (Rules.turn_by o a (apply a u w) r)
             (Rules.without_letter o a t (apply a u w))) some
-            ∙ ap (λ (t : Turn). apply a t (opened (Deliver f a) (apply a u w))) (turn_behind w u r)
+            ∙ ap (λ (t : Turn). apply a t (letter_taken (Deliver f a) (apply a u w))) (turn_behind w u r)
             ∙ ap (λ (x : World). apply a (Rules.made o a (join_number (apply a u w)) r (begun u.node)) x)
             (opened-apply a f u w l rest front)
-            ∙ apply-onto a u (Rules.made o a (join_number (apply a u w)) r (begun u.node)) (opened (Deliver f a) w)
+            ∙ apply-onto a u (Rules.made o a (join_number (apply a u w)) r (begun u.node)) (letter_taken (Deliver f a) w)

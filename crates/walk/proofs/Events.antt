@@ -9,7 +9,7 @@ use Rattle.protocol_model.specs.Watch.{Watch, is_live, is_issued, is_dead}
 use Rattle.protocol_model.specs.Node.{Node, LockCall, Target, Retries, Times, call_of, targets}
 use Rattle.protocol_model.specs.Event.{Call, Event, Refusal, Cause, cause, first_cause, lock_causes, names_members, calls_spent, call_causes, causes, has_joined, global_resource}
 use Rattle.protocol_model.specs.Round.{is_empty}
-use Rattle.protocol_model.specs.Turn.{Turn, begun, counted, enter}
+use Rattle.protocol_model.specs.Turn.{Turn, begun, count_call, enter}
 use Rattle.protocol_model.specs.Registrar.{start, retry_global}
 use Rattle.protocol_model.specs.Client.{new_call, close_call, ask_lock, ask_back, retry_locks}
 use Rattle.protocol_model.specs.Calling.{die, call}
@@ -122,7 +122,7 @@ module _ (o : Opening) (a : ℕ) (inside : in_world o a ≡ true) (w : World) (r
   -- a new lock call
   is_new : (p : Process) (r q : Text) (target : Target) (retries : Retries)
       → is_live a (w.node a).watch p ≡ true → is_some (call_of p (w.node a).calls) ≡ false
-      → IsNew a (counted (begun (w.node a))).node (new_call o.bound a ((w.node a).last_call + 1) p r q target retries)
+      → IsNew a (count_call (begun (w.node a))).node (new_call o.bound a ((w.node a).last_call + 1) p r q target retries)
   is_new p r q target retries live none = record {
     live = live;
     none = none_of (call_of p (w.node a).calls) none;
@@ -141,10 +141,10 @@ module _ (o : Opening) (a : ℕ) (inside : in_world o a ≡ true) (w : World) (r
 
   -- a lock call's second rule
   two : (s : Rule) → is_quiet s ≡ true → Rules.takes o a s ≡ None
-      → Rules.Tested o a (apply a (counted (begun (w.node a))) w) (counted (begun (w.node a))).node s
+      → Rules.Tested o a (apply a (count_call (begun (w.node a))) w) (count_call (begun (w.node a))).node s
       → Chain o a Aside w (Rules.CallsLock ∷ s ∷ []) w
-      (start o.bound a (Rules.made o a (join_number (apply a (counted (begun (w.node a))) w)) s
-      (counted (begun (w.node a)))))
+      (start o.bound a (Rules.made o a (join_number (apply a (count_call (begun (w.node a))) w)) s
+      (count_call (begun (w.node a)))))
   two s q none tested = start-chain o a Aside inside w (Rules.CallsLock ∷ s ∷ []) w running _
       (chain_two o a Aside inside w Rules.CallsLock s running (own_rule Rules.CallsLock refl tt) refl refl q none
       tested)
@@ -186,8 +186,8 @@ module _ (o : Opening) (a : ℕ) (inside : in_world o a ≡ true) (w : World) (r
         chain = subst
             (λ (u : Turn). Chain o a Aside w (Rules.CallsLock ∷ part t ∷ []) w (start o.bound a u))
             (ap (λ (b : Bool). if b then close_call o.bound a fresh false
-            (counted (begun (w.node a))) else ask_lock o.bound a fresh (targets
-            (w.node a).replica.members target) (counted (begun (w.node a)))) (sym e)) (walk t e);
+            (count_call (begun (w.node a))) else ask_lock o.bound a fresh (targets
+            (w.node a).replica.members target) (count_call (begun (w.node a)))) (sym e)) (walk t e);
       }
         where
           part : Bool → Rule
@@ -201,8 +201,8 @@ module _ (o : Opening) (a : ℕ) (inside : in_world o a ≡ true) (w : World) (r
           walk : (b : Bool) → is_empty o.bound (targets (w.node a).replica.members target) ≡ b
               → Chain o a Aside w (Rules.CallsLock ∷ part b ∷ []) w
               (start o.bound a (if b then close_call o.bound a fresh false
-              (counted (begun (w.node a))) else ask_lock o.bound a fresh (targets
-              (w.node a).replica.members target) (counted (begun (w.node a)))))
+              (count_call (begun (w.node a))) else ask_lock o.bound a fresh (targets
+              (w.node a).replica.members target) (count_call (begun (w.node a)))))
           walk true k = two (Rules.FailsLock fresh) refl refl (inl (is_new p r q target retries tested.0 tested.1), k)
           walk false k = two (Rules.AsksLock fresh) refl refl (inl (is_new p r q target retries tested.0 tested.1), k)
   call-chain (Call.DelLock p r q target) h known =
@@ -222,8 +222,8 @@ module _ (o : Opening) (a : ℕ) (inside : in_world o a ≡ true) (w : World) (r
         chain = subst
             (λ (u : Turn). Chain o a Aside w (Rules.CallsLock ∷ part t ∷ []) w (start o.bound a u))
             (ap (λ (b : Bool). if b then close_call o.bound a fresh true
-            (counted (begun (w.node a))) else ask_back o.bound a fresh (targets
-            (w.node a).replica.members target) (counted (begun (w.node a)))) (sym e)) (walk t e);
+            (count_call (begun (w.node a))) else ask_back o.bound a fresh (targets
+            (w.node a).replica.members target) (count_call (begun (w.node a)))) (sym e)) (walk t e);
       }
         where
           part : Bool → Rule
@@ -236,8 +236,8 @@ module _ (o : Opening) (a : ℕ) (inside : in_world o a ≡ true) (w : World) (r
 
           walk : (b : Bool) → is_empty o.bound (targets (w.node a).replica.members target) ≡ b
               → Chain o a Aside w (Rules.CallsLock ∷ part b ∷ []) w
-              (start o.bound a (if b then close_call o.bound a fresh true (counted (begun (w.node a))) else ask_back
-              o.bound a fresh (targets (w.node a).replica.members target) (counted (begun (w.node a)))))
+              (start o.bound a (if b then close_call o.bound a fresh true (count_call (begun (w.node a))) else ask_back
+              o.bound a fresh (targets (w.node a).replica.members target) (count_call (begun (w.node a)))))
           walk true k = two (Rules.DeletesNothing fresh) refl refl (is_new p r q target (Times 0) tested.0 tested.1, k)
           walk false k = two (Rules.DeletesLock fresh) refl refl (is_new p r q target (Times 0) tested.0 tested.1, k)
   call-chain (Call.JoinBy m) h known = record {

@@ -14,9 +14,9 @@ use Rattle.moves.proofs.Rules
 use Rattle.walk.proofs.Worlds.{onto, same_turn}
 
 -- what a rule makes behind a turn is that turn, and then what it makes of the node alone
-pub extended : (o : Opening) (a : ℕ) (number : ℕ → ℕ) (r : Rules.Rule) (u : Turn)
+pub turn_extended : (o : Opening) (a : ℕ) (number : ℕ → ℕ) (r : Rules.Rule) (u : Turn)
     → Rules.made o a number r u ≡ onto u (Rules.made o a number r (begun u.node))
-extended o a number (Rules.HearsAnswer f id granted op r) u = go (opens f granted r)
+turn_extended o a number (Rules.HearsAnswer f id granted op r) u = go (opens f granted r)
   where
     part : Bool → Turn → Turn
     part t x =
@@ -27,7 +27,7 @@ extended o a number (Rules.HearsAnswer f id granted op r) u = go (opens f grante
     go : (t : Bool) → part t u ≡ onto u (part t (begun u.node))
     go true = same_turn _ _ refl refl (sym (append-nil _)) (sym (append-nil _))
     go false = same_turn _ _ refl (sym (append-nil _)) (sym (append-nil _)) (sym (append-nil _))
-extended o a number (Rules.HearsLock f id granted c r) u = go (opens f granted r)
+turn_extended o a number (Rules.HearsLock f id granted c r) u = go (opens f granted r)
   where
     part : Bool → Turn → Turn
     part t x =
@@ -38,7 +38,7 @@ extended o a number (Rules.HearsLock f id granted c r) u = go (opens f granted r
     go : (t : Bool) → part t u ≡ onto u (part t (begun u.node))
     go true = same_turn _ _ refl refl (sym (append-nil _)) (sym (append-nil _))
     go false = same_turn _ _ refl (sym (append-nil _)) (sym (append-nil _)) (sym (append-nil _))
-extended o a number (Rules.Judges f id p) u = go (is_free_for id p u.node.locks)
+turn_extended o a number (Rules.Judges f id p) u = go (is_free_for id p u.node.locks)
   where
     part : Bool → Turn → Turn
     part t x = send f (Letter.LockAnswer id p t) (if t then with_locks (grant id p) x else x)
@@ -46,11 +46,11 @@ extended o a number (Rules.Judges f id p) u = go (is_free_for id p u.node.locks)
     go : (t : Bool) → part t u ≡ onto u (part t (begun u.node))
     go true = same_turn _ _ refl refl (sym (append-nil _)) (sym (append-nil _))
     go false = same_turn _ _ refl refl (sym (append-nil _)) (sym (append-nil _))
-extended o a number (Rules.TakesBack f id p true) u = same_turn _ _ refl refl (sym (append-nil _)) (sym (append-nil _))
-extended o a number (Rules.TakesBack f id p false) u =
+turn_extended o a number (Rules.TakesBack f id p true) u = same_turn _ _ refl refl (sym (append-nil _)) (sym (append-nil _))
+turn_extended o a number (Rules.TakesBack f id p false) u =
     same_turn _ _ refl (sym (append-nil _)) (sym (append-nil _)) (sym (append-nil _))
-extended o a number (Rules.Finishes (Op.Name k call) asked awaited (Some reply)) u = same_turn _ _ refl refl refl refl
-extended o a number (Rules.GivesUpLock c r granted) u = go (is_spent c.retries)
+turn_extended o a number (Rules.Finishes (Op.Name k call) asked awaited (Some reply)) u = same_turn _ _ refl refl refl refl
+turn_extended o a number (Rules.GivesUpLock c r granted) u = go (is_spent c.retries)
   where
     part : Bool → Turn → Turn
     part t x = if t then close_call o.bound a c false (give_lock o.bound a c granted x)
@@ -59,6 +59,6 @@ extended o a number (Rules.GivesUpLock c r granted) u = go (is_spent c.retries)
     go : (t : Bool) → part t u ≡ onto u (part t (begun u.node))
     go true = same_turn _ _ refl refl (sym (append-nil _)) refl
     go false = same_turn _ _ refl refl (sym (append-nil _)) (sym (append-nil _))
-extended o a number _ u =
+turn_extended o a number _ u =
     same_turn _ _ refl (grind (arith, append-nil, append_assoc)) (grind (arith, append-nil, append_assoc))
     (grind (arith, append-nil, append_assoc))

@@ -17,7 +17,7 @@ use Rattle.protocol_model.specs.Deciding.{end_round, hear_answer}
 use Rattle.protocol_model.specs.Client.{in_phase, close_call, end_lock, hear_lock_in, hear_lock, owe_less_in, owe_less}
 use Rattle.protocol_model.specs.Calling.{kill, queued}
 use Rattle.protocol_model.specs.Reading.{admitted, welcomed, asked_to_admit, refused_join, welcome}
-use Rattle.protocol_model.specs.World.{Opening, in_world, World, left, Deliver, number_in, join_number, apply, opened}
+use Rattle.protocol_model.specs.World.{Opening, in_world, World, left, Deliver, number_in, join_number, apply, letter_taken}
 use Rattle.moves.proofs.Rules
 use Rattle.moves.proofs.Rules.{Rule, taking, is_ordered, awaits, is_heard, is_heard_in, is_owed_in, is_awaited, is_joining_by, some_call, Ordered}
 use Rattle.walk.proofs.ChainKinds.{Hearing, may_begin, begin_quiet}
@@ -31,29 +31,29 @@ module _ (o : Opening) (a : ℕ) (inside : in_world o a ≡ true) (w : World) (r
     (known : in_world o f ≡ true) (rest : List Letter) where
   -- the chain has come so far from the front of the link from f
   abbrev pub Reads : Turn → Type 0
-  Reads u = Chain o a Hearing w [] (opened (Deliver f a) w) u
+  Reads u = Chain o a Hearing w [] (letter_taken (Deliver f a) w) u
 
   -- a rule that reads the letter
   pub by_rule : (l : Letter) → w.links.queue f a ≡ l ∷ rest → (r : Rule) → may_begin Hearing r ≡ true
       → Rules.takes o a r ≡ taking f l
       → Rules.Tested o a w (w.node a) r
       → Reads (Rules.turn_by o a w r)
-  by_rule l front r q some tested = chain_quiet o a Hearing w (opened (Deliver f a) w) r
+  by_rule l front r q some tested = chain_quiet o a Hearing w (letter_taken (Deliver f a) w) r
       (record {
         inside = inside;
         running = running;
         front = subst (Rules.FrontTaken o a w) (sym some) (known, (rest, front));
         tested = tested;
       })
-      (ap (is_gone_by w (opened (Deliver f a) w) a) some ∙ gone_by-delivery w f a l rest front) q
+      (ap (is_gone_by w (letter_taken (Deliver f a) w) a) some ∙ gone_by-delivery w f a l rest front) q
       (closed_by-quiet o a r (apply a (Rules.turn_by o a w r) (Rules.without_letter o a (Rules.takes o a r) w))
       (begin_quiet Hearing r q)
       ∙ ap (λ (t : Option Rules.Taken). apply a (Rules.turn_by o a w r) (Rules.without_letter o a t w)) some)
 
   -- the registrar's numbers are as they were while it waits for no contact
   numbers : number_in (w.node a).current ≡ 0 → (u : Turn) → number_in u.node.current ≡ 0
-      → join_number (apply a u (opened (Deliver f a) w)) ≡ join_number w
-  numbers e u h = join_number-behind a w (opened (Deliver f a) w) u refl (h ∙ sym e)
+      → join_number (apply a u (letter_taken (Deliver f a) w)) ≡ join_number w
+  numbers e u h = join_number-behind a w (letter_taken (Deliver f a) w) u refl (h ∙ sym e)
 
   module _ (untold : (w.node a).replica.told f ≡ false) where
     -- a letter that isn't awaited
@@ -78,7 +78,7 @@ module _ (o : Opening) (a : ℕ) (inside : in_world o a ≡ true) (w : World) (r
             (ask_rest o.bound a f granted (Letter.SetLock (Global a) (registrar a)) r (begun (w.node a))))
             else begun (w.node a))
         heard_in op r e true q =
-            (end_round-chain o a inside w [] (opened (Deliver f a) w) running (join_number w) (numbers (ap number_in e))
+            (end_round-chain o a inside w [] (letter_taken (Deliver f a) w) running (join_number w) (numbers (ap number_in e))
             op (answer f granted r)
             (at_work (Current.Asking op (answer f granted r))
             (ask_rest o.bound a f granted (Letter.SetLock (Global a) (registrar a)) r (begun (w.node a))))
@@ -114,7 +114,7 @@ module _ (o : Opening) (a : ℕ) (inside : in_world o a ≡ true) (w : World) (r
             (keep_call (in_phase (LockPhase.Asking (answer f granted r)) c)
             (ask_rest o.bound a f granted (Letter.SetLock c.id c.holder) r (begun (w.node a)))) else begun (w.node a))
         heard_in c e r p2 true q =
-            (go_on_lock-chain o a Hearing inside w [] (opened (Deliver f a) w) running refl c (answer f granted r)
+            (go_on_lock-chain o a Hearing inside w [] (letter_taken (Deliver f a) w) running refl c (answer f granted r)
             (ask_rest o.bound a f granted (Letter.SetLock c.id c.holder) r (begun (w.node a)))
             (by_rule (Letter.LockAnswer id c.holder granted)
             (front ∙ ap (λ (x : Process). Letter.LockAnswer id x granted ∷ rest) (sym found))
@@ -212,7 +212,7 @@ module _ (o : Opening) (a : ℕ) (inside : in_world o a ≡ true) (w : World) (r
             else at_work (Current.Writing op asked (at awaited f false) reply) (begun (w.node a)))
             else begun (w.node a))
         less op asked awaited reply e true q =
-            (awaited_less o a inside w [] (opened (Deliver f a) w) running f op asked awaited reply (begun (w.node a))
+            (awaited_less o a inside w [] (letter_taken (Deliver f a) w) running f op asked awaited reply (begun (w.node a))
             (by_rule Letter.Applied front (Rules.CountsApplied f op asked awaited reply) refl refl
             (untold, e, q))).chain
         less op asked awaited reply e false q = skip (ap (is_awaited f) e ∙ q)

@@ -11,7 +11,7 @@ use Rattle.protocol_model.specs.Registrar.{registrar, start, contact_left, lose_
 use Rattle.protocol_model.specs.Deciding.{hear_answer, lose}
 use Rattle.protocol_model.specs.Client.{hear_lock}
 use Rattle.protocol_model.specs.Reading.{welcomed, read, receive, told_of, bereave, lose_join, lose_current}
-use Rattle.protocol_model.specs.World.{Opening, in_world, World, left, Deliver, number_in, join_number, opened}
+use Rattle.protocol_model.specs.World.{Opening, in_world, World, left, Deliver, number_in, join_number, letter_taken}
 use Rattle.registry_model.proofs.Updates.{at_same}
 use Rattle.moves.proofs.Rules
 use Rattle.moves.proofs.Rules.{Rule, is_ordered}
@@ -37,13 +37,13 @@ module _ (o : Opening) (a : ℕ) (inside : in_world o a ≡ true) (w : World) (r
     (wide : WelcomeWidens o w) (f : ℕ) (known : in_world o f ≡ true) (rest : List Letter) where
   -- a letter from a node that isn't told to have left is read
   read-chain : (l : Letter) → is_down l ≡ false → w.links.queue f a ≡ l ∷ rest → (w.node a).replica.told f ≡ false
-      → Chain o a Hearing w [] (opened (Deliver f a) w) (read o.bound a (join_number w) f l (begun (w.node a)))
+      → Chain o a Hearing w [] (letter_taken (Deliver f a) w) (read o.bound a (join_number w) f l (begun (w.node a)))
   read-chain (Letter.SetLock id p) d front untold =
       by_rule o a inside w running f known rest (Letter.SetLock id p) front (Rules.Judges f id p) refl refl untold
   read-chain (Letter.LockAnswer id p granted) d front untold = go (is_process p (registrar a)) refl
     where
       go : (t : Bool) → is_process p (registrar a) ≡ t
-          → Chain o a Hearing w [] (opened (Deliver f a) w)
+          → Chain o a Hearing w [] (letter_taken (Deliver f a) w)
           (if t then hear_answer o.bound a (join_number w) f granted (w.node a).current (begun (w.node a))
           else hear_lock o.bound a f granted (call_of p (w.node a).calls) (begun (w.node a)))
       go true e = hear_answer-chain o a inside w running f known rest untold id p granted front e
@@ -69,14 +69,14 @@ module _ (o : Opening) (a : ℕ) (inside : in_world o a ≡ true) (w : World) (r
 
   -- a letter but `Down`
   letter-chain : (l : Letter) → is_down l ≡ false → w.links.queue f a ≡ l ∷ rest
-      → Chain o a Hearing w [] (opened (Deliver f a) w) (receive o.bound a (join_number w) f l (begun (w.node a)))
-  letter-chain l d front = start-chain o a Hearing inside w [] (opened (Deliver f a) w) running
+      → Chain o a Hearing w [] (letter_taken (Deliver f a) w) (receive o.bound a (join_number w) f l (begun (w.node a)))
+  letter-chain l d front = start-chain o a Hearing inside w [] (letter_taken (Deliver f a) w) running
       (if (w.node a).replica.told f && not (is_down l) then begun (w.node a)
       else read o.bound a (join_number w) f l (begun (w.node a)))
       (go ((w.node a).replica.told f) (is_down l) refl refl d)
     where
       go : (t s : Bool) → (w.node a).replica.told f ≡ t → is_down l ≡ s → s ≡ false
-          → Chain o a Hearing w [] (opened (Deliver f a) w)
+          → Chain o a Hearing w [] (letter_taken (Deliver f a) w)
           (if t && not s then begun (w.node a) else read o.bound a (join_number w) f l (begun (w.node a)))
       go true false e q z = by_rule o a inside w running f known rest l front (Rules.Drops f l) refl refl (e, q)
       go false false e q z = read-chain l q front e
@@ -85,9 +85,9 @@ module _ (o : Opening) (a : ℕ) (inside : in_world o a ≡ true) (w : World) (r
 
   -- the sender has gone down
   down-chain : w.links.queue f a ≡ Letter.Down ∷ rest
-      → Chain o a Hearing w (Rules.IsTold f ∷ []) (opened (Deliver f a) w)
+      → Chain o a Hearing w (Rules.IsTold f ∷ []) (letter_taken (Deliver f a) w)
       (bereave o.bound a (join_number w) f (begun (w.node a)))
-  down-chain front = lose_node-chain o a Hearing inside w (Rules.IsTold f ∷ []) (opened (Deliver f a) w) running refl f
+  down-chain front = lose_node-chain o a Hearing inside w (Rules.IsTold f ∷ []) (letter_taken (Deliver f a) w) running refl f
       (lose_current o.bound a (join_number w) f (lose_join o.bound a (join_number w) f told)) lost.chain
       (ap (λ (v : Replica). v.told f) (lost.replica ∙ left_contact.replica) ∙ at_same (w.node a).replica.told f true)
       (ap (is_ordered a) (lost.calls ∙ left_contact.calls) ∙ sorted)
@@ -95,10 +95,10 @@ module _ (o : Opening) (a : ℕ) (inside : in_world o a ≡ true) (w : World) (r
       told : Turn
       told = told_of o.bound a (join_number w) f (begun (w.node a))
 
-      left_contact : Onward o a inside w (Rules.IsTold f ∷ []) (opened (Deliver f a) w) running told
+      left_contact : Onward o a inside w (Rules.IsTold f ∷ []) (letter_taken (Deliver f a) w) running told
           (lose_join o.bound a (join_number w) f told)
-      left_contact = lose_contact-chain o a inside w (Rules.IsTold f ∷ []) (opened (Deliver f a) w) running f told
-          (chain_one o a Hearing w (opened (Deliver f a) w) (Rules.IsTold f)
+      left_contact = lose_contact-chain o a inside w (Rules.IsTold f ∷ []) (letter_taken (Deliver f a) w) running f told
+          (chain_one o a Hearing w (letter_taken (Deliver f a) w) (Rules.IsTold f)
           (record { inside = inside; running = running; front = (known, (rest, front)); tested = tt })
           (gone_by-delivery w f a Letter.Down rest front) refl)
           (at_same (w.node a).replica.told f true)
@@ -112,50 +112,50 @@ module _ (o : Opening) (a : ℕ) (inside : in_world o a ≡ true) (w : World) (r
       idle k m e false = ap (λ (c : Current). lose o.bound a (join_number w) f c told) e
 
       busy : number_in (w.node a).current ≡ 0
-          → Onward o a inside w (Rules.IsTold f ∷ []) (opened (Deliver f a) w) running
+          → Onward o a inside w (Rules.IsTold f ∷ []) (letter_taken (Deliver f a) w) running
           (lose_join o.bound a (join_number w) f told)
           (lose_current o.bound a (join_number w) f (lose_join o.bound a (join_number w) f told))
-      busy e = lose-chain o a inside w (Rules.IsTold f ∷ []) (opened (Deliver f a) w) running (join_number w)
-          (λ u h. join_number-behind a w (opened (Deliver f a) w) u refl (h ∙ sym e))
+      busy e = lose-chain o a inside w (Rules.IsTold f ∷ []) (letter_taken (Deliver f a) w) running (join_number w)
+          (λ u h. join_number-behind a w (letter_taken (Deliver f a) w) u refl (h ∙ sym e))
           f (lose_join o.bound a (join_number w) f told) left_contact.chain
           (ap (λ (v : Replica). v.told f) left_contact.replica ∙ at_same (w.node a).replica.told f true)
 
       go : (c : Current) → (w.node a).current ≡ c
-          → Onward o a inside w (Rules.IsTold f ∷ []) (opened (Deliver f a) w) running
+          → Onward o a inside w (Rules.IsTold f ∷ []) (letter_taken (Deliver f a) w) running
           (lose_join o.bound a (join_number w) f told)
           (lose_current o.bound a (join_number w) f (lose_join o.bound a (join_number w) f told))
       go (Current.Joining k m) e = subst
-          (Onward o a inside w (Rules.IsTold f ∷ []) (opened (Deliver f a) w) running
+          (Onward o a inside w (Rules.IsTold f ∷ []) (letter_taken (Deliver f a) w) running
           (lose_join o.bound a (join_number w) f told))
           (sym (subst
           (λ (c : Current). lose o.bound a (join_number w) f (lose_contact o.bound a f c told).node.current
           (lose_contact o.bound a f c told)
           ≡ lose_contact o.bound a f c told) (sym e) (idle k m e (m == f))))
-          (onward_none o a inside w (Rules.IsTold f ∷ []) (opened (Deliver f a) w) running
+          (onward_none o a inside w (Rules.IsTold f ∷ []) (letter_taken (Deliver f a) w) running
           (lose_join o.bound a (join_number w) f told) left_contact.chain)
       go (Current.Asking op r) e = busy (ap number_in e)
       go (Current.Waiting op) e = busy (ap number_in e)
       go (Current.Writing op asked awaited reply) e = busy (ap number_in e)
       go Current.Free e = busy (ap number_in e)
 
-      lost : Onward o a inside w (Rules.IsTold f ∷ []) (opened (Deliver f a) w) running
+      lost : Onward o a inside w (Rules.IsTold f ∷ []) (letter_taken (Deliver f a) w) running
           (lose_join o.bound a (join_number w) f told)
           (lose_current o.bound a (join_number w) f (lose_join o.bound a (join_number w) f told))
       lost = go (w.node a).current refl
 
   -- any letter
   pub receive-chain : (l : Letter) → w.links.queue f a ≡ l ∷ rest
-      → Chain o a Hearing w (Rules.first_by_letter o a f (l ∷ rest)) (opened (Deliver f a) w)
+      → Chain o a Hearing w (Rules.first_by_letter o a f (l ∷ rest)) (letter_taken (Deliver f a) w)
       (receive o.bound a (join_number w) f l (begun (w.node a)))
   receive-chain Letter.Down front = go ((w.node a).replica.told f)
     where
-      go : (t : Bool) → Chain o a Hearing w (Rules.IsTold f ∷ []) (opened (Deliver f a) w)
+      go : (t : Bool) → Chain o a Hearing w (Rules.IsTold f ∷ []) (letter_taken (Deliver f a) w)
           (start o.bound a
           (if t && false then begun (w.node a) else bereave o.bound a (join_number w) f (begun (w.node a))))
       go true =
-          start-chain o a Hearing inside w (Rules.IsTold f ∷ []) (opened (Deliver f a) w) running
+          start-chain o a Hearing inside w (Rules.IsTold f ∷ []) (letter_taken (Deliver f a) w) running
           (bereave o.bound a (join_number w) f (begun (w.node a))) (down-chain front)
       go false =
-          start-chain o a Hearing inside w (Rules.IsTold f ∷ []) (opened (Deliver f a) w) running
+          start-chain o a Hearing inside w (Rules.IsTold f ∷ []) (letter_taken (Deliver f a) w) running
           (bereave o.bound a (join_number w) f (begun (w.node a))) (down-chain front)
   receive-chain l front = letter-chain l refl front

@@ -14,7 +14,7 @@ use Rattle.moves.proofs.Rules.{Rule, is_quiet, Ordered, Walked}
 use Rattle.protocol_model.specs.Turn.{Turn}
 use Rattle.walk.proofs.Chains.{effects-append, entries_by-append, answers_by-append, may_all-parts}
 use Rattle.walk.proofs.Receiving.{WelcomeWidens}
-use Rattle.walk.proofs.Walk.{walked}
+use Rattle.walk.proofs.Walk.{event_walked}
 use Rattle.walk.proofs.Orders.{ordered_keeps, ordered_opens}
 use Rattle.walk.proofs.Joins.{JoinsOnce, joins_once_opens, joins_once_keeps}
 
@@ -72,7 +72,7 @@ module _ (o : Opening) (F : World → Type 0) (wide : (w : World) → F w → Jo
 
   -- a world that is kept walks
   pub walks : (w : World) (e : WorldEvent) → Kept w → refusal o w e ≡ None → Walked o w e
-  walks w e k r = walked o w e k.ordered (wide w k.kept k.once) r
+  walks w e k r = event_walked o w e k.ordered (wide w k.kept k.once) r
 
   -- an accepted event keeps it
   pub accepted_keeps : (w : World) (e : WorldEvent) → Kept w → refusal o w e ≡ None → Kept (accepted o w e)

@@ -6,7 +6,7 @@ use Rattle.protocol_model.specs.Letter.{Letter}
 use Rattle.protocol_model.specs.Links.{is_nil}
 use Rattle.protocol_model.specs.Node.{holds_global}
 use Rattle.protocol_model.specs.Event.{Call, Event, EmptyLink, HoldsLock}
-use Rattle.protocol_model.specs.World.{Opening, in_world, World, left, WorldEvent, At, Deliver, place, refusal, heard, turn_of, apply, opened, closed}
+use Rattle.protocol_model.specs.World.{Opening, in_world, World, left, WorldEvent, At, Deliver, place, refusal, heard, turn_of, apply, letter_taken, leaver_closed_out}
 use Rattle.protocol_model.specs.Fit.{is_delivery}
 use Rattle.moves.proofs.Rules
 use Rattle.moves.proofs.Rules.{Rule, Ordered, Walked, is_quiet}
@@ -38,13 +38,13 @@ pub record OrderedWalk (o : Opening) (w : World) (e : WorldEvent) : Type 0 where
   pub walk : Walked o w e
   pub in_order : InOrder o w e walk.rest
   pub locks : LeaveLocks (Rules.first_by o (place e) w e ++ walk.rest)
-  pub letters : TakeGone o (place e) w (opened e w) (Rules.first_by o (place e) w e ++ walk.rest)
+  pub letters : TakeGone o (place e) w (letter_taken e w) (Rules.first_by o (place e) w e ++ walk.rest)
   pub allowed : list_all (is_allowed (is_delivery e)) walk.rest ≡ true
 
 -- an event whose turn is reached by a chain is walked, unless it closes a node out
 walked_by : (o : Opening) (w : World) (e : WorldEvent) (k : Kind)
-    → closed e (apply (place e) (turn_of o w e) (opened e w)) ≡ apply (place e) (turn_of o w e) (opened e w)
-    → (h : Chain o (place e) k w (Rules.first_by o (place e) w e) (opened e w) (turn_of o w e))
+    → leaver_closed_out e (apply (place e) (turn_of o w e) (letter_taken e w)) ≡ apply (place e) (turn_of o w e) (letter_taken e w)
+    → (h : Chain o (place e) k w (Rules.first_by o (place e) w e) (letter_taken e w) (turn_of o w e))
     → (list_all (suits k) h.rest ≡ true → InOrder o w e h.rest) → may_go_on k ≡ is_delivery e
     → OrderedWalk o w e
 walked_by o w e k same h order by = record {
@@ -146,14 +146,14 @@ walked_delivery o f t w sorted wide h =
     walked_by o w (Deliver f t) Hearing refl (go (w.links.queue f t) refl) (λ e. e) refl
   where
     go : (ls : List Letter) → w.links.queue f t ≡ ls
-        → Chain o t Hearing w (Rules.first_by_letter o t f (w.links.queue f t)) (opened (Deliver f t) w)
+        → Chain o t Hearing w (Rules.first_by_letter o t f (w.links.queue f t)) (letter_taken (Deliver f t) w)
         (heard o.bound t w f (w.links.queue f t))
     go [] e = absurd (no (ap is_nil (sym e) ∙ (no_cause (is_nil (w.links.queue f t)) EmptyLink [] h.local).0))
       where
         no : true ≡ false → ⊥
         no q = cc
     go (l ∷ rest) e =
-        subst (λ (ls : List Letter). Chain o t Hearing w (Rules.first_by_letter o t f ls) (opened (Deliver f t) w)
+        subst (λ (ls : List Letter). Chain o t Hearing w (Rules.first_by_letter o t f ls) (letter_taken (Deliver f t) w)
         (heard o.bound t w f ls)) (sym e)
         (receive-chain o t h.place_inside w h.running (sorted t) wide f h.other_inside rest l e)
 
@@ -175,6 +175,6 @@ walked_in_order o w e sorted wide h = go e (accepted_of o w e h)
     go (At a Event.Leave) k = walked_leave o a w k
     go (Deliver f t) k = walked_delivery o f t w sorted wide k
 
-pub walked : (o : Opening) (w : World) (e : WorldEvent) → Ordered w → WelcomeWidens o w → refusal o w e ≡ None
+pub event_walked : (o : Opening) (w : World) (e : WorldEvent) → Ordered w → WelcomeWidens o w → refusal o w e ≡ None
     → Walked o w e
-walked o w e sorted wide h = (walked_in_order o w e sorted wide h).walk
+event_walked o w e sorted wide h = (walked_in_order o w e sorted wide h).walk

@@ -10,7 +10,7 @@ use Rattle.protocol_model.specs.Links.{Links, posted}
 use Rattle.protocol_model.specs.Event.{Answer}
 use Rattle.protocol_model.specs.Node.{Node}
 use Rattle.protocol_model.specs.Turn.{Send, Turn, begun, sent_to}
-use Rattle.protocol_model.specs.World.{World, Deliver, apply, opened}
+use Rattle.protocol_model.specs.World.{World, Deliver, apply, letter_taken}
 use Rattle.registry_model.proofs.Updates.{by_test}
 use Rattle.moves.proofs.Sends.{sent_to-append}
 
@@ -88,10 +88,10 @@ apply-onto a u v w = same_world (apply a v (apply a u w)) (apply a (onto u v) w)
 
 -- the oldest letter of a link can be taken before or after a turn
 pub opened-apply : (a f : ℕ) (u : Turn) (w : World) (l : Letter) (rest : List Letter) → w.links.queue f a ≡ l ∷ rest
-    → opened (Deliver f a) (apply a u w) ≡ apply a u (opened (Deliver f a) w)
+    → letter_taken (Deliver f a) (apply a u w) ≡ apply a u (letter_taken (Deliver f a) w)
 opened-apply a f u w l rest e =
-    same_world (opened (Deliver f a) (apply a u w)) (apply a u (opened (Deliver f a) w)) refl
-    (same_links (opened (Deliver f a) (apply a u w)).links (apply a u (opened (Deliver f a) w)).links
+    same_world (letter_taken (Deliver f a) (apply a u w)) (apply a u (letter_taken (Deliver f a) w)) refl
+    (same_links (letter_taken (Deliver f a) (apply a u w)).links (apply a u (letter_taken (Deliver f a) w)).links
     (λ x y. by_test f
     (λ z t. (if t && (y == a) then drop 1 ((posted a (λ c. sent_to c u.sends) w.links).queue z y)
     else (posted a (λ c. sent_to c u.sends) w.links).queue z y)

@@ -15,7 +15,7 @@ impl<N: Names<Memory = Global>> NodeCore<N> {
     ghost use Rattle.protocol_model.specs.Node.{Op as AnyOp, Retries as AnyRetries};
     ghost use Rattle.protocol_model.specs.Event.{Call as AnyCall, last_u32, calls_spent, lock_causes, call_causes, first_cause, names_members, has_joined};
     ghost use Rattle.protocol_model.specs.Watch.{next_serial};
-    ghost use Rattle.protocol_model.specs.Turn.{counted, enter as entering};
+    ghost use Rattle.protocol_model.specs.Turn.{count_call, enter as entering};
     ghost use Rattle.protocol_model.specs.Calling.{spawned, looked, queued, die, call as called};
     ghost use Rattle.lock_calls.specs.declared.call.CallPhase.TheVariants.{Waiting};
     ghost use Rattle.term.specs.NodeSets.{set_of};
@@ -183,7 +183,7 @@ impl<N: Names<Memory = Global>> NodeCore<N> {
     /// A name call is numbered, and goes to the back of the queue.
     fn enqueue(&mut self, name_call: NameCall) -> Result<(), AllocError>
         requires { (self.old.last_call == last_u32) ≡ false }
-        ensures turn { (made : Made) → OnOk result (Makes (λ n a u. queued n a (AnyOp.Name (u.node.last_call + 1) (name_call_of name_call)) (counted u)) self.old made self.new made) }
+        ensures turn { (made : Made) → OnOk result (Makes (λ n a u. queued n a (AnyOp.Name (u.node.last_call + 1) (name_call_of name_call)) (count_call u)) self.old made self.new made) }
         ensures kept { Keeps self.old self.new }
     {
         let number = self.next_call();
@@ -194,7 +194,7 @@ impl<N: Names<Memory = Global>> NodeCore<N> {
     fn enqueue_join(&mut self, contact: &NodeName) -> Result<(), AllocError>
         requires { (self.old.last_call == last_u32) ≡ false }
         ensures turn { (made : Made) → set_of self.old.world contact.now ≡ true
-            → OnOk result (Makes (λ n a u. queued n a (AnyOp.Join (u.node.last_call + 1) contact.now) (counted u)) self.old made self.new made) }
+            → OnOk result (Makes (λ n a u. queued n a (AnyOp.Join (u.node.last_call + 1) contact.now) (count_call u)) self.old made self.new made) }
         ensures kept { Keeps self.old self.new }
     {
         if !self.world.contains(contact) {
