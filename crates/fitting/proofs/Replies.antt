@@ -8,16 +8,16 @@ use Rattle.std.proofs.lemmas.List.Elements.{filter-append}
 use Rattle.std.proofs.lemmas.Grind.{flat_map-append}
 use Rattle.std.proofs.lemmas.Bool.{eq-eqb, ne_eqb, eqb-true}
 use Rattle.std.proofs.Math.Bool.{or-true}
-use Rattle.registry_model.specs.Process.{at}
 use Rattle.registry_model.specs.History.{Entry}
 use Rattle.protocol_model.specs.Node.{Node, Op, Current}
 use Rattle.protocol_model.specs.Event.{Call, Event, Answer, Refusal}
 use Rattle.protocol_model.specs.Turn.{Turn}
 use Rattle.protocol_model.specs.Fit.{Numbered, NameAs, JoinAs, is_numbered, numbered, calls_in, number_from, accepted_at, decided_at, IsPrefix}
 use Rattle.protocol_model.specs.Answers.{answer_to, number_of, is_answer_at, answers_at, entered_at}
-use Rattle.protocol_model.specs.World.{Opening, World, WorldEvent, At, Deliver, place, opening_world, turn_of, refusal, accepted}
+use Rattle.protocol_model.specs.World.{Opening, World, WorldEvent, At, place, opening_world, turn_of, refusal, accepted}
 use Rattle.protocol_model.specs.Course.{Played, played, entries_of, answers_of}
 use Rattle.registry_model.proofs.Updates.{by_test}
+use Rattle.protocol_model.proofs.Waiting.{accepted-node}
 use Rattle.moves.proofs.Invariants.{Replicas, IsWritten}
 use Rattle.fitting.proofs.Accounts.{own, owed_by, is_word, is_word_at, replies_to}
 use Rattle.fitting.proofs.Settling.{grant_word}
@@ -118,12 +118,6 @@ pub record Spares (w : World) (ps : List Played) : Type 0 where
 
 pub spares_open : (o : Opening) → Spares (opening_world o) []
 spares_open o = record { open_calls = λ a. tt; answers = tt }
-
-pub accepted-node : (o : Opening) (w : World) (e : WorldEvent)
-    → (accepted o w e).node ≡ at w.node (place e) (turn_of o w e).node
-accepted-node o w (Deliver f t) = refl
-accepted-node o w (At a Event.Leave) = refl
-accepted-node o w (At a _) = refl
 
 -- the registrar keeps a reply to a name call
 word_kept_by : (o : Opening) (w : World) (a : ℕ) (c : Current) → IsWritten o w a c → keeps_word c ≡ true

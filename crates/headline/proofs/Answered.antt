@@ -13,6 +13,7 @@ use Rattle.protocol_model.specs.Fit.{calls_in}
 use Rattle.protocol_model.specs.Answers.{calls_at, LooksUpOnce, AnswersCalls}
 use Rattle.protocol_model.specs.World.{Opening, World, WorldEvent, place, turn_of, refusal, accepted, opening_world}
 use Rattle.protocol_model.specs.Course.{Played, played, answers_of}
+use Rattle.protocol_model.proofs.Waiting.{accepted-node}
 use Rattle.registry_model.proofs.Updates.{by_test, at_same}
 use Rattle.walk.proofs.Walk.{walked_in_order}
 use Rattle.fitting.proofs.Accounts.{is_word}
@@ -20,7 +21,7 @@ use Rattle.fitting.proofs.Admissions.{all_map}
 use Rattle.fitting.proofs.Chains
 use Rattle.fitting.proofs.Once.{is_lock_under, answers_once}
 use Rattle.fitting.proofs.LookUps.{filter_none, own_answers}
-use Rattle.fitting.proofs.Replies.{accepted-node, answers_given}
+use Rattle.fitting.proofs.Replies.{answers_given}
 use Rattle.fitting.proofs.Theorem
 use Rattle.headline.specs.Clauses.{events, world}
 use Rattle.headline.proofs.Together.{Whole, whole_opens, widens, replicas, event_walks, run_whole}

@@ -20,13 +20,14 @@ use Rattle.protocol_model.specs.Fit.{is_numbered, calls_in}
 use Rattle.protocol_model.specs.Answers.{answer_to, holder_in, calls_at}
 use Rattle.protocol_model.specs.World.{Opening, World, WorldEvent, At, Deliver, place, opening_world, refusal, turn_of, accepted}
 use Rattle.protocol_model.specs.Course.{Played, played, answers_of}
+use Rattle.protocol_model.proofs.Waiting.{accepted-node}
 use Rattle.moves.proofs.Rules
 use Rattle.moves.proofs.Rules.{Rule}
 use Rattle.walk.proofs.Calls.{call_of-put_call}
 use Rattle.walk.proofs.Orders.{ordered_keeps}
 use Rattle.walk.proofs.Walk.{OrderedWalk, InOrder, walked_in_order}
 use Rattle.fitting.proofs.Chains
-use Rattle.fitting.proofs.Replies.{accepted-node, answers_given}
+use Rattle.fitting.proofs.Replies.{answers_given}
 use Rattle.fitting.proofs.Theorem
 use Rattle.headline.specs.Clauses.{events, world}
 use Rattle.headline.proofs.Together.{Whole, whole_opens, widens}

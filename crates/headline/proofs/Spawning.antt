@@ -22,12 +22,13 @@ use Rattle.protocol_model.specs.World.{Opening, World, WorldEvent, At, Deliver, 
 use Rattle.protocol_model.specs.Course.{Played, played}
 use Rattle.protocol_model.specs.Headline.{EachStep}
 use Rattle.protocol_model.proofs.Serials.{next_serial-new}
+use Rattle.protocol_model.proofs.Waiting.{accepted-node}
 use Rattle.moves.proofs.Rules
 use Rattle.moves.proofs.Rules.{Rule, is_quiet, Walked}
 use Rattle.walk.proofs.Orders.{effect-node}
 use Rattle.fitting.proofs.Chains
 use Rattle.fitting.proofs.Rests.{spawned-answers, place_runs}
-use Rattle.fitting.proofs.Replies.{accepted-node, answers_given}
+use Rattle.fitting.proofs.Replies.{answers_given}
 use Rattle.fitting.proofs.Theorem
 use Rattle.client_locks.proofs.Growing.{node_answer_op, same_judge, same_take_back, same_ask_rest, same_refuse}
 use Rattle.headline.specs.Clauses.{events, world}

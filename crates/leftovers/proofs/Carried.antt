@@ -29,9 +29,9 @@ use Rattle.moves.proofs.Invariants.{IsUp}
 use Rattle.walk.proofs.Events.{Accepted, accepted_of}
 use Rattle.walk.proofs.Walk.{event_walked}
 use Rattle.protocol_model.specs.Leftovers.{world, Always, DeathsAreCarriedOut, KnownDeadOwnNothing}
+use Rattle.protocol_model.proofs.Waiting.{accepted-node}
 use Rattle.headline.proofs.Exiting.{dead_event, exit_kills}
 use Rattle.leftovers.proofs.Grounds.{Base, wide, replicas, between}
-use Rattle.leftovers.proofs.RestEvents.{accepted-node}
 use Rattle.leftovers.proofs.Extends.{are_harmless, has_kill, kill_later, Adds, adds_then, adds_same, adds_entry, add_send_all, add_start, add_retry, add_try, add_delete, add_retry_all, add_die, kills_by}
 use Rattle.leftovers.proofs.Verdicts.{Admitted, harmless_dead, admitted_dead}
 use Rattle.leftovers.proofs.DoomedEvents.{Doomed, kill_stays, letter_dead, Decides, Result, receive_result}

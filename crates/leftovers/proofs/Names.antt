@@ -11,7 +11,7 @@ use Rattle.registry_model.specs.History.{Hold, Standing, hold_at}
 use Rattle.registry_model.proofs.Lists.{Contains-cases, Contains-nil, Contains-front, Contains-behind}
 use Rattle.protocol_model.specs.Watch.{is_dead, least_owner, lesser}
 use Rattle.protocol_model.specs.Node.{Op, Current, is_writing}
-use Rattle.protocol_model.specs.Event.{is_waiting, is_joining}
+use Rattle.protocol_model.specs.Event.{is_joining}
 use Rattle.protocol_model.specs.World.{Opening, in_world, in_cluster, World, left}
 use Rattle.moves.proofs.Indices.{both, not_true}
 use Rattle.moves.proofs.Invariants
@@ -229,7 +229,7 @@ module _ (o : Opening) (w : World) (W : Whole o w) (Q : IsQuiet o w) where
           (States.lone_owners o w (replicas o w W.base) c e) (there false e))) ∙ up.0
 
   -- where nobody waits for a retry, every registrar is free
-  module _ (retried : (c : ℕ) → IsUp o w c → is_waiting (w.node c).current ≡ false) where
+  module _ (retried : (c : ℕ) (op : Op) → IsUp o w c → (w.node c).current ≡ Current.Waiting op → ⊥) where
     no_jobs : (m : ℕ) → IsUp o w m → (w.node m).replica.joined ≡ true → jobs (w.node m) ≡ []
     no_jobs m up joined = go (w.node m).current refl
       where
@@ -240,7 +240,7 @@ module _ (o : Opening) (w : World) (W : Whole o w) (Q : IsQuiet o w) where
 
         go : (c : Current) → (w.node m).current ≡ c → jobs (w.node m) ≡ []
         go Current.Free e = none Current.Free e refl (W.started m e).queue
-        go (Current.Waiting op) e = cc (ap is_waiting e, retried m up)
+        go (Current.Waiting op) e = absurd (retried m op up e)
         go (Current.Asking op r) e = cc (ap (at_ease o w W Q) e, registrars o w W Q m up)
         go (Current.Writing op t awaited reply) e = cc (ap (at_ease o w W Q) e, registrars o w W Q m up)
         go (Current.Joining k c) e = cc (ap is_joining e, ((W.base.all.joins.once m).joined joined).0)
@@ -276,7 +276,7 @@ module _ (o : Opening) (w : World) (W : Whole o w) (Q : IsQuiet o w) where
       where
         go : (x : Current) → (w.node c).current ≡ x → Idle c (w.node c)
         go Current.Free e = W.started c e
-        go (Current.Waiting op) e = cc (ap is_waiting e, retried c up)
+        go (Current.Waiting op) e = absurd (retried c op up e)
         go (Current.Asking op r) e = cc (ap (at_ease o w W Q) e, registrars o w W Q c up)
         go (Current.Writing op t awaited reply) e = cc (ap (at_ease o w W Q) e, registrars o w W Q c up)
         go (Current.Joining k m) e = absurd (no_joining c k m up e)

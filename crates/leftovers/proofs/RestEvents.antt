@@ -3,7 +3,7 @@ use mathlib.Core.Logic.{◌⊎◌}
 use Rattle.std.proofs.Common.{ℕ, Bool, true, false, ◌==◌, ◌≡◌, ◌+◌, None, List, [], ◌∷◌, refl, sym, ap, ◌∙◌, subst, inl, inr}
 use Rattle.std.specs.Prelude.{not, ◌&&◌, ◌||◌, if◌then◌else◌}
 use Rattle.std.proofs.lemmas.Bool.{eq-eqb, eqb-true}
-use Rattle.registry_model.specs.Process.{Process, is_process, Nodes, at, with_node}
+use Rattle.registry_model.specs.Process.{Process, is_process, Nodes, with_node}
 use Rattle.registry_model.specs.Table.{Table}
 use Rattle.registry_model.specs.Registry.{Replica}
 use Rattle.registry_model.specs.Call.{NotMember, Joined}
@@ -19,7 +19,8 @@ use Rattle.protocol_model.specs.Deciding.{hear_answer, lose}
 use Rattle.protocol_model.specs.Client.{new_call, hear_lock}
 use Rattle.protocol_model.specs.Calling.{die, kill, call, event, queued}
 use Rattle.protocol_model.specs.Reading.{admitted, welcomed, bereft, judge, take_back, refused_join, welcome, told_of, bereave, read, receive}
-use Rattle.protocol_model.specs.World.{Opening, in_world, World, left, WorldEvent, At, Deliver, place, refusal, join_number, heard, turn_of, apply, letter_taken, leaver_closed_out, accepted, opening_world, in_cluster, local_causes}
+use Rattle.protocol_model.specs.World.{Opening, in_world, World, left, WorldEvent, At, Deliver, place, refusal, join_number, heard, turn_of, accepted, opening_world, in_cluster, local_causes}
+use Rattle.protocol_model.proofs.Waiting.{accepted-node}
 use Rattle.registry_model.proofs.Updates.{by_test, at_other}
 use Rattle.moves.proofs.Indices.{both, not_true}
 use Rattle.moves.proofs.Invariants
@@ -364,23 +365,6 @@ module _ (o : Opening) (w : World) (B : Base o w) (a : ℕ) (here : in_world o a
   event-rests (Event.Exiting p) h = started (die o.bound a p (enter (Entry.Exit p) (begun v)))
       (died p (enter (Entry.Exit p) (begun v)) (record { sides = R.sides; work = R.work }))
   event-rests Event.Leave h = record { sides = R.sides; work = R.work }
-
-closed-node : (e : WorldEvent) (w : World) → (leaver_closed_out e w).node ≡ w.node
-closed-node (At a Event.Leave) w = refl
-closed-node (At a (Event.Calling c)) w = refl
-closed-node (At a Event.Retry) w = refl
-closed-node (At a (Event.Exiting p)) w = refl
-closed-node (Deliver f t) w = refl
-
-opened-node : (e : WorldEvent) (w : World) → (letter_taken e w).node ≡ w.node
-opened-node (Deliver f t) w = refl
-opened-node (At a e) w = refl
-
--- an accepted event changes its node alone
-pub accepted-node : (o : Opening) (w : World) (e : WorldEvent)
-    → (accepted o w e).node ≡ at w.node (place e) (turn_of o w e).node
-accepted-node o w e = closed-node e (apply (place e) (turn_of o w e) (letter_taken e w))
-    ∙ ap (λ (f : ℕ → Node). at f (place e) (turn_of o w e).node) (opened-node e w)
 
 -- it leaves its node at rest
 pub turn_rests : (o : Opening) (w : World) → Base o w → Near w → (e : WorldEvent)

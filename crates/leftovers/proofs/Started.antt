@@ -12,8 +12,8 @@ use Rattle.protocol_model.specs.Calling.{call, die}
 use Rattle.registry_model.specs.History.{Entry}
 use Rattle.protocol_model.specs.Reading.{read}
 use Rattle.protocol_model.specs.World.{join_number, Opening, World, WorldEvent, At, Deliver, place, heard, turn_of, accepted, opening_world}
+use Rattle.protocol_model.proofs.Waiting.{accepted-node}
 use Rattle.registry_model.proofs.Updates.{by_test}
-use Rattle.leftovers.proofs.RestEvents.{accepted-node}
 
 pub record Idle (a : ℕ) (v : Node) : Type 0 where
   pub strikes : owed a v.replica.table v.watch ≡ None

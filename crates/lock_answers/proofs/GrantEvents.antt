@@ -11,6 +11,7 @@ use Rattle.protocol_model.specs.Turn.{Turn, begun}
 use Rattle.protocol_model.specs.Registrar.{start}
 use Rattle.protocol_model.specs.Reading.{read}
 use Rattle.protocol_model.specs.World.{Opening, World, WorldEvent, At, Deliver, place, opening_world, refusal, join_number, turn_of, heard, accepted, run}
+use Rattle.protocol_model.proofs.Waiting.{accepted-node}
 use Rattle.moves.proofs.Rules
 use Rattle.moves.proofs.Rules.{Rule, Walked, is_quiet}
 use Rattle.walk.proofs.Runs.{rules_of}
@@ -20,7 +21,6 @@ use Rattle.leftovers.proofs.Told.{all_of_all}
 use Rattle.leftovers.proofs.Grounds.{Base, wide, between}
 use Rattle.leftovers.proofs.Near.{Near}
 use Rattle.leftovers.proofs.Families.{Families, families_keep, families_open, Whole, whole}
-use Rattle.leftovers.proofs.RestEvents.{accepted-node}
 use Rattle.lock_answers.proofs.Clear.{ClearAt, Clear, is_notice, clear_opens}
 use Rattle.lock_answers.proofs.Winning.{Ground, are_quiet, ground_chain}
 use Rattle.lock_answers.proofs.NoticeTurns.{behind, behind_clear}

@@ -13,6 +13,7 @@ use Rattle.protocol_model.specs.Turn.{Turn}
 use Rattle.protocol_model.specs.ClientLocks.{Try, last_try}
 use Rattle.protocol_model.specs.LockAnswers.{tries_by, tries_of, AsksSomebody, IsHeldSomewhere, AtEachStep}
 use Rattle.protocol_model.specs.World.{Opening, in_world, World, WorldEvent, At, Deliver, place, opening_world, refusal, turn_of, accepted, answers}
+use Rattle.protocol_model.proofs.Waiting.{accepted-node}
 use Rattle.registry_model.proofs.Updates.{at_same}
 use Rattle.moves.proofs.Rules
 use Rattle.moves.proofs.Rules.{Rule}
@@ -37,7 +38,7 @@ use Rattle.leftovers.proofs.Together.{All}
 use Rattle.leftovers.proofs.Grounds.{wide, lock_state}
 use Rattle.leftovers.proofs.Families.{whole}
 use Rattle.leftovers.proofs.Rest.{Rests}
-use Rattle.leftovers.proofs.RestEvents.{AllRest, all_rest_keeps, accepted-node}
+use Rattle.leftovers.proofs.RestEvents.{AllRest, all_rest_keeps}
 use Rattle.lock_answers.proofs.LastTry.{last_of, last_by, last_of_tries, tries_behind}
 use Rattle.lock_answers.proofs.Winning.{Ground, AsksMember, are_quiet, asks_by, own_call, chain_won}
 use Rattle.lock_answers.proofs.Besides.{found_any}

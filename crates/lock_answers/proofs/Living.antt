@@ -22,6 +22,7 @@ use Rattle.protocol_model.specs.Fit.{is_numbered}
 use Rattle.protocol_model.specs.LockAnswers.{IsCallOf, AnswersTheLiving, AtEachStep}
 use Rattle.protocol_model.specs.Refusals.{HasOpenCall}
 use Rattle.protocol_model.specs.World.{Opening, World, left, WorldEvent, At, Deliver, place, refusal, turn_of, accepted, happens, answers, local_causes}
+use Rattle.protocol_model.proofs.Waiting.{accepted-node}
 use Rattle.moves.proofs.Rules
 use Rattle.moves.proofs.Rules.{Rule}
 use Rattle.moves.proofs.Rules.Rule.{CallsLock}
@@ -41,7 +42,6 @@ use Rattle.leftovers.proofs.Together
 use Rattle.leftovers.proofs.Together.{whole_opens, run_whole}
 use Rattle.leftovers.proofs.Doomed.{start-watch}
 use Rattle.leftovers.proofs.Grounds.{Base, wide, base_keeps, replicas}
-use Rattle.leftovers.proofs.RestEvents.{accepted-node}
 use Rattle.leftovers.proofs.Callers.{IsCalledBy, called_longer, last_called}
 use Rattle.leftovers.proofs.Unanswered.{open_waits}
 use Rattle.lock_answers.proofs.Winning.{Ground}

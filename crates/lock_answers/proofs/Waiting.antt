@@ -24,7 +24,7 @@ use Rattle.leftovers.proofs.Clients.{call_at, IsLive, live_parts, caller_lives, 
 use Rattle.leftovers.proofs.Families.{whole}
 use Rattle.leftovers.proofs.Ongoing.{is_deleting}
 use Rattle.leftovers.proofs.Quiet.{calls_wait}
-use Rattle.leftovers.proofs.RestEvents.{accepted-node}
+use Rattle.protocol_model.proofs.Waiting.{accepted-node}
 use Rattle.leftovers.proofs.Story.{written}
 use Rattle.leftovers.proofs.Tied.{run-push}
 use Rattle.leftovers.proofs.Together.{replicas, run_whole}

@@ -1,5 +1,6 @@
 -- A turn is one of its node.
 use Rattle.std.proofs.Common.{◌≡◌, ◌-◌, ◌⊎◌, inl, inr, ⊎_elim, ℕ, Bool, true, false, Option, None, List, refl, ap, ◌∙◌, MatchBool}
+use Rattle.link.specs.declared.faults.LinkFault.{LinkFault}
 use Rattle.node_loop.specs.declared.Answer.{Answer}
 use Rattle.node_loop.specs.declared.Event.{Event}
 use Rattle.node_loop.specs.declared.Event.TheVariants.{Retry}

@@ -1,5 +1,6 @@
 -- Nothing is left over: once no letter waits, locks, deaths and departures are as they were told, and once no operation waits
 -- for a retry either, no name has a dead owner.
+use mathlib.Core.Logic.{◌⊎◌}
 use Rattle.std.specs.Prelude.{ℕ, true, false, ◌==◌, ◌≡◌, ◌<◌, ◌≤◌, IsTrue, Contains, List, []}
 use Rattle.registry_model.specs.Process.{Process}
 use Rattle.registry_model.specs.Table.{Pair}
@@ -7,8 +8,9 @@ use Rattle.registry_model.specs.History.{standing_of, is_free, registry_of}
 use Rattle.protocol_model.specs.Letter.{Id, is_id, is_resource}
 use Rattle.protocol_model.specs.LockTable.{Grant, count, last_count, is_free_for}
 use Rattle.protocol_model.specs.Watch.{is_dead}
-use Rattle.protocol_model.specs.Event.{is_waiting}
-use Rattle.protocol_model.specs.World.{Opening, in_world, in_cluster, World, left, WorldEvent, opening_world, run}
+use Rattle.protocol_model.specs.Round.{Round}
+use Rattle.protocol_model.specs.Node.{Op, Current}
+use Rattle.protocol_model.specs.World.{Opening, in_world, in_cluster, World, left, WorldEvent, opening_world, happens, run}
 use Rattle.protocol_model.specs.Course.{global_given}
 use Rattle.protocol_model.specs.ClientLocks.{is_no_more, holds_count, Holds}
 
@@ -23,7 +25,14 @@ IsQuiet o w = (f c : ℕ) → in_world o f ≡ true → Runs o w c → w.links.q
 -- and no operation of a running node waits for a retry
 pub record IsSettled (o : Opening) (w : World) : Type 0 where
   pub quiet : IsQuiet o w
-  pub retried : (c : ℕ) → Runs o w c → is_waiting (w.node c).current ≡ false
+  pub retried : (c : ℕ) (op : Op) → Runs o w c → (w.node c).current ≡ Current.Waiting op → ⊥
+
+-- An operation waits for a retry only behind a round of its own: it waited before the event, or its node was asking for the
+-- global lock for it
+abbrev pub WaitsBehindARound : Type 0
+WaitsBehindARound = (o : Opening) (w : World) (e : WorldEvent) (a : ℕ) (op : Op) →
+    ((happens o w e).node a).current ≡ Current.Waiting op →
+    ((w.node a).current ≡ Current.Waiting op) ⊎ ((round : Round) × ((w.node a).current ≡ Current.Asking op round))
 
 -- p is dead in the registry of the history
 abbrev pub IsKnownDead : Opening → World → Process → Type 0

@@ -22,6 +22,8 @@ pub mod ClientLocks
 pub mod Leftovers
 pub mod QuietCalls
 pub mod Script
+pub mod Delivering
+pub mod Idle
 pub mod SharedLaws
 pub mod RowWords
 pub mod Tests

@@ -158,9 +158,9 @@ module _ (o : Opening) (ps : List Played) (now : Seen) (e : WorldEvent) where
     pub spent : length (calls_at node ps) ≡ last_u32
     pub only : (refusal : Refusal) → now.refusal e ≡ Some refusal → refusal ≡ CallsSpent
 
--- An event is refused so exactly for this reason. A leave is refused as the clause `leave` of the headline says. Nothing is said of
--- two refusals, which tell of more than is seen: that a link is empty (`EmptyLink`), and that nothing waits for a retry
--- (`NothingToRetry`)
+-- An event is refused so exactly for this reason. A leave is refused as the clause `leave` of the headline says. Two refusals tell
+-- of more than is seen: that a link is empty (`EmptyLink`), and that nothing waits for a retry (`NothingToRetry`). When they come
+-- is said by `RefusesTheIdle`
 pub record SaysWhy (o : Opening) (ps : List Played) (now : Seen) : Type 0 where
   pub no_such_node : (e : WorldEvent) → (now.refusal e ≡ Some NoSuchNode) ↔ IsNowhere o ps now e
   pub node_left : (e : WorldEvent) → (now.refusal e ≡ Some NodeLeft) ↔ IsLate o ps now e

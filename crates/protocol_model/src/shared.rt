@@ -1,10 +1,13 @@
 //! What the functions mean that the rules and the statements share, and how a world opens.
 ghost use Rattle.std.specs.Prelude.{◌≡◌, ◌-◌, ◌^◌, codes};
 ghost use Rattle.registry_model.specs.Process.{text_of};
+ghost use Rattle.protocol_model.specs.Delivering.{DeliversTheFirst};
+ghost use Rattle.protocol_model.specs.Idle.{RefusesTheIdle};
+ghost use Rattle.protocol_model.specs.Leftovers.{WaitsBehindARound};
 ghost use Rattle.protocol_model.specs.LockTable.{last_count};
 ghost use Rattle.protocol_model.specs.Event.{last_u32, global_resource};
 ghost use Rattle.protocol_model.specs.SharedLaws.{ComparesIds, AsksMembers, GrantsTheFree, TellsTheEmpty, TellsItsPlaces, TellsItsNodes, OpensEmpty};
-ghost use Rattle.protocol_model.specs.World.{Opening, opening_world};
+ghost use Rattle.protocol_model.specs.World.{Opening, World, opening_world};
 
 /// When two ids of locks are one, or of one resource.
 pub fn ids()
@@ -46,4 +49,19 @@ pub fn worlds()
 /// How a world opens.
 pub fn opening()
     ensures { (o : Opening) → OpensEmpty o (opening_world o) }
+{}
+
+/// What waits for a retry.
+pub fn retries()
+    ensures { WaitsBehindARound }
+{}
+
+/// What is delivered next, and when a world is settled.
+pub fn deliveries()
+    ensures { (o : Opening) (w : World) → DeliversTheFirst o w }
+{}
+
+/// What is refused since nothing waits.
+pub fn idle()
+    ensures { (o : Opening) (w : World) → RefusesTheIdle o w }
 {}
