@@ -3,9 +3,9 @@ use Rattle.std.proofs.Common.{◌≡◌, List, [], ◌∷◌, Result, Ok, Err, r
 use Rattle.protocol_model.specs.Leftovers.{NothingIsLeft}
 use Rattle.protocol_model.specs.Script.{Line}
 use Rattle.protocol_model.specs.World.{Opening, World, opening_world, run}
-use Rattle.command_lines.specs.Agreeing.{HeadlineAfter}
-use Rattle.command_lines.proofs.Agreeing.{run-append, headline_after}
-use Rattle.command_lines.proofs.Leftovers.{nothing_left_after}
+use Rattle.cluster_world.specs.Agreeing.{HeadlineAfter}
+use Rattle.cluster_world.proofs.Agreeing.{run-append, headline_after}
+use Rattle.cluster_world.proofs.Leftovers.{nothing_left_after}
 use Rattle.command_lines.specs.declared.faults.LineFault.{LineFault}
 use Rattle.cluster_script.specs.Script.{behind, behind_all, events_by, events_by_all, LinesAgree, LinesLeaveNothing}
 

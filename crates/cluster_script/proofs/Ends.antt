@@ -9,7 +9,7 @@ use Rattle.text_lines.specs.Lines.{count_of, count_of_all, spoken}
 use Rattle.text_lines.specs.Words.{words}
 use Rattle.command_lines.specs.Commands.{unread}
 use Rattle.std.specs.Prelude.{codes}
-use Rattle.command_lines.specs.Starting.{start_refused}
+use Rattle.command_lines.specs.Openings.{start_refused}
 use Rattle.command_lines.specs.declared.StartFault.{StartFault}
 use Rattle.command_lines.specs.declared.faults.LineFault.TheVariants.{BadLine, Text, Start}
 use Rattle.command_lines.specs.Printing.{Shown}

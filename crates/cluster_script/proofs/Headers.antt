@@ -3,11 +3,11 @@ use Rattle.std.proofs.Common.{ℕ, List, [], ◌∷◌, ◌++◌, ◌≡◌, ◌
 use Rattle.std.proofs.lemmas.Grind.{take_at_read}
 use Rattle.std.proofs.lemmas.List.{take-append-drop}
 use Rattle.term.specs.Spelling.{SpellsText}
-use Rattle.command_lines.specs.Starting.{start_refused}
+use Rattle.command_lines.specs.Openings.{start_refused}
 use Rattle.command_lines.specs.declared.StartFault.{StartFault}
 use Rattle.command_lines.specs.declared.faults.LineFault.{LineFault}
 use Rattle.std.specs.Prelude.{if◌then◌else◌}
-use Rattle.command_lines.specs.Held.{Held}
+use Rattle.cluster_world.specs.Held.{Held}
 use Rattle.std.specs.Prelude.{unwrap_or, is_some, MatchResult}
 use Rattle.term.specs.declared.faults.TextFault.{TextFault}
 use Rattle.command_lines.specs.declared.faults.LineFault.TheVariants.{Text, Start}
@@ -15,7 +15,7 @@ use Rattle.cluster_script.specs.Script.{AllSpell, ReadsTexts, LoneOpens, unless_
 use Rattle.cluster_script.specs.Headers.{ReadsHeader, StandsAt, Starts, OpensLone, OpensHeaders, ReadsLone, ReadsHeaders, StopsOpening}
 use Rattle.cluster_script.specs.declared.header.Headers.{Headers}
 use Rattle.cluster_script.specs.declared.header.Headers.TheVariants.{Open, Ended, Refused}
-use Rattle.command_lines.specs.Held.{Held}
+use Rattle.cluster_world.specs.Held.{Held}
 use Rattle.command_lines.specs.Commands.{LineAsks, asked_by}
 use Rattle.command_lines.specs.declared.grammar.Task.{Task}
 use Rattle.text_lines.specs.declared.faults.ScriptFault.{ScriptFault}

@@ -7,12 +7,12 @@ use Rattle.registry_model.specs.Process.{Nodes, nodes_of}
 use Rattle.protocol_model.specs.World.{Opening, in_world}
 use Rattle.term.specs.NodeSets.{set_of, IsNodeSet}
 use Rattle.boss_order.proofs.Sets.{nodes_of-set_of}
-use Rattle.command_lines.specs.NodeCoreHeld.{bound_of, IsWithin}
-use Rattle.command_lines.specs.Held.{Held}
-use Rattle.command_lines.specs.Seen.{opening_of}
-use Rattle.command_lines.specs.Starting.{Opens}
-use Rattle.command_lines.proofs.Bounds.{below_bound, all_below}
-use Rattle.command_lines.proofs.Listed.{world_is}
+use Rattle.cluster_world.specs.NodeCoreHeld.{bound_of, IsWithin}
+use Rattle.cluster_world.specs.Held.{Held}
+use Rattle.cluster_world.specs.Seen.{opening_of}
+use Rattle.cluster_world.specs.Starting.{Opens}
+use Rattle.cluster_world.proofs.Bounds.{below_bound, all_below}
+use Rattle.cluster_world.proofs.Listed.{world_is}
 use Rattle.cluster_script.specs.Script.{opening_for}
 
 -- the bound is no more than what all are below

@@ -6,14 +6,17 @@ use Rattle.std.specs.Io.KnownBytes.{Appends}
 use Rattle.protocol_model.specs.Event.{Answer as AnyAnswer, Refusal as AnyRefusal}
 use Rattle.protocol_model.specs.World.{Opening, refusal as refused, happens, accepted, answers}
 use Rattle.protocol_model.specs.Script.{Play, Output, Said, Error, outputs_of, okay}
-use Rattle.command_lines.specs.Held.{Held}
-use Rattle.command_lines.specs.Playing.{Played}
-use Rattle.command_lines.specs.Seen.{opening_with, opening_of, seen}
+use Rattle.cluster_world.specs.Held.{Held}
+use Rattle.cluster_world.specs.Playing.{Played}
+use Rattle.command_lines.specs.Openings.{opening_with}
+use Rattle.cluster_world.specs.Seen.{opening_of, seen}
 use Rattle.command_lines.specs.Events.{event_of}
 use Rattle.command_lines.specs.Refusals.{refusal_of, is_memory}
-use Rattle.command_lines.specs.NodeEventsSeen.{answer_of}
+use Rattle.command_lines.specs.NodeEventsSeen.{answer_of, fault_of, is_memory as is_node_memory}
 use Rattle.command_lines.specs.declared.Refusal.{Refusal}
 use Rattle.command_lines.specs.declared.Refusal.TheVariants as refusal
+use Rattle.command_lines.specs.declared.StepFault.{StepFault}
+use Rattle.command_lines.specs.declared.StepFault.TheVariants as fault
 use Rattle.command_lines.specs.declared.Answer.{Answer}
 use Rattle.command_lines.specs.declared.WorldEvent.{WorldEvent}
 use Rattle.command_lines.specs.declared.Event.TheVariants as event
@@ -116,22 +119,25 @@ play-refused old new e r a b q n w = record {
 }
 
 -- a refusal that has a word isn't want of memory
+not_memory_of_node : (fault : StepFault) (any : AnyRefusal) → fault_of fault ≡ Some any → is_node_memory fault ≡ false
+not_memory_of_node (fault.NotLive p) any e = refl
+not_memory_of_node (fault.Busy p) any e = refl
+not_memory_of_node fault.Reserved any e = refl
+not_memory_of_node fault.UnknownNode any e = refl
+not_memory_of_node fault.AlreadyJoined any e = refl
+not_memory_of_node fault.NoSuchProcess any e = refl
+not_memory_of_node fault.AlreadyExited any e = refl
+not_memory_of_node fault.SerialsSpent any e = refl
+not_memory_of_node fault.NothingToRetry any e = refl
+not_memory_of_node fault.HoldsLock any e = refl
+not_memory_of_node fault.CallsSpent any e = refl
+not_memory_of_node fault.Memory any e = cc
+
 pub not_memory : (r : Refusal) (any : AnyRefusal) → refusal_of r ≡ Some any → is_memory r ≡ false
 not_memory refusal.NoSuchNode any e = refl
 not_memory refusal.NodeLeft any e = refl
 not_memory refusal.EmptyLink any e = refl
-not_memory (refusal.NotLive p) any e = refl
-not_memory (refusal.Busy p) any e = refl
-not_memory refusal.Reserved any e = refl
-not_memory refusal.UnknownNode any e = refl
-not_memory refusal.AlreadyJoined any e = refl
-not_memory refusal.NoSuchProcess any e = refl
-not_memory refusal.AlreadyExited any e = refl
-not_memory refusal.SerialsSpent any e = refl
-not_memory refusal.NothingToRetry any e = refl
-not_memory refusal.HoldsLock any e = refl
-not_memory refusal.CallsSpent any e = refl
-not_memory refusal.Memory any e = cc
+not_memory (refusal.Step fault) any e = not_memory_of_node fault any e
 
 -- the text of a line that isn't played
 pub text-fault : (h : Held) (f : LineFault) → error_line (word_of f) ≡ shown_on h (Err f)

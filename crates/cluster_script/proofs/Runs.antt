@@ -5,8 +5,8 @@ use Rattle.std.specs.Str.Lines.{lines}
 use Rattle.std.specs.Io.KnownBytes.{Appends, Keeps}
 use Rattle.protocol_model.specs.World.{Opening, World}
 use Rattle.protocol_model.specs.Script.{Line as ScriptLine}
-use Rattle.command_lines.specs.Held.{Held}
-use Rattle.command_lines.specs.Seen.{opening_of, seen}
+use Rattle.cluster_world.specs.Held.{Held}
+use Rattle.cluster_world.specs.Seen.{opening_of, seen}
 use Rattle.command_lines.specs.declared.faults.LineFault.{LineFault}
 use Rattle.text_lines.specs.declared.faults.ScriptFault.{ScriptFault}
 use Rattle.text_lines.specs.declared.faults.ScriptFault.TheVariants as fault

@@ -8,11 +8,11 @@ use Rattle.std.proofs.Math.Bool.{and-true}
 use Rattle.protocol_model.specs.Event.{Answer as AnyAnswer}
 use Rattle.protocol_model.specs.World.{Opening, World, WorldEvent as AnyEvent, happens, answers, all_answers, run, deliveries_left, next_delivery}
 use Rattle.protocol_model.specs.Script.{Settle, Output, Said, settled}
-use Rattle.command_lines.specs.Held.{Held}
-use Rattle.command_lines.specs.Seen.{opening_of, seen}
+use Rattle.cluster_world.specs.Held.{Held}
+use Rattle.cluster_world.specs.Seen.{opening_of, seen}
 use Rattle.command_lines.specs.Events.{event_of}
 use Rattle.command_lines.specs.NodeEventsSeen.{answer_of}
-use Rattle.command_lines.specs.Playing.{Played, WaitsOn}
+use Rattle.cluster_world.specs.Playing.{Played, WaitsOn}
 use Rattle.command_lines.specs.declared.Answer.{Answer}
 use Rattle.command_lines.specs.declared.WorldEvent.{WorldEvent}
 use Rattle.text_lines.specs.declared.faults.WriteFault.{WriteFault}

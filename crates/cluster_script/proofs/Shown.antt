@@ -6,9 +6,9 @@ use Rattle.protocol_model.specs.Event.{NoSuchNode, NodeLeft}
 use Rattle.protocol_model.specs.World.{left}
 use Rattle.protocol_model.specs.Script.{Output, Error, TableIs, MembersAre, shown_at}
 use Rattle.term.specs.NodeSets.{set_of, IsNodeSet}
-use Rattle.command_lines.specs.NodeCoreHeld.{IsWithin}
-use Rattle.command_lines.specs.Held.{Held}
-use Rattle.command_lines.specs.Seen.{opening_of, seen}
+use Rattle.cluster_world.specs.NodeCoreHeld.{IsWithin}
+use Rattle.cluster_world.specs.Held.{Held}
+use Rattle.cluster_world.specs.Seen.{opening_of, seen}
 use Rattle.command_lines.specs.Printing.{output_line, error_line, refusal_word, is_fine_output}
 use Rattle.cluster_script.specs.Script.{settle_limit}
 use Rattle.cluster_script.specs.Played.{IsShown, table_of, members_of}

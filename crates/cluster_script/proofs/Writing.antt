@@ -5,7 +5,7 @@ use Rattle.text_lines.proofs.Written.{AppendsPart-behind, AppendsPart-more}
 use Rattle.std.proofs.lemmas.List.{take-append-drop}
 use Rattle.std.proofs.lemmas.Grind.{take_at_read}
 use Rattle.protocol_model.specs.Script.{Said, Line as ScriptLine}
-use Rattle.command_lines.specs.Held.{Held}
+use Rattle.cluster_world.specs.Held.{Held}
 use Rattle.command_lines.specs.NodeEventsSeen.{answer_of}
 use Rattle.command_lines.specs.declared.Answer.{Answer}
 use Rattle.command_lines.specs.declared.faults.LineFault.{LineFault}

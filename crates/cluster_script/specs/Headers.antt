@@ -3,9 +3,9 @@ use Rattle.std.specs.Prelude.{ℕ, ◌≡◌, ◌+◌, List, [], ◌∷◌, map,
 use Rattle.protocol_model.specs.World.{Opening, opening_world}
 use Rattle.protocol_model.specs.Script.{Line as ScriptLine}
 use Rattle.term.specs.declared.faults.TextFault.{TextFault}
-use Rattle.command_lines.specs.Held.{Held}
-use Rattle.command_lines.specs.Seen.{opening_of, seen}
-use Rattle.command_lines.specs.Starting.{start_refused}
+use Rattle.cluster_world.specs.Held.{Held}
+use Rattle.cluster_world.specs.Seen.{opening_of, seen}
+use Rattle.command_lines.specs.Openings.{start_refused}
 use Rattle.command_lines.specs.declared.StartFault.{StartFault}
 use Rattle.command_lines.specs.declared.faults.LineFault.{LineFault}
 use Rattle.command_lines.specs.declared.faults.LineFault.TheVariants.{Start}

@@ -7,9 +7,9 @@ use Rattle.protocol_model.specs.Script.{Line, events_in, printed}
 use Rattle.protocol_model.specs.Leftovers.{NothingIsLeft}
 use Rattle.term.specs.declared.faults.TextFault.{TextFault}
 use Rattle.term.specs.Spelling.{SpellsText, RefusesText}
-use Rattle.command_lines.specs.Agreeing.{HeadlineAfter}
-use Rattle.command_lines.specs.Starting.{start_refused}
-use Rattle.command_lines.specs.Seen.{opening_with}
+use Rattle.cluster_world.specs.Agreeing.{HeadlineAfter}
+use Rattle.command_lines.specs.Openings.{start_refused}
+use Rattle.command_lines.specs.Openings.{opening_with}
 use Rattle.command_lines.specs.declared.faults.LineFault.{LineFault}
 use Rattle.command_lines.specs.declared.faults.LineFault.TheVariants.{BadLine, Text, Start}
 use Rattle.text_lines.specs.declared.faults.ScriptFault.{ScriptFault}

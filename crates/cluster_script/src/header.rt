@@ -10,7 +10,8 @@ ghost use Rattle.cluster_script.specs.Headers.{ReadsHeader, Starts, StartsCluste
 ghost use Rattle.cluster_script.specs.Played.{StopsReading};
 
 use crate::reading::next_line;
-use command_lines::{LineFault, StartFault, Task, World, ran_out, read_task, text_of};
+use cluster_world::World;
+use command_lines::{LineFault, StartFault, Task, ran_out, read_task, text_of};
 use name_table::IndexTable;
 use std::alloc::{AllocError, Global};
 use std::io::{BufReader, Read, Write};

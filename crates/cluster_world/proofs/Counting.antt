@@ -25,7 +25,7 @@ use Rattle.lock_answers.proofs.Together.{All}
 use Rattle.lock_answers.proofs.Theorem.{calls_are_answered_once}
 use Rattle.node_core.specs.declared.Answer.{Answer}
 use Rattle.node_core.specs.NodeEventsSeen.{answer_of}
-use Rattle.cluster_world.specs.declared.events.WorldEvent.{WorldEvent}
+use Rattle.world_events.specs.declared.events.WorldEvent.{WorldEvent}
 use Rattle.cluster_world.specs.Held.{Held}
 use Rattle.cluster_world.specs.Seen.{opening_of, seen}
 use Rattle.cluster_world.specs.Playing.{events_of, accepts_all}

@@ -4,7 +4,7 @@ use Rattle.lock_answers.proofs.Nothing.{nothing_is_left}
 use Rattle.node_core.specs.declared.Answer.{Answer}
 use Rattle.protocol_model.specs.Leftovers.{NothingIsLeft}
 use Rattle.protocol_model.specs.World.{Opening, World, WorldEvent as AnyWorldEvent, opening_world, run}
-use Rattle.cluster_world.specs.declared.events.WorldEvent.{WorldEvent}
+use Rattle.world_events.specs.declared.events.WorldEvent.{WorldEvent}
 use Rattle.cluster_world.specs.Held.{Held}
 use Rattle.cluster_world.specs.Seen.{opening_of, seen}
 use Rattle.cluster_world.specs.Playing.{events_of}

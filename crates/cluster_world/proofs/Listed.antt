@@ -17,7 +17,7 @@ use Rattle.term.proofs.NodePlaces.{place-Some}
 use Rattle.boss_order.proofs.Sets.{set_of-item, nodes_of-set_of}
 use Rattle.node_core.specs.Held.{bound_of}
 use Rattle.node_core.proofs.Bounds.{below_bound, all_below}
-use Rattle.cluster_world.specs.Seen.{opening_with}
+use Rattle.world_events.specs.Openings.{opening_with}
 
 -- a node has a place where it is listed
 pub known_place : (xs : List ℕ) (a i : ℕ) → place a xs ≡ Some i → set_of xs a ≡ true

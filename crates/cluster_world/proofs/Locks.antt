@@ -9,9 +9,10 @@ use Rattle.protocol_model.specs.ClientLocks.{Tally, tally_from, tally_after, las
 use Rattle.protocol_model.specs.Event.{Refusal as AnyRefusal}
 use Rattle.protocol_model.specs.Letter.{Id, Client}
 use Rattle.protocol_model.specs.World.{Opening, World, WorldEvent as AnyWorldEvent, opening_world, refusal, happens, answers, run}
-use Rattle.cluster_world.specs.declared.events.WorldEvent.{WorldEvent}
+use Rattle.world_events.specs.declared.events.WorldEvent.{WorldEvent}
 use Rattle.cluster_world.specs.Held.{Held}
-use Rattle.cluster_world.specs.Seen.{opening_with, opening_of, seen}
+use Rattle.world_events.specs.Openings.{opening_with}
+use Rattle.cluster_world.specs.Seen.{opening_of, seen}
 use Rattle.cluster_world.specs.Playing.{events_of}
 use Rattle.cluster_world.specs.Agreeing.{AgreesAfter, Agrees}
 use Rattle.cluster_world.specs.Locks.{LocksAfter, LocksBehind, NeverBothHold, HasLock, is_left, is_kept}

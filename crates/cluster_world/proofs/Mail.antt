@@ -12,8 +12,8 @@ use Rattle.link.specs.Faults.{joins, IsUnsent}
 use Rattle.link.specs.Held.{Held, place, only_to}
 use Rattle.node_core.specs.declared.Letter.{Letter}
 use Rattle.node_core.specs.Steps.{IsSaidBy}
-use Rattle.cluster_world.specs.declared.events.Refusal.TheVariants.{NoSuchNode, Memory}
-use Rattle.cluster_world.specs.Refusals.{refusal_on}
+use Rattle.world_events.specs.declared.refusal.Refusal.TheVariants.{NoSuchNode}
+use Rattle.world_events.specs.Refusals.{refusal_on, out_of_memory}
 use Rattle.cluster_world.specs.Links.{mapped, letters_to, AreFit}
 
 -- links with these queues
@@ -113,11 +113,11 @@ others_of P s ss rest is all = λ k d l. subst (λ (xs : List (ℕ × Letter)). 
 
 -- between nodes of the mesh a letter isn't sent for want of memory alone
 pub only_memory : (fault : LinkFault) (a t : ℕ) (h k : Held Letter) → k.nodes ≡ h.nodes → joins a t h ≡ true
-    → IsUnsent fault a t k → refusal_on fault ≡ Memory
+    → IsUnsent fault a t k → refusal_on fault ≡ out_of_memory
 only_memory on_link.NoSuchNode a t h k same known f =
     never (sym known ∙ ap (λ (ns : List ℕ). is_some (place a ns) && is_some (place t ns)) (sym same) ∙ f)
   where
-    never : true ≡ false → NoSuchNode ≡ Memory
+    never : true ≡ false → NoSuchNode ≡ out_of_memory
     never e = cc
 only_memory on_link.EmptyLink a t h k same known f = absurd f
 only_memory on_link.Full a t h k same known f = absurd f

@@ -25,18 +25,20 @@ use Rattle.node_core.specs.declared.Letter.{Letter}
 use Rattle.node_core.specs.Held.{Held as Core, bound_of}
 use Rattle.node_core.specs.Letters.{letter_of}
 use Rattle.node_core.specs.Seen.{node_of}
-use Rattle.node_core.specs.NodeEventsSeen.{answer_of}
+use Rattle.node_core.specs.declared.StepFault.{StepFault}
+use Rattle.node_core.specs.declared.StepFault.TheVariants.{NotLive, Busy, Reserved, UnknownNode, AlreadyJoined, NoSuchProcess, AlreadyExited, SerialsSpent, NothingToRetry, HoldsLock, CallsSpent, Memory}
+use Rattle.node_core.specs.NodeEventsSeen.{answer_of, fault_of}
 use Rattle.node_core.specs.Steps.{IsTurn, IsSaidBy, IsAskedWithin, IsHeardWithin, refusal_of as node_refusal}
-use Rattle.cluster_world.specs.declared.events.Event.{Event}
-use Rattle.cluster_world.specs.declared.events.Event.TheVariants.{Call, Retry, Exit, Leave}
-use Rattle.cluster_world.specs.declared.events.Refusal.{Refusal}
-use Rattle.cluster_world.specs.declared.events.Refusal.TheVariants.{NoSuchNode, NodeLeft, EmptyLink, NotLive, Busy, Reserved, UnknownNode, AlreadyJoined, NoSuchProcess, AlreadyExited, SerialsSpent, NothingToRetry, HoldsLock, CallsSpent, Memory}
-use Rattle.cluster_world.specs.declared.events.WorldEvent.TheVariants.{At, Deliver}
-use Rattle.cluster_world.specs.Events.{node_event, own_event_of, event_of, is_leave, knows_contact}
+use Rattle.world_events.specs.declared.events.Event.{Event}
+use Rattle.world_events.specs.declared.events.Event.TheVariants.{Call, Retry, Exit, Leave}
+use Rattle.world_events.specs.declared.refusal.Refusal.{Refusal}
+use Rattle.world_events.specs.declared.refusal.Refusal.TheVariants.{NoSuchNode, NodeLeft, EmptyLink, Step}
+use Rattle.world_events.specs.declared.events.WorldEvent.TheVariants.{At, Deliver}
+use Rattle.world_events.specs.Events.{node_event, own_event_of, event_of, is_leave, knows_contact}
 use Rattle.cluster_world.specs.Held.{Held, IsWhole}
 use Rattle.cluster_world.specs.Links.{mapped, AreFit}
 use Rattle.cluster_world.specs.Playing.{Played, RefusedWith}
-use Rattle.cluster_world.specs.Refusals.{refusal_on, is_memory}
+use Rattle.world_events.specs.Refusals.{refusal_on, is_memory, out_of_memory}
 use Rattle.cluster_world.specs.Seen.{opening_of, node_with, seen}
 use Rattle.cluster_world.specs.Steps.{Stands, Moves, FailsAt}
 use Rattle.cluster_world.proofs.Mail.{mapped-taken, mapped-closed_out, fit_taken, fit_closed}
@@ -204,19 +206,8 @@ pub refuses_own : (h : Held) (a : ℕ) (e : Event) → knows_contact h.nodes e �
     → FailsAt r a (node_event e) h → RefusedWith r (At a e) h
 refuses_own h a e known NoSuchNode F = refused_stranger h a (own_event_of e) F
 refuses_own h a e known NodeLeft F = refused_left h a (own_event_of e) (other_inside h a e F.0 known) F.0 F.1
-refuses_own h a e known EmptyLink (c, S, q) = refused_own h a c S e known ∙ q
-refuses_own h a e known (NotLive p) (c, S, q) = refused_own h a c S e known ∙ q
-refuses_own h a e known (Busy p) (c, S, q) = refused_own h a c S e known ∙ q
-refuses_own h a e known Reserved (c, S, q) = refused_own h a c S e known ∙ q
-refuses_own h a e known UnknownNode (c, S, q) = refused_own h a c S e known ∙ q
-refuses_own h a e known AlreadyJoined (c, S, q) = refused_own h a c S e known ∙ q
-refuses_own h a e known NoSuchProcess (c, S, q) = refused_own h a c S e known ∙ q
-refuses_own h a e known AlreadyExited (c, S, q) = refused_own h a c S e known ∙ q
-refuses_own h a e known SerialsSpent (c, S, q) = refused_own h a c S e known ∙ q
-refuses_own h a e known NothingToRetry (c, S, q) = refused_own h a c S e known ∙ q
-refuses_own h a e known HoldsLock (c, S, q) = refused_own h a c S e known ∙ q
-refuses_own h a e known CallsSpent (c, S, q) = refused_own h a c S e known ∙ q
-refuses_own h a e known Memory (c, S, q) = refused_own h a c S e known ∙ q
+refuses_own h a e known EmptyLink F = absurd F
+refuses_own h a e known (Step fault) (c, S, q) = refused_own h a c S e known ∙ q
 
 -- an event that is accepted, with what it makes
 happens_by : (h : Held) (e : AnyWorldEvent) (w : World) (u : Turn) → refusal (opening_of h) (seen h) e ≡ None
@@ -289,6 +280,21 @@ module _ (h : Held) (whole : IsWhole h) (a : ℕ) where
     fit = subst (λ (w : Links Letter). AreFit h.nodes w) (sym closed)
         (fit_closed h.nodes a (links_of h.links) whole.fit);
   }
+
+-- of the faults of a node, want of memory alone is no refusal of the protocol's
+unrefused : (fault : StepFault) → None ≡ fault_of fault → fault ≡ Memory
+unrefused (NotLive p) q = cc
+unrefused (Busy p) q = cc
+unrefused Reserved q = cc
+unrefused UnknownNode q = cc
+unrefused AlreadyJoined q = cc
+unrefused NoSuchProcess q = cc
+unrefused AlreadyExited q = cc
+unrefused SerialsSpent q = cc
+unrefused NothingToRetry q = cc
+unrefused HoldsLock q = cc
+unrefused CallsSpent q = cc
+unrefused Memory q = refl
 
 -- the front of a list
 front : (ls : List Letter) (l : Letter) → slice_get ls 0 ≡ Some l → ls ≡ l ∷ drop 1 ls
@@ -405,22 +411,11 @@ module _ (h : Held) (whole : IsWhole h) (f t : ℕ) where
       up_still = ap (λ (w : Links Letter). w.closed t) off ∙ up
 
       -- a letter is refused by want of memory alone
-      only_memory : (r : Refusal) → FailsAt r t (FromPeer f letter) off_link → r ≡ Memory
+      only_memory : (r : Refusal) → FailsAt r t (FromPeer f letter) off_link → r ≡ out_of_memory
       only_memory NoSuchNode F = cc (F, receiver)
       only_memory NodeLeft F = cc (F.1, up_still)
-      only_memory EmptyLink (c, S, q) = cc
-      only_memory (NotLive p) (c, S, q) = cc
-      only_memory (Busy p) (c, S, q) = cc
-      only_memory Reserved (c, S, q) = cc
-      only_memory UnknownNode (c, S, q) = cc
-      only_memory AlreadyJoined (c, S, q) = cc
-      only_memory NoSuchProcess (c, S, q) = cc
-      only_memory AlreadyExited (c, S, q) = cc
-      only_memory SerialsSpent (c, S, q) = cc
-      only_memory NothingToRetry (c, S, q) = cc
-      only_memory HoldsLock (c, S, q) = cc
-      only_memory CallsSpent (c, S, q) = cc
-      only_memory Memory F = refl
+      only_memory EmptyLink F = absurd F
+      only_memory (Step fault) (c, S, q) = ap Step (unrefused fault q)
 
       pub never_kept : (r : Refusal) → FailsAt r t (FromPeer f letter) off_link → is_memory r ≡ false → ⊥
       never_kept r F kept = let out : is_memory r ≡ true = ap is_memory (only_memory r F) in cc

@@ -7,12 +7,12 @@ use Rattle.protocol_model.specs.Event.{Answer as AnyAnswer, Refusal as AnyRefusa
 use Rattle.protocol_model.specs.World.{Opening, World, WorldEvent as AnyWorldEvent, refusal, happens, answers, run, all_answers}
 use Rattle.node_core.specs.declared.Answer.{Answer}
 use Rattle.node_core.specs.NodeEventsSeen.{answer_of}
-use Rattle.cluster_world.specs.declared.events.WorldEvent.{WorldEvent}
+use Rattle.world_events.specs.declared.events.WorldEvent.{WorldEvent}
 use Rattle.cluster_world.specs.Held.{Held}
-use Rattle.cluster_world.specs.Events.{event_of}
+use Rattle.world_events.specs.Events.{event_of}
 use Rattle.cluster_world.specs.Seen.{opening_of, seen}
-use Rattle.cluster_world.specs.declared.events.Refusal.{Refusal}
-use Rattle.cluster_world.specs.Refusals.{is_memory}
+use Rattle.world_events.specs.declared.refusal.Refusal.{Refusal}
+use Rattle.world_events.specs.Refusals.{is_memory}
 use Rattle.cluster_world.specs.Playing.{Keeps, Played, RefusedWith, IsSoFar, Ran, events_of, accepts_all}
 use Rattle.cluster_world.proofs.Agreeing.{same_opening}
 

@@ -6,18 +6,20 @@ use Rattle.protocol_model.specs.Event.{Answer as AnyAnswer, Refusal as AnyRefusa
 use Rattle.protocol_model.specs.World.{Opening, World, WorldEvent as AnyWorldEvent, refusal, happens, answers, run, all_answers}
 use Rattle.node_core.specs.declared.Answer.{Answer}
 use Rattle.node_core.specs.declared.Call.{Call}
-use Rattle.node_core.specs.NodeEventsSeen.{answer_of, call_of}
-use Rattle.cluster_world.specs.declared.events.Refusal.{Refusal}
-use Rattle.cluster_world.specs.declared.events.Refusal.TheVariants.{NoSuchNode, NodeLeft, EmptyLink, NotLive, Busy, Reserved, UnknownNode, AlreadyJoined, NoSuchProcess, AlreadyExited, SerialsSpent, NothingToRetry, HoldsLock, CallsSpent, Memory}
-use Rattle.cluster_world.specs.declared.events.Event.TheVariants.{Call as Calls}
-use Rattle.cluster_world.specs.declared.events.WorldEvent.{WorldEvent}
-use Rattle.cluster_world.specs.declared.events.WorldEvent.TheVariants.{At}
+use Rattle.node_core.specs.declared.StepFault.{StepFault}
+use Rattle.node_core.specs.declared.StepFault.TheVariants.{NotLive, Busy, Reserved, UnknownNode, AlreadyJoined, NoSuchProcess, AlreadyExited, SerialsSpent, NothingToRetry, HoldsLock, CallsSpent, Memory}
+use Rattle.node_core.specs.NodeEventsSeen.{answer_of, call_of, fault_of, is_memory as node_memory}
+use Rattle.world_events.specs.declared.refusal.Refusal.{Refusal}
+use Rattle.world_events.specs.declared.refusal.Refusal.TheVariants.{NoSuchNode, NodeLeft, EmptyLink, Step}
+use Rattle.world_events.specs.declared.events.Event.TheVariants.{Call as Calls}
+use Rattle.world_events.specs.declared.events.WorldEvent.{WorldEvent}
+use Rattle.world_events.specs.declared.events.WorldEvent.TheVariants.{At}
 use Rattle.cluster_world.specs.declared.seat.SeatFault.{SeatFault}
 use Rattle.cluster_world.specs.declared.seat.SeatFault.TheVariants.{Refused, NoMemory, NoAnswer}
-use Rattle.cluster_world.specs.Events.{event_of}
+use Rattle.world_events.specs.Events.{event_of}
 use Rattle.cluster_world.specs.Held.{Held}
 use Rattle.cluster_world.specs.Playing.{Keeps, Played, RefusedWith, events_of, accepts_all}
-use Rattle.cluster_world.specs.Refusals.{refusal_of, is_memory}
+use Rattle.world_events.specs.Refusals.{refusal_of, is_memory, out_of_memory}
 use Rattle.cluster_world.specs.Seats.{most_events, verdict_in, next_number, next_for, awaiting, until_answered, WentThrough, Waited, HasWaited, Called, SetsLock}
 use Rattle.cluster_world.specs.Seen.{opening_of, seen}
 use Rattle.cluster_world.specs.Agreeing.{Agrees}
@@ -122,18 +124,21 @@ refusal_there : (r : Refusal) → is_memory r ≡ false → (x : AnyRefusal) × 
 refusal_there NoSuchNode e = (_, refl)
 refusal_there NodeLeft e = (_, refl)
 refusal_there EmptyLink e = (_, refl)
-refusal_there (NotLive p) e = (_, refl)
-refusal_there (Busy p) e = (_, refl)
-refusal_there Reserved e = (_, refl)
-refusal_there UnknownNode e = (_, refl)
-refusal_there AlreadyJoined e = (_, refl)
-refusal_there NoSuchProcess e = (_, refl)
-refusal_there AlreadyExited e = (_, refl)
-refusal_there SerialsSpent e = (_, refl)
-refusal_there NothingToRetry e = (_, refl)
-refusal_there HoldsLock e = (_, refl)
-refusal_there CallsSpent e = (_, refl)
-refusal_there Memory e = cc
+refusal_there (Step fault) e = fault_there fault e
+  where
+    fault_there : (fault : StepFault) → node_memory fault ≡ false → (x : AnyRefusal) × (fault_of fault ≡ Some x)
+    fault_there (NotLive p) e = (_, refl)
+    fault_there (Busy p) e = (_, refl)
+    fault_there Reserved e = (_, refl)
+    fault_there UnknownNode e = (_, refl)
+    fault_there AlreadyJoined e = (_, refl)
+    fault_there NoSuchProcess e = (_, refl)
+    fault_there AlreadyExited e = (_, refl)
+    fault_there SerialsSpent e = (_, refl)
+    fault_there NothingToRetry e = (_, refl)
+    fault_there HoldsLock e = (_, refl)
+    fault_there CallsSpent e = (_, refl)
+    fault_there Memory e = cc
 
 module _ (a k : ℕ) (old mid new : Held) (i : ℕ) (e : WorldEvent) (within : i < most_events)
     (waiting : IsWaiting a k old mid (most_events - i))
@@ -170,12 +175,12 @@ module _ (a k : ℕ) (old mid new : Held) (i : ℕ) (e : WorldEvent) (within : i
           ∙ there.1)
 
   pub refused_end : (r : Refusal) (fault : SeatFault) → RefusedWith r e mid → (is_memory r ≡ false → new ≡ mid)
-      → fault ≡ (if is_memory r then Refused Memory else NoAnswer) → HasWaited a k old new (Err fault)
+      → fault ≡ (if is_memory r then Refused out_of_memory else NoAnswer) → HasWaited a k old new (Err fault)
   refused_end r fault refused same is = subst (λ (f : SeatFault). HasWaited a k old new (Err f)) (sym is)
       (go (is_memory r) refl)
     where
       go : (b : Bool) → is_memory r ≡ b
-          → HasWaited a k old new (Err (if b then Refused Memory else NoAnswer))
+          → HasWaited a k old new (Err (if b then Refused out_of_memory else NoAnswer))
       go true q = refl
       go false q = stops r refused q (same q)
 

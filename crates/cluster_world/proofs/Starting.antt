@@ -26,15 +26,11 @@ use Rattle.cluster_world.specs.Held.{IsWhole}
 use Rattle.world_history.specs.declared.entry.HistoryEntry.{HistoryEntry}
 use Rattle.cluster_world.specs.Cores.{core_of}
 use Rattle.world_history.specs.Histories.{entry_of}
-use Rattle.cluster_world.specs.Seen.{opening_with, opening_core, node_with, seen}
+use Rattle.world_events.specs.Openings.{Opened, opening_with, opening_core, IsOpening}
+use Rattle.cluster_world.specs.Seen.{node_with, seen}
 use Rattle.cluster_world.specs.Starting.{Opens}
 use Rattle.cluster_world.proofs.Listed.{world_is}
 use Rattle.cluster_world.proofs.Steps.{name_of}
-
--- a node of the list, alone
-pub one_within : (xs : List ℕ) (i n : ℕ) → i < length xs → n ≡ get_or xs i n → IsWithin xs (n ∷ [])
-one_within xs i n l is c e =
-    ap (set_of xs) (sym (eqb-true n c (sym (or-false (n == c)) ∙ e)) ∙ is) ∙ set_of-item xs i n l
 
 -- one core more was made
 pub made : {X Y : Type 0} (f : X → Y) (xs : List X) (i : ℕ) (x : X) → i < length xs → x ≡ get_or xs i x
@@ -42,46 +38,7 @@ pub made : {X Y : Type 0} (f : X → Y) (xs : List X) (i : ℕ) (x : X) → i < 
 made {X} {Y} f xs i x l is = ap (λ (y : X). map f (take i xs) ++ f y ∷ []) is
     ∙ sym (ap (map f) (take_at_read xs i x l).1 ∙ map-append f (take i xs) (get_or xs i x ∷ []))
 
--- a set grows by one node at most
-grown : (xs : List ℕ) (c : ℕ) → length (filter (λ m. nat_lt m c) xs) + length (filter (λ m. nat_lt c m) xs) ≤ length xs
-grown [] c = omega arith
-grown (x ∷ xs) c = go (nat_lt x c) (nat_lt c x) refl refl (grown xs c)
-  where
-    go : (a b : Bool) → nat_lt x c ≡ a → nat_lt c x ≡ b
-        → length (filter (λ m. nat_lt m c) xs) + length (filter (λ m. nat_lt c m) xs) ≤ length xs
-        → length (if a then x ∷ filter (λ m. nat_lt m c) xs else filter (λ m. nat_lt m c) xs) + length
-        (if b then x ∷ filter (λ m. nat_lt c m) xs else filter (λ m. nat_lt c m) xs) ≤ suc (length xs)
-    go true true e f h = absurd (never x c e f)
-      where
-        never : (x c : ℕ) → nat_lt x c ≡ true → nat_lt c x ≡ true → ⊥
-        never x c e f = grind (arith, nat_tests)
-    go true false e f h = omega arith
-    go false true e f h = omega arith
-    go false false e f h = omega arith
-
-pub length-with_node : (xs : List ℕ) (c : ℕ) → length (with_node xs c) ≤ length xs + 1
-length-with_node xs c = omega (
-  arith,
-  grown xs c,
-  length-append (filter (λ m. nat_lt m c) xs)
-      (c ∷ filter (λ m. nat_lt c m) xs),
-)
-
--- what stands on success
-pub matched_ok : {T E : Type 0} (P : T → Type 0) (Q : E → Type 0) (r : Result T E) → is_ok r ≡ true → MatchResult r P Q
-    → (x : T) × P x
-matched_ok P Q (Ok x) e p = (x, p)
-matched_ok P Q (Err y) e p = cc
-
 module _ (nodes cluster : List ℕ) where
-  -- the core of a joined node
-  pub joined_core : (a : ℕ) → set_of cluster a ≡ true → fresh a nodes cluster true ≡ opening_core nodes cluster a
-  joined_core a e = sym (ap (λ (b : Bool). if b then fresh a nodes cluster true else fresh a nodes (a ∷ []) false) e)
-
-  -- and of a lone one
-  pub lone_core : (a : ℕ) → set_of cluster a ≡ false → fresh a nodes (a ∷ []) false ≡ opening_core nodes cluster a
-  lone_core a e = sym (ap (λ (b : Bool). if b then fresh a nodes cluster true else fresh a nodes (a ∷ []) false) e)
-
   opens_name : (a : ℕ) → (opening_core nodes cluster a).name ≡ a
   opens_name a = go (set_of cluster a)
     where
@@ -201,15 +158,8 @@ module _ (nodes cluster : List ℕ) where
         ∙ ap (λ (es : List HistoryEntry). record (opening_world (opening_with nodes cluster)) { history = map entry_of es })
         none
 
--- the nodes that were gathered are those that were named
-module _ (cluster lone joined nodes : List ℕ) (first : (c : ℕ) → set_of joined c ≡ set_of cluster c)
-    (all : (c : ℕ) → set_of nodes c ≡ (set_of joined c || set_of lone c)) where
-  pub joined_within : IsWithin nodes joined
-  joined_within c e = all c ∙ ap (λ (b : Bool). b || set_of lone c) e
-
-  pub opens : (cores : List Core) (links : Mesh Letter) (history : List HistoryEntry)
-      → Opens cluster lone (record { nodes = nodes; cluster = joined; cores = cores; links = links; history = history })
-  opens cores links history = record {
-    nodes = λ c. all c ∙ ap (λ (b : Bool). b || set_of lone c) (first c) ∙ sym (set_of-append cluster lone c);
-    joined = first;
-  }
+-- the world opens as the opening says
+pub opens : (cluster lone : List ℕ) (o : Opened) → IsOpening cluster lone o → (cores : List Core) (links : Mesh Letter)
+    (history : List HistoryEntry)
+    → Opens cluster lone (record { nodes = o.nodes; cluster = o.cluster; cores = cores; links = links; history = history })
+opens cluster lone o is cores links history = record { nodes = is.nodes; joined = is.joined }

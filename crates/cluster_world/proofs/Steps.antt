@@ -17,16 +17,15 @@ use Rattle.term.specs.NodeSets.{set_of}
 use Rattle.link.specs.Held.{Held as Mesh, place, seen as links_of}
 use Rattle.link.specs.Faults.{joins}
 use Rattle.term.proofs.NodePlaces.{place-Some}
-use Rattle.node_core.specs.declared.Answer.{Answer}
 use Rattle.node_core.specs.declared.Event.{Event as NodeEvent}
 use Rattle.node_core.specs.declared.Letter.{Letter}
 use Rattle.node_core.specs.declared.StepFault.{StepFault}
-use Rattle.node_core.specs.declared.StepFault.TheVariants.{NotLive, Busy, Reserved, UnknownNode, AlreadyJoined, NoSuchProcess, AlreadyExited, SerialsSpent, NothingToRetry, HoldsLock, CallsSpent, Memory}
 use Rattle.node_core.specs.Held.{Held as Core}
+use Rattle.node_core.specs.Made.{Made}
 use Rattle.node_core.specs.Letters.{letter_of, send_of}
 use Rattle.node_core.specs.Joining.{join_number_of}
 use Rattle.node_core.specs.Seen.{node_of, turn_by}
-use Rattle.node_core.specs.NodeEventsSeen.{entry_by, fault_of, is_memory as node_memory}
+use Rattle.node_core.specs.NodeEventsSeen.{entry_by, fault_of}
 use Rattle.node_core.specs.Steps.{Steps, IsSaidBy, IsHeardWithin, GoWithin, refusal_of as node_refusal}
 use Rattle.cluster_world.specs.Links.{mapped, letters_to, AreFit}
 use Rattle.cluster_world.specs.Held.{Held, IsWhole}
@@ -35,8 +34,8 @@ use Rattle.cluster_world.specs.Cores.{core_of}
 use Rattle.world_history.specs.Histories.{entry_of}
 use Rattle.cluster_world.specs.Histories.{number_of, number_at}
 use Rattle.cluster_world.specs.Seen.{opening_of, node_with, seen}
-use Rattle.cluster_world.specs.declared.events.Refusal.TheVariants.{Memory as OutOfMemory}
-use Rattle.cluster_world.specs.Refusals.{refusal_by, is_memory}
+use Rattle.world_events.specs.declared.refusal.Refusal.TheVariants.{Step}
+use Rattle.world_events.specs.Refusals.{out_of_memory}
 use Rattle.cluster_world.specs.Steps.{Stands, Moves, FailsAt}
 use Rattle.cluster_world.proofs.Cores.{name_at, names-set, core_here, core_wrote, no_core}
 use Rattle.cluster_world.proofs.Listed.{known_place, no_place, is_some-place}
@@ -135,21 +134,17 @@ module _ (h : Held) (whole : IsWhole h) (a i : ℕ) (core : Core) (there : place
       (subst (λ (ns : List ℕ). AreFit ns (links_of h.links) → AreFit ns (links_of links)) whole.links fit whole.fit)
 
   -- the letters of the step go to nodes of the world
-  pub goes : (e : NodeEvent) (new : Core) (before after : List (ℕ × Letter)) (given : List Answer) → before ≡ []
-      → Steps e core new before after given → IsHeardWithin h.nodes a e → GoWithin h.nodes a after
-  goes e new before after given none S heard =
-      subst (λ (ss : List (ℕ × Letter)). GoWithin h.nodes a ss)
-      (sym (S.letters ∙ ap (λ (ss : List (ℕ × Letter)). ss ++ S.sent) none))
-      (subst (λ (n : ℕ). GoWithin h.nodes n S.sent) named_so
-      (subst (λ (ns : List ℕ). GoWithin ns core.name S.sent) world_so
+  pub goes : (e : NodeEvent) (new : Core) (made : Made) → Steps e core new made → IsHeardWithin h.nodes a e
+      → GoWithin h.nodes a made.letters
+  goes e new made S heard = subst (λ (n : ℕ). GoWithin h.nodes n made.letters) named_so
+      (subst (λ (ns : List ℕ). GoWithin ns core.name made.letters) world_so
       (S.within (subst (λ (ns : List ℕ). IsHeardWithin ns core.name e) (sym world_so)
-      (subst (λ (n : ℕ). IsHeardWithin h.nodes n e) (sym named_so) heard)))))
+      (subst (λ (n : ℕ). IsHeardWithin h.nodes n e) (sym named_so) heard))))
 
-  module _ (e : NodeEvent) (new : Core) (before after : List (ℕ × Letter)) (given : List Answer) (none : before ≡ [])
-      (S : Steps e core new before after given) (heard : IsHeardWithin h.nodes a e) where
+  module _ (e : NodeEvent) (new : Core) (made : Made) (S : Steps e core new made) (heard : IsHeardWithin h.nodes a e) where
     -- so they are between nodes of the mesh
-    pub joined : All (λ s. joins a s.0 h.links ≡ true) after
-    joined k d l = both (get_or after k d).0 (goes e new before after given none S heard k d l).0
+    pub joined : All (λ s. joins a s.0 h.links ≡ true) made.letters
+    joined k d l = both (get_or made.letters k d).0 (goes e new made S heard k d l).0
       where
         both : (t : ℕ) → set_of h.nodes t ≡ true → joins a t h.links ≡ true
         both t there_t = ap (λ (ns : List ℕ). is_some (place a ns) && is_some (place t ns)) whole.links
@@ -157,9 +152,9 @@ module _ (h : Held) (whole : IsWhole h) (a i : ℕ) (core : Core) (there : place
             ∙ is_some-place h.nodes t ∙ there_t
 
     -- and their receivers may read them
-    pub said : All (λ s. IsSaidBy h.links.nodes s.0 a s.1) after
-    said = subst (λ (ns : List ℕ). All (λ s. IsSaidBy ns s.0 a s.1) after) (sym whole.links)
-        (λ k d l. (goes e new before after given none S heard k d l).1)
+    pub said : All (λ s. IsSaidBy h.links.nodes s.0 a s.1) made.letters
+    said = subst (λ (ns : List ℕ). All (λ s. IsSaidBy ns s.0 a s.1) made.letters) (sym whole.links)
+        (λ k d l. (goes e new made S heard k d l).1)
 
   -- the step of a running node
   module _ (up : left (seen h) a ≡ false) where
@@ -173,33 +168,19 @@ module _ (h : Held) (whole : IsWhole h) (a i : ℕ) (core : Core) (there : place
     }
 
     -- the node fails
-    pub fails : (e : NodeEvent) (fault : StepFault) → node_refusal e core ≡ fault_of fault
-        → FailsAt (refusal_by fault) a e h
-    fails e (NotLive p) q = (core, stands, q)
-    fails e (Busy p) q = (core, stands, q)
-    fails e Reserved q = (core, stands, q)
-    fails e UnknownNode q = (core, stands, q)
-    fails e AlreadyJoined q = (core, stands, q)
-    fails e NoSuchProcess q = (core, stands, q)
-    fails e AlreadyExited q = (core, stands, q)
-    fails e SerialsSpent q = (core, stands, q)
-    fails e NothingToRetry q = (core, stands, q)
-    fails e HoldsLock q = (core, stands, q)
-    fails e CallsSpent q = (core, stands, q)
-    fails e Memory q = (core, stands, q)
+    pub fails : (e : NodeEvent) (fault : StepFault) → node_refusal e core ≡ fault_of fault → FailsAt (Step fault) a e h
+    fails e fault q = (core, stands, q)
 
     -- the same where memory was refused behind the turn
-    pub fails_behind : (e : NodeEvent) (new : Core) (before after : List (ℕ × Letter)) (given : List Answer)
-        → Steps e core new before after given → FailsAt OutOfMemory a e h
-    fails_behind e new before after given S = (core, stands, S.accepted)
+    pub fails_behind : (e : NodeEvent) (new : Core) (made : Made) → Steps e core new made → FailsAt out_of_memory a e h
+    fails_behind e new made S = (core, stands, S.accepted)
 
-    module _ (e : NodeEvent) (new : Core) (before sends : List (ℕ × Letter)) (given : List Answer) (links : Mesh Letter)
-        (history : List HistoryEntry) (own : ℕ)
-        (none : before ≡ []) (S : Steps e core new before sends given)
-        (post : links_of links ≡ posted a (λ t. letters_to t sends) (links_of h.links))
+    module _ (e : NodeEvent) (new : Core) (made : Made) (links : Mesh Letter) (history : List HistoryEntry) (own : ℕ)
+        (S : Steps e core new made)
+        (post : links_of links ≡ posted a (λ t. letters_to t made.letters) (links_of h.links))
         (owns : own ≡ number_in (node_of core).current)
         (enter : map entry_of history
-        ≡ map entry_of h.history ++ map (entry_by (number_at (set h.cores i new) a own)) new.entered) where
+        ≡ map entry_of h.history ++ map (entry_by (number_at (set h.cores i new) a own)) made.entries) where
       -- what is held behind the step
       abbrev behind : Held
       behind = record {
@@ -211,7 +192,7 @@ module _ (h : Held) (whole : IsWhole h) (a i : ℕ) (core : Core) (there : place
       }
 
       abbrev turn : Turn
-      turn = turn_by (join_number (seen h)) new (record { letters = S.sent; entries = new.entered; answers = given })
+      turn = turn_by (join_number (seen h)) new made
 
       wrote : (x : ℕ) → core_of x (set h.cores i new) ≡ (if x == a then Some new else core_of x h.cores)
       wrote = core_wrote name_of h.cores i new a within there_too (S.name ∙ stands.name)
@@ -233,14 +214,12 @@ module _ (h : Held) (whole : IsWhole h) (a i : ℕ) (core : Core) (there : place
           go true = refl
           go false = refl
 
-      sent : sends ≡ S.sent
-      sent = S.letters ∙ ap (λ (ss : List (ℕ × Letter)). ss ++ S.sent) none
-
-      links_are : mapped letter_of (links_of links) ≡ posted a (λ t. sent_to t (map send_of S.sent))
+      links_are : mapped letter_of (links_of links) ≡ posted a (λ t. sent_to t (map send_of made.letters))
           (mapped letter_of (links_of h.links))
-      links_are = ap (mapped letter_of) post ∙ mapped-posted letter_of a (λ t. letters_to t sends) (links_of h.links)
+      links_are = ap (mapped letter_of) post
+          ∙ mapped-posted letter_of a (λ t. letters_to t made.letters) (links_of h.links)
           ∙ ap (λ (ls : ℕ → List AnyLetter). posted a ls (mapped letter_of (links_of h.links)))
-          (fun_ext (λ t. sent_to-map t sends ∙ ap (λ (ss : List (ℕ × Letter)). sent_to t (map send_of ss)) sent))
+          (fun_ext (λ t. sent_to-map t made.letters))
 
       world_is : seen behind ≡ apply a turn (seen h)
       world_is =
@@ -252,9 +231,9 @@ module _ (h : Held) (whole : IsWhole h) (a i : ℕ) (core : Core) (there : place
                 entry_of history;
           }) links_are
           ∙ ap (λ (es : List AnyEntry). record (apply a turn (seen h)) { history = es }) (enter
-          ∙ ap (λ (number : ℕ → ℕ). map entry_of h.history ++ map (entry_by number) new.entered) (fun_ext numbers_are))
+          ∙ ap (λ (number : ℕ → ℕ). map entry_of h.history ++ map (entry_by number) made.entries) (fun_ext numbers_are))
 
-      pub moves : Moves a e h behind given
+      pub moves : Moves a e h behind made.answers
       moves = record {
         nodes = refl;
         cluster = refl;
@@ -266,21 +245,6 @@ module _ (h : Held) (whole : IsWhole h) (a i : ℕ) (core : Core) (there : place
         world = world_is;
         answers = refl;
       }
-
--- the world runs out of memory where its node does
-pub same_memory : (fault : StepFault) → is_memory (refusal_by fault) ≡ false → node_memory fault ≡ false
-same_memory (NotLive p) e = refl
-same_memory (Busy p) e = refl
-same_memory Reserved e = refl
-same_memory UnknownNode e = refl
-same_memory AlreadyJoined e = refl
-same_memory NoSuchProcess e = refl
-same_memory AlreadyExited e = refl
-same_memory SerialsSpent e = refl
-same_memory NothingToRetry e = refl
-same_memory HoldsLock e = refl
-same_memory CallsSpent e = refl
-same_memory Memory e = cc
 
 -- a node that has no place has no core
 pub core_missing : (h : Held) → IsWhole h → (a : ℕ) → place a h.nodes ≡ None → core_of a h.cores ≡ None

@@ -5,9 +5,10 @@ use Rattle.protocol_model.specs.Course.{course, answers_of, seen as shown}
 use Rattle.protocol_model.specs.Headline.{Headline}
 use Rattle.node_core.specs.declared.Answer.{Answer}
 use Rattle.node_core.specs.NodeEventsSeen.{answer_of}
-use Rattle.cluster_world.specs.declared.events.WorldEvent.{WorldEvent}
+use Rattle.world_events.specs.declared.events.WorldEvent.{WorldEvent}
 use Rattle.cluster_world.specs.Held.{Held}
-use Rattle.cluster_world.specs.Seen.{opening_with, opening_of, seen}
+use Rattle.world_events.specs.Openings.{opening_with}
+use Rattle.cluster_world.specs.Seen.{opening_of, seen}
 use Rattle.cluster_world.specs.Playing.{events_of}
 
 -- the headline holds behind these events, of which the world now is

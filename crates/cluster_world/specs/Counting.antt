@@ -6,7 +6,7 @@ use Rattle.protocol_model.specs.Event.{Call as AnyCall}
 use Rattle.protocol_model.specs.Letter.{Id, Client, is_id}
 use Rattle.protocol_model.specs.Node.{Target, targets}
 use Rattle.protocol_model.specs.World.{World, WorldEvent as AnyWorldEvent}
-use Rattle.cluster_world.specs.declared.events.WorldEvent.{WorldEvent}
+use Rattle.world_events.specs.declared.events.WorldEvent.{WorldEvent}
 use Rattle.cluster_world.specs.Held.{Held}
 use Rattle.cluster_world.specs.Seen.{opening_of, seen}
 use Rattle.cluster_world.specs.Playing.{events_of}

@@ -2,9 +2,10 @@
 use Rattle.std.specs.Prelude.{ℕ, List, ◌++◌}
 use Rattle.protocol_model.specs.Leftovers.{NothingIsLeft, world}
 use Rattle.protocol_model.specs.World.{WorldEvent as AnyWorldEvent}
-use Rattle.cluster_world.specs.declared.events.WorldEvent.{WorldEvent}
+use Rattle.world_events.specs.declared.events.WorldEvent.{WorldEvent}
 use Rattle.cluster_world.specs.Held.{Held}
-use Rattle.cluster_world.specs.Seen.{opening_with, opening_of, seen}
+use Rattle.world_events.specs.Openings.{opening_with}
+use Rattle.cluster_world.specs.Seen.{opening_of, seen}
 use Rattle.cluster_world.specs.Playing.{events_of}
 use Rattle.cluster_world.specs.Agreeing.{IsRunOf}
 

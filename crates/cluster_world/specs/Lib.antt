@@ -2,18 +2,18 @@ pub use Rattle.node_core.specs.Held as NodeCoreHeld
 pub use Rattle.node_core.specs.NodeEventsSeen
 pub use Rattle.node_core.specs.Seen as NodeCoreSeen
 pub use Rattle.node_core.specs.Steps as NodeCoreSteps
+pub use Rattle.world_events.specs.Events
+pub use Rattle.world_events.specs.Openings
+pub use Rattle.world_events.specs.Refusals
 pub mod Links
 pub mod Cores
 pub mod Histories
 pub mod Held
-pub mod Events
-pub mod Refusals
 pub mod Seen
 pub mod Steps
 pub mod Starting
 pub mod Playing
 pub mod Agreeing
-pub mod Causes
 pub mod Locks
 pub mod Leftovers
 pub mod Counting

@@ -5,9 +5,10 @@ use Rattle.protocol_model.specs.ClientLocks.{Try, tally_from, last_try, is_won, 
 use Rattle.protocol_model.specs.LockAnswers.{ClientLocks}
 use Rattle.protocol_model.specs.Letter.{Id, Client}
 use Rattle.protocol_model.specs.World.{Opening, World, WorldEvent as AnyWorldEvent, in_world, left, opening_world, refusal, happens, answers, run}
-use Rattle.cluster_world.specs.declared.events.WorldEvent.{WorldEvent}
+use Rattle.world_events.specs.declared.events.WorldEvent.{WorldEvent}
 use Rattle.cluster_world.specs.Held.{Held}
-use Rattle.cluster_world.specs.Seen.{opening_with, opening_of, seen}
+use Rattle.world_events.specs.Openings.{opening_with}
+use Rattle.cluster_world.specs.Seen.{opening_of, seen}
 use Rattle.cluster_world.specs.Playing.{events_of}
 use Rattle.cluster_world.specs.Agreeing.{IsRunOf}
 

@@ -4,11 +4,11 @@ use Rattle.std.specs.List.{slice_get}
 use Rattle.protocol_model.specs.World.{Opening, World, refusal, happens, answers, run, all_answers, next_delivery, WorldEvent as AnyWorldEvent, Deliver}
 use Rattle.node_core.specs.declared.Answer.{Answer}
 use Rattle.node_core.specs.NodeEventsSeen.{answer_of}
-use Rattle.cluster_world.specs.declared.events.Refusal.{Refusal}
-use Rattle.cluster_world.specs.declared.events.WorldEvent.{WorldEvent}
+use Rattle.world_events.specs.declared.refusal.Refusal.{Refusal}
+use Rattle.world_events.specs.declared.events.WorldEvent.{WorldEvent}
 use Rattle.cluster_world.specs.Held.{Held}
-use Rattle.cluster_world.specs.Events.{event_of}
-use Rattle.cluster_world.specs.Refusals.{refusal_of, is_memory}
+use Rattle.world_events.specs.Events.{event_of}
+use Rattle.world_events.specs.Refusals.{refusal_of, is_memory}
 use Rattle.cluster_world.specs.Seen.{opening_of, seen}
 
 -- what no event changes, whatever comes of it

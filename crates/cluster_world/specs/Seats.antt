@@ -10,15 +10,14 @@ use Rattle.node_core.specs.declared.Answer.{Answer}
 use Rattle.node_core.specs.declared.Call.{Call}
 use Rattle.node_core.specs.declared.Call.TheVariants.{SetLock, DelLock}
 use Rattle.node_core.specs.NodeEventsSeen.{answer_of, call_of}
-use Rattle.cluster_world.specs.declared.events.Event.TheVariants.{Call as Calls}
-use Rattle.cluster_world.specs.declared.events.Refusal.TheVariants.{Memory}
-use Rattle.cluster_world.specs.declared.events.WorldEvent.{WorldEvent}
-use Rattle.cluster_world.specs.declared.events.WorldEvent.TheVariants.{At}
+use Rattle.world_events.specs.declared.events.Event.TheVariants.{Call as Calls}
+use Rattle.world_events.specs.declared.events.WorldEvent.{WorldEvent}
+use Rattle.world_events.specs.declared.events.WorldEvent.TheVariants.{At}
 use Rattle.cluster_world.specs.declared.seat.WorldSeat.{WorldSeat}
 use Rattle.cluster_world.specs.declared.seat.SeatFault.{SeatFault}
 use Rattle.cluster_world.specs.declared.seat.SeatFault.TheVariants.{Refused, NoMemory, NoAnswer}
 use Rattle.cluster_world.specs.Held.{Held}
-use Rattle.cluster_world.specs.Refusals.{is_memory}
+use Rattle.world_events.specs.Refusals.{is_memory, out_of_memory}
 use Rattle.cluster_world.specs.Seen.{opening_of, seen}
 use Rattle.cluster_world.specs.Playing.{RefusedWith, events_of, accepts_all}
 use Rattle.cluster_world.specs.Agreeing.{Agrees}
@@ -87,7 +86,7 @@ pub record Waited (a k : ℕ) (old new : Held) (verdict : Option Bool) : Type 0 
 abbrev pub HasWaited : ℕ → ℕ → Held → Held → Result Bool SeatFault → Type 0
 HasWaited a k old new (Ok granted) = Waited a k old new (Some granted)
 HasWaited a k old new (Err NoAnswer) = Waited a k old new None
-HasWaited a k old new (Err (Refused r)) = r ≡ Memory
+HasWaited a k old new (Err (Refused r)) = r ≡ out_of_memory
 HasWaited a k old new (Err NoMemory) = ⊥
 
 -- A call was accepted at node a and played, and then what it waits for. This is what it was answered, if it was, the

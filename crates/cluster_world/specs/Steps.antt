@@ -6,11 +6,10 @@ use Rattle.term.specs.NodeSets.{set_of}
 use Rattle.node_core.specs.declared.Answer.{Answer}
 use Rattle.node_core.specs.declared.Event.{Event as NodeEvent}
 use Rattle.node_core.specs.Held.{Held as Core}
-use Rattle.node_core.specs.NodeEventsSeen.{answer_of}
+use Rattle.node_core.specs.NodeEventsSeen.{answer_of, fault_of}
 use Rattle.node_core.specs.Steps.{IsTurn, refusal_of as node_refusal}
-use Rattle.cluster_world.specs.declared.events.Refusal.{Refusal}
-use Rattle.cluster_world.specs.declared.events.Refusal.TheVariants.{NoSuchNode, NodeLeft}
-use Rattle.cluster_world.specs.Refusals.{refusal_of}
+use Rattle.world_events.specs.declared.refusal.Refusal.{Refusal}
+use Rattle.world_events.specs.declared.refusal.Refusal.TheVariants.{NoSuchNode, NodeLeft, EmptyLink, Step}
 use Rattle.cluster_world.specs.Held.{Held}
 use Rattle.cluster_world.specs.Cores.{core_of}
 use Rattle.cluster_world.specs.Seen.{seen}
@@ -39,4 +38,5 @@ pub record Moves (a : ℕ) (e : NodeEvent) (old new : Held) (given : List Answer
 abbrev pub FailsAt : Refusal → ℕ → NodeEvent → Held → Type 0
 FailsAt NoSuchNode a e h = set_of h.nodes a ≡ false
 FailsAt NodeLeft a e h = (set_of h.nodes a ≡ true) × (left (seen h) a ≡ true)
-FailsAt r a e h = (c : Core) × Stands a h c × (node_refusal e c ≡ refusal_of r)
+FailsAt EmptyLink a e h = ⊥
+FailsAt (Step fault) a e h = (c : Core) × Stands a h c × (node_refusal e c ≡ fault_of fault)

@@ -1,21 +1,19 @@
 //! The world: up to eight nodes with their links, which plays events one by one, in every order of deliveries.
 #![tactic(auto)]
 
-mod cause;
-mod events;
 mod history;
 pub mod laws;
 mod post;
+mod run_end;
 mod seat;
 mod start;
 mod world;
 
-pub use cause::Cause;
-pub use events::{Event, Refusal, RunEnd, StartFault, WorldEvent};
-pub use node_core::{
-    Answer, Call, Event as CoreEvent, Letter, Look, NameCall, NameList, NodeCore, Nodes, Reply,
-    Retries, StepFault,
-};
+pub use run_end::RunEnd;
 pub use seat::{SeatFault, WorldSeat};
 pub use world::World;
+pub use world_events::{
+    Answer, Call, CoreEvent, Event, Letter, Look, NameCall, NameList, NodeCore, Nodes, Opening,
+    Refusal, Reply, Retries, StartFault, StepFault, WorldEvent,
+};
 pub use world_history::{HistoryEntry, KeptEntry};

@@ -4,12 +4,12 @@ ghost use Rattle.protocol_model.specs.Links.{posted};
 ghost use Rattle.link.specs.Faults.{joins};
 ghost use Rattle.link.specs.Held.{seen as links_of};
 ghost use Rattle.node_core.specs.Steps.{IsSaidBy};
+ghost use Rattle.world_events.specs.Refusals.{out_of_memory};
 ghost use Rattle.cluster_world.specs.Links.{letters_to, AreFit};
 
-use crate::events::Refusal;
 use link::Mesh;
-use node_core::Letter;
 use term::NodeName;
+use world_events::{Letter, Refusal};
 
 /// Puts each letter at the back of the link to its receiver, all between nodes of the mesh.
 pub(crate) fn post(
@@ -23,7 +23,7 @@ pub(crate) fn post(
     ensures closed { (links_of links.new).closed ≡ (links_of links.old).closed }
     ensures fit { AreFit links.old.nodes (links_of links.old) → AreFit links.old.nodes (links_of links.new) }
     ensures ok { OnOk result (links_of links.new ≡ posted sender.now (λ t. letters_to t letters.items) (links_of links.old)) }
-    ensures err { IfErr result (λ refusal. refusal ≡ Refusal.Memory) }
+    ensures err { IfErr result (λ refusal. refusal ≡ out_of_memory) }
 {
     for (receiver, letter) in letters {
         if let Err(unsent) = links.send(sender, &receiver, letter) {

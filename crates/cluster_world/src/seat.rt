@@ -1,19 +1,17 @@
 //! Seats of lock holders, over a world.
 ghost use Rattle.std.specs.Prelude.{◌≡◌, map, if◌then◌else◌};
 ghost use Rattle.node_core.specs.NodeEventsSeen.{answer_of};
-ghost use Rattle.cluster_world.specs.declared.events.Refusal.TheVariants.{Memory};
 ghost use Rattle.cluster_world.specs.declared.seat.SeatFault.TheVariants.{Refused, NoAnswer};
-ghost use Rattle.cluster_world.specs.Refusals.{is_memory};
+ghost use Rattle.world_events.specs.Refusals.{is_memory, out_of_memory};
 ghost use Rattle.cluster_world.specs.Seats.{verdict_to, verdict_in};
 
-use crate::events::{Event, Refusal, WorldEvent};
 use crate::world::World;
 use name_table::Names;
-use node_core::{Answer, Call, Reply};
 use std::alloc::{AllocError, Global};
 use term::{LockId, NodeName, Pid};
 use thiserror::Error;
 use transaction::{LockReply, LockSeat, Nodes, Retries};
+use world_events::{Answer, Call, Event, Refusal, Reply, StepFault, WorldEvent};
 
 /// How many events a seat plays at most while its call waits.
 const MOST_EVENTS: u32 = 100_000;
@@ -42,10 +40,10 @@ impl From<Refusal> for SeatFault {
 }
 
 impl From<AllocError> for SeatFault {
-    ghost from_gives = { λ _ fault. fault ≡ Refused Memory };
+    ghost from_gives = { λ _ fault. fault ≡ Refused out_of_memory };
 
     fn from(_: AllocError) -> SeatFault {
-        SeatFault::Refused(Refusal::Memory)
+        SeatFault::Refused(Refusal::from(AllocError))
     }
 }
 
@@ -78,17 +76,19 @@ fn verdict_in(answers: &[Answer], node: &NodeName, number: u64) -> Option<bool>
 /// Why a call isn't answered, where what it waits for is refused: all links are empty, and nothing is left to retry, unless
 /// memory was refused.
 fn no_answer(refusal: &Refusal) -> SeatFault
-    ensures { result ≡ (if is_memory refusal.now then Refused Memory else NoAnswer) }
+    ensures { result ≡ (if is_memory refusal.now then Refused out_of_memory else NoAnswer) }
 {
     match refusal {
-        Refusal::Memory => SeatFault::Refused(Refusal::Memory),
+        Refusal::Step(StepFault::Memory) => {
+            SeatFault::Refused(Refusal::Step(StepFault::Memory))
+        }
         _ => SeatFault::NoAnswer,
     }
 }
 
 impl<N: Names<Memory = Global>> World<N> {
     ghost use Rattle.std.specs.Prelude.{Some};
-    ghost use Rattle.cluster_world.specs.Events.{event_of};
+    ghost use Rattle.world_events.specs.Events.{event_of};
     ghost use Rattle.cluster_world.specs.Playing.{Keeps};
     ghost use Rattle.cluster_world.specs.Seats.{next_number, next_for, HasWaited};
     ghost use Rattle.cluster_world.specs.Seen.{opening_of, seen};

@@ -2,16 +2,15 @@
 ghost use Rattle.std.specs.Prelude.{◌≡◌};
 ghost use Rattle.cluster_world.specs.Seen.{is_holding};
 
-use crate::cause::Cause;
-use crate::events::{Event, Refusal, RunEnd, WorldEvent};
 use crate::history::enter_all;
 use crate::post::post;
+use crate::run_end::RunEnd;
 use link::Mesh;
 use name_table::Names;
-use node_core::{Answer, Call, Letter, NodeCore};
 use std::alloc::Global;
 use std::marker::Model;
 use term::{NodeName, NodeSet};
+use world_events::{Answer, Cause, Event, Letter, NodeCore, Refusal, Turn, WorldEvent};
 use world_history::{History, KeptEntry};
 
 /// A world: its nodes, the links between them, and the history. Contracts see what it holds as the protocol's world.
@@ -66,10 +65,9 @@ impl<N: Names<Memory = Global>> World<N> {
     ghost use Rattle.term.specs.NodeSets.{set_of};
     ghost use Rattle.cluster_world.specs.Held.{IsWhole};
     ghost use Rattle.cluster_world.specs.Cores.{core_of};
-    ghost use Rattle.cluster_world.specs.Events.{knows_contact};
-    ghost use Rattle.cluster_world.specs.Causes.{event_by};
+    ghost use Rattle.node_core.specs.Causes.{event_by};
     ghost use Rattle.cluster_world.specs.Seen.{opening_of, seen};
-    ghost use Rattle.cluster_world.specs.Refusals.{is_memory};
+    ghost use Rattle.world_events.specs.Refusals.{is_memory};
     ghost use Rattle.cluster_world.specs.Steps.{Moves, FailsAt};
     ghost use Rattle.cluster_world.specs.Playing.{Keeps, Played, RefusedWith, ran_out, Ran, WaitsOn};
     ghost use Rattle.cluster_world.specs.Agreeing.{Agrees};
@@ -77,11 +75,11 @@ impl<N: Names<Memory = Global>> World<N> {
     ghost use Rattle.cluster_world.specs.Leftovers.{LeavesNothing};
 
     /// A node takes the step of an event: its letters go onto their links, and its entries into the history.
-    fn step(&mut self, node: &NodeName, cause: &Cause) -> Result<Vec<Answer>, Refusal>
-        requires { IsHeardWithin self.old.nodes node.now (event_by cause.now) }
+    fn step(&mut self, node: &NodeName, cause: Cause<'_>) -> Result<Vec<Answer>, Refusal>
+        requires { IsHeardWithin self.old.nodes node.now (event_by cause) }
         ensures kept { Keeps self.old self.new }
-        ensures ok { IfOk result (λ answers. Moves node.now (event_by cause.now) self.old self.new answers.items) }
-        ensures refused { IfErr result (λ refusal. FailsAt refusal node.now (event_by cause.now) self.old) }
+        ensures ok { IfOk result (λ answers. Moves node.now (event_by cause.entry) self.old self.new answers.items) }
+        ensures refused { IfErr result (λ refusal. FailsAt refusal node.now (event_by cause.entry) self.old) }
         ensures unchanged { IfErr result (λ refusal. is_memory refusal ≡ false → self.new ≡ self.old) }
         ensures whole { IsWhole self.old }
     {
@@ -91,13 +89,21 @@ impl<N: Names<Memory = Global>> World<N> {
         if self.links.is_closed(node) {
             return Err(Refusal::NodeLeft);
         }
-        let mut letters = Vec::new(*self.cores.allocator());
         let core = &mut self.cores[place];
         let join = core.join_number().unwrap_or(0);
-        let answers = cause.step(core, &mut letters)?;
+        let Turn {
+            letters,
+            entries,
+            answers,
+        } = core.turn(cause)?;
         post(&mut self.links, node, letters)?;
-        let entries = self.cores[place].entered();
-        enter_all(&mut self.history, entries, &self.cores, node, join)?;
+        enter_all(
+            &mut self.history,
+            entries.as_slice(),
+            &self.cores,
+            node,
+            join,
+        )?;
         Ok(answers)
     }
 
@@ -110,16 +116,6 @@ impl<N: Names<Memory = Global>> World<N> {
         let _ = self.links.close_out(node);
     }
 
-    /// Whether the contact of an event is of this world, if it has one.
-    fn knows_contact(&self, event: &Event) -> bool
-        ensures { result ≡ knows_contact self.now.nodes event.now }
-    {
-        match event {
-            Event::Call(Call::Join(contact)) => self.nodes.contains(contact),
-            _ => true,
-        }
-    }
-
     /// An event of a node is played. All links towards one that leaves are closed.
     fn happen(&mut self, node: &NodeName, event: &Event) -> Result<Vec<Answer>, Refusal>
         ensures kept { Keeps self.old self.new }
@@ -127,10 +123,10 @@ impl<N: Names<Memory = Global>> World<N> {
         ensures refused { IfErr result (λ refusal. RefusedWith refusal (WorldEvent.At node.now event.now) self.old) }
         ensures unchanged { IfErr result (λ refusal. is_memory refusal ≡ false → self.new ≡ self.old) }
     {
-        if !self.knows_contact(event) {
+        if !event.knows_contact(&self.nodes) {
             return Err(Refusal::NoSuchNode);
         }
-        let answers = self.step(node, &Cause::of(event))?;
+        let answers = self.step(node, event.cause())?;
         if event.is_leave() {
             self.close_out(node);
         }
@@ -151,8 +147,7 @@ impl<N: Names<Memory = Global>> World<N> {
             return Err(Refusal::NodeLeft);
         }
         let letter = self.links.deliver(sender, receiver)?;
-        let read = node_core::Event::FromPeer(sender.copy(), letter);
-        self.step(receiver, &Cause::Event(read))
+        self.step(receiver, Cause::FromPeer(sender, &letter))
     }
 
     /// Plays one event, and gives what its step answers. A refused event changes nothing; only where `Memory` is refused is the

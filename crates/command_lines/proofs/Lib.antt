@@ -1,9 +1,6 @@
-pub use Rattle.cluster_world.proofs.Agreeing
-pub use Rattle.cluster_world.proofs.Bounds
-pub use Rattle.cluster_world.proofs.Leftovers
-pub use Rattle.cluster_world.proofs.Listed
 pub mod Texts
 mod Counts
 mod Refused
+mod RefusalWords
 mod Targets
 mod Words

@@ -2,7 +2,7 @@
 use Rattle.std.specs.Prelude.{ℕ, Bool, ◌≡◌, nat_lt, List, length, if◌then◌else◌, Option, Some, None, Result, Ok, Err}
 use Rattle.std.specs.List.{list_all}
 use Rattle.protocol_model.specs.Script.{Line, Play, Settle, TableAt, MembersAt}
-use Rattle.cluster_world.specs.Events.{event_of}
+use Rattle.world_events.specs.Events.{event_of}
 use Rattle.command_lines.specs.declared.faults.LineFault.{LineFault}
 use Rattle.command_lines.specs.declared.faults.LineFault.TheVariants.{LineTooLong, NotAscii}
 use Rattle.command_lines.specs.declared.grammar.Task.{Task}

@@ -1,12 +1,7 @@
-pub use Rattle.cluster_world.specs.Agreeing
-pub use Rattle.cluster_world.specs.Events
-pub use Rattle.cluster_world.specs.Held
-pub use Rattle.cluster_world.specs.NodeCoreHeld
-pub use Rattle.cluster_world.specs.NodeEventsSeen
-pub use Rattle.cluster_world.specs.Playing
-pub use Rattle.cluster_world.specs.Refusals
-pub use Rattle.cluster_world.specs.Seen
-pub use Rattle.cluster_world.specs.Starting
+pub use Rattle.world_events.specs.Events
+pub use Rattle.world_events.specs.NodeEventsSeen
+pub use Rattle.world_events.specs.Openings
+pub use Rattle.world_events.specs.Refusals
 pub mod Grammar
 pub mod Commands
 pub mod Printing

@@ -7,9 +7,11 @@ use Rattle.protocol_model.specs.Event.{Answer, Refusal}
 use Rattle.protocol_model.specs.Script.{Output, Said, Okay, Error, Settled, SettleLimit, TableIs, MembersAre}
 use Rattle.term.specs.Spelling.{bytes_of, dot}
 use Rattle.term.specs.declared.faults.TextFault.TheVariants as text
-use Rattle.cluster_world.specs.declared.events.StartFault.TheVariants as start
-use Rattle.cluster_world.specs.declared.events.Refusal.{Refusal as WorldRefusal}
-use Rattle.cluster_world.specs.Refusals.{refusal_of, is_memory}
+use Rattle.world_events.specs.declared.opening.StartFault.TheVariants as start
+use Rattle.world_events.specs.declared.refusal.Refusal.{Refusal as WorldRefusal}
+use Rattle.world_events.specs.declared.StepFault.{StepFault}
+use Rattle.world_events.specs.NodeEventsSeen.{fault_of}
+use Rattle.world_events.specs.Refusals.{refusal_of, is_memory}
 use Rattle.command_lines.specs.declared.faults.LineFault.{LineFault}
 use Rattle.command_lines.specs.declared.faults.LineFault.TheVariants.{BadLine, LineTooLong, NotAscii, Text, Start, Memory}
 
@@ -45,6 +47,15 @@ refusal_word Refusal.SerialsSpent = codes "serials_spent"
 refusal_word Refusal.NothingToRetry = codes "nothing_to_retry"
 refusal_word Refusal.HoldsLock = codes "holds_lock"
 refusal_word Refusal.CallsSpent = codes "calls_spent"
+
+-- the same, where memory was refused if the protocol refuses nothing
+abbrev pub word_for : Option Refusal → List ℕ
+word_for (Some r) = refusal_word r
+word_for None = codes "memory"
+
+-- the word for which a node refuses an event
+abbrev pub step_word : StepFault → List ℕ
+step_word f = word_for (fault_of f)
 
 -- a process: the name of its node, a dot and its serial
 abbrev pub pid_text : Process → List ℕ

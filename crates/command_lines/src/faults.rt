@@ -3,9 +3,9 @@ ghost use Rattle.std.specs.Prelude.{◌≡◌};
 ghost use Rattle.command_lines.specs.Printing.{word_of, error_line};
 ghost use Rattle.command_lines.specs.declared.faults.LineFault.TheVariants.{Text, Memory};
 
-use cluster_world::StartFault;
 use std::alloc::AllocError;
 use term::TextFault;
+use world_events::StartFault;
 
 /// Why a line is refused before it is played.
 #[derive(Debug, Drop)]

@@ -3,7 +3,7 @@ ghost use Rattle.std.specs.Prelude.{◌≡◌, ◌≢◌, map, ◌∷◌, [], Er
 ghost use Rattle.protocol_model.specs.Event.{Exiting, SetLock, DelLock};
 ghost use Rattle.term.specs.Spelling.{SpellsText, SpellsPid};
 ghost use Rattle.transaction.specs.Calls.{target_of, retries_of};
-ghost use Rattle.cluster_world.specs.NodeEventsSeen.{call_of};
+ghost use Rattle.world_events.specs.NodeEventsSeen.{call_of};
 ghost use Rattle.command_lines.specs.Commands.{asked_by, line_in};
 ghost use Rattle.command_lines.specs.declared.faults.LineFault.TheVariants.{Memory};
 ghost use Rattle.command_lines.specs.LockTexts.{SpellsTarget, NamesSome, target_in};
@@ -11,13 +11,13 @@ ghost use Rattle.command_lines.specs.Grammar.{WordsAsk, FirstRefused, at_node, c
 
 use crate::faults::LineFault;
 use crate::lock_texts::{parse_retries, parse_target};
-use cluster_world::{Call, Event, WorldEvent};
 use std::alloc::{AllocError, Global};
 use term::{
     LockId, Name, NodeName, NodeSet, Pid, TextFault, parse_name, parse_node, parse_pid,
     parse_requester, parse_resource,
 };
 use transaction::{Nodes, Retries};
+use world_events::{Call, Event, WorldEvent};
 
 /// What a line asks for.
 #[derive(Drop)]

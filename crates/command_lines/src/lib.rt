@@ -7,11 +7,9 @@ mod grammar;
 mod lock_texts;
 mod printing;
 
-pub use cluster_world::{
-    Answer, Call, Event, Refusal, Reply, StartFault, StepFault, World, WorldEvent,
-};
 pub use commands::{ran_out, read_task, text_of};
 pub use faults::LineFault;
 pub use grammar::Task;
 pub use lock_texts::{parse_retries, parse_target};
-pub use printing::{answer_line, members_line, refusal_line, table_line};
+pub use printing::{answer_line, members_line, refusal_line, step_line, table_line};
+pub use world_events::{Answer, Call, Event, Refusal, Reply, StartFault, StepFault, WorldEvent};

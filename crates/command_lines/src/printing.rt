@@ -1,14 +1,14 @@
 //! What is printed.
 ghost use Rattle.std.specs.Prelude.{◌≡◌, ◌++◌, IfOk, OnOk, string_bytes, option_map};
 ghost use Rattle.protocol_model.specs.Script.{Said, TableIs, MembersAre};
-ghost use Rattle.cluster_world.specs.NodeEventsSeen.{answer_of as any_answer, reply_of as any_reply};
+ghost use Rattle.world_events.specs.NodeEventsSeen.{answer_of as any_answer, reply_of as any_reply};
 ghost use Rattle.command_lines.specs.Printing as print;
 
-use cluster_world::{Answer, Refusal, Reply};
 use name_table::Pair;
 use std::alloc::{AllocError, Global};
 use std::fmt::Write as _;
 use term::{Name, NodeName};
+use world_events::{Answer, Refusal, Reply, StepFault};
 
 /// Puts the text of names behind a text, in their order.
 fn push_names(text: &mut String, names: &[Name]) -> Result<(), AllocError>
@@ -80,6 +80,26 @@ pub fn members_line(alloc: Global, members: &[NodeName]) -> Result<String, Alloc
     Ok(line)
 }
 
+/// The line that is printed where a node refuses an event.
+pub fn step_line(fault: &StepFault) -> &'static str
+    ensures { result.now ≡ print.error_line (print.step_word fault.now) }
+{
+    match fault {
+        StepFault::NotLive(_) => "error not_live\n",
+        StepFault::Busy(_) => "error busy\n",
+        StepFault::Reserved => "error reserved\n",
+        StepFault::UnknownNode => "error unknown_node\n",
+        StepFault::AlreadyJoined => "error already_joined\n",
+        StepFault::NoSuchProcess => "error no_such_process\n",
+        StepFault::AlreadyExited => "error already_exited\n",
+        StepFault::SerialsSpent => "error serials_spent\n",
+        StepFault::NothingToRetry => "error nothing_to_retry\n",
+        StepFault::HoldsLock => "error holds_lock\n",
+        StepFault::CallsSpent => "error calls_spent\n",
+        StepFault::Memory => "error memory\n",
+    }
+}
+
 /// The line of a refusal, unless it is want of memory.
 pub fn refusal_line(refusal: &Refusal) -> Option<&'static str>
     ensures { print.IsLineOf refusal.now (option_map (λ line. line.now) result) }
@@ -88,17 +108,7 @@ pub fn refusal_line(refusal: &Refusal) -> Option<&'static str>
         Refusal::NoSuchNode => Some("error no_such_node\n"),
         Refusal::NodeLeft => Some("error node_left\n"),
         Refusal::EmptyLink => Some("error empty_link\n"),
-        Refusal::NotLive(_) => Some("error not_live\n"),
-        Refusal::Busy(_) => Some("error busy\n"),
-        Refusal::Reserved => Some("error reserved\n"),
-        Refusal::UnknownNode => Some("error unknown_node\n"),
-        Refusal::AlreadyJoined => Some("error already_joined\n"),
-        Refusal::NoSuchProcess => Some("error no_such_process\n"),
-        Refusal::AlreadyExited => Some("error already_exited\n"),
-        Refusal::SerialsSpent => Some("error serials_spent\n"),
-        Refusal::NothingToRetry => Some("error nothing_to_retry\n"),
-        Refusal::HoldsLock => Some("error holds_lock\n"),
-        Refusal::CallsSpent => Some("error calls_spent\n"),
-        Refusal::Memory => None,
+        Refusal::Step(StepFault::Memory) => None,
+        Refusal::Step(fault) => Some(step_line(fault)),
     }
 }

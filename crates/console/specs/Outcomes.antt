@@ -1,21 +1,10 @@
 -- What an answer is printed as.
-use Rattle.std.specs.Prelude.{ℕ, codes, List, Option, Some, None, Result, Ok, Err}
-use Rattle.protocol_model.specs.Event.{Refusal}
-use Rattle.command_lines.specs.NodeEventsSeen.{reply_of, fault_of}
+use Rattle.std.specs.Prelude.{ℕ, codes, List, Result, Ok, Err}
+use Rattle.command_lines.specs.NodeEventsSeen.{reply_of}
 use Rattle.command_lines.specs.declared.Reply.{Reply}
-use Rattle.command_lines.specs.declared.StepFault.{StepFault}
 use Rattle.node_threads.specs.declared.fault.SeatFault.{SeatFault}
 use Rattle.node_threads.specs.declared.fault.SeatFault.TheVariants.{NoSuchNode, NodeLeft, Closed, SeatsSpent, Step, Memory}
-use Rattle.command_lines.specs.Printing.{ended, error_line, reply_text, refusal_word}
-
--- the word of the protocol's refusal; there is none where memory was refused
-abbrev pub word_for : Option Refusal → List ℕ
-word_for (Some r) = refusal_word r
-word_for None = codes "memory"
-
--- the word for which a node refuses an event
-abbrev pub step_word : StepFault → List ℕ
-step_word f = word_for (fault_of f)
+use Rattle.command_lines.specs.Printing.{ended, error_line, reply_text, step_word}
 
 -- the word for which a seat refuses what it is asked
 abbrev pub seat_word : SeatFault → List ℕ

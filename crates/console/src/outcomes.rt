@@ -1,32 +1,12 @@
 //! What an answer is printed as.
 ghost use Rattle.std.specs.Prelude.{◌≡◌, IfOk, string_bytes};
 ghost use Rattle.command_lines.specs.Printing.{error_line};
-ghost use Rattle.console.specs.Outcomes.{outcome_text, step_word, seat_word};
+ghost use Rattle.console.specs.Outcomes.{outcome_text, seat_word};
 
-use command_lines::{Answer, Reply, StepFault, answer_line};
+use command_lines::{Answer, Reply, answer_line, step_line};
 use node_threads::SeatFault;
 use std::alloc::{AllocError, Global};
 use term::NodeName;
-
-/// The line that is printed where a node refuses an event.
-fn step_line(fault: &StepFault) -> &'static str
-    ensures { result.now ≡ error_line (step_word fault.now) }
-{
-    match fault {
-        StepFault::NotLive(_) => "error not_live\n",
-        StepFault::Busy(_) => "error busy\n",
-        StepFault::Reserved => "error reserved\n",
-        StepFault::UnknownNode => "error unknown_node\n",
-        StepFault::AlreadyJoined => "error already_joined\n",
-        StepFault::NoSuchProcess => "error no_such_process\n",
-        StepFault::AlreadyExited => "error already_exited\n",
-        StepFault::SerialsSpent => "error serials_spent\n",
-        StepFault::NothingToRetry => "error nothing_to_retry\n",
-        StepFault::HoldsLock => "error holds_lock\n",
-        StepFault::CallsSpent => "error calls_spent\n",
-        StepFault::Memory => "error memory\n",
-    }
-}
 
 /// The line that is printed where a seat refuses what it is asked.
 pub(crate) fn seat_line(fault: &SeatFault) -> &'static str

@@ -3,7 +3,7 @@ use Rattle.std.proofs.Common.{ℕ, ◌≡◌, ◌==◌, Some, List, [], ◌∷�
 use Rattle.std.specs.List.{position}
 use Rattle.std.proofs.lemmas.Bool.{eqb-true}
 use Rattle.std.proofs.lemmas.List.Quantifiers.{position-Some}
-use Rattle.cluster_world.specs.declared.Answer.{Answer}
+use Rattle.world_events.specs.declared.Answer.{Answer}
 use Rattle.node_log.specs.declared.entry.KeptEntry.{KeptEntry}
 use Rattle.node_log.specs.Entries.{Entry, IsPlaceOf, entry_in}
 use Rattle.node_log.specs.Logs.{answered}

@@ -1,8 +1,8 @@
 -- The steps in a log.
 use Rattle.std.specs.Prelude.{ℕ, ◌<◌, ◌≡◌, Option, None, List, length, slice_index_or}
-use Rattle.cluster_world.specs.declared.Answer.{Answer}
-use Rattle.cluster_world.specs.declared.events.WorldEvent.{WorldEvent}
-use Rattle.cluster_world.specs.declared.events.WorldEvent.TheVariants.{Deliver}
+use Rattle.world_events.specs.declared.Answer.{Answer}
+use Rattle.world_events.specs.declared.events.WorldEvent.{WorldEvent}
+use Rattle.world_events.specs.declared.events.WorldEvent.TheVariants.{Deliver}
 use Rattle.node_log.specs.declared.entry.KeptEntry.{KeptEntry}
 use Rattle.node_log.specs.declared.entry.KeptEvent.{KeptEvent}
 use Rattle.node_log.specs.declared.entry.KeptEvent.TheVariants.{Delivery, Other}

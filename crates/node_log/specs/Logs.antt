@@ -1,8 +1,8 @@
 -- What a log is read as, and how its last step is answered.
 use Rattle.std.specs.Prelude.{ℕ, List, [], ◌∷◌}
-use Rattle.cluster_world.specs.declared.Answer.{Answer}
-use Rattle.cluster_world.specs.declared.events.WorldEvent.{WorldEvent}
-use Rattle.cluster_world.specs.declared.events.WorldEvent.TheVariants.{Deliver}
+use Rattle.world_events.specs.declared.Answer.{Answer}
+use Rattle.world_events.specs.declared.events.WorldEvent.{WorldEvent}
+use Rattle.world_events.specs.declared.events.WorldEvent.TheVariants.{Deliver}
 use Rattle.node_log.specs.declared.entry.LoggedEntry.{LoggedEntry}
 use Rattle.node_log.specs.declared.entry.LoggedEvent.{LoggedEvent}
 use Rattle.node_log.specs.declared.entry.LoggedEvent.TheVariants.{Delivery, Other}

@@ -1,7 +1,7 @@
 //! Entries of a log.
-use cluster_world::{Answer, WorldEvent};
 use std::mem::size_of;
 use term::NodeName;
+use world_events::{Answer, WorldEvent};
 
 /// An event, and the seat that it came from, if it did.
 #[derive(Debug, Drop)]

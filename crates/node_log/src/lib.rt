@@ -6,11 +6,11 @@ mod log;
 mod node_end;
 mod transcript;
 
-pub use cluster_world::{
-    Answer, Call, Cause, CoreEvent, Event, KeptEntry, Letter, NameList, NodeCore, Nodes, Refusal,
-    Reply, Retries, StartFault, StepFault, World, WorldEvent,
-};
 pub use entry::{LoggedEntry, LoggedEvent};
 pub use log::Log;
 pub use node_end::NodeEnd;
 pub use transcript::{SeatEntry, Transcript};
+pub use world_events::{
+    Answer, Call, Cause, CoreEvent, Event, Letter, NameList, NodeCore, Nodes, Opening, Reply,
+    Retries, StartFault, StepFault, Turn, WorldEvent,
+};

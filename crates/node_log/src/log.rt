@@ -1,15 +1,15 @@
 //! The log of a node.
 ghost use Rattle.std.specs.Prelude.{◌≡◌, ◌==◌, ◌-◌, [], ◌∷◌, ◌++◌, Some, None, length, take, OnOk, OnErr, IfSome, MatchOption};
 ghost use Rattle.std.specs.List.{slice_get};
-ghost use Rattle.cluster_world.specs.declared.events.WorldEvent.TheVariants.{Deliver};
+ghost use Rattle.world_events.specs.declared.events.WorldEvent.TheVariants.{Deliver};
 ghost use Rattle.node_log.specs.Entries.{IsPlaceOf};
 ghost use Rattle.node_log.specs.Logs.{entry_of, answered};
 
 use crate::entry::{Asked, KeptEntry, KeptEvent, LoggedEntry, LoggedEvent};
-use cluster_world::{Answer, WorldEvent};
 use std::alloc::{AllocError, Global};
 use std::marker::Model;
 use term::{NodeName, NodeSet};
+use world_events::{Answer, WorldEvent};
 
 /// The log of a node: all its steps, the oldest first. Contracts see it as their list.
 #[derive(Debug, Drop)]

@@ -1,6 +1,6 @@
 //! What a seat was answered.
-use cluster_world::{Answer, WorldEvent};
 use term::NodeName;
+use world_events::{Answer, WorldEvent};
 
 /// One event of a seat that was accepted, and the answer to it, if it is a call.
 #[derive(Debug, Drop)]

@@ -16,9 +16,8 @@ mod waiting;
 pub use gate::{Gate, OpenGate};
 pub use item::{Item, Stamped, Task, Ticket};
 pub use node_log::{
-    Answer, Call, Event, NameList, NodeCore, NodeEnd, Nodes, Reply, Retries, SeatEntry, StartFault,
-    StepFault, Transcript, World, WorldEvent,
+    Answer, Call, Event, NameList, NodeCore, NodeEnd, Nodes, Opening, Reply, Retries, SeatEntry,
+    StartFault, StepFault, Transcript, WorldEvent,
 };
 pub use node_loop::NodeLoop;
 pub use replies::{TaskFault, TaskReply};
-pub use stepping::knows_contact;

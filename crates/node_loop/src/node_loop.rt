@@ -24,7 +24,6 @@ use tray::Tray;
 /// the replies.
 #[derive(Drop)]
 pub struct NodeLoop<N: Names> {
-    pub(crate) alloc: Global,
     pub(crate) core: NodeCore<N>,
     pub(crate) world: NodeSet,
     pub(crate) log: Log,
@@ -76,7 +75,6 @@ impl<N: Names<Memory = Global>> NodeLoop<N> {
         let own = world.position(core.name()).unwrap_or(0);
         let courtesy = Courtesy::new(Ring::new(world.len(), own));
         Ok(NodeLoop {
-            alloc,
             core,
             world,
             log,

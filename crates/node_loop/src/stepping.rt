@@ -1,7 +1,6 @@
 //! The steps of a node's loop.
 ghost use Rattle.std.specs.Prelude.{◌≡◌, ◌-◌};
 ghost use Rattle.std.specs.Option.{option_map};
-ghost use Rattle.node_log.specs.Events.{is_leave, knows_contact as knows};
 ghost use Rattle.node_loop.specs.Held.{can_step, has_retry, is_due, has_leave, is_free_to_leave};
 ghost use Rattle.node_loop.specs.Steps.{Concludes, Tries};
 ghost use Rattle.node_loop.specs.Items.{Refuses, Reads, Accepts, Handles, Hears, Idles, Works};
@@ -12,9 +11,9 @@ use crate::outgoing::{next_stamp, put_all};
 use crate::replies::TaskFault;
 use crate::waiting::Course;
 use name_table::Names;
-use node_log::{Answer, Call, Cause, Event, Letter, StepFault, WorldEvent};
+use node_log::{Cause, Event, StepFault, Turn, WorldEvent};
 use std::alloc::Global;
-use term::{NodeName, NodeSet};
+use term::NodeName;
 
 /// What came of trying a step.
 #[derive(Debug, Drop)]
@@ -27,16 +26,6 @@ pub(crate) enum Tried {
     Ended,
 }
 
-/// Whether the contact of an event is among these nodes, if it has one.
-pub fn knows_contact(nodes: &NodeSet, event: &Event) -> bool
-    ensures { result ≡ knows nodes.now event.now }
-{
-    match event {
-        Event::Call(Call::Join(contact)) => nodes.contains(contact),
-        _ => true,
-    }
-}
-
 /// The seat of a ticket.
 fn seat_of(own: Option<Ticket>) -> Option<u32>
     ensures { result ≡ option_map (λ t. t.seat) own }
@@ -45,13 +34,6 @@ fn seat_of(own: Option<Ticket>) -> Option<u32>
         Some(ticket) => Some(ticket.seat),
         None => None,
     }
-}
-
-/// Whether the node leaves.
-fn is_leave(event: &Event) -> bool
-    ensures { result ≡ is_leave event.now }
-{
-    matches!(event, Event::Leave)
 }
 
 impl<N: Names<Memory = Global>> NodeLoop<N> {
@@ -89,11 +71,13 @@ impl<N: Names<Memory = Global>> NodeLoop<N> {
         stamp: u64,
         own: Option<Ticket>,
         course: Course,
-        answers: Vec<Answer>,
-        letters: Vec<(NodeName, Letter)>,
+        turn: Turn,
     ) -> bool
-        ensures { Concludes stamp own course answers.items letters.items self.old result self.new }
+        ensures { Concludes stamp own course turn self.old result self.new }
     {
+        let Turn {
+            letters, answers, ..
+        } = turn;
         self.stamp = stamp;
         let told = self
             .desk
@@ -113,9 +97,8 @@ impl<N: Names<Memory = Global>> NodeLoop<N> {
             return Tried::Ended;
         };
         let course = Course::of(&event);
-        let mut letters = Vec::new(self.alloc);
-        let answers = match Cause::of(&event).step(&mut self.core, &mut letters) {
-            Ok(answers) => answers,
+        let turn = match self.core.turn(event.cause()) {
+            Ok(turn) => turn,
             Err(StepFault::Memory) => return Tried::Ended,
             Err(fault) => return Tried::Refused(fault),
         };
@@ -123,7 +106,7 @@ impl<N: Names<Memory = Global>> NodeLoop<N> {
         let Ok(()) = self.log.begin(stamp, seat_of(own), event) else {
             return Tried::Ended;
         };
-        if self.conclude(stamp, own, course, answers, letters) {
+        if self.conclude(stamp, own, course, turn) {
             Tried::Made
         } else {
             Tried::Ended
@@ -144,15 +127,13 @@ impl<N: Names<Memory = Global>> NodeLoop<N> {
         let Some(stamp) = next_stamp(self.stamp, sent) else {
             return false;
         };
-        let mut letters = Vec::new(self.alloc);
-        let event = node_log::CoreEvent::FromPeer(from.copy(), letter);
-        let Ok(answers) = self.core.step(&event, &mut letters) else {
+        let Ok(turn) = self.core.turn(Cause::FromPeer(&from, &letter)) else {
             return false;
         };
         let Ok(()) = self.log.begin_delivery(stamp, &from) else {
             return false;
         };
-        self.conclude(stamp, None, Course::AtOnce, answers, letters)
+        self.conclude(stamp, None, Course::AtOnce, turn)
     }
 
     /// A task is refused, and the ticket is told so.
@@ -167,13 +148,13 @@ impl<N: Names<Memory = Global>> NodeLoop<N> {
         ensures { Accepts task.ticket task.event self.old result self.new }
     {
         let Task { ticket, event } = task;
-        if !knows_contact(&self.world, &event) {
+        if !event.knows_contact(&self.world) {
             return self.refuse(ticket, TaskFault::NoSuchNode);
         }
         if self.left {
             return self.refuse(ticket, TaskFault::NodeLeft);
         }
-        if is_leave(&event) {
+        if event.is_leave() {
             return self.desk.wait_to_leave(ticket).is_ok();
         }
         match self.attempt(ticket, event) {

@@ -10,7 +10,7 @@ use Rattle.std.specs.Prelude.{if◌then◌else◌, ◌||◌, ◌&&◌, nat_lt, M
 use Rattle.std.proofs.Math.Bool.{or-true}
 use Rattle.protocol_model.specs.World.{Opening}
 use Rattle.term.specs.NodeSets.{set_of}
-use Rattle.node_log.specs.Starting.{repeats}
+use Rattle.node_log.specs.Openings.{repeats}
 use Rattle.node_log.specs.Entries.{Entry, Logged}
 use Rattle.replay.specs.Steps.{Step, steps_of, log_of, next_of, is_before}
 use Rattle.replay.specs.Merging.{IsInOrder, IsMerged, IsNext, Rises, RisesBehind}

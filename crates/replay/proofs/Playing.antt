@@ -2,16 +2,16 @@
 use Rattle.std.proofs.Common.{ℕ, false, ◌≡◌, ◌+◌, Some, None, set, get_or, List, [], ◌∷◌, ◌++◌, length, map, refl, sym, ap, subst, ◌∙◌}
 use Rattle.std.proofs.lemmas.List.{map-append}
 use Rattle.std.specs.List.{slice_get}
-use Rattle.node_log.specs.Starting.{repeats}
+use Rattle.node_log.specs.Openings.{repeats}
 use Rattle.replay.specs.Steps.{steps_of}
 use Rattle.protocol_model.specs.World.{Opening, World, WorldEvent as AnyWorldEvent, happens, opening_world, run}
-use Rattle.node_log.specs.Held.{Held}
-use Rattle.node_log.specs.Agreeing.{AgreesAfter}
-use Rattle.node_log.specs.Locks.{LocksAfter}
-use Rattle.node_log.specs.Playing.{Keeps}
-use Rattle.node_log.specs.Seen.{opening_of, seen}
-use Rattle.node_log.proofs.Agreeing.{same_opening}
-use Rattle.node_log.proofs.Leftovers.{nothing_left}
+use Rattle.cluster_world.specs.Held.{Held}
+use Rattle.cluster_world.specs.Agreeing.{AgreesAfter}
+use Rattle.cluster_world.specs.Locks.{LocksAfter}
+use Rattle.cluster_world.specs.Playing.{Keeps}
+use Rattle.cluster_world.specs.Seen.{opening_of, seen}
+use Rattle.cluster_world.proofs.Agreeing.{same_opening}
+use Rattle.cluster_world.proofs.Leftovers.{nothing_left}
 use Rattle.node_log.specs.Entries.{Entry, Logged}
 use Rattle.replay.specs.declared.merge.Reader.{Reader}
 use Rattle.replay.specs.Merging.{IsNext, Rises, RisesBehind}

@@ -5,7 +5,7 @@ use Rattle.std.proofs.lemmas.Option.{slice_get_within, slice_get-map}
 use Rattle.std.specs.List.{slice_get}
 use Rattle.std.specs.Option.{option_map}
 use Rattle.std.specs.Prelude.{Option, is_some}
-use Rattle.node_log.specs.Starting.{repeats}
+use Rattle.node_log.specs.Openings.{repeats}
 use Rattle.node_log.specs.Entries.{Entry, Logged}
 use Rattle.replay.specs.declared.merge.Reader.{Reader}
 use Rattle.replay.specs.Least.{AllSuch, IsLeastOther}

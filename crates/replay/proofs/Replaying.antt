@@ -5,13 +5,14 @@ use Rattle.std.specs.List.{slice_get}
 use Rattle.std.specs.Option.{option_map}
 use Rattle.std.specs.Prelude.{All}
 use Rattle.term.specs.NodeSets.{set_of}
-use Rattle.node_log.proofs.Leftovers.{nothing_left}
-use Rattle.node_log.specs.Held.{Held}
-use Rattle.node_log.specs.Playing.{Keeps}
-use Rattle.node_log.specs.Seen.{opening_of, seen}
-use Rattle.node_log.specs.Starting.{Opens, repeats}
-use Rattle.node_log.specs.Agreeing.{AgreesAfter}
-use Rattle.node_log.specs.Locks.{LocksAfter}
+use Rattle.cluster_world.proofs.Leftovers.{nothing_left}
+use Rattle.cluster_world.specs.Held.{Held}
+use Rattle.cluster_world.specs.Playing.{Keeps}
+use Rattle.cluster_world.specs.Seen.{opening_of, seen}
+use Rattle.node_log.specs.Openings.{repeats}
+use Rattle.cluster_world.specs.Starting.{Opens}
+use Rattle.cluster_world.specs.Agreeing.{AgreesAfter}
+use Rattle.cluster_world.specs.Locks.{LocksAfter}
 use Rattle.node_log.specs.Entries.{Entry, Logged}
 use Rattle.node_log.specs.declared.node_end.NodeEnd.{NodeEnd}
 use Rattle.node_log.specs.declared.transcript.Transcript.{Transcript}

@@ -1,10 +1,10 @@
 -- What the next step of a log does to a world.
 use Rattle.std.specs.Prelude.{◌≡◌, Some, [], ◌∷◌}
-use Rattle.node_log.specs.Held.{Held}
-use Rattle.node_log.specs.Seen.{opening_of, seen}
-use Rattle.node_log.specs.Playing.{Keeps}
-use Rattle.node_log.specs.Agreeing.{Agrees}
-use Rattle.node_log.specs.Locks.{LocksBehind}
+use Rattle.cluster_world.specs.Held.{Held}
+use Rattle.cluster_world.specs.Seen.{opening_of, seen}
+use Rattle.cluster_world.specs.Playing.{Keeps}
+use Rattle.cluster_world.specs.Agreeing.{Agrees}
+use Rattle.cluster_world.specs.Locks.{LocksBehind}
 use Rattle.node_log.specs.Entries.{Entry}
 use Rattle.replay.specs.declared.faults.CloseFault.{CloseFault}
 use Rattle.replay.specs.declared.faults.CloseFault.TheVariants.{Torn, LeftInHold, Stranger, Memory}

@@ -4,10 +4,10 @@ use Rattle.protocol_model.specs.Leftovers.{NothingIsLeft}
 use Rattle.protocol_model.specs.World.{Opening, World, place, refusal, happens, answers, opening_world, run}
 use Rattle.node_log.specs.NodeEventsSeen.{answer_of}
 use Rattle.node_log.specs.Entries.{Logged}
-use Rattle.node_log.specs.Held.{Held}
-use Rattle.node_log.specs.Seen.{opening_of, seen}
-use Rattle.node_log.specs.Agreeing.{AgreesAfter}
-use Rattle.node_log.specs.Locks.{LocksAfter}
+use Rattle.cluster_world.specs.Held.{Held}
+use Rattle.cluster_world.specs.Seen.{opening_of, seen}
+use Rattle.cluster_world.specs.Agreeing.{AgreesAfter}
+use Rattle.cluster_world.specs.Locks.{LocksAfter}
 use Rattle.replay.specs.Steps.{Step, happening, events_in, steps_of}
 use Rattle.replay.specs.Merging.{IsNext, RisesBehind}
 

@@ -1,10 +1,10 @@
 -- What a replay comes to.
 use Rattle.std.specs.Prelude.{ℕ, ◌≡◌, ◌⊎◌, List, length}
 use Rattle.protocol_model.specs.World.{Opening}
-use Rattle.node_log.specs.Held.{Held}
-use Rattle.node_log.specs.Playing.{Keeps}
-use Rattle.node_log.specs.Seen.{opening_of, seen}
-use Rattle.node_log.specs.Starting.{Opens}
+use Rattle.cluster_world.specs.Held.{Held}
+use Rattle.cluster_world.specs.Playing.{Keeps}
+use Rattle.cluster_world.specs.Seen.{opening_of, seen}
+use Rattle.cluster_world.specs.Starting.{Opens}
 use Rattle.node_log.specs.Entries.{Logged}
 use Rattle.node_log.specs.declared.transcript.Transcript.{Transcript}
 use Rattle.replay.specs.declared.faults.CloseFault.{CloseFault}

@@ -1,10 +1,10 @@
 //! What a run came to.
 ghost use Rattle.std.specs.Prelude.{◌≡◌, is_some, IfSome};
 ghost use Rattle.term.specs.NodeSets.{set_of};
-ghost use Rattle.node_log.specs.Seen.{seen};
+ghost use Rattle.cluster_world.specs.Seen.{seen};
 
+use cluster_world::{KeptEntry, World};
 use name_table::Names;
-use node_log::{KeptEntry, World};
 use std::alloc::Global;
 use term::NodeName;
 

@@ -2,10 +2,10 @@
 ghost use Rattle.std.specs.Prelude.{◌≡◌, ◌==◌, Some, IfOk, IfErr, OnOk, MatchBool, [], ◌∷◌};
 ghost use Rattle.protocol_model.specs.World.{place};
 ghost use Rattle.node_log.specs.Events.{event_of};
-ghost use Rattle.node_log.specs.Agreeing.{Agrees};
-ghost use Rattle.node_log.specs.Locks.{LocksBehind};
-ghost use Rattle.node_log.specs.Playing.{Keeps, Played, RefusedWith};
-ghost use Rattle.node_log.specs.Seen.{opening_of, seen};
+ghost use Rattle.cluster_world.specs.Agreeing.{Agrees};
+ghost use Rattle.cluster_world.specs.Locks.{LocksBehind};
+ghost use Rattle.cluster_world.specs.Playing.{Keeps, Played, RefusedWith};
+ghost use Rattle.cluster_world.specs.Seen.{opening_of, seen};
 ghost use Rattle.node_log.specs.Logs.{event_of as logged_event, entry_of};
 ghost use Rattle.replay.specs.Merging.{Rises};
 ghost use Rattle.replay.specs.Moves.{Moves, Refuses, StopsReader, MovesReader};
@@ -14,8 +14,9 @@ ghost use Rattle.replay.specs.Reading.{head_of};
 use crate::equal::same_answers;
 use crate::faults::CloseFault;
 use crate::merge::Reader;
+use cluster_world::{Refusal, StepFault, World};
 use name_table::Names;
-use node_log::{Answer, LoggedEntry, LoggedEvent, Refusal, World, WorldEvent};
+use node_log::{Answer, LoggedEntry, LoggedEvent, WorldEvent};
 use std::alloc::{AllocError, Global};
 use term::NodeName;
 
@@ -73,7 +74,7 @@ fn takes<N: Names<Memory = Global>>(
     }
     match play_logged(world, node, &entry.event) {
         Ok(answers) => Ok(same_answers(answers.as_slice(), entry.answers)),
-        Err(Refusal::Memory) => Err(AllocError),
+        Err(Refusal::Step(StepFault::Memory)) => Err(AllocError),
         Err(_) => Ok(false),
     }
 }

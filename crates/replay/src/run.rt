@@ -1,9 +1,9 @@
 //! Plays the logs of closed nodes on a world.
 ghost use Rattle.std.specs.Prelude.{◌≡◌, ◌++◌, ◌<◌, ℕ, [], false, None, Some, length, map, IfOk, IfErr, slice_get};
 ghost use Rattle.term.specs.NodeSets.{set_of};
-ghost use Rattle.node_log.specs.Seen.{opening_of};
-ghost use Rattle.node_log.specs.Playing.{Keeps};
-ghost use Rattle.node_log.specs.Starting.{repeats, start_refused};
+ghost use Rattle.cluster_world.specs.Seen.{opening_of};
+ghost use Rattle.cluster_world.specs.Playing.{Keeps};
+ghost use Rattle.node_log.specs.Openings.{repeats, start_refused};
 ghost use Rattle.replay.specs.Ends.{end_of, logs_of};
 ghost use Rattle.replay.specs.Playing.{IsRun};
 ghost use Rattle.replay.specs.Replaying.{RunsThrough, StopsLogs, Replayed, IsFault};
@@ -14,8 +14,9 @@ use crate::merge::{advance, next_place, open};
 use crate::player::play_next;
 use crate::tables::{least_alone, least_other_table};
 use crate::transcripts::least_stranger;
+use cluster_world::World;
 use name_table::Names;
-use node_log::{NodeEnd, Transcript, World};
+use node_log::{NodeEnd, Transcript};
 use std::alloc::Global;
 use term::NodeName;
 

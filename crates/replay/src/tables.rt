@@ -1,13 +1,14 @@
 //! The nodes' last tables beside those of the world.
 ghost use Rattle.std.specs.Prelude.{◌≡◌, ◌<◌, true, length, map, nat_lt, All, IfOk, IfSome, MatchBool};
 ghost use Rattle.term.specs.NodeSets.{set_of};
-ghost use Rattle.node_log.specs.Seen.{seen};
+ghost use Rattle.cluster_world.specs.Seen.{seen};
 ghost use Rattle.replay.specs.Ends.{end_of, is_lesser, EndedWell, HasTableOf};
 ghost use Rattle.replay.specs.Least.{LeastOther, IsChosen};
 
 use crate::equal::same_pairs;
+use cluster_world::World;
 use name_table::Names;
-use node_log::{NodeEnd, World};
+use node_log::NodeEnd;
 use std::alloc::{AllocError, Global};
 
 /// Of an end and the least so far, the place of that whose node is less.

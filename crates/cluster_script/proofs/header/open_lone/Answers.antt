@@ -2,7 +2,7 @@ use Rattle.std.proofs.Common.{◌≡◌, ℕ, List, Option, Some, Result, Ok, Er
 use Rattle.std.specs.Prelude.{option_map}
 use Rattle.term.specs.declared.faults.TextFault.{TextFault}
 use Rattle.term.specs.declared.node_name.NodeName.{NodeName}
-use Rattle.command_lines.specs.Held.{Held}
+use Rattle.cluster_world.specs.Held.{Held}
 use Rattle.command_lines.specs.declared.faults.LineFault.{LineFault}
 use Rattle.cluster_script.specs.Script.{made_of, lone_line}
 use Rattle.cluster_script.specs.Headers.{ReadsHeader, Starts}

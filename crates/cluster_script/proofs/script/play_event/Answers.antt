@@ -4,7 +4,7 @@ use Rattle.std.specs.Io.KnownBytes.{Appends}
 use Rattle.std.proofs.KnownBytes.{Appends-trans}
 use Rattle.protocol_model.specs.Script.{Play}
 use Rattle.command_lines.specs.Events.{event_of}
-use Rattle.command_lines.specs.Seen.{opening_of}
+use Rattle.cluster_world.specs.Seen.{opening_of}
 use Rattle.cluster_script.specs.Played.{okay_text}
 use Rattle.command_lines.specs.NodeEventsSeen.{answer_of}
 use Rattle.command_lines.specs.declared.Answer.{Answer}

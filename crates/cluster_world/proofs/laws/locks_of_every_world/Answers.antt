@@ -1,5 +1,5 @@
 use Rattle.lock_answers.proofs.ClientLocks.{client_locks}
-use Rattle.cluster_world.specs.Seen.{opening_with}
+use Rattle.world_events.specs.Openings.{opening_with}
 use Rattle.cluster_world.proofs.laws.locks_of_every_world.Goals as goal
 
 pub returns : goal.returns

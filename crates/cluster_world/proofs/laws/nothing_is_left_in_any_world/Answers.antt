@@ -1,5 +1,5 @@
 use Rattle.lock_answers.proofs.Nothing.{nothing_is_left}
-use Rattle.cluster_world.specs.Seen.{opening_with}
+use Rattle.world_events.specs.Openings.{opening_with}
 use Rattle.cluster_world.proofs.laws.nothing_is_left_in_any_world.Goals as goal
 
 pub returns : goal.returns

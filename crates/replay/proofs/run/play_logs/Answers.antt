@@ -1,6 +1,6 @@
 use Rattle.std.proofs.Common.{◌≡◌, ◌∙◌, List, None, length, map, subst, ap, rules}
-use Rattle.node_log.specs.Seen.{opening_of}
-use Rattle.node_log.specs.Starting.{repeats}
+use Rattle.cluster_world.specs.Seen.{opening_of}
+use Rattle.node_log.specs.Openings.{repeats}
 use Rattle.replay.specs.declared.merge.Reader.{Reader}
 use Rattle.replay.specs.Ends.{end_of, logs_of}
 use Rattle.replay.specs.Least.{AllSuch, IsLeastOther}

@@ -1,7 +1,7 @@
 use Rattle.std.proofs.Common.{◌∙◌, length, map, sym, ap, subst, rules}
 use Rattle.std.proofs.lemmas.List.{length-map}
-use Rattle.node_log.specs.Seen.{seen}
-use Rattle.node_log.specs.Starting.{repeats}
+use Rattle.cluster_world.specs.Seen.{seen}
+use Rattle.node_log.specs.Openings.{repeats}
 use Rattle.node_log.specs.declared.transcript.Transcript.{Transcript}
 use Rattle.replay.specs.declared.faults.CloseFault.TheVariants.{Memory}
 use Rattle.replay.specs.Ends.{end_of, logs_of, is_lesser, EndedWell, HasTableOf}

@@ -1,5 +1,5 @@
 use Rattle.std.proofs.Common.{map}
-use Rattle.node_log.specs.Seen.{seen}
+use Rattle.cluster_world.specs.Seen.{seen}
 use Rattle.replay.specs.Ends.{end_of, is_lesser, HasTableOf}
 use Rattle.replay.proofs.Ends.{end_at, chosen_end}
 use Rattle.replay.proofs.Least.{least_skip, least_chosen, lt-trans, lt-anti}

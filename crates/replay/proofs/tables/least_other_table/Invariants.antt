@@ -1,5 +1,5 @@
 use Rattle.std.proofs.Common.{map}
-use Rattle.node_log.specs.Seen.{seen}
+use Rattle.cluster_world.specs.Seen.{seen}
 use Rattle.replay.specs.Ends.{end_of, is_lesser, HasTableOf}
 use Rattle.replay.specs.Least.{LeastOther}
 use Rattle.replay.proofs.tables.least_other_table.Given as goal

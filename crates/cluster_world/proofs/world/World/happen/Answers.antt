@@ -3,8 +3,8 @@ use Rattle.std.proofs.lemmas.Result.{err_from_is_err_and}
 use Rattle.term.specs.NodeSets.{set_of}
 use Rattle.node_core.specs.declared.Event.{Event as NodeEvent}
 use Rattle.node_core.specs.Steps.{IsHeardWithin}
-use Rattle.cluster_world.specs.declared.events.WorldEvent.TheVariants.{At}
-use Rattle.cluster_world.specs.Causes.{event_by}
+use Rattle.world_events.specs.declared.events.WorldEvent.TheVariants.{At}
+use Rattle.node_core.specs.Causes.{event_by}
 use Rattle.cluster_world.specs.Held.{Held}
 use Rattle.cluster_world.specs.Playing.{Played, RefusedWith}
 use Rattle.cluster_world.specs.Steps.{Moves, FailsAt}

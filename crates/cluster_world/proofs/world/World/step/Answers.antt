@@ -7,15 +7,15 @@ use Rattle.node_core.specs.Held.{Held as Core}
 use Rattle.node_core.specs.Seen.{node_of}
 use Rattle.node_core.specs.NodeEventsSeen.{entry_by}
 use Rattle.node_core.specs.Steps.{IsHeardWithin}
-use Rattle.cluster_world.specs.declared.events.Refusal.TheVariants.{NodeLeft, Memory}
-use Rattle.cluster_world.specs.Causes.{event_by}
+use Rattle.world_events.specs.declared.refusal.Refusal.TheVariants.{NodeLeft, Step}
+use Rattle.node_core.specs.Causes.{event_by}
 use Rattle.cluster_world.specs.Held.{Held}
 use Rattle.world_history.specs.Histories.{entry_of}
 use Rattle.cluster_world.specs.Histories.{number_at}
-use Rattle.cluster_world.specs.Refusals.{refusal_by}
+use Rattle.world_events.specs.Refusals.{out_of_memory}
 use Rattle.cluster_world.specs.Steps.{Moves, FailsAt}
 use Rattle.cluster_world.proofs.Listed.{no_place, known_place}
-use Rattle.cluster_world.proofs.Steps.{fails, fails_behind, joined, said, unchanged, stands_there, whole_with, whole_posted, moves, same_memory, number_is}
+use Rattle.cluster_world.proofs.Steps.{fails, fails_behind, joined, said, unchanged, stands_there, whole_with, whole_posted, moves, number_is}
 use Rattle.cluster_world.proofs.world.World.step.Goals as goal
 
 pub returns-in_default-clause-refused : goal.returns-in_default-clause-refused
@@ -25,7 +25,7 @@ returns-in_default-clause-refused g c =
 
 pub returns-then-is_closed-clause-refused : goal.returns-then-is_closed-clause-refused
 returns-then-is_closed-clause-refused g c =
-    subst (λ (k : Held). FailsAt NodeLeft c.args.node.now (event_by c.args.cause.now) k) c.self.view_is (
+    subst (λ (k : Held). FailsAt NodeLeft c.args.node.now (event_by c.args.cause) k) c.self.view_is (
       known_place c.self.inside.nodes c.args.node.now c.in-Some.place (sym c.position.ensures ∙ c.in-Some.is),
       sym c.is_closed.ensures ∙ c.if-is_closed.true,
     )
@@ -40,12 +40,12 @@ invariant_of-self g c =
 pub returns-in_err-answers-clause-refused : goal.returns-in_err-answers-clause-refused
 returns-in_err-answers-clause-refused g c =
     let p = err_from_is_err_and c.from_residual.result c.from_residual.ensures.1 in
-    let failed : FailsAt (refusal_by c.in_err-answers.field-0.0) c.args.node.now (event_by c.args.cause.now) c.args.self.now =
-    subst (λ (k : Held). FailsAt (refusal_by c.in_err-answers.field-0.0) c.args.node.now (event_by c.args.cause.now) k)
+    let failed : FailsAt (Step c.in_err-answers.field-0.0) c.args.node.now (event_by c.args.cause) c.args.self.now =
+    subst (λ (k : Held). FailsAt (Step c.in_err-answers.field-0.0) c.args.node.now (event_by c.args.cause) k)
     c.self.view_is
     (fails _ c.self.invariant c.args.node.now c.in-Some.place c.index_mut-core.result.now
     (sym c.position.ensures ∙ c.in-Some.is)
-    c.index_mut-core.ensures.value (sym c.is_closed.ensures ∙ c.if-is_closed.false) (event_by c.args.cause.now) c.in_err-answers.field-0.0 c.in_err-answers.ensures.refused) in
+    c.index_mut-core.ensures.value (sym c.is_closed.ensures ∙ c.if-is_closed.false) (event_by c.args.cause) c.in_err-answers.field-0.0 c.in_err-answers.ensures.refused) in
     rw (p.1, p.2) failed
 
 pub returns-in_err-answers-clause-unchanged : goal.returns-in_err-answers-clause-unchanged
@@ -53,8 +53,7 @@ returns-in_err-answers-clause-unchanged g c =
     let p = err_from_is_err_and c.from_residual.result c.from_residual.ensures.1 in
     rw (p.1, p.2) (λ kept. unchanged _ c.self.invariant c.args.node.now c.in-Some.place c.index_mut-core.result.now
     (sym c.position.ensures ∙ c.in-Some.is)
-    c.index_mut-core.ensures.value c.step.new.core (c.in_err-answers.ensures.unchanged
-    (same_memory c.in_err-answers.field-0.0 kept)) ∙ c.self.view_is)
+    c.index_mut-core.ensures.value c.step.new.core (c.in_err-answers.ensures.unchanged kept) ∙ c.self.view_is)
 
 pub invariant_of-self-in_err-post : goal.invariant_of-self-in_err-post
 invariant_of-self-in_err-post g c =
@@ -67,13 +66,11 @@ invariant_of-self-in_err-post g c =
 pub returns-in_err-post-clause-refused : goal.returns-in_err-post-clause-refused
 returns-in_err-post-clause-refused g c =
     let p = err_from_is_err_and c.from_residual-in_err-post.result c.from_residual-in_err-post.ensures.1 in
-    let failed : FailsAt Memory c.args.node.now (event_by c.args.cause.now) c.args.self.now =
-    subst (λ (k : Held). FailsAt Memory c.args.node.now (event_by c.args.cause.now) k) c.self.view_is
+    let failed : FailsAt out_of_memory c.args.node.now (event_by c.args.cause) c.args.self.now =
+    subst (λ (k : Held). FailsAt out_of_memory c.args.node.now (event_by c.args.cause) k) c.self.view_is
     (fails_behind _ c.self.invariant c.args.node.now c.in-Some.place c.index_mut-core.result.now
     (sym c.position.ensures ∙ c.in-Some.is)
-    c.index_mut-core.ensures.value (sym c.is_closed.ensures ∙ c.if-is_closed.false) (event_by c.args.cause.now) c.step.new.core c.new-letters.result.items c.step.new.letters.items
-    c.in_ok-answers.answers.items
-    c.in_ok-answers.ensures.ok) in
+    c.index_mut-core.ensures.value (sym c.is_closed.ensures ∙ c.if-is_closed.false) (event_by c.args.cause) c.turn.new.self _ c.in_ok-turn.ensures.ok) in
     rw (p.1, p.2, c.in_err-post.ensures.err) failed
 
 pub invariant_of-self-in_err-enter_all : goal.invariant_of-self-in_err-enter_all
@@ -87,13 +84,11 @@ invariant_of-self-in_err-enter_all g c =
 pub returns-in_err-enter_all-clause-refused : goal.returns-in_err-enter_all-clause-refused
 returns-in_err-enter_all-clause-refused g c =
     let p = err_from_is_err_and c.from_residual-in_err-enter_all.result c.from_residual-in_err-enter_all.ensures.1 in
-    let failed : FailsAt Memory c.args.node.now (event_by c.args.cause.now) c.args.self.now =
-    subst (λ (k : Held). FailsAt Memory c.args.node.now (event_by c.args.cause.now) k) c.self.view_is
+    let failed : FailsAt out_of_memory c.args.node.now (event_by c.args.cause) c.args.self.now =
+    subst (λ (k : Held). FailsAt out_of_memory c.args.node.now (event_by c.args.cause) k) c.self.view_is
     (fails_behind _ c.self.invariant c.args.node.now c.in-Some.place c.index_mut-core.result.now
     (sym c.position.ensures ∙ c.in-Some.is)
-    c.index_mut-core.ensures.value (sym c.is_closed.ensures ∙ c.if-is_closed.false) (event_by c.args.cause.now) c.step.new.core c.new-letters.result.items c.step.new.letters.items
-    c.in_ok-answers.answers.items
-    c.in_ok-answers.ensures.ok) in
+    c.index_mut-core.ensures.value (sym c.is_closed.ensures ∙ c.if-is_closed.false) (event_by c.args.cause) c.turn.new.self _ c.in_ok-turn.ensures.ok) in
     rw (p.1, p.2) failed
 
 pub invariant_of-self-2 : goal.invariant_of-self-2
@@ -113,10 +108,10 @@ returns-clause-ok g c =
       links = c.post.new.links;
       history = c.enter_all.new.history;
     } in
-    subst (λ (k : Held). Moves c.args.node.now (event_by c.args.cause.now) k behind c.in_ok-answers.answers.items) c.self.view_is
+    subst (λ (k : Held). Moves c.args.node.now (event_by c.args.cause) k behind c.in_ok-answers.answers.items) c.self.view_is
     (moves _ c.self.invariant c.args.node.now c.in-Some.place c.index_mut-core.result.now
     (sym c.position.ensures ∙ c.in-Some.is)
-    c.index_mut-core.ensures.value (sym c.is_closed.ensures ∙ c.if-is_closed.false) (event_by c.args.cause.now) c.step.new.core c.new-letters.result.items c.step.new.letters.items
+    c.index_mut-core.ensures.value (sym c.is_closed.ensures ∙ c.if-is_closed.false) (event_by c.args.cause) c.step.new.core c.new-letters.result.items c.step.new.letters.items
     c.in_ok-answers.answers.items
     c.post.new.links c.enter_all.new.history c.unwrap_or-join.result c.new-letters.ensures.items
     c.in_ok-answers.ensures.ok c.in_ok-post.ensures.ok
@@ -137,16 +132,16 @@ pub post-requires-clause-joined : goal.post-requires-clause-joined
 post-requires-clause-joined g c =
     joined _ c.self.invariant c.args.node.now c.in-Some.place c.index_mut-core.result.now
     (sym c.position.ensures ∙ c.in-Some.is)
-    c.index_mut-core.ensures.value (event_by c.args.cause.now) c.step.new.core c.new-letters.result.items c.step.new.letters.items
+    c.index_mut-core.ensures.value (event_by c.args.cause) c.step.new.core c.new-letters.result.items c.step.new.letters.items
     c.in_ok-answers.answers.items
     c.new-letters.ensures.items c.in_ok-answers.ensures.ok
-    (subst (λ (k : Held). IsHeardWithin k.nodes c.args.node.now (event_by c.args.cause.now)) (sym c.self.view_is) c.requires)
+    (subst (λ (k : Held). IsHeardWithin k.nodes c.args.node.now (event_by c.args.cause)) (sym c.self.view_is) c.requires)
 
 pub post-requires-clause-said : goal.post-requires-clause-said
 post-requires-clause-said g c =
     said _ c.self.invariant c.args.node.now c.in-Some.place c.index_mut-core.result.now
     (sym c.position.ensures ∙ c.in-Some.is)
-    c.index_mut-core.ensures.value (event_by c.args.cause.now) c.step.new.core c.new-letters.result.items c.step.new.letters.items
+    c.index_mut-core.ensures.value (event_by c.args.cause) c.step.new.core c.new-letters.result.items c.step.new.letters.items
     c.in_ok-answers.answers.items
     c.new-letters.ensures.items c.in_ok-answers.ensures.ok
-    (subst (λ (k : Held). IsHeardWithin k.nodes c.args.node.now (event_by c.args.cause.now)) (sym c.self.view_is) c.requires)
+    (subst (λ (k : Held). IsHeardWithin k.nodes c.args.node.now (event_by c.args.cause)) (sym c.self.view_is) c.requires)

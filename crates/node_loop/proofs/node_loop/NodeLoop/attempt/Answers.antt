@@ -22,9 +22,9 @@ returns-then-conclude g c =
     MatchBool-at_true _ _ c.if-conclude.true
     (subst (λ (x : Looping). Goes (by_event c.args.own c.args.event x) x c.conclude.result c.conclude.new.self)
     c.self.view_is
-    (goes (by_event c.args.own c.args.event a) a c.step.new.core c.begin.new.self c.in-Some.stamp c.args.own
-    c.of-course.result c.in-Ok.answers.items c.step.new.letters.items c.conclude.new.self c.conclude.result
-    (stepped _ _ _ _ _ _ _ c.of.ensures c.new-letters.ensures.items c.in-Ok.ensures.ok)
+    (goes (by_event c.args.own c.args.event a) a c.turn.new.core c.begin.new.self c.in-Some.stamp c.args.own
+    c.of-course.result c.in-Ok.turn c.conclude.new.self c.conclude.result
+    (stepped _ _ _ _ _ c.cause.ensures c.in-Ok.ensures.ok)
     (begun _ _ _ _ _ _ _ _ c.in-Ok-begin.ensures.node c.in-Ok-begin.ensures.ok c.in-Some.ensures c.seat_of.ensures
     (ap (λ (n : ℕ). At n c.args.event) (c.copy.ensures ∙ c.name.ensures.name ∙ c.in-Ok.ensures.name)))
     c.in-Some.ensures refl c.of-course.ensures c.conclude.ensures))
@@ -45,9 +45,9 @@ returns-else-conclude g c =
     MatchBool-at_false _ _ c.if-conclude.false
     (subst (λ (x : Looping). Goes (by_event c.args.own c.args.event x) x c.conclude.result c.conclude.new.self)
     c.self.view_is
-    (goes (by_event c.args.own c.args.event a) a c.step.new.core c.begin.new.self c.in-Some.stamp c.args.own
-    c.of-course.result c.in-Ok.answers.items c.step.new.letters.items c.conclude.new.self c.conclude.result
-    (stepped _ _ _ _ _ _ _ c.of.ensures c.new-letters.ensures.items c.in-Ok.ensures.ok)
+    (goes (by_event c.args.own c.args.event a) a c.turn.new.core c.begin.new.self c.in-Some.stamp c.args.own
+    c.of-course.result c.in-Ok.turn c.conclude.new.self c.conclude.result
+    (stepped _ _ _ _ _ c.cause.ensures c.in-Ok.ensures.ok)
     (begun _ _ _ _ _ _ _ _ c.in-Ok-begin.ensures.node c.in-Ok-begin.ensures.ok c.in-Some.ensures c.seat_of.ensures
     (ap (λ (n : ℕ). At n c.args.event) (c.copy.ensures ∙ c.name.ensures.name ∙ c.in-Ok.ensures.name)))
     c.in-Some.ensures refl c.of-course.ensures c.conclude.ensures))

@@ -1,10 +1,9 @@
-use Rattle.std.proofs.Common.{ℕ, None, refl, ap, subst}
-use Rattle.node_log.specs.declared.CoreEvent.TheVariants.{FromPeer}
+use Rattle.std.proofs.Common.{None, refl, subst}
 use Rattle.node_loop.specs.declared.waiting.Course.TheVariants.{AtOnce}
 use Rattle.node_loop.specs.Held.{Looping}
 use Rattle.node_loop.specs.Steps.{by_letter}
 use Rattle.node_loop.specs.Items.{Reads}
-use Rattle.node_loop.proofs.Concluding.{goes, stepped, begun, at_false}
+use Rattle.node_loop.proofs.Concluding.{goes, begun, at_false}
 use Rattle.node_loop.proofs.node_loop.NodeLoop.read.Goals as goal
 
 pub returns : goal.returns
@@ -22,10 +21,9 @@ returns g c =
     } in
     subst (λ (x : Looping). Reads c.args.from c.args.stamped x c.conclude.result c.conclude.new.self) c.self.view_is
     (at_false _ _ c.self.inside.left c.if-self.false
-    (goes (by_letter c.args.from c.args.stamped a) a c.step.new.self c.begin_delivery.new.self c.in-Some.stamp None AtOnce
-    c.in-Ok.answers.items c.step.new.letters.items c.conclude.new.self c.conclude.result
-    (stepped _ _ _ _ _ _ _ (ap (λ (n : ℕ). FromPeer n c.args.stamped.letter) c.copy.ensures) c.new-letters.ensures.items
-    c.in-Ok.ensures.ok)
+    (goes (by_letter c.args.from c.args.stamped a) a c.turn.new.self c.begin_delivery.new.self c.in-Some.stamp None AtOnce
+    c.in-Ok.turn c.conclude.new.self c.conclude.result
+    c.in-Ok.ensures.ok
     (begun _ _ _ _ _ _ _ _ c.in-Ok-begin_delivery.ensures.node c.in-Ok-begin_delivery.ensures.ok c.in-Some.ensures refl
     refl)
     c.in-Some.ensures refl refl c.conclude.ensures))

@@ -1,7 +1,7 @@
 use Rattle.std.proofs.Common.{ℕ, ◌≡◌, ◌+◌, ◌≤◌, length, take}
 use Rattle.std.specs.Prelude.{◌||◌}
 use Rattle.term.specs.NodeSets.{set_of}
-use Rattle.cluster_world.proofs.start.gather.Given as goal
+use Rattle.world_events.proofs.opening.gather.Given as goal
 
 abbrev pub invariant-loop-node : goal.invariant-loop-node
 invariant-loop-node l = record {

@@ -7,10 +7,10 @@ use Rattle.node_core.specs.declared.Call.TheVariants.{Join as JoinBy}
 use Rattle.node_core.specs.declared.Event.{Event as NodeEvent}
 use Rattle.node_core.specs.declared.Event.TheVariants as at_node
 use Rattle.node_core.specs.NodeEventsSeen.{call_of}
-use Rattle.cluster_world.specs.declared.events.Event.{Event}
-use Rattle.cluster_world.specs.declared.events.Event.TheVariants.{Call, Retry, Exit, Leave}
-use Rattle.cluster_world.specs.declared.events.WorldEvent.{WorldEvent}
-use Rattle.cluster_world.specs.declared.events.WorldEvent.TheVariants.{At, Deliver}
+use Rattle.world_events.specs.declared.events.Event.{Event}
+use Rattle.world_events.specs.declared.events.Event.TheVariants.{Call, Retry, Exit, Leave}
+use Rattle.world_events.specs.declared.events.WorldEvent.{WorldEvent}
+use Rattle.world_events.specs.declared.events.WorldEvent.TheVariants.{At, Deliver}
 
 -- as the node has it
 abbrev pub node_event : Event → NodeEvent

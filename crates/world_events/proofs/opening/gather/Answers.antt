@@ -2,10 +2,9 @@ use Rattle.std.proofs.Common.{ℕ, Bool, ◌==◌, ◌∙◌, List, length, take
 use Rattle.std.specs.Prelude.{◌||◌}
 use Rattle.std.proofs.Math.Bool.{or_assoc}
 use Rattle.term.specs.NodeSets.{set_of}
-use Rattle.cluster_world.proofs.Results.{at_ok}
+use Rattle.world_events.proofs.Openings.{at_ok, matched_ok, length-with_node}
 use Rattle.boss_order.proofs.Sets.{set_of-take}
-use Rattle.cluster_world.proofs.Starting.{matched_ok, length-with_node}
-use Rattle.cluster_world.proofs.start.gather.Goals as goal
+use Rattle.world_events.proofs.opening.gather.Goals as goal
 
 pub loop-node-preserved : goal.loop-node-preserved
 loop-node-preserved c = record {

@@ -1,0 +1,14 @@
+//! What may happen in a world, why it is refused, and how a world opens.
+#![tactic(auto)]
+
+mod events;
+mod opening;
+mod refusal;
+
+pub use events::{Event, WorldEvent};
+pub use node_core::{
+    Answer, Call, Cause, Entry, Event as CoreEvent, Letter, Look, NameCall, NameList, NodeCore,
+    Nodes, Reply, Retries, StepFault, Turn,
+};
+pub use opening::{Opening, StartFault};
+pub use refusal::Refusal;

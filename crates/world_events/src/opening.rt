@@ -1,0 +1,152 @@
+//! How a world opens.
+ghost use Rattle.std.specs.Prelude.{◌≡◌, ◌+◌, ◌≤◌, ◌++◌, ◌||◌, ℕ, true, None, Some, length, if◌then◌else◌, OnOk, OnErr, IfOk, IfErr};
+ghost use Rattle.term.specs.NodeSets.{IsNodeSet, set_of, most_nodes};
+ghost use Rattle.node_core.specs.Held.{IsWithin};
+ghost use Rattle.world_events.specs.Openings.{opening_core, repeats, start_refused, IsOpening};
+
+use name_table::Names;
+use node_core::NodeCore;
+use std::alloc::{AllocError, Global};
+use std::marker::Model;
+use term::{MOST_NODES, NodeName, NodeSet};
+use thiserror::Error;
+
+/// Why a world isn't started, in the order in which the causes are looked for.
+#[derive(Clone, Copy, Debug, PartialEq, Eq, Error)]
+pub enum StartFault {
+    /// The cluster has no node.
+    #[error("no_node")]
+    NoNode,
+    /// A node is named twice, among those of the cluster and the lone ones.
+    #[error("same_node")]
+    SameNode,
+    /// There are more nodes than a world may have, which is eight.
+    #[error("too_many_nodes")]
+    TooManyNodes,
+    /// Memory was refused.
+    #[error("memory")]
+    Memory,
+}
+
+impl From<AllocError> for StartFault {
+    ghost use Rattle.world_events.specs.declared.opening.StartFault.{StartFault};
+
+    ghost from_gives = { λ _ fault. fault ≡ StartFault.Memory };
+
+    fn from(_: AllocError) -> StartFault {
+        StartFault::Memory
+    }
+}
+
+/// The nodes of a world, and which of them are joined with each other at first; the others are lone.
+#[derive(Debug, PartialEq, Eq, Drop)]
+pub struct Opening {
+    nodes: NodeSet,
+    cluster: NodeSet,
+}
+
+impl Model for Opening {
+    ghost use Rattle.world_events.specs.Openings.{Opened};
+
+    ghost Value = { Opened };
+
+    ghost view = { λ o. record { nodes = o.nodes; cluster = o.cluster } };
+
+    ghost invariant = { λ o. IsWithin o.nodes o.cluster };
+}
+
+/// Whether one of these nodes stands twice, here or among the others.
+fn repeats_in(nodes: &[NodeName], others: &[NodeName]) -> bool
+    ensures { repeats (nodes.now ++ others.now) ≡ (if result then true else repeats others.now) }
+{
+    for (place, node) in nodes.iter().enumerate() {
+        if nodes[place + 1..].contains(node) || others.contains(node) {
+            return true;
+        }
+    }
+    false
+}
+
+/// Why a world of these nodes isn't started, if it isn't.
+fn start_fault(cluster: &[NodeName], lone: &[NodeName]) -> Option<StartFault>
+    ensures { result ≡ start_refused cluster.now lone.now }
+{
+    if cluster.is_empty() {
+        Some(StartFault::NoNode)
+    } else if repeats_in(cluster, lone) || repeats_in(lone, &[]) {
+        Some(StartFault::SameNode)
+    } else if cluster.len() > MOST_NODES || lone.len() > MOST_NODES - cluster.len() {
+        Some(StartFault::TooManyNodes)
+    } else {
+        None
+    }
+}
+
+/// Puts these nodes into a set that has room for them.
+fn gather(set: &mut NodeSet, nodes: &[NodeName]) -> Result<(), StartFault>
+    requires { length set.old + length nodes.now ≤ most_nodes }
+    ensures ok { OnOk result ((c : ℕ) → set_of set.new c ≡ (set_of set.old c || set_of nodes.now c)) }
+    ensures room { OnOk result (length set.new ≤ length set.old + length nodes.now) }
+    ensures all { OnErr result ⊥ }
+{
+    for node in nodes {
+        if set.insert(node.copy()).is_err() {
+            return Err(StartFault::TooManyNodes);
+        }
+    }
+    Ok(())
+}
+
+impl Opening {
+    /// A world of the nodes of `cluster`, which are joined with each other, and of lone nodes, each of which stands for itself. A
+    /// world without a joined node is refused as `NoNode`, then one that names a node twice as `SameNode`, then one of more than
+    /// eight nodes as `TooManyNodes`. It takes no memory.
+    pub fn of(cluster: &[NodeName], lone: &[NodeName]) -> Result<Self, StartFault>
+        ensures ok { IfOk result (λ opening. IsOpening cluster.now lone.now opening) }
+        ensures accepted { IfOk result (λ opening. start_refused cluster.now lone.now ≡ None) }
+        ensures err { IfErr result (λ fault. start_refused cluster.now lone.now ≡ Some fault) }
+    {
+        if let Some(fault) = start_fault(cluster, lone) {
+            return Err(fault);
+        }
+        let mut joined = NodeSet::empty();
+        gather(&mut joined, cluster)?;
+        let mut nodes = joined.copy();
+        gather(&mut nodes, lone)?;
+        Ok(Opening {
+            nodes,
+            cluster: joined,
+        })
+    }
+
+    /// All its nodes.
+    pub fn nodes(&self) -> &NodeSet
+        ensures nodes { result.now ≡ self.now.nodes }
+        ensures within { IsWithin self.now.nodes self.now.cluster }
+        ensures set { IsNodeSet self.now.nodes }
+    {
+        &self.nodes
+    }
+
+    /// Those that are joined at first.
+    pub fn cluster(&self) -> &NodeSet
+        ensures cluster { result.now ≡ self.now.cluster }
+        ensures set { IsNodeSet self.now.cluster }
+    {
+        &self.cluster
+    }
+
+    /// The core that one of its nodes opens with: one of the cluster has its nodes as members, and a lone node itself. It takes
+    /// no memory.
+    pub fn core<N: Names<Memory = Global>>(&self, alloc: Global, node: &NodeName) -> NodeCore<N>
+        requires { set_of self.now.nodes node.now ≡ true }
+        ensures { result ≡ opening_core self.now.nodes self.now.cluster node.now }
+    {
+        if self.cluster.contains(node) {
+            NodeCore::new(alloc, node.copy(), &self.nodes, &self.cluster, true)
+        } else {
+            let alone = NodeSet::one(node.copy());
+            NodeCore::new(alloc, node.copy(), &self.nodes, &alone, false)
+        }
+    }
+}
