@@ -10,7 +10,6 @@ use Rattle.term.specs.NodeSets.{set_of}
 use Rattle.exit_watch.specs.Held.{Held as Watch, watch_from}
 use Rattle.lock_calls.specs.Held.{Held as LockCalls, none_at}
 use Rattle.transaction.specs.Work.{Work, idle}
-use Rattle.node_events.specs.declared.events.Entry.{Entry}
 use Rattle.node_core.specs.declared.node.Phase.TheVariants.{Waiting}
 use Rattle.node_core.specs.Held.{Held, fresh}
 use Rattle.node_core.specs.Seen.{node_of}
@@ -43,8 +42,8 @@ opens a world members joined own is =
 
 -- the same of what is made for it
 pub opened : (h : Held) (a : ℕ) (world members w m d : List ℕ) (joined : Bool) (t : Table) (locks : Locks) (v : Watch)
-    (r : Work) (cs : LockCalls) (es : List Entry)
-    → w ≡ world → m ≡ members → d ≡ [] → t ≡ [] → locks ≡ [] → v ≡ watch_from a 0 → r ≡ idle → cs ≡ none_at a → es ≡ []
+    (r : Work) (cs : LockCalls)
+    → w ≡ world → m ≡ members → d ≡ [] → t ≡ [] → locks ≡ [] → v ≡ watch_from a 0 → r ≡ idle → cs ≡ none_at a
     → h ≡ record {
       name = a;
       world = w;
@@ -58,10 +57,9 @@ pub opened : (h : Held) (a : ℕ) (world members w m d : List ℕ) (joined : Boo
       phase = Waiting;
       calls = cs;
       last_call = 0;
-      entered = es;
     }
     → set_of members a ≡ true → joined ≡ true → node_of h ≡ opening_node (set_of members) a
-opened h a world members w m d joined t locks v r cs es e1 e2 e0 e3 e4 e5 e6 e7 e8 e own is = ap node_of same
+opened h a world members w m d joined t locks v r cs es e1 e2 e0 e3 e4 e5 e6 e7 e own is = ap node_of same
     ∙ opens a world members joined own is
   where
     same : h ≡ fresh a world members joined

@@ -11,7 +11,6 @@ use Rattle.protocol_model.specs.Round.{asked}
 use Rattle.transaction.specs.Work.{Work, idle}
 use Rattle.transaction.specs.declared.op.Op.{Op}
 use Rattle.transaction.specs.declared.op.Op.TheVariants.{Join, Admission}
-use Rattle.node_events.specs.declared.events.Entry.{Entry}
 use Rattle.node_core.specs.declared.node.Phase.{Phase}
 use Rattle.node_core.specs.declared.node.Phase.TheVariants.{Asking, Waiting, Writing, Joining}
 
@@ -28,7 +27,6 @@ pub record Held : Type 0 where
   pub phase : Phase  -- where the current operation stands
   pub calls : LockCalls  -- of its processes, that aren't answered
   pub last_call : ℕ
-  pub entered : List Entry  -- what the last step entered into the history
 
 -- above all of these nodes
 abbrev pub bound_of : List ℕ → ℕ
@@ -98,5 +96,4 @@ fresh a world members joined = record {
   phase = Waiting;
   calls = none_at a;
   last_call = 0;
-  entered = [];
 }

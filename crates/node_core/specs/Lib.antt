@@ -1,7 +1,9 @@
 pub use Rattle.node_events.specs.Letters
+pub use Rattle.node_events.specs.Made
 pub use Rattle.node_events.specs.Seen as NodeEventsSeen
 pub mod Held
 pub mod Seen
 pub mod Steps
+pub mod Causes
 pub mod Locking
 pub mod Joining

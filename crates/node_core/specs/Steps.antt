@@ -1,5 +1,5 @@
 -- What a step of a node comes to, as the protocol has it.
-use Rattle.std.specs.Prelude.{ℕ, true, false, ◌≡◌, ◌==◌, Option, Some, None, List, ◌++◌, All}
+use Rattle.std.specs.Prelude.{ℕ, true, false, ◌≡◌, ◌==◌, Option, Some, None, List, All}
 use Rattle.protocol_model.specs.Event.{Event as AnyEvent, Refusal as AnyRefusal, causes, first_cause}
 use Rattle.protocol_model.specs.Node.{Op as AnyOp}
 use Rattle.protocol_model.specs.Turn.{Turn, begun}
@@ -8,7 +8,6 @@ use Rattle.protocol_model.specs.Reading.{receive}
 use Rattle.term.specs.NodeSets.{set_of}
 use Rattle.transaction.specs.declared.op.Op.{Op}
 use Rattle.transaction.specs.Ops.{op_of}
-use Rattle.node_events.specs.declared.events.Answer.{Answer}
 use Rattle.node_events.specs.declared.events.Event.{Event}
 use Rattle.node_events.specs.declared.events.Event.TheVariants.{Call, FromPeer, Retry, Exit, Leave}
 use Rattle.node_events.specs.declared.events.Call.TheVariants.{Join as JoinBy}
@@ -109,14 +108,11 @@ IsHeardWithin world a _ = Unit {0}
 abbrev pub GoWithin : List ℕ → ℕ → List (ℕ × Letter) → Type 0
 GoWithin world a ss = All (λ s. (set_of world s.0 ≡ true) × IsSaidBy world s.0 a s.1) ss
 
--- An event was accepted, and the protocol's node makes its turn. What it sends comes behind the letters before, and
--- goes to nodes of the world alone, where it hears none but those
-pub record Steps (e : Event) (old new : Held) (before after : List (ℕ × Letter)) (answers : List Answer) : Type 0 where
+-- An event was accepted, and the protocol's node makes its turn. What it sends goes to nodes of the world alone, where
+-- it hears none but those
+pub record Steps (e : Event) (old new : Held) (made : Made) : Type 0 where
   pub name : new.name ≡ old.name
   pub world : new.world ≡ old.world
   pub accepted : refusal_of e old ≡ None
-  pub sent : List (ℕ × Letter)
-  pub letters : after ≡ before ++ sent
-  pub within : IsHeardWithin old.world old.name e → GoWithin old.world old.name sent
-  pub turn : (number : ℕ → ℕ) → IsTurn number e old
-      (turn_by number new (record { letters = sent; entries = new.entered; answers = answers }))
+  pub within : IsHeardWithin old.world old.name e → GoWithin old.world old.name made.letters
+  pub turn : (number : ℕ → ℕ) → IsTurn number e old (turn_by number new made)

@@ -9,13 +9,14 @@ mod reading;
 mod registrar;
 mod rounds;
 
+use crate::cause::Cause;
 use exit_watch::Watch;
 use lock_calls::LockCalls;
 use lock_table::LockTable;
 use locker::Round;
 use name_table::Names;
-use node_events::{Answer, Call, Entry, Event, Letter, Reply, StepFault, Turn};
-use std::alloc::{AllocError, Global};
+use node_events::{Answer, Event, Letter, Reply, StepFault, Turn};
+use std::alloc::Global;
 use std::marker::Model;
 use term::{NodeName, NodeSet, Pid};
 use transaction::{Op, Registrar};
@@ -38,6 +39,7 @@ pub(crate) enum Phase {
 /// It takes steps, and knows nothing of links: each step says what is to be sent to whom.
 #[derive(Drop)]
 pub struct NodeCore<N: Names> {
+    alloc: Global,
     name: NodeName,
     world: NodeSet,
     members: NodeSet,
@@ -53,8 +55,6 @@ pub struct NodeCore<N: Names> {
     calls: LockCalls,
     /// The number that the last numbered call was given; 0 before the first.
     last_call: u32,
-    /// What the last step entered into the history.
-    entered: Vec<Entry>,
 }
 
 impl<N: Names> Model for NodeCore<N> {
@@ -75,7 +75,6 @@ impl<N: Names> Model for NodeCore<N> {
       phase = c.phase;
       calls = c.calls;
       last_call = c.last_call;
-      entered = c.entered.items;
     } };
 
     ghost invariant = { λ c. IsWhole (record {
@@ -91,7 +90,6 @@ impl<N: Names> Model for NodeCore<N> {
       phase = c.phase;
       calls = c.calls;
       last_call = c.last_call;
-      entered = c.entered.items;
     }) };
 }
 
@@ -106,14 +104,31 @@ impl<N: Names<Memory = Global>> NodeCore<N> {
     ghost use Rattle.node_core.specs.Steps.{Steps, Keeps, Takes, refusal_of, cause_of};
     ghost use Rattle.protocol_model.specs.Event.{can_retry, is_waiting};
     ghost use Rattle.node_core.specs.Joining.{join_number_of};
-    ghost use Rattle.node_events.specs.declared.events.Event.TheVariants.{Call as Calls};
-    ghost use Rattle.node_events.specs.Made.{nothing};
+    ghost use Rattle.node_events.specs.Made.{Made, nothing};
+    ghost use Rattle.node_core.specs.Causes.{event_by};
     ghost use Rattle.registry_model.specs.Table.{is_rising};
 
-    /// Takes the step of an event: gives its answers, and puts its letters, each with its receiver, behind those that are
-    /// there. They go to nodes of its world and say what their readers rely on, where what it reads does. A refused event
-    /// changes nothing; where `Memory` is refused no letter is put there either, but the node isn't to be used any more.
+    /// Takes the step of a cause, and gives what it makes: letters, each with its receiver, entries of the history, and answers.
+    /// The letters go to nodes of its world and say what their readers rely on, where what it reads does. A refused cause
+    /// changes nothing; where `Memory` is refused the node isn't to be used any more.
     /// Of what no node of the world says (a departure of this node or of a stranger, a join of a stranger) no clause says what it does.
+    pub fn turn(&mut self, cause: Cause<'_>) -> Result<Turn, StepFault>
+        ensures name { self.new.name ≡ self.old.name }
+        ensures world { self.new.world ≡ self.old.world }
+        ensures ok { IfOk result (λ turn. Steps (event_by cause.entry) self.old self.new turn) }
+        ensures refused { IfErr result (λ fault. refusal_of (event_by cause.entry) self.old ≡ fault_of fault) }
+        ensures unchanged { IfErr result (λ fault. is_memory fault ≡ false → self.new ≡ self.old) }
+    {
+        if let Some(fault) = self.refusal(cause) {
+            return Err(fault);
+        }
+        let mut turn = self.begin();
+        self.take(&mut turn, cause)?;
+        Ok(turn)
+    }
+
+    /// Takes the step of an event, as `turn` does: gives its answers, and puts its letters, each with its receiver, behind those
+    /// that are there. Its entries of the history it doesn't give, and `turn` does. A refused event puts no letter there.
     pub fn step(
         &mut self,
         event: &Event,
@@ -121,38 +136,19 @@ impl<N: Names<Memory = Global>> NodeCore<N> {
     ) -> Result<Vec<Answer>, StepFault>
         ensures name { self.new.name ≡ self.old.name }
         ensures world { self.new.world ≡ self.old.world }
-        ensures ok { IfOk result (λ answers. Steps event.now self.old self.new letters.old.items letters.new.items answers.items) }
+        ensures ok { IfOk result (λ answers. (made : Made) × Steps event.now self.old self.new made
+            × (letters.new.items ≡ letters.old.items ++ made.letters) × (answers.items ≡ made.answers)) }
         ensures refused { IfErr result (λ fault. refusal_of event.now self.old ≡ fault_of fault) }
         ensures unchanged { IfErr result (λ fault. is_memory fault ≡ false → self.new ≡ self.old) }
         ensures unsent { OnErr result (letters.new.items ≡ letters.old.items) }
     {
-        if let Some(fault) = self.refusal(event) {
-            return Err(fault);
-        }
-        let mut turn = self.begin();
-        self.take(&mut turn, event)?;
-        Ok(self.end(turn, letters)?)
-    }
-
-    /// Takes the step of a client's call, as `step` does of the event that it is, so that nobody copies a call to have it taken.
-    pub fn ask(
-        &mut self,
-        call: &Call,
-        letters: &mut Vec<(NodeName, Letter)>,
-    ) -> Result<Vec<Answer>, StepFault>
-        ensures name { self.new.name ≡ self.old.name }
-        ensures world { self.new.world ≡ self.old.world }
-        ensures ok { IfOk result (λ answers. Steps (Calls call.now) self.old self.new letters.old.items letters.new.items answers.items) }
-        ensures refused { IfErr result (λ fault. refusal_of (Calls call.now) self.old ≡ fault_of fault) }
-        ensures unchanged { IfErr result (λ fault. is_memory fault ≡ false → self.new ≡ self.old) }
-        ensures unsent { OnErr result (letters.new.items ≡ letters.old.items) }
-    {
-        if let Some(fault) = self.call_refusal(call) {
-            return Err(fault);
-        }
-        let mut turn = self.begin();
-        self.take_call(&mut turn, call)?;
-        Ok(self.end(turn, letters)?)
+        let Turn {
+            letters: mut sent,
+            answers,
+            ..
+        } = self.turn(Cause::of(event))?;
+        letters.append(&mut sent)?;
+        Ok(answers)
     }
 
     /// A step begins, and has made nothing yet. A welcome relies on the names of its sponsor's table rising.
@@ -162,59 +158,25 @@ impl<N: Names<Memory = Global>> NodeCore<N> {
         ensures whole { IsWhole self.now }
     {
         self.table.rising();
-        Turn::begin(*self.entered.allocator())
+        Turn::begin(self.alloc)
     }
 
-    /// A step ends: its letters go behind those that are there, its entries are kept, and its answers are given.
-    fn end(
-        &mut self,
-        turn: Turn,
-        letters: &mut Vec<(NodeName, Letter)>,
-    ) -> Result<Vec<Answer>, AllocError>
-        ensures letters { OnOk result (letters.new.items ≡ letters.old.items ++ turn.letters) }
-        ensures entries { OnOk result (self.new ≡ record self.old { entered = turn.entries }) }
-        ensures answers { IfOk result (λ answers. answers.items ≡ turn.answers) }
-        ensures unsent { OnErr result (letters.new.items ≡ letters.old.items) }
-        ensures kept { Keeps self.old self.new }
-    {
-        let Turn {
-            letters: mut sent,
-            entries,
-            answers,
-        } = turn;
-        letters.append(&mut sent)?;
-        self.entered = entries;
-        Ok(answers)
-    }
-
-    /// What a call does that isn't refused. The registrar may start behind it.
-    fn take_call(&mut self, turn: &mut Turn, call: &Call) -> Result<(), StepFault>
-        requires { refusal_of (Calls call.now) self.old ≡ None }
-        ensures turn { OnOk result (Takes (Calls call.now) self.old turn.old self.new turn.new) }
+    /// What a cause that isn't refused does.
+    fn take(&mut self, turn: &mut Turn, cause: Cause<'_>) -> Result<(), StepFault>
+        requires { refusal_of (event_by cause) self.old ≡ None }
+        ensures turn { OnOk result (Takes (event_by cause.entry) self.old turn.old self.new turn.new) }
         ensures memory { IfErr result (λ fault. fault ≡ Memory) }
         ensures kept { Keeps self.old self.new }
     {
-        self.call(turn, call)?;
-        self.start(turn)?;
-        Ok(())
-    }
-
-    /// What an event does that isn't refused.
-    fn take(&mut self, turn: &mut Turn, event: &Event) -> Result<(), StepFault>
-        requires { refusal_of event.now self.old ≡ None }
-        ensures turn { OnOk result (Takes event.now self.old turn.old self.new turn.new) }
-        ensures memory { IfErr result (λ fault. fault ≡ Memory) }
-        ensures kept { Keeps self.old self.new }
-    {
-        match event {
-            Event::Call(call) => return self.take_call(turn, call),
-            Event::Retry => {
+        match cause {
+            Cause::Call(call) => self.call(turn, call)?,
+            Cause::Retry => {
                 self.retry_global(turn)?;
                 self.retry_locks(turn)?;
             }
-            Event::Exit(process) => self.exit(turn, process)?,
-            Event::Leave => return Ok(self.leave(turn)?),
-            Event::FromPeer(from, letter) => return Ok(self.receive(turn, from, letter)?),
+            Cause::Exit(process) => self.exit(turn, process)?,
+            Cause::Leave => return Ok(self.leave(turn)?),
+            Cause::FromPeer(from, letter) => return Ok(self.receive(turn, from, letter)?),
         }
         self.start(turn)?;
         Ok(())
@@ -241,16 +203,16 @@ impl<N: Names<Memory = Global>> NodeCore<N> {
         self.is_waiting() || self.calls.has_waiting()
     }
 
-    /// Why an event is refused, if it is.
-    fn refusal(&self, event: &Event) -> Option<StepFault>
-        ensures { refusal_of event.now self.now ≡ cause_of result }
+    /// Why the step of a cause is refused, if it is.
+    fn refusal(&self, cause: Cause<'_>) -> Option<StepFault>
+        ensures { refusal_of (event_by cause.entry) self.now ≡ cause_of result }
     {
-        match event {
-            Event::Call(call) => self.call_refusal(call),
-            Event::Retry if !self.can_retry() => Some(StepFault::NothingToRetry),
-            Event::Exit(process) => self.watch.exit_refusal(process).map(StepFault::from),
-            Event::Leave if self.holds_global() => Some(StepFault::HoldsLock),
-            Event::Retry | Event::Leave | Event::FromPeer(..) => None,
+        match cause {
+            Cause::Call(call) => self.call_refusal(call),
+            Cause::Retry if !self.can_retry() => Some(StepFault::NothingToRetry),
+            Cause::Exit(process) => self.watch.exit_refusal(process).map(StepFault::from),
+            Cause::Leave if self.holds_global() => Some(StepFault::HoldsLock),
+            Cause::Retry | Cause::Leave | Cause::FromPeer(..) => None,
         }
     }
 
@@ -345,13 +307,6 @@ impl<N: Names<Memory = Global>> NodeCore<N> {
         let NodeCore { table, .. } = self;
         table
     }
-
-    /// What its last step entered into the history, the oldest entry first.
-    pub fn entered(&self) -> &[Entry]
-        ensures { result.now ≡ self.now.entered }
-    {
-        self.entered.as_slice()
-    }
 }
 
 impl<N: Names<Memory = Global>> NodeCore<N> {
@@ -378,6 +333,7 @@ impl<N: Names<Memory = Global>> NodeCore<N> {
         let watch = Watch::new(alloc, name.copy());
         let calls = LockCalls::new(alloc, name.copy());
         NodeCore {
+            alloc,
             name,
             world: world.copy(),
             members: members.copy(),
@@ -390,7 +346,6 @@ impl<N: Names<Memory = Global>> NodeCore<N> {
             phase: Phase::Waiting,
             calls,
             last_call: 0,
-            entered: Vec::new(alloc),
         }
     }
 }

@@ -2,7 +2,7 @@
 //! played at it borrows it, since a proof grows with what may be dropped where a function ends.
 use name_table::{ListTable, Names};
 use node_core::{
-    Answer, Call, Entry, Event, Letter, NodeCore, Nodes, Op, Reply, Retries, StepFault,
+    Answer, Call, Cause, Entry, Event, Letter, NodeCore, Nodes, Op, Reply, Retries, StepFault,
 };
 use std::alloc::Global;
 use std::fmt::Write;
@@ -30,14 +30,11 @@ fn core(alloc: Global, joined: bool) -> Option<Core> {
     Some(NodeCore::new(alloc, a, &world, &members, joined))
 }
 
-/// Whether the last answer that a step gives is this reply.
-fn gives(answers: &Result<Vec<Answer>, StepFault>, reply: &Reply) -> bool {
-    match answers {
-        Ok(answers) => match answers.last() {
-            Some(answer) => answer.reply == *reply,
-            None => false,
-        },
-        Err(_) => false,
+/// Whether the last of a step's answers is this reply.
+fn gives(answers: &Vec<Answer>, reply: &Reply) -> bool {
+    match answers.last() {
+        Some(answer) => answer.reply == *reply,
+        None => false,
     }
 }
 
@@ -51,7 +48,8 @@ fn read(
     let mut given = false;
     for (to, letter) in letters {
         if to == *core.name() {
-            given |= gives(&core.step(&Event::FromPeer(to, letter), sent), reply);
+            let answers = core.step(&Event::FromPeer(to, letter), sent);
+            given |= answers.is_ok_and(|answers| gives(&answers, reply));
         }
     }
     given
@@ -73,18 +71,32 @@ fn settle(
     given
 }
 
-/// Whether an event comes to this reply.
-fn comes_to(alloc: Global, core: &mut Core, event: &Event, reply: &Reply) -> bool {
-    let mut letters = Vec::new(alloc);
-    let at_once = gives(&core.step(event, &mut letters), reply);
-    settle(alloc, core, letters, reply) || at_once
+/// Whether a step comes to this reply.
+fn comes_to(alloc: Global, core: &mut Core, cause: Cause<'_>, reply: &Reply) -> bool {
+    let Ok(turn) = core.turn(cause) else {
+        return false;
+    };
+    let at_once = gives(&turn.answers, reply);
+    settle(alloc, core, turn.letters, reply) || at_once
 }
 
 /// Whether a call comes to this reply.
 fn is_answered(alloc: Global, core: &mut Core, call: &Call, reply: &Reply) -> bool {
-    let mut letters = Vec::new(alloc);
-    let at_once = gives(&core.ask(call, &mut letters), reply);
-    settle(alloc, core, letters, reply) || at_once
+    comes_to(alloc, core, Cause::Call(call), reply)
+}
+
+/// Whether a look-up enters the history.
+fn looks(core: &mut Core, call: &Call) -> bool {
+    let turn = core.turn(Cause::Call(call));
+    turn.is_ok_and(|turn| matches!(turn.entries.as_slice(), [Entry::Read(..)]))
+}
+
+/// Whether the node's departure enters the history, and nothing is answered.
+fn leaves(core: &mut Core) -> bool {
+    let turn = core.turn(Cause::Leave);
+    turn.is_ok_and(|turn| {
+        turn.answers.is_empty() && matches!(turn.entries.as_slice(), [Entry::Left(_)])
+    })
 }
 
 /// Calls for names, and the exit of their owner.
@@ -96,13 +108,14 @@ fn plays_names(rt: &impl Abort, alloc: Global, core: &mut Core) -> bool {
     assert!(rt; is_answered(alloc, core, &Call::Spawn, &found));
     let register = Call::Register(x.copy(), a.copy());
     assert!(rt; is_answered(alloc, core, &register, &Reply::Yes));
-    assert!(rt; is_answered(alloc, core, &Call::Whereis(x.copy()), &found));
-    assert!(rt; matches!(core.entered(), [Entry::Read(..)]));
+    let look = Call::Whereis(x.copy());
+    assert!(rt; is_answered(alloc, core, &look, &found));
+    assert!(rt; looks(core, &look));
     assert!(rt; is_answered(alloc, core, &Call::Unregister(x.copy()), &Reply::Ok));
     let register = Call::ReRegister(x.copy(), a.copy());
     assert!(rt; is_answered(alloc, core, &register, &Reply::Yes));
     assert!(rt; core.table().get(&x).is_some() && core.last_call() == 3);
-    assert!(rt; !comes_to(alloc, core, &Event::Exit(a), &Reply::Ok));
+    assert!(rt; !comes_to(alloc, core, Cause::Exit(&a), &Reply::Ok));
     core.table().get(&x).is_none()
 }
 
@@ -132,7 +145,7 @@ fn plays_locks(rt: &impl Abort, alloc: Global, core: &mut Core) -> bool {
     let set = Call::SetLock(two.copy(), theirs, Nodes::All, Retries::Times(1));
     assert!(rt; !is_answered(alloc, core, &set, &Reply::False));
     assert!(rt; core.has_lock_call(&two) && core.can_retry());
-    assert!(rt; comes_to(alloc, core, &Event::Retry, &Reply::False));
+    assert!(rt; comes_to(alloc, core, Cause::Retry, &Reply::False));
     let delete = Call::DelLock(one, ours, Nodes::All);
     is_answered(alloc, core, &delete, &Reply::True)
 }
@@ -142,18 +155,17 @@ fn plays_an_admission(rt: &impl Abort, alloc: Global, core: &mut Core) -> bool {
     let Ok(b) = parse_node("b") else {
         return false;
     };
-    let ask = Event::FromPeer(b.copy(), Letter::JoinAsk(Vec::new(alloc)));
-    assert!(rt; !comes_to(alloc, core, &ask, &Reply::Joined));
+    let ask = Letter::JoinAsk(Vec::new(alloc));
+    assert!(rt; !comes_to(alloc, core, Cause::FromPeer(&b, &ask), &Reply::Joined));
     assert!(rt; core.members().contains(&b) && core.holds_global());
     assert!(rt; matches!(core.current(), Some(Op::Admission(..))));
-    let applied = Event::FromPeer(b.copy(), Letter::Applied);
-    assert!(rt; !comes_to(alloc, core, &applied, &Reply::Joined));
+    let applied = Cause::FromPeer(&b, &Letter::Applied);
+    assert!(rt; !comes_to(alloc, core, applied, &Reply::Joined));
     assert!(rt; core.current().is_none() && !core.holds_global());
-    let down = Event::FromPeer(b.copy(), Letter::Down);
-    assert!(rt; !comes_to(alloc, core, &down, &Reply::Joined));
+    let down = Cause::FromPeer(&b, &Letter::Down);
+    assert!(rt; !comes_to(alloc, core, down, &Reply::Joined));
     assert!(rt; core.told().contains(&b) && !core.members().contains(&b));
-    assert!(rt; !comes_to(alloc, core, &Event::Leave, &Reply::Ok));
-    matches!(core.entered(), [Entry::Left(_)])
+    leaves(core)
 }
 
 /// A node that is alone asks to be let in, and is refused.
@@ -164,8 +176,8 @@ fn plays_a_join(rt: &impl Abort, alloc: Global, core: &mut Core) -> bool {
     assert!(rt; core.world().contains(&b) && !core.is_joined());
     assert!(rt; !is_answered(alloc, core, &Call::Join(b.copy()), &Reply::Joined));
     assert!(rt; core.join_number() == Some(1));
-    let refused = Event::FromPeer(b, Letter::JoinRefused);
-    comes_to(alloc, core, &refused, &Reply::NotMember)
+    let refused = Cause::FromPeer(&b, &Letter::JoinRefused);
+    comes_to(alloc, core, refused, &Reply::NotMember)
 }
 
 /// What is played at a joined node, or at one that isn't. Its table is empty in the end.

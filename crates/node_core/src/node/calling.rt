@@ -164,7 +164,7 @@ impl<N: Names<Memory = Global>> NodeCore<N> {
                 None => Reply::Undefined,
             },
             Look::RegisteredNames => {
-                Reply::Names(NameList::new(self.table.names(*self.entered.allocator())?))
+                Reply::Names(NameList::new(self.table.names(self.alloc)?))
             }
         })
     }

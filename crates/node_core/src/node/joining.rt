@@ -90,7 +90,7 @@ impl<N: Names<Memory = Global>> NodeCore<N> {
         ensures turn { OnOk result (Makes (λ n a. ask_join n a number contact) self.old turn.old self.new turn.new) }
         ensures kept { Keeps self.old self.new }
     {
-        let pairs = self.table.pairs(*self.entered.allocator())?;
+        let pairs = self.table.pairs(self.alloc)?;
         turn.send(contact.copy(), Letter::JoinAsk(pairs))?;
         self.phase = Phase::Joining(number, contact);
         Ok(())
@@ -181,7 +181,7 @@ impl<N: Names<Memory = Global>> NodeCore<N> {
         ensures told { OnOk result (TellsToAdmit self.now joiner.now settled.now turn.old turn.new) }
         ensures set { OnOk result (IsNodeSet self.now.members) }
     {
-        let admission = admit_of(*self.entered.allocator(), joiner, settled)?;
+        let admission = admit_of(self.alloc, joiner, settled)?;
         turn.send_all(&self.members, &Letter::Admit(admission))
     }
 
@@ -196,7 +196,7 @@ impl<N: Names<Memory = Global>> NodeCore<N> {
         requires members { IsNodeSet self.now.members }
         ensures { OnOk result (Welcomes self.now joiner.now settled.now turn.old turn.new) }
     {
-        let alloc = *self.entered.allocator();
+        let alloc = self.alloc;
         // The members and the joiner are of the world, so there is room for all of them.
         let fits = self.world.len() <= MOST_NODES;
         prove!(fits);
@@ -320,7 +320,7 @@ impl<N: Names<Memory = Global>> NodeCore<N> {
             self.old made self.new made) }
         ensures kept { Keeps self.old self.new }
     {
-        let alloc = *self.entered.allocator();
+        let alloc = self.alloc;
         let mut told = either(&self.world, &self.told, &welcome.told);
         told.remove(&self.name);
         self.table = table_of(alloc, &mut self.watch, welcome.pairs.as_slice(), &told)?;

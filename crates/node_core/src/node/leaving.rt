@@ -114,7 +114,7 @@ impl<N: Names<Memory = Global>> NodeCore<N> {
         ensures turn { OnOk result (Makes (λ n a. lose_node n a gone.now) self.old turn.old self.new turn.new) }
         ensures kept { Keeps self.old self.new }
     {
-        for holder in &self.calls.holders(*self.entered.allocator())? {
+        for holder in &self.calls.holders(self.alloc)? {
             self.lose_lock(turn, gone, holder)?;
         }
         Ok(())

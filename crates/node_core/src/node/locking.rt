@@ -294,7 +294,7 @@ impl<N: Names<Memory = Global>> NodeCore<N> {
         ensures turn { OnOk result (Makes (λ n a. retry_locks n a) self.old turn.old self.new turn.new) }
         ensures kept { Keeps self.old self.new }
     {
-        for holder in &self.calls.holders(*self.entered.allocator())? {
+        for holder in &self.calls.holders(self.alloc)? {
             self.retry_lock(turn, holder)?;
         }
         Ok(())

@@ -215,7 +215,7 @@ impl<N: Names<Memory = Global>> NodeCore<N> {
             }
             Some(Op::Admission(joiner, pairs)) => {
                 let joiner = joiner.copy();
-                let alloc = *self.entered.allocator();
+                let alloc = self.alloc;
                 let settled = settle(alloc, &self.table, pairs.as_slice())?;
                 self.decide_admission(turn, asked, joiner, &settled)
             }
