@@ -14,7 +14,7 @@ use Rattle.term.proofs.NodeSets.{FitsAt, rises, set_of-fits}
 use Rattle.arguments.specs.Nodes.{PlacesNodes, SpellsLone, shares}
 use Rattle.arguments.specs.Reading.{Tells, Values}
 use Rattle.arguments.specs.declared.task.ServeOptions.{ServeOptions}
-use Rattle.server.specs.Starting.{repeats, start_refused}
+use Rattle.server.specs.Openings.{repeats, start_refused}
 use Rattle.server.specs.declared.StartFault.{StartFault}
 use Rattle.cluster_main.specs.Serving.{IsPlaced}
 

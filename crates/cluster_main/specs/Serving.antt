@@ -2,7 +2,7 @@
 use Rattle.std.specs.Prelude.{ℕ, ◌≡◌, true, ⊤, codes, string_bytes, List, ◌++◌, Option, None, Ok}
 use Rattle.std.specs.Io.KnownBytes.{Appends, Keeps}
 use Rattle.arguments.specs.declared.task.ServeOptions.{ServeOptions}
-use Rattle.server.specs.Starting.{start_refused}
+use Rattle.server.specs.Openings.{start_refused}
 use Rattle.server.specs.Printing.{ended}
 use Rattle.text_lines.specs.Writing.{AppendsPart}
 use Rattle.server.specs.Serving.{ServesCluster}

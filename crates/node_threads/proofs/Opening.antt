@@ -1,18 +1,14 @@
--- What the lists of a cluster that was started say, and how its cores open.
+-- What the lists of a cluster that was started say.
 use Rattle.std.proofs.Common.{ℕ, Bool, true, false, ◌==◌, ◌≡◌, ◌≤◌, Some, None, List, [], ◌∷◌, ◌++◌, length, get_or, refl, sym, ap, ◌∙◌, arith}
 use Rattle.std.specs.Prelude.{if◌then◌else◌, ◌&&◌, ◌||◌, not, nat_lt, All}
 use Rattle.std.proofs.lemmas.Bool.{eq-eqb}
 use Rattle.std.proofs.lemmas.Bool.Decides.{nat_tests}
 use Rattle.std.proofs.lemmas.List.Folds.{list_any_at}
 use Rattle.std.proofs.Math.Bool.{or-true}
-use Rattle.registry_model.specs.Process.{Nodes}
-use Rattle.protocol_model.specs.World.{World, in_cluster, opening_world}
 use Rattle.term.specs.NodeSets.{set_of, most_nodes}
 use Rattle.boss_order.proofs.Sets.{set_of-append}
 use Rattle.node_loop.specs.declared.StartFault.TheVariants.{SameNode, TooManyNodes}
-use Rattle.node_loop.specs.ClusterWorldHeld.{Held}
-use Rattle.node_loop.specs.Seen.{opening_of, seen}
-use Rattle.node_loop.specs.Starting.{repeats, start_refused, Opens}
+use Rattle.node_loop.specs.Openings.{Opened, repeats, start_refused, IsOpening}
 
 taken : (b d : Bool) → (if b then Some SameNode else (if d then Some TooManyNodes else None)) ≡ None → (b ≡ false) × (d ≡ false)
 taken true d e = absurd (cc e)
@@ -33,25 +29,14 @@ few (c ∷ cs) lone e =
     not_more _ (taken (repeats ((c ∷ cs) ++ lone)) (nat_lt most_nodes (length ((c ∷ cs) ++ lone))) e).1
 
 -- the nodes of both lists are those of the world
-module _ (cluster lone : List ℕ) (h : Held) (opens : Opens cluster lone h) where
-  pub joined_known : All (λ c. set_of h.nodes c ≡ true) cluster
+module _ (cluster lone : List ℕ) (o : Opened) (opens : IsOpening cluster lone o) where
+  pub joined_known : All (λ c. set_of o.nodes c ≡ true) cluster
   joined_known k d l = let c = get_or cluster k d in
       opens.nodes c ∙ set_of-append cluster lone c
       ∙ ap (λ (b : Bool). b || set_of lone c) (list_any_at (λ m. m == c) cluster k d l (eq-eqb c c refl))
 
-  pub lone_known : All (λ c. set_of h.nodes c ≡ true) lone
+  pub lone_known : All (λ c. set_of o.nodes c ≡ true) lone
   lone_known k d l = let c = get_or lone k d in
       opens.nodes c ∙ set_of-append cluster lone c
       ∙ ap (λ (b : Bool). set_of cluster c || b) (list_any_at (λ m. m == c) lone k d l (eq-eqb c c refl))
       ∙ or-true (set_of cluster c)
-
--- as a world opens, each node is one of its members
-pub own : (h : Held) (a : ℕ) (members : List ℕ) → seen h ≡ opening_world (opening_of h)
-    → set_of members ≡ ((seen h).node a).replica.members → set_of members a ≡ true
-own h a members opens are = ap (λ (s : Nodes). s a) are ∙ ap (λ (w : World). (w.node a).replica.members a) opens
-    ∙ go (in_cluster (opening_of h) a) refl
-  where
-    go : (b : Bool) → in_cluster (opening_of h) a ≡ b
-        → ((if b then in_cluster (opening_of h) a else a == a) && not false) ≡ true
-    go true e = ap (λ (x : Bool). x && true) e
-    go false e = ap (λ (x : Bool). x && true) (eq-eqb a a refl)

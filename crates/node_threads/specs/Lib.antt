@@ -1,4 +1,4 @@
-pub use Rattle.node_loop.specs.Starting
+pub use Rattle.node_loop.specs.Openings
 pub mod Lines
 pub mod Traffics
 pub mod Ends
@@ -8,5 +8,4 @@ pub mod Callers
 pub mod Seats
 pub mod Holders
 pub mod Closing
-pub mod Cores
 pub mod Clusters

@@ -1,9 +1,6 @@
 //! Nodes whose threads are yet to start.
 ghost use Rattle.std.specs.Prelude.{◌≡◌, true};
-ghost use Rattle.protocol_model.specs.World.{opening_world};
 ghost use Rattle.term.specs.NodeSets.{set_of};
-ghost use Rattle.node_loop.specs.Seen.{opening_of, seen};
-ghost use Rattle.node_threads.specs.Cores.{OpensIn};
 
 use crate::address::{Address, Opened, open_inbox};
 use crate::bell::Rest;
@@ -17,7 +14,7 @@ use crate::shared::Shared;
 use crate::standing::Standing;
 use link::Mailbox;
 use name_table::Names;
-use node_loop::{Gate, Item, NodeCore, NodeLoop, World};
+use node_loop::{Gate, Item, NodeLoop, Opening};
 use std::alloc::{AllocError, Global};
 use std::marker::Model;
 use std::sync::{Arc, Wait};
@@ -51,23 +48,6 @@ impl<G: Gate + Drop, N: Names> Model for Berth<G, N> {
     ghost invariant = { λ b. b.node.log.node ≡ b.address.node };
 }
 
-/// The core of a node of this world, as it opens.
-fn core_of<N: Names<Memory = Global>>(
-    alloc: Global,
-    world: &World<N>,
-    node: &NodeName,
-    joined: bool,
-) -> NodeCore<N>
-    requires opening { seen world.now ≡ opening_world (opening_of world.now) }
-    requires known { set_of world.now.nodes node.now ≡ true }
-    ensures { OpensIn world.now node.now joined result }
-{
-    let Some(members) = world.members(node) else {
-        unreachable!()
-    };
-    NodeCore::new(alloc, node.copy(), world.nodes(), members, joined)
-}
-
 impl<G: Gate + Drop, N: Names<Memory = Global>> Berth<G, N> {
     ghost use Rattle.std.specs.Prelude.{◌≡◌, ◌<◌, true, IfOk};
 
@@ -76,13 +56,11 @@ impl<G: Gate + Drop, N: Names<Memory = Global>> Berth<G, N> {
     pub(crate) fn open(
         alloc: Global,
         shared: &Shared<G>,
-        world: &World<N>,
+        opening: &Opening,
         node: &NodeName,
         place: u32,
-        joined: bool,
     ) -> Result<Self, AllocError>
-        requires opening { seen world.now ≡ opening_world (opening_of world.now) }
-        requires known { set_of world.now.nodes node.now ≡ true }
+        requires known { set_of opening.now.nodes node.now ≡ true }
         requires place { place < 8 }
         ensures { IfOk result (λ berth. berth ≡ node.now) }
     {
@@ -101,7 +79,7 @@ impl<G: Gate + Drop, N: Names<Memory = Global>> Berth<G, N> {
             MOST_SEATS + place,
             shared.yields,
         )?;
-        let node = NodeLoop::new(alloc, core_of(alloc, world, node, joined))?;
+        let node = NodeLoop::new(alloc, opening.core(alloc, node))?;
         Ok(Berth {
             address,
             caller,

@@ -1,16 +1,14 @@
 //! All nodes of a cluster before their threads start.
 ghost use Rattle.std.specs.Prelude.{◌≡◌, ◌+◌, ◌≤◌, ◌++◌, true, None, map, length, All, IfOk, OnOk};
 ghost use Rattle.std.specs.Vec.{vec_len};
-ghost use Rattle.protocol_model.specs.World.{opening_world};
 ghost use Rattle.term.specs.NodeSets.{set_of};
-ghost use Rattle.node_loop.specs.Seen.{opening_of, seen};
-ghost use Rattle.node_loop.specs.Starting.{start_refused, Opens};
+ghost use Rattle.node_loop.specs.Openings.{start_refused, IsOpening};
 
 use crate::berth::Berth;
 use crate::line::Line;
 use crate::shared::Shared;
 use name_table::Names;
-use node_loop::{Gate, Item, World};
+use node_loop::{Gate, Item, Opening};
 use std::alloc::{AllocError, Global};
 use term::NodeName;
 
@@ -18,19 +16,17 @@ use term::NodeName;
 fn open_all<G: Gate + Drop, N: Names<Memory = Global>>(
     alloc: Global,
     shared: &Shared<G>,
-    world: &World<N>,
+    opening: &Opening,
     nodes: &[NodeName],
-    joined: bool,
     berths: &mut Vec<Berth<G, N>>,
 ) -> Result<(), AllocError>
-    requires opening { seen world.now ≡ opening_world (opening_of world.now) }
-    requires known { All (λ c. set_of world.now.nodes c ≡ true) nodes.now }
+    requires known { All (λ c. set_of opening.now.nodes c ≡ true) nodes.now }
     requires few { vec_len berths.old + length nodes.now ≤ 8 }
     ensures { OnOk result (berths.new.items ≡ berths.old.items ++ nodes.now) }
 {
     for node in nodes {
         let place = berths.len() as u32;
-        berths.push(Berth::open(alloc, shared, world, node, place, joined)?)?;
+        berths.push(Berth::open(alloc, shared, opening, node, place)?)?;
     }
     Ok(())
 }
@@ -64,22 +60,21 @@ fn connect<G: Gate + Drop, N: Names<Memory = Global>>(
     Ok(())
 }
 
-/// The berths of all nodes of a world that has just been started with these lists, connected with one another.
+/// The berths of all nodes of a world that opens so, connected with one another.
 pub(crate) fn berths_of<G: Gate + Drop, N: Names<Memory = Global>>(
     alloc: Global,
     shared: &Shared<G>,
-    world: &World<N>,
+    opening: &Opening,
     cluster: &[NodeName],
     lone: &[NodeName],
 ) -> Result<Vec<Berth<G, N>>, AllocError>
     requires lists { start_refused cluster.now lone.now ≡ None }
-    requires opening { seen world.now ≡ opening_world (opening_of world.now) }
-    requires opens { Opens cluster.now lone.now world.now }
+    requires opens { IsOpening cluster.now lone.now opening.now }
     ensures { IfOk result (λ berths. berths.items ≡ cluster.now ++ lone.now) }
 {
     let mut berths = Vec::new(alloc);
-    open_all(alloc, shared, world, cluster, true, &mut berths)?;
-    open_all(alloc, shared, world, lone, false, &mut berths)?;
+    open_all(alloc, shared, opening, cluster, &mut berths)?;
+    open_all(alloc, shared, opening, lone, &mut berths)?;
     connect(alloc, berths.as_mut_slice())?;
     Ok(berths)
 }

@@ -10,7 +10,7 @@ use crate::fault::SeatFault;
 use crate::hub::Hub;
 use crate::line::Line;
 use crate::standing::Standing;
-use node_loop::{Answer, Event, Item, Task, TaskFault, TaskReply, Ticket, knows_contact};
+use node_loop::{Answer, Event, Item, Task, TaskFault, TaskReply, Ticket};
 use std::alloc::{AllocError, Global};
 use std::sync::{Arc, Wait};
 use std::time::Clock;
@@ -110,7 +110,7 @@ impl Caller {
         ensures node { name_of self.new ≡ name_of self.old }
         ensures stranger { knows (nodes_of self.old) event ≡ false → result ≡ Err NoSuchNode }
     {
-        if !knows_contact(self.hub.nodes(), &event) {
+        if !event.knows_contact(self.hub.nodes()) {
             return Err(SeatFault::NoSuchNode);
         }
         let number = self.next;

@@ -2,9 +2,7 @@
 ghost use Rattle.std.specs.Prelude.{◌≡◌, ◌+◌, ◌≤◌, ◌++◌, false, [], None, Err, map, IfOk, OnOk, IfErr, OnErr, IfSome};
 ghost use Rattle.term.specs.NodeSets.{set_of};
 ghost use Rattle.link.specs.Held.{place};
-ghost use Rattle.protocol_model.specs.World.{opening_world};
-ghost use Rattle.node_loop.specs.Seen.{opening_of, seen};
-ghost use Rattle.node_loop.specs.Starting.{start_refused, start_fault_of, Opens};
+ghost use Rattle.node_loop.specs.Openings.{start_refused, start_fault_of, IsOpening};
 ghost use Rattle.node_threads.specs.declared.fault.SeatFault.TheVariants.{NoSuchNode};
 ghost use Rattle.node_threads.specs.Faults.{IsSeatRefused};
 ghost use Rattle.node_threads.specs.Closing.{end_of, CloseIs};
@@ -17,7 +15,7 @@ use crate::running::Running;
 use crate::seat::Seat;
 use crate::shared::Shared;
 use name_table::Names;
-use node_loop::{Gate, NodeEnd, StartFault, Transcript, World};
+use node_loop::{Gate, NodeEnd, Opening, StartFault, Transcript};
 use replay::{CloseFault, Closed, replay};
 use std::alloc::{AllocError, Global};
 use std::marker::Model;
@@ -40,7 +38,7 @@ pub struct Cluster<G: Gate + Drop, N: Names> {
 
 impl<G: Gate + Drop, N: Names> Model for Cluster<G, N> {
     ghost use Rattle.std.specs.Prelude.{◌≡◌, ◌≤◌, ◌++◌, None};
-    ghost use Rattle.node_loop.specs.Starting.{start_refused};
+    ghost use Rattle.node_loop.specs.Openings.{start_refused};
     ghost use Rattle.node_threads.specs.Clusters.{Crewed};
 
     ghost Value = { Crewed };
@@ -164,15 +162,17 @@ where
         ensures ok { IfOk result (λ _. start_refused cluster.now lone.now ≡ None) }
         ensures err { IfErr result (λ fault. start_refused cluster.now lone.now ≡ start_fault_of fault) }
     {
-        let world = World::<N>::start(alloc, cluster, lone)?;
-        Ok(Self::of_world(rt, alloc, &world, cluster, lone, gate, yields)?)
+        let opening = Opening::of(cluster, lone)?;
+        Ok(Self::opened(
+            rt, alloc, &opening, cluster, lone, gate, yields,
+        )?)
     }
 
-    /// The cluster of a world that has just been started with these lists.
-    fn of_world<R>(
+    /// The cluster of a world that opens so.
+    fn opened<R>(
         rt: &R,
         alloc: Global,
-        world: &World<N>,
+        opening: &Opening,
         cluster: &[NodeName],
         lone: &[NodeName],
         gate: G,
@@ -181,16 +181,15 @@ where
     where
         R: Threads + Wait + Clock + Drop + Copy + Send + 'static,
         requires lists { start_refused cluster.now lone.now ≡ None }
-        requires opening { seen world.now ≡ opening_world (opening_of world.now) }
-        requires opens { Opens cluster.now lone.now world.now }
+        requires opens { IsOpening cluster.now lone.now opening.now }
         ensures cluster { IfOk result (λ made. made.cluster ≡ cluster.now) }
         ensures lone { IfOk result (λ made. made.lone ≡ lone.now) }
         ensures seats { IfOk result (λ made. made.seats ≡ 0) }
     {
-        let shared = Shared::new(alloc, world.nodes(), gate, yields)?;
+        let shared = Shared::new(alloc, opening.nodes(), gate, yields)?;
         let joined = copied(alloc, cluster)?;
         let others = copied(alloc, lone)?;
-        let berths = berths_of(alloc, &shared, world, cluster, lone)?;
+        let berths = berths_of(alloc, &shared, opening, cluster, lone)?;
         let running = launch_all(rt, alloc, &shared.hub, berths)?;
         Ok(Cluster {
             alloc,

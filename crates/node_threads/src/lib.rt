@@ -47,7 +47,7 @@ pub use fault::SeatFault;
 pub use holder::HolderSeat;
 pub use line::Line;
 pub use node_loop::{
-    Call, Gate, NameList, Nodes, OpenGate, Reply, Retries, StartFault, StepFault, Transcript, World,
+    Call, Gate, NameList, Nodes, OpenGate, Reply, Retries, StartFault, StepFault, Transcript,
 };
 pub use parcel::Parcel;
 pub use replay::{CloseFault, Closed};

@@ -1,5 +1,5 @@
 pub use Rattle.console.specs.Printing
-pub use Rattle.node_threads.specs.Starting
+pub use Rattle.node_threads.specs.Openings
 pub mod Faults
 pub mod Attending
 pub mod Ending

@@ -10,5 +10,5 @@ mod serving;
 mod taking;
 
 pub use faults::ServeFault;
-pub use node_threads::{StartFault, World};
+pub use node_threads::StartFault;
 pub use serving::run_serve;

@@ -1,7 +1,7 @@
 //! Serving a cluster, from its start to the line that tells how it closed.
 ghost use Rattle.std.specs.Prelude.{◌≡◌, ◌+◌, ◌≤◌, ◌||◌, ℕ, None, All, IfOk, length};
 ghost use Rattle.term.specs.NodeSets.{most_nodes, set_of};
-ghost use Rattle.node_threads.specs.Starting.{start_refused};
+ghost use Rattle.node_threads.specs.Openings.{start_refused};
 ghost use Rattle.server.specs.Serving.{ServesCluster};
 ghost use Rattle.server.specs.Served.{IsServed};
 

@@ -2,7 +2,7 @@
 ghost use Rattle.std.specs.Prelude.{◌≡◌, ◌+◌, ◌≤◌, ◌++◌, ◌||◌, ℕ, true, None, Some, length, if◌then◌else◌, OnOk, OnErr, IfOk, IfErr};
 ghost use Rattle.term.specs.NodeSets.{IsNodeSet, set_of, most_nodes};
 ghost use Rattle.node_core.specs.Held.{IsWithin};
-ghost use Rattle.world_events.specs.Openings.{opening_core, repeats, start_refused, IsOpening};
+ghost use Rattle.world_events.specs.Openings.{opening_core, repeats, start_refused, start_fault_of, IsOpening};
 
 use name_table::Names;
 use node_core::NodeCore;
@@ -39,7 +39,7 @@ impl From<AllocError> for StartFault {
 }
 
 /// The nodes of a world, and which of them are joined with each other at first; the others are lone.
-#[derive(Debug, PartialEq, Eq, Drop)]
+#[derive(Debug, Drop)]
 pub struct Opening {
     nodes: NodeSet,
     cluster: NodeSet,
@@ -104,7 +104,8 @@ impl Opening {
     pub fn of(cluster: &[NodeName], lone: &[NodeName]) -> Result<Self, StartFault>
         ensures ok { IfOk result (λ opening. IsOpening cluster.now lone.now opening) }
         ensures accepted { IfOk result (λ opening. start_refused cluster.now lone.now ≡ None) }
-        ensures err { IfErr result (λ fault. start_refused cluster.now lone.now ≡ Some fault) }
+        ensures cause { IfErr result (λ fault. start_refused cluster.now lone.now ≡ Some fault) }
+        ensures err { IfErr result (λ fault. start_refused cluster.now lone.now ≡ start_fault_of fault) }
     {
         if let Some(fault) = start_fault(cluster, lone) {
             return Err(fault);
@@ -140,7 +141,8 @@ impl Opening {
     /// no memory.
     pub fn core<N: Names<Memory = Global>>(&self, alloc: Global, node: &NodeName) -> NodeCore<N>
         requires { set_of self.now.nodes node.now ≡ true }
-        ensures { result ≡ opening_core self.now.nodes self.now.cluster node.now }
+        ensures opens { result ≡ opening_core self.now.nodes self.now.cluster node.now }
+        ensures name { result.name ≡ node.now }
     {
         if self.cluster.contains(node) {
             NodeCore::new(alloc, node.copy(), &self.nodes, &self.cluster, true)

@@ -1,6 +1,6 @@
 //! Work under the locks of a world's clients.
 use crate::worlds::{Cluster, plays, world};
-use cluster_world::{Event, Refusal, SeatFault, WorldEvent, WorldSeat};
+use cluster_world::{Event, Refusal, SeatFault, StepFault, WorldEvent, WorldSeat};
 use name_table::ListTable;
 use std::alloc::Global;
 use std::fmt::Write;
@@ -72,7 +72,7 @@ fn loses_the_lock_with_its_holder(rt: HostRuntime) -> Result<(), Fail> {
     assert!(rt;
         matches!(
             lost,
-            Err(TransFault::Del(SeatFault::Refused(Refusal::NotLive(_)), 7))
+            Err(TransFault::Del(SeatFault::Refused(Refusal::Step(StepFault::NotLive(_))), 7))
         )
     );
     assert!(rt; is_free(&mut world, &two, &theirs));
@@ -83,7 +83,7 @@ fn loses_the_lock_with_its_holder(rt: HostRuntime) -> Result<(), Fail> {
 fn words(alloc: Global) -> Result<String, Fail> {
     let mut text = String::new(alloc);
     for fault in [
-        SeatFault::Refused(Refusal::Reserved),
+        SeatFault::Refused(Refusal::Step(StepFault::Reserved)),
         SeatFault::NoMemory,
         SeatFault::NoAnswer,
     ] {

@@ -1,5 +1,7 @@
 //! Worlds, played by the lines of scripts.
-use cluster_world::{HistoryEntry, NameCall, Refusal, Reply, StartFault, World, WorldEvent};
+use cluster_world::{
+    HistoryEntry, NameCall, Refusal, Reply, StartFault, StepFault, World, WorldEvent,
+};
 use command_lines::{Task, read_task};
 use name_table::{ListTable, Names};
 use std::alloc::Global;
@@ -169,18 +171,18 @@ fn words(alloc: Global) -> Result<String, Fail> {
         Refusal::NoSuchNode,
         Refusal::NodeLeft,
         Refusal::EmptyLink,
-        Refusal::NotLive(process.copy()),
-        Refusal::Busy(process),
-        Refusal::Reserved,
-        Refusal::UnknownNode,
-        Refusal::AlreadyJoined,
-        Refusal::NoSuchProcess,
-        Refusal::AlreadyExited,
-        Refusal::SerialsSpent,
-        Refusal::NothingToRetry,
-        Refusal::HoldsLock,
-        Refusal::CallsSpent,
-        Refusal::Memory,
+        Refusal::Step(StepFault::NotLive(process.copy())),
+        Refusal::Step(StepFault::Busy(process)),
+        Refusal::Step(StepFault::Reserved),
+        Refusal::Step(StepFault::UnknownNode),
+        Refusal::Step(StepFault::AlreadyJoined),
+        Refusal::Step(StepFault::NoSuchProcess),
+        Refusal::Step(StepFault::AlreadyExited),
+        Refusal::Step(StepFault::SerialsSpent),
+        Refusal::Step(StepFault::NothingToRetry),
+        Refusal::Step(StepFault::HoldsLock),
+        Refusal::Step(StepFault::CallsSpent),
+        Refusal::Step(StepFault::Memory),
     ] {
         write!(text, "{refusal} ")?;
     }

@@ -5,7 +5,7 @@ use Rattle.node_threads.proofs.berths.berths_of.Goals as goal
 
 pub open_all-requires-clause-known : goal.open_all-requires-clause-known
 open_all-requires-clause-known g c _ _ =
-    joined_known c.args.cluster.now c.args.lone.now c.args.world.now c.requires.opens
+    joined_known c.args.cluster.now c.args.lone.now c.args.opening.now c.requires.opens
 
 pub open_all-requires-clause-few : goal.open_all-requires-clause-few
 open_all-requires-clause-few g c = omega (
@@ -17,7 +17,7 @@ open_all-requires-clause-few g c = omega (
 
 pub open_all-requires-2-clause-known : goal.open_all-requires-2-clause-known
 open_all-requires-2-clause-known g c _ _ =
-    lone_known c.args.cluster.now c.args.lone.now c.args.world.now c.requires.opens
+    lone_known c.args.cluster.now c.args.lone.now c.args.opening.now c.requires.opens
 
 pub open_all-requires-2-clause-few : goal.open_all-requires-2-clause-few
 open_all-requires-2-clause-few g c = omega (

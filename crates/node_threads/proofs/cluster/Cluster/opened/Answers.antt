@@ -1,6 +1,6 @@
 use Rattle.std.proofs.Common.{◌≡◌, ◌++◌, List, ℕ, sym, ap, ◌∙◌, arith}
-use Rattle.node_loop.specs.Starting.{start_refused}
-use Rattle.node_threads.proofs.cluster.Cluster.of_world.Goals as goal
+use Rattle.node_loop.specs.Openings.{start_refused}
+use Rattle.node_threads.proofs.cluster.Cluster.opened.Goals as goal
 
 pub invariant_of-result : goal.invariant_of-result
 invariant_of-result g c =
