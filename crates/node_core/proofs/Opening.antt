@@ -59,7 +59,7 @@ pub opened : (h : Held) (a : ℕ) (world members w m d : List ℕ) (joined : Boo
       last_call = 0;
     }
     → set_of members a ≡ true → joined ≡ true → node_of h ≡ opening_node (set_of members) a
-opened h a world members w m d joined t locks v r cs es e1 e2 e0 e3 e4 e5 e6 e7 e own is = ap node_of same
+opened h a world members w m d joined t locks v r cs e1 e2 e0 e3 e4 e5 e6 e7 e own is = ap node_of same
     ∙ opens a world members joined own is
   where
     same : h ≡ fresh a world members joined

@@ -163,9 +163,7 @@ impl<N: Names<Memory = Global>> NodeCore<N> {
                 Some(owner) => Reply::Pid(owner),
                 None => Reply::Undefined,
             },
-            Look::RegisteredNames => {
-                Reply::Names(NameList::new(self.table.names(self.alloc)?))
-            }
+            Look::RegisteredNames => Reply::Names(NameList::new(self.table.names(self.alloc)?)),
         })
     }
 
