@@ -1,5 +1,4 @@
 pub use Rattle.node_core.proofs.Bounds
-mod Results
 mod Mail
 mod Cores
 mod Waiting

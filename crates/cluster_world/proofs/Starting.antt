@@ -22,7 +22,7 @@ use Rattle.node_core.specs.Letters.{letter_of}
 use Rattle.node_core.specs.Seen.{node_of}
 use Rattle.node_core.specs.Steps.{IsSaidBy}
 use Rattle.cluster_world.specs.Links.{mapped, AreFit}
-use Rattle.cluster_world.specs.Held.{IsWhole}
+use Rattle.cluster_world.specs.Held.{Held, IsWhole}
 use Rattle.world_history.specs.declared.entry.HistoryEntry.{HistoryEntry}
 use Rattle.cluster_world.specs.Cores.{core_of}
 use Rattle.world_history.specs.Histories.{entry_of}
@@ -157,6 +157,19 @@ module _ (nodes cluster : List ℕ) where
         }) empty
         ∙ ap (λ (es : List HistoryEntry). record (opening_world (opening_with nodes cluster)) { history = map entry_of es })
         none
+
+-- what is held of a world of these nodes
+abbrev held : List ℕ → List ℕ → List Core → Mesh Letter → List HistoryEntry → Held
+held nodes cluster cores links history =
+    record { nodes = nodes; cluster = cluster; cores = cores; links = links; history = history }
+
+-- it is the same by other names of them
+pub with_sets : (nodes cluster n k : List ℕ) (cores : List Core) (links : Mesh Letter) (history : List HistoryEntry)
+    → n ≡ nodes → k ≡ cluster
+    → held nodes cluster cores links history ≡ held n k cores links history
+with_sets nodes cluster n k cores links history p q =
+    ap (λ (ns : List ℕ). held ns cluster cores links history) (sym p)
+    ∙ ap (λ (ns : List ℕ). held n ns cores links history) (sym q)
 
 -- the world opens as the opening says
 pub opens : (cluster lone : List ℕ) (o : Opened) → IsOpening cluster lone o → (cores : List Core) (links : Mesh Letter)

@@ -1,6 +1,6 @@
 //! How a world opens.
 ghost use Rattle.std.specs.Prelude.{◌≡◌, ◌+◌, ◌≤◌, ◌++◌, ◌||◌, ℕ, true, None, Some, length, if◌then◌else◌, OnOk, OnErr, IfOk, IfErr};
-ghost use Rattle.term.specs.NodeSets.{IsNodeSet, set_of, most_nodes};
+ghost use Rattle.term.specs.NodeSets.{set_of, most_nodes};
 ghost use Rattle.node_core.specs.Held.{IsWithin};
 ghost use Rattle.world_events.specs.Openings.{opening_core, repeats, start_refused, start_fault_of, IsOpening};
 
@@ -46,6 +46,7 @@ pub struct Opening {
 }
 
 impl Model for Opening {
+    ghost use Rattle.node_core.specs.Held.{IsWithin};
     ghost use Rattle.world_events.specs.Openings.{Opened};
 
     ghost Value = { Opened };
@@ -124,15 +125,13 @@ impl Opening {
     pub fn nodes(&self) -> &NodeSet
         ensures nodes { result.now ≡ self.now.nodes }
         ensures within { IsWithin self.now.nodes self.now.cluster }
-        ensures set { IsNodeSet self.now.nodes }
     {
         &self.nodes
     }
 
     /// Those that are joined at first.
     pub fn cluster(&self) -> &NodeSet
-        ensures cluster { result.now ≡ self.now.cluster }
-        ensures set { IsNodeSet self.now.cluster }
+        ensures { result.now ≡ self.now.cluster }
     {
         &self.cluster
     }

@@ -1,6 +1,6 @@
 use Rattle.std.proofs.Common.{◌≡◌, map, take}
-use Rattle.cluster_world.specs.Seen.{opening_core}
+use Rattle.world_events.specs.Openings.{opening_core}
 use Rattle.cluster_world.proofs.start.cores_of.Given as goal
 
 abbrev pub invariant-loop-node : goal.invariant-loop-node
-invariant-loop-node g l = l.cores.items ≡ map (opening_core l.nodes l.cluster) (take l.node-index l.nodes)
+invariant-loop-node g l = l.cores.items ≡ map (opening_core l.opening.nodes l.opening.cluster) (take l.node-index l.opening.nodes)

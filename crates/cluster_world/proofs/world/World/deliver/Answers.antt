@@ -40,9 +40,7 @@ returns-clause-ok g c =
     (plays_delivery _ c.self.invariant c.args.sender.now c.args.receiver.now (sym c.contains.ensures ∙ c.if-not-contains.false) (sym c.is_closed.ensures ∙ c.if-is_closed.false)
     c.in_ok-letter.letter c.deliver.new.self
     c.in_ok-letter.ensures.known c.in_ok-letter.ensures.oldest c.in_ok-letter.ensures.ok c.in_ok-letter.ensures.nodes
-    c.step.new.self answers.items
-    (subst (λ (f : ℕ). Moves c.args.receiver.now (FromPeer f c.in_ok-letter.letter) off c.step.new.self answers.items)
-    c.copy.ensures M))) c.step.ensures.ok
+    c.step.new.self answers.items M)) c.step.ensures.ok
 
 pub returns-clause-refused : goal.returns-clause-refused
 returns-clause-refused g c =
@@ -58,8 +56,7 @@ returns-clause-refused g c =
     (Deliver c.args.sender.now c.args.receiver.now) k) c.self.view_is
     (refuses_delivery _ c.self.invariant c.args.sender.now c.args.receiver.now (sym c.contains.ensures ∙ c.if-not-contains.false) (sym c.is_closed.ensures ∙ c.if-is_closed.false)
     c.in_ok-letter.letter c.deliver.new.self
-    c.in_ok-letter.ensures.known c.in_ok-letter.ensures.oldest c.in_ok-letter.ensures.ok c.in_ok-letter.ensures.nodes r
-    (subst (λ (f : ℕ). FailsAt r c.args.receiver.now (FromPeer f c.in_ok-letter.letter) off) c.copy.ensures F)))
+    c.in_ok-letter.ensures.known c.in_ok-letter.ensures.oldest c.in_ok-letter.ensures.ok c.in_ok-letter.ensures.nodes r F))
     c.step.ensures.refused
 
 pub returns-clause-unchanged : goal.returns-clause-unchanged
@@ -76,8 +73,7 @@ returns-clause-unchanged g c =
     (never_kept _ c.self.invariant c.args.sender.now c.args.receiver.now (sym c.contains.ensures ∙ c.if-not-contains.false) (sym c.is_closed.ensures ∙ c.if-is_closed.false)
     c.in_ok-letter.letter
     c.deliver.new.self c.in_ok-letter.ensures.known c.in_ok-letter.ensures.oldest c.in_ok-letter.ensures.ok
-    c.in_ok-letter.ensures.nodes r
-    (subst (λ (f : ℕ). FailsAt r c.args.receiver.now (FromPeer f c.in_ok-letter.letter) off) c.copy.ensures F) kept))
+    c.in_ok-letter.ensures.nodes r F kept))
     c.step.ensures.refused
 
 pub returns-then-not-contains-clause-refused : goal.returns-then-not-contains-clause-refused
@@ -108,7 +104,5 @@ invariant_of-self-2 g c =
 
 pub step-requires : goal.step-requires
 step-requires g c =
-    subst (λ (f : ℕ). IsHeardWithin c.self.inside.nodes c.args.receiver.now (FromPeer f c.in_ok-letter.letter))
-    (sym c.copy.ensures)
     (may_hear _ c.self.invariant c.args.sender.now c.args.receiver.now (sym c.contains.ensures ∙ c.if-not-contains.false) (sym c.is_closed.ensures ∙ c.if-is_closed.false) c.in_ok-letter.letter c.deliver.new.self
     c.in_ok-letter.ensures.known c.in_ok-letter.ensures.oldest c.in_ok-letter.ensures.ok c.in_ok-letter.ensures.nodes)
