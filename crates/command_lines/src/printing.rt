@@ -2,6 +2,7 @@
 ghost use Rattle.std.specs.Prelude.{◌≡◌, ◌++◌, IfOk, OnOk, string_bytes, option_map};
 ghost use Rattle.protocol_model.specs.Script.{Said, TableIs, MembersAre};
 ghost use Rattle.world_events.specs.NodeEventsSeen.{answer_of as any_answer, reply_of as any_reply};
+ghost use Rattle.world_events.specs.Refusals.{is_memory};
 ghost use Rattle.command_lines.specs.Printing as print;
 
 use name_table::Pair;
@@ -100,15 +101,24 @@ pub fn step_line(fault: &StepFault) -> &'static str
     }
 }
 
+/// Whether memory was refused.
+fn is_want_of_memory(refusal: &Refusal) -> bool
+    ensures { result ≡ is_memory refusal.now }
+{
+    matches!(refusal, Refusal::Step(StepFault::Memory))
+}
+
 /// The line of a refusal, unless it is want of memory.
 pub fn refusal_line(refusal: &Refusal) -> Option<&'static str>
     ensures { print.IsLineOf refusal.now (option_map (λ line. line.now) result) }
 {
-    match refusal {
-        Refusal::NoSuchNode => Some("error no_such_node\n"),
-        Refusal::NodeLeft => Some("error node_left\n"),
-        Refusal::EmptyLink => Some("error empty_link\n"),
-        Refusal::Step(StepFault::Memory) => None,
-        Refusal::Step(fault) => Some(step_line(fault)),
+    if is_want_of_memory(refusal) {
+        return None;
     }
+    Some(match refusal {
+        Refusal::NoSuchNode => "error no_such_node\n",
+        Refusal::NodeLeft => "error node_left\n",
+        Refusal::EmptyLink => "error empty_link\n",
+        Refusal::Step(fault) => step_line(fault),
+    })
 }

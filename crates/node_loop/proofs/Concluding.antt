@@ -2,7 +2,7 @@
 use Rattle.std.proofs.Common.{◌≡◌, ℕ, Bool, true, false, inl, inr, Option, List, [], ◌∷◌, ◌++◌, refl, sym, ap, subst, ◌∙◌, MatchBool}
 use Rattle.node_log.specs.declared.CoreEvent.{Event as NodeEvent}
 use Rattle.node_log.specs.NodeCoreHeld.{Held}
-use Rattle.node_log.specs.NodeCoreMade.{Made}
+use Rattle.node_log.specs.NodeCoreMade.{Made as Turn}
 use Rattle.node_log.specs.NodeCoreSteps.{Steps}
 use Rattle.node_log.specs.declared.WorldEvent.{WorldEvent}
 use Rattle.node_log.specs.Entries.{Entry, Logged}
@@ -19,32 +19,32 @@ use Rattle.node_loop.proofs.Telling.{begins_on, begins_as, left_begins}
 abbrev pub begun_entry : Cause → Looping → Entry
 begun_entry k a = entry_of k a []
 
-module _ (k : Cause) (a : Looping) (core : Held) (log : Logged) (s : ℕ) (own : Option Ticket) (course : Course) (made : Made) (b : Looping) where
+module _ (k : Cause) (a : Looping) (core : Held) (log : Logged) (s : ℕ) (own : Option Ticket) (course : Course) (turn : Turn) (b : Looping) where
   abbrev logged_by : Logged
-  logged_by = record a.log { entries = a.log.entries ++ entry_of k a made.answers ∷ [] }
+  logged_by = record a.log { entries = a.log.entries ++ entry_of k a turn.answers ∷ [] }
 
   -- the log, when the last step is answered
   log_path : log ≡ record a.log { entries = a.log.entries ++ begun_entry k a ∷ [] }
-      → b.log ≡ record log { entries = answered made.answers log.entries } → b.log ≡ logged_by
+      → b.log ≡ record log { entries = answered turn.answers log.entries } → b.log ≡ logged_by
   log_path l e =
-      e ∙ ap (λ (x : Logged). record x { entries = answered made.answers x.entries }) l
-      ∙ ap (λ (es : List Entry). record a.log { entries = es }) (answered_last made.answers a.log.entries (begun_entry k a))
+      e ∙ ap (λ (x : Logged). record x { entries = answered turn.answers x.entries }) l
+      ∙ ap (λ (es : List Entry). record a.log { entries = es }) (answered_last turn.answers a.log.entries (begun_entry k a))
 
   -- the desk, by the names that the step has
-  desk_path : own ≡ k.own → course ≡ k.course → b.core ≡ core → settled course own core made.answers a.desk ≡ desk_of k a b.core made.answers
-  desk_path o q e = λ j. settled (q j) (o j) (sym e j) answers a.desk
+  desk_path : own ≡ k.own → course ≡ k.course → b.core ≡ core → settled course own core turn.answers a.desk ≡ desk_of k a b.core turn.answers
+  desk_path o q e = λ j. settled (q j) (o j) (sym e j) turn.answers a.desk
 
   -- so the step is made, or the thread ends within it
-  pub goes : (going : Bool) → Steps k.event a.core core made
+  pub goes : (going : Bool) → Steps k.event a.core core turn
       → log ≡ record a.log { entries = a.log.entries ++ begun_entry k a ∷ [] }
       → s ≡ stamp_of k a → own ≡ k.own → course ≡ k.course
-      → Concludes s own course made (record a { core = core; log = log }) going b → Goes k a going b
+      → Concludes s own course turn (record a { core = core; log = log }) going b → Goes k a going b
   goes true step l e o q c = record {
-    made = made;
-    step = subst (λ (h : Held). Steps k.event a.core h made) (sym c.core) step;
+    turn = turn;
+    step = subst (λ (h : Held). Steps k.event a.core h turn) (sym c.core) step;
     log = log_path l c.log;
     stamp = c.stamp ∙ e;
-    tray = c.told.1 ∙ ap (λ (n : ℕ). with_letters n made.letters a.tray) e;
+    tray = c.told.1 ∙ ap (λ (n : ℕ). with_letters n turn.letters a.tray) e;
     desk = c.told.0 ∙ desk_path o q c.core;
     world = c.world;
     wait = c.wait;
@@ -52,15 +52,15 @@ module _ (k : Cause) (a : Looping) (core : Held) (log : Logged) (s : ℕ) (own :
     worked = c.worked;
   }
   goes false step l e o q c = inr (record {
-    made = made;
-    step = subst (λ (h : Held). Steps k.event a.core h made) (sym c.core) step;
+    turn = turn;
+    step = subst (λ (h : Held). Steps k.event a.core h turn) (sym c.core) step;
     log = log_path l c.log;
     replies = begins_as _ _ _ _ refl (ap (λ (d : Kept). d.replies) (desk_path o q c.core)) c.told;
   })
 
 -- the core's step, of what its event is
-pub stepped : (e f : NodeEvent) (old new : Held) (made : Made) → e ≡ f → Steps e old new made → Steps f old new made
-stepped e f old new made p h = subst (λ (x : NodeEvent). Steps x old new made) p h
+pub stepped : (e f : NodeEvent) (old new : Held) (turn : Turn) → e ≡ f → Steps e old new turn → Steps f old new turn
+stepped e f old new turn p h = subst (λ (x : NodeEvent). Steps x old new turn) p h
 
 -- the log, where a step was begun in it
 pub begun : (old new : Logged) (s t : ℕ) (seat seat_is : Option ℕ) (w v : WorldEvent) → new.node ≡ old.node
@@ -75,10 +75,10 @@ pub ends_leaving : (k : Cause) (a b : Looping) → Ends k (desk_of k a) a b
     → Ends k (λ core answers. left_by (desk_of k a core answers)) a b
 ends_leaving k a b (inl h) = inl h
 ends_leaving k a b (inr h) = inr (record {
-  made = h.made;
+  turn = h.turn;
   step = h.step;
   log = h.log;
-  replies = begins_on _ _ _ h.replies (left_begins (desk_of k a b.core h.made.answers));
+  replies = begins_on _ _ _ h.replies (left_begins (desk_of k a b.core h.turn.answers));
 })
 
 module _ (P Q : Type 0) where

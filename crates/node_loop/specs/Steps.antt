@@ -6,7 +6,7 @@ use Rattle.node_log.specs.declared.CoreEvent.{Event as NodeEvent}
 use Rattle.node_log.specs.declared.CoreEvent.TheVariants.{FromPeer}
 use Rattle.node_log.specs.NodeEventsSeen.{fault_of, is_memory}
 use Rattle.node_log.specs.NodeCoreHeld.{Held}
-use Rattle.node_log.specs.NodeCoreMade.{Made}
+use Rattle.node_log.specs.NodeCoreMade.{Made as Turn}
 use Rattle.node_log.specs.NodeCoreSteps.{Steps, refusal_of}
 use Rattle.node_log.specs.declared.Event.{Event}
 use Rattle.node_log.specs.declared.WorldEvent.{WorldEvent}
@@ -71,12 +71,12 @@ desk_of k a core answers = settled k.course k.own core answers a.desk
 
 -- The core's step is made: its entry is last in the log, its letters are last in the tray, and its answers are told
 pub record Makes (k : Cause) (a b : Looping) : Type 0 where
-  pub made : Made
-  pub step : Steps k.event a.core b.core made
-  pub log : b.log ≡ record a.log { entries = a.log.entries ++ entry_of k a made.answers ∷ [] }
+  pub turn : Turn
+  pub step : Steps k.event a.core b.core turn
+  pub log : b.log ≡ record a.log { entries = a.log.entries ++ entry_of k a turn.answers ∷ [] }
   pub stamp : b.stamp ≡ stamp_of k a
-  pub tray : b.tray ≡ with_letters (stamp_of k a) made.letters a.tray
-  pub desk : b.desk ≡ desk_of k a b.core made.answers
+  pub tray : b.tray ≡ with_letters (stamp_of k a) turn.letters a.tray
+  pub desk : b.desk ≡ desk_of k a b.core turn.answers
   pub wait : b.wait ≡ a.wait
   pub world : b.world ≡ a.world
   pub left : b.left ≡ a.left
@@ -90,10 +90,10 @@ pub record Rests (a b : Looping) : Type 0 where
 
 -- The thread ends when the core's step is made and stands in the log. The first of those are told who are to be
 pub record Begun (k : Cause) (due : Held → List Answer → Kept) (a b : Looping) : Type 0 where
-  pub made : Made
-  pub step : Steps k.event a.core b.core made
-  pub log : b.log ≡ record a.log { entries = a.log.entries ++ entry_of k a made.answers ∷ [] }
-  pub replies : Begins b.desk.replies (due b.core made.answers).replies
+  pub turn : Turn
+  pub step : Steps k.event a.core b.core turn
+  pub log : b.log ≡ record a.log { entries = a.log.entries ++ entry_of k a turn.answers ∷ [] }
+  pub replies : Begins b.desk.replies (due b.core turn.answers).replies
 
 -- the thread ends within a step
 abbrev pub Ends : Cause → (Held → List Answer → Kept) → Looping → Looping → Type 0
@@ -111,14 +111,14 @@ Tries own e a (Refused fault) b =
 Tries own e a Ended b = Ends (by_event own e a) (desk_of (by_event own e a) a) a b
 
 -- behind a step that was logged without its answers
-pub record Concludes (given : ℕ) (own : Option Ticket) (course : Course) (made : Made) (a : Looping) (going : Bool) (b : Looping) : Type 0 where
+pub record Concludes (given : ℕ) (own : Option Ticket) (course : Course) (turn : Turn) (a : Looping) (going : Bool) (b : Looping) : Type 0 where
   pub core : b.core ≡ a.core
   pub world : b.world ≡ a.world
-  pub log : b.log ≡ record a.log { entries = answered made.answers a.log.entries }
+  pub log : b.log ≡ record a.log { entries = answered turn.answers a.log.entries }
   pub stamp : b.stamp ≡ given
   pub wait : b.wait ≡ a.wait
   pub left : b.left ≡ a.left
   pub worked : b.worked ≡ a.worked
   pub told : MatchBool going
-      ((b.desk ≡ settled course own a.core made.answers a.desk) × (b.tray ≡ with_letters given made.letters a.tray))
-      (Begins b.desk.replies (settled course own a.core made.answers a.desk).replies)
+      ((b.desk ≡ settled course own a.core turn.answers a.desk) × (b.tray ≡ with_letters given turn.letters a.tray))
+      (Begins b.desk.replies (settled course own a.core turn.answers a.desk).replies)

@@ -1,13 +1,20 @@
-use Rattle.std.proofs.Common.{refl, ap}
+use Rattle.std.proofs.Common.{ℕ, List, refl, ap, sym, ◌∙◌}
 use Rattle.protocol_model.specs.Event as model
-use Rattle.world_events.specs.Refusals.{refusal_of}
+use Rattle.world_events.specs.Refusals.{refusal_of, is_memory}
+use Rattle.command_lines.specs.Printing.{error_line}
+use Rattle.command_lines.proofs.RefusalWords.{step_word_is}
 use Rattle.command_lines.proofs.printing.refusal_line.Goals as goal
+use Rattle.command_lines.proofs.printing.refusal_line.Goals.{in-NoSuchNode, in-NodeLeft, in-EmptyLink, in-Step}
 
-pub returns-in-NoSuchNode : goal.returns-in-NoSuchNode
-returns-in-NoSuchNode c = (model.NoSuchNode, ap refusal_of c.in-NoSuchNode.is, refl)
-
-pub returns-in-NodeLeft : goal.returns-in-NodeLeft
-returns-in-NodeLeft c = (model.NodeLeft, ap refusal_of c.in-NodeLeft.is, refl)
-
-pub returns-in-EmptyLink : goal.returns-in-EmptyLink
-returns-in-EmptyLink c = (model.EmptyLink, ap refusal_of c.in-EmptyLink.is, refl)
+pub returns : goal.returns
+returns c = elim c.match-refusal.branch [
+  | in-NoSuchNode w ↦ (model.NoSuchNode, ap refusal_of w.in-NoSuchNode.is, ap (λ b. b.now) w.result-is)
+  | in-NodeLeft w ↦ (model.NodeLeft, ap refusal_of w.in-NodeLeft.is, ap (λ b. b.now) w.result-is)
+  | in-EmptyLink w ↦ (model.EmptyLink, ap refusal_of w.in-EmptyLink.is, ap (λ b. b.now) w.result-is)
+  | in-Step w ↦
+      let said = step_word_is w.in-Step.fault (ap is_memory (sym w.in-Step.is) ∙ sym c.is_want_of_memory.ensures ∙ c.if-is_want_of_memory.false) in (
+        said.0,
+        ap refusal_of w.in-Step.is ∙ said.1,
+        ap (λ b. b.now) w.result-is ∙ w.step_line.ensures ∙ ap error_line said.2,
+      )
+]

@@ -22,7 +22,7 @@ returns-then-conclude g c =
     MatchBool-at_true _ _ c.if-conclude.true
     (subst (λ (x : Looping). Goes (by_event c.args.own c.args.event x) x c.conclude.result c.conclude.new.self)
     c.self.view_is
-    (goes (by_event c.args.own c.args.event a) a c.turn.new.core c.begin.new.self c.in-Some.stamp c.args.own
+    (goes (by_event c.args.own c.args.event a) a c.turn.new.self c.begin.new.self c.in-Some.stamp c.args.own
     c.of-course.result c.in-Ok.turn c.conclude.new.self c.conclude.result
     (stepped _ _ _ _ _ c.cause.ensures c.in-Ok.ensures.ok)
     (begun _ _ _ _ _ _ _ _ c.in-Ok-begin.ensures.node c.in-Ok-begin.ensures.ok c.in-Some.ensures c.seat_of.ensures
@@ -45,7 +45,7 @@ returns-else-conclude g c =
     MatchBool-at_false _ _ c.if-conclude.false
     (subst (λ (x : Looping). Goes (by_event c.args.own c.args.event x) x c.conclude.result c.conclude.new.self)
     c.self.view_is
-    (goes (by_event c.args.own c.args.event a) a c.turn.new.core c.begin.new.self c.in-Some.stamp c.args.own
+    (goes (by_event c.args.own c.args.event a) a c.turn.new.self c.begin.new.self c.in-Some.stamp c.args.own
     c.of-course.result c.in-Ok.turn c.conclude.new.self c.conclude.result
     (stepped _ _ _ _ _ c.cause.ensures c.in-Ok.ensures.ok)
     (begun _ _ _ _ _ _ _ _ c.in-Ok-begin.ensures.node c.in-Ok-begin.ensures.ok c.in-Some.ensures c.seat_of.ensures
