@@ -4,8 +4,8 @@ use Rattle.protocol_model.specs.Event.{Refusal}
 use Rattle.command_lines.specs.NodeEventsSeen.{reply_of, fault_of}
 use Rattle.command_lines.specs.declared.Reply.{Reply}
 use Rattle.command_lines.specs.declared.StepFault.{StepFault}
-use Rattle.node_threads.specs.declared.fault.SeatFault.{SeatFault}
-use Rattle.node_threads.specs.declared.fault.SeatFault.TheVariants.{NoSuchNode, NodeLeft, Closed, SeatsSpent, Step, Memory}
+use Rattle.node_seats.specs.declared.fault.SeatFault.{SeatFault}
+use Rattle.node_seats.specs.declared.fault.SeatFault.TheVariants.{NoSuchNode, NodeLeft, Closed, SeatsSpent, Step, Memory}
 use Rattle.command_lines.specs.Printing.{ended, error_line, reply_text, refusal_word}
 
 -- the word of the protocol's refusal; there is none where memory was refused

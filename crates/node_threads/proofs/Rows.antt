@@ -10,7 +10,7 @@ use Rattle.term.specs.NodeSets.{set_of}
 use Rattle.term.proofs.NodePlaces.{place-Some}
 use Rattle.link.specs.Held.{place}
 use Rattle.node_threads.specs.Clusters.{Crewed, nodes_in}
-use Rattle.node_threads.specs.Seats.{Sitting}
+use Rattle.node_seats.specs.Seats.{Sitting}
 
 -- a node that has a place is one of the row
 known : (c : ℕ) (row : List ℕ) (i : ℕ) → place c row ≡ Some i → set_of row c ≡ true

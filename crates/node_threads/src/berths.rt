@@ -7,10 +7,10 @@ ghost use Rattle.node_loop.specs.Seen.{opening_of, seen};
 ghost use Rattle.node_loop.specs.Starting.{start_refused, Opens};
 
 use crate::berth::Berth;
-use crate::line::Line;
 use crate::shared::Shared;
 use name_table::Names;
 use node_loop::{Gate, Item, World};
+use node_seats::Line;
 use std::alloc::{AllocError, Global};
 use term::NodeName;
 

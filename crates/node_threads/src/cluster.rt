@@ -5,19 +5,17 @@ ghost use Rattle.link.specs.Held.{place};
 ghost use Rattle.protocol_model.specs.World.{opening_world};
 ghost use Rattle.node_loop.specs.Seen.{opening_of, seen};
 ghost use Rattle.node_loop.specs.Starting.{start_refused, start_fault_of, Opens};
-ghost use Rattle.node_threads.specs.declared.fault.SeatFault.TheVariants.{NoSuchNode};
-ghost use Rattle.node_threads.specs.Faults.{IsSeatRefused};
+ghost use Rattle.node_seats.specs.declared.fault.SeatFault.TheVariants.{NoSuchNode};
+ghost use Rattle.node_seats.specs.Faults.{IsSeatRefused};
 ghost use Rattle.node_threads.specs.Closing.{end_of, CloseIs};
 
 use crate::berth::Berth;
 use crate::berths::berths_of;
-use crate::fault::SeatFault;
-use crate::hub::{Hub, MOST_SEATS};
 use crate::running::Running;
-use crate::seat::Seat;
 use crate::shared::Shared;
 use name_table::Names;
 use node_loop::{Gate, NodeEnd, StartFault, Transcript, World};
+use node_seats::{MOST_SEATS, Seat, SeatFault};
 use replay::{CloseFault, Closed, replay};
 use std::alloc::{AllocError, Global};
 use std::marker::Model;
@@ -91,7 +89,6 @@ where
 fn launch_all<G, N, R>(
     rt: &R,
     alloc: Global,
-    hub: &Hub,
     berths: Vec<Berth<G, N>>,
 ) -> Result<Vec<Running<N>>, AllocError>
 where
@@ -104,27 +101,21 @@ where
     match launch_each(rt, berths, &mut running) {
         Ok(()) => Ok(running),
         Err(fault) => {
-            end_all(rt, alloc, hub, running);
+            end_all(rt, alloc, running);
             Err(fault)
         }
     }
 }
 
 /// Asks these threads to end, and waits until all have. Gives what they left behind, where there is memory for it.
-fn end_all<N, R>(
-    rt: &R,
-    alloc: Global,
-    hub: &Hub,
-    running: Vec<Running<N>>,
-) -> Option<Vec<NodeEnd<N>>>
+fn end_all<N, R>(rt: &R, alloc: Global, running: Vec<Running<N>>) -> Option<Vec<NodeEnd<N>>>
 where
     N: Names<Memory = Global> + Send + 'static,
     R: Threads,
     ensures { IfSome result (λ ends. map end_of ends.items ≡ running.items) }
 {
-    hub.close();
     for one in &running {
-        one.ring();
+        one.stop();
     }
     let mut ends = Vec::new(alloc);
     let mut whole = true;
@@ -191,7 +182,7 @@ where
         let joined = copied(alloc, cluster)?;
         let others = copied(alloc, lone)?;
         let berths = berths_of(alloc, &shared, world, cluster, lone)?;
-        let running = launch_all(rt, alloc, &shared.hub, berths)?;
+        let running = launch_all(rt, alloc, berths)?;
         Ok(Cluster {
             alloc,
             shared,
@@ -247,13 +238,13 @@ where
     {
         let Cluster {
             alloc,
-            shared,
+            shared: _shared,
             cluster,
             lone,
             running,
             seats: _seats,
         } = self;
-        let Some(ends) = end_all(rt, alloc, &shared.hub, running) else {
+        let Some(ends) = end_all(rt, alloc, running) else {
             return Err(CloseFault::Memory);
         };
         replay(

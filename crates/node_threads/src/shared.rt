@@ -1,7 +1,7 @@
 //! What the threads of a cluster have in common.
 
-use crate::hub::Hub;
 use node_loop::Gate;
+use node_seats::Hub;
 use std::alloc::{AllocError, Global};
 use std::sync::Arc;
 use term::NodeSet;
@@ -25,14 +25,6 @@ impl<G: Gate + Drop> Shared<G> {
     ) -> Result<Self, AllocError> {
         let gate = Arc::new(alloc, gate)?;
         let hub = Arc::new(alloc, Hub::new(alloc, nodes)?)?;
-        Ok(Shared { gate, hub, yields })
-    }
-
-    /// The same, for one thread more.
-    pub(crate) fn another(&self) -> Result<Self, AllocError> {
-        let gate = Arc::try_clone(&self.gate)?;
-        let hub = Arc::try_clone(&self.hub)?;
-        let yields = self.yields;
         Ok(Shared { gate, hub, yields })
     }
 }

@@ -1,7 +1,7 @@
 use Rattle.std.proofs.Common.{ap, sym, ◌∙◌, arith, rules}
 use Rattle.term.specs.NodeSets.{set_of}
-use Rattle.node_threads.specs.declared.fault.SeatFault.TheVariants.{Memory}
-use Rattle.node_threads.specs.Faults.{IsSeatRefused}
+use Rattle.node_seats.specs.declared.fault.SeatFault.TheVariants.{Memory}
+use Rattle.node_seats.specs.Faults.{IsSeatRefused}
 use Rattle.node_threads.specs.Clusters.{Crewed, nodes_in}
 use Rattle.node_threads.proofs.Rows.{crew_known, crew_unknown, stands, sits}
 use Rattle.node_threads.proofs.cluster.Cluster.seat.Goals as goal
