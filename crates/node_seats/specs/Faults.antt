@@ -11,6 +11,11 @@ fault_by of_task.NoSuchNode = NoSuchNode
 fault_by of_task.NodeLeft = NodeLeft
 fault_by (of_task.Step fault) = Step fault
 
+-- why it isn't done what is asked: a contact is called a stranger only where it isn't known
+abbrev pub IsAskRefused : SeatFault → Bool → Type 0
+IsAskRefused NoSuchNode known = known ≡ false
+IsAskRefused _ known = Unit {0}
+
 -- how many seats a cluster makes
 abbrev pub most_seats : ℕ
 most_seats = 64

@@ -11,10 +11,11 @@ use Rattle.node_loop.specs.declared.Event.TheVariants as event
 use Rattle.node_loop.specs.declared.WorldEvent.TheVariants.{At}
 use Rattle.node_loop.specs.declared.SeatEntry.{SeatEntry}
 
--- a seat: its number, its node, and its transcript, the oldest entry first
+-- a seat: its number, its node, the nodes of its cluster, and its transcript, the oldest entry first
 pub record Sitting : Type 0 where
   pub seat : ℕ
   pub node : ℕ
+  pub nodes : List ℕ
   pub entries : List SeatEntry
 
 -- the transcript ends with this event of the seat's node, and what was answered

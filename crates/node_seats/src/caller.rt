@@ -1,8 +1,9 @@
 //! How a thread asks a node's thread.
-ghost use Rattle.std.specs.Prelude.{◌≡◌, ◌<◌, ◌+◌, false, IfOk, OnOk, IfSome, Err};
+ghost use Rattle.std.specs.Prelude.{◌≡◌, ◌<◌, ◌+◌, true, false, IfOk, OnOk, IfErr, IfSome, Err};
 ghost use Rattle.node_loop.specs.Events.{knows_contact as knows};
 ghost use Rattle.node_seats.specs.Callers.{name_of, slot_of, nodes_of, nodes_at};
 ghost use Rattle.node_seats.specs.declared.fault.SeatFault.TheVariants.{NoSuchNode};
+ghost use Rattle.node_seats.specs.Faults.{IsAskRefused};
 
 use crate::address::Address;
 use crate::bell::Rest;
@@ -42,6 +43,16 @@ fn outcome_for(reply: TaskReply, ticket: Ticket) -> Option<Result<Option<Answer>
     Some(reply.outcome)
 }
 
+/// What a caller is told of an event whose contact is of the cluster. Its node has the same nodes, and calls none of them a stranger.
+fn known_outcome(outcome: Result<Option<Answer>, SeatFault>) -> Result<Option<Answer>, SeatFault>
+    ensures { IfErr result (λ fault. IsAskRefused fault true) }
+{
+    match outcome {
+        Err(SeatFault::NoSuchNode) => Err(SeatFault::Closed),
+        told => told,
+    }
+}
+
 impl Caller {
     /// One that asks the node of this address, which stands so, and finds its replies in this slot.
     pub(crate) fn new(
@@ -73,9 +84,10 @@ impl Caller {
         })
     }
 
-    /// One more that asks the same node, and finds its replies in this slot.
+    /// One more that asks the same node, and finds its replies in this slot of this hub.
     pub fn another(
         &self,
+        hub: &Arc<Hub, Global>,
         address: &mut Address<Item>,
         slot: u32,
         yields: u32,
@@ -83,11 +95,11 @@ impl Caller {
         requires { slot < 72 }
         ensures slot { IfOk result (λ caller. slot_of caller ≡ slot) }
         ensures node { IfOk result (λ caller. name_of caller ≡ address.old.node) }
-        ensures nodes { IfOk result (λ caller. nodes_of caller ≡ nodes_of self.now) }
+        ensures nodes { IfOk result (λ caller. nodes_of caller ≡ nodes_at hub.now.value) }
         ensures address { OnOk result (address.new ≡ record address.old { lines = address.old.lines + 1 }) }
         ensures same { address.new.node ≡ address.old.node }
     {
-        Caller::new(&self.hub, &self.standing, address, slot, yields)
+        Caller::new(hub, &self.standing, address, slot, yields)
     }
 
     /// The node that it asks.
@@ -115,10 +127,24 @@ impl Caller {
         ensures node { name_of self.new ≡ name_of self.old }
         ensures nodes { nodes_of self.new ≡ nodes_of self.old }
         ensures stranger { knows (nodes_of self.old) event ≡ false → result ≡ Err NoSuchNode }
+        ensures known { IfErr result (λ fault. IsAskRefused fault (knows (nodes_of self.old) event)) }
     {
         if !knows_contact(self.hub.nodes(), &event) {
             return Err(SeatFault::NoSuchNode);
         }
+        known_outcome(self.ask_node(rt, event))
+    }
+
+    /// Asks the node for an event, whose contact is of the cluster.
+    fn ask_node<R: Wait + Clock>(
+        &mut self,
+        rt: &R,
+        event: Event,
+    ) -> Result<Option<Answer>, SeatFault>
+        ensures slot { slot_of self.new ≡ slot_of self.old }
+        ensures node { name_of self.new ≡ name_of self.old }
+        ensures nodes { nodes_of self.new ≡ nodes_of self.old }
+    {
         let number = self.next;
         let Some(next) = number.checked_add(1) else {
             return Err(SeatFault::Closed);

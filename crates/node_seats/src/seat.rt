@@ -1,10 +1,12 @@
 //! Seats: from each, one caller calls one node.
-ghost use Rattle.std.specs.Prelude.{◌≡◌, [], None, OnOk, OnErr, IfOk};
-ghost use Rattle.node_loop.specs.declared.Event.TheVariants.{Exit, Leave};
+ghost use Rattle.std.specs.Prelude.{◌≡◌, [], None, OnOk, OnErr, IfOk, IfErr};
+ghost use Rattle.node_loop.specs.Events.{knows_contact as knows};
+ghost use Rattle.node_loop.specs.declared.Event.TheVariants.{Exit, Leave, Call as Calls};
 ghost use Rattle.node_loop.specs.declared.WorldEvent.TheVariants.{At};
 ghost use Rattle.node_loop.specs.declared.Call.TheVariants.{Whereis};
 ghost use Rattle.node_seats.specs.Seats.{with_entry, Answered, owner_reply};
-ghost use Rattle.node_seats.specs.Callers.{name_of, slot_of};
+ghost use Rattle.node_seats.specs.Callers.{name_of, slot_of, nodes_of};
+ghost use Rattle.node_seats.specs.Faults.{IsAskRefused};
 
 use crate::caller::Caller;
 use crate::calls::copied_call;
@@ -17,7 +19,7 @@ use std::time::Clock;
 use term::{Name, NodeName, Pid};
 
 /// One caller's place at a node, with the transcript of what it was answered. It may go to another thread. Contracts see its
-/// number, its node and its transcript.
+/// number, its node, the nodes of its cluster, and its transcript.
 #[derive(Drop)]
 pub struct Seat {
     caller: Caller,
@@ -25,18 +27,20 @@ pub struct Seat {
 }
 
 impl Model for Seat {
-    ghost use Rattle.node_seats.specs.Callers.{name_of, slot_of};
+    ghost use Rattle.node_seats.specs.Callers.{name_of, slot_of, nodes_of};
     ghost use Rattle.node_seats.specs.Seats.{Sitting};
 
     ghost Value = { Sitting };
 
-    ghost view = { λ s. record { seat = slot_of s.caller; node = name_of s.caller; entries = s.entries.items } };
+    ghost view = { λ s. record { seat = slot_of s.caller; node = name_of s.caller; nodes = nodes_of s.caller; entries = s.entries.items } };
 }
 
 /// Asks for a call, and gives its answer.
 fn ask_call<R: Wait + Clock>(rt: &R, caller: &mut Caller, call: Call) -> Result<Answer, SeatFault>
     ensures slot { slot_of caller.new ≡ slot_of caller.old }
     ensures node { name_of caller.new ≡ name_of caller.old }
+    ensures nodes { nodes_of caller.new ≡ nodes_of caller.old }
+    ensures known { IfErr result (λ fault. IsAskRefused fault (knows (nodes_of caller.old) (Calls call))) }
 {
     match caller.ask(rt, Event::Call(call))? {
         Some(answer) => Ok(answer),
@@ -48,7 +52,7 @@ fn ask_call<R: Wait + Clock>(rt: &R, caller: &mut Caller, call: Call) -> Result<
 impl Seat {
     /// The seat of a caller, with an empty transcript.
     pub fn new(alloc: Global, caller: Caller) -> Self
-        ensures { result ≡ record { seat = slot_of caller; node = name_of caller; entries = [] } }
+        ensures { result ≡ record { seat = slot_of caller; node = name_of caller; nodes = nodes_of caller; entries = [] } }
     {
         Seat {
             caller,
@@ -84,6 +88,7 @@ impl Seat {
     pub fn call<R: Wait + Clock>(&mut self, rt: &R, call: Call) -> Result<Reply, SeatFault>
         ensures ok { IfOk result (λ reply. Answered call reply self.old self.new) }
         ensures err { OnErr result (self.new ≡ self.old) }
+        ensures known { IfErr result (λ fault. IsAskRefused fault (knows self.old.nodes (Calls call))) }
     {
         let event = self.event(Event::Call(copied_call(&call)?));
         self.entries.reserve(1)?;

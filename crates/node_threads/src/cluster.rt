@@ -1,5 +1,5 @@
 //! Clusters: the threads of all nodes, and the seats at them.
-ghost use Rattle.std.specs.Prelude.{◌≡◌, ◌+◌, ◌≤◌, ◌++◌, false, [], None, Err, map, IfOk, OnOk, IfErr, OnErr, IfSome};
+ghost use Rattle.std.specs.Prelude.{ℕ, ◌≡◌, ◌+◌, ◌≤◌, ◌++◌, false, [], None, Err, map, IfOk, OnOk, IfErr, OnErr, IfSome};
 ghost use Rattle.term.specs.NodeSets.{set_of};
 ghost use Rattle.link.specs.Held.{place};
 ghost use Rattle.protocol_model.specs.World.{opening_world};
@@ -37,7 +37,9 @@ pub struct Cluster<G: Gate + Drop, N: Names> {
 }
 
 impl<G: Gate + Drop, N: Names> Model for Cluster<G, N> {
-    ghost use Rattle.std.specs.Prelude.{◌≡◌, ◌≤◌, ◌++◌, None};
+    ghost use Rattle.std.specs.Prelude.{ℕ, ◌≡◌, ◌≤◌, ◌++◌, None};
+    ghost use Rattle.term.specs.NodeSets.{set_of};
+    ghost use Rattle.node_seats.specs.Callers.{nodes_at};
     ghost use Rattle.node_loop.specs.Starting.{start_refused};
     ghost use Rattle.node_threads.specs.Clusters.{Crewed};
 
@@ -46,7 +48,8 @@ impl<G: Gate + Drop, N: Names> Model for Cluster<G, N> {
     ghost view = { λ c. record { cluster = c.cluster.items; lone = c.lone.items; seats = c.seats } };
 
     ghost invariant = { λ c. (start_refused c.cluster.items c.lone.items ≡ None)
-        × (c.running.items ≡ c.cluster.items ++ c.lone.items) × (c.seats ≤ 64) };
+        × (c.running.items ≡ c.cluster.items ++ c.lone.items) × (c.seats ≤ 64)
+        × ((n : ℕ) → set_of (nodes_at c.shared.hub.value) n ≡ set_of (c.cluster.items ++ c.lone.items) n) };
 }
 
 /// The same nodes, in memory of their own.
@@ -196,7 +199,8 @@ where
     /// A new seat at a node, also at one that has left. Seats are numbered from 0 on as they are made. `NoSuchNode`: the node isn't of
     /// the cluster. `SeatsSpent`: 64 seats were made.
     pub fn seat(&mut self, node: &NodeName) -> Result<Seat, SeatFault>
-        ensures ok { IfOk result (λ seat. seat ≡ record { seat = self.old.seats; node = node.now; entries = [] }) }
+        ensures ok { IfOk result (λ seat. seat ≡ record { seat = self.old.seats; node = node.now; nodes = seat.nodes; entries = [] }) }
+        ensures cluster { IfOk result (λ seat. (n : ℕ) → set_of seat.nodes n ≡ set_of (nodes_in self.old) n) }
         ensures made { IfOk result (λ _. self.new.seats ≡ self.old.seats + 1) }
         ensures refused { IfErr result (λ fault. IsSeatRefused fault (set_of (nodes_in self.old) node.now) (self.old.seats)) }
         ensures unmade { OnErr result (self.new.seats ≡ self.old.seats) }
@@ -208,7 +212,7 @@ where
         if self.seats >= MOST_SEATS {
             return Err(SeatFault::SeatsSpent);
         }
-        let caller = self.running[place].caller(self.seats, self.shared.yields)?;
+        let caller = self.running[place].caller(&self.shared.hub, self.seats, self.shared.yields)?;
         self.seats += 1;
         Ok(Seat::new(self.alloc, caller))
     }

@@ -7,7 +7,7 @@ use crate::ruled_end::RuledEnd;
 use link::{Inbox, Post};
 use name_table::Names;
 use node_loop::{Event, Gate, Item, NodeEnd, NodeLoop};
-use node_seats::{Address, Caller, Host, SeatFault};
+use node_seats::{Address, Caller, Host, Hub, SeatFault};
 use std::alloc::{AllocError, Global};
 use std::marker::Model;
 use std::snapshot::Snapshot;
@@ -135,7 +135,7 @@ where
 
 impl<N: Names<Memory = Global> + Send + 'static> Running<N> {
     ghost use Rattle.std.specs.Prelude.{◌<◌};
-    ghost use Rattle.node_seats.specs.Callers.{name_of, slot_of};
+    ghost use Rattle.node_seats.specs.Callers.{name_of, slot_of, nodes_of, nodes_at};
 
     /// Starts the thread of a node. What it works with is the node's.
     pub(crate) fn start<G, R>(
@@ -165,14 +165,20 @@ impl<N: Names<Memory = Global> + Send + 'static> Running<N> {
         self.address.node()
     }
 
-    /// A caller of it, which finds its replies in this slot.
-    pub(crate) fn caller(&mut self, slot: u32, yields: u32) -> Result<Caller, AllocError>
+    /// A caller of it, which finds its replies in this slot of this hub.
+    pub(crate) fn caller(
+        &mut self,
+        hub: &Arc<Hub, Global>,
+        slot: u32,
+        yields: u32,
+    ) -> Result<Caller, AllocError>
         requires { slot < 72 }
         ensures slot { IfOk result (λ caller. slot_of caller ≡ slot) }
         ensures asks { IfOk result (λ caller. name_of caller ≡ self.old) }
+        ensures nodes { IfOk result (λ caller. nodes_of caller ≡ nodes_at hub.now.value) }
         ensures node { self.new ≡ self.old }
     {
-        self.caller.another(&mut self.address, slot, yields)
+        self.caller.another(hub, &mut self.address, slot, yields)
     }
 
     /// Asks the node to leave, in the name of the cluster, and waits until it has.

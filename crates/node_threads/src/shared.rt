@@ -1,4 +1,6 @@
 //! What the threads of a cluster have in common.
+ghost use Rattle.std.specs.Prelude.{◌≡◌, IfOk};
+ghost use Rattle.node_seats.specs.Callers.{nodes_at};
 
 use node_loop::Gate;
 use node_seats::Hub;
@@ -22,7 +24,9 @@ impl<G: Gate + Drop> Shared<G> {
         nodes: &NodeSet,
         gate: G,
         yields: u32,
-    ) -> Result<Self, AllocError> {
+    ) -> Result<Self, AllocError>
+        ensures { IfOk result (λ shared. nodes_at shared.hub.value ≡ nodes.now) }
+    {
         let gate = Arc::new(alloc, gate)?;
         let hub = Arc::new(alloc, Hub::new(alloc, nodes)?)?;
         Ok(Shared { gate, hub, yields })
