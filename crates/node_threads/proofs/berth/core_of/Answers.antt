@@ -1,4 +1,4 @@
-use Rattle.std.proofs.Common.{ℕ, Bool, ap, ◌∙◌}
+use Rattle.std.proofs.Common.{ℕ, ap, ◌∙◌}
 use Rattle.term.specs.NodeSets.{set_of}
 use Rattle.node_threads.proofs.Opening.{own}
 use Rattle.node_threads.proofs.berth.core_of.Goals as goal

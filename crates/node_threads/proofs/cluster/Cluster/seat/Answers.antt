@@ -1,4 +1,4 @@
-use Rattle.std.proofs.Common.{ap, sym, ◌∙◌, arith, rules}
+use Rattle.std.proofs.Common.{ap, ◌∙◌, arith, rules}
 use Rattle.term.specs.NodeSets.{set_of}
 use Rattle.node_seats.specs.declared.fault.SeatFault.TheVariants.{Memory}
 use Rattle.node_seats.specs.Faults.{IsSeatRefused}
