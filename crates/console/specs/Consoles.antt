@@ -3,7 +3,7 @@ use Rattle.std.specs.Prelude.{ℕ, Bool, true, false, ◌≡◌, ◌≤◌, ◌+
 use Rattle.std.specs.List.{concat}
 use Rattle.std.specs.Io.KnownBytes.{Appends}
 use Rattle.command_lines.specs.declared.Reply.{Reply}
-use Rattle.node_threads.specs.declared.fault.SeatFault.{SeatFault}
+use Rattle.node_seats.specs.declared.fault.SeatFault.{SeatFault}
 use Rattle.command_lines.specs.declared.faults.LineFault.{LineFault}
 use Rattle.command_lines.specs.Printing.{error_line, word_of}
 use Rattle.text_lines.specs.Lines.{LosesLines, LosesInto, HasNoLine, HasNoFeed, IsWithinLine, GoesPast, count_of_all, most_lines}

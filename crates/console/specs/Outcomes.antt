@@ -2,8 +2,8 @@
 use Rattle.std.specs.Prelude.{ℕ, codes, List, Result, Ok, Err}
 use Rattle.command_lines.specs.NodeEventsSeen.{reply_of}
 use Rattle.command_lines.specs.declared.Reply.{Reply}
-use Rattle.node_threads.specs.declared.fault.SeatFault.{SeatFault}
-use Rattle.node_threads.specs.declared.fault.SeatFault.TheVariants.{NoSuchNode, NodeLeft, Closed, SeatsSpent, Step, Memory}
+use Rattle.node_seats.specs.declared.fault.SeatFault.{SeatFault}
+use Rattle.node_seats.specs.declared.fault.SeatFault.TheVariants.{NoSuchNode, NodeLeft, Closed, SeatsSpent, Step, Memory}
 use Rattle.command_lines.specs.Printing.{ended, error_line, reply_text, step_word}
 
 -- the word for which a seat refuses what it is asked

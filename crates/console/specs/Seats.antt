@@ -3,10 +3,10 @@ use Rattle.std.specs.Prelude.{◌≡◌, None, Result, Ok, Err}
 use Rattle.command_lines.specs.declared.Call.TheVariants as call
 use Rattle.command_lines.specs.declared.Reply.{Reply}
 use Rattle.command_lines.specs.declared.Reply.TheVariants as reply
-use Rattle.node_threads.specs.declared.Transcript.{Transcript}
+use Rattle.node_seats.specs.declared.Transcript.{Transcript}
 use Rattle.command_lines.specs.declared.Event.TheVariants as event
-use Rattle.node_threads.specs.declared.fault.SeatFault.{SeatFault}
-use Rattle.node_threads.specs.Seats.{Sitting, Answered, with_entry}
+use Rattle.node_seats.specs.declared.fault.SeatFault.{SeatFault}
+use Rattle.node_seats.specs.Seats.{Sitting, Answered, with_entry}
 use Rattle.console.specs.declared.orders.Order.{Order}
 use Rattle.console.specs.declared.orders.Order.TheVariants.{Call, Whereis, Exit, Leave}
 

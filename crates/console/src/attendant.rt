@@ -1,12 +1,12 @@
 //! Who answers what lines ask.
 ghost use Rattle.std.specs.Prelude.{Result};
 ghost use Rattle.command_lines.specs.declared.Reply.{Reply as AnyReply};
-ghost use Rattle.node_threads.specs.declared.fault.SeatFault.{SeatFault as AnyFault};
+ghost use Rattle.node_seats.specs.declared.fault.SeatFault.{SeatFault as AnyFault};
 ghost use Rattle.console.specs.declared.orders.Order.{Order as AnyOrder};
 
 use crate::orders::Order;
 use command_lines::Reply;
-use node_threads::SeatFault;
+use node_seats::SeatFault;
 use term::NodeName;
 
 /// Who answers what lines ask: a seat, or whatever stands for one.

@@ -11,7 +11,7 @@ use crate::answering::say;
 use crate::faults::{ConsoleFault, GreetFault};
 use crate::outcomes::seat_line;
 use command_lines::text_of;
-use node_threads::SeatFault;
+use node_seats::SeatFault;
 use std::alloc::{AllocError, Global};
 use std::io::{BufReader, Read, Write};
 use term::{NodeName, NodeSet, parse_node};

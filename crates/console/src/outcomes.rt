@@ -4,7 +4,7 @@ ghost use Rattle.command_lines.specs.Printing.{error_line};
 ghost use Rattle.console.specs.Outcomes.{outcome_text, seat_word};
 
 use command_lines::{Answer, Reply, answer_line, step_line};
-use node_threads::SeatFault;
+use node_seats::SeatFault;
 use std::alloc::{AllocError, Global};
 use term::NodeName;
 

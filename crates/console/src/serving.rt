@@ -1,7 +1,7 @@
 //! Consoles at seats.
 ghost use Rattle.std.specs.Prelude.{MatchResult};
 ghost use Rattle.std.specs.Io.Buffered.{reader_remaining};
-ghost use Rattle.node_threads.specs.Seats.{Sitting};
+ghost use Rattle.node_seats.specs.Seats.{Sitting};
 ghost use Rattle.console.specs.Consoles.{Serves, Stops};
 ghost use Rattle.console.specs.Seats.{SeatAnswers, IsTranscript};
 ghost use Rattle.console.specs.declared.orders.Order.TheVariants.{Whereis};
@@ -11,7 +11,7 @@ use crate::attendant::Attendant;
 use crate::faults::ConsoleFault;
 use crate::orders::Order;
 use command_lines::Reply;
-use node_threads::{Seat, SeatFault, Transcript};
+use node_seats::{Seat, SeatFault, Transcript};
 use std::alloc::Global;
 use std::io::{BufReader, Read, Write};
 use std::sync::Wait;

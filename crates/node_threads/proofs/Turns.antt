@@ -1,5 +1,5 @@
 -- A turn is one of its node.
-use Rattle.std.proofs.Common.{◌≡◌, ◌-◌, ◌⊎◌, inl, inr, ⊎_elim, ℕ, Bool, true, false, Option, None, List, refl, ap, ◌∙◌, MatchBool}
+use Rattle.std.proofs.Common.{◌≡◌, ◌-◌, ◌⊎◌, inl, inr, ℕ, Bool, true, false, Option, None, List, ap, ◌∙◌, MatchBool}
 use Rattle.link.specs.declared.faults.LinkFault.{LinkFault}
 use Rattle.node_loop.specs.declared.Answer.{Answer}
 use Rattle.node_loop.specs.declared.Event.{Event}
@@ -8,13 +8,12 @@ use Rattle.node_loop.specs.Events.{is_leave, knows_contact}
 use Rattle.node_loop.specs.NodeCoreHeld.{Held}
 use Rattle.node_loop.specs.declared.item.Item.{Item}
 use Rattle.node_loop.specs.declared.item.Item.TheVariants as item
-use Rattle.node_loop.specs.declared.item.Stamped.{Stamped}
 use Rattle.node_loop.specs.declared.item.Ticket.{Ticket}
 use Rattle.node_loop.specs.declared.replies.TaskFault.{TaskFault}
 use Rattle.node_loop.specs.Desks.{Kept, left_by}
 use Rattle.node_loop.specs.Held.{Looping, is_due, is_free_to_leave, can_step}
 use Rattle.node_loop.specs.Steps.{Cause, by_event, by_letter, desk_of, Makes, Ends, Goes}
-use Rattle.node_loop.specs.Items.{Reads, Refuses, WaitsToLeave, Asks, Accepts, Handles, by_leave, Departs, Leaves, Then, Hears, Works, Idles}
+use Rattle.node_loop.specs.Items.{Refuses, WaitsToLeave, Asks, Accepts, Handles, by_leave, Departs, Leaves, Then, Hears, Idles}
 use Rattle.node_loop.specs.Turned.{Took, Missed, Turned}
 
 -- the log is the same node's

@@ -1,11 +1,9 @@
 pub use Rattle.node_loop.specs.Openings
-pub mod Lines
+pub use Rattle.node_seats.specs.Lines
+pub use Rattle.node_seats.specs.Faults
+pub use Rattle.node_seats.specs.Seats
+pub use Rattle.node_seats.specs.Holders
 pub mod Traffics
 pub mod Ends
-pub mod Addresses
-pub mod Faults
-pub mod Callers
-pub mod Seats
-pub mod Holders
 pub mod Closing
 pub mod Clusters

@@ -3,7 +3,7 @@ use Rattle.std.specs.Prelude.{ℕ, Bool, true, false, ◌≡◌, [], ◌∷◌, 
 use Rattle.link.specs.declared.faults.LinkFault.{LinkFault}
 use Rattle.link.specs.declared.faults.LinkFault.TheVariants.{NoSuchNode, Full}
 use Rattle.node_threads.specs.declared.ruled_end.Traffic.{Traffic}
-use Rattle.node_threads.specs.Lines.{has, with_parcel_to}
+use Rattle.node_seats.specs.Lines.{has, with_parcel_to}
 
 -- why an item is handed back: no line leads to the node, or its inbox is full or its thread has ended
 abbrev pub IsUnsent : LinkFault → Bool → Type 0

@@ -2,19 +2,13 @@
 ghost use Rattle.std.specs.Prelude.{◌≡◌, true};
 ghost use Rattle.term.specs.NodeSets.{set_of};
 
-use crate::address::{Address, Opened, open_inbox};
-use crate::bell::Rest;
-use crate::caller::Caller;
-use crate::hub::MOST_SEATS;
-use crate::line::Line;
-use crate::parcel::Parcel;
 use crate::ruled_end::RuledEnd;
 use crate::running::{Running, Work};
 use crate::shared::Shared;
-use crate::standing::Standing;
 use link::Mailbox;
 use name_table::Names;
 use node_loop::{Gate, Item, NodeLoop, Opening};
+use node_seats::{Address, Caller, Host, Line, Opened, Parcel, open_node};
 use std::alloc::{AllocError, Global};
 use std::marker::Model;
 use std::sync::{Arc, Wait};
@@ -30,11 +24,10 @@ pub(crate) struct Berth<G: Gate + Drop, N: Names> {
     /// Asks the node in the name of the cluster.
     caller: Caller,
     mailbox: Mailbox<Parcel<Item>>,
-    rest: Rest,
+    host: Host,
     /// To all nodes.
     lines: Vec<Line<Item>>,
-    shared: Shared<G>,
-    standing: Arc<Standing, Global>,
+    gate: Arc<G, Global>,
     node: NodeLoop<N>,
 }
 
@@ -51,7 +44,7 @@ impl<G: Gate + Drop, N: Names> Model for Berth<G, N> {
 impl<G: Gate + Drop, N: Names<Memory = Global>> Berth<G, N> {
     ghost use Rattle.std.specs.Prelude.{◌≡◌, ◌<◌, true, IfOk};
 
-    /// Opens the inbox of a node, the one at this place among the cluster's, and makes what its thread is to work with, but for the
+    /// Opens a node, the one at this place among the cluster's, and makes what its thread is to work with, but for the
     /// lines.
     pub(crate) fn open(
         alloc: Global,
@@ -65,29 +58,21 @@ impl<G: Gate + Drop, N: Names<Memory = Global>> Berth<G, N> {
         ensures { IfOk result (λ berth. berth ≡ node.now) }
     {
         // What is large comes last: the check follows each way out with all that was made before it.
-        let shared = shared.another()?;
-        let standing = Arc::new(alloc, Standing::new())?;
+        let gate = Arc::try_clone(&shared.gate)?;
         let Opened {
-            mut address,
+            address,
+            caller,
             mailbox,
-            rest,
-        } = open_inbox(alloc, node.copy(), shared.yields)?;
-        let caller = Caller::new(
-            &shared.hub,
-            &standing,
-            &mut address,
-            MOST_SEATS + place,
-            shared.yields,
-        )?;
+            host,
+        } = open_node(alloc, &shared.hub, node.copy(), place, shared.yields)?;
         let node = NodeLoop::new(alloc, opening.core(alloc, node))?;
         Ok(Berth {
             address,
             caller,
             mailbox,
-            rest,
+            host,
             lines: Vec::new(alloc),
-            shared,
-            standing,
+            gate,
             node,
         })
     }
@@ -119,19 +104,17 @@ impl<G: Gate + Drop, N: Names<Memory = Global>> Berth<G, N> {
             address,
             caller,
             mailbox,
-            rest,
+            host,
             lines,
-            shared,
-            standing,
+            gate,
             node,
         } = self;
         let end = RuledEnd::new(*rt, address.node().copy(), lines, mailbox);
         let work = Work {
             node,
             end,
-            rest,
-            shared,
-            standing,
+            gate,
+            host,
         };
         Running::start(rt, address, caller, work)
     }

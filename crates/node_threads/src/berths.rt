@@ -5,10 +5,10 @@ ghost use Rattle.term.specs.NodeSets.{set_of};
 ghost use Rattle.node_loop.specs.Openings.{start_refused, IsOpening};
 
 use crate::berth::Berth;
-use crate::line::Line;
 use crate::shared::Shared;
 use name_table::Names;
 use node_loop::{Gate, Item, Opening};
+use node_seats::Line;
 use std::alloc::{AllocError, Global};
 use term::NodeName;
 

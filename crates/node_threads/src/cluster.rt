@@ -1,21 +1,19 @@
 //! Clusters: the threads of all nodes, and the seats at them.
-ghost use Rattle.std.specs.Prelude.{◌≡◌, ◌+◌, ◌≤◌, ◌++◌, false, [], None, Err, map, IfOk, OnOk, IfErr, OnErr, IfSome};
+ghost use Rattle.std.specs.Prelude.{ℕ, ◌≡◌, ◌+◌, ◌≤◌, ◌++◌, false, [], None, Err, map, IfOk, OnOk, IfErr, OnErr, IfSome};
 ghost use Rattle.term.specs.NodeSets.{set_of};
 ghost use Rattle.link.specs.Held.{place};
 ghost use Rattle.node_loop.specs.Openings.{start_refused, start_fault_of, IsOpening};
-ghost use Rattle.node_threads.specs.declared.fault.SeatFault.TheVariants.{NoSuchNode};
-ghost use Rattle.node_threads.specs.Faults.{IsSeatRefused};
+ghost use Rattle.node_seats.specs.declared.fault.SeatFault.TheVariants.{NoSuchNode};
+ghost use Rattle.node_seats.specs.Faults.{IsSeatRefused};
 ghost use Rattle.node_threads.specs.Closing.{end_of, CloseIs};
 
 use crate::berth::Berth;
 use crate::berths::berths_of;
-use crate::fault::SeatFault;
-use crate::hub::{Hub, MOST_SEATS};
 use crate::running::Running;
-use crate::seat::Seat;
 use crate::shared::Shared;
 use name_table::Names;
 use node_loop::{Gate, NodeEnd, Opening, StartFault, Transcript};
+use node_seats::{MOST_SEATS, Seat, SeatFault};
 use replay::{CloseFault, Closed, replay};
 use std::alloc::{AllocError, Global};
 use std::marker::Model;
@@ -37,7 +35,9 @@ pub struct Cluster<G: Gate + Drop, N: Names> {
 }
 
 impl<G: Gate + Drop, N: Names> Model for Cluster<G, N> {
-    ghost use Rattle.std.specs.Prelude.{◌≡◌, ◌≤◌, ◌++◌, None};
+    ghost use Rattle.std.specs.Prelude.{ℕ, ◌≡◌, ◌≤◌, ◌++◌, None};
+    ghost use Rattle.term.specs.NodeSets.{set_of};
+    ghost use Rattle.node_seats.specs.Callers.{nodes_at};
     ghost use Rattle.node_loop.specs.Openings.{start_refused};
     ghost use Rattle.node_threads.specs.Clusters.{Crewed};
 
@@ -46,7 +46,8 @@ impl<G: Gate + Drop, N: Names> Model for Cluster<G, N> {
     ghost view = { λ c. record { cluster = c.cluster.items; lone = c.lone.items; seats = c.seats } };
 
     ghost invariant = { λ c. (start_refused c.cluster.items c.lone.items ≡ None)
-        × (c.running.items ≡ c.cluster.items ++ c.lone.items) × (c.seats ≤ 64) };
+        × (c.running.items ≡ c.cluster.items ++ c.lone.items) × (c.seats ≤ 64)
+        × ((n : ℕ) → set_of (nodes_at c.shared.hub.value) n ≡ set_of (c.cluster.items ++ c.lone.items) n) };
 }
 
 /// The same nodes, in memory of their own.
@@ -89,7 +90,6 @@ where
 fn launch_all<G, N, R>(
     rt: &R,
     alloc: Global,
-    hub: &Hub,
     berths: Vec<Berth<G, N>>,
 ) -> Result<Vec<Running<N>>, AllocError>
 where
@@ -102,27 +102,21 @@ where
     match launch_each(rt, berths, &mut running) {
         Ok(()) => Ok(running),
         Err(fault) => {
-            end_all(rt, alloc, hub, running);
+            end_all(rt, alloc, running);
             Err(fault)
         }
     }
 }
 
 /// Asks these threads to end, and waits until all have. Gives what they left behind, where there is memory for it.
-fn end_all<N, R>(
-    rt: &R,
-    alloc: Global,
-    hub: &Hub,
-    running: Vec<Running<N>>,
-) -> Option<Vec<NodeEnd<N>>>
+fn end_all<N, R>(rt: &R, alloc: Global, running: Vec<Running<N>>) -> Option<Vec<NodeEnd<N>>>
 where
     N: Names<Memory = Global> + Send + 'static,
     R: Threads,
     ensures { IfSome result (λ ends. map end_of ends.items ≡ running.items) }
 {
-    hub.close();
     for one in &running {
-        one.ring();
+        one.stop();
     }
     let mut ends = Vec::new(alloc);
     let mut whole = true;
@@ -190,7 +184,7 @@ where
         let joined = copied(alloc, cluster)?;
         let others = copied(alloc, lone)?;
         let berths = berths_of(alloc, &shared, opening, cluster, lone)?;
-        let running = launch_all(rt, alloc, &shared.hub, berths)?;
+        let running = launch_all(rt, alloc, berths)?;
         Ok(Cluster {
             alloc,
             shared,
@@ -204,7 +198,8 @@ where
     /// A new seat at a node, also at one that has left. Seats are numbered from 0 on as they are made. `NoSuchNode`: the node isn't of
     /// the cluster. `SeatsSpent`: 64 seats were made.
     pub fn seat(&mut self, node: &NodeName) -> Result<Seat, SeatFault>
-        ensures ok { IfOk result (λ seat. seat ≡ record { seat = self.old.seats; node = node.now; entries = [] }) }
+        ensures ok { IfOk result (λ seat. seat ≡ record { seat = self.old.seats; node = node.now; nodes = seat.nodes; entries = [] }) }
+        ensures cluster { IfOk result (λ seat. (n : ℕ) → set_of seat.nodes n ≡ set_of (nodes_in self.old) n) }
         ensures made { IfOk result (λ _. self.new.seats ≡ self.old.seats + 1) }
         ensures refused { IfErr result (λ fault. IsSeatRefused fault (set_of (nodes_in self.old) node.now) (self.old.seats)) }
         ensures unmade { OnErr result (self.new.seats ≡ self.old.seats) }
@@ -216,7 +211,7 @@ where
         if self.seats >= MOST_SEATS {
             return Err(SeatFault::SeatsSpent);
         }
-        let caller = self.running[place].caller(self.seats, self.shared.yields)?;
+        let caller = self.running[place].caller(&self.shared.hub, self.seats, self.shared.yields)?;
         self.seats += 1;
         Ok(Seat::new(self.alloc, caller))
     }
@@ -246,13 +241,13 @@ where
     {
         let Cluster {
             alloc,
-            shared,
+            shared: _shared,
             cluster,
             lone,
             running,
             seats: _seats,
         } = self;
-        let Some(ends) = end_all(rt, alloc, &shared.hub, running) else {
+        let Some(ends) = end_all(rt, alloc, running) else {
             return Err(CloseFault::Memory);
         };
         replay(

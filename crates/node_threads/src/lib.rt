@@ -24,32 +24,18 @@
 //! ```
 #![tactic(auto)]
 
-mod address;
-mod bell;
 mod berth;
 mod berths;
-mod caller;
-mod calls;
 mod cluster;
-mod fault;
-mod holder;
-mod hub;
-mod line;
-mod parcel;
 mod ruled_end;
 mod running;
-mod seat;
 mod shared;
-mod standing;
 
 pub use cluster::Cluster;
-pub use fault::SeatFault;
-pub use holder::HolderSeat;
-pub use line::Line;
-pub use node_loop::{
-    Call, Gate, NameList, Nodes, OpenGate, Reply, Retries, StartFault, StepFault, Transcript,
+pub use node_loop::{Gate, OpenGate, StartFault};
+pub use node_seats::{
+    Call, HolderSeat, Line, NameList, Nodes, Parcel, Reply, Retries, Seat, SeatFault, StepFault,
+    Transcript,
 };
-pub use parcel::Parcel;
 pub use replay::{CloseFault, Closed};
 pub use ruled_end::{RuledEnd, Traffic};
-pub use seat::Seat;

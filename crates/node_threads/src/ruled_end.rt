@@ -1,11 +1,10 @@
 //! A node's end of the lines between threads.
 ghost use Rattle.std.specs.Prelude.{◌≡◌};
 ghost use Rattle.link.specs.Mailboxes.{taken};
-ghost use Rattle.node_threads.specs.Lines.{place};
+ghost use Rattle.node_seats.specs.Lines.{place};
 
-use crate::line::Line;
-use crate::parcel::Parcel;
 use link::{Inbox, LinkFault, Mailbox, Post, Station, Unsent};
+use node_seats::{Line, Parcel};
 use std::collections::LinkedList;
 use std::sync::Wait;
 use term::NodeName;

@@ -3,17 +3,11 @@ ghost use denote.Param.Send.{IsSend, IsSync};
 ghost use Rattle.std.specs.Prelude.{◌≡◌, IfOk, OnOk};
 ghost use Rattle.node_threads.specs.Closing.{end_of};
 
-use crate::address::Address;
-use crate::bell::Rest;
-use crate::caller::Caller;
-use crate::fault::SeatFault;
-use crate::hub::Hub;
 use crate::ruled_end::RuledEnd;
-use crate::shared::Shared;
-use crate::standing::Standing;
 use link::{Inbox, Post};
 use name_table::Names;
 use node_loop::{Event, Gate, Item, NodeEnd, NodeLoop};
+use node_seats::{Address, Caller, Host, Hub, SeatFault};
 use std::alloc::{AllocError, Global};
 use std::marker::Model;
 use std::snapshot::Snapshot;
@@ -57,21 +51,8 @@ impl<N: Names> Model for Running<N> {
 pub(crate) struct Work<G: Gate + Drop, N: Names, R: Wait + Drop> {
     pub(crate) node: NodeLoop<N>,
     pub(crate) end: RuledEnd<R, Item>,
-    pub(crate) rest: Rest,
-    pub(crate) shared: Shared<G>,
-    pub(crate) standing: Arc<Standing, Global>,
-}
-
-/// Hands out what the node answers.
-fn hand_out<N: Names<Memory = Global>, R: Wait>(rt: &R, hub: &Hub, node: &mut NodeLoop<N>)
-    ensures { node.new.log.node ≡ node.old.log.node }
-{
-    for _ in rt.forever() {
-        let Some(reply) = node.next_reply() else {
-            return;
-        };
-        hub.lay(rt, reply);
-    }
+    pub(crate) gate: Arc<G, Global>,
+    pub(crate) host: Host,
 }
 
 /// One turn of a node is its own.
@@ -85,39 +66,28 @@ fn turn<E: Post<Item> + Inbox<Item>, G: Gate, N: Names<Memory = Global>>(
     node.turn(end, gate)
 }
 
-/// The node takes one turn after another, until it is asked to end or can't go on. Replies are handed out behind each turn. Where a
-/// turn did nothing the thread rests, and naps shortly where the node has something to try again. Says whether it ends without a
-/// leave and without being asked to.
+/// The node takes one turn after another, until it is asked to end or can't go on. Replies are handed out behind each turn, and
+/// where one did nothing the thread rests.
 fn turns<E: Post<Item> + Inbox<Item>, G: Gate, N: Names<Memory = Global>, R: Wait + Clock>(
     rt: &R,
     node: &mut NodeLoop<N>,
     end: &mut E,
-    rest: &mut Rest,
     gate: &G,
-    hub: &Hub,
-    standing: &Standing,
-) -> bool
+    host: &mut Host,
+)
     ensures { node.new.log.node ≡ node.old.log.node }
 {
     for _ in rt.forever() {
-        if hub.is_closing() {
-            return false;
+        if host.is_closing() {
+            return;
         }
         let goes_on = turn(node, end, gate);
-        hand_out(rt, hub, node);
-        if node.has_left() {
-            standing.leave();
-        }
+        host.hand_out(rt, node);
         if !goes_on {
-            return !node.has_left() && !hub.is_closing();
+            return;
         }
-        if node.worked() {
-            rest.worked();
-        } else {
-            rest.rest(rt, node.owes());
-        }
+        host.rest(rt, node);
     }
-    unreachable!()
 }
 
 /// A node's thread, from its first turn to its end.
@@ -130,15 +100,11 @@ fn run<G: Gate + Drop, N: Names<Memory = Global>, R: Wait + Clock + Drop>(
     let Work {
         mut node,
         mut end,
-        mut rest,
-        shared,
-        standing,
+        gate,
+        mut host,
     } = work;
-    let Shared { gate, hub, .. } = &shared;
-    let ended_alone = turns(rt, &mut node, &mut end, &mut rest, &**gate, hub, &standing);
-    standing.end();
-    hub.ring();
-    node.into_end(ended_alone)
+    turns(rt, &mut node, &mut end, &*gate, &mut host);
+    host.end(node)
 }
 
 /// Starts the thread of this node. What it works with is the node's.
@@ -169,7 +135,7 @@ where
 
 impl<N: Names<Memory = Global> + Send + 'static> Running<N> {
     ghost use Rattle.std.specs.Prelude.{◌<◌};
-    ghost use Rattle.node_threads.specs.Callers.{name_of, slot_of};
+    ghost use Rattle.node_seats.specs.Callers.{name_of, slot_of, nodes_of, nodes_at};
 
     /// Starts the thread of a node. What it works with is the node's.
     pub(crate) fn start<G, R>(
@@ -199,14 +165,20 @@ impl<N: Names<Memory = Global> + Send + 'static> Running<N> {
         self.address.node()
     }
 
-    /// A caller of it, which finds its replies in this slot.
-    pub(crate) fn caller(&mut self, slot: u32, yields: u32) -> Result<Caller, AllocError>
+    /// A caller of it, which finds its replies in this slot of this hub.
+    pub(crate) fn caller(
+        &mut self,
+        hub: &Arc<Hub, Global>,
+        slot: u32,
+        yields: u32,
+    ) -> Result<Caller, AllocError>
         requires { slot < 72 }
         ensures slot { IfOk result (λ caller. slot_of caller ≡ slot) }
         ensures asks { IfOk result (λ caller. name_of caller ≡ self.old) }
+        ensures nodes { IfOk result (λ caller. nodes_of caller ≡ nodes_at hub.now.value) }
         ensures node { self.new ≡ self.old }
     {
-        self.caller.another(&mut self.address, slot, yields)
+        self.caller.another(hub, &mut self.address, slot, yields)
     }
 
     /// Asks the node to leave, in the name of the cluster, and waits until it has.
@@ -217,9 +189,9 @@ impl<N: Names<Memory = Global> + Send + 'static> Running<N> {
         Ok(())
     }
 
-    /// Wakes its thread.
-    pub(crate) fn ring(&self) {
-        self.address.ring();
+    /// Asks the threads of the cluster to end, and wakes this one.
+    pub(crate) fn stop(&self) {
+        self.caller.stop();
     }
 
     /// Waits until its thread has ended, and gives what it left behind.

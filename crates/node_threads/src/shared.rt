@@ -1,7 +1,9 @@
 //! What the threads of a cluster have in common.
+ghost use Rattle.std.specs.Prelude.{◌≡◌, IfOk};
+ghost use Rattle.node_seats.specs.Callers.{nodes_at};
 
-use crate::hub::Hub;
 use node_loop::Gate;
+use node_seats::Hub;
 use std::alloc::{AllocError, Global};
 use std::sync::Arc;
 use term::NodeSet;
@@ -22,17 +24,11 @@ impl<G: Gate + Drop> Shared<G> {
         nodes: &NodeSet,
         gate: G,
         yields: u32,
-    ) -> Result<Self, AllocError> {
+    ) -> Result<Self, AllocError>
+        ensures { IfOk result (λ shared. nodes_at shared.hub.value ≡ nodes.now) }
+    {
         let gate = Arc::new(alloc, gate)?;
         let hub = Arc::new(alloc, Hub::new(alloc, nodes)?)?;
-        Ok(Shared { gate, hub, yields })
-    }
-
-    /// The same, for one thread more.
-    pub(crate) fn another(&self) -> Result<Self, AllocError> {
-        let gate = Arc::try_clone(&self.gate)?;
-        let hub = Arc::try_clone(&self.hub)?;
-        let yields = self.yields;
         Ok(Shared { gate, hub, yields })
     }
 }

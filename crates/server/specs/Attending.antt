@@ -2,7 +2,7 @@
 use Rattle.std.specs.Prelude.{ℕ, ◌≡◌, ◌⊎◌, List, [], Option, Some, None}
 use Rattle.node_threads.specs.declared.Transcript.{Transcript}
 use Rattle.node_threads.specs.Seats.{Sitting}
-use Rattle.node_threads.specs.declared.fault.SeatFault.{SeatFault}
+use Rattle.node_threads.specs.declared.SeatFault.{SeatFault}
 use Rattle.console.specs.Printing.{error_line}
 use Rattle.text_lines.specs.Writing.{AppendsPart}
 use Rattle.console.specs.Consoles.{Serves, Stops}

@@ -1,16 +1,20 @@
 use Rattle.std.proofs.Common.{◌≡◌, ◌++◌, List, ℕ, sym, ap, ◌∙◌, arith}
+use Rattle.term.specs.NodeSets.{set_of}
 use Rattle.node_loop.specs.Openings.{start_refused}
 use Rattle.node_threads.proofs.cluster.Cluster.opened.Goals as goal
 
 pub invariant_of-result : goal.invariant_of-result
 invariant_of-result g c =
     let a : c.in_ok-joined.joined.items ≡ c.args.cluster.now = c.in_ok-joined.ensures in
-    let b : c.in_ok-others.others.items ≡ c.args.lone.now = c.in_ok-others.ensures in (
+    let b : c.in_ok-others.others.items ≡ c.args.lone.now = c.in_ok-others.ensures in
+    let both : c.in_ok-joined.joined.items ++ c.in_ok-others.others.items ≡ c.args.cluster.now ++ c.args.lone.now =
+    ap (λ (l : List ℕ). l ++ c.in_ok-others.others.items) a ∙ ap (λ (l : List ℕ). c.args.cluster.now ++ l) b in (
       ap (λ (l : List ℕ). start_refused l c.in_ok-others.others.items) a
           ∙ ap (start_refused c.args.cluster.now) b ∙ c.requires.lists,
-      c.in_ok-running.ensures ∙ c.in_ok-berths.ensures
-          ∙ sym (ap (λ (l : List ℕ). l ++ c.in_ok-others.others.items) a ∙ ap (λ (l : List ℕ). c.args.cluster.now ++ l) b),
+      c.in_ok-running.ensures ∙ c.in_ok-berths.ensures ∙ sym both,
       omega arith,
+      λ n. ap (λ (ns : List ℕ). set_of ns n) (c.in_ok-shared.ensures ∙ c.nodes.ensures.nodes) ∙ c.requires.opens.nodes n
+          ∙ ap (λ (ns : List ℕ). set_of ns n) (sym both),
     )
 
 pub returns-clause-cluster : goal.returns-clause-cluster

@@ -1,0 +1,28 @@
+-- Why a seat isn't made, or what it asks isn't done.
+use Rattle.std.specs.Prelude.{ℕ, Bool, true, false, ◌≡◌, ◌<◌}
+use Rattle.node_loop.specs.declared.replies.TaskFault.{TaskFault}
+use Rattle.node_loop.specs.declared.replies.TaskFault.TheVariants as of_task
+use Rattle.node_seats.specs.declared.fault.SeatFault.{SeatFault}
+use Rattle.node_seats.specs.declared.fault.SeatFault.TheVariants.{NoSuchNode, NodeLeft, SeatsSpent, Step, Memory}
+
+-- the node's refusal, as the seat answers it
+abbrev pub fault_by : TaskFault → SeatFault
+fault_by of_task.NoSuchNode = NoSuchNode
+fault_by of_task.NodeLeft = NodeLeft
+fault_by (of_task.Step fault) = Step fault
+
+-- why it isn't done what is asked: a contact is called a stranger only where it isn't known
+abbrev pub IsAskRefused : SeatFault → Bool → Type 0
+IsAskRefused NoSuchNode known = known ≡ false
+IsAskRefused _ known = Unit {0}
+
+-- how many seats a cluster makes
+abbrev pub most_seats : ℕ
+most_seats = 64
+
+-- why a seat isn't made: whether the cluster has the node, and how many seats it made before
+abbrev pub IsSeatRefused : SeatFault → Bool → ℕ → Type 0
+IsSeatRefused NoSuchNode known made = known ≡ false
+IsSeatRefused SeatsSpent known made = (known ≡ true) × (made ≡ most_seats)
+IsSeatRefused Memory known made = (known ≡ true) × (made < most_seats)
+IsSeatRefused _ known made = ⊥

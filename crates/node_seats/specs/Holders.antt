@@ -1,0 +1,65 @@
+-- The seat of a lock holder, as its transcript has its lock calls.
+use Rattle.std.specs.Prelude.{Bool, true, false, ◌≡◌, Option, Some, None, List, [], ◌∷◌, ◌++◌, Result, Ok, Err, if◌then◌else◌}
+use Rattle.registry_model.specs.Process.{Process, is_process}
+use Rattle.registry_model.specs.Call.{Reply as AnyReply, True}
+use Rattle.node_loop.specs.declared.Answer.{Answer}
+use Rattle.node_loop.specs.declared.Call.{Call}
+use Rattle.node_loop.specs.declared.Call.TheVariants.{SetLock, DelLock}
+use Rattle.node_loop.specs.NodeEventsSeen.{reply_of}
+use Rattle.node_loop.specs.declared.Event.TheVariants.{Call as Calls}
+use Rattle.node_loop.specs.declared.WorldEvent.{WorldEvent}
+use Rattle.node_loop.specs.declared.WorldEvent.TheVariants.{At}
+use Rattle.node_loop.specs.declared.SeatEntry.{SeatEntry}
+use Rattle.transaction.specs.declared.reply.LockReply.{LockReply}
+use Rattle.transaction.specs.declared.reply.LockReply.TheVariants.{Set, Deleted}
+use Rattle.node_seats.specs.declared.holder.HolderSeat.{HolderSeat}
+use Rattle.node_seats.specs.Seats.{Sitting, with_entry}
+
+-- the lock is granted by this reply
+abbrev pub grants : AnyReply → Bool
+grants True = true
+grants _ = false
+
+-- the reply that an answered event is to this holder, if it is a lock call of it
+abbrev pub lock_reply : Process → WorldEvent → Answer → List LockReply
+lock_reply me (At a (Calls (SetLock holder id nodes retries))) answer =
+    if is_process holder me then Set id (grants (reply_of answer.reply)) ∷ [] else []
+lock_reply me (At a (Calls (DelLock holder id nodes))) answer = if is_process holder me then Deleted id ∷ [] else []
+lock_reply me _ answer = []
+
+abbrev pub lock_reply_in : Process → WorldEvent → Option Answer → List LockReply
+lock_reply_in me event None = []
+lock_reply_in me event (Some answer) = lock_reply me event answer
+
+-- the replies to the holder's lock calls in a transcript
+abbrev pub lock_replies : Process → List SeatEntry → List LockReply
+lock_replies me [] = []
+lock_replies me (e ∷ es) = lock_reply_in me e.event e.answer ++ lock_replies me es
+
+-- a lock call was answered: it stands last in the transcript
+abbrev pub Grants : Call → Bool → Sitting → Sitting → Type 0
+Grants call granted s t = (answer : Answer) × (grants (reply_of answer.reply) ≡ granted) × (t ≡ with_entry (Calls call) (Some answer) s)
+
+-- what a `set_lock` comes to
+abbrev pub SetsLock : {E : Type 0} → Call → Result Bool E → Sitting → Sitting → Type 0
+SetsLock call (Ok granted) s t = Grants call granted s t
+SetsLock call (Err fault) s t = t ≡ s
+
+-- what a `del_lock` comes to
+abbrev pub DeletesLock : {E : Type 0} → Call → Result Unit E → Sitting → Sitting → Type 0
+DeletesLock call (Ok _) s t = (granted : Bool) × Grants call granted s t
+DeletesLock call (Err fault) s t = t ≡ s
+
+-- whose seat it is
+abbrev pub holder_of : {R : Type 0} → HolderSeat R → Process
+holder_of s = s.holder
+
+-- the replies to its lock calls so far
+abbrev pub replies_of : {R : Type 0} → HolderSeat R → List LockReply
+replies_of s = lock_replies s.holder s.seat.now.entries
+
+-- behind a call it is the same holder's over the same seat, with these replies more
+pub record Grows {R : Type 0} (s t : HolderSeat R) (more : List LockReply) : Type 0 where
+  pub replies : replies_of t ≡ replies_of s ++ more
+  pub holder : holder_of t ≡ holder_of s
+  pub same_seat : t.seat.ghost_name ≡ s.seat.ghost_name

@@ -1,0 +1,253 @@
+//! How a thread asks a node's thread.
+ghost use Rattle.std.specs.Prelude.{◌≡◌, ◌<◌, ◌+◌, true, false, IfOk, OnOk, IfErr, IfSome, Err};
+ghost use Rattle.node_loop.specs.Events.{knows_contact as knows};
+ghost use Rattle.node_seats.specs.Callers.{name_of, slot_of, nodes_of, nodes_at};
+ghost use Rattle.node_seats.specs.declared.fault.SeatFault.TheVariants.{NoSuchNode};
+ghost use Rattle.node_seats.specs.Faults.{IsAskRefused};
+
+use crate::address::Address;
+use crate::bell::Rest;
+use crate::fault::SeatFault;
+use crate::hub::Hub;
+use crate::line::Line;
+use crate::standing::Standing;
+use node_loop::{Answer, Event, Item, Task, TaskFault, TaskReply, Ticket};
+use std::alloc::{AllocError, Global};
+use std::sync::{Arc, Wait};
+use std::time::Clock;
+use term::NodeName;
+
+/// Asks the thread of one node, one event after another, and waits for each reply. Contracts see the node, the slot of its replies,
+/// and the nodes of the cluster.
+#[derive(Drop)]
+pub struct Caller {
+    /// The slot of its replies.
+    slot: u32,
+    node: NodeName,
+    line: Line<Item>,
+    /// The number of its next event.
+    next: u64,
+    hub: Arc<Hub, Global>,
+    standing: Arc<Standing, Global>,
+    rest: Rest,
+}
+
+/// What a reply says, if it is to this ticket.
+fn outcome_for(reply: TaskReply, ticket: Ticket) -> Option<Result<Option<Answer>, TaskFault>>
+    ensures to { IfSome result (λ _. reply.ticket ≡ ticket) }
+    ensures outcome { IfSome result (λ outcome. outcome ≡ reply.outcome) }
+{
+    if reply.ticket.seat != ticket.seat || reply.ticket.number != ticket.number {
+        return None;
+    }
+    Some(reply.outcome)
+}
+
+/// What a caller is told of an event whose contact is of the cluster. Its node has the same nodes, and calls none of them a stranger.
+fn known_outcome(outcome: Result<Option<Answer>, SeatFault>) -> Result<Option<Answer>, SeatFault>
+    ensures { IfErr result (λ fault. IsAskRefused fault true) }
+{
+    match outcome {
+        Err(SeatFault::NoSuchNode) => Err(SeatFault::Closed),
+        told => told,
+    }
+}
+
+impl Caller {
+    /// One that asks the node of this address, which stands so, and finds its replies in this slot.
+    pub(crate) fn new(
+        hub: &Arc<Hub, Global>,
+        standing: &Arc<Standing, Global>,
+        address: &mut Address<Item>,
+        slot: u32,
+        yields: u32,
+    ) -> Result<Self, AllocError>
+        requires { slot < 72 }
+        ensures slot { IfOk result (λ caller. slot_of caller ≡ slot) }
+        ensures node { IfOk result (λ caller. name_of caller ≡ address.old.node) }
+        ensures nodes { IfOk result (λ caller. nodes_of caller ≡ nodes_at hub.now.value) }
+        ensures address { OnOk result (address.new ≡ record address.old { lines = address.old.lines + 1 }) }
+        ensures same { address.new.node ≡ address.old.node }
+    {
+        let rest = hub.rest(slot, yields)?;
+        let hub = Arc::try_clone(hub)?;
+        let standing = Arc::try_clone(standing)?;
+        let line = address.line()?;
+        Ok(Caller {
+            slot,
+            node: line.receiver().copy(),
+            line,
+            next: 0,
+            hub,
+            standing,
+            rest,
+        })
+    }
+
+    /// One more that asks the same node, and finds its replies in this slot of this hub.
+    pub fn another(
+        &self,
+        hub: &Arc<Hub, Global>,
+        address: &mut Address<Item>,
+        slot: u32,
+        yields: u32,
+    ) -> Result<Self, AllocError>
+        requires { slot < 72 }
+        ensures slot { IfOk result (λ caller. slot_of caller ≡ slot) }
+        ensures node { IfOk result (λ caller. name_of caller ≡ address.old.node) }
+        ensures nodes { IfOk result (λ caller. nodes_of caller ≡ nodes_at hub.now.value) }
+        ensures address { OnOk result (address.new ≡ record address.old { lines = address.old.lines + 1 }) }
+        ensures same { address.new.node ≡ address.old.node }
+    {
+        Caller::new(hub, &self.standing, address, slot, yields)
+    }
+
+    /// The node that it asks.
+    pub(crate) fn node(&self) -> &NodeName
+        ensures { result.now ≡ name_of self.now }
+    {
+        &self.node
+    }
+
+    /// The slot of its replies.
+    pub(crate) fn slot(&self) -> u32
+        ensures { result ≡ slot_of self.now }
+    {
+        self.slot
+    }
+
+    /// Asks for an event, waits until the node has taken it, or refused it, and gives what was answered. A contact that isn't of
+    /// the cluster is refused at once, also where the node has left.
+    pub fn ask<R: Wait + Clock>(
+        &mut self,
+        rt: &R,
+        event: Event,
+    ) -> Result<Option<Answer>, SeatFault>
+        ensures slot { slot_of self.new ≡ slot_of self.old }
+        ensures node { name_of self.new ≡ name_of self.old }
+        ensures nodes { nodes_of self.new ≡ nodes_of self.old }
+        ensures stranger { knows (nodes_of self.old) event ≡ false → result ≡ Err NoSuchNode }
+        ensures known { IfErr result (λ fault. IsAskRefused fault (knows (nodes_of self.old) event)) }
+    {
+        if !event.knows_contact(self.hub.nodes()) {
+            return Err(SeatFault::NoSuchNode);
+        }
+        known_outcome(self.ask_node(rt, event))
+    }
+
+    /// Asks the node for an event, whose contact is of the cluster.
+    fn ask_node<R: Wait + Clock>(
+        &mut self,
+        rt: &R,
+        event: Event,
+    ) -> Result<Option<Answer>, SeatFault>
+        ensures slot { slot_of self.new ≡ slot_of self.old }
+        ensures node { name_of self.new ≡ name_of self.old }
+        ensures nodes { nodes_of self.new ≡ nodes_of self.old }
+    {
+        let number = self.next;
+        let Some(next) = number.checked_add(1) else {
+            return Err(SeatFault::Closed);
+        };
+        self.next = next;
+        let ticket = Ticket {
+            seat: self.slot,
+            number,
+        };
+        let task = Task {
+            ticket: Some(ticket),
+            event,
+        };
+        self.send(rt, Item::Task(task))?;
+        self.outcome(rt, ticket)
+    }
+
+    /// Asks all threads of the cluster to end, and wakes this node's and all callers.
+    pub fn stop(&self) {
+        self.hub.close();
+        self.line.ring();
+    }
+
+    /// Why no reply comes any more, if none does.
+    fn end(&self) -> Option<SeatFault> {
+        if self.standing.has_ended() {
+            Some(if self.standing.has_left() {
+                SeatFault::NodeLeft
+            } else {
+                SeatFault::Closed
+            })
+        } else if self.hub.is_closing() {
+            Some(SeatFault::Closed)
+        } else {
+            None
+        }
+    }
+
+    /// Sends an item, or hands it back where there is no room for it yet.
+    fn offer<R: Wait>(&mut self, rt: &R, item: Item) -> Result<Option<Item>, SeatFault>
+        ensures slot { slot_of self.new ≡ slot_of self.old }
+        ensures node { name_of self.new ≡ name_of self.old }
+        ensures nodes { nodes_of self.new ≡ nodes_of self.old }
+    {
+        match self.line.send(rt, &self.node, item) {
+            Ok(()) => Ok(None),
+            Err(unsent) => match self.end() {
+                Some(fault) => Err(fault),
+                None => Ok(Some(unsent.letter)),
+            },
+        }
+    }
+
+    /// Sends an item as soon as there is room for it.
+    fn send<R: Wait + Clock>(&mut self, rt: &R, item: Item) -> Result<(), SeatFault>
+        ensures slot { slot_of self.new ≡ slot_of self.old }
+        ensures node { name_of self.new ≡ name_of self.old }
+        ensures nodes { nodes_of self.new ≡ nodes_of self.old }
+    {
+        self.rest.worked();
+        let mut waiting = item;
+        for _ in rt.forever() {
+            match self.offer(rt, waiting)? {
+                Some(item) => waiting = item,
+                None => return Ok(()),
+            }
+            self.rest.rest(rt, true);
+        }
+        unreachable!()
+    }
+
+    /// What came of a ticket, if that is known. Replies to others, which this caller has given up, are dropped.
+    fn find<R: Wait>(&self, rt: &R, ticket: Ticket) -> Result<Option<Option<Answer>>, SeatFault> {
+        // This comes first: a reply that was laid down before the thread ended is then found.
+        let end = self.end();
+        let outcome = match self.hub.take(rt, self.slot) {
+            Some(reply) => outcome_for(reply, ticket),
+            None => None,
+        };
+        match (outcome, end) {
+            (Some(outcome), _) => Ok(Some(outcome?)),
+            (None, Some(fault)) => Err(fault),
+            (None, None) => Ok(None),
+        }
+    }
+
+    /// Waits for what comes of a ticket.
+    fn outcome<R: Wait + Clock>(
+        &mut self,
+        rt: &R,
+        ticket: Ticket,
+    ) -> Result<Option<Answer>, SeatFault>
+        ensures slot { slot_of self.new ≡ slot_of self.old }
+        ensures node { name_of self.new ≡ name_of self.old }
+        ensures nodes { nodes_of self.new ≡ nodes_of self.old }
+    {
+        self.rest.worked();
+        for _ in rt.forever() {
+            if let Some(answer) = self.find(rt, ticket)? {
+                return Ok(answer);
+            }
+            self.rest.rest(rt, false);
+        }
+        unreachable!()
+    }
+}

@@ -1,0 +1,52 @@
+//! Why a seat isn't made, or what it asks isn't done.
+ghost use Rattle.std.specs.Prelude.{◌≡◌};
+ghost use Rattle.node_seats.specs.Faults.{fault_by};
+
+use node_loop::{StepFault, TaskFault};
+use std::alloc::AllocError;
+use thiserror::Error;
+
+/// Why a seat isn't made, or what it asks isn't done.
+#[derive(Debug, PartialEq, Eq, Error, Drop)]
+pub enum SeatFault {
+    /// The node, or the contact of a join, isn't of this cluster.
+    #[error("no_such_node")]
+    NoSuchNode,
+    /// The node has left.
+    #[error("node_left")]
+    NodeLeft,
+    /// The node's thread ended without a leave, the cluster was closed, or the numbers of the seat's calls are spent.
+    #[error("closed")]
+    Closed,
+    /// The cluster has made all its seats, which are 64.
+    #[error("seats_spent")]
+    SeatsSpent,
+    /// The node refused the event.
+    #[error("{0}")]
+    Step(StepFault),
+    /// Memory was refused: before anything was asked, or for the copy of a reply that is a list of names.
+    #[error("memory")]
+    Memory,
+}
+
+impl From<TaskFault> for SeatFault {
+    ghost from_gives = { λ cause fault. fault ≡ fault_by cause };
+
+    fn from(fault: TaskFault) -> SeatFault {
+        match fault {
+            TaskFault::NoSuchNode => SeatFault::NoSuchNode,
+            TaskFault::NodeLeft => SeatFault::NodeLeft,
+            TaskFault::Step(fault) => SeatFault::Step(fault),
+        }
+    }
+}
+
+impl From<AllocError> for SeatFault {
+    ghost use Rattle.node_seats.specs.declared.fault.SeatFault.{SeatFault};
+
+    ghost from_gives = { λ _ fault. fault ≡ SeatFault.Memory };
+
+    fn from(_: AllocError) -> SeatFault {
+        SeatFault::Memory
+    }
+}

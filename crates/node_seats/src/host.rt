@@ -1,0 +1,86 @@
+//! What a node's thread has of the node's seats.
+ghost use Rattle.std.specs.Prelude.{◌≡◌, [], true, false};
+
+use crate::bell::Rest;
+use crate::hub::Hub;
+use crate::standing::Standing;
+use name_table::Names;
+use node_loop::{NodeEnd, NodeLoop};
+use std::alloc::Global;
+use std::marker::Model;
+use std::sync::{Arc, Wait};
+use std::time::Clock;
+
+/// By what a node's thread answers those who ask it, tells them how it stands, and sleeps. Contracts see how often it yields at
+/// most before it sleeps.
+#[derive(Drop)]
+pub struct Host {
+    hub: Arc<Hub, Global>,
+    standing: Arc<Standing, Global>,
+    rest: Rest,
+}
+
+impl Model for Host {
+    ghost use Rattle.std.specs.Prelude.{ℕ};
+
+    ghost Value = { ℕ };
+
+    ghost view = { λ h. h.rest.yields };
+}
+
+impl Host {
+    /// The host of a node that stands so, whose thread rests so.
+    pub(crate) fn new(hub: Arc<Hub, Global>, standing: Arc<Standing, Global>, rest: Rest) -> Self
+        ensures { result ≡ rest.yields }
+    {
+        Host {
+            hub,
+            standing,
+            rest,
+        }
+    }
+
+    /// Whether all threads are asked to end. Once they are, they stay so.
+    pub fn is_closing(&self) -> bool {
+        self.hub.is_closing()
+    }
+
+    /// Call it behind each turn of the node: lays its replies down for their callers, and tells them where it has left.
+    pub fn hand_out<N: Names<Memory = Global>, R: Wait>(&self, rt: &R, node: &mut NodeLoop<N>)
+        ensures { node.new ≡ record node.old { desk = record node.old.desk { replies = [] } } }
+    {
+        for _ in rt.forever() {
+            let Some(reply) = node.next_reply() else {
+                break;
+            };
+            self.hub.lay(rt, reply);
+        }
+        if node.has_left() {
+            self.standing.leave();
+        }
+    }
+
+    /// Rests where the last turn of the node did nothing, shortly where it has something to try again. It may return for no reason.
+    pub fn rest<N: Names<Memory = Global>, R: Wait + Clock>(&mut self, rt: &R, node: &NodeLoop<N>)
+        ensures { self.new ≡ self.old }
+    {
+        if node.worked() {
+            self.rest.worked();
+        } else {
+            self.rest.rest(rt, node.owes());
+        }
+    }
+
+    /// Call it behind the last turn: tells the callers that no reply comes any more, and gives what the thread gives back. It ended
+    /// alone where the node hasn't left and the thread wasn't asked to end.
+    pub fn end<N: Names<Memory = Global>>(self, node: NodeLoop<N>) -> NodeEnd<N>
+        ensures log { result.log ≡ node.log }
+        ensures table { N.contents result.table ≡ node.core.table }
+        ensures ended_alone { node.left ≡ true → result.ended_alone ≡ false }
+    {
+        let ended_alone = !node.has_left() && !self.hub.is_closing();
+        self.standing.end();
+        self.hub.ring();
+        node.into_end(ended_alone)
+    }
+}

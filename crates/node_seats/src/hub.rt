@@ -1,0 +1,111 @@
+//! What the threads of a cluster share with its seats: its nodes, the replies, and whether the cluster is being closed.
+ghost use Rattle.std.specs.Prelude.{◌≡◌, ◌<◌, vec_len, IfOk};
+
+use crate::bell::{Bell, Rest};
+use node_loop::TaskReply;
+use std::alloc::{AllocError, Global};
+use std::sync::atomic::{AtomicBool, Ordering};
+use std::sync::{Mutex, Wait};
+use term::NodeSet;
+
+/// How many seats a cluster makes.
+pub const MOST_SEATS: u32 = 64;
+
+/// How many slots for replies there are: one for each seat, and behind those one for the cluster's own calls at each node.
+const SLOTS: u32 = 72;
+
+/// Where the reply to one caller is laid. A caller has one call at a time, so one reply has room; and to lay one takes no memory,
+/// so none is ever lost.
+#[derive(Drop)]
+struct Slot {
+    reply: Mutex<Option<TaskReply>>,
+    bell: Bell,
+}
+
+/// The nodes of a cluster, the slots of all callers, and whether it is being closed.
+#[derive(Drop)]
+pub struct Hub {
+    nodes: NodeSet,
+    closing: AtomicBool,
+    slots: Vec<Slot>,
+    ghost all: { vec_len slots ≡ 72 },
+}
+
+impl Slot {
+    /// One without a reply.
+    fn new(alloc: Global) -> Result<Self, AllocError> {
+        let bell = Bell::new(alloc)?;
+        let reply = Mutex::new(None);
+        Ok(Slot { reply, bell })
+    }
+
+    /// Lays a reply down, and wakes the caller.
+    fn lay<R: Wait>(&self, rt: &R, reply: TaskReply) {
+        *self.reply.lock(rt) = Some(reply);
+        self.bell.ring();
+    }
+}
+
+impl Hub {
+    ghost use Rattle.node_seats.specs.Callers.{nodes_at};
+
+    /// Slots without a reply, for a cluster of these nodes.
+    pub fn new(alloc: Global, nodes: &NodeSet) -> Result<Self, AllocError>
+        ensures { IfOk result (λ hub. nodes_at hub ≡ nodes.now) }
+    {
+        let mut slots = Vec::new(alloc);
+        for _ in 0..SLOTS {
+            slots.push(Slot::new(alloc)?)?;
+        }
+        Ok(Hub {
+            nodes: nodes.copy(),
+            closing: AtomicBool::new(false),
+            slots,
+        })
+    }
+
+    /// The nodes of the cluster.
+    pub(crate) fn nodes(&self) -> &NodeSet
+        ensures { result.now ≡ nodes_at self.now }
+    {
+        &self.nodes
+    }
+
+    /// The rest of the caller with this slot, which its replies end.
+    pub(crate) fn rest(&self, slot: u32, yields: u32) -> Result<Rest, AllocError>
+        requires { slot < 72 }
+    {
+        self.slots[slot as usize].bell.rest(yields)
+    }
+
+    /// Lays a reply down for its caller, and wakes it. A reply that still lies there is one to a call that its caller has given up.
+    pub(crate) fn lay<R: Wait>(&self, rt: &R, reply: TaskReply) {
+        if let Some(slot) = self.slots.get(reply.ticket.seat as usize) {
+            slot.lay(rt, reply);
+        }
+    }
+
+    /// Takes the reply up that lies there for a caller, if one does.
+    pub(crate) fn take<R: Wait>(&self, rt: &R, caller: u32) -> Option<TaskReply> {
+        let slot = self.slots.get(caller as usize)?;
+        slot.reply.lock(rt).take()
+    }
+
+    /// Wakes all callers.
+    pub(crate) fn ring(&self) {
+        for slot in &self.slots {
+            slot.bell.ring();
+        }
+    }
+
+    /// Asks all threads to end, and tells the callers. Ring the threads' bells then.
+    pub(crate) fn close(&self) {
+        self.closing.store(true, Ordering::SeqCst);
+        self.ring();
+    }
+
+    /// Whether all threads are asked to end.
+    pub(crate) fn is_closing(&self) -> bool {
+        self.closing.load(Ordering::SeqCst)
+    }
+}

@@ -1,0 +1,31 @@
+//! Seats: from where other threads call a node, and what the node's thread answers them by.
+//!
+//! Whoever starts the thread of a node opens it first: its seats are made by the caller that comes with that, and its thread gets
+//! the host. Each seat asks the thread by a line into the node's inbox, and finds its replies in a slot of the hub.
+#![tactic(auto)]
+
+mod address;
+mod bell;
+mod caller;
+mod calls;
+mod fault;
+mod holder;
+mod host;
+mod hub;
+mod line;
+mod opened;
+mod parcel;
+mod seat;
+mod standing;
+
+pub use address::Address;
+pub use caller::Caller;
+pub use fault::SeatFault;
+pub use holder::HolderSeat;
+pub use host::Host;
+pub use hub::{Hub, MOST_SEATS};
+pub use line::Line;
+pub use node_loop::{Call, NameList, Nodes, Reply, Retries, StepFault, Transcript};
+pub use opened::{Opened, open_node};
+pub use parcel::Parcel;
+pub use seat::Seat;

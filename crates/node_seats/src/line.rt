@@ -1,0 +1,77 @@
+//! Ways into the inbox of a node.
+ghost use Rattle.std.specs.Prelude.{◌≡◌, [], ◌∷◌, ◌++◌, OnOk, OnErr, IfErr};
+ghost use Rattle.link.specs.declared.faults.LinkFault.TheVariants.{Full};
+ghost use Rattle.link.specs.Mailboxes.{put, number_of};
+ghost use Rattle.node_seats.specs.Lines.{with_parcel};
+
+use crate::bell::Bell;
+use crate::parcel::Parcel;
+use link::{LinkFault, Port, Unsent};
+use std::marker::Model;
+use std::sync::Wait;
+use term::NodeName;
+
+/// One sender's way into the inbox of a node, with a bell of that node's thread.
+#[derive(Drop)]
+pub struct Line<L: Drop> {
+    receiver: NodeName,
+    port: Port<Parcel<L>>,
+    bell: Bell,
+}
+
+impl<L: Drop> Model for Line<L> {
+    ghost use Rattle.link.specs.Mailboxes.{put, number_of};
+    ghost use Rattle.node_seats.specs.Lines.{Sent};
+
+    ghost Value = { Sent L };
+
+    ghost view = { λ l. record { receiver = l.receiver; number = number_of l.port; parcels = put l.port } };
+}
+
+impl<L: Drop> Line<L> {
+    /// A line to this node, by a port of its inbox.
+    pub(crate) fn new(receiver: NodeName, port: Port<Parcel<L>>, bell: Bell) -> Self
+        ensures { result ≡ record { receiver = receiver; number = number_of port; parcels = put port } }
+    {
+        Line {
+            receiver,
+            port,
+            bell,
+        }
+    }
+
+    /// The node that it leads to.
+    pub fn receiver(&self) -> &NodeName
+        ensures { result.now ≡ self.now.receiver }
+    {
+        &self.receiver
+    }
+
+    /// Wakes the receiver.
+    pub(crate) fn ring(&self) {
+        self.bell.ring();
+    }
+
+    /// Puts an item into the inbox, in the name of this node, and wakes the receiver. Or hands it back: where there is no room,
+    /// or the receiver's thread has ended.
+    pub fn send<R: Wait>(&mut self, rt: &R, node: &NodeName, item: L) -> Result<(), Unsent<L>>
+        ensures ok { OnOk result (self.new ≡ with_parcel node.now item self.old) }
+        ensures unchanged { OnErr result (self.new ≡ self.old) }
+        ensures err { IfErr result (λ unsent. unsent ≡ record { fault = Full; letter = item }) }
+    {
+        let parcel = Parcel {
+            node: node.copy(),
+            number: self.port.number(),
+            item,
+        };
+        let sent = self.port.send(rt, parcel);
+        self.bell.ring();
+        match sent {
+            Ok(()) => Ok(()),
+            Err(unsent) => Err(Unsent {
+                fault: LinkFault::Full,
+                letter: unsent.letter.item,
+            }),
+        }
+    }
+}

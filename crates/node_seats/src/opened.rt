@@ -1,0 +1,64 @@
+//! Nodes that were opened: what their seats and their threads are made from.
+ghost use Rattle.std.specs.Prelude.{◌≡◌, ◌<◌, ◌+◌, [], IfOk};
+ghost use Rattle.link.specs.Mailboxes.{taken};
+ghost use Rattle.node_seats.specs.Callers.{name_of, slot_of, nodes_of, nodes_at};
+
+use crate::address::{Address, Entrance, open_inbox};
+use crate::caller::Caller;
+use crate::host::Host;
+use crate::hub::{Hub, MOST_SEATS};
+use crate::parcel::Parcel;
+use crate::standing::Standing;
+use link::Mailbox;
+use node_loop::Item;
+use std::alloc::{AllocError, Global};
+use std::sync::Arc;
+use term::NodeName;
+
+/// A node whose thread is yet to start.
+#[derive(Drop)]
+pub struct Opened {
+    /// Where it is reached.
+    pub address: Address<Item>,
+    /// Asks it in the name of its cluster.
+    pub caller: Caller,
+    /// Its inbox.
+    pub mailbox: Mailbox<Parcel<Item>>,
+    /// Its thread's side.
+    pub host: Host,
+}
+
+/// Opens a node, the one at this place among its cluster's. Its thread, and its cluster's caller, yield so often at most before they
+/// sleep.
+pub fn open_node(
+    alloc: Global,
+    hub: &Arc<Hub, Global>,
+    node: NodeName,
+    place: u32,
+    yields: u32,
+) -> Result<Opened, AllocError>
+    requires { place < 8 }
+    ensures address { IfOk result (λ opened. opened.address ≡ record { node = node; lines = 1 }) }
+    ensures slot { IfOk result (λ opened. slot_of opened.caller ≡ 64 + place) }
+    ensures node { IfOk result (λ opened. name_of opened.caller ≡ node) }
+    ensures nodes { IfOk result (λ opened. nodes_of opened.caller ≡ nodes_at hub.now.value) }
+    ensures empty { IfOk result (λ opened. taken opened.mailbox ≡ []) }
+    ensures host { IfOk result (λ opened. opened.host ≡ yields) }
+{
+    // What is large comes last: the check follows each way out with all that was made before it.
+    let standing = Arc::new(alloc, Standing::new())?;
+    let own = Arc::try_clone(hub)?;
+    let Entrance {
+        mut address,
+        mailbox,
+        rest,
+    } = open_inbox(alloc, node, yields)?;
+    let caller = Caller::new(hub, &standing, &mut address, MOST_SEATS + place, yields)?;
+    let host = Host::new(own, standing, rest);
+    Ok(Opened {
+        address,
+        caller,
+        mailbox,
+        host,
+    })
+}
