@@ -1,20 +1,16 @@
 -- What a world is started with.
-use Rattle.std.proofs.Common.{ℕ, suc, Bool, true, false, ◌==◌, ◌≡◌, ◌<◌, ◌≤◌, ◌+◌, Some, None, List, [], ◌∷◌, ◌++◌, length, length-append, get_or, take, map, filter, refl, sym, ap, subst, ◌∙◌, arith, inl, inr}
-use Rattle.std.specs.Prelude.{if◌then◌else◌, ◌&&◌, ◌||◌, nat_lt, All, Result, Ok, Err, MatchResult, is_ok}
+use Rattle.std.proofs.Common.{ℕ, Bool, true, false, ◌==◌, ◌≡◌, Some, None, List, [], ◌∷◌, get_or, map, refl, sym, ap, subst, ◌∙◌, inl, inr}
+use Rattle.std.specs.Prelude.{if◌then◌else◌, ◌&&◌, ◌||◌, All}
 use Rattle.std.proofs.Math.Path.{fun_ext}
 use Rattle.std.proofs.lemmas.Bool.{cases_eq, eq-eqb, eqb-true, ne_eqb}
-use Rattle.std.proofs.lemmas.Bool.Decides.{nat_tests}
-use Rattle.std.proofs.lemmas.Grind.{take_at_read}
-use Rattle.std.proofs.lemmas.List.{map-append}
 use Rattle.std.proofs.lemmas.List.Elements.{All-nil, All-map}
-use Rattle.std.proofs.Math.Bool.{and-false, and-true, or-false}
+use Rattle.std.proofs.Math.Bool.{and-false, and-true}
 use Rattle.registry_model.specs.Process.{Nodes, nobody}
 use Rattle.registry_model.specs.Table.{without}
 use Rattle.protocol_model.specs.Links.{Links, no_letters}
 use Rattle.protocol_model.specs.Node.{Node, opening_node}
 use Rattle.protocol_model.specs.World.{in_world, in_cluster, opening_world}
-use Rattle.term.specs.NodeSets.{set_of, with_node, IsNodeSet}
-use Rattle.boss_order.proofs.Sets.{set_of-append, set_of-item}
+use Rattle.term.specs.NodeSets.{set_of, IsNodeSet}
 use Rattle.link.specs.Held.{Held as Mesh, seen as links_of}
 use Rattle.node_core.specs.declared.Letter.{Letter}
 use Rattle.node_core.specs.Held.{Held as Core, fresh, IsWithin}
@@ -31,12 +27,6 @@ use Rattle.cluster_world.specs.Seen.{node_with, seen}
 use Rattle.cluster_world.specs.Starting.{Opens}
 use Rattle.cluster_world.proofs.Listed.{world_is}
 use Rattle.cluster_world.proofs.Steps.{name_of}
-
--- one core more was made
-pub made : {X Y : Type 0} (f : X → Y) (xs : List X) (i : ℕ) (x : X) → i < length xs → x ≡ get_or xs i x
-    → map f (take i xs) ++ f x ∷ [] ≡ map f (take (i + 1) xs)
-made {X} {Y} f xs i x l is = ap (λ (y : X). map f (take i xs) ++ f y ∷ []) is
-    ∙ sym (ap (map f) (take_at_read xs i x l).1 ∙ map-append f (take i xs) (get_or xs i x ∷ []))
 
 module _ (nodes cluster : List ℕ) where
   opens_name : (a : ℕ) → (opening_core nodes cluster a).name ≡ a

@@ -1,8 +1,7 @@
 -- What is held, seen as the protocol's world.
-use Rattle.std.specs.Prelude.{ℕ, Bool, true, false, not, ◌&&◌, Option, Some, None, List, [], ◌∷◌, map, if◌then◌else◌}
+use Rattle.std.specs.Prelude.{ℕ, Bool, not, ◌&&◌, Option, Some, None, map}
 use Rattle.protocol_model.specs.Node.{Node, opening_node, holds_global}
 use Rattle.protocol_model.specs.World.{Opening, in_cluster, World}
-use Rattle.term.specs.NodeSets.{set_of}
 use Rattle.link.specs.Held.{Held as Mesh, seen as links_of}
 use Rattle.node_core.specs.declared.Letter.{Letter}
 use Rattle.node_core.specs.Held.{Held as Core}

@@ -79,9 +79,7 @@ fn no_answer(refusal: &Refusal) -> SeatFault
     ensures { result ≡ (if is_memory refusal.now then Refused out_of_memory else NoAnswer) }
 {
     match refusal {
-        Refusal::Step(StepFault::Memory) => {
-            SeatFault::Refused(Refusal::Step(StepFault::Memory))
-        }
+        Refusal::Step(StepFault::Memory) => { SeatFault::Refused(Refusal::Step(StepFault::Memory)) }
         _ => SeatFault::NoAnswer,
     }
 }

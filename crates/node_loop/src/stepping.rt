@@ -66,17 +66,13 @@ impl<N: Names<Memory = Global>> NodeLoop<N> {
     }
 
     /// A step of the core was made and logged: its answers are told and logged, and its letters are put into the tray.
-    fn conclude(
-        &mut self,
-        stamp: u64,
-        own: Option<Ticket>,
-        course: Course,
-        turn: Turn,
-    ) -> bool
+    fn conclude(&mut self, stamp: u64, own: Option<Ticket>, course: Course, turn: Turn) -> bool
         ensures { Concludes stamp own course turn self.old result self.new }
     {
         let Turn {
-            letters, answers, ..
+            letters,
+            answers,
+            ..
         } = turn;
         self.stamp = stamp;
         let told = self

@@ -1,5 +1,5 @@
 -- Why an event is refused: by the world, by its node, or by its link.
-use Rattle.std.specs.Prelude.{Bool, true, false, Option, Some, None}
+use Rattle.std.specs.Prelude.{Bool, false, Option, Some}
 use Rattle.protocol_model.specs.Event.{Refusal as AnyRefusal}
 use Rattle.link.specs.declared.faults.LinkFault.{LinkFault}
 use Rattle.link.specs.declared.faults.LinkFault.TheVariants as on_link

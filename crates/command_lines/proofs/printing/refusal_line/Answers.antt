@@ -1,4 +1,4 @@
-use Rattle.std.proofs.Common.{ℕ, List, refl, ap, sym, ◌∙◌}
+use Rattle.std.proofs.Common.{ap, sym, ◌∙◌}
 use Rattle.protocol_model.specs.Event as model
 use Rattle.world_events.specs.Refusals.{refusal_of, is_memory}
 use Rattle.command_lines.specs.Printing.{error_line}

@@ -1,15 +1,12 @@
-use Rattle.std.proofs.Common.{[], sym, subst, ◌∙◌, ℕ}
+use Rattle.std.proofs.Common.{[], sym, subst, ◌∙◌}
 use Rattle.std.proofs.lemmas.Result.{err_from_is_err_and, IfOk-weaker, IfErr-weaker}
 use Rattle.link.specs.Held.{Held as Mesh}
-use Rattle.node_core.specs.declared.Event.TheVariants.{FromPeer}
 use Rattle.node_core.specs.declared.Letter.{Letter}
-use Rattle.node_core.specs.Steps.{IsHeardWithin}
 use Rattle.world_events.specs.declared.refusal.Refusal.TheVariants.{NoSuchNode, NodeLeft}
 use Rattle.world_events.specs.declared.events.WorldEvent.TheVariants.{Deliver}
 use Rattle.cluster_world.specs.Held.{Held, IsWhole}
 use Rattle.world_events.specs.Refusals.{refusal_on}
 use Rattle.cluster_world.specs.Playing.{Played, RefusedWith}
-use Rattle.cluster_world.specs.Steps.{Moves, FailsAt}
 use Rattle.cluster_world.proofs.Plays.{refuses_stranger, refuses_left, refuses_on, off_whole, may_hear, plays_delivery, refuses_delivery, never_kept}
 use Rattle.cluster_world.proofs.world.World.deliver.Goals as goal
 
