@@ -12,17 +12,16 @@ use Rattle.command_lines.specs.Openings.{opening_with}
 use Rattle.cluster_world.specs.Seen.{opening_of, seen}
 use Rattle.command_lines.specs.Events.{event_of}
 use Rattle.command_lines.specs.Refusals.{refusal_of, is_memory}
-use Rattle.command_lines.specs.NodeEventsSeen.{answer_of, fault_of, is_memory as is_node_memory}
+use Rattle.command_lines.specs.NodeEventsSeen.{answer_of}
 use Rattle.command_lines.specs.declared.Refusal.{Refusal}
 use Rattle.command_lines.specs.declared.Refusal.TheVariants as refusal
-use Rattle.command_lines.specs.declared.StepFault.{StepFault}
-use Rattle.command_lines.specs.declared.StepFault.TheVariants as fault
 use Rattle.command_lines.specs.declared.Answer.{Answer}
 use Rattle.command_lines.specs.declared.WorldEvent.{WorldEvent}
 use Rattle.command_lines.specs.declared.Event.TheVariants as event
 use Rattle.command_lines.specs.declared.WorldEvent.TheVariants.{At, Deliver}
 use Rattle.command_lines.specs.declared.faults.LineFault.{LineFault}
 use Rattle.command_lines.specs.Printing.{answers_text, output_line, shown_text, error_line, word_of, refusal_word, is_fine, Shown, Shows}
+use Rattle.cluster_world.proofs.Faults.{not_memory as not_memory_of_node}
 use Rattle.cluster_script.specs.Script.{shown, settle_limit}
 use Rattle.cluster_script.specs.Played.{PlaysLine, okay_text, shown_on}
 
@@ -119,20 +118,6 @@ play-refused old new e r a b q n w = record {
 }
 
 -- a refusal that has a word isn't want of memory
-not_memory_of_node : (fault : StepFault) (any : AnyRefusal) → fault_of fault ≡ Some any → is_node_memory fault ≡ false
-not_memory_of_node (fault.NotLive p) any e = refl
-not_memory_of_node (fault.Busy p) any e = refl
-not_memory_of_node fault.Reserved any e = refl
-not_memory_of_node fault.UnknownNode any e = refl
-not_memory_of_node fault.AlreadyJoined any e = refl
-not_memory_of_node fault.NoSuchProcess any e = refl
-not_memory_of_node fault.AlreadyExited any e = refl
-not_memory_of_node fault.SerialsSpent any e = refl
-not_memory_of_node fault.NothingToRetry any e = refl
-not_memory_of_node fault.HoldsLock any e = refl
-not_memory_of_node fault.CallsSpent any e = refl
-not_memory_of_node fault.Memory any e = cc
-
 pub not_memory : (r : Refusal) (any : AnyRefusal) → refusal_of r ≡ Some any → is_memory r ≡ false
 not_memory refusal.NoSuchNode any e = refl
 not_memory refusal.NodeLeft any e = refl

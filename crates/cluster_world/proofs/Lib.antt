@@ -1,4 +1,5 @@
 pub use Rattle.node_core.proofs.Bounds
+pub use Rattle.world_events.proofs.Faults
 mod Mail
 mod Cores
 mod Waiting

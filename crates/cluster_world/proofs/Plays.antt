@@ -25,9 +25,7 @@ use Rattle.node_core.specs.declared.Letter.{Letter}
 use Rattle.node_core.specs.Held.{Held as Core, bound_of}
 use Rattle.node_core.specs.Letters.{letter_of}
 use Rattle.node_core.specs.Seen.{node_of}
-use Rattle.node_core.specs.declared.StepFault.{StepFault}
-use Rattle.node_core.specs.declared.StepFault.TheVariants.{NotLive, Busy, Reserved, UnknownNode, AlreadyJoined, NoSuchProcess, AlreadyExited, SerialsSpent, NothingToRetry, HoldsLock, CallsSpent, Memory}
-use Rattle.node_core.specs.NodeEventsSeen.{answer_of, fault_of}
+use Rattle.node_core.specs.NodeEventsSeen.{answer_of}
 use Rattle.node_core.specs.Steps.{IsTurn, IsSaidBy, IsAskedWithin, IsHeardWithin, refusal_of as node_refusal}
 use Rattle.world_events.specs.declared.events.Event.{Event}
 use Rattle.world_events.specs.declared.events.Event.TheVariants.{Call, Retry, Exit, Leave}
@@ -41,6 +39,7 @@ use Rattle.cluster_world.specs.Playing.{Played, RefusedWith}
 use Rattle.world_events.specs.Refusals.{refusal_on, is_memory, out_of_memory}
 use Rattle.cluster_world.specs.Seen.{opening_of, node_with, seen}
 use Rattle.cluster_world.specs.Steps.{Stands, Moves, FailsAt}
+use Rattle.world_events.proofs.Faults.{only_memory as only_memory_of_node}
 use Rattle.cluster_world.proofs.Mail.{mapped-taken, mapped-closed_out, fit_taken, fit_closed}
 use Rattle.cluster_world.proofs.Listed.{world_is, is_some-place}
 
@@ -281,21 +280,6 @@ module _ (h : Held) (whole : IsWhole h) (a : ℕ) where
         (fit_closed h.nodes a (links_of h.links) whole.fit);
   }
 
--- of the faults of a node, want of memory alone is no refusal of the protocol's
-unrefused : (fault : StepFault) → None ≡ fault_of fault → fault ≡ Memory
-unrefused (NotLive p) q = cc
-unrefused (Busy p) q = cc
-unrefused Reserved q = cc
-unrefused UnknownNode q = cc
-unrefused AlreadyJoined q = cc
-unrefused NoSuchProcess q = cc
-unrefused AlreadyExited q = cc
-unrefused SerialsSpent q = cc
-unrefused NothingToRetry q = cc
-unrefused HoldsLock q = cc
-unrefused CallsSpent q = cc
-unrefused Memory q = refl
-
 -- the front of a list
 front : (ls : List Letter) (l : Letter) → slice_get ls 0 ≡ Some l → ls ≡ l ∷ drop 1 ls
 front [] l e = cc
@@ -415,7 +399,7 @@ module _ (h : Held) (whole : IsWhole h) (f t : ℕ) where
       only_memory NoSuchNode F = cc (F, receiver)
       only_memory NodeLeft F = cc (F.1, up_still)
       only_memory EmptyLink F = absurd F
-      only_memory (Step fault) (c, S, q) = ap Step (unrefused fault q)
+      only_memory (Step fault) (c, S, q) = ap Step (only_memory_of_node fault (sym q))
 
       pub never_kept : (r : Refusal) → FailsAt r t (FromPeer f letter) off_link → is_memory r ≡ false → ⊥
       never_kept r F kept = let out : is_memory r ≡ true = ap is_memory (only_memory r F) in cc

@@ -6,9 +6,7 @@ use Rattle.protocol_model.specs.Event.{Answer as AnyAnswer, Refusal as AnyRefusa
 use Rattle.protocol_model.specs.World.{Opening, World, WorldEvent as AnyWorldEvent, refusal, happens, answers, run, all_answers}
 use Rattle.node_core.specs.declared.Answer.{Answer}
 use Rattle.node_core.specs.declared.Call.{Call}
-use Rattle.node_core.specs.declared.StepFault.{StepFault}
-use Rattle.node_core.specs.declared.StepFault.TheVariants.{NotLive, Busy, Reserved, UnknownNode, AlreadyJoined, NoSuchProcess, AlreadyExited, SerialsSpent, NothingToRetry, HoldsLock, CallsSpent, Memory}
-use Rattle.node_core.specs.NodeEventsSeen.{answer_of, call_of, fault_of, is_memory as node_memory}
+use Rattle.node_core.specs.NodeEventsSeen.{answer_of, call_of}
 use Rattle.world_events.specs.declared.refusal.Refusal.{Refusal}
 use Rattle.world_events.specs.declared.refusal.Refusal.TheVariants.{NoSuchNode, NodeLeft, EmptyLink, Step}
 use Rattle.world_events.specs.declared.events.Event.TheVariants.{Call as Calls}
@@ -23,6 +21,7 @@ use Rattle.world_events.specs.Refusals.{refusal_of, is_memory, out_of_memory}
 use Rattle.cluster_world.specs.Seats.{most_events, verdict_in, next_number, next_for, awaiting, until_answered, WentThrough, Waited, HasWaited, Called, SetsLock}
 use Rattle.cluster_world.specs.Seen.{opening_of, seen}
 use Rattle.cluster_world.specs.Agreeing.{Agrees}
+use Rattle.world_events.proofs.Faults.{has_cause}
 use Rattle.cluster_world.proofs.Agreeing.{same_opening, agrees}
 use Rattle.cluster_world.proofs.Locks.{locks_behind}
 use Rattle.cluster_world.proofs.Leftovers.{leaves_nothing}
@@ -124,21 +123,7 @@ refusal_there : (r : Refusal) → is_memory r ≡ false → (x : AnyRefusal) × 
 refusal_there NoSuchNode e = (_, refl)
 refusal_there NodeLeft e = (_, refl)
 refusal_there EmptyLink e = (_, refl)
-refusal_there (Step fault) e = fault_there fault e
-  where
-    fault_there : (fault : StepFault) → node_memory fault ≡ false → (x : AnyRefusal) × (fault_of fault ≡ Some x)
-    fault_there (NotLive p) e = (_, refl)
-    fault_there (Busy p) e = (_, refl)
-    fault_there Reserved e = (_, refl)
-    fault_there UnknownNode e = (_, refl)
-    fault_there AlreadyJoined e = (_, refl)
-    fault_there NoSuchProcess e = (_, refl)
-    fault_there AlreadyExited e = (_, refl)
-    fault_there SerialsSpent e = (_, refl)
-    fault_there NothingToRetry e = (_, refl)
-    fault_there HoldsLock e = (_, refl)
-    fault_there CallsSpent e = (_, refl)
-    fault_there Memory e = cc
+refusal_there (Step fault) e = has_cause fault e
 
 module _ (a k : ℕ) (old mid new : Held) (i : ℕ) (e : WorldEvent) (within : i < most_events)
     (waiting : IsWaiting a k old mid (most_events - i))

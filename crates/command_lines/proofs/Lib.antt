@@ -1,6 +1,5 @@
 pub mod Texts
 mod Counts
 mod Refused
-mod RefusalWords
 mod Targets
 mod Words

@@ -1,1 +1,2 @@
+pub use Rattle.world_events.proofs.Faults
 pub mod Answers
