@@ -72,7 +72,8 @@ impl Host {
     }
 
     /// Call it behind the last turn: tells the callers that no reply comes any more, and gives what the thread gives back. It ended
-    /// alone where the node hasn't left and the thread wasn't asked to end.
+    /// alone where the node hasn't left and the thread wasn't asked to end. Then the cluster is over, and all threads are asked to
+    /// end: what other nodes ask of this one is never answered.
     pub fn end<N: Names<Memory = Global>>(self, node: NodeLoop<N>) -> NodeEnd<N>
         ensures log { result.log ≡ node.log }
         ensures table { N.contents result.table ≡ node.core.table }
@@ -80,7 +81,11 @@ impl Host {
     {
         let ended_alone = !node.has_left() && !self.hub.is_closing();
         self.standing.end();
-        self.hub.ring();
+        if ended_alone {
+            self.hub.close();
+        } else {
+            self.hub.ring();
+        }
         node.into_end(ended_alone)
     }
 }
