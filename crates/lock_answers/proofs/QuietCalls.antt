@@ -20,7 +20,8 @@ use Rattle.protocol_model.specs.Client.{in_phase, new_call, try_lock, ask_lock, 
 use Rattle.protocol_model.specs.ClientLocks.{Holds}
 use Rattle.protocol_model.specs.Answers.{answer_to}
 use Rattle.protocol_model.specs.Leftovers.{world, Always, IsQuiet}
-use Rattle.protocol_model.specs.QuietCalls.{is_delivery, called_once, IsFree, Tells, QuietCallsAreTold, QuietCallsAreAnswered}
+use Rattle.protocol_model.specs.Fit.{is_delivery}
+use Rattle.protocol_model.specs.QuietCalls.{called_once, IsFree, Tells, QuietCallsAreTold, QuietCallsAreAnswered}
 use Rattle.protocol_model.specs.World.{Opening, in_world, World, left, WorldEvent, opening_world, turn_of, refusal, happens, answers, all_answers, run}
 use Rattle.protocol_model.proofs.Ids
 use Rattle.protocol_model.proofs.Ids.{is_id_self}

@@ -13,7 +13,7 @@ use Rattle.protocol_model.specs.Node.{Node, LockCall, call_of}
 use Rattle.protocol_model.specs.Event.{Answer, Refusal}
 use Rattle.protocol_model.specs.Turn.{Turn}
 use Rattle.protocol_model.specs.ClientLocks.{gives}
-use Rattle.protocol_model.specs.QuietCalls.{is_delivery}
+use Rattle.protocol_model.specs.Fit.{is_delivery}
 use Rattle.protocol_model.specs.World.{Opening, World, WorldEvent, At, Deliver, place, turn_of, refusal, accepted, happens, answers, all_answers, run}
 use Rattle.moves.proofs.Indices.{both}
 use Rattle.moves.proofs.Rules.{Taken}

@@ -200,14 +200,14 @@ pub record WaitsForRetry (o : Opening) (es : List WorldEvent) (w : World) (p : P
   pub more : AreUsedUp tries → ⊥
   pub retry : is_no_more w p ≡ false → (seen o w).refusal (At p.node Event.Retry) ≡ None
 
--- Who is refused and who is gone, which tries and numbers read of the world w, is as it is seen
+-- Who waits for a retry and who is no more, which tries and numbers read of the world w, is as it is seen
 pub record ReadsTheSeen (o : Opening) (es : List WorldEvent) (w : World) : Type 0 where
-  -- a process whose lock call is refused waits for a retry
+  -- of a process that waits for a retry
   pub refused : (p : Process) → waits_for_retry w p ≡ true → WaitsForRetry o es w p
-  -- in a quiet world the last `set_lock` of a process that isn't gone is refused, unless it is answered
+  -- in a quiet world a process that is still there waits for a retry, unless its last `set_lock` is answered
   pub waits : (p : Process) (t : Tries) → IsQuiet o w → is_no_more w p ≡ false → tries_of o es p ≡ Some t →
       answers_under p.node t.last.number (course o (opening_world o) es) ≡ [] → waits_for_retry w p ≡ true
-  -- a process is gone where its node has left, by the history, or shows that it is dead
+  -- a process is no more where its node has left, by the history, or shows that it is dead
   pub gone : (p : Process) →
       is_no_more w p ≡ ((standing o (course o (opening_world o) es)).registry.left p.node || (seen o w).dead p)
 

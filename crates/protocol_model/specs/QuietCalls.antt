@@ -9,14 +9,10 @@ use Rattle.protocol_model.specs.Letter.{Client}
 use Rattle.protocol_model.specs.LockTable.{last_count}
 use Rattle.protocol_model.specs.Node.{Target, Times, targets}
 use Rattle.protocol_model.specs.Event.{Call, Event, Answer}
-use Rattle.protocol_model.specs.World.{Opening, World, WorldEvent, At, Deliver, refusal, all_answers, run}
+use Rattle.protocol_model.specs.World.{Opening, World, WorldEvent, At, refusal, all_answers, run}
+use Rattle.protocol_model.specs.Fit.{is_delivery}
 use Rattle.protocol_model.specs.ClientLocks.{holds_count, Holds}
 use Rattle.protocol_model.specs.Leftovers.{IsQuiet}
-
--- a letter is delivered
-abbrev pub is_delivery : WorldEvent → Bool
-is_delivery (Deliver f c) = true
-is_delivery _ = false
 
 -- p calls for a lock, to be tried once
 abbrev pub called_once : Process → Text → Text → Target → WorldEvent
