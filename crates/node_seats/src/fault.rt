@@ -15,7 +15,8 @@ pub enum SeatFault {
     /// The node has left.
     #[error("node_left")]
     NodeLeft,
-    /// The node's thread ended without a leave, the cluster was closed, or the numbers of the seat's calls are spent.
+    /// The node's thread ended without a leave, another's ended so and with it the cluster, the cluster was closed, or the numbers of
+    /// the seat's calls are spent.
     #[error("closed")]
     Closed,
     /// The cluster has made all its seats, which are 64.
