@@ -1,4 +1,7 @@
 mod Inboxes
+mod Meeting
 pub mod Places
+mod Prefixes
+mod StampedPrefixes
 mod Waiting
 mod Writes

@@ -2,4 +2,5 @@ pub mod Faults
 pub mod Held
 pub mod Mailboxes
 pub mod MeshEnds
+pub mod Moves
 pub mod Rule

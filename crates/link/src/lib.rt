@@ -2,6 +2,7 @@
 #![tactic(auto)]
 
 mod faults;
+mod laws;
 mod link;
 mod mailbox;
 mod mesh;
@@ -9,6 +10,7 @@ mod mesh_end;
 mod station;
 
 pub use faults::{LinkFault, Unsent};
+pub use laws::{prefixes_are_delivered, stamped_prefixes_are_delivered};
 pub use mailbox::{INBOX_ROOM, Mailbox, Port, Root, Sourced, compare, open};
 pub use mesh::{Mesh, are_rising};
 pub use mesh_end::MeshEnd;

@@ -1,0 +1,4 @@
+pub mod Alone
+pub mod Guarded
+pub mod Merging
+pub mod Laws

@@ -1,0 +1,32 @@
+//! Ends of node threads that are consistent play to their end: where each node, played alone by its log and by the letters that the
+//! others' logs send it, does what its log says, the world does so, too, once all logs are merged by their stamps.
+//! Each law is the contract of a function with an empty body.
+#![tactic(auto)]
+
+ghost use Rattle.std.specs.Prelude.{ℕ};
+ghost use Rattle.protocol_model.specs.Letter.{Letter};
+ghost use Rattle.closings.specs.Guarded.{GuardedEndsAreConsistent};
+ghost use Rattle.closings.specs.Laws.{ConsistentEndsGoOn, ConsistentEndsPlay};
+
+/// Consistent ends, merged by stamp and then by node, are played by the world to their end, with the answers that they tell of, and
+/// its tables are then theirs.
+pub fn consistent_ends_play()
+    ensures { ConsistentEndsPlay }
+{}
+
+/// Behind any beginning of that merged run the next entry's stamp is above that of the entry before it in its log, and the world
+/// takes it.
+pub fn consistent_ends_go_on()
+    ensures { ConsistentEndsGoOn }
+{}
+
+/// What a node relies on of a letter from one node to another.
+pub trait Relied {
+    ghost fits: { ℕ → ℕ → Letter → Type 0 };
+}
+
+/// What each node can say of its own steps alone makes them consistent: that they are its steps where each letter that it reads is
+/// such as it relies on, and that its own letters are such then. For a letter is sent by a step that read letters of lesser stamps.
+pub fn guarded_ends_are_consistent<T: Relied>()
+    ensures { GuardedEndsAreConsistent T.fits }
+{}
