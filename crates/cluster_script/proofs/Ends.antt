@@ -1,4 +1,4 @@
--- A script of known bytes isn't both played to its end and stopped for too many lines.
+-- A script of known bytes isn't both played to its end and stopped for too many lines, unless memory was refused for a header.
 use Rattle.std.proofs.Common.{ℕ, Bool, List, [], ◌∷◌, ◌++◌, ◌≡◌, ◌<◌, Option, Some, None, refl, sym, ap, subst, ◌∙◌, append-nil, append_assoc, Result, Ok, Err, inl, inr, arith}
 use Rattle.term.specs.declared.faults.TextFault.{TextFault}
 use Rattle.term.specs.Laws.{IsExact}
@@ -11,7 +11,7 @@ use Rattle.command_lines.specs.Commands.{unread}
 use Rattle.std.specs.Prelude.{codes}
 use Rattle.command_lines.specs.Openings.{start_refused}
 use Rattle.command_lines.specs.declared.StartFault.{StartFault}
-use Rattle.command_lines.specs.declared.faults.LineFault.TheVariants.{BadLine, Text, Start}
+use Rattle.command_lines.specs.declared.faults.LineFault.TheVariants.{BadLine, Text, Start, Memory}
 use Rattle.command_lines.specs.Printing.{Shown}
 use Rattle.cluster_script.specs.Script.{AllSpell, ReadsTexts, Names, judged, unless_refused, made_of, texts_behind, lone_texts, OpensIn, OpensUnless, LineOpens, LoneOpens, OpensBehind, EndsRefused, PrintsOn, Ran, Stopped, opening_for}
 use Rattle.text_lines.proofs.Known.{spoken-append, count_of_all-append}
@@ -98,9 +98,9 @@ module _ (exact : IsExact SpellsText RefusesText) where
       go (Some g) h k = absurd (ok_err ns g h)
       go None h k = words_one (texts_behind (codes "cluster") (words line)) h k
 
-  -- and doesn't both open one and open none
+  -- and doesn't both open one and name none
   LineOpens-never : (line : List ℕ) (nodes : List ℕ) (f : LineFault) → LineOpens line (Ok nodes)
-      → LineOpens line (Err f) → ⊥
+      → OpensUnless (unread line) line (Err f) → ⊥
   LineOpens-never line nodes f h k = go (unread line) h k
     where
       words_one : (texts : Option (List (List ℕ))) → OpensIn texts (Ok nodes) → OpensIn texts (Err f) → ⊥
@@ -111,32 +111,35 @@ module _ (exact : IsExact SpellsText RefusesText) where
       go (Some g) h k = ok_err nodes g h
       go None h k = words_one (texts_behind (codes "cluster") (words line)) h k
 
-  -- a header that is refused doesn't open a world, whatever stands behind it
-  refused_never : (ls more : List (List ℕ)) (f : LineFault) (out : List Shown) → EndsRefused ls f
-      → PrintsOn (ls ++ more) out → ⊥
-  refused_never [] more f out e p = absurd e
-  refused_never (l ∷ []) more f out e p = go p.1.0 p.1.1 p.1.2
+  -- a header that is refused doesn't open a world, whatever stands behind it, unless memory was refused for it
+  refused_memory : (ls more : List (List ℕ)) (f : LineFault) (out : List Shown) → EndsRefused ls f
+      → PrintsOn (ls ++ more) out → f ≡ Memory
+  refused_memory [] more f out e p = absurd e
+  refused_memory (l ∷ []) more f out e p = go p.1.0 p.1.1 p.1.2
     where
-      go : (c : Result (List ℕ) LineFault) → LineOpens l c → OpensBehind c more (Ok p.0) → ⊥
-      go (Ok nodes) o b = LineOpens-never l nodes f o e
-      go (Err g) o b = ok_err p.0 g b
-  refused_never (l ∷ m ∷ []) more f out e p = go p.1.0 p.1.1 p.1.2
+      go : (c : Result (List ℕ) LineFault) → LineOpens l c → OpensBehind c more (Ok p.0) → f ≡ Memory
+      go (Ok nodes) o b = elim e [ inl u ↦ absurd (LineOpens-never l nodes f o u) | inr m ↦ m ]
+      go (Err g) o b = absurd (ok_err p.0 g b)
+  refused_memory (l ∷ m ∷ []) more f out e p = go p.1.0 p.1.1 p.1.2
     where
       behind : (c : List ℕ) (r : Result (List ℕ) LineFault) → e.0 ≡ c → LoneOpens c (m ∷ []) r
-          → Ok p.0 ≡ made_of (opening_for c) r → ⊥
-      behind c (Err g) same o h = ok_err p.0 g h
-      behind c (Ok nodes) same o h =
-          Names-never (λ lone. start_refused c lone) (lone_texts (m ∷ [])) nodes f o
-          (subst (λ (xs : List ℕ). LoneOpens xs (m ∷ []) (Err f)) same e.2)
+          → Ok p.0 ≡ made_of (opening_for c) r → f ≡ Memory
+      behind c (Err g) same o h = absurd (ok_err p.0 g h)
+      behind c (Ok nodes) same o h = elim (subst (λ (xs : List ℕ). LoneOpens xs (m ∷ []) (Err f)) same e.2) [
+        | inl u ↦ absurd (Names-never (λ lone. start_refused c lone) (lone_texts (m ∷ [])) nodes f o u)
+        | inr k ↦ k.1
+      ]
 
-      go : (c : Result (List ℕ) LineFault) → LineOpens l c → OpensBehind c (m ∷ more) (Ok p.0) → ⊥
+      go : (c : Result (List ℕ) LineFault) → LineOpens l c → OpensBehind c (m ∷ more) (Ok p.0) → f ≡ Memory
       go (Ok nodes) o b = behind nodes b.0 (LineOpens-one l e.0 nodes e.1 o) b.1 b.2
-      go (Err g) o b = ok_err p.0 g b
-  refused_never (l ∷ m ∷ k ∷ ls) more f out e p = absurd e
+      go (Err g) o b = absurd (ok_err p.0 g b)
+  refused_memory (l ∷ m ∷ k ∷ ls) more f out e p = absurd e
 
-  pub never_both : (input : List ℕ) (x y a b c d : Option (List ℕ)) (fine : Bool) → Ran (Some input) x a b fine
-      → Stopped (Some input) y c d TooManyLines → ⊥
-  never_both input x y a b c d fine r s =
+  -- so of two scripts with one input, one that was played to its end and one with too many lines, memory was refused for a header
+  -- of the first
+  pub ends_one_way : (input : List ℕ) (x y a b c d : Option (List ℕ)) (fine : Bool) → (r : Ran (Some input) x a b fine)
+      → Stopped (Some input) y c d TooManyLines → EndsRefused (spoken r.taken) Memory
+  ends_one_way input x y a b c d fine r s =
       let first = s.0.first in
       let line = s.2.0 in
       let more = s.2.1.0 in
@@ -146,7 +149,7 @@ module _ (exact : IsExact SpellsText RefusesText) where
         | inl none ↦
             let they : r.taken ≡ first ++ line ∷ more = sym (append-nil r.taken)
             ∙ ap (λ (ls : List (List ℕ)). r.taken ++ ls) (sym none) ∙ all in
-            omega (
+            absurd (omega (
               arith,
               r.counted,
               s.2.3,
@@ -154,11 +157,12 @@ module _ (exact : IsExact SpellsText RefusesText) where
               count_of_all-append first (line
                   ∷ []),
               ap count_of_all they,
-            )
+            ))
         | inr h ↦
             let u = some_first r.taken r.untaken first more line all (omega (arith, r.counted, s.2.3)) in
             let p : PrintsOn (spoken r.taken ++ spoken u.0) s.0.out =
             subst (λ (ls : List (List ℕ)). PrintsOn ls s.0.out) (ap spoken u.1 ∙ spoken-append r.taken u.0)
             s.0.prints in
-            refused_never (spoken r.taken) (spoken u.0) h.0 s.0.out h.1 p
+            subst (λ (f : LineFault). EndsRefused (spoken r.taken) f)
+            (refused_memory (spoken r.taken) (spoken u.0) h.0 s.0.out h.1 p) h.1
       ]

@@ -1,29 +1,30 @@
 -- The first line of a script.
-use Rattle.std.proofs.Common.{ℕ, List, [], ◌∷◌, ◌++◌, ◌≡◌, ◌<◌, ◌+◌, Option, Some, None, refl, sym, ap, subst, ◌∙◌, arith, Result, Ok, Err, map, take, drop, length, get_or, Bor}
+use Rattle.std.proofs.Common.{ℕ, true, inl, inr, List, [], ◌∷◌, ◌++◌, ◌≡◌, ◌<◌, ◌+◌, Option, Some, None, refl, sym, ap, subst, ◌∙◌, arith, Result, Ok, Err, map, take, drop, length, get_or, Bor}
 use Rattle.std.proofs.lemmas.Grind.{take_at_read}
 use Rattle.std.proofs.lemmas.List.{take-append-drop}
 use Rattle.term.specs.Spelling.{SpellsText}
 use Rattle.command_lines.specs.Openings.{start_refused}
-use Rattle.command_lines.specs.declared.StartFault.{StartFault}
 use Rattle.command_lines.specs.declared.faults.LineFault.{LineFault}
 use Rattle.std.specs.Prelude.{if◌then◌else◌}
 use Rattle.cluster_world.specs.Held.{Held}
-use Rattle.std.specs.Prelude.{unwrap_or, is_some, MatchResult}
+use Rattle.std.specs.Prelude.{unwrap_or, is_some, codes, option_map, MatchResult, ◌⊎◌, ◌≢◌}
 use Rattle.term.specs.declared.faults.TextFault.{TextFault}
-use Rattle.command_lines.specs.declared.faults.LineFault.TheVariants.{Text, Start}
-use Rattle.cluster_script.specs.Script.{AllSpell, ReadsTexts, LoneOpens, unless_refused, lone_line, lone_texts, played}
-use Rattle.cluster_script.specs.Headers.{ReadsHeader, StandsAt, Starts, OpensLone, OpensHeaders, ReadsLone, ReadsHeaders, StopsOpening}
+use Rattle.command_lines.specs.declared.faults.LineFault.TheVariants.{BadLine, LineTooLong, NotAscii, Text, Start, Memory}
+use Rattle.cluster_script.specs.Script.{AllSpell, ReadsTexts, made_of, Names, LoneOpens, OpensIn, OpensUnless, texts_behind, unless_refused, is_lone, lone_line, lone_texts, played}
+use Rattle.cluster_script.specs.Headers.{ReadsNodes, ReadsHeader, AllReadAs, StandsAt, Starts, StartsBeside, StartsCluster, OpensCluster, OpensLone, OpensHeaders, ReadsLone, ReadsHeaders, StopsOpening}
+use Rattle.cluster_script.specs.declared.header.Cluster.{Cluster}
 use Rattle.cluster_script.specs.declared.header.Headers.{Headers}
 use Rattle.cluster_script.specs.declared.header.Headers.TheVariants.{Open, Ended, Refused}
 use Rattle.cluster_world.specs.Held.{Held}
-use Rattle.command_lines.specs.Commands.{LineAsks, asked_by}
+use Rattle.command_lines.specs.Commands.{LineAsks, asked_by, unread}
+use Rattle.text_lines.specs.Words.{words}
 use Rattle.command_lines.specs.declared.grammar.Task.{Task}
+use Rattle.protocol_model.specs.Script.{Line as ScriptLine}
 use Rattle.text_lines.specs.declared.faults.ScriptFault.{ScriptFault}
-use Rattle.text_lines.specs.declared.faults.ScriptFault.TheVariants.{Memory}
 use Rattle.text_lines.specs.Lines.{spoken, count_of_all, LosesLines}
 use Rattle.text_lines.proofs.Known.{spoken-append, count_of_all-append, LosesLines-trans, LosesInto-behind, GoesPastFor-behind}
-use Rattle.cluster_script.specs.Script.{AllAsk, LineOpens, PrintsOn, PrintsSpoken, opening_for}
-use Rattle.cluster_script.specs.Played.{LosesNext, StopsReading}
+use Rattle.cluster_script.specs.Script.{LineOpens, PrintsOn, PrintsSpoken, opening_for}
+use Rattle.cluster_script.specs.Played.{StopsReading}
 use Rattle.cluster_script.proofs.Agreeing.{lines_agree, lines_leave_nothing}
 
 -- one more text
@@ -68,15 +69,36 @@ AllSpell-more xs i d ns ms n l h s e =
     (subst (λ (ks : List ℕ). AllSpell (map now (take i xs) ++ (get_or xs i d).now ∷ []) ks) (sym e)
     (AllSpell-push (map now (take i xs)) ns (get_or xs i d).now n h s))
 
+-- the fault of the first text that spells no node
+pub ReadsNodes-bad : {A : Type 0} (items : A → List ℕ) (texts : List (List ℕ)) (r : Result A LineFault) (y : LineFault)
+    (f : TextFault) → r ≡ Err y → y ≡ Text f → ReadsTexts texts (Err f) → ReadsNodes texts (made_of items r)
+ReadsNodes-bad items texts r y f e q h = rw e (inl (f, h, q))
+
+-- a header's nodes, by what was read
+pub ReadsHeader-by : {A : Type 0} (items : A → List ℕ) (o : Option (List (List ℕ))) (r : Option (Result A LineFault))
+    (nodes : Result A LineFault) → r ≡ Some nodes
+    → ReadsHeader o (option_map (made_of items) r) → ReadsHeader o (Some (made_of items nodes))
+ReadsHeader-by items o r nodes e h =
+    subst (λ (x : Option (Result _ LineFault)). ReadsHeader o (option_map (made_of items) x)) e h
+
 -- what a `lone` line names
-pub lone_some : (line : List ℕ) (r : Result (List ℕ) TextFault) → ReadsHeader (lone_line line) (Some r)
-    → ReadsTexts (lone_texts (line ∷ [])) r × (played (line ∷ []) ≡ [])
-lone_some line r h = go (lone_line line) h
+pub lone_some : (line : List ℕ) (nodes : List ℕ) → ReadsHeader (lone_line line) (Some (Ok nodes))
+    → ReadsTexts (lone_texts (line ∷ [])) (Ok nodes) × (played (line ∷ []) ≡ [])
+lone_some line nodes h = go (lone_line line) h
   where
-    go : (o : Option (List (List ℕ))) → ReadsHeader o (Some r)
-        → ReadsTexts (unwrap_or o []) r × ((if is_some o then [] else line ∷ []) ≡ [])
+    go : (o : Option (List (List ℕ))) → ReadsHeader o (Some (Ok nodes))
+        → ReadsTexts (unwrap_or o []) (Ok nodes) × ((if is_some o then [] else line ∷ []) ≡ [])
     go None h = absurd h
     go (Some texts) h = (h, refl)
+
+-- what is said of a line is said of a `lone` line
+pub lone_known : (line : List ℕ) (r : Result (List ℕ) LineFault) → ReadsHeader (lone_line line) (Some r)
+    → is_lone (line ∷ []) ≡ true
+lone_known line r h = go (lone_line line) h
+  where
+    go : (o : Option (List (List ℕ))) → ReadsHeader o (Some r) → is_some o ≡ true
+    go None h = absurd h
+    go (Some texts) h = refl
 
 -- another line names none, and is played
 pub lone_none : (line : List ℕ) → ReadsHeader (lone_line line) None
@@ -91,19 +113,28 @@ lone_none line h = go (lone_line line) h
 -- lone nodes of which a world is started
 pub LoneOpens-started : (cluster lone : List ℕ) (line : List ℕ) → ReadsHeader (lone_line line) (Some (Ok lone))
     → start_refused cluster lone ≡ None → LoneOpens cluster (line ∷ []) (Ok lone)
-LoneOpens-started cluster lone line h e = (Ok lone, (lone_some line (Ok lone) h).0, sym (ap (unless_refused lone) e))
+LoneOpens-started cluster lone line h e = (Ok lone, (lone_some line lone h).0, sym (ap (unless_refused lone) e))
 
 -- and of which none is
 pub LoneOpens-refused : (cluster lone : List ℕ) (line : List ℕ) (f : LineFault)
-    → ReadsHeader (lone_line line) (Some (Ok lone))
-    → (g : StartFault) × (start_refused cluster lone ≡ Some g) × (f ≡ Start g) → LoneOpens cluster (line ∷ []) (Err f)
-LoneOpens-refused cluster lone line f h e =
-    (Ok lone, (lone_some line (Ok lone) h).0, ap Err e.2 ∙ sym (ap (unless_refused lone) e.1))
+    → ReadsHeader (lone_line line) (Some (Ok lone)) → Starts cluster lone (Err f) → LoneOpens cluster (line ∷ []) (Err f)
+LoneOpens-refused cluster lone line f h s = elim s [
+  | inl e ↦ inl (Ok lone, (lone_some line lone h).0, ap Err e.2 ∙ sym (ap (unless_refused lone) e.1))
+  | inr e ↦ inr (lone_known line (Ok lone) h, e)
+]
 
 -- texts that spell no nodes
-pub LoneOpens-misspelt : (cluster : List ℕ) (line : List ℕ) (f : TextFault)
-    → ReadsHeader (lone_line line) (Some (Err f)) → LoneOpens cluster (line ∷ []) (Err (Text f))
-LoneOpens-misspelt cluster line f h = (Err f, (lone_some line (Err f) h).0, refl)
+pub LoneOpens-misspelt : (cluster : List ℕ) (line : List ℕ) (f : LineFault)
+    → ReadsHeader (lone_line line) (Some (Err f)) → LoneOpens cluster (line ∷ []) (Err f)
+LoneOpens-misspelt cluster line f h = go (lone_line line) h
+  where
+    go : (o : Option (List (List ℕ))) → ReadsHeader o (Some (Err f))
+        → Names (λ lone. start_refused cluster lone) (unwrap_or o []) (Err f) ⊎ ((is_some o ≡ true) × (f ≡ Memory))
+    go None h = absurd h
+    go (Some texts) h = elim h [
+      | inl e ↦ inl (Err e.0, e.1, ap Err e.2)
+      | inr e ↦ inr (refl, e)
+    ]
 
 -- lines that name no lone nodes
 pub LoneOpens-none : (cluster : List ℕ) (ls : List (List ℕ)) → lone_texts ls ≡ [] → start_refused cluster [] ≡ None
@@ -111,35 +142,101 @@ pub LoneOpens-none : (cluster : List ℕ) (ls : List (List ℕ)) → lone_texts 
 LoneOpens-none cluster ls t e =
     (Ok [], subst (λ (ts : List (List ℕ)). AllSpell ts []) (sym t) tt, sym (ap (unless_refused []) e))
 
--- a `lone` line opens a world
-pub OpensLone-started : (cluster lone cs ns line : List ℕ) (world : Held) → cs ≡ cluster → ns ≡ lone
-    → ReadsHeader (lone_line line) (Some (Ok lone)) → Starts cs ns (Ok world) → OpensLone cluster line (Open world None)
-OpensLone-started cluster lone cs ns line world e f h s =
-    let t : Starts cluster lone (Ok world) = subst (λ (xs : List ℕ). Starts xs lone (Ok world)) e
-    (subst (λ (xs : List ℕ). Starts cs xs (Ok world)) f s) in (
-      lone,
-      LoneOpens-started cluster lone line h t.0,
-      t.1,
-      subst (λ (ls : List (List ℕ)). AllAsk ls []) (sym (lone_some line (Ok lone) h).1) tt,
-    )
+-- a `lone` line opens a world, or is refused
+pub OpensLone-lone : (cluster line : List ℕ) (named : Result (List ℕ) LineFault)
+    → ReadsHeader (lone_line line) (Some named)
+    → (r : Result Held LineFault) → StartsBeside cluster named r
+    → MatchResult r (λ world. OpensLone cluster line (Open world None)) (λ f. OpensLone cluster line (Refused f))
+OpensLone-lone cluster line (Ok lone) h (Ok world) s = (
+  lone,
+  LoneOpens-started cluster lone line h s.0,
+  s.1,
+  subst (λ (ls : List (List ℕ)). AllReadAs ls []) (sym (lone_some line lone h).1) tt,
+)
+OpensLone-lone cluster line (Ok lone) h (Err f) s = LoneOpens-refused cluster lone line f h s
+OpensLone-lone cluster line (Err f) h r s =
+    subst (λ (x : Result Held LineFault). MatchResult x (λ world. OpensLone cluster line (Open world None))
+    (λ g. OpensLone cluster line (Refused g))) (sym s) (LoneOpens-misspelt cluster line f h)
 
--- or is refused
-pub OpensLone-refused : (cluster lone cs ns line : List ℕ) (f : LineFault) → cs ≡ cluster → ns ≡ lone
-    → ReadsHeader (lone_line line) (Some (Ok lone)) → Starts cs ns (Err f) → OpensLone cluster line (Refused f)
-OpensLone-refused cluster lone cs ns line f e g h s =
-    LoneOpens-refused cluster lone line f h (subst (λ (xs : List ℕ). Starts xs lone (Err f)) e
-    (subst (λ (xs : List ℕ). Starts cs xs (Err f)) g s))
+-- what was read as a task, or memory was refused
+pub read_or_memory : (line : List ℕ) (task : Result Task LineFault) → (task ≢ Err Memory → LineAsks line (asked_by task))
+    → LineAsks line (asked_by task) ⊎ (asked_by task ≡ Err Memory)
+read_or_memory line (Ok t) h = inl (h ok_err)
+  where
+    ok_err : ◌≡◌ {A = Result Task LineFault} (Ok t) (Err Memory) → ⊥
+    ok_err z = cc
+read_or_memory line (Err f) h = go f h
+  where
+    go : (f : LineFault) → ((◌≡◌ {A = Result Task LineFault} (Err f) (Err Memory) → ⊥) → LineAsks line (Err f))
+        → LineAsks line (Err f) ⊎ (◌≡◌ {A = Result ScriptLine LineFault} (Err f) (Err Memory))
+    go BadLine h = inl (h (λ z. cc))
+    go LineTooLong h = inl (h (λ z. cc))
+    go NotAscii h = inl (h (λ z. cc))
+    go (Text g) h = inl (h (λ z. cc))
+    go (Start g) h = inl (h (λ z. cc))
+    go Memory h = inr refl
 
 -- another line is the first that is played
 pub OpensLone-none : (cluster line : List ℕ) (world old : Held) (task : Result Task LineFault) → world ≡ old
-    → ReadsHeader (lone_line line) None → Starts cluster [] (Ok old) → LineAsks line (asked_by task)
+    → ReadsHeader (lone_line line) None → Starts cluster [] (Ok old)
+    → LineAsks line (asked_by task) ⊎ (asked_by task ≡ Err Memory)
     → OpensLone cluster line (Open world (Some task))
 OpensLone-none cluster line world old task e h s q = (
   [],
   LoneOpens-none cluster (line ∷ []) (lone_none line h).0 s.0,
   subst (λ (w : Held). StandsAt (opening_for cluster []) w) (sym e) s.1,
-  subst (λ (ls : List (List ℕ)). AllAsk ls (asked_by task ∷ [])) (sym (lone_none line h).1) (q, tt),
+  subst (λ (ls : List (List ℕ)). AllReadAs ls (asked_by task ∷ [])) (sym (lone_none line h).1) (q, tt),
 )
+
+-- the first line opens no cluster
+pub LineOpens-refused : (line : List ℕ) (f : LineFault) → unread line ≡ Some f → LineOpens line (Err f)
+LineOpens-refused line f e =
+    inl (subst (λ (u : Option LineFault). OpensUnless u line (Err f)) (sym e) refl)
+
+-- by its texts it opens one, or none
+pub LineOpens-read : (line : List ℕ) (r : Result (List ℕ) LineFault) → unread line ≡ None
+    → OpensIn (texts_behind (codes "cluster") (words line)) r → LineOpens line r
+LineOpens-read line (Ok nodes) e h = subst (λ (u : Option LineFault). OpensUnless u line (Ok nodes)) (sym e) h
+LineOpens-read line (Err f) e h = inl (subst (λ (u : Option LineFault). OpensUnless u line (Err f)) (sym e) h)
+
+-- its texts spell no nodes
+pub LineOpens-misspelt : (line : List ℕ) (f : LineFault) → unread line ≡ None
+    → ReadsHeader (texts_behind (codes "cluster") (words line)) (Some (Err f)) → LineOpens line (Err f)
+LineOpens-misspelt line f e h = go (texts_behind (codes "cluster") (words line)) refl h
+  where
+    go : (o : Option (List (List ℕ))) → texts_behind (codes "cluster") (words line) ≡ o → ReadsHeader o (Some (Err f))
+        → LineOpens line (Err f)
+    go None q h = absurd h
+    go (Some texts) q h = elim h [
+      | inl g ↦
+          LineOpens-read line (Err f) e
+          (subst (λ (o : Option (List (List ℕ))). OpensIn o (Err f)) (sym q) (Err g.0, g.1, ap Err g.2))
+      | inr m ↦ inr m
+    ]
+
+-- they spell nodes, of which a world is started or none
+pub OpensCluster-by : (line nodes : List ℕ) (r : Result Cluster LineFault) → unread line ≡ None
+    → ReadsHeader (texts_behind (codes "cluster") (words line)) (Some (Ok nodes)) → StartsCluster nodes r
+    → OpensCluster line r
+OpensCluster-by line nodes r e h s = go (texts_behind (codes "cluster") (words line)) refl h r s
+  where
+    go : (o : Option (List (List ℕ))) → texts_behind (codes "cluster") (words line) ≡ o → ReadsHeader o (Some (Ok nodes))
+        → (r : Result Cluster LineFault) → StartsCluster nodes r → OpensCluster line r
+    go None q h r s = absurd h
+    go (Some texts) q h (Ok c) s = (
+      subst (λ (xs : List ℕ). LineOpens line (Ok xs)) (sym s.0)
+          (LineOpens-read line (Ok nodes) e
+          (subst (λ (o : Option (List (List ℕ))). OpensIn o (Ok nodes)) (sym q)
+          (Ok nodes, h, sym (ap (unless_refused nodes) s.1.0)))),
+      subst (λ (xs : List ℕ). Starts xs [] (Ok c.world)) (sym s.0) s.1,
+    )
+    go (Some texts) q h (Err f) s = elim s [
+      | inl g ↦
+          LineOpens-read line (Err f) e
+          (subst (λ (o : Option (List (List ℕ))). OpensIn o (Err f)) (sym q)
+          (Ok nodes, h, ap Err g.2 ∙ sym (ap (unless_refused nodes) g.1)))
+      | inr m ↦ inr m
+    ]
 
 -- the line behind the `cluster` line was read
 pub ReadsLone-by : (cluster : List ℕ) (input rest : Option (List ℕ)) (most left : ℕ) (ls : List (List ℕ))
@@ -152,11 +249,6 @@ ReadsLone-by cluster input rest most left ls line l e s (Refused f) o = (ls, lin
 -- nothing is printed for empty lines
 pub PrintsOn-blank : (ls : List (List ℕ)) → spoken ls ≡ [] → PrintsOn (spoken ls) []
 PrintsOn-blank ls s = subst (λ (xs : List (List ℕ)). PrintsOn xs []) (sym s) refl
-
--- memory is refused for the first line
-pub StopsOpening-next : (input rest : Option (List ℕ)) (most : ℕ) → LosesNext input rest
-    → StopsOpening input rest most Memory
-StopsOpening-next input rest most g = (g.0, g.1, PrintsOn-blank g.0 g.2, g.3, g.4, tt)
 
 -- the first line isn't read
 pub StopsOpening-reading : (input rest : Option (List ℕ)) (most : ℕ) (f : ScriptFault) → StopsReading input rest most f

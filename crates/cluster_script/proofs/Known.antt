@@ -1,8 +1,8 @@
 -- Reading on past empty lines.
 use Rattle.std.proofs.Common.{ℕ, List, [], ◌≡◌, ◌+◌, Option, subst, append-nil}
-use Rattle.text_lines.specs.Lines.{spoken, count_of_all, LosesLines, LosesWithinLine, StopsAtLine, GoesPastFor}
+use Rattle.text_lines.specs.Lines.{spoken, count_of_all, LosesLines, StopsAtLine, GoesPastFor}
 use Rattle.text_lines.specs.declared.faults.ScriptFault.{ScriptFault}
-use Rattle.cluster_script.specs.Played.{StopsReading, LosesNext}
+use Rattle.cluster_script.specs.Played.{StopsReading}
 use Rattle.text_lines.proofs.Known.{GoesPastFor-behind}
 
 -- the line behind empty ones isn't read
@@ -18,8 +18,3 @@ StopsReading-behind a b c ls most left s t e f g = (
   subst (λ (xs : List (List ℕ)). GoesPastFor f a most xs) (append-nil ls)
       (GoesPastFor-behind f a b ls [] most left t e g.3),
 )
-
--- the next line that isn't empty, of which one line at most is lost behind empty ones
-pub LosesNext-behind : (a b c : Option (List ℕ)) (ls : List (List ℕ)) → spoken ls ≡ [] → LosesLines a b ls
-    → LosesWithinLine b c → LosesNext a c
-LosesNext-behind a b c ls s t g = (ls, g.0, s, (b, t, g.1), g.2)

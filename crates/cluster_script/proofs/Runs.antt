@@ -4,10 +4,12 @@ use Rattle.std.specs.Prelude.{MatchResult, is_some, if◌then◌else◌, ◌⊎�
 use Rattle.std.specs.Str.Lines.{lines}
 use Rattle.std.specs.Io.KnownBytes.{Appends, Keeps}
 use Rattle.protocol_model.specs.World.{Opening, World}
-use Rattle.protocol_model.specs.Script.{Line as ScriptLine}
+use Rattle.protocol_model.specs.Script.{Line as ScriptLine, Settle}
 use Rattle.cluster_world.specs.Held.{Held}
 use Rattle.cluster_world.specs.Seen.{opening_of, seen}
 use Rattle.command_lines.specs.declared.faults.LineFault.{LineFault}
+use Rattle.command_lines.specs.declared.faults.LineFault.TheVariants.{Memory}
+use Rattle.command_lines.specs.Commands.{LineAsks}
 use Rattle.text_lines.specs.declared.faults.ScriptFault.{ScriptFault}
 use Rattle.text_lines.specs.declared.faults.ScriptFault.TheVariants as fault
 use Rattle.text_lines.specs.declared.faults.WriteFault.{WriteFault}
@@ -17,11 +19,11 @@ use Rattle.command_lines.specs.Printing.{Shown, Refuses, error_line, word_of}
 use Rattle.text_lines.specs.Lines.{HasLines}
 use Rattle.text_lines.specs.Writing.{AppendsPart, stop_of}
 use Rattle.cluster_script.proofs.Agreeing.{lines_agree, lines_leave_nothing}
-use Rattle.cluster_script.specs.Script.{AllAsk, shown_all, Prints, PrintsOn, PrintsSpoken, OpensNone, EndsRefused, Ran, Stopped, StoppedBetween, StoppedWithin, LineOpens, lone_line, played, opening_for}
-use Rattle.cluster_script.specs.Headers.{OpensHeaders, OpensLone, StopsOpening, asked_first}
+use Rattle.cluster_script.specs.Script.{Outcome, Plays, Fails, Breaks, ComesTo, AllComeTo, shown_all, Prints, PrintsOn, PrintsSpoken, OpensNone, EndsRefused, Ran, Stopped, StoppedBetween, StoppedWithin, LineOpens, lone_line, played, opening_for}
+use Rattle.cluster_script.specs.Headers.{AllReadAs, OpensHeaders, OpensLone, StopsOpening, asked_first}
 use Rattle.cluster_script.specs.declared.header.Headers.TheVariants.{Open, Ended}
 use Rattle.command_lines.specs.declared.grammar.Task.{Task}
-use Rattle.cluster_script.specs.Played.{StopsPlaying, PlaysSome, PlaysAll}
+use Rattle.cluster_script.specs.Played.{ComesOf, AllComeOf, StopsPlaying, PlaysSome, PlaysAll}
 use Rattle.std.proofs.KnownBytes.{Appends-nil, Appends-trans, Appends-kept}
 use Rattle.text_lines.proofs.Known.{GoesPast-behind, LosesInto-whole, LosesInto-behind, LosesLines-trans, LosesLines-all, MayEndIn-none, spoken-append, count_of_all-append}
 
@@ -114,18 +116,53 @@ refused_ends : (ls : List (List ℕ)) (rest : Option (List ℕ)) (f : LineFault)
 refused_ends [] rest f o = inl (left_none rest o.0)
 refused_ends (l ∷ ls) rest f o = inr (f, o)
 
--- a line that was read already is the first that is played, or was a `lone` line
-AllAsk-played : (m : List ℕ) (ls : List (List ℕ)) (first asked : List (Result ScriptLine LineFault))
-    → AllAsk (played (m ∷ [])) first → AllAsk ls asked → AllAsk (played (m ∷ ls)) (first ++ asked)
-AllAsk-played m ls first asked h k = go (is_some (lone_line m)) first h
+-- what comes of a line by what it was read as
+pub ComesTo-read : (line : List ℕ) (asked : Result ScriptLine LineFault) (x : Outcome)
+    → LineAsks line asked ⊎ (asked ≡ Err Memory) → ComesOf asked x → ComesTo line x
+ComesTo-read line asked (Plays l) h k = elim h [
+  | inl a ↦ subst (λ (r : Result ScriptLine LineFault). LineAsks line r) k a
+  | inr m ↦ absurd (ok_err (sym k ∙ m))
+]
   where
-    go : (b : Bool) (first : List (Result ScriptLine LineFault)) → AllAsk (if b then [] else m ∷ []) first
-        → AllAsk (if b then ls else m ∷ ls) (first ++ asked)
-    go true [] h = k
-    go true (a ∷ others) h = absurd h
-    go false [] h = absurd h
-    go false (a ∷ []) h = (h.0, k)
-    go false (a ∷ b ∷ others) h = absurd h.1
+    ok_err : ◌≡◌ {A = Result ScriptLine LineFault} (Ok l) (Err Memory) → ⊥
+    ok_err z = cc
+ComesTo-read line asked (Fails f) h k = elim k [
+  | inl q ↦
+      elim h [
+        | inl a ↦ inl (subst (λ (r : Result ScriptLine LineFault). LineAsks line r) q a)
+        | inr m ↦ inr (same (sym q ∙ m))
+      ]
+  | inr m ↦ inr m
+]
+  where
+    same : ◌≡◌ {A = Result ScriptLine LineFault} (Err f) (Err Memory) → f ≡ Memory
+    same z = cc
+ComesTo-read line asked (Breaks made) h k = elim h [
+  | inl a ↦ (subst (λ (r : Result ScriptLine LineFault). LineAsks line r) k.0 a, k.1)
+  | inr m ↦ absurd (ok_err (sym k.0 ∙ m))
+]
+  where
+    ok_err : ◌≡◌ {A = Result ScriptLine LineFault} (Ok Settle) (Err Memory) → ⊥
+    ok_err z = cc
+
+-- a line that was read already is the first that is played, or was a `lone` line
+AllComeTo-played : (m : List ℕ) (ls : List (List ℕ)) (asked : List (Result ScriptLine LineFault))
+    (first outcomes : List Outcome)
+    → AllReadAs (played (m ∷ [])) asked → AllComeOf asked first → AllComeTo ls outcomes
+    → AllComeTo (played (m ∷ ls)) (first ++ outcomes)
+AllComeTo-played m ls asked first outcomes h c k = go (is_some (lone_line m)) asked first h c
+  where
+    go : (b : Bool) (asked : List (Result ScriptLine LineFault)) (first : List Outcome)
+        → AllReadAs (if b then [] else m ∷ []) asked → AllComeOf asked first
+        → AllComeTo (if b then ls else m ∷ ls) (first ++ outcomes)
+    go true [] [] h c = k
+    go true [] (x ∷ xs) h c = absurd c
+    go true (a ∷ others) first h c = absurd h
+    go false [] first h c = absurd h
+    go false (a ∷ []) [] h c = absurd c
+    go false (a ∷ []) (x ∷ []) h c = (ComesTo-read m a x h.0 c.0, k)
+    go false (a ∷ []) (x ∷ y ∷ xs) h c = absurd c.1
+    go false (a ∷ b ∷ others) first h c = absurd h.1
 
 module _ (input rest : Option (List ℕ)) (most left : ℕ) (bound : most ≤ 1000000) (a b : Option (List ℕ))
     (ls : List (List ℕ)) (l : LosesLines input rest ls) (e : most ≡ left + count_of_all ls) where
@@ -177,67 +214,68 @@ module _ (input rest : Option (List ℕ)) (most left : ℕ) (bound : most ≤ 10
 
   -- the headers open a world, on which the other lines are played
   module _ (line m cluster : List ℕ) (s : spoken ls ≡ line ∷ m ∷ []) (o : LineOpens line (Ok cluster)) (world : Held)
-      (task : Option (Result Task LineFault)) (q : OpensLone cluster m (Open world task)) where
+      (task : Option (Result Task LineFault)) (q : OpensLone cluster m (Open world task)) (first : List Outcome)
+      (came : AllComeOf (asked_first task) first) where
     -- what the lines print
-    abbrev text : List (Result ScriptLine LineFault) → List Shown
-    text asked = shown_all (opening_of world) (seen world) (asked_first task ++ asked)
+    abbrev text : List Outcome → List Shown
+    text outcomes = shown_all (opening_of world) (seen world) (first ++ outcomes)
 
-    played-on : (ms : List (List ℕ)) (asked : List (Result ScriptLine LineFault)) → AllAsk (spoken ms) asked
-        → PrintsOn (line ∷ m ∷ spoken ms) (text asked)
-    played-on ms asked h = (
+    played-on : (ms : List (List ℕ)) (outcomes : List Outcome) → AllComeTo (spoken ms) outcomes
+        → PrintsOn (line ∷ m ∷ spoken ms) (text outcomes)
+    played-on ms outcomes h = (
       opening_for cluster q.0,
       (Ok cluster, o, (Ok q.0, q.1, refl)),
       (
-        asked_first task ++ asked,
-        AllAsk-played m (spoken ms) (asked_first task) asked q.3 h,
-        ap (λ (p : Opening). shown_all p (seen world) (asked_first task ++ asked)) q.2.0
-            ∙ ap (λ (w : World). shown_all (opening_for cluster q.0) w (asked_first task ++ asked)) q.2.1,
-        lines_agree (opening_for cluster q.0) (asked_first task ++ asked),
-        lines_leave_nothing (opening_for cluster q.0) (asked_first task ++ asked),
+        first ++ outcomes,
+        AllComeTo-played m (spoken ms) (asked_first task) first outcomes q.3 came h,
+        ap (λ (p : Opening). shown_all p (seen world) (first ++ outcomes)) q.2.0
+            ∙ ap (λ (w : World). shown_all (opening_for cluster q.0) w (first ++ outcomes)) q.2.1,
+        lines_agree (opening_for cluster q.0) (first ++ outcomes),
+        lines_leave_nothing (opening_for cluster q.0) (first ++ outcomes),
       ),
     )
 
     these : (ms : List (List ℕ)) → spoken (ls ++ ms) ≡ line ∷ m ∷ spoken ms
     these ms = spoken-append ls ms ∙ ap (λ (xs : List (List ℕ)). xs ++ spoken ms) s
 
-    prints-all : (ms : List (List ℕ)) (asked : List (Result ScriptLine LineFault)) → AllAsk (spoken ms) asked
-        → Prints (ls ++ ms) (text asked)
-    prints-all ms asked h =
-        let p = played-on ms asked h in
-        subst (λ (xs : List (List ℕ)). PrintsSpoken xs (text asked)) (sym (these ms)) (Ok p.0, p.1, p.2)
+    prints-all : (ms : List (List ℕ)) (outcomes : List Outcome) → AllComeTo (spoken ms) outcomes
+        → Prints (ls ++ ms) (text outcomes)
+    prints-all ms outcomes h =
+        let p = played-on ms outcomes h in
+        subst (λ (xs : List (List ℕ)). PrintsSpoken xs (text outcomes)) (sym (these ms)) (Ok p.0, p.1, p.2)
 
     -- the lines so far
-    prints-first : (ms : List (List ℕ)) (asked : List (Result ScriptLine LineFault)) → AllAsk (spoken ms) asked
-        → PrintsOn (spoken (ls ++ ms)) (text asked)
-    prints-first ms asked h =
-        subst (λ (xs : List (List ℕ)). PrintsOn xs (text asked)) (sym (these ms)) (played-on ms asked h)
+    prints-first : (ms : List (List ℕ)) (outcomes : List Outcome) → AllComeTo (spoken ms) outcomes
+        → PrintsOn (spoken (ls ++ ms)) (text outcomes)
+    prints-first ms outcomes h =
+        subst (λ (xs : List (List ℕ)). PrintsOn xs (text outcomes)) (sym (these ms)) (played-on ms outcomes h)
 
     module _ (last x : Option (List ℕ)) (kept : Keeps a x) where
       -- some lines were played, and all is written that they print
-      abbrev StoppedBetween-played : PlaysSome Appends (asked_first task) rest last world x b
+      abbrev StoppedBetween-played : PlaysSome Appends first rest last world x b
           → StoppedBetween input last a b
       StoppedBetween-played p = record {
         first = ls ++ p.taken;
         part = p.part;
-        out = text p.asked;
+        out = text p.outcomes;
         read = LosesInto-behind input rest last ls p.taken p.part l p.read;
-        prints = prints-first p.taken p.asked p.each;
+        prints = prints-first p.taken p.outcomes p.each;
         wrote = Appends-behind a x b _ kept p.wrote;
       }
 
       -- a part is written of what they print
-      abbrev StoppedWithin-played : PlaysSome AppendsPart (asked_first task) rest last world x b
+      abbrev StoppedWithin-played : PlaysSome AppendsPart first rest last world x b
           → StoppedWithin input last a b
       StoppedWithin-played p = record {
         first = ls ++ p.taken;
         part = p.part;
-        out = text p.asked;
+        out = text p.outcomes;
         read = LosesInto-behind input rest last ls p.taken p.part l p.read;
-        prints = inl (prints-first p.taken p.asked p.each);
+        prints = inl (prints-first p.taken p.outcomes p.each);
         wrote = (p.wrote.0, p.wrote.1, p.wrote.2, Appends-behind a x b p.wrote.0 kept p.wrote.3);
       }
 
-      Stopped-played : (f : ScriptFault) → StopsPlaying (asked_first task) rest last left world x b f → most ≡ 1000000
+      Stopped-played : (f : ScriptFault) → StopsPlaying first rest last left world x b f → most ≡ 1000000
           → Stopped input last a b f
       Stopped-played fault.TooManyLines p n =
           let past : GoesPast input most (ls ++ p.0.taken) = GoesPast-behind input rest ls p.0.taken most left l e
@@ -248,14 +286,14 @@ module _ (input rest : Option (List ℕ)) (most left : ℕ) (bound : most ≤ 10
       Stopped-played fault.Memory p n = (StoppedWithin-played p.0, p.1)
 
       pub Ran-played : (new : Held) (left2 : ℕ) (r : Result Bool ScriptFault) → most ≡ 1000000
-          → PlaysAll (asked_first task) rest last left left2 world new x b r
+          → PlaysAll first rest last left left2 world new x b r
           → MatchResult r (Ran input last a b) (Stopped input last a b)
       Ran-played new left2 (Ok fine) n p = record {
         all = ls ++ p.0.taken;
-        out = text p.0.asked;
+        out = text p.0.outcomes;
         read = LosesLines-all input last (ls ++ p.0.taken) (LosesLines-trans input rest last ls p.0.taken l
             p.0.read) p.1;
-        prints = prints-all p.0.taken p.0.asked p.0.each;
+        prints = prints-all p.0.taken p.0.outcomes p.0.each;
         taken = ls ++ p.0.taken;
         untaken = [];
         parts = sym (append-nil (ls ++ p.0.taken));

@@ -6,20 +6,17 @@ use Rattle.std.proofs.lemmas.List.Folds.{list_all-append}
 use Rattle.std.specs.Io.KnownBytes.{Appends, Keeps}
 use Rattle.std.proofs.KnownBytes.{Appends-trans, Appends-nil, Appends-kept}
 use Rattle.protocol_model.specs.World.{Opening, World}
-use Rattle.protocol_model.specs.Script.{Line as ScriptLine}
 use Rattle.cluster_world.specs.Held.{Held}
 use Rattle.cluster_world.specs.Seen.{opening_of, seen}
-use Rattle.command_lines.specs.declared.faults.LineFault.{LineFault}
 use Rattle.text_lines.specs.declared.faults.ScriptFault.{ScriptFault}
 use Rattle.text_lines.specs.declared.faults.ScriptFault.TheVariants as fault
 use Rattle.text_lines.specs.declared.faults.WriteFault.{WriteFault}
 use Rattle.text_lines.specs.declared.faults.WriteFault.TheVariants as write
 use Rattle.text_lines.specs.Lines.{spoken, count_of_all, LosesLines, LosesInto, MayEndIn}
-use Rattle.command_lines.specs.Commands.{LineAsks}
 use Rattle.command_lines.specs.Printing.{shown_text, shown_line, is_fine, Shown}
 use Rattle.text_lines.specs.Writing.{AppendsPart, stop_of}
-use Rattle.cluster_script.specs.Script.{AllAsk, behind, behind_all, shown, shown_all}
-use Rattle.cluster_script.specs.Played.{PlaysLine, PlaysLines, PlaysSome, LosesNext, StopsReading, StopsPlaying, PlaysAll, shown_on}
+use Rattle.cluster_script.specs.Script.{Outcome, ComesTo, AllComeTo, behind, behind_all, shown, shown_all}
+use Rattle.cluster_script.specs.Played.{PlaysLine, PlaysLines, PlaysSome, StopsReading, StopsPlaying, PlaysAll, shown_on}
 use Rattle.text_lines.proofs.Written.{AppendsPart-behind, AppendsPart-whole}
 use Rattle.text_lines.proofs.Known.{GoesPast-behind, LosesLines-trans, LosesLines-nil, LosesInto-whole, LosesInto-behind, MayEndIn-none, spoken-append, count_of_all-append}
 
@@ -31,34 +28,33 @@ shown_text-append (x ∷ xs) ys =
     ∙ sym (append_assoc (shown_line x) (shown_text xs) (shown_text ys))
 
 -- one line more
-pub AllAsk-push : (ls : List (List ℕ)) (asked : List (Result ScriptLine LineFault)) (l : List ℕ)
-    (a : Result ScriptLine LineFault)
-    → AllAsk ls asked → LineAsks l a → AllAsk (ls ++ l ∷ []) (asked ++ a ∷ [])
-AllAsk-push [] [] l a h k = (k, tt)
-AllAsk-push [] (b ∷ bs) l a h k = absurd h
-AllAsk-push (m ∷ ms) [] l a h k = absurd h
-AllAsk-push (m ∷ ms) (b ∷ bs) l a h k = (h.0, AllAsk-push ms bs l a h.1 k)
+pub AllComeTo-push : (ls : List (List ℕ)) (outcomes : List Outcome) (l : List ℕ) (x : Outcome)
+    → AllComeTo ls outcomes → ComesTo l x → AllComeTo (ls ++ l ∷ []) (outcomes ++ x ∷ [])
+AllComeTo-push [] [] l x h k = (k, tt)
+AllComeTo-push [] (y ∷ ys) l x h k = absurd h
+AllComeTo-push (m ∷ ms) [] l x h k = absurd h
+AllComeTo-push (m ∷ ms) (y ∷ ys) l x h k = (h.0, AllComeTo-push ms ys l x h.1 k)
 
 module _ (o : Opening) where
-  pub behind_all-push : (w : World) (asked : List (Result ScriptLine LineFault)) (a : Result ScriptLine LineFault)
-      → behind_all o w (asked ++ a ∷ []) ≡ behind o (behind_all o w asked) a
-  behind_all-push w [] a = refl
-  behind_all-push w (b ∷ asked) a = behind_all-push (behind o w b) asked a
+  pub behind_all-push : (w : World) (outcomes : List Outcome) (x : Outcome)
+      → behind_all o w (outcomes ++ x ∷ []) ≡ behind o (behind_all o w outcomes) x
+  behind_all-push w [] x = refl
+  behind_all-push w (y ∷ outcomes) x = behind_all-push (behind o w y) outcomes x
 
-  pub shown_all-push : (w : World) (asked : List (Result ScriptLine LineFault)) (a : Result ScriptLine LineFault)
-      → shown_all o w (asked ++ a ∷ []) ≡ shown_all o w asked ++ shown o (behind_all o w asked) a
-  shown_all-push w [] a = append-nil (shown o w a)
-  shown_all-push w (b ∷ asked) a =
-      ap (λ (t : List Shown). shown o w b ++ t) (shown_all-push (behind o w b) asked a)
-      ∙ sym (append_assoc (shown o w b) (shown_all o (behind o w b) asked)
-      (shown o (behind_all o (behind o w b) asked) a))
+  pub shown_all-push : (w : World) (outcomes : List Outcome) (x : Outcome)
+      → shown_all o w (outcomes ++ x ∷ []) ≡ shown_all o w outcomes ++ shown o (behind_all o w outcomes) x
+  shown_all-push w [] x = append-nil (shown o w x)
+  shown_all-push w (y ∷ outcomes) x =
+      ap (λ (t : List Shown). shown o w y ++ t) (shown_all-push (behind o w y) outcomes x)
+      ∙ sym (append_assoc (shown o w y) (shown_all o (behind o w y) outcomes)
+      (shown o (behind_all o (behind o w y) outcomes) x))
 
 -- no line was played yet
 pub PlaysLines-start : (input : Option (List ℕ)) (most : ℕ) (old : Held) (a : Option (List ℕ))
     → PlaysLines [] input input most most old old a a true
 PlaysLines-start input most old a = record {
   taken = [];
-  asked = [];
+  outcomes = [];
   read = LosesLines-nil input;
   counted = omega arith;
   each = tt;
@@ -71,23 +67,23 @@ PlaysLines-start input most old a = record {
 module _ (input mid : Option (List ℕ)) (most l1 : ℕ) (old h1 : Held) (a b : Option (List ℕ)) (fine : Bool)
     (P : PlaysLines [] input mid most l1 old h1 a b fine) where
   -- what one more line prints
-  pub text-push : (asked : Result ScriptLine LineFault)
-      → shown_text (shown_all (opening_of old) (seen old) (P.asked ++ asked ∷ []))
-      ≡ shown_text (shown_all (opening_of old) (seen old) P.asked) ++ shown_on h1 asked
-  text-push asked =
-      ap shown_text (shown_all-push (opening_of old) (seen old) P.asked asked)
-      ∙ shown_text-append (shown_all (opening_of old) (seen old) P.asked)
-      (shown (opening_of old) (behind_all (opening_of old) (seen old) P.asked) asked)
-      ∙ ap (λ (w : World). shown_text (shown_all (opening_of old) (seen old) P.asked)
-      ++ shown_text (shown (opening_of old) w asked)) (sym P.world)
-      ∙ ap (λ (o : Opening). shown_text (shown_all (opening_of old) (seen old) P.asked)
-      ++ shown_text (shown o (seen h1) asked)) (sym P.opening)
+  pub text-push : (outcome : Outcome)
+      → shown_text (shown_all (opening_of old) (seen old) (P.outcomes ++ outcome ∷ []))
+      ≡ shown_text (shown_all (opening_of old) (seen old) P.outcomes) ++ shown_on h1 outcome
+  text-push outcome =
+      ap shown_text (shown_all-push (opening_of old) (seen old) P.outcomes outcome)
+      ∙ shown_text-append (shown_all (opening_of old) (seen old) P.outcomes)
+      (shown (opening_of old) (behind_all (opening_of old) (seen old) P.outcomes) outcome)
+      ∙ ap (λ (w : World). shown_text (shown_all (opening_of old) (seen old) P.outcomes)
+      ++ shown_text (shown (opening_of old) w outcome)) (sym P.world)
+      ∙ ap (λ (o : Opening). shown_text (shown_all (opening_of old) (seen old) P.outcomes)
+      ++ shown_text (shown o (seen h1) outcome)) (sym P.opening)
 
   -- what was played so far, where a fault comes behind empty lines
   module _ (rest : Option (List ℕ)) (ls : List (List ℕ)) (part : List ℕ) (s : spoken ls ≡ []) (t : LosesInto mid rest
       ls part) where
-    pub each-blank : AllAsk (spoken (P.taken ++ ls)) P.asked
-    each-blank = subst (λ (xs : List (List ℕ)). AllAsk xs P.asked)
+    pub each-blank : AllComeTo (spoken (P.taken ++ ls)) P.outcomes
+    each-blank = subst (λ (xs : List (List ℕ)). AllComeTo xs P.outcomes)
         (sym (spoken-append P.taken ls ∙ ap (λ (xs : List (List ℕ)). spoken P.taken ++ xs) s ∙ append-nil (spoken
         P.taken))) P.each
 
@@ -95,7 +91,7 @@ module _ (input mid : Option (List ℕ)) (most l1 : ℕ) (old h1 : Held) (a b : 
     PlaysSome-so_far = record {
       taken = P.taken ++ ls;
       part = part;
-      asked = P.asked;
+      outcomes = P.outcomes;
       read = LosesInto-behind input mid rest P.taken ls part P.read t;
       each = each-blank;
       wrote = P.wrote;
@@ -105,7 +101,7 @@ module _ (input mid : Option (List ℕ)) (most l1 : ℕ) (old h1 : Held) (a b : 
     PlaysSome-part = record {
       taken = P.taken ++ ls;
       part = part;
-      asked = P.asked;
+      outcomes = P.outcomes;
       read = LosesInto-behind input mid rest P.taken ls part P.read t;
       each = each-blank;
       wrote = subst (λ (t : List ℕ). AppendsPart a b t) (append-nil _) (AppendsPart-whole a b _ [] P.wrote);
@@ -120,60 +116,55 @@ module _ (input mid : Option (List ℕ)) (most l1 : ℕ) (old h1 : Held) (a b : 
   StopsPlaying-reading rest fault.Write g = (PlaysSome-part rest g.0 g.1 g.2 g.3, g.4)
   StopsPlaying-reading rest fault.Memory g = (PlaysSome-part rest g.0 g.1 g.2 g.3, g.4)
 
-  -- memory is refused for what the next line asks
-  pub StopsPlaying-next : (rest : Option (List ℕ)) → LosesNext mid rest
-      → StopsPlaying [] input rest most old a b fault.Memory
-  StopsPlaying-next rest g = (PlaysSome-part rest g.0 g.1 g.2 g.3, g.4)
-
-  module _ (rest : Option (List ℕ)) (ls : List (List ℕ)) (line : List ℕ) (asked : Result ScriptLine LineFault)
+  module _ (rest : Option (List ℕ)) (ls : List (List ℕ)) (line : List ℕ) (outcome : Outcome)
       (s : spoken ls ≡ line ∷ []) (t : LosesLines mid rest ls)
-      (q : LineAsks line asked) where
-    pub each-push : AllAsk (spoken (P.taken ++ ls)) (P.asked ++ asked ∷ [])
-    each-push = subst (λ (xs : List (List ℕ)). AllAsk xs (P.asked ++ asked ∷ []))
+      (q : ComesTo line outcome) where
+    pub each-push : AllComeTo (spoken (P.taken ++ ls)) (P.outcomes ++ outcome ∷ [])
+    each-push = subst (λ (xs : List (List ℕ)). AllComeTo xs (P.outcomes ++ outcome ∷ []))
         (sym (spoken-append P.taken ls ∙ ap (λ (xs : List (List ℕ)). spoken P.taken ++ xs) s))
-        (AllAsk-push (spoken P.taken) P.asked line asked P.each q)
+        (AllComeTo-push (spoken P.taken) P.outcomes line outcome P.each q)
 
     -- a fault comes while a line is played
-    abbrev pub PlaysSome-next : (c : Option (List ℕ)) → AppendsPart b c (shown_on h1 asked)
+    abbrev pub PlaysSome-next : (c : Option (List ℕ)) → AppendsPart b c (shown_on h1 outcome)
         → PlaysSome AppendsPart [] input rest old a c
     PlaysSome-next c p = record {
       taken = P.taken ++ ls;
       part = [];
-      asked = P.asked ++ asked ∷ [];
+      outcomes = P.outcomes ++ outcome ∷ [];
       read = LosesInto-whole input rest (P.taken ++ ls) (LosesLines-trans input mid rest P.taken ls P.read t);
       each = each-push;
-      wrote = subst (λ (x : List ℕ). AppendsPart a c x) (sym (text-push asked))
-          (AppendsPart-behind a b c _ (shown_on h1 asked) P.wrote p);
+      wrote = subst (λ (x : List ℕ). AppendsPart a c x) (sym (text-push outcome))
+          (AppendsPart-behind a b c _ (shown_on h1 outcome) P.wrote p);
     }
 
     -- a line is played
     pub PlaysLines-next : (l2 : ℕ) (h2 : Held) (c : Option (List ℕ)) (fine2 : Bool) → l1 ≡ l2 + count_of_all ls
-        → PlaysLine h1 h2 asked b c fine2
+        → PlaysLine h1 h2 outcome b c fine2
         → PlaysLines [] input rest most l2 old h2 a c (fine && fine2)
     PlaysLines-next l2 h2 c fine2 e p = record {
       taken = P.taken ++ ls;
-      asked = P.asked ++ asked ∷ [];
+      outcomes = P.outcomes ++ outcome ∷ [];
       read = LosesLines-trans input mid rest P.taken ls P.read t;
       counted = omega (arith, P.counted, e, count_of_all-append P.taken ls);
       each = each-push;
       opening = p.opening ∙ P.opening;
-      world = p.world ∙ ap (λ (o : Opening). behind o (seen h1) asked) P.opening
-          ∙ ap (λ (w : World). behind (opening_of old) w asked) P.world
-          ∙ sym (behind_all-push (opening_of old) (seen old) P.asked asked);
-      wrote = subst (λ (x : List ℕ). Appends a c x) (sym (text-push asked))
-          (Appends-trans a b c _ (shown_on h1 asked) P.wrote p.wrote);
+      world = p.world ∙ ap (λ (o : Opening). behind o (seen h1) outcome) P.opening
+          ∙ ap (λ (w : World). behind (opening_of old) w outcome) P.world
+          ∙ sym (behind_all-push (opening_of old) (seen old) P.outcomes outcome);
+      wrote = subst (λ (x : List ℕ). Appends a c x) (sym (text-push outcome))
+          (Appends-trans a b c _ (shown_on h1 outcome) P.wrote p.wrote);
       fine_is = ap (λ (x : Bool). x && fine2) P.fine_is
-          ∙ ap (λ (x : Bool). list_all is_fine (shown_all (opening_of old) (seen old) P.asked) && x)
-          (p.fine_is ∙ ap (λ (o : Opening). list_all is_fine (shown o (seen h1) asked)) P.opening
-          ∙ ap (λ (w : World). list_all is_fine (shown (opening_of old) w asked)) P.world)
-          ∙ sym (list_all-append is_fine (shown_all (opening_of old) (seen old) P.asked)
-          (shown (opening_of old) (behind_all (opening_of old) (seen old) P.asked) asked))
+          ∙ ap (λ (x : Bool). list_all is_fine (shown_all (opening_of old) (seen old) P.outcomes) && x)
+          (p.fine_is ∙ ap (λ (o : Opening). list_all is_fine (shown o (seen h1) outcome)) P.opening
+          ∙ ap (λ (w : World). list_all is_fine (shown (opening_of old) w outcome)) P.world)
+          ∙ sym (list_all-append is_fine (shown_all (opening_of old) (seen old) P.outcomes)
+          (shown (opening_of old) (behind_all (opening_of old) (seen old) P.outcomes) outcome))
           ∙ ap (λ (xs : List Shown). list_all is_fine xs)
-          (sym (shown_all-push (opening_of old) (seen old) P.asked asked));
+          (sym (shown_all-push (opening_of old) (seen old) P.outcomes outcome));
     }
 
 -- what the exit of a `?` says of lines
-pub PlaysAll-err : (first : List (Result ScriptLine LineFault)) (input rest : Option (List ℕ)) (most left : ℕ) (old new
+pub PlaysAll-err : (first : List Outcome) (input rest : Option (List ℕ)) (most left : ℕ) (old new
     : Held) (a b : Option (List ℕ)) (r : Result Bool ScriptFault) (y : ScriptFault)
     → r ≡ Err y → StopsPlaying first input rest most old a b y → PlaysAll first input rest most left old new a b r
 PlaysAll-err first input rest most left old new a b r y e p = rw e p
@@ -184,13 +175,13 @@ pub PlaysLines-kept : (input rest : Option (List ℕ)) (most left : ℕ) (old ne
     → PlaysLines [] input rest most left old new a c fine
 PlaysLines-kept input rest most left old new a b c fine p k = record {
   taken = p.taken;
-  asked = p.asked;
+  outcomes = p.outcomes;
   read = p.read;
   counted = p.counted;
   each = p.each;
   opening = p.opening;
   world = p.world;
-  wrote = Appends-kept a b c (shown_text (shown_all (opening_of old) (seen old) p.asked)) p.wrote k;
+  wrote = Appends-kept a b c (shown_text (shown_all (opening_of old) (seen old) p.outcomes)) p.wrote k;
   fine_is = p.fine_is;
 }
 
@@ -201,7 +192,7 @@ pub PlaysLines-blank : (input mid rest : Option (List ℕ)) (most l1 l2 : ℕ) (
     → PlaysLines [] input rest most l2 old h1 a b fine
 PlaysLines-blank input mid rest most l1 l2 old h1 a b fine P ls s t e = record {
   taken = P.taken ++ ls;
-  asked = P.asked;
+  outcomes = P.outcomes;
   read = LosesLines-trans input mid rest P.taken ls P.read t;
   counted = omega (arith, P.counted, e, count_of_all-append P.taken ls);
   each = each-blank input mid most l1 old h1 a b fine P rest ls [] s (LosesInto-whole mid rest ls t);
@@ -212,7 +203,7 @@ PlaysLines-blank input mid rest most l1 l2 old h1 a b fine P ls s t e = record {
 }
 
 -- a text wasn't written, or memory was refused
-pub StopsPlaying-writing : (first : List (Result ScriptLine LineFault)) (input rest : Option (List ℕ)) (most : ℕ) (old :
+pub StopsPlaying-writing : (first : List Outcome) (input rest : Option (List ℕ)) (most : ℕ) (old :
     Held) (a b : Option (List ℕ)) (f : WriteFault) (y : ScriptFault) → y ≡ stop_of f
     → (p : PlaysSome AppendsPart first input rest old a b) → p.part ≡ [] → StopsPlaying first input rest most old a b y
 StopsPlaying-writing first input rest most old a b write.Writer y e p n =
@@ -229,62 +220,62 @@ StopsPlaying-writing first input rest most old a b write.Memory y e p n =
     )
 
 -- a fault comes while the line is played that was read already
-abbrev pub PlaysSome-first : (input : Option (List ℕ)) (old : Held) (asked : Result ScriptLine LineFault)
-    (a b : Option (List ℕ)) → AppendsPart a b (shown_on old asked)
-    → PlaysSome AppendsPart (asked ∷ []) input input old a b
-PlaysSome-first input old asked a b p = record {
+abbrev pub PlaysSome-first : (input : Option (List ℕ)) (old : Held) (outcome : Outcome)
+    (a b : Option (List ℕ)) → AppendsPart a b (shown_on old outcome)
+    → PlaysSome AppendsPart (outcome ∷ []) input input old a b
+PlaysSome-first input old outcome a b p = record {
   taken = [];
   part = [];
-  asked = [];
+  outcomes = [];
   read = LosesInto-whole input input [] (LosesLines-nil input);
   each = tt;
   wrote = subst (λ (t : List ℕ). AppendsPart a b t)
-      (ap shown_text (sym (append-nil (shown (opening_of old) (seen old) asked)))) p;
+      (ap shown_text (sym (append-nil (shown (opening_of old) (seen old) outcome)))) p;
 }
 
 -- the line that was read already is played, and others behind it
-module _ (input rest : Option (List ℕ)) (old mid : Held) (asked : Result ScriptLine LineFault) (a b c : Option (List ℕ))
-    (fine : Bool) (L : PlaysLine old mid asked a b fine) where
+module _ (input rest : Option (List ℕ)) (old mid : Held) (outcome : Outcome) (a b c : Option (List ℕ))
+    (fine : Bool) (L : PlaysLine old mid outcome a b fine) where
   -- what they print
-  text-behind : (others : List (Result ScriptLine LineFault))
-      → shown_on old asked ++ shown_text (shown_all (opening_of mid) (seen mid) others)
-      ≡ shown_text (shown_all (opening_of old) (seen old) (asked ∷ others))
+  text-behind : (others : List Outcome)
+      → shown_on old outcome ++ shown_text (shown_all (opening_of mid) (seen mid) others)
+      ≡ shown_text (shown_all (opening_of old) (seen old) (outcome ∷ others))
   text-behind others =
-      ap (λ (o : Opening). shown_on old asked ++ shown_text (shown_all o (seen mid) others)) L.opening
-      ∙ ap (λ (w : World). shown_on old asked ++ shown_text (shown_all (opening_of old) w others)) L.world
-      ∙ sym (shown_text-append (shown (opening_of old) (seen old) asked)
-      (shown_all (opening_of old) (behind (opening_of old) (seen old) asked) others))
+      ap (λ (o : Opening). shown_on old outcome ++ shown_text (shown_all o (seen mid) others)) L.opening
+      ∙ ap (λ (w : World). shown_on old outcome ++ shown_text (shown_all (opening_of old) w others)) L.world
+      ∙ sym (shown_text-append (shown (opening_of old) (seen old) outcome)
+      (shown_all (opening_of old) (behind (opening_of old) (seen old) outcome) others))
 
   -- all is written that they print
-  abbrev PlaysSome-all : PlaysSome Appends [] input rest mid b c → PlaysSome Appends (asked ∷ []) input rest old a c
+  abbrev PlaysSome-all : PlaysSome Appends [] input rest mid b c → PlaysSome Appends (outcome ∷ []) input rest old a c
   PlaysSome-all p = record {
     taken = p.taken;
     part = p.part;
-    asked = p.asked;
+    outcomes = p.outcomes;
     read = p.read;
     each = p.each;
-    wrote = subst (λ (t : List ℕ). Appends a c t) (text-behind p.asked)
-        (Appends-trans a b c (shown_on old asked) (shown_text (shown_all (opening_of mid) (seen mid) p.asked))
+    wrote = subst (λ (t : List ℕ). Appends a c t) (text-behind p.outcomes)
+        (Appends-trans a b c (shown_on old outcome) (shown_text (shown_all (opening_of mid) (seen mid) p.outcomes))
         L.wrote p.wrote);
   }
 
   -- a part is written
   abbrev PlaysSome-less : PlaysSome AppendsPart [] input rest mid b c
-      → PlaysSome AppendsPart (asked ∷ []) input rest old a c
+      → PlaysSome AppendsPart (outcome ∷ []) input rest old a c
   PlaysSome-less p = record {
     taken = p.taken;
     part = p.part;
-    asked = p.asked;
+    outcomes = p.outcomes;
     read = p.read;
     each = p.each;
-    wrote = subst (λ (t : List ℕ). AppendsPart a c t) (text-behind p.asked)
-        (AppendsPart-behind a b c (shown_on old asked)
-        (shown_text (shown_all (opening_of mid) (seen mid) p.asked)) L.wrote p.wrote);
+    wrote = subst (λ (t : List ℕ). AppendsPart a c t) (text-behind p.outcomes)
+        (AppendsPart-behind a b c (shown_on old outcome)
+        (shown_text (shown_all (opening_of mid) (seen mid) p.outcomes)) L.wrote p.wrote);
   }
 
   -- the others end with a fault
   pub StopsPlaying-behind : (most : ℕ) (f : ScriptFault) → StopsPlaying [] input rest most mid b c f
-      → StopsPlaying (asked ∷ []) input rest most old a c f
+      → StopsPlaying (outcome ∷ []) input rest most old a c f
   StopsPlaying-behind most fault.TooManyLines p = (PlaysSome-all p.0, p.1, p.2)
   StopsPlaying-behind most fault.Read p = (PlaysSome-all p.0, p.1)
   StopsPlaying-behind most fault.Write p = (PlaysSome-less p.0, p.1)
@@ -293,23 +284,23 @@ module _ (input rest : Option (List ℕ)) (old mid : Held) (asked : Result Scrip
   -- the others are played
   pub PlaysLines-behind : (most left : ℕ) (new : Held) (fine2 : Bool)
       → PlaysLines [] input rest most left mid new b c fine2
-      → PlaysLines (asked ∷ []) input rest most left old new a c (fine && fine2)
+      → PlaysLines (outcome ∷ []) input rest most left old new a c (fine && fine2)
   PlaysLines-behind most left new fine2 p = record {
     taken = p.taken;
-    asked = p.asked;
+    outcomes = p.outcomes;
     read = p.read;
     counted = p.counted;
     each = p.each;
     opening = p.opening ∙ L.opening;
-    world = p.world ∙ ap (λ (o : Opening). behind_all o (seen mid) p.asked) L.opening
-        ∙ ap (λ (w : World). behind_all (opening_of old) w p.asked) L.world;
-    wrote = subst (λ (t : List ℕ). Appends a c t) (text-behind p.asked)
-        (Appends-trans a b c (shown_on old asked) (shown_text (shown_all (opening_of mid) (seen mid) p.asked))
+    world = p.world ∙ ap (λ (o : Opening). behind_all o (seen mid) p.outcomes) L.opening
+        ∙ ap (λ (w : World). behind_all (opening_of old) w p.outcomes) L.world;
+    wrote = subst (λ (t : List ℕ). Appends a c t) (text-behind p.outcomes)
+        (Appends-trans a b c (shown_on old outcome) (shown_text (shown_all (opening_of mid) (seen mid) p.outcomes))
         L.wrote p.wrote);
     fine_is = ap (λ (x : Bool). x && fine2) L.fine_is
-        ∙ ap (λ (x : Bool). list_all is_fine (shown (opening_of old) (seen old) asked) && x)
-        (p.fine_is ∙ ap (λ (o : Opening). list_all is_fine (shown_all o (seen mid) p.asked)) L.opening
-        ∙ ap (λ (w : World). list_all is_fine (shown_all (opening_of old) w p.asked)) L.world)
-        ∙ sym (list_all-append is_fine (shown (opening_of old) (seen old) asked)
-        (shown_all (opening_of old) (behind (opening_of old) (seen old) asked) p.asked));
+        ∙ ap (λ (x : Bool). list_all is_fine (shown (opening_of old) (seen old) outcome) && x)
+        (p.fine_is ∙ ap (λ (o : Opening). list_all is_fine (shown_all o (seen mid) p.outcomes)) L.opening
+        ∙ ap (λ (w : World). list_all is_fine (shown_all (opening_of old) w p.outcomes)) L.world)
+        ∙ sym (list_all-append is_fine (shown (opening_of old) (seen old) outcome)
+        (shown_all (opening_of old) (behind (opening_of old) (seen old) outcome) p.outcomes));
   }

@@ -16,10 +16,12 @@ use Rattle.cluster_world.specs.Playing.{Played, WaitsOn}
 use Rattle.command_lines.specs.declared.Answer.{Answer}
 use Rattle.command_lines.specs.declared.WorldEvent.{WorldEvent}
 use Rattle.text_lines.specs.declared.faults.WriteFault.{WriteFault}
-use Rattle.command_lines.specs.Printing.{answers_text, output_line, shown_text, is_fine, is_fine_output, Shows}
+use Rattle.command_lines.specs.declared.faults.LineFault.TheVariants.{Memory}
+use Rattle.command_lines.specs.Printing.{answers_text, output_line, error_line, word_of, shown_text, is_fine, is_fine_output, Shown, Shows, Refuses}
 use Rattle.text_lines.specs.Writing.{AppendsPart, Writes}
-use Rattle.cluster_script.specs.Script.{settle_limit}
-use Rattle.cluster_script.specs.Played.{PlaysOrStops, Delivers, shown_on, settle_end}
+use Rattle.cluster_world.proofs.Agreeing.{run-append, all_answers-append}
+use Rattle.cluster_script.specs.Script.{Plays, Breaks, settle_limit, broken, shown}
+use Rattle.cluster_script.specs.Played.{PlaysOrStops, PlaysAsked, Delivers, shown_on, settle_end}
 use Rattle.text_lines.proofs.Written.{AppendsPart-behind, AppendsPart-more}
 use Rattle.cluster_script.proofs.Playing.{opening_of-same}
 
@@ -46,6 +48,33 @@ module _ (o : Opening) where
   settle-none (suc m) w h = ap (λ (x : Option AnyEvent). elim x as (λ _. List AnyEvent)
       [ None ↦ [] | Some e ↦ e ∷ deliveries_left o m (happens o w e) ]) h
 
+  -- one delivery more
+  pub deliveries-push : (k : ℕ) (w : World) (e : AnyEvent)
+      → next_delivery o (run o w (deliveries_left o k w)) ≡ Some e
+      → deliveries_left o (suc k) w ≡ deliveries_left o k w ++ e ∷ []
+  deliveries-push zero w e h = settle-next zero w e h
+  deliveries-push (suc k) w e h = go (next_delivery o w) refl (λ v next. deliveries-push k v e next)
+    where
+      go : (r : Option AnyEvent) → next_delivery o w ≡ r
+          → ((v : World) → next_delivery o (run o v (deliveries_left o k v)) ≡ Some e
+          → deliveries_left o (suc k) v ≡ deliveries_left o k v ++ e ∷ [])
+          → deliveries_left o (suc (suc k)) w ≡ deliveries_left o (suc k) w ++ e ∷ []
+      go None q behind =
+          let none : next_delivery o w ≡ Some e =
+          subst (λ (es : List AnyEvent). next_delivery o (run o w es) ≡ Some e) (settle-none (suc k) w q) h in
+          absurd (some_none e (sym none ∙ q))
+        where
+          some_none : (d : AnyEvent) → Some d ≡ None → ⊥
+          some_none d z = cc
+      go (Some d) q behind =
+          let v = happens o w d in
+          let first = settle-next k w d q in
+          let next : next_delivery o (run o v (deliveries_left o k v)) ≡ Some e =
+          subst (λ (es : List AnyEvent). next_delivery o (run o w es) ≡ Some e) first h in
+          settle-next (suc k) w d q
+          ∙ ap (λ (es : List AnyEvent). d ∷ es) (behind v next)
+          ∙ ap (λ (es : List AnyEvent). es ++ e ∷ []) (sym first)
+
 -- k deliveries were made and their answers written; the others are those that the world makes as it stands
 pub record Settles (k : ℕ) (old now : Held) (a b : Option (List ℕ)) : Type 0 where
   pub most : ℕ
@@ -56,6 +85,8 @@ pub record Settles (k : ℕ) (old now : Held) (a b : Option (List ℕ)) : Type 0
       ≡ run (opening_of old) (seen now) (deliveries_left (opening_of old) most (seen now))
   pub answered : all_answers (opening_of old) (seen old) (deliveries_left (opening_of old) settle_limit (seen old))
       ≡ given ++ all_answers (opening_of old) (seen now) (deliveries_left (opening_of old) most (seen now))
+  pub made : seen now ≡ run (opening_of old) (seen old) (deliveries_left (opening_of old) k (seen old))
+  pub said : given ≡ all_answers (opening_of old) (seen old) (deliveries_left (opening_of old) k (seen old))
   pub wrote : Appends a b (answers_text given)
 
 module _ (o : Opening) where
@@ -87,6 +118,8 @@ Settles-start old a = record {
   world = ap (λ (n : ℕ). run (opening_of old) (seen old) (deliveries_left (opening_of old) n (seen old))) settle_limit-is;
   answered = ap (λ (n : ℕ). all_answers (opening_of old) (seen old) (deliveries_left (opening_of old) n (seen old)))
       settle_limit-is;
+  made = refl;
+  said = refl;
   wrote = Appends-nil a;
 }
 
@@ -103,6 +136,12 @@ module _ (k : ℕ) (old now : Held) (a b : Option (List ℕ)) (S : Settles k old
     pub at_opening : next_delivery (opening_of old) (seen now) ≡ Some e
     at_opening = subst (λ (o : Opening). next_delivery o (seen now) ≡ Some e) S.opening h
 
+    -- the deliveries so far, and this one
+    pub made-next : deliveries_left (opening_of old) (suc k) (seen old)
+        ≡ deliveries_left (opening_of old) k (seen old) ++ e ∷ []
+    made-next = deliveries-push (opening_of old) k (seen old) e
+        (subst (λ (w : World). next_delivery (opening_of old) w ≡ Some e) S.made at_opening)
+
     -- all answers, where the next delivery leads to v
     pub answered-next : (v : World) → v ≡ happens (opening_of old) (seen now) e
         → all_answers (opening_of old) (seen old) (deliveries_left (opening_of old) settle_limit (seen old))
@@ -117,6 +156,9 @@ module _ (k : ℕ) (old now : Held) (a b : Option (List ℕ)) (S : Settles k old
         ∙ sym (append_assoc S.given (answers (opening_of old) (seen now) e)
         (all_answers (opening_of old) v (deliveries_left (opening_of old) (most-next l).0 v)))
 
+    one_more : (n : ℕ) → n + 1 ≡ suc n
+    one_more n = omega arith
+
     -- the next delivery was made
     pub Settles-next : (new : Held) (c : Option (List ℕ)) → opening_of new ≡ opening_of now → seen new
         ≡ happens (opening_of now) (seen now) e
@@ -126,6 +168,9 @@ module _ (k : ℕ) (old now : Held) (a b : Option (List ℕ)) (S : Settles k old
         (λ (o : Opening). seen new ≡ happens o (seen now) e) S.opening q in
         let w2 : Appends b c (answers_text (answers (opening_of old) (seen now) e)) =
         subst (λ (o : Opening). Appends b c (answers_text (answers o (seen now) e))) S.opening w in
+        let es = deliveries_left (opening_of old) k (seen old) in
+        let more : deliveries_left (opening_of old) (k + 1) (seen old) ≡ es ++ e ∷ [] =
+        ap (λ (n : ℕ). deliveries_left (opening_of old) n (seen old)) (one_more k) ∙ made-next in
         record {
           most = (most-next l).0;
           given = S.given ++ answers (opening_of old) (seen now) e;
@@ -135,6 +180,15 @@ module _ (k : ℕ) (old now : Held) (a b : Option (List ℕ)) (S : Settles k old
               ∙ ap (λ (x : ℕ). run (opening_of old) (seen now) (deliveries_left (opening_of old) x (seen now))) (most-next l).1
               ∙ run-next (opening_of old) (most-next l).0 (seen now) (seen new) e at_opening q2;
           answered = answered-next (seen new) q2;
+          made = q2 ∙ ap (λ (w : World). happens (opening_of old) w e) S.made
+              ∙ sym (ap (λ (ds : List AnyEvent). run (opening_of old) (seen old) ds) more
+              ∙ run-append (opening_of old) (seen old) es (e ∷ []));
+          said = ap (λ (w : World). S.given ++ answers (opening_of old) w e) S.made
+              ∙ ap (λ (ss : List AnyAnswer). ss ++ answers (opening_of old) (run (opening_of old) (seen old) es) e) S.said
+              ∙ sym (ap (λ (ds : List AnyEvent). all_answers (opening_of old) (seen old) ds) more
+              ∙ all_answers-append (opening_of old) (seen old) es (e ∷ [])
+              ∙ ap (λ (ss : List AnyAnswer). all_answers (opening_of old) (seen old) es ++ ss)
+              (append-nil (answers (opening_of old) (run (opening_of old) (seen old) es) e)));
           wrote = subst (λ (t : List ℕ). Appends a c t)
               (sym (answers_text-append S.given (answers (opening_of old) (seen now) e)))
               (Appends-trans a b c (answers_text S.given) (answers_text (answers (opening_of old) (seen now) e)) S.wrote
@@ -154,8 +208,20 @@ pub Said-fine-last : (given : List AnyAnswer) (x : Output) → list_all is_fine 
 Said-fine-last [] x = and-true (is_fine_output x)
 Said-fine-last (s ∷ given) x = Said-fine-last given x
 
+-- answers, and memory is refused
+pub Broken-text : (given : List AnyAnswer) → shown_text (map Shows (map Said given) ++ Refuses Memory ∷ [])
+    ≡ answers_text given ++ error_line (word_of Memory)
+Broken-text [] = append-nil (error_line (word_of Memory))
+Broken-text (s ∷ given) =
+    ap (λ (t : List ℕ). output_line (Said s) ++ t) (Broken-text given)
+    ∙ sym (append_assoc (output_line (Said s)) (answers_text given) (error_line (word_of Memory)))
+
+pub Broken-fine : (given : List AnyAnswer) → list_all is_fine (map Shows (map Said given) ++ Refuses Memory ∷ []) ≡ false
+Broken-fine [] = refl
+Broken-fine (s ∷ given) = Broken-fine given
+
 -- what `settle` prints
-pub settle-text : (h : Held) → shown_on h (Ok Settle)
+pub settle-text : (h : Held) → shown_on h (Plays Settle)
     ≡ answers_text (all_answers (opening_of h) (seen h) (deliveries_left (opening_of h) settle_limit (seen h)))
     ++ output_line (ends_at (opening_of h) (run (opening_of h) (seen h) (deliveries_left (opening_of h) settle_limit (seen h))))
 settle-text h = Said-text-last (all_answers (opening_of h) (seen h) (deliveries_left (opening_of h) settle_limit (seen h)))
@@ -172,7 +238,7 @@ module _ (k : ℕ) (old now : Held) (a b : Option (List ℕ)) (S : Settles k old
   pub settle-stopped : (e : AnyEvent) → next_delivery (opening_of now) (seen now) ≡ Some e → k < 100000
       → (c : Option (List ℕ))
       → AppendsPart b c (answers_text (answers (opening_of now) (seen now) e))
-      → AppendsPart a c (shown_on old (Ok Settle))
+      → AppendsPart a c (shown_on old (Plays Settle))
   settle-stopped e h l c p =
       let p2 : AppendsPart b c (answers_text (answers (opening_of old) (seen now) e)) =
       subst (λ (o : Opening). AppendsPart b c (answers_text (answers o (seen now) e))) S.opening p in
@@ -204,7 +270,7 @@ module _ (k : ℕ) (old now : Held) (a b : Option (List ℕ)) (S : Settles k old
     output-end = ap (λ (w : World). ends_at (opening_of old) w) world-end
         ∙ ap (λ (o : Opening). ends_at o (seen now)) (sym S.opening) ∙ ends
 
-    pub text-end : shown_on old (Ok Settle) ≡ answers_text S.given ++ output_line (settle_end s)
+    pub text-end : shown_on old (Plays Settle) ≡ answers_text S.given ++ output_line (settle_end s)
     text-end = settle-text old ∙ ap (λ (x : Output). answers_text
         (all_answers (opening_of old) (seen old) (deliveries_left (opening_of old) settle_limit (seen old))) ++ output_line x)
         output-end
@@ -213,7 +279,7 @@ module _ (k : ℕ) (old now : Held) (a b : Option (List ℕ)) (S : Settles k old
     -- no more deliveries are made: how it ended is written
     pub settle-ended : (c : Option (List ℕ)) (r : Result Bool WriteFault) → Writes b c r (output_line (settle_end s))
         → IfOk r (λ fine. fine ≡ s)
-        → PlaysOrStops old now (Ok Settle) a c r
+        → PlaysOrStops old now (Plays Settle) a c r
     settle-ended c (Err f) w q =
         subst (λ (t : List ℕ). AppendsPart a c t) (sym text-end)
         (AppendsPart-behind a b c (answers_text S.given) (output_line (settle_end s)) S.wrote w)
@@ -233,19 +299,61 @@ module _ (k : ℕ) (old now : Held) (a b : Option (List ℕ)) (S : Settles k old
         fine-end true = refl
         fine-end false = refl
 
--- an event that was accepted, and its answers
-pub Delivers-played : {A : Type 0} (old new : Held) (e : WorldEvent) (given : List Answer) (a b : Option (List ℕ))
-    (r : Result A WriteFault)
-    → Played e old new [] given → Writes a b r (answers_text (map answer_of given))
-    → Delivers old new (event_of e) a b r
-Delivers-played old new e given a b (Ok x) p w = (
-  opening_of-same old new p.nodes p.cluster,
-  p.happens,
-  subst
-      (λ (ss : List AnyAnswer). Appends a b (answers_text ss)) p.answers w,
-)
-Delivers-played old new e given a b (Err f) p w = subst (λ (ss : List AnyAnswer). AppendsPart a b (answers_text ss))
-    p.answers w
+  -- memory is refused for the next delivery
+  module _ (e : AnyEvent) (h : next_delivery (opening_of now) (seen now) ≡ Some e) (l : k < 100000) where
+    -- what was made and said so far
+    shown-broken : shown (opening_of old) (seen old) (Breaks k) ≡ map Shows (map Said S.given) ++ Refuses Memory ∷ []
+    shown-broken =
+        let o = opening_of old in
+        let es = deliveries_left o k (seen old) in
+        let waits : next_delivery o (run o (seen old) es) ≡ Some e =
+        subst (λ (w : World). next_delivery o w ≡ Some e) S.made (at_opening k old now a b S e h l) in
+        ap (λ (r : Option AnyEvent). map Shows (map Said (all_answers o (seen old) es)) ++ broken r ∷ []) waits
+        ∙ ap (λ (ss : List AnyAnswer). map Shows (map Said ss) ++ Refuses Memory ∷ []) (sym S.said)
+
+    text-broken : shown_on old (Breaks k) ≡ answers_text S.given ++ error_line (word_of Memory)
+    text-broken = ap shown_text shown-broken ∙ Broken-text S.given
+
+    within : k < settle_limit
+    within = subst (λ (n : ℕ). k < n) (sym settle_limit-is) l
+
+    pub settle-broken : (new : Held) (c d : Option (List ℕ)) → opening_of new ≡ opening_of now → seen new ≡ seen now
+        → c ≡ b → (r : Result Bool WriteFault) → Writes c d r (error_line (word_of Memory))
+        → IfOk r (λ fine. fine ≡ false) → PlaysAsked (Ok Settle) old new a d r
+    settle-broken new c d o n same (Err f) w q = (
+      Breaks k,
+      (refl, within),
+      subst (λ (t : List ℕ). AppendsPart a d t) (sym text-broken)
+          (AppendsPart-behind a b d (answers_text S.given) (error_line (word_of Memory)) S.wrote
+          (subst (λ (x : Option (List ℕ)). AppendsPart x d (error_line (word_of Memory))) same w)),
+    )
+    settle-broken new c d o n same (Ok fine) w q = (
+      Breaks k,
+      (refl, within),
+      record {
+        opening = o ∙ S.opening;
+        world = n ∙ S.made;
+        wrote = subst (λ (t : List ℕ). Appends a d t) (sym text-broken)
+            (Appends-trans a b d (answers_text S.given) (error_line (word_of Memory)) S.wrote
+            (subst (λ (x : Option (List ℕ)). Appends x d (error_line (word_of Memory))) same w));
+        fine_is = q ∙ sym (ap (λ (ss : List Shown). list_all is_fine ss) shown-broken ∙ Broken-fine S.given);
+      },
+    )
+
+-- an event that was accepted
+module _ (old new : Held) (e : WorldEvent) (given : List Answer) (a b : Option (List ℕ)) (p : Played e old new [] given) where
+  -- and its answers
+  pub Delivers-played : Appends a b (answers_text (map answer_of given)) → Delivers old new (event_of e) a b (Ok true)
+  Delivers-played w = (
+    opening_of-same old new p.nodes p.cluster,
+    p.happens,
+    subst (λ (ss : List AnyAnswer). Appends a b (answers_text ss)) p.answers w,
+  )
+
+  -- and a part of them, behind the exit of a `?`
+  pub Delivers-err : (r : Result Bool WriteFault) (y : WriteFault) → r ≡ Err y
+      → AppendsPart a b (answers_text (map answer_of given)) → Delivers old new (event_of e) a b r
+  Delivers-err r y q w = rw q (subst (λ (ss : List AnyAnswer). AppendsPart a b (answers_text ss)) p.answers w)
 
 -- a test for none, by the test for some
 pub is_none-by : {A : Type 0} (r : Option A) (x : Bool) → is_some r ≡ not x → is_none r ≡ x

@@ -1,17 +1,23 @@
 -- What is shown of a node.
-use Rattle.std.proofs.Common.{ℕ, Bool, true, false, List, ◌≡◌, Some, None, refl, sym, ap, ◌∙◌}
-use Rattle.std.specs.Prelude.{not, if◌then◌else◌}
+use Rattle.std.proofs.Common.{ℕ, Bool, true, false, List, [], ◌∷◌, ◌≡◌, Option, Some, None, refl, sym, ap, subst, ◌∙◌, append-nil, Result, Ok, Err, String, Global, string_bytes}
+use Rattle.std.proofs.lemmas.Result.{IfOk-weaker}
+use Rattle.std.proofs.Math.Bool.{and-true}
+use Rattle.std.specs.Prelude.{not, is_some, option_map, IfOk, if◌then◌else◌}
+use Rattle.std.specs.List.{list_all}
+use Rattle.std.specs.Io.KnownBytes.{Appends}
 use Rattle.registry_model.specs.Table.{Table}
 use Rattle.protocol_model.specs.Event.{NoSuchNode, NodeLeft}
 use Rattle.protocol_model.specs.World.{left}
-use Rattle.protocol_model.specs.Script.{Output, Error, TableIs, MembersAre, shown_at}
+use Rattle.protocol_model.specs.Script.{Line as ScriptLine, Output, Error, TableIs, MembersAre, shown_at}
 use Rattle.term.specs.NodeSets.{set_of, IsNodeSet}
 use Rattle.cluster_world.specs.NodeCoreHeld.{IsWithin}
 use Rattle.cluster_world.specs.Held.{Held}
 use Rattle.cluster_world.specs.Seen.{opening_of, seen}
-use Rattle.command_lines.specs.Printing.{output_line, error_line, refusal_word, is_fine_output}
-use Rattle.cluster_script.specs.Script.{settle_limit}
-use Rattle.cluster_script.specs.Played.{IsShown, table_of, members_of}
+use Rattle.command_lines.specs.Printing.{output_line, error_line, refusal_word, is_fine, is_fine_output, shown_text, Shown, Shows}
+use Rattle.text_lines.specs.declared.faults.WriteFault.{WriteFault}
+use Rattle.text_lines.specs.Writing.{AppendsPart, Writes}
+use Rattle.cluster_script.specs.Script.{Plays, settle_limit, shown, behind}
+use Rattle.cluster_script.specs.Played.{IsShown, PlaysAsked, shown_on, line_or_refusal, table_of, members_of}
 use Rattle.cluster_script.proofs.Nodes.{in_world-listed, nodes_of-listed}
 
 module _ (h : Held) (a : ℕ) (x : Output) where
@@ -76,3 +82,40 @@ IsShown-members h a xs line e r set within q l =
     IsShown-some h a (members_of h a) line e r refl
     (l ∙ ap (λ (cs : List ℕ). output_line (MembersAre cs))
     (sym (nodes_of-listed h xs ((seen h).node a).replica.members set within q)))
+
+-- a line that prints one output and plays nothing was played, where that was written
+module _ (h : Held) (l : ScriptLine) (x : Output) (s : shown (opening_of h) (seen h) (Plays l) ≡ Shows x ∷ [])
+    (same : behind (opening_of h) (seen h) (Plays l) ≡ seen h) (a b : Option (List ℕ)) where
+  text_of : output_line x ≡ shown_on h (Plays l)
+  text_of = sym (append-nil (output_line x)) ∙ sym (ap shown_text s)
+
+  pub PlaysAsked-shown : (r : Result Bool WriteFault) → Writes a b r (output_line x)
+      → IfOk r (λ fine. fine ≡ is_fine_output x) → PlaysAsked (Ok l) h h a b r
+  PlaysAsked-shown (Err f) w q = (Plays l, refl, subst (λ (t : List ℕ). AppendsPart a b t) text_of w)
+  PlaysAsked-shown (Ok fine) w q = (
+    Plays l,
+    refl,
+    record {
+      opening = refl;
+      world = sym same;
+      wrote = subst (λ (t : List ℕ). Appends a b t) text_of w;
+      fine_is = q ∙ sym (and-true (is_fine_output x)) ∙ sym (ap (λ (ss : List Shown). list_all is_fine ss) s);
+    },
+  )
+
+-- what is shown of a node was written, or why it isn't
+pub PlaysAsked-node : (h : Held) (a : ℕ) (x : Output) (l : ScriptLine) (line : Option (String Global))
+    → shown (opening_of h) (seen h) (Plays l) ≡ Shows (shown_at (opening_of h) settle_limit (seen h) a x) ∷ []
+    → behind (opening_of h) (seen h) (Plays l) ≡ seen h
+    → IsShown h a x (option_map string_bytes line)
+    → (old new : Option (List ℕ)) (r : Result Bool WriteFault)
+    → Writes old new r (line_or_refusal h a (option_map string_bytes line)) → IfOk r (λ fine. fine ≡ is_some line)
+    → PlaysAsked (Ok l) h h old new r
+PlaysAsked-node h a x l line s same i old new r w q =
+    PlaysAsked-shown h l (shown_at (opening_of h) settle_limit (seen h) a x) s same old new r
+    (subst (λ (t : List ℕ). Writes old new r t) i.text w)
+    (IfOk-weaker r _ _ (λ fine e. e ∙ sym (some_map line) ∙ i.fine) q)
+  where
+    some_map : (line : Option (String Global)) → is_some (option_map string_bytes line) ≡ is_some line
+    some_map None = refl
+    some_map (Some text) = refl

@@ -11,14 +11,15 @@ use Rattle.command_lines.specs.declared.Answer.{Answer}
 use Rattle.command_lines.specs.declared.faults.LineFault.{LineFault}
 use Rattle.text_lines.specs.declared.faults.WriteFault.{WriteFault}
 use Rattle.command_lines.specs.Printing.{answers_text, output_line}
-use Rattle.cluster_script.specs.Played.{PlaysOrStops, shown_on}
+use Rattle.cluster_script.specs.Script.{Outcome}
+use Rattle.cluster_script.specs.Played.{PlaysAsked, ComesOf, shown_on}
 use Rattle.text_lines.specs.Writing.{AppendsPart}
 
 -- what the exit of a `?` says of a line that is played
-pub PlaysOrStops-err : (old new : Held) (asked : Result ScriptLine LineFault) (a b : Option (List ℕ))
+pub PlaysAsked-err : (old new : Held) (asked : Result ScriptLine LineFault) (outcome : Outcome) (a b : Option (List ℕ))
     (r : Result Bool WriteFault) (y : WriteFault)
-    → r ≡ Err y → AppendsPart a b (shown_on old asked) → PlaysOrStops old new asked a b r
-PlaysOrStops-err old new asked a b r y e p = rw e p
+    → r ≡ Err y → ComesOf asked outcome → AppendsPart a b (shown_on old outcome) → PlaysAsked asked old new a b r
+PlaysAsked-err old new asked outcome a b r y e q p = (outcome, q, rw e p)
 
 -- the lines of answers, in three parts
 pub answers_text-parts : (front : List Answer) (x : Answer) (rest : List Answer)

@@ -1,5 +1,5 @@
 -- What it comes to that the headers of a script are read.
-use Rattle.std.specs.Prelude.{ℕ, ◌≡◌, ◌+◌, List, [], ◌∷◌, map, option_to_list, Option, Some, None, Result, Ok, Err}
+use Rattle.std.specs.Prelude.{ℕ, ◌≡◌, ◌⊎◌, ◌+◌, List, [], ◌∷◌, map, option_to_list, Option, Some, None, Result, Ok, Err}
 use Rattle.protocol_model.specs.World.{Opening, opening_world}
 use Rattle.protocol_model.specs.Script.{Line as ScriptLine}
 use Rattle.term.specs.declared.faults.TextFault.{TextFault}
@@ -8,30 +8,40 @@ use Rattle.cluster_world.specs.Seen.{opening_of, seen}
 use Rattle.command_lines.specs.Openings.{start_refused}
 use Rattle.command_lines.specs.declared.StartFault.{StartFault}
 use Rattle.command_lines.specs.declared.faults.LineFault.{LineFault}
-use Rattle.command_lines.specs.declared.faults.LineFault.TheVariants.{Start}
+use Rattle.command_lines.specs.declared.faults.LineFault.TheVariants.{Text, Start, Memory}
 use Rattle.text_lines.specs.declared.faults.ScriptFault.{ScriptFault}
 use Rattle.command_lines.specs.declared.grammar.Task.{Task}
-use Rattle.command_lines.specs.Commands.{asked_by}
+use Rattle.command_lines.specs.Commands.{LineAsks, asked_by}
 use Rattle.text_lines.specs.Lines.{spoken, count_of_all, LosesLines, LosesInto, HasNoLine, MayEndIn, GoesPastFor}
-use Rattle.cluster_script.specs.Script.{AllAsk, ReadsTexts, LineOpens, LoneOpens, PrintsSpoken, PrintsOn, OpensNone, opening_for, played}
+use Rattle.cluster_script.specs.Script.{ReadsTexts, LineOpens, LoneOpens, PrintsSpoken, PrintsOn, OpensNone, opening_for, played}
 use Rattle.cluster_script.specs.declared.header.Cluster.{Cluster}
 use Rattle.cluster_script.specs.declared.header.Headers.{Headers}
 use Rattle.cluster_script.specs.declared.header.Headers.TheVariants.{Open, Ended, Refused}
 
--- the nodes that texts spell, or the fault of the first that spells none; nothing where there are no texts
-abbrev pub ReadsHeader : Option (List (List ℕ)) → Option (Result (List ℕ) TextFault) → Type 0
+-- the nodes that texts spell, or the fault of the first that spells none; or memory was refused
+abbrev pub ReadsNodes : List (List ℕ) → Result (List ℕ) LineFault → Type 0
+ReadsNodes texts (Ok nodes) = ReadsTexts texts (Ok nodes)
+ReadsNodes texts (Err f) = ((g : TextFault) × ReadsTexts texts (Err g) × (f ≡ Text g)) ⊎ (f ≡ Memory)
+
+-- what the texts of a header come to, and nothing where there are none
+abbrev pub ReadsHeader : Option (List (List ℕ)) → Option (Result (List ℕ) LineFault) → Type 0
 ReadsHeader None None = Unit {0}
-ReadsHeader (Some texts) (Some nodes) = ReadsTexts texts nodes
+ReadsHeader (Some texts) (Some nodes) = ReadsNodes texts nodes
 ReadsHeader _ _ = ⊥
 
 -- a world stands as at its opening
 abbrev pub StandsAt : Opening → Held → Type 0
 StandsAt o world = (opening_of world ≡ o) × (seen world ≡ opening_world o)
 
--- a world of these nodes was started, or why it wasn't
+-- a world of these nodes was started, or why it wasn't; or memory was refused
 abbrev pub Starts : List ℕ → List ℕ → Result Held LineFault → Type 0
 Starts cluster lone (Ok world) = (start_refused cluster lone ≡ None) × StandsAt (opening_for cluster lone) world
-Starts cluster lone (Err f) = (g : StartFault) × (start_refused cluster lone ≡ Some g) × (f ≡ Start g)
+Starts cluster lone (Err f) = ((g : StartFault) × (start_refused cluster lone ≡ Some g) × (f ≡ Start g)) ⊎ (f ≡ Memory)
+
+-- the same, where the lone nodes were named so
+abbrev pub StartsBeside : List ℕ → Result (List ℕ) LineFault → Result Held LineFault → Type 0
+StartsBeside cluster (Ok lone) r = Starts cluster lone r
+StartsBeside cluster (Err f) r = r ≡ Err f
 
 -- a cluster of these nodes was started, or why it wasn't
 abbrev pub StartsCluster : List ℕ → Result Cluster LineFault → Type 0
@@ -43,6 +53,12 @@ abbrev pub OpensCluster : List ℕ → Result Cluster LineFault → Type 0
 OpensCluster line (Ok c) = LineOpens line (Ok c.nodes.items) × Starts c.nodes.items [] (Ok c.world)
 OpensCluster line (Err f) = LineOpens line (Err f)
 
+-- what each of these lines was read as, unless memory was refused for it
+abbrev pub AllReadAs : List (List ℕ) → List (Result ScriptLine LineFault) → Type 0
+AllReadAs [] [] = Unit {0}
+AllReadAs (l ∷ ls) (asked ∷ others) = (LineAsks l asked ⊎ (asked ≡ Err Memory)) × AllReadAs ls others
+AllReadAs _ _ = ⊥
+
 -- what was read already, as what the first line that is played asks for
 abbrev pub asked_first : Option (Result Task LineFault) → List (Result ScriptLine LineFault)
 asked_first first = map asked_by (option_to_list first)
@@ -50,7 +66,7 @@ asked_first first = map asked_by (option_to_list first)
 -- what was made of the line behind the `cluster` line
 abbrev pub OpensLone : List ℕ → List ℕ → Headers → Type 0
 OpensLone cluster line (Open world first) = (lone : List ℕ) × LoneOpens cluster (line ∷ []) (Ok lone)
-    × StandsAt (opening_for cluster lone) world × AllAsk (played (line ∷ [])) (asked_first first)
+    × StandsAt (opening_for cluster lone) world × AllReadAs (played (line ∷ [])) (asked_first first)
 OpensLone cluster line Ended = ⊥
 OpensLone cluster line (Refused f) = LoneOpens cluster (line ∷ []) (Err f)
 

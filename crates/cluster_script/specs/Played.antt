@@ -1,48 +1,61 @@
 -- What it comes to that the program plays a line, or reads on to the next one.
-use Rattle.std.specs.Prelude.{ℕ, Bool, ◌≡◌, ◌⊎◌, ◌+◌, List, [], ◌∷◌, ◌++◌, Option, Some, None, is_some, map, MatchResult, Result, Ok, Err, if◌then◌else◌}
+use Rattle.std.specs.Prelude.{ℕ, Bool, true, false, ◌≡◌, ◌⊎◌, ◌+◌, ◌<◌, List, [], ◌∷◌, ◌++◌, Option, Some, None, is_some, map, MatchResult, Result, Ok, Err, if◌then◌else◌}
 use Rattle.std.specs.List.{list_all}
-use Rattle.std.specs.Io.KnownBytes.{Appends, Keeps}
+use Rattle.std.specs.Io.KnownBytes.{Appends}
 use Rattle.registry_model.specs.Process.{nodes_of}
 use Rattle.protocol_model.specs.Event.{Refusal, NoSuchNode, NodeLeft}
-use Rattle.protocol_model.specs.Script.{Line as ScriptLine, Output, Settled, SettleLimit, TableIs, MembersAre, okay, shown_at}
+use Rattle.protocol_model.specs.Script.{Line as ScriptLine, Settle, Output, Settled, SettleLimit, TableIs, MembersAre, okay, shown_at}
 use Rattle.protocol_model.specs.World.{Opening, WorldEvent as AnyEvent, left, happens, answers}
 use Rattle.command_lines.specs.declared.WorldEvent.{WorldEvent}
 use Rattle.command_lines.specs.Events.{event_of}
 use Rattle.cluster_world.specs.Held.{Held}
 use Rattle.cluster_world.specs.Seen.{opening_of, seen}
 use Rattle.command_lines.specs.declared.faults.LineFault.{LineFault}
+use Rattle.command_lines.specs.declared.faults.LineFault.TheVariants.{Memory}
 use Rattle.text_lines.specs.declared.faults.ScriptFault.{ScriptFault}
 use Rattle.text_lines.specs.declared.faults.ScriptFault.TheVariants.{Read, TooManyLines}
 use Rattle.text_lines.specs.declared.faults.WriteFault.{WriteFault}
-use Rattle.text_lines.specs.declared.faults.WriteFault.TheVariants.{Memory}
 use Rattle.text_lines.specs.declared.lines.Line.{Line}
-use Rattle.text_lines.specs.Lines.{spoken, count_of_all, IsKept, LosesLines, LosesInto, HasNoLine, IsWithinLine, MayEndIn, GoesPastFor}
-use Rattle.command_lines.specs.Commands.{LineAsks}
+use Rattle.text_lines.specs.Lines.{spoken, count_of_all, IsKept, LosesLines, LosesInto, HasNoLine, MayEndIn, GoesPastFor}
 use Rattle.command_lines.specs.Printing.{Shows, answers_text, shown_text, is_fine, is_fine_output, output_line, error_line, refusal_word}
 use Rattle.text_lines.specs.Writing.{AppendsPart}
-use Rattle.cluster_script.specs.Script.{settle_limit, behind, behind_all, shown, shown_all, AllAsk}
+use Rattle.cluster_script.specs.Script.{Outcome, Plays, Fails, Breaks, ComesTo, AllComeTo, settle_limit, behind, behind_all, shown, shown_all}
 
 -- what is printed for a line on what is held
-abbrev pub shown_on : Held → Result ScriptLine LineFault → List ℕ
-shown_on h asked = shown_text (shown (opening_of h) (seen h) asked)
+abbrev pub shown_on : Held → Outcome → List ℕ
+shown_on h x = shown_text (shown (opening_of h) (seen h) x)
 
--- a line was played, and what it prints was written
-pub record PlaysLine (old new : Held) (asked : Result ScriptLine LineFault) (before after : Option (List ℕ)) (fine : Bool) : Type 0 where
+-- this came of a line, and what it prints was written
+pub record PlaysLine (old new : Held) (x : Outcome) (before after : Option (List ℕ)) (fine : Bool) : Type 0 where
   pub opening : opening_of new ≡ opening_of old
-  pub world : seen new ≡ behind (opening_of old) (seen old) asked
-  pub wrote : Appends before after (shown_on old asked)
-  pub fine_is : fine ≡ list_all is_fine (shown (opening_of old) (seen old) asked)
+  pub world : seen new ≡ behind (opening_of old) (seen old) x
+  pub wrote : Appends before after (shown_on old x)
+  pub fine_is : fine ≡ list_all is_fine (shown (opening_of old) (seen old) x)
 
--- it was played, or after a fault a part of what it prints was written
-abbrev pub PlaysOrStops : Held → Held → Result ScriptLine LineFault → Option (List ℕ) → Option (List ℕ) → Result Bool WriteFault → Type 0
-PlaysOrStops old new asked before after (Ok fine) = PlaysLine old new asked before after fine
-PlaysOrStops old new asked before after (Err f) = AppendsPart before after (shown_on old asked)
+-- the same, or after a fault a part of what it prints was written
+abbrev pub PlaysOrStops : Held → Held → Outcome → Option (List ℕ) → Option (List ℕ) → Result Bool WriteFault → Type 0
+PlaysOrStops old new x before after (Ok fine) = PlaysLine old new x before after fine
+PlaysOrStops old new x before after (Err f) = AppendsPart before after (shown_on old x)
 
--- a line was read, and played or stopped at; or memory was refused before it was read, and nothing was written
+-- what may come of what was read as this: memory may be refused for it
+abbrev pub ComesOf : Result ScriptLine LineFault → Outcome → Type 0
+ComesOf asked (Plays l) = asked ≡ Ok l
+ComesOf asked (Fails f) = (asked ≡ Err f) ⊎ (f ≡ Memory)
+ComesOf asked (Breaks made) = (asked ≡ Ok Settle) × (made < settle_limit)
+
+-- and of what was read as these, of each by itself
+abbrev pub AllComeOf : List (Result ScriptLine LineFault) → List Outcome → Type 0
+AllComeOf [] [] = Unit {0}
+AllComeOf (asked ∷ others) (x ∷ outcomes) = ComesOf asked x × AllComeOf others outcomes
+AllComeOf _ _ = ⊥
+
+-- what was read as this was played, or stopped at
+abbrev pub PlaysAsked : Result ScriptLine LineFault → Held → Held → Option (List ℕ) → Option (List ℕ) → Result Bool WriteFault → Type 0
+PlaysAsked asked old new before after r = (x : Outcome) × ComesOf asked x × PlaysOrStops old new x before after r
+
+-- a line was read and played, or stopped at
 abbrev pub PlaysRead : List ℕ → Held → Held → Option (List ℕ) → Option (List ℕ) → Result Bool WriteFault → Type 0
-PlaysRead line old new before after r =
-    ((asked : Result ScriptLine LineFault) × LineAsks line asked × PlaysOrStops old new asked before after r)
-    ⊎ ((r ≡ Err Memory) × Keeps before after)
+PlaysRead line old new before after r = (x : Outcome) × ComesTo line x × PlaysOrStops old new x before after r
 
 -- what an accepted event prints before its answers
 abbrev pub okay_text : Opening → WorldEvent → List ℕ
@@ -79,58 +92,55 @@ pub record IsShown (h : Held) (a : ℕ) (x : Output) (line : Option (List ℕ)) 
   pub text : line_or_refusal h a line ≡ output_line (shown_at (opening_of h) settle_limit (seen h) a x)
   pub fine : is_some line ≡ is_fine_output (shown_at (opening_of h) settle_limit (seen h) a x)
 
--- known bytes lose empty lines, and bytes of one line at most behind them
-abbrev pub LosesNext : Option (List ℕ) → Option (List ℕ) → Type 0
-LosesNext old new = (ls : List (List ℕ)) × (part : List ℕ) × (spoken ls ≡ []) × LosesInto old new ls part
-    × IsWithinLine part
-
 -- the next line that isn't empty was read, or there was none
 abbrev pub ReadsOn : Option (List ℕ) → Option (List ℕ) → ℕ → ℕ → Option Line → Type 0
 ReadsOn old new most left None = (ls : List (List ℕ)) × (spoken ls ≡ []) × LosesLines old new ls × HasNoLine new × (most ≡ left + count_of_all ls)
 ReadsOn old new most left (Some kept) = (ls : List (List ℕ)) × (line : List ℕ) × IsKept line kept × (spoken ls ≡ line ∷ []) × LosesLines old new ls
-    × (most ≡ left + count_of_all ls) × LosesNext old new
+    × (most ≡ left + count_of_all ls)
 
 -- no further line is read: empty ones are lost, and a part of the next
 abbrev pub StopsReading : Option (List ℕ) → Option (List ℕ) → ℕ → ScriptFault → Type 0
 StopsReading input rest most f = (ls : List (List ℕ)) × (part : List ℕ) × (spoken ls ≡ [])
     × LosesInto input rest ls part × MayEndIn f part × GoesPastFor f input most ls
 
--- what was read already is played, and then lines were read and played
-pub record PlaysLines (first : List (Result ScriptLine LineFault)) (input rest : Option (List ℕ)) (most left : ℕ) (old new : Held)
+-- this came of what was read already, and then lines were read and played
+pub record PlaysLines (first : List Outcome) (input rest : Option (List ℕ)) (most left : ℕ) (old new : Held)
     (before after : Option (List ℕ)) (fine : Bool) : Type 0 where
   pub taken : List (List ℕ)
-  pub asked : List (Result ScriptLine LineFault)
+  pub outcomes : List Outcome
   pub read : LosesLines input rest taken
   pub counted : most ≡ left + count_of_all taken
-  pub each : AllAsk (spoken taken) asked
+  pub each : AllComeTo (spoken taken) outcomes
   pub opening : opening_of new ≡ opening_of old
-  pub world : seen new ≡ behind_all (opening_of old) (seen old) (first ++ asked)
-  pub wrote : Appends before after (shown_text (shown_all (opening_of old) (seen old) (first ++ asked)))
-  pub fine_is : fine ≡ list_all is_fine (shown_all (opening_of old) (seen old) (first ++ asked))
+  pub world : seen new ≡ behind_all (opening_of old) (seen old) (first ++ outcomes)
+  pub wrote : Appends before after (shown_text (shown_all (opening_of old) (seen old) (first ++ outcomes)))
+  pub fine_is : fine ≡ list_all is_fine (shown_all (opening_of old) (seen old) (first ++ outcomes))
 
--- a letter was delivered, and its answers were written, or after a fault a part of them
-abbrev pub Delivers : {A : Type 0} → Held → Held → AnyEvent → Option (List ℕ) → Option (List ℕ) → Result A WriteFault → Type 0
-Delivers old new e before after (Ok x) = (opening_of new ≡ opening_of old) × (seen new ≡ happens (opening_of old) (seen old) e)
+-- a letter was delivered, and its answers were written, or after a fault a part of them; or memory was refused, and nothing
+-- was delivered or written
+abbrev pub Delivers : Held → Held → AnyEvent → Option (List ℕ) → Option (List ℕ) → Result Bool WriteFault → Type 0
+Delivers old new e before after (Ok true) = (opening_of new ≡ opening_of old) × (seen new ≡ happens (opening_of old) (seen old) e)
     × Appends before after (answers_text (answers (opening_of old) (seen old) e))
+Delivers old new e before after (Ok false) = (opening_of new ≡ opening_of old) × (seen new ≡ seen old) × (after ≡ before)
 Delivers old new e before after (Err f) = AppendsPart before after (answers_text (answers (opening_of old) (seen old) e))
 
 -- how known bytes grow by a text: by all of it, or by a part
 abbrev pub Growth : Type 1
 Growth = Option (List ℕ) → Option (List ℕ) → List ℕ → Type 0
 
--- What was read already is played, and some first lines were lost and played; what they print was written, or a part of
+-- This came of what was read already, and some first lines were lost and played; what they print was written, or a part of
 -- it; of the next line a part was lost
-pub record PlaysSome (Grows : Growth) (first : List (Result ScriptLine LineFault)) (input rest : Option (List ℕ)) (old : Held)
+pub record PlaysSome (Grows : Growth) (first : List Outcome) (input rest : Option (List ℕ)) (old : Held)
     (before after : Option (List ℕ)) : Type 0 where
   pub taken : List (List ℕ)
   pub part : List ℕ
-  pub asked : List (Result ScriptLine LineFault)
+  pub outcomes : List Outcome
   pub read : LosesInto input rest taken part
-  pub each : AllAsk (spoken taken) asked
-  pub wrote : Grows before after (shown_text (shown_all (opening_of old) (seen old) (first ++ asked)))
+  pub each : AllComeTo (spoken taken) outcomes
+  pub wrote : Grows before after (shown_text (shown_all (opening_of old) (seen old) (first ++ outcomes)))
 
 -- only some first lines were played: all is written that they print, unless it is the writer or memory that failed
-abbrev pub StopsPlaying : List (Result ScriptLine LineFault) → Option (List ℕ) → Option (List ℕ) → ℕ → Held → Option (List ℕ)
+abbrev pub StopsPlaying : List Outcome → Option (List ℕ) → Option (List ℕ) → ℕ → Held → Option (List ℕ)
     → Option (List ℕ) → ScriptFault → Type 0
 StopsPlaying first input rest most old before after TooManyLines =
     (s : PlaysSome Appends first input rest old before after) × MayEndIn TooManyLines s.part
@@ -141,8 +151,14 @@ StopsPlaying first input rest most old before after f =
     (s : PlaysSome AppendsPart first input rest old before after) × MayEndIn f s.part
 
 -- lines were played, and what they print was written; or after a fault some first lines were
-abbrev pub PlaysAll : List (Result ScriptLine LineFault) → Option (List ℕ) → Option (List ℕ) → ℕ → ℕ → Held → Held
+abbrev pub PlaysAll : List Outcome → Option (List ℕ) → Option (List ℕ) → ℕ → ℕ → Held → Held
     → Option (List ℕ) → Option (List ℕ) → Result Bool ScriptFault → Type 0
 PlaysAll first input rest most left old new before after (Ok fine) =
     PlaysLines first input rest most left old new before after fine × HasNoLine rest
 PlaysAll first input rest most left old new before after (Err f) = StopsPlaying first input rest most old before after f
+
+-- the same, where something was read already as this
+abbrev pub PlaysBehind : List (Result ScriptLine LineFault) → Option (List ℕ) → Option (List ℕ) → ℕ → ℕ → Held → Held
+    → Option (List ℕ) → Option (List ℕ) → Result Bool ScriptFault → Type 0
+PlaysBehind asked input rest most left old new before after r = (first : List Outcome) × AllComeOf asked first
+    × PlaysAll first input rest most left old new before after r

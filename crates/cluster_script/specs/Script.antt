@@ -1,9 +1,9 @@
 -- What a script prints: its lines are played on one world, one after the other.
-use Rattle.std.specs.Prelude.{ℕ, ◌⊎◌, Bool, is_some, is_none, unwrap_or, ◌≡◌, ◌≤◌, bytes_eq, codes, fold, map, List, [], ◌∷◌, ◌++◌, if◌then◌else◌, Option, Some, None, Result, Ok, Err}
+use Rattle.std.specs.Prelude.{ℕ, ◌⊎◌, Bool, true, false, is_some, is_none, unwrap_or, ◌≡◌, ◌≤◌, ◌<◌, bytes_eq, codes, fold, map, List, [], ◌∷◌, ◌++◌, if◌then◌else◌, Option, Some, None, Result, Ok, Err}
 use Rattle.std.specs.List.{list_all}
 use Rattle.std.specs.Io.KnownBytes.{Appends}
-use Rattle.protocol_model.specs.World.{Opening, World, WorldEvent, opening_world, run}
-use Rattle.protocol_model.specs.Script.{Line, events_in, printed}
+use Rattle.protocol_model.specs.World.{Opening, World, WorldEvent, opening_world, run, all_answers, next_delivery, deliveries_left}
+use Rattle.protocol_model.specs.Script.{Line, Settle, Said, Settled, events_in, printed}
 use Rattle.protocol_model.specs.Leftovers.{NothingIsLeft}
 use Rattle.term.specs.declared.faults.TextFault.{TextFault}
 use Rattle.term.specs.Spelling.{SpellsText, RefusesText}
@@ -11,9 +11,9 @@ use Rattle.cluster_world.specs.Agreeing.{HeadlineAfter}
 use Rattle.command_lines.specs.Openings.{start_refused}
 use Rattle.command_lines.specs.Openings.{opening_with}
 use Rattle.command_lines.specs.declared.faults.LineFault.{LineFault}
-use Rattle.command_lines.specs.declared.faults.LineFault.TheVariants.{BadLine, Text, Start}
+use Rattle.command_lines.specs.declared.faults.LineFault.TheVariants.{BadLine, Text, Start, Memory}
 use Rattle.text_lines.specs.declared.faults.ScriptFault.{ScriptFault}
-use Rattle.text_lines.specs.declared.faults.ScriptFault.TheVariants.{Read, Write, TooManyLines, Memory}
+use Rattle.text_lines.specs.declared.faults.ScriptFault.TheVariants as stop
 use Rattle.command_lines.specs.declared.StartFault.{StartFault}
 use Rattle.text_lines.specs.Lines.{HasLines, spoken, count_of_all, most_lines, LosesLines, LosesInto, HasNoLine, HasNoFeed, IsWithinLine, GoesPast}
 use Rattle.text_lines.specs.Words.{words}
@@ -25,40 +25,62 @@ use Rattle.command_lines.specs.Printing.{Shown, Shows, Refuses, shown_text, is_f
 unfoldable pub settle_limit : ℕ
 settle_limit = 100000
 
--- the world behind a line
-abbrev pub behind : Opening → World → Result Line LineFault → World
-behind o w (Ok l) = run o w (events_in o settle_limit w l)
-behind o w (Err f) = w
+-- what comes of a line that isn't empty: what it asks for is played; or it is refused, and nothing is played; or it is a
+-- `settle` to which memory is refused behind so many of its deliveries
+pub data Outcome : Type 0 where
+  Plays : (line : Line) → Outcome
+  Fails : (fault : LineFault) → Outcome
+  Breaks : (made : ℕ) → Outcome
 
--- what is printed for a line
-abbrev pub shown : Opening → World → Result Line LineFault → List Shown
-shown o w (Ok l) = map Shows (printed o settle_limit w l (events_in o settle_limit w l))
-shown o w (Err f) = Refuses f ∷ []
+-- what may come of a line: for any line memory may be refused, whatever it asks for
+abbrev pub ComesTo : List ℕ → Outcome → Type 0
+ComesTo line (Plays l) = LineAsks line (Ok l)
+ComesTo line (Fails f) = LineAsks line (Err f) ⊎ (f ≡ Memory)
+ComesTo line (Breaks made) = LineAsks line (Ok Settle) × (made < settle_limit)
 
--- the world behind these lines
-abbrev pub behind_all : Opening → World → List (Result Line LineFault) → World
-behind_all o w asked = fold (behind o) w asked
+-- what may come of these lines, of each by itself
+abbrev pub AllComeTo : List (List ℕ) → List Outcome → Type 0
+AllComeTo [] [] = Unit {0}
+AllComeTo (l ∷ ls) (x ∷ outcomes) = ComesTo l x × AllComeTo ls outcomes
+AllComeTo _ _ = ⊥
 
 -- the events of a line
-abbrev pub events_by : Opening → World → Result Line LineFault → List WorldEvent
-events_by o w (Ok l) = events_in o settle_limit w l
-events_by o w (Err f) = []
+abbrev pub events_by : Opening → World → Outcome → List WorldEvent
+events_by o w (Plays l) = events_in o settle_limit w l
+events_by o w (Fails f) = []
+events_by o w (Breaks made) = deliveries_left o made w
+
+-- the world behind a line
+abbrev pub behind : Opening → World → Outcome → World
+behind o w x = run o w (events_by o w x)
+
+-- what stands in the place of `settled` where memory is refused: a letter waits, whose delivery that was
+abbrev pub broken : Option WorldEvent → Shown
+broken None = Shows Settled
+broken (Some e) = Refuses Memory
+
+-- what is printed for a line, whose events are es
+abbrev pub shown_for : Opening → World → Outcome → List WorldEvent → List Shown
+shown_for o w (Plays l) es = map Shows (printed o settle_limit w l es)
+shown_for o w (Fails f) es = Refuses f ∷ []
+shown_for o w (Breaks made) es = map Shows (map Said (all_answers o w es)) ++ broken (next_delivery o (run o w es)) ∷ []
+
+abbrev pub shown : Opening → World → Outcome → List Shown
+shown o w x = shown_for o w x (events_by o w x)
+
+-- the world behind these lines
+abbrev pub behind_all : Opening → World → List Outcome → World
+behind_all o w outcomes = fold (behind o) w outcomes
 
 -- the events of these lines
-abbrev pub events_by_all : Opening → World → List (Result Line LineFault) → List WorldEvent
+abbrev pub events_by_all : Opening → World → List Outcome → List WorldEvent
 events_by_all o w [] = []
-events_by_all o w (a ∷ asked) = events_by o w a ++ events_by_all o (behind o w a) asked
+events_by_all o w (x ∷ outcomes) = events_by o w x ++ events_by_all o (behind o w x) outcomes
 
 -- what is printed for these lines
-abbrev pub shown_all : Opening → World → List (Result Line LineFault) → List Shown
+abbrev pub shown_all : Opening → World → List Outcome → List Shown
 shown_all o w [] = []
-shown_all o w (a ∷ asked) = shown o w a ++ shown_all o (behind o w a) asked
-
--- what these lines ask for, each by itself
-abbrev pub AllAsk : List (List ℕ) → List (Result Line LineFault) → Type 0
-AllAsk [] [] = Unit {0}
-AllAsk (l ∷ ls) (a ∷ asked) = LineAsks l a × AllAsk ls asked
-AllAsk _ _ = ⊥
+shown_all o w (x ∷ outcomes) = shown o w x ++ shown_all o (behind o w x) outcomes
 
 -- the fault, or else what is made of the value
 abbrev pub made_of : {A B E : Type 0} → (A → B) → Result A E → Result B E
@@ -105,9 +127,10 @@ abbrev pub OpensUnless : Option LineFault → List ℕ → Result (List ℕ) Lin
 OpensUnless (Some f) line r = r ≡ Err f
 OpensUnless None line r = OpensIn (texts_behind (codes "cluster") (words line)) r
 
--- the nodes of the cluster that the first line opens, or why it is refused
+-- the nodes of the cluster that the first line opens, or why it is refused; memory may be refused for it, whatever it names
 abbrev pub LineOpens : List ℕ → Result (List ℕ) LineFault → Type 0
-LineOpens line r = OpensUnless (unread line) line r
+LineOpens line (Ok nodes) = OpensUnless (unread line) line (Ok nodes)
+LineOpens line (Err f) = OpensUnless (unread line) line (Err f) ⊎ (f ≡ Memory)
 
 -- the texts of a `lone` line, where this is one; a line that can't be read is none
 abbrev pub lone_line : List ℕ → Option (List (List ℕ))
@@ -118,14 +141,22 @@ abbrev pub lone_texts : List (List ℕ) → List (List ℕ)
 lone_texts [] = []
 lone_texts (l ∷ ls) = unwrap_or (lone_line l) []
 
+-- the first line behind the `cluster` line is a `lone` line
+abbrev pub is_lone : List (List ℕ) → Bool
+is_lone [] = false
+is_lone (l ∷ ls) = is_some (lone_line l)
+
 -- the lines that are played
 abbrev pub played : List (List ℕ) → List (List ℕ)
 played [] = []
 played (l ∷ ls) = if is_some (lone_line l) then ls else l ∷ ls
 
--- the lone nodes that the lines behind the `cluster` line name, or why they are refused beside this cluster
+-- the lone nodes that the lines behind the `cluster` line name, or why they are refused beside this cluster; memory may be
+-- refused for a `lone` line, whatever it names
 abbrev pub LoneOpens : List ℕ → List (List ℕ) → Result (List ℕ) LineFault → Type 0
-LoneOpens cluster ls r = Names (λ lone. start_refused cluster lone) (lone_texts ls) r
+LoneOpens cluster ls (Ok lone) = Names (λ lone. start_refused cluster lone) (lone_texts ls) (Ok lone)
+LoneOpens cluster ls (Err f) = Names (λ lone. start_refused cluster lone) (lone_texts ls) (Err f)
+    ⊎ ((is_lone ls ≡ true) × (f ≡ Memory))
 
 -- a world of a cluster, whose nodes are all joined with each other, and of lone nodes, each joined with no other
 abbrev pub opening_for : List ℕ → List ℕ → Opening
@@ -142,19 +173,20 @@ abbrev pub Opens : List ℕ → List (List ℕ) → Result Opening LineFault →
 Opens l ls r = (cluster : Result (List ℕ) LineFault) × LineOpens l cluster × OpensBehind cluster ls r
 
 -- the headline holds behind the events of these lines, of which the world that is left is made
-abbrev pub LinesAgree : Opening → List (Result Line LineFault) → Type 0
-LinesAgree o asked = HeadlineAfter o (events_by_all o (opening_world o) asked) (behind_all o (opening_world o) asked)
+abbrev pub LinesAgree : Opening → List Outcome → Type 0
+LinesAgree o outcomes = HeadlineAfter o (events_by_all o (opening_world o) outcomes) (behind_all o (opening_world o) outcomes)
 
 -- and nothing is left over there
-abbrev pub LinesLeaveNothing : Opening → List (Result Line LineFault) → Type 0
-LinesLeaveNothing o asked = NothingIsLeft o (events_by_all o (opening_world o) asked) (behind_all o (opening_world o) asked)
+abbrev pub LinesLeaveNothing : Opening → List Outcome → Type 0
+LinesLeaveNothing o outcomes = NothingIsLeft o (events_by_all o (opening_world o) outcomes)
+    (behind_all o (opening_world o) outcomes)
 
 -- the lines behind the headers are played on a world that opened so, behind which the headline holds and nothing is left
 -- over; if there is none, nothing is
 abbrev pub Follows : Result Opening LineFault → List (List ℕ) → List Shown → Type 0
 Follows (Err f) ls out = out ≡ Refuses f ∷ []
-Follows (Ok o) ls out = (asked : List (Result Line LineFault)) × AllAsk ls asked
-    × (out ≡ shown_all o (opening_world o) asked) × LinesAgree o asked × LinesLeaveNothing o asked
+Follows (Ok o) ls out = (outcomes : List Outcome) × AllComeTo ls outcomes
+    × (out ≡ shown_all o (opening_world o) outcomes) × LinesAgree o outcomes × LinesLeaveNothing o outcomes
 
 -- what is printed for lines of which none is empty: without a first line there is none that opens a world
 abbrev pub PrintsSpoken : List (List ℕ) → List Shown → Type 0
@@ -221,13 +253,14 @@ pub record StoppedWithin (input rest old new : Option (List ℕ)) : Type 0 where
 
 -- A script of this input ended with a fault: with too many lines, where the next one takes the count past the most
 abbrev pub Stopped : Option (List ℕ) → Option (List ℕ) → Option (List ℕ) → Option (List ℕ) → ScriptFault → Type 0
-Stopped input rest old new TooManyLines = (s : StoppedBetween input rest old new) × IsWithinLine s.part
+Stopped input rest old new stop.TooManyLines = (s : StoppedBetween input rest old new) × IsWithinLine s.part
     × GoesPast input most_lines s.first
-Stopped input rest old new Read = (s : StoppedBetween input rest old new) × HasNoFeed s.part
-Stopped input rest old new Write = (s : StoppedWithin input rest old new) × HasNoFeed s.part
-Stopped input rest old new Memory = (s : StoppedWithin input rest old new) × IsWithinLine s.part
+Stopped input rest old new stop.Read = (s : StoppedBetween input rest old new) × HasNoFeed s.part
+Stopped input rest old new stop.Write = (s : StoppedWithin input rest old new) × HasNoFeed s.part
+Stopped input rest old new stop.Memory = (s : StoppedWithin input rest old new) × IsWithinLine s.part
 
--- where a script of known bytes is played to its end, it has no line that takes the count past the most
+-- where a script of known bytes is played to its end, it has no line that takes the count past the most, unless memory was
+-- refused for a header
 abbrev pub EndsOneWay : Type 0
-EndsOneWay = (input : List ℕ) (r s a b c d : Option (List ℕ)) (fine : Bool) → Ran (Some input) r a b fine
-    → Stopped (Some input) s c d TooManyLines → ⊥
+EndsOneWay = (input : List ℕ) (r s a b c d : Option (List ℕ)) (fine : Bool) → (ran : Ran (Some input) r a b fine)
+    → Stopped (Some input) s c d stop.TooManyLines → EndsRefused (spoken ran.taken) Memory

@@ -3,8 +3,8 @@ ghost use Rattle.cluster_script.specs.Script.{EndsOneWay};
 
 use term::names_are_exact;
 
-/// A script of known bytes that is played to its end has no line that takes the count past the most: so for one input
-/// `run_script` never both answers and ends with `TooManyLines`.
+/// A script of known bytes that is played to its end has no line that takes the count past the most, unless it ended at a header for
+/// which memory was refused: so for one input `run_script` never both answers and ends with `TooManyLines`, with that one exception.
 pub fn one_end()
     ensures { EndsOneWay }
 {

@@ -5,6 +5,7 @@ mod header;
 mod laws;
 mod looking;
 mod reading;
+mod refusing;
 mod script;
 
 pub use laws::one_end;

@@ -3,9 +3,10 @@ ghost use Rattle.std.specs.Prelude.{◌≡◌, IfOk, Ok, is_some, option_map, st
 ghost use Rattle.protocol_model.specs.Script.{TableAt, MembersAt};
 ghost use Rattle.command_lines.specs.Printing.{error_line, refusal_word};
 ghost use Rattle.text_lines.specs.Writing.{Writes};
-ghost use Rattle.cluster_script.specs.Played.{PlaysOrStops, IsShown, table_of, members_of, hidden_by, line_or_refusal};
+ghost use Rattle.cluster_script.specs.Played.{PlaysAsked, IsShown, table_of, members_of, hidden_by, line_or_refusal};
 
 use crate::header::ScriptWorld;
+use crate::refusing::refuse_memory;
 use command_lines::{members_line, table_line};
 use name_table::Names;
 use std::alloc::{AllocError, Global};
@@ -89,10 +90,12 @@ pub(crate) fn show_table<W: Write>(
     world: &ScriptWorld,
     node: &NodeName,
 ) -> Result<bool, WriteFault>
-    ensures { PlaysOrStops world.now world.now (Ok (TableAt node.now)) (W.contents writer.old) (W.contents writer.new) result }
+    ensures { PlaysAsked (Ok (TableAt node.now)) world.now world.now (W.contents writer.old) (W.contents writer.new) result }
 {
-    let line = line_of_table(alloc, world, node)?;
-    write_shown(writer, world, node, line)
+    match line_of_table(alloc, world, node) {
+        Ok(line) => write_shown(writer, world, node, line),
+        Err(AllocError) => refuse_memory(writer),
+    }
 }
 
 /// Writes the members of a node, or why it is refused: whether it isn't.
@@ -102,8 +105,10 @@ pub(crate) fn show_members<W: Write>(
     world: &ScriptWorld,
     node: &NodeName,
 ) -> Result<bool, WriteFault>
-    ensures { PlaysOrStops world.now world.now (Ok (MembersAt node.now)) (W.contents writer.old) (W.contents writer.new) result }
+    ensures { PlaysAsked (Ok (MembersAt node.now)) world.now world.now (W.contents writer.old) (W.contents writer.new) result }
 {
-    let line = line_of_members(alloc, world, node)?;
-    write_shown(writer, world, node, line)
+    match line_of_members(alloc, world, node) {
+        Ok(line) => write_shown(writer, world, node, line),
+        Err(AllocError) => refuse_memory(writer),
+    }
 }

@@ -11,14 +11,15 @@ ghost use Rattle.text_lines.specs.Lines.{IsKept, most_lines};
 ghost use Rattle.command_lines.specs.Printing as print;
 ghost use Rattle.text_lines.specs.Writing.{Writes};
 ghost use Rattle.cluster_script.specs.Script.{Ran, Stopped};
-ghost use Rattle.cluster_script.specs.Played.{PlaysOrStops, PlaysRead, PlaysAll, Delivers, WritesOkay, settle_end};
+ghost use Rattle.cluster_script.specs.Played.{PlaysAsked, PlaysRead, PlaysAll, PlaysBehind, Delivers, WritesOkay, settle_end};
 ghost use Rattle.cluster_script.specs.Headers.{asked_first};
 
 use crate::header::{Headers, ScriptWorld, read_headers};
 use crate::looking::{show_members, show_table};
 use crate::reading::next_line;
+use crate::refusing::refuse_memory;
 use command_lines::{
-    Answer, Event, LineFault, Task, WorldEvent, answer_line, ran_out, read_task, refusal_line,
+    Answer, Event, LineFault, Task, WorldEvent, answer_line, read_task, refusal_line,
 };
 use std::alloc::Global;
 use std::io::{BufReader, Read, Write};
@@ -53,14 +54,14 @@ fn write_accepted<W: Write>(writer: &mut W, event: &WorldEvent) -> Result<(), Wr
     }
 }
 
-/// Plays an event, and writes its answers, or why it is refused: whether it isn't.
+/// Plays an event, and writes its answers, or why it is refused: whether it isn't. Where memory is refused for it nothing is played.
 fn play_event<W: Write>(
     alloc: Global,
     writer: &mut W,
     world: &mut ScriptWorld,
     event: &WorldEvent,
 ) -> Result<bool, WriteFault>
-    ensures { PlaysOrStops world.old world.new (Ok (script.Play (any_event event.now))) (W.contents writer.old) (W.contents writer.new) result }
+    ensures { PlaysAsked (Ok (script.Play (any_event event.now))) world.old world.new (W.contents writer.old) (W.contents writer.new) result }
 {
     match world.play(event) {
         Ok(answers) => {
@@ -69,10 +70,7 @@ fn play_event<W: Write>(
             Ok(true)
         }
         Err(refusal) => {
-            let Some(line) = refusal_line(&refusal) else {
-                return Err(WriteFault::Memory);
-            };
-            write_text(writer, line.as_bytes())?;
+            write_text(writer, refusal_line(&refusal).as_bytes())?;
             Ok(false)
         }
     }
@@ -91,35 +89,40 @@ fn end_settle<W: Write>(writer: &mut W, is_settled: bool) -> Result<bool, WriteF
     Ok(is_settled)
 }
 
-/// Delivers the letter that waits, and writes the answers.
+/// Delivers the letter that waits, and writes the answers: whether it was delivered. Where memory is refused for it nothing is written.
 fn deliver<W: Write>(
     alloc: Global,
     writer: &mut W,
     world: &mut ScriptWorld,
     sender: NodeName,
     receiver: NodeName,
-) -> Result<(), WriteFault>
+) -> Result<bool, WriteFault>
     ensures { Delivers world.old world.new (AnyEvent.Deliver sender receiver) (W.contents writer.old) (W.contents writer.new) result }
 {
     match world.play(&WorldEvent::Deliver(sender, receiver)) {
-        Ok(answers) => write_answers(alloc, writer, &answers),
-        Err(_) => Err(WriteFault::Memory),
+        Ok(answers) => {
+            write_answers(alloc, writer, &answers)?;
+            Ok(true)
+        }
+        Err(_) => Ok(false),
     }
 }
 
-/// Delivers until no letter waits, and writes all answers: whether none waits then.
+/// Delivers until no letter waits, or memory is refused for a delivery, and writes all answers: whether no letter waits then.
 fn settle<W: Write>(
     alloc: Global,
     writer: &mut W,
     world: &mut ScriptWorld,
 ) -> Result<bool, WriteFault>
-    ensures { PlaysOrStops world.old world.new (Ok script.Settle) (W.contents writer.old) (W.contents writer.new) result }
+    ensures { PlaysAsked (Ok script.Settle) world.old world.new (W.contents writer.old) (W.contents writer.new) result }
 {
     for _ in 0..SETTLE_LIMIT {
         let Some((sender, receiver)) = world.waiting() else {
             return end_settle(writer, true);
         };
-        deliver(alloc, writer, world, sender, receiver)?;
+        if !deliver(alloc, writer, world, sender, receiver)? {
+            return refuse_memory(writer);
+        }
     }
     end_settle(writer, world.waiting().is_none())
 }
@@ -131,7 +134,7 @@ fn play_asked<W: Write>(
     world: &mut ScriptWorld,
     task: &Task,
 ) -> Result<bool, WriteFault>
-    ensures { PlaysOrStops world.old world.new (Ok (line_in task.now)) (W.contents writer.old) (W.contents writer.new) result }
+    ensures { PlaysAsked (Ok (line_in task.now)) world.old world.new (W.contents writer.old) (W.contents writer.new) result }
 {
     match task {
         Task::Play(event) => play_event(alloc, writer, world, event),
@@ -148,7 +151,7 @@ fn play_task<W: Write>(
     world: &mut ScriptWorld,
     task: &Result<Task, LineFault>,
 ) -> Result<bool, WriteFault>
-    ensures { PlaysOrStops world.old world.new (asked_by task.now) (W.contents writer.old) (W.contents writer.new) result }
+    ensures { PlaysAsked (asked_by task.now) world.old world.new (W.contents writer.old) (W.contents writer.new) result }
 {
     match task {
         Ok(task) => play_asked(alloc, writer, world, task),
@@ -170,9 +173,6 @@ fn play_line<W: Write>(
         → PlaysRead bytes world.old world.new (W.contents writer.old) (W.contents writer.new) result }
 {
     let task = read_task(alloc, line);
-    if ran_out(&task) {
-        return Err(WriteFault::Memory);
-    }
     play_task(alloc, writer, world, &task)
 }
 
@@ -215,7 +215,7 @@ fn play_all<R: Read, W: Write>(
     left: &mut u32,
 ) -> Result<bool, ScriptFault>
     requires { left.old ≤ most_lines }
-    ensures { PlaysAll (asked_first first) (reader_remaining R.remaining reader.old) (reader_remaining R.remaining reader.new)
+    ensures { PlaysBehind (asked_first first) (reader_remaining R.remaining reader.old) (reader_remaining R.remaining reader.new)
         left.old left.new world.old world.new (W.contents writer.old) (W.contents writer.new) result }
 {
     let Some(task) = first else {
@@ -233,10 +233,13 @@ fn play_all<R: Read, W: Write>(
 /// where there is no world, the script ends, and no further byte is read. What was written is handed on before the reader
 /// waits for more.
 ///
+/// Memory may be refused for any line: it is refused like any other then, by `error memory`, and plays nothing. Where that comes
+/// among the deliveries of a `settle`, those before it stand, and `error memory` takes the place of `settled`.
+///
 /// `TooManyLines` is answered only where a line takes the count past 1,000,000; that line isn't played, and all is written that
-/// those before it print, as after `Read`. The contract can't say when a reader, a writer or an allocator fails, since
-/// theirs don't: so it doesn't say when `Read`, `Write` and `Memory` come. After the last two a part is written of what
-/// the lines print that were read.
+/// those before it print, as after `Read`. `Memory` is answered only where a line can't be read, or can't be made of what was played.
+/// The contract can't say when a reader, a writer or an allocator fails, since theirs don't: so it doesn't say when `Read`, `Write`
+/// and `Memory` come, nor `error memory`. After the last two faults a part is written of what the lines print that were read.
 pub fn run_script<R: Read, W: Write>(
     alloc: Global,
     reader: &mut BufReader<R, Global>,

@@ -92,10 +92,5 @@ agrees_played e old new now P = agrees (e ∷ []) now old new (record { nodes = 
     (P.answers ∙ sym (append-nil (answers (opening_of old) (seen old) (event_of e))))
 
 -- nothing was played
-pub agrees_unchanged : (old new : Held) → new ≡ old → Agrees [] [] old new
-agrees_unchanged old new same =
-    agrees [] [] old new (record {
-      nodes = ap (λ (h : Held). h.nodes) same;
-      cluster = ap (λ (h : Held). h.cluster) same;
-    })
-    (ap seen same) refl
+pub agrees_unchanged : (old new : Held) → Keeps old new → seen new ≡ seen old → Agrees [] [] old new
+agrees_unchanged old new K same = agrees [] [] old new K same refl

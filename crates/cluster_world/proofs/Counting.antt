@@ -31,7 +31,7 @@ use Rattle.cluster_world.specs.Seen.{opening_of, seen}
 use Rattle.cluster_world.specs.Playing.{events_of, accepts_all}
 use Rattle.cluster_world.specs.Locks.{try_behind}
 use Rattle.cluster_world.specs.Counting.{is_granted, has_to_ask, unless_gone, CountsGrant, CountsDeletion, Counts}
-use Rattle.cluster_world.specs.Seats.{most_events, verdict_in, next_number, next_for, awaiting, until_answered, WentThrough}
+use Rattle.cluster_world.specs.Seats.{verdict_in, next_number, next_for, awaiting, until_answered, WentThrough}
 use Rattle.cluster_world.proofs.Agreeing.{course_answers, all_answers-append}
 use Rattle.cluster_world.proofs.Locks.{tally-append}
 use Rattle.cluster_world.proofs.Verdicts.{under, is_under}
@@ -95,12 +95,12 @@ module _ (o : Opening) (before : List AnyWorldEvent) (w : World) (is : w ≡ run
           ∙ length-append (under a k (all_answers o (opening_world o) before)) (under a k (all_answers o w es))
 
   -- a `set_lock` of p that is played until it is answered
-  module _ (p : Process) (r q : Text) (target : Target) (retries : Retries) where
+  module _ (p : Process) (r q : Text) (target : Target) (retries : Retries) (most : ℕ) where
     abbrev attempt : AnyWorldEvent
     attempt = AnyWorldEvent.At p.node (AnyEvent.Calling (AnyCall.SetLock p r q target retries))
 
     abbrev played : List AnyWorldEvent
-    played = until_answered o p.node (next_number p.node w) w attempt
+    played = until_answered o p.node (next_number p.node w) most w attempt
 
     pub attempted : refusal o w attempt ≡ None → (i : Id) (c : ℕ) → holds_count o (before ++ played) p i c
         ≡ unless_gone (run o w played) p (if is_id (Client r q) i
@@ -113,8 +113,8 @@ module _ (o : Opening) (before : List AnyWorldEvent) (w : World) (is : w ≡ run
         then holds_count o before p i c + 1 else holds_count o before p i c))
         (sym (then_on played p i c))
         (answered_so o p i c k (Client r q) w num stands attempt
-        (awaiting o p.node k most_events (happens o w attempt)) (tally p i c) (tally p i c).number free begun refl
-        (λ up. refl) (λ of now h. waited_so o p i c k (Client r q) most_events (happens o w attempt)
+        (awaiting o p.node k most (happens o w attempt)) (tally p i c) (tally p i c).number free begun refl
+        (λ up. refl) (λ of now h. waited_so o p i c k (Client r q) most (happens o w attempt)
         (λ s x y. round_count_after o w attempt s x y (num s x y)) (event_keeps o (All o) (grounds o) w attempt num stands)
         (tally_after o w attempt p i c (tally p i c)) (tally p i c).number of now h)
         (once p.node k (omega arith) played))
@@ -135,12 +135,12 @@ module _ (o : Opening) (before : List AnyWorldEvent) (w : World) (is : w ≡ run
         )
 
   -- a `del_lock` of p, in the same way
-  module _ (p : Process) (r q : Text) (target : Target) where
+  module _ (p : Process) (r q : Text) (target : Target) (most : ℕ) where
     abbrev deletion : AnyWorldEvent
     deletion = AnyWorldEvent.At p.node (AnyEvent.Calling (AnyCall.DelLock p r q target))
 
     abbrev gone_on : List AnyWorldEvent
-    gone_on = until_answered o p.node (next_number p.node w) w deletion
+    gone_on = until_answered o p.node (next_number p.node w) most w deletion
 
     pub deleted : accepts_all o w gone_on ≡ true → (i : Id) (c : ℕ) → holds_count o (before ++ gone_on) p i c
         ≡ unless_gone (run o w gone_on) p (if is_id (Client r q) i && targets (w.node p.node).replica.members target c
@@ -163,15 +163,15 @@ module _ (o : Opening) (before : List AnyWorldEvent) (w : World) (is : w ≡ run
 
         later : List AnyWorldEvent
         later = if is_some (verdict_in p.node (next_number p.node w) (answers o w deletion)) then []
-            else awaiting o p.node (next_number p.node w) most_events (happens o w deletion)
+            else awaiting o p.node (next_number p.node w) most (happens o w deletion)
 
         waited : list_all is_waited later ≡ true
         waited = go (is_some (verdict_in p.node (next_number p.node w) (answers o w deletion)))
           where
             go : (b : Bool) → list_all is_waited (if b then []
-                else awaiting o p.node (next_number p.node w) most_events (happens o w deletion)) ≡ true
+                else awaiting o p.node (next_number p.node w) most (happens o w deletion)) ≡ true
             go true = refl
-            go false = waited_all o p.node (next_number p.node w) most_events (happens o w deletion)
+            go false = waited_all o p.node (next_number p.node w) most (happens o w deletion)
 
         parts : (is_none (refusal o w deletion) ≡ true) × (accepts_all o (happens o w deletion) later ≡ true)
         parts = and_parts (is_none (refusal o w deletion)) (accepts_all o (happens o w deletion) later) free
@@ -203,7 +203,7 @@ home_of : (o : Opening) (w : World) (a : ℕ) (p : Process) (r : Text) (more : L
 home_of o w a p r more h = eqb-true p.node a (live_own a (w.node a).watch p
     (lock_tested a (w.node a) p r more h).0).0
 
-module _ (es : List WorldEvent) (given : List Answer) (old new : Held) (v : Option Bool)
+module _ (es : List WorldEvent) (given : List Answer) (old new : Held) (most : ℕ) (v : Option Bool)
     (W : WentThrough es old new given) where
   abbrev o : Opening
   o = opening_of old
@@ -213,7 +213,7 @@ module _ (es : List WorldEvent) (given : List Answer) (old new : Held) (v : Opti
 
   -- these events were played for this call of node a, with this verdict
   abbrev IsFor : AnyCall → ℕ → Type 0
-  IsFor call a = (events_of es ≡ until_answered o a (next_number a w) w (AnyWorldEvent.At a (AnyEvent.Calling call)))
+  IsFor call a = (events_of es ≡ until_answered o a (next_number a w) most w (AnyWorldEvent.At a (AnyEvent.Calling call)))
       × (verdict_in a (next_number a w) (map answer_of given) ≡ v)
 
   -- its event was accepted
@@ -221,7 +221,7 @@ module _ (es : List WorldEvent) (given : List Answer) (old new : Held) (v : Opti
       → refusal o w (AnyWorldEvent.At a (AnyEvent.Calling call)) ≡ None
   first_free call a f = none_by (refusal o w e) (and_parts (is_none (refusal o w e))
       (accepts_all o (happens o w e) (if is_some (verdict_in a (next_number a w) (answers o w e)) then []
-      else awaiting o a (next_number a w) most_events (happens o w e)))
+      else awaiting o a (next_number a w) most (happens o w e)))
       (ap (accepts_all o w) (sym f.0) ∙ W.accepted)).0
     where
       e : AnyWorldEvent
@@ -234,7 +234,7 @@ module _ (es : List WorldEvent) (given : List Answer) (old new : Held) (v : Opti
       (if is_id (Client r q) i && has_to_ask c (try_behind o (before ++ l) p i c) && is_granted v
       then holds_count o before p i c + 1 else holds_count o before p i c))
       (sym f.0)
-      (attempted o before w is p r q target retries
+      (attempted o before w is p r q target retries most
       (first_free (AnyCall.SetLock p r q target retries) p.node f) i c
       ∙ ap (λ (b : Option Bool). unless_gone (run o w played) p
       (if is_id (Client r q) i && has_to_ask c (try_behind o (before ++ played) p i c) && is_granted b
@@ -244,7 +244,7 @@ module _ (es : List WorldEvent) (given : List Answer) (old new : Held) (v : Opti
       then holds_count o before p i c + 1 else holds_count o before p i c)) (sym (W.world ∙ ap (run o w) f.0)))
     where
       played : List AnyWorldEvent
-      played = until_answered o p.node (next_number p.node w) w
+      played = until_answered o p.node (next_number p.node w) most w
           (AnyWorldEvent.At p.node (AnyEvent.Calling (AnyCall.SetLock p r q target retries)))
 
       verdict : verdict_in p.node (next_number p.node w) (all_answers o w played) ≡ v
@@ -255,7 +255,7 @@ module _ (es : List WorldEvent) (given : List Answer) (old new : Held) (v : Opti
   deletion_counts p r q target f before is i c = subst
       (λ (l : List AnyWorldEvent). holds_count o (before ++ l) p i c ≡ unless_gone (seen new) p n)
       (sym f.0)
-      (deleted o before w is p r q target (ap (accepts_all o w) (sym f.0) ∙ W.accepted) i c
+      (deleted o before w is p r q target most (ap (accepts_all o w) (sym f.0) ∙ W.accepted) i c
       ∙ ap (λ (y : World). unless_gone y p n) (sym (W.world ∙ ap (run o w) f.0)))
     where
       n : ℕ

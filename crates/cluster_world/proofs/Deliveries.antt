@@ -1,24 +1,20 @@
 -- The delivery that comes next, by the links that are held.
-use Rattle.std.proofs.Common.{ℕ, Bool, true, false, ◌≡◌, Option, Some, None, List, [], ◌∷◌, map, refl, sym, ap, ◌∙◌}
-use Rattle.std.specs.Prelude.{◌&&◌, is_some}
+use Rattle.std.proofs.Common.{ℕ, Bool, true, false, ◌≡◌, Option, Some, None, List, [], map, refl, ap, ◌∙◌}
+use Rattle.std.specs.Prelude.{◌&&◌}
 use Rattle.registry_model.specs.Process.{Nodes}
 use Rattle.protocol_model.specs.Links.{is_nil}
 use Rattle.protocol_model.specs.World.{in_world}
 use Rattle.term.specs.NodeSets.{set_of}
-use Rattle.link.specs.Faults.{joins}
-use Rattle.link.specs.Held.{place, WaitsFirst, seen as links_of}
-use Rattle.link.proofs.Places.{queue-stranger}
 use Rattle.node_core.specs.declared.Letter.{Letter}
 use Rattle.node_core.specs.Letters.{letter_of}
 use Rattle.cluster_world.specs.Held.{Held, IsWhole}
+use Rattle.cluster_world.specs.Links.{WaitsFirst}
+use Rattle.cluster_world.specs.Mail.{links_of}
 use Rattle.cluster_world.specs.Playing.{WaitsOn}
 use Rattle.cluster_world.specs.Seen.{opening_of, seen}
-use Rattle.cluster_world.proofs.Listed.{nodes_are, is_some-place, world_is}
+use Rattle.cluster_world.proofs.Listed.{nodes_are, world_is}
+use Rattle.cluster_world.proofs.Plays.{is_nil-map}
 use Rattle.cluster_world.proofs.Waiting.{next_none, next_first, accepted_waiting}
-
-empty : (ls : List Letter) → is_nil (map letter_of ls) ≡ is_nil ls
-empty [] = refl
-empty (l ∷ ls) = refl
 
 module _ (h : Held) (whole : IsWhole h) where
   nothing : (x y : ℕ) → (links_of h.links).queue x y ≡ [] → (seen h).links.queue x y ≡ []
@@ -26,16 +22,11 @@ module _ (h : Held) (whole : IsWhole h) where
 
   -- a letter waits between nodes of the world alone
   ends : (f t : ℕ) → is_nil ((links_of h.links).queue f t) ≡ false → (set_of h.nodes f && set_of h.nodes t) ≡ true
-  ends f t e = go (joins f t h.links) refl ∙ refl
+  ends f t e = go (set_of h.nodes f && set_of h.nodes t) refl
     where
-      both : (set_of h.nodes f && set_of h.nodes t) ≡ joins f t h.links
-      both = sym (ap (λ (c : Bool). c && set_of h.nodes t) (is_some-place h.nodes f))
-          ∙ sym (ap (λ (c : Bool). is_some (place f h.nodes) && c) (is_some-place h.nodes t))
-          ∙ ap (λ (ns : List ℕ). is_some (place f ns) && is_some (place t ns)) (sym whole.links)
-
-      go : (b : Bool) → joins f t h.links ≡ b → (set_of h.nodes f && set_of h.nodes t) ≡ true
-      go true q = both ∙ q
-      go false q = cc (ap (λ (ls : List Letter). is_nil ls) (queue-stranger h.links f t q), e)
+      go : (b : Bool) → (set_of h.nodes f && set_of h.nodes t) ≡ b → (set_of h.nodes f && set_of h.nodes t) ≡ true
+      go true q = q
+      go false q = cc (ap (λ (ls : List Letter). is_nil ls) (whole.fit.known f t q), e)
 
   first : (b d : Bool) → (b && d) ≡ true → b ≡ true
   first true d e = refl
@@ -45,13 +36,13 @@ module _ (h : Held) (whole : IsWhole h) where
   second true d e = e
   second false d e = cc
 
-  pub waits : (o : Option (ℕ × ℕ)) → WaitsFirst o h.links → WaitsOn o h
+  pub waits : (o : Option (ℕ × ℕ)) → WaitsFirst o (links_of h.links) → WaitsOn o h
   waits None none = next_none (opening_of h) (seen h) h.nodes (nodes_are h.nodes h.cluster whole.set)
       (λ x y. nothing x y (none x y))
   waits (Some (f, t)) w = next_first (opening_of h) (seen h) h.nodes (nodes_are h.nodes h.cluster whole.set) f t
       whole.set.rising sender receiver
       (accepted_waiting (opening_of h) (seen h) f t (inside f sender) (inside t receiver)
-      (running ((seen h).links.closed t) refl) (empty ((links_of h.links).queue f t) ∙ w.0))
+      (running ((seen h).links.closed t) refl) (is_nil-map letter_of ((links_of h.links).queue f t) ∙ w.0))
       (λ x y before. nothing x y (w.1 x y before))
     where
       sender : set_of h.nodes f ≡ true

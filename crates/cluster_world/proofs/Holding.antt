@@ -5,23 +5,23 @@ use Rattle.std.proofs.lemmas.Bool.{cases_lt}
 use Rattle.std.proofs.lemmas.List.{length-map, get_or_default}
 use Rattle.protocol_model.specs.Node.{Node, holds_global}
 use Rattle.protocol_model.specs.World.{holder, left}
-use Rattle.link.specs.Held.{Held as Mesh, place}
+use Rattle.link.specs.Held.{place}
 use Rattle.link.proofs.Places.{place-get_or}
-use Rattle.node_core.specs.declared.Letter.{Letter}
 use Rattle.node_core.specs.Held.{Held as Core}
 use Rattle.node_core.specs.Seen.{node_of}
 use Rattle.cluster_world.specs.Held.{Held, IsWhole}
+use Rattle.cluster_world.specs.declared.mail.Mail.{Mail}
 use Rattle.cluster_world.specs.Seen.{opening_of, node_with, seen, is_holding}
 use Rattle.cluster_world.proofs.Cores.{name_at, core_here}
 use Rattle.cluster_world.proofs.Listed.{nodes_are}
 use Rattle.cluster_world.proofs.Steps.{name_of}
 
 -- nobody holds among the first i cores
-abbrev pub NobodyBefore : Mesh Letter → ℕ → List Core → Type 0
+abbrev pub NobodyBefore : Mail → ℕ → List Core → Type 0
 NobodyBefore w i cs = (k : ℕ) (d : Core) → k < i → is_holding w (get_or cs k d) ≡ false
 
 -- a search for a name is a search for its core
-found_by_name : (w : Mesh Letter) (p : ℕ → Bool) (cs : List Core) → ((k : ℕ) (d : Core) → k < length cs
+found_by_name : (w : Mail) (p : ℕ → Bool) (cs : List Core) → ((k : ℕ) (d : Core) → k < length cs
     → p (get_or cs k d).name ≡ is_holding w (get_or cs k d))
     → find p (map name_of cs) ≡ option_map name_of (find (is_holding w) cs)
 found_by_name w p [] same = refl
@@ -35,13 +35,13 @@ found_by_name w p (c ∷ cs) same = ap (λ (b : Bool). if b then Some c.name els
     go true e = refl
     go false e = e
 
-found_none : (w : Mesh Letter) (cs : List Core) → NobodyBefore w (length cs) cs → find (is_holding w) cs ≡ None
+found_none : (w : Mail) (cs : List Core) → NobodyBefore w (length cs) cs → find (is_holding w) cs ≡ None
 found_none w [] none = refl
 found_none w (c ∷ cs) none =
     ap (λ (b : Bool). if b then Some c else find (is_holding w) cs) (none 0 c (omega arith))
     ∙ found_none w cs (λ k d l. none (suc k) d (omega arith))
 
-found_some : (w : Mesh Letter) (cs : List Core) (i : ℕ) (c : Core) → i < length cs → NobodyBefore w i cs
+found_some : (w : Mail) (cs : List Core) (i : ℕ) (c : Core) → i < length cs → NobodyBefore w i cs
     → is_holding w (get_or cs i c) ≡ true → find (is_holding w) cs ≡ Some (get_or cs i c)
 found_some w [] i c l none here = absurd (omega arith)
 found_some w (d ∷ cs) zero c l none here = ap (λ (b : Bool). if b then Some d else find (is_holding w) cs) here
@@ -83,7 +83,7 @@ module _ (h : Held) (whole : IsWhole h) where
   this_holds i c l none here = sym (holder_is ∙ ap (option_map name_of) (found_some h.links h.cores i c l none here))
 
 -- one core more was looked at
-pub nobody_more : (w : Mesh Letter) (cs : List Core) (i : ℕ) (c : Core) → i < length cs → c ≡ get_or cs i c
+pub nobody_more : (w : Mail) (cs : List Core) (i : ℕ) (c : Core) → i < length cs → c ≡ get_or cs i c
     → NobodyBefore w i cs → is_holding w c ≡ false → NobodyBefore w (i + 1) cs
 nobody_more w cs i c l is before here k d m = elim (cases_lt k i) [
   | inl less ↦ before k d less

@@ -1,11 +1,13 @@
 pub use Rattle.node_core.proofs.Bounds
 pub use Rattle.world_events.proofs.Faults
-mod Mail
+mod Posting
+mod Outboxes
 mod Cores
 mod Waiting
 pub mod Listed
 mod Steps
 mod Plays
+mod Taking
 mod Holding
 mod Deliveries
 mod Starting

@@ -1,6 +1,6 @@
 -- A step of a node, as an event that the protocol's world accepts or refuses.
 use Rattle.std.proofs.Common.{ℕ, Bool, true, false, ◌≡◌, Option, Some, None, List, [], ◌∷◌, drop, map, refl, sym, ap, subst, ◌∙◌}
-use Rattle.std.specs.Prelude.{if◌then◌else◌, not, ◌&&◌, ◌||◌, is_none, is_some, All, Result, Ok, Err, OnOk, IfErr}
+use Rattle.std.specs.Prelude.{if◌then◌else◌, not, ◌||◌, is_none, is_some, All}
 use Rattle.std.specs.List.{slice_get}
 use Rattle.std.proofs.lemmas.List.Elements.{All-head}
 use Rattle.registry_model.specs.Process.{Nodes}
@@ -13,10 +13,7 @@ use Rattle.protocol_model.specs.Calling.{event}
 use Rattle.protocol_model.specs.Reading.{receive}
 use Rattle.protocol_model.specs.World.{World, WorldEvent as AnyWorldEvent, in_world, left, other, refusal, accepted, happens, answers, turn_of, heard, apply, letter_taken, join_number}
 use Rattle.term.specs.NodeSets.{set_of}
-use Rattle.link.specs.Faults.{joins, IsUndelivered, IsStranger}
-use Rattle.link.specs.Held.{Held as Mesh, place, has, closed_at, seen as links_of}
-use Rattle.link.specs.declared.faults.LinkFault.{LinkFault}
-use Rattle.link.specs.declared.faults.LinkFault.TheVariants as on_link
+use Rattle.link.specs.Held.{place, has, closed_at, seen as on_mesh}
 use Rattle.node_core.specs.declared.Answer.{Answer}
 use Rattle.node_core.specs.declared.Call.TheVariants.{Spawn, Whereis, RegisteredNames, Register, ReRegister, Unregister, SetLock, DelLock, Join as JoinBy}
 use Rattle.node_core.specs.declared.Call.{Call as ClientCall}
@@ -25,22 +22,23 @@ use Rattle.node_core.specs.declared.Letter.{Letter}
 use Rattle.node_core.specs.Held.{Held as Core, bound_of}
 use Rattle.node_core.specs.Letters.{letter_of}
 use Rattle.node_core.specs.Seen.{node_of}
-use Rattle.node_core.specs.NodeEventsSeen.{answer_of}
+use Rattle.node_core.specs.NodeEventsSeen.{answer_of, fault_of}
+use Rattle.node_core.specs.declared.StepFault.{StepFault}
 use Rattle.node_core.specs.Steps.{IsTurn, IsSaidBy, IsAskedWithin, IsHeardWithin, refusal_of as node_refusal}
 use Rattle.world_events.specs.declared.events.Event.{Event}
 use Rattle.world_events.specs.declared.events.Event.TheVariants.{Call, Retry, Exit, Leave}
-use Rattle.world_events.specs.declared.refusal.Refusal.{Refusal}
 use Rattle.world_events.specs.declared.refusal.Refusal.TheVariants.{NoSuchNode, NodeLeft, EmptyLink, Step}
 use Rattle.world_events.specs.declared.events.WorldEvent.TheVariants.{At, Deliver}
 use Rattle.world_events.specs.Events.{node_event, own_event_of, event_of, is_leave, knows_contact}
 use Rattle.cluster_world.specs.Held.{Held, IsWhole}
 use Rattle.cluster_world.specs.Links.{mapped, AreFit}
 use Rattle.cluster_world.specs.Playing.{Played, RefusedWith}
-use Rattle.world_events.specs.Refusals.{refusal_on, is_memory, out_of_memory}
 use Rattle.cluster_world.specs.Seen.{opening_of, node_with, seen}
-use Rattle.cluster_world.specs.Steps.{Stands, Moves, FailsAt}
-use Rattle.world_events.proofs.Faults.{only_memory as only_memory_of_node}
-use Rattle.cluster_world.proofs.Mail.{mapped-taken, mapped-closed_out, fit_taken, fit_closed}
+use Rattle.cluster_world.specs.declared.mail.Mail.{Mail}
+use Rattle.cluster_world.specs.Mail.{links_of}
+use Rattle.cluster_world.specs.Steps.{Stands, Moves}
+use Rattle.cluster_world.proofs.Outboxes.{closed_as}
+use Rattle.cluster_world.proofs.Posting.{mapped-taken, mapped-closed_out, fit_taken}
 use Rattle.cluster_world.proofs.Listed.{world_is, is_some-place}
 
 -- a call's contact, if it has one, is of the world
@@ -200,13 +198,27 @@ own_hears nodes a Retry known = tt
 own_hears nodes a (Exit p) known = tt
 own_hears nodes a Leave known = tt
 
--- the node's own event is refused
-pub refuses_own : (h : Held) (a : ℕ) (e : Event) → knows_contact h.nodes e ≡ true → (r : Refusal)
-    → FailsAt r a (node_event e) h → RefusedWith r (At a e) h
-refuses_own h a e known NoSuchNode F = refused_stranger h a (own_event_of e) F
-refuses_own h a e known NodeLeft F = refused_left h a (own_event_of e) (other_inside h a e F.0 known) F.0 F.1
-refuses_own h a e known EmptyLink F = absurd F
-refuses_own h a e known (Step fault) (c, S, q) = refused_own h a c S e known ∙ q
+-- why it is refused: its node is a stranger, or has left, or doesn't take it
+module _ (h : Held) (a : ℕ) (e : Event) where
+  pub refuses_outsider : set_of h.nodes a ≡ false → RefusedWith NoSuchNode (At a e) h
+  refuses_outsider strange = refused_stranger h a (own_event_of e) strange
+
+  module _ (known : knows_contact h.nodes e ≡ true) where
+    pub refuses_gone : set_of h.nodes a ≡ true → left (seen h) a ≡ true → RefusedWith NodeLeft (At a e) h
+    refuses_gone here gone = refused_left h a (own_event_of e) (other_inside h a e here known) here gone
+
+    pub refuses_step : (c : Core) → Stands a h c → (fault : StepFault)
+        → node_refusal (node_event e) c ≡ fault_of fault → RefusedWith (Step fault) (At a e) h
+    refuses_step c S fault q = refused_own h a c S e known ∙ q
+
+    -- or it is accepted, by the world just where it is by the node
+    pub free_by_node : (c : Core) → Stands a h c → node_refusal (node_event e) c ≡ None
+        → refusal (opening_of h) (seen h) (event_of (At a e)) ≡ None
+    free_by_node c S q = refused_own h a c S e known ∙ q
+
+    pub free_of_node : (c : Core) → Stands a h c → refusal (opening_of h) (seen h) (event_of (At a e)) ≡ None
+        → node_refusal (node_event e) c ≡ None
+    free_of_node c S free = sym (refused_own h a c S e known) ∙ free
 
 -- an event that is accepted, with what it makes
 happens_by : (h : Held) (e : AnyWorldEvent) (w : World) (u : Turn) → refusal (opening_of h) (seen h) e ≡ None
@@ -254,31 +266,15 @@ module _ (old mid : Held) (a : ℕ) (e : Event) (given : List Answer) (known : k
       ∙ ap (shut_out a) (M.world ∙ ap (λ (u : Turn). apply a u (seen old)) turn_own)
       ∙ sym (leaves old a e leave))
 
--- a node of the mesh is closed out
-pub shuts : (a : ℕ) (h k : Mesh Letter) (r : Result Unit LinkFault) → has a h ≡ true
-    → OnOk r (links_of k ≡ closed_out a (links_of h)) → IfErr r (λ fault. IsStranger fault a h)
-    → links_of k ≡ closed_out a (links_of h)
-shuts a h k (Ok x) known ok err = ok
-shuts a h k (Err on_link.NoSuchNode) known ok err = cc (known, err)
-shuts a h k (Err on_link.EmptyLink) known ok err = absurd err
-shuts a h k (Err on_link.Full) known ok err = absurd err
-shuts a h k (Err on_link.Memory) known ok err = absurd err
-
--- so is one of the world, which stays whole
+-- a node of the world is one of the mesh
 module _ (h : Held) (whole : IsWhole h) (a : ℕ) where
-  pub has_so : set_of h.nodes a ≡ true → has a h.links ≡ true
+  pub has_so : set_of h.nodes a ≡ true → has a h.links.mesh ≡ true
   has_so known = ap (λ (ns : List ℕ). is_some (place a ns)) whole.links ∙ is_some-place h.nodes a ∙ known
 
-  pub shut_whole : (k : Mesh Letter) → k.nodes ≡ h.links.nodes → links_of k ≡ closed_out a (links_of h.links)
-      → IsWhole (record h { links = k })
-  shut_whole k same closed = record {
-    set = whole.set;
-    names = whole.names;
-    worlds = whole.worlds;
-    links = same ∙ whole.links;
-    fit = subst (λ (w : Links Letter). AreFit h.nodes w) (sym closed)
-        (fit_closed h.nodes a (links_of h.links) whole.fit);
-  }
+-- whether a list is empty doesn't depend on how its letters are seen
+pub is_nil-map : {L M : Type 0} (f : L → M) (ls : List L) → is_nil (map f ls) ≡ is_nil ls
+is_nil-map f [] = refl
+is_nil-map f (l ∷ ls) = refl
 
 -- the front of a list
 front : (ls : List Letter) (l : Letter) → slice_get ls 0 ≡ Some l → ls ≡ l ∷ drop 1 ls
@@ -286,12 +282,6 @@ front [] l e = cc
 front (x ∷ ls) l e = cc
 
 module _ (h : Held) (whole : IsWhole h) (f t : ℕ) where
-  -- whether both ends of a link are nodes of the world
-  ends : (b : Bool) → joins f t h.links ≡ b → (set_of h.nodes f && set_of h.nodes t) ≡ b
-  ends b e = sym (ap (λ (c : Bool). c && set_of h.nodes t) (is_some-place h.nodes f))
-      ∙ sym (ap (λ (c : Bool). is_some (place f h.nodes) && c) (is_some-place h.nodes t))
-      ∙ ap (λ (ns : List ℕ). is_some (place f ns) && is_some (place t ns)) (sym whole.links) ∙ e
-
   -- a delivery, by whether its ends are nodes of the world
   refused_by : (b d : Bool) → set_of h.nodes f ≡ b → set_of h.nodes t ≡ d
       → refusal (opening_of h) (seen h) (AnyWorldEvent.Deliver f t)
@@ -319,121 +309,104 @@ module _ (h : Held) (whole : IsWhole h) (f t : ℕ) where
   -- who has left was of the world
   pub was_known : left (seen h) t ≡ true → set_of h.nodes t ≡ true
   was_known gone = sym (is_some-place h.nodes t) ∙ ap (λ (ns : List ℕ). is_some (place t ns)) (sym whole.links)
-      ∙ go (place t h.links.nodes) gone
+      ∙ go (place t h.links.mesh.nodes) (sym (ap (λ (s : Nodes). s t)
+      (closed_as h.links.unsent (on_mesh h.links.mesh))) ∙ gone)
     where
-      go : (p : Option ℕ) → closed_at p h.links.closed ≡ true → is_some p ≡ true
+      go : (p : Option ℕ) → closed_at p h.links.mesh.closed ≡ true → is_some p ≡ true
       go None e = cc
       go (Some i) e = refl
 
-  -- its receiver has left
-  pub refuses_left : set_of h.nodes f ≡ true → left (seen h) t ≡ true → RefusedWith NodeLeft (Deliver f t) h
-  refuses_left sender gone = refused_by true true sender (was_known gone)
-      ∙ ap (λ (b : Bool). if b then Some AnyRefusal.NodeLeft else
-      (if is_nil (map letter_of ((links_of h.links).queue f t)) then Some AnyRefusal.EmptyLink else None)) gone
+  module _ (sender : set_of h.nodes f ≡ true) where
+    -- its receiver is a stranger
+    pub refuses_nobody : set_of h.nodes t ≡ false → RefusedWith NoSuchNode (Deliver f t) h
+    refuses_nobody strange = refused_by true false sender strange
 
-  module _ (sender : set_of h.nodes f ≡ true) (up : left (seen h) t ≡ false) where
-    -- a running receiver's delivery, by whether it is of the world
-    refused_up : (d : Bool) → set_of h.nodes t ≡ d → refusal (opening_of h) (seen h) (AnyWorldEvent.Deliver f t)
-        ≡ (if not d || false then Some AnyRefusal.NoSuchNode else
-        (if is_nil (map letter_of ((links_of h.links).queue f t)) then Some AnyRefusal.EmptyLink else None))
-    refused_up d e = refused_by true d sender e
-        ∙ ap (λ (b : Bool). if not d || false then Some AnyRefusal.NoSuchNode else
-        (if b then Some AnyRefusal.NodeLeft else
-        (if is_nil (map letter_of ((links_of h.links).queue f t)) then Some AnyRefusal.EmptyLink else None))) up
+    module _ (receiver : set_of h.nodes t ≡ true) where
+      -- its receiver has left
+      pub refuses_left : left (seen h) t ≡ true → RefusedWith NodeLeft (Deliver f t) h
+      refuses_left gone = refused_by true true sender receiver
+          ∙ ap (λ (b : Bool). if b then Some AnyRefusal.NodeLeft else
+          (if is_nil (map letter_of ((links_of h.links).queue f t)) then Some AnyRefusal.EmptyLink else None)) gone
 
-    receiver_is : (b : Bool) → joins f t h.links ≡ b → set_of h.nodes t ≡ b
-    receiver_is b e = ap (λ (c : Bool). c && set_of h.nodes t) (sym sender) ∙ ends b e
+      module _ (up : left (seen h) t ≡ false) where
+        -- a running receiver's delivery, by whether a letter waits
+        refused_up : (b : Bool) → is_nil ((links_of h.links).queue f t) ≡ b
+            → refusal (opening_of h) (seen h) (AnyWorldEvent.Deliver f t)
+            ≡ (if b then Some AnyRefusal.EmptyLink else None)
+        refused_up b e = refused_by true true sender receiver
+            ∙ ap (λ (d : Bool). if d then Some AnyRefusal.NodeLeft else
+            (if is_nil (map letter_of ((links_of h.links).queue f t)) then Some AnyRefusal.EmptyLink else None)) up
+            ∙ ap (λ (d : Bool). if d then Some AnyRefusal.EmptyLink else None)
+            (is_nil-map letter_of ((links_of h.links).queue f t) ∙ e)
 
-    -- the link refuses
-    pub refuses_on : (fault : LinkFault) → IsUndelivered fault f t h.links
-        → RefusedWith (refusal_on fault) (Deliver f t) h
-    refuses_on on_link.NoSuchNode e = refused_up false (receiver_is false e)
-    refuses_on on_link.EmptyLink (e, q) = refused_up true (receiver_is true e)
-        ∙ ap (λ (ls : List Letter). if is_nil (map letter_of ls) then Some AnyRefusal.EmptyLink else None) q
-    refuses_on on_link.Full e = absurd e
-    refuses_on on_link.Memory e = absurd e
+        -- nothing is on the link
+        pub refuses_empty : is_nil ((links_of h.links).queue f t) ≡ true → RefusedWith EmptyLink (Deliver f t) h
+        refuses_empty e = refused_up true e
 
-    module _ (letter : Letter) (links : Mesh Letter) (known : joins f t h.links ≡ true)
-        (oldest : slice_get ((links_of h.links).queue f t) 0 ≡ Some letter)
-        (off : links_of links ≡ taken f t (links_of h.links))
-        (same : links.nodes ≡ h.links.nodes) where
-      -- what is held when the letter is off its link
-      abbrev pub off_link : Held
-      off_link = record h { links = links }
+        -- or the letter is delivered
+        pub free_delivery : is_nil ((links_of h.links).queue f t) ≡ false
+            → refusal (opening_of h) (seen h) (AnyWorldEvent.Deliver f t) ≡ None
+        free_delivery e = refused_up false e
 
-      pub off_whole : IsWhole off_link
-      off_whole = record {
-        set = whole.set;
-        names = whole.names;
-        worlds = whole.worlds;
-        links = same ∙ whole.links;
-        fit = subst (λ (w : Links Letter). AreFit h.nodes w) (sym off)
-            (fit_taken h.nodes f t (links_of h.links) whole.fit);
-      }
+        module _ (letter : Letter) (links : Mail)
+            (oldest : slice_get ((links_of h.links).queue f t) 0 ≡ Some letter)
+            (off : links_of links ≡ taken f t (links_of h.links))
+            (same : links.mesh.nodes ≡ h.links.mesh.nodes) where
+          -- what is held when the letter is off its link
+          abbrev pub off_link : Held
+          off_link = record h { links = links }
 
-      queue_is : (seen h).links.queue f t ≡ letter_of letter ∷ map letter_of (drop 1 ((links_of h.links).queue f t))
-      queue_is = ap (map letter_of) (front ((links_of h.links).queue f t) letter oldest)
+          pub off_whole : IsWhole off_link
+          off_whole = record {
+            set = whole.set;
+            names = whole.names;
+            worlds = whole.worlds;
+            links = same ∙ whole.links;
+            fit = subst (λ (w : Links Letter). AreFit h.nodes w) (sym off)
+                (fit_taken h.nodes f t (links_of h.links) whole.fit);
+          }
 
-      receiver : set_of h.nodes t ≡ true
-      receiver = receiver_is true known
+          -- the receiver runs still
+          pub up_still : left (seen off_link) t ≡ false
+          up_still = ap (λ (w : Links Letter). w.closed t) off ∙ up
 
-      -- the receiver may read it
-      said : IsSaidBy h.nodes t f letter
-      said = All-head (IsSaidBy h.nodes t f) letter (drop 1 ((links_of h.links).queue f t))
-          (subst (λ (ls : List Letter). All (IsSaidBy h.nodes t f) ls)
-          (front ((links_of h.links).queue f t) letter oldest) (whole.fit.said f t))
+          queue_is : (seen h).links.queue f t ≡ letter_of letter ∷ map letter_of (drop 1 ((links_of h.links).queue f t))
+          queue_is = ap (map letter_of) (front ((links_of h.links).queue f t) letter oldest)
 
-      pub may_hear : IsHeardWithin h.nodes t (FromPeer f letter)
-      may_hear = (sender, said)
+          -- the receiver may read it
+          said : IsSaidBy h.nodes t f letter
+          said = All-head (IsSaidBy h.nodes t f) letter (drop 1 ((links_of h.links).queue f t))
+              (subst (λ (ls : List Letter). All (IsSaidBy h.nodes t f) ls)
+              (front ((links_of h.links).queue f t) letter oldest) (whole.fit.said f t))
 
-      free : refusal (opening_of h) (seen h) (AnyWorldEvent.Deliver f t) ≡ None
-      free = refused_up true receiver
-          ∙ ap (λ (ls : List AnyLetter). if is_nil ls then Some AnyRefusal.EmptyLink else None) queue_is
+          pub may_hear : IsHeardWithin h.nodes t (FromPeer f letter)
+          may_hear = (sender, said)
 
-      -- the receiver runs still
-      up_still : left (seen off_link) t ≡ false
-      up_still = ap (λ (w : Links Letter). w.closed t) off ∙ up
+          opened_is : seen off_link ≡ letter_taken (AnyWorldEvent.Deliver f t) (seen h)
+          opened_is = ap (λ (w : Links AnyLetter). record (seen h) { links = w })
+              (ap (mapped letter_of) off ∙ mapped-taken letter_of f t (links_of h.links))
 
-      -- a letter is refused by want of memory alone
-      only_memory : (r : Refusal) → FailsAt r t (FromPeer f letter) off_link → r ≡ out_of_memory
-      only_memory NoSuchNode F = cc (F, receiver)
-      only_memory NodeLeft F = cc (F.1, up_still)
-      only_memory EmptyLink F = absurd F
-      only_memory (Step fault) (c, S, q) = ap Step (only_memory_of_node fault (sym q))
+          module _ (new : Held) (given : List Answer) (free : refusal (opening_of h) (seen h)
+              (AnyWorldEvent.Deliver f t) ≡ None) (M : Moves t (FromPeer f letter) off_link new given) where
+            turn : M.turn ≡ turn_of (opening_of h) (seen h) (AnyWorldEvent.Deliver f t)
+            turn = M.makes (subst (λ (n : ℕ). IsSaidBy M.core.world n f letter) (sym M.stands.name)
+                (subst (λ (ns : List ℕ). IsSaidBy ns t f letter) (sym M.stands.world) said))
+                ∙ ap (λ (ns : List ℕ). receive (bound_of ns) M.core.name (join_number (seen h)) f (letter_of letter)
+                (begun (node_of M.core))) M.stands.world
+                ∙ ap (λ (n : ℕ). receive (bound_of h.nodes) n (join_number (seen h)) f (letter_of letter)
+                (begun (node_of M.core))) M.stands.name
+                ∙ ap (λ (v : Node). receive (bound_of h.nodes) t (join_number (seen h)) f (letter_of letter) (begun v))
+                (sym (ap (node_with (opening_of h) t) M.stands.is))
+                ∙ sym (ap (heard (bound_of h.nodes) t (seen h) f) queue_is)
 
-      pub never_kept : (r : Refusal) → FailsAt r t (FromPeer f letter) off_link → is_memory r ≡ false → ⊥
-      never_kept r F kept = let out : is_memory r ≡ true = ap is_memory (only_memory r F) in cc
-
-      pub refuses_delivery : (r : Refusal) → FailsAt r t (FromPeer f letter) off_link → RefusedWith r (Deliver f t) h
-      refuses_delivery r F = subst (λ (x : Refusal). RefusedWith x (Deliver f t) h) (sym (only_memory r F)) free
-
-      opened_is : seen off_link ≡ letter_taken (AnyWorldEvent.Deliver f t) (seen h)
-      opened_is = ap (λ (w : Links AnyLetter). record (seen h) { links = w })
-          (ap (mapped letter_of) off ∙ mapped-taken letter_of f t (links_of h.links))
-
-      module _ (new : Held) (given : List Answer) (M : Moves t (FromPeer f letter) off_link new given) where
-        core : Core
-        core = M.core
-
-        turn : M.turn ≡ turn_of (opening_of h) (seen h) (AnyWorldEvent.Deliver f t)
-        turn = M.makes (subst (λ (n : ℕ). IsSaidBy M.core.world n f letter) (sym M.stands.name)
-            (subst (λ (ns : List ℕ). IsSaidBy ns t f letter) (sym M.stands.world) said))
-            ∙ ap (λ (ns : List ℕ). receive (bound_of ns) M.core.name (join_number (seen h)) f (letter_of letter)
-            (begun (node_of M.core))) M.stands.world
-            ∙ ap (λ (n : ℕ). receive (bound_of h.nodes) n (join_number (seen h)) f (letter_of letter)
-            (begun (node_of M.core))) M.stands.name
-            ∙ ap (λ (v : Node). receive (bound_of h.nodes) t (join_number (seen h)) f (letter_of letter) (begun v))
-            (sym (ap (node_with (opening_of h) t) M.stands.is))
-            ∙ sym (ap (heard (bound_of h.nodes) t (seen h) f) queue_is)
-
-        pub plays_delivery : Played (Deliver f t) h new [] given
-        plays_delivery = record {
-          nodes = M.nodes;
-          cluster = M.cluster;
-          accepted = free;
-          happens = happens_by h (AnyWorldEvent.Deliver f t) (seen new) M.turn free
-              (M.world ∙ ap (apply t M.turn) opened_is
-              ∙ ap (λ (u : Turn). apply t u (letter_taken (AnyWorldEvent.Deliver f t) (seen h))) turn);
-          answers = answers_by h (AnyWorldEvent.Deliver f t) (map answer_of given) free
-              (M.answers ∙ ap (λ (u : Turn). u.answers) turn);
-        }
+            pub plays_delivery : Played (Deliver f t) h new [] given
+            plays_delivery = record {
+              nodes = M.nodes;
+              cluster = M.cluster;
+              accepted = free;
+              happens = happens_by h (AnyWorldEvent.Deliver f t) (seen new) M.turn free
+                  (M.world ∙ ap (apply t M.turn) opened_is
+                  ∙ ap (λ (u : Turn). apply t u (letter_taken (AnyWorldEvent.Deliver f t) (seen h))) turn);
+              answers = answers_by h (AnyWorldEvent.Deliver f t) (map answer_of given) free
+                  (M.answers ∙ ap (λ (u : Turn). u.answers) turn);
+            }

@@ -1,8 +1,9 @@
 -- Events that were played one after the other.
-use Rattle.std.proofs.Common.{ℕ, zero, suc, Bool, true, false, ◌≡◌, ◌+◌, Option, Some, None, List, [], ◌∷◌, ◌++◌, ◌<◌, length, map, take, refl, sym, ap, subst, ◌∙◌, arith}
+use Rattle.std.proofs.Common.{ℕ, zero, suc, Bool, true, false, ◌≡◌, ◌+◌, Option, Some, None, List, [], ◌∷◌, ◌++◌, ◌<◌, ◌≤◌, ◌-◌, ◌^◌, min, length, map, take, refl, sym, ap, subst, ◌∙◌, arith}
 use Rattle.std.specs.List.{slice_get}
-use Rattle.std.specs.Prelude.{◌&&◌, is_none}
-use Rattle.std.proofs.lemmas.List.{append_assoc, append-nil}
+use Rattle.std.specs.Prelude.{◌&&◌, is_none, is_ok, IsOk, Result, if◌then◌else◌}
+use Rattle.std.specs.declared.alloc.AllocError.{AllocError}
+use Rattle.std.proofs.lemmas.List.{append_assoc, append-nil, map-append}
 use Rattle.protocol_model.specs.Event.{Answer as AnyAnswer, Refusal as AnyRefusal}
 use Rattle.protocol_model.specs.World.{Opening, World, WorldEvent as AnyWorldEvent, refusal, happens, answers, run, all_answers}
 use Rattle.node_core.specs.declared.Answer.{Answer}
@@ -12,7 +13,6 @@ use Rattle.cluster_world.specs.Held.{Held}
 use Rattle.world_events.specs.Events.{event_of}
 use Rattle.cluster_world.specs.Seen.{opening_of, seen}
 use Rattle.world_events.specs.declared.refusal.Refusal.{Refusal}
-use Rattle.world_events.specs.Refusals.{is_memory}
 use Rattle.cluster_world.specs.Playing.{Keeps, Played, RefusedWith, IsSoFar, Ran, events_of, accepts_all}
 use Rattle.cluster_world.proofs.Agreeing.{same_opening}
 
@@ -78,17 +78,39 @@ so_far_more es old mid new k given now e S at P = record {
     next : events_of (take k es) ++ event_of e ∷ [] ≡ events_of (take (k + 1) es)
     next = sym (events-push es k e at) ∙ ap (λ (n : ℕ). events_of (take n es)) one_more
 
--- the next event is refused, which changes nothing but where memory was refused
+-- an event that was played by itself, with its answers behind those given before
+pub played_behind : (e : WorldEvent) (old new : Held) (before now : List Answer) → Played e old new [] now
+    → Played e old new before (before ++ now)
+played_behind e old new before now P = record {
+  nodes = P.nodes;
+  cluster = P.cluster;
+  accepted = P.accepted;
+  happens = P.happens;
+  answers = map-append answer_of before now
+      ∙ ap (λ (l : List AnyAnswer). map answer_of before ++ l) P.answers;
+}
+
+-- answers that there is room for are put behind those given before
+pub appended : (r : Result Unit AllocError) (xs ys : List Answer) → IsOk r
+    → (if is_ok r then xs ++ ys else xs) ≡ xs ++ ys
+appended r xs ys ok = ap (λ (b : Bool). if b then xs ++ ys else xs) ok
+
+-- so many answers fit into the room that was made
+pub fits_behind : (len cap most here small all n : ℕ) → here ≡ n → here ≤ small → small < 2 ^ 63 → n ≤ all
+    → most ≡ min (2 ^ 64 - 1) all → len + most ≤ cap → len + here ≤ cap
+fits_behind len cap most here small all n same within under few made room = omega arith
+
+-- the next event is refused, which changes nothing
 pub ran_stopped : (es : List WorldEvent) (old mid new : Held) (k : ℕ) (given now : List Answer) (e : WorldEvent)
     (r : Refusal)
     → IsSoFar es old mid k given → k < length es → slice_get es k ≡ Some e → RefusedWith r e mid → Keeps mid new
-    → (is_memory r ≡ false → new ≡ mid) → now ≡ given → Ran es old new k now (Some r)
+    → seen new ≡ seen mid → now ≡ given → Ran es old new k now (Some r)
 ran_stopped es old mid new k given now e r S within at refused K same kept = record {
   nodes = K.nodes ∙ S.nodes;
   cluster = K.cluster ∙ S.cluster;
   within = omega arith;
   accepted = S.accepted;
-  world = λ known. ap seen (same known) ∙ S.world;
+  world = same ∙ S.world;
   answers = ap (map answer_of) kept ∙ S.answers;
   stopped = (
     e,
@@ -107,7 +129,7 @@ ran_all es old new k given S all = subst (λ (i : ℕ). Ran es old new i given N
   cluster = S.cluster;
   within = omega arith;
   accepted = S.accepted;
-  world = λ known. S.world;
+  world = S.world;
   answers = S.answers;
   stopped = all;
 })

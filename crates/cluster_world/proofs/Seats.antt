@@ -1,5 +1,5 @@
 -- A call that waits, while events are played one after the other.
-use Rattle.std.proofs.Common.{ℕ, zero, suc, Bool, true, false, ◌≡◌, ◌<◌, ◌+◌, ◌-◌, arith, Option, Some, None, List, [], ◌∷◌, ◌++◌, map, refl, sym, ap, ◌∙◌, subst}
+use Rattle.std.proofs.Common.{ℕ, zero, suc, Bool, true, false, ◌≡◌, ◌<◌, ◌+◌, ◌-◌, arith, Option, Some, None, List, [], ◌∷◌, ◌++◌, map, refl, sym, ap, ◌∙◌, subst, inr, zero-add, add-zero}
 use Rattle.std.specs.Prelude.{Result, Ok, Err, is_some, is_none, ◌&&◌, if◌then◌else◌}
 use Rattle.std.proofs.lemmas.List.{append_assoc, append-nil, map-append}
 use Rattle.protocol_model.specs.Event.{Answer as AnyAnswer, Refusal as AnyRefusal}
@@ -48,6 +48,12 @@ module _ (o : Opening) (a k left : ℕ) (w : World) where
       → awaiting o a k (suc left) w ≡ []
   awaiting-end e r is refused = by_refusal (Some r) (ap (refusal o w) is ∙ refused)
 
+-- what was played stands in another state that the protocol sees the same
+stands_still : (es : List WorldEvent) (old mid new : Held) (given : List Answer) → WentThrough es old mid given
+    → seen new ≡ seen mid → WentThrough es old new given
+stands_still es old mid new given W same =
+    record { accepted = W.accepted; world = same ∙ W.world; answers = W.answers }
+
 -- nothing was played yet
 pub went_nowhere : (h : Held) → WentThrough [] h h []
 went_nowhere h = record { accepted = refl; world = refl; answers = refl }
@@ -88,33 +94,39 @@ module _ (es : List WorldEvent) (old mid new : Held) (given now : List Answer) (
         ∙ sym (answers-push o (seen old) (events_of es) (event_of e)) ∙ ap (all_answers o (seen old)) (sym pushed);
   }
 
--- call k of node a still waits, and of what is played for it this many events are left at most
-pub record IsWaiting (a k : ℕ) (old mid : Held) (left : ℕ) : Type 0 where
+-- call k of node a still waits, and these events were played for it, at most so many; however many are played at most, what
+-- is left is what waits for it now
+pub record IsWaiting (a k : ℕ) (old mid : Held) (i : ℕ) : Type 0 where
   pub kept : Keeps old mid
   pub events : List WorldEvent
   pub given : List Answer
   pub played : WentThrough events old mid given
-  pub rest : awaiting (opening_of old) a k most_events (seen old)
+  pub rest : (left : ℕ) → awaiting (opening_of old) a k (i + left) (seen old)
       ≡ events_of events ++ awaiting (opening_of old) a k left (seen mid)
   pub silent : verdict_in a k (map answer_of given) ≡ None
 
-pub begins : (a k : ℕ) (h : Held) → IsWaiting a k h h most_events
+pub begins : (a k : ℕ) (h : Held) → IsWaiting a k h h zero
 begins a k h = record {
   kept = record { nodes = refl; cluster = refl };
   events = [];
   given = [];
   played = went_nowhere h;
-  rest = refl;
+  rest = λ left. ap (λ (n : ℕ). awaiting (opening_of h) a k n (seen h)) (zero-add left);
   silent = refl;
 }
 
--- where nothing is left, it has no answer
-pub ends : (a k : ℕ) (old mid : Held) → IsWaiting a k old mid zero → Waited a k old mid None
-ends a k old mid I = record {
+as_many : (a k i : ℕ) (old mid : Held) (I : IsWaiting a k old mid i)
+    → events_of I.events ≡ awaiting (opening_of old) a k i (seen old)
+as_many a k i old mid I = sym (ap (λ (n : ℕ). awaiting (opening_of old) a k n (seen old)) (sym (add-zero i))
+    ∙ I.rest zero ∙ append-nil (events_of I.events))
+
+-- it has no answer yet, then
+pub ends : (a k i : ℕ) (old mid : Held) → IsWaiting a k old mid i → Waited a k i old mid None
+ends a k i old mid I = record {
   events = I.events;
   given = I.given;
   played = I.played;
-  are = sym (I.rest ∙ append-nil (events_of I.events));
+  are = as_many a k i old mid I;
   answered = I.silent;
 }
 
@@ -126,31 +138,39 @@ refusal_there EmptyLink e = (_, refl)
 refusal_there (Step fault) e = has_cause fault e
 
 module _ (a k : ℕ) (old mid new : Held) (i : ℕ) (e : WorldEvent) (within : i < most_events)
-    (waiting : IsWaiting a k old mid (most_events - i))
+    (I : IsWaiting a k old mid i)
     (next : event_of e ≡ next_for (opening_of mid) a (seen mid)) where
-  abbrev left : ℕ
-  left = most_events - (i + 1)
+  -- what is played in all, where this many events are left behind the next
+  in_all : (left : ℕ) → awaiting (opening_of old) a k (i + 1 + left) (seen old)
+      ≡ events_of I.events ++ awaiting (opening_of old) a k (suc left) (seen mid)
+  in_all left = ap (λ (n : ℕ). awaiting (opening_of old) a k n (seen old)) one_more ∙ I.rest (suc left)
+    where
+      one_more : i + 1 + left ≡ i + suc left
+      one_more = omega arith
 
-  one_more : most_events - i ≡ suc left
-  one_more = omega (arith, within)
-
-  I : IsWaiting a k old mid (suc left)
-  I = subst (IsWaiting a k old mid) one_more waiting
+  -- so it is where as many are played as may be
+  most_is : i + 1 + (most_events - (i + 1)) ≡ most_events
+  most_is = omega (arith, within)
 
   next_is : next_for (opening_of old) a (seen mid) ≡ event_of e
   next_is = sym (next ∙ ap (λ (p : Opening). next_for p a (seen mid)) (same_opening old mid I.kept))
 
   -- the next event is refused
-  stops : (r : Refusal) → RefusedWith r e mid → is_memory r ≡ false → new ≡ mid → Waited a k old new None
-  stops r refused kept same = subst (λ (h : Held). Waited a k old h None) (sym same) (record {
+  stops : (r : Refusal) → RefusedWith r e mid → is_memory r ≡ false → seen new ≡ seen mid
+      → Waited a k most_events old new None
+  stops r refused kept same = record {
     events = I.events;
     given = I.given;
-    played = I.played;
-    are = sym (I.rest ∙ ap (λ (l : List AnyWorldEvent). events_of I.events ++ l) nothing
+    played = stands_still I.events old mid new I.given I.played same;
+    are = sym (ap (λ (n : ℕ). awaiting (opening_of old) a k n (seen old)) (sym most_is) ∙ in_all left
+        ∙ ap (λ (l : List AnyWorldEvent). events_of I.events ++ l) nothing
         ∙ append-nil (events_of I.events));
     answered = I.silent;
-  })
+  }
     where
+      left : ℕ
+      left = most_events - (i + 1)
+
       there : (x : AnyRefusal) × (refusal_of r ≡ Some x)
       there = refusal_there r kept
 
@@ -159,41 +179,56 @@ module _ (a k : ℕ) (old mid new : Held) (i : ℕ) (e : WorldEvent) (within : i
           (ap (λ (p : Opening). refusal p (seen mid) (event_of e)) (sym (same_opening old mid I.kept)) ∙ refused
           ∙ there.1)
 
-  pub refused_end : (r : Refusal) (fault : SeatFault) → RefusedWith r e mid → (is_memory r ≡ false → new ≡ mid)
+  -- memory was refused
+  runs_out : seen new ≡ seen mid → HasWaited a k old new (Err (Refused out_of_memory))
+  runs_out still = (
+    refl,
+    i,
+    omega (arith, within),
+    record {
+      events = I.events;
+      given = I.given;
+      played = stands_still I.events old mid new I.given I.played still;
+      are = as_many a k i old mid I;
+      answered = I.silent;
+    },
+  )
+
+  pub refused_end : (r : Refusal) (fault : SeatFault) → RefusedWith r e mid → seen new ≡ seen mid
       → fault ≡ (if is_memory r then Refused out_of_memory else NoAnswer) → HasWaited a k old new (Err fault)
   refused_end r fault refused same is = subst (λ (f : SeatFault). HasWaited a k old new (Err f)) (sym is)
       (go (is_memory r) refl)
     where
       go : (b : Bool) → is_memory r ≡ b
           → HasWaited a k old new (Err (if b then Refused out_of_memory else NoAnswer))
-      go true q = refl
-      go false q = stops r refused q (same q)
+      go true q = runs_out same
+      go false q = stops r refused q same
 
   module _ (now : List Answer) (P : Played e mid new [] now) where
     went : WentThrough (I.events ++ e ∷ []) old new (I.given ++ now)
     went = went_on I.events old mid new I.given now e I.played I.kept P
 
     -- what is left behind the next event, by its verdict
-    abbrev tail : Option Bool → List AnyWorldEvent
-    tail v = if is_some v then [] else awaiting (opening_of old) a k left (seen new)
+    abbrev tail : ℕ → Option Bool → List AnyWorldEvent
+    tail left v = if is_some v then [] else awaiting (opening_of old) a k left (seen new)
 
-    unrolled : awaiting (opening_of old) a k (suc left) (seen mid)
-        ≡ event_of e ∷ tail (verdict_in a k (map answer_of now))
-    unrolled = awaiting-on (opening_of old) a k left (seen mid) (event_of e) next_is
+    unrolled : (left : ℕ) → awaiting (opening_of old) a k (suc left) (seen mid)
+        ≡ event_of e ∷ tail left (verdict_in a k (map answer_of now))
+    unrolled left = awaiting-on (opening_of old) a k left (seen mid) (event_of e) next_is
         (free I.events old mid new I.given now e I.played I.kept P)
         ∙ ap (λ (w : World). event_of e
         ∷ (if is_some (verdict_in a k (answers (opening_of old) (seen mid) (event_of e)))
         then [] else awaiting (opening_of old) a k left w))
         (sym (makes I.events old mid new I.given now e I.played I.kept P))
-        ∙ ap (λ (l : List AnyAnswer). event_of e ∷ tail (verdict_in a k l))
+        ∙ ap (λ (l : List AnyAnswer). event_of e ∷ tail left (verdict_in a k l))
         (sym (says I.events old mid new I.given now e I.played I.kept P))
 
-    rest_is : (v : Option Bool) → verdict_in a k (map answer_of now) ≡ v
-        → awaiting (opening_of old) a k most_events (seen old) ≡ events_of (I.events ++ e ∷ []) ++ tail v
-    rest_is v q = I.rest ∙ ap (λ (l : List AnyWorldEvent). events_of I.events ++ l) unrolled
-        ∙ ap (λ (w : Option Bool). events_of I.events ++ event_of e ∷ tail w) q
-        ∙ sym (append_assoc (events_of I.events) (event_of e ∷ []) (tail v))
-        ∙ ap (λ (l : List AnyWorldEvent). l ++ tail v) (sym (map-append event_of I.events (e ∷ [])))
+    rest_is : (left : ℕ) (v : Option Bool) → verdict_in a k (map answer_of now) ≡ v
+        → awaiting (opening_of old) a k (i + 1 + left) (seen old) ≡ events_of (I.events ++ e ∷ []) ++ tail left v
+    rest_is left v q = in_all left ∙ ap (λ (l : List AnyWorldEvent). events_of I.events ++ l) (unrolled left)
+        ∙ ap (λ (w : Option Bool). events_of I.events ++ event_of e ∷ tail left w) q
+        ∙ sym (append_assoc (events_of I.events) (event_of e ∷ []) (tail left v))
+        ∙ ap (λ (l : List AnyWorldEvent). l ++ tail left v) (sym (map-append event_of I.events (e ∷ [])))
 
     verdict_is : verdict_in a k (map answer_of (I.given ++ now)) ≡ verdict_in a k (map answer_of now)
     verdict_is = ap (verdict_in a k) (map-append answer_of I.given now)
@@ -201,24 +236,25 @@ module _ (a k : ℕ) (old mid new : Held) (i : ℕ) (e : WorldEvent) (within : i
 
     -- the next event brings the answer
     pub is_answered : (granted : Bool) → verdict_in a k (map answer_of now) ≡ Some granted
-        → Waited a k old new (Some granted)
+        → Waited a k most_events old new (Some granted)
     is_answered granted q = record {
       events = I.events ++ e ∷ [];
       given = I.given ++ now;
       played = went;
-      are = sym (rest_is (Some granted) q ∙ append-nil (events_of (I.events ++ e ∷ [])));
+      are = sym (ap (λ (n : ℕ). awaiting (opening_of old) a k n (seen old)) (sym most_is)
+          ∙ rest_is (most_events - (i + 1)) (Some granted) q ∙ append-nil (events_of (I.events ++ e ∷ [])));
       answered = verdict_is ∙ q;
     }
 
     -- or not
     pub waits_on : Keeps mid new → verdict_in a k (map answer_of now) ≡ None
-        → IsWaiting a k old new (most_events - (i + 1))
+        → IsWaiting a k old new (i + 1)
     waits_on K q = record {
       kept = record { nodes = K.nodes ∙ I.kept.nodes; cluster = K.cluster ∙ I.kept.cluster };
       events = I.events ++ e ∷ [];
       given = I.given ++ now;
       played = went;
-      rest = rest_is None q;
+      rest = λ left. rest_is left None q;
       silent = verdict_is ∙ q;
     }
 
@@ -256,11 +292,11 @@ module _ (a : ℕ) (c : Call) (old mid : Held) (now : List Answer) (P : Played (
   begun = record { nodes = P.nodes; cluster = P.cluster }
 
   -- a call whose events were these
-  called : (new : Held) (es : List WorldEvent) (given : List Answer) (v : Option Bool) → Keeps old new
+  called : (new : Held) (es : List WorldEvent) (given : List Answer) (most : ℕ) (v : Option Bool) → Keeps old new
       → WentThrough es old new given
-      → events_of es ≡ until_answered (opening_of old) a k (seen old) (event_of calls)
-      → verdict_in a k (map answer_of given) ≡ v → Called a c old new v
-  called new es given v K W are answered = record {
+      → events_of es ≡ until_answered (opening_of old) a k most (seen old) (event_of calls)
+      → verdict_in a k (map answer_of given) ≡ v → Called a c most old new v
+  called new es given most v K W are answered = record {
     events = es;
     given = given;
     played = W;
@@ -269,55 +305,56 @@ module _ (a : ℕ) (c : Call) (old mid : Held) (now : List Answer) (P : Played (
     agrees = agreed;
     locks = locks_behind es given old new agreed;
     leaves_nothing = leaves_nothing es given old new agreed;
-    counts = counts es given old new v W (call_of c) a (are, answered);
+    counts = counts es given old new most v W (call_of c) a (are, answered);
   }
     where
       agreed : Agrees es given old new
       agreed = agrees es given old new K W.world W.answers
 
   -- the events, by the verdict in the call's own step
-  until : (v : Option Bool) → verdict_in a k (map answer_of now) ≡ v
-      → until_answered (opening_of old) a k (seen old) (event_of calls)
-      ≡ event_of calls ∷ (if is_some v then [] else awaiting (opening_of mid) a k most_events (seen mid))
-  until v q =
+  until : (most : ℕ) (v : Option Bool) → verdict_in a k (map answer_of now) ≡ v
+      → until_answered (opening_of old) a k most (seen old) (event_of calls)
+      ≡ event_of calls ∷ (if is_some v then [] else awaiting (opening_of mid) a k most (seen mid))
+  until most v q =
       ap (λ (l : List AnyAnswer). event_of calls ∷ (if is_some (verdict_in a k l) then []
-      else awaiting (opening_of old) a k most_events (happens (opening_of old) (seen old) (event_of calls))))
+      else awaiting (opening_of old) a k most (happens (opening_of old) (seen old) (event_of calls))))
       (sym P.answers)
       ∙ ap (λ (w : Option Bool). event_of calls ∷ (if is_some w then []
-      else awaiting (opening_of old) a k most_events (happens (opening_of old) (seen old) (event_of calls)))) q
-      ∙ ap (λ (w : World). event_of calls ∷ (if is_some v then [] else awaiting (opening_of old) a k most_events w))
+      else awaiting (opening_of old) a k most (happens (opening_of old) (seen old) (event_of calls)))) q
+      ∙ ap (λ (w : World). event_of calls ∷ (if is_some v then [] else awaiting (opening_of old) a k most w))
       (sym P.happens)
-      ∙ ap (λ (p : Opening). event_of calls ∷ (if is_some v then [] else awaiting p a k most_events (seen mid)))
+      ∙ ap (λ (p : Opening). event_of calls ∷ (if is_some v then [] else awaiting p a k most (seen mid)))
       (sym (same_opening old mid begun))
 
   -- its own step answers it
   answered_at_once : (granted : Bool) → verdict_in a k (map answer_of now) ≡ Some granted
-      → Called a c old mid (Some granted)
+      → Called a c most_events old mid (Some granted)
   answered_at_once granted q =
-      called mid (calls ∷ []) now (Some granted) begun
+      called mid (calls ∷ []) now most_events (Some granted) begun
       (went_on [] old old mid [] now calls (went_nowhere old) (record { nodes = refl; cluster = refl }) P)
-      (sym (until (Some granted) q)) q
+      (sym (until most_events (Some granted) q)) q
 
   -- or it waits
-  answered_later : (new : Held) (v : Option Bool) → Keeps mid new → verdict_in a k (map answer_of now) ≡ None
-      → Waited a k mid new v → Called a c old new v
-  answered_later new v K q W =
-      called new (calls ∷ W.events) (now ++ W.given) v
+  answered_later : (new : Held) (most : ℕ) (v : Option Bool) → Keeps mid new
+      → verdict_in a k (map answer_of now) ≡ None → Waited a k most mid new v → Called a c most old new v
+  answered_later new most v K q W =
+      called new (calls ∷ W.events) (now ++ W.given) most v
       (record { nodes = K.nodes ∙ P.nodes; cluster = K.cluster ∙ P.cluster })
       (went_behind calls W.events old mid new now W.given begun P W.played)
-      (ap (λ (l : List AnyWorldEvent). event_of calls ∷ l) W.are ∙ sym (until None q))
+      (ap (λ (l : List AnyWorldEvent). event_of calls ∷ l) W.are ∙ sym (until most None q))
       (ap (verdict_in a k) (map-append answer_of now W.given)
       ∙ verdict_in-append a k (map answer_of now) (map answer_of W.given) q ∙ W.answered)
 
   -- so does its seat
   sets : (new : Held) (result : Result Bool SeatFault) → Keeps mid new
       → verdict_in a k (map answer_of now) ≡ None → HasWaited a k mid new result → SetsLock a c old new result
-  sets new (Ok granted) K q W = answered_later new (Some granted) K q W
+  sets new (Ok granted) K q W = answered_later new most_events (Some granted) K q W
   sets new (Err NoMemory) K q W = absurd W
-  sets new (Err NoAnswer) K q W = answered_later new None K q W
-  sets new (Err (Refused r)) K q W = (
-    P.accepted ∙ ap refusal_of (sym W),
-    λ kept. absurd (no_memory (sym (ap is_memory W) ∙ kept)),
+  sets new (Err NoAnswer) K q W = answered_later new most_events None K q W
+  sets new (Err (Refused r)) K q (refused, most, few, W) = (
+    P.accepted ∙ ap refusal_of (sym refused),
+    λ kept. absurd (no_memory (sym (ap is_memory refused) ∙ kept)),
+    λ out. inr (most, few, answered_later new most None K q W),
   )
     where
       no_memory : true ≡ false → ⊥
@@ -335,7 +372,7 @@ module _ (a node b n : ℕ) (c : Call) (old mid : Held) (now given : List Answer
       ∙ ap (λ (x : ℕ). verdict_in node x (map answer_of now)) number_is
       ∙ ap (λ (x : ℕ). verdict_in x (next_number x (seen old)) (map answer_of now)) node_is)
 
-  pub called_at_once : (granted : Bool) → v ≡ Some granted → Called a c old mid (Some granted)
+  pub called_at_once : (granted : Bool) → v ≡ Some granted → Called a c most_events old mid (Some granted)
   called_at_once granted q = answered_at_once a c old mid now played granted (verdict_here ∙ q)
 
   pub called_later : (new : Held) (result : Result Bool SeatFault) → Keeps mid new → v ≡ None

@@ -11,13 +11,14 @@ use Rattle.protocol_model.specs.Links.{Links, no_letters}
 use Rattle.protocol_model.specs.Node.{Node, opening_node}
 use Rattle.protocol_model.specs.World.{in_world, in_cluster, opening_world}
 use Rattle.term.specs.NodeSets.{set_of, IsNodeSet}
-use Rattle.link.specs.Held.{Held as Mesh, seen as links_of}
 use Rattle.node_core.specs.declared.Letter.{Letter}
 use Rattle.node_core.specs.Held.{Held as Core, fresh, IsWithin}
 use Rattle.node_core.specs.Letters.{letter_of}
 use Rattle.node_core.specs.Seen.{node_of}
 use Rattle.node_core.specs.Steps.{IsSaidBy}
+use Rattle.cluster_world.specs.declared.mail.Mail.{Mail}
 use Rattle.cluster_world.specs.Links.{mapped, AreFit}
+use Rattle.cluster_world.specs.Mail.{links_of}
 use Rattle.cluster_world.specs.Held.{Held, IsWhole}
 use Rattle.world_history.specs.declared.entry.HistoryEntry.{HistoryEntry}
 use Rattle.cluster_world.specs.Cores.{core_of}
@@ -105,10 +106,10 @@ module _ (nodes cluster : List ℕ) where
       go true = core_is a ∙ ap (λ (s : Nodes). opening_node s a) (sym (cluster_is within))
       go false = refl
 
-  module _ (cores : List Core) (links : Mesh Letter) (history : List HistoryEntry)
+  module _ (cores : List Core) (links : Mail) (history : List HistoryEntry)
       (made : cores ≡ map (opening_core nodes cluster) nodes)
       (empty : links_of links ≡ no_letters) where
-    pub opens_whole : IsNodeSet nodes → links.nodes ≡ nodes
+    pub opens_whole : IsNodeSet nodes → links.mesh.nodes ≡ nodes
         → IsWhole (record { nodes = nodes; cluster = cluster; cores = cores; links = links; history = history })
     opens_whole set same = record {
       set = set;
@@ -118,7 +119,7 @@ module _ (nodes cluster : List ℕ) where
           (λ k d l. opens_world (get_or nodes k d)));
       links = same;
       fit = subst (λ (w : Links Letter). AreFit nodes w) (sym empty)
-          (record { quiet = λ f t e. refl; said = λ f t. All-nil (IsSaidBy nodes t f) });
+          (record { known = λ f t e. refl; quiet = λ f t e. refl; said = λ f t. All-nil (IsSaidBy nodes t f) });
     }
 
     pub opens_seen : IsWithin nodes cluster → history ≡ []
@@ -149,12 +150,12 @@ module _ (nodes cluster : List ℕ) where
         none
 
 -- what is held of a world of these nodes
-abbrev held : List ℕ → List ℕ → List Core → Mesh Letter → List HistoryEntry → Held
+abbrev held : List ℕ → List ℕ → List Core → Mail → List HistoryEntry → Held
 held nodes cluster cores links history =
     record { nodes = nodes; cluster = cluster; cores = cores; links = links; history = history }
 
 -- it is the same by other names of them
-pub with_sets : (nodes cluster n k : List ℕ) (cores : List Core) (links : Mesh Letter) (history : List HistoryEntry)
+pub with_sets : (nodes cluster n k : List ℕ) (cores : List Core) (links : Mail) (history : List HistoryEntry)
     → n ≡ nodes → k ≡ cluster
     → held nodes cluster cores links history ≡ held n k cores links history
 with_sets nodes cluster n k cores links history p q =
@@ -162,7 +163,7 @@ with_sets nodes cluster n k cores links history p q =
     ∙ ap (λ (ns : List ℕ). held n ns cores links history) (sym q)
 
 -- the world opens as the opening says
-pub opens : (cluster lone : List ℕ) (o : Opened) → IsOpening cluster lone o → (cores : List Core) (links : Mesh Letter)
+pub opens : (cluster lone : List ℕ) (o : Opened) → IsOpening cluster lone o → (cores : List Core) (links : Mail)
     (history : List HistoryEntry)
     → Opens cluster lone (record { nodes = o.nodes; cluster = o.cluster; cores = cores; links = links; history = history })
 opens cluster lone o is cores links history = record { nodes = is.nodes; joined = is.joined }

@@ -1,9 +1,9 @@
 -- The step of one node, as a step of the world.
 use Rattle.std.proofs.Common.{ℕ, Bool, true, false, ◌==◌, ◌≡◌, ◌<◌, Option, Some, None, List, [], ◌∷◌, ◌++◌, length, get_or, set, map, filter, refl, sym, ap, subst, ◌∙◌, arith}
-use Rattle.std.specs.Prelude.{if◌then◌else◌, ◌&&◌, is_some, unwrap_or, All}
+use Rattle.std.specs.Prelude.{if◌then◌else◌, unwrap_or}
 use Rattle.std.proofs.Math.Path.{fun_ext}
 use Rattle.std.proofs.lemmas.Bool.{ne_eqb}
-use Rattle.std.proofs.lemmas.List.{length-map, set-get_or, get_or-set_same}
+use Rattle.std.proofs.lemmas.List.{length-map}
 use Rattle.std.proofs.lemmas.List.Elements.{All-set}
 use Rattle.registry_model.specs.Process.{at}
 use Rattle.registry_model.proofs.Updates.{by_test}
@@ -14,19 +14,17 @@ use Rattle.protocol_model.specs.Node.{Node, Current, Free, Asking, Waiting, Writ
 use Rattle.protocol_model.specs.Turn.{Turn, sent_to}
 use Rattle.protocol_model.specs.World.{Opening, apply, left, number_in, join_number}
 use Rattle.term.specs.NodeSets.{set_of}
-use Rattle.link.specs.Held.{Held as Mesh, place, seen as links_of}
-use Rattle.link.specs.Faults.{joins}
+use Rattle.link.specs.Held.{place}
 use Rattle.term.proofs.NodePlaces.{place-Some}
 use Rattle.node_core.specs.declared.Event.{Event as NodeEvent}
 use Rattle.node_core.specs.declared.Letter.{Letter}
-use Rattle.node_core.specs.declared.StepFault.{StepFault}
 use Rattle.node_core.specs.Held.{Held as Core}
 use Rattle.node_core.specs.Made.{Made}
 use Rattle.node_core.specs.Letters.{letter_of, send_of}
 use Rattle.node_core.specs.Joining.{join_number_of}
 use Rattle.node_core.specs.Seen.{node_of, turn_by}
-use Rattle.node_core.specs.NodeEventsSeen.{entry_by, fault_of}
-use Rattle.node_core.specs.Steps.{Steps, IsSaidBy, IsHeardWithin, GoWithin, refusal_of as node_refusal}
+use Rattle.node_core.specs.NodeEventsSeen.{entry_by}
+use Rattle.node_core.specs.Steps.{Steps, IsAsBefore, IsHeardWithin, GoWithin}
 use Rattle.cluster_world.specs.Links.{mapped, letters_to, AreFit}
 use Rattle.cluster_world.specs.Held.{Held, IsWhole}
 use Rattle.world_history.specs.declared.entry.HistoryEntry.{HistoryEntry}
@@ -34,12 +32,12 @@ use Rattle.cluster_world.specs.Cores.{core_of}
 use Rattle.world_history.specs.Histories.{entry_of}
 use Rattle.cluster_world.specs.Histories.{number_of, number_at}
 use Rattle.cluster_world.specs.Seen.{opening_of, node_with, seen}
-use Rattle.world_events.specs.declared.refusal.Refusal.TheVariants.{Step}
-use Rattle.world_events.specs.Refusals.{out_of_memory}
-use Rattle.cluster_world.specs.Steps.{Stands, Moves, FailsAt}
+use Rattle.cluster_world.specs.declared.mail.Mail.{Mail}
+use Rattle.cluster_world.specs.Mail.{links_of}
+use Rattle.cluster_world.specs.Steps.{Stands, Moves}
 use Rattle.cluster_world.proofs.Cores.{name_at, names-set, core_here, core_wrote, no_core}
-use Rattle.cluster_world.proofs.Listed.{known_place, no_place, is_some-place}
-use Rattle.cluster_world.proofs.Mail.{mapped-posted}
+use Rattle.cluster_world.proofs.Listed.{known_place, no_place}
+use Rattle.cluster_world.proofs.Posting.{mapped-posted, fit_posted}
 
 abbrev pub name_of : Core → ℕ
 name_of c = c.name
@@ -69,12 +67,22 @@ number_seen : (o : Opening) (j : ℕ) (c : Option Core) → number_of c ≡ numb
 number_seen o j None = refl
 number_seen o j (Some c) = refl
 
+-- what is held with another core at a place, and with these links and this history
+abbrev pub with_core : Held → ℕ → Core → Mail → List HistoryEntry → Held
+with_core h i new links history = record {
+  nodes = h.nodes;
+  cluster = h.cluster;
+  cores = set h.cores i new;
+  links = links;
+  history = history;
+}
+
 module _ (h : Held) (whole : IsWhole h) (a i : ℕ) (core : Core) (there : place a h.nodes ≡ Some i)
     (is : core ≡ get_or h.cores i core) where
   there_too : place a (map name_of h.cores) ≡ Some i
   there_too = ap (place a) whole.names ∙ there
 
-  within : i < length h.cores
+  pub within : i < length h.cores
   within = omega (arith, (place-Some a (map name_of h.cores) i there_too).0, length-map h.cores name_of)
 
   -- the core at the place of a node is the node's
@@ -87,27 +95,16 @@ module _ (h : Held) (whole : IsWhole h) (a i : ℕ) (core : Core) (there : place
   pub world_so : core.world ≡ h.nodes
   world_so = ap (λ (c : Core). c.world) is ∙ whole.worlds i core within
 
-  -- the core stayed as it was
-  pub unchanged : (new : Core) → new ≡ core → record h { cores = set h.cores i new } ≡ h
-  unchanged new same = ap (λ (cs : List Core). record h { cores = cs })
-      (ap (set h.cores i) (same ∙ is) ∙ set-get_or h.cores i core)
+  -- another core of the node stands there for it
+  wrote : (new : Core) → new.name ≡ core.name → (x : ℕ)
+      → core_of x (set h.cores i new) ≡ (if x == a then Some new else core_of x h.cores)
+  wrote new named = core_wrote name_of h.cores i new a within there_too (named ∙ named_so)
 
-  -- a core that was put there stands there
-  pub stands_there : (new found : Core) → found ≡ get_or (set h.cores i new) i found → found ≡ new
-  stands_there new found at_place = at_place ∙ get_or-set_same h.cores i new found within
-
-  -- with another core of this name the world is whole
-  pub whole_with : (new : Core) (links : Mesh Letter) (history : List HistoryEntry) → new.name ≡ core.name → new.world
+  -- with it, and with what is on the links and in the history now, the world is whole
+  pub whole_with : (new : Core) (links : Mail) (history : List HistoryEntry) → new.name ≡ core.name → new.world
       ≡ core.world
-      → links.nodes ≡ h.links.nodes → AreFit h.nodes (links_of links)
-      → IsWhole (record {
-        nodes = h.nodes;
-        cluster = h.cluster;
-        cores = set h.cores i new;
-        links = links;
-        history =
-            history;
-      })
+      → links.mesh.nodes ≡ h.links.mesh.nodes → AreFit h.nodes (links_of links)
+      → IsWhole (with_core h i new links history)
   whole_with new links history named placed same fit = record {
     set = whole.set;
     names = names-set name_of h.cores i new within (named ∙ named_so
@@ -117,44 +114,38 @@ module _ (h : Held) (whole : IsWhole h) (a i : ℕ) (core : Core) (there : place
     fit = fit;
   }
 
-  -- the same where letters were posted
-  pub whole_posted : (new : Core) (links : Mesh Letter) (history : List HistoryEntry) → new.name ≡ core.name → new.world
-      ≡ core.world
-      → links.nodes ≡ h.links.nodes
-      → (AreFit h.links.nodes (links_of h.links) → AreFit h.links.nodes (links_of links))
-      → IsWhole (record {
-        nodes = h.nodes;
-        cluster = h.cluster;
-        cores = set h.cores i new;
-        links = links;
-        history =
-            history;
-      })
-  whole_posted new links history named placed same fit = whole_with new links history named placed same
-      (subst (λ (ns : List ℕ). AreFit ns (links_of h.links) → AreFit ns (links_of links)) whole.links fit whole.fit)
+  -- where the protocol's node is as before, the protocol's world is, with the same on its links and in its history
+  pub as_before : (new : Core) (links : Mail) (history : List HistoryEntry) → IsAsBefore core new
+      → links_of links ≡ links_of h.links → history ≡ h.history
+      → seen (with_core h i new links history) ≡ seen h
+  as_before new links history B linked entered =
+      ap (λ (f : ℕ → Node). record {
+        node = f;
+        links = mapped letter_of (links_of links);
+        history = map entry_of history;
+      }) (fun_ext nodes_are)
+      ∙ ap (λ (w : Links Letter). record (seen h) { links = mapped letter_of w; history = map entry_of history }) linked
+      ∙ ap (λ (es : List HistoryEntry). record (seen h) { history = map entry_of es }) entered
+    where
+      nodes_are : (x : ℕ) → node_with (opening_of h) x (core_of x (set h.cores i new)) ≡ (seen h).node x
+      nodes_are x = ap (node_with (opening_of h) x) (wrote new B.name x)
+          ∙ by_test a (λ y t. node_with (opening_of h) y (if t then Some new else core_of y h.cores) ≡ (seen h).node y)
+          (B.node ∙ sym (ap (node_with (opening_of h) a) core_is)) (λ y ne. refl) x
 
   -- the letters of the step go to nodes of the world
-  pub goes : (e : NodeEvent) (new : Core) (made : Made) → Steps e core new made → IsHeardWithin h.nodes a e
+  goes : (e : NodeEvent) (new : Core) (made : Made) → Steps e core new made → IsHeardWithin h.nodes a e
       → GoWithin h.nodes a made.letters
   goes e new made S heard = subst (λ (n : ℕ). GoWithin h.nodes n made.letters) named_so
       (subst (λ (ns : List ℕ). GoWithin ns core.name made.letters) world_so
       (S.within (subst (λ (ns : List ℕ). IsHeardWithin ns core.name e) (sym world_so)
       (subst (λ (n : ℕ). IsHeardWithin h.nodes n e) (sym named_so) heard))))
 
-  module _ (e : NodeEvent) (new : Core) (made : Made) (S : Steps e core new made) (heard : IsHeardWithin h.nodes a e) where
-    -- so they are between nodes of the mesh
-    pub joined : All (λ s. joins a s.0 h.links ≡ true) made.letters
-    joined k d l = both (get_or made.letters k d).0 (goes e new made S heard k d l).0
-      where
-        both : (t : ℕ) → set_of h.nodes t ≡ true → joins a t h.links ≡ true
-        both t there_t = ap (λ (ns : List ℕ). is_some (place a ns) && is_some (place t ns)) whole.links
-            ∙ ap (λ (p : Option ℕ). is_some p && is_some (place t h.nodes)) there
-            ∙ is_some-place h.nodes t ∙ there_t
-
-    -- and their receivers may read them
-    pub said : All (λ s. IsSaidBy h.links.nodes s.0 a s.1) made.letters
-    said = subst (λ (ns : List ℕ). All (λ s. IsSaidBy ns s.0 a s.1) made.letters) (sym whole.links)
-        (λ k d l. (goes e new made S heard k d l).1)
+  -- so they are fit to stand on their links
+  pub posted_fit : (e : NodeEvent) (new : Core) (made : Made) → Steps e core new made → IsHeardWithin h.nodes a e
+      → (w : Links Letter) → w ≡ posted a (λ t. letters_to t made.letters) (links_of h.links) → AreFit h.nodes w
+  posted_fit e new made S heard w post = subst (λ (v : Links Letter). AreFit h.nodes v) (sym post)
+      (fit_posted h.nodes a made.letters (links_of h.links) (known_place h.nodes a i there) (goes e new made S heard)
+      whole.fit)
 
   -- the step of a running node
   module _ (up : left (seen h) a ≡ false) where
@@ -167,15 +158,7 @@ module _ (h : Held) (whole : IsWhole h) (a i : ℕ) (core : Core) (there : place
       world = world_so;
     }
 
-    -- the node fails
-    pub fails : (e : NodeEvent) (fault : StepFault) → node_refusal e core ≡ fault_of fault → FailsAt (Step fault) a e h
-    fails e fault q = (core, stands, q)
-
-    -- the same where memory was refused behind the turn
-    pub fails_behind : (e : NodeEvent) (new : Core) (made : Made) → Steps e core new made → FailsAt out_of_memory a e h
-    fails_behind e new made S = (core, stands, S.accepted)
-
-    module _ (e : NodeEvent) (new : Core) (made : Made) (links : Mesh Letter) (history : List HistoryEntry) (own : ℕ)
+    module _ (e : NodeEvent) (new : Core) (made : Made) (links : Mail) (history : List HistoryEntry) (own : ℕ)
         (S : Steps e core new made)
         (post : links_of links ≡ posted a (λ t. letters_to t made.letters) (links_of h.links))
         (owns : own ≡ number_in (node_of core).current)
@@ -183,31 +166,22 @@ module _ (h : Held) (whole : IsWhole h) (a i : ℕ) (core : Core) (there : place
         ≡ map entry_of h.history ++ map (entry_by (number_at (set h.cores i new) a own)) made.entries) where
       -- what is held behind the step
       abbrev behind : Held
-      behind = record {
-        nodes = h.nodes;
-        cluster = h.cluster;
-        cores = set h.cores i new;
-        links = links;
-        history = history;
-      }
+      behind = with_core h i new links history
 
       abbrev turn : Turn
       turn = turn_by (join_number (seen h)) new made
-
-      wrote : (x : ℕ) → core_of x (set h.cores i new) ≡ (if x == a then Some new else core_of x h.cores)
-      wrote = core_wrote name_of h.cores i new a within there_too (S.name ∙ stands.name)
 
       -- each join has the number that it had before the step
       numbers_are : (j : ℕ) → number_at (set h.cores i new) a own j ≡ join_number (seen h) j
       numbers_are = by_test a (λ j t. (if t then own else number_of (core_of j (set h.cores i new)))
           ≡ join_number (seen h) j)
           (owns ∙ sym (ap (λ (c : Option Core). number_in (node_with (opening_of h) a c).current) core_is))
-          (λ j ne. ap number_of (wrote j ∙ ap (λ (t : Bool). if t then Some new else core_of j h.cores)
+          (λ j ne. ap number_of (wrote new S.name j ∙ ap (λ (t : Bool). if t then Some new else core_of j h.cores)
           (ne_eqb j a ne)) ∙ number_seen (opening_of h) j (core_of j h.cores))
 
       nodes_are : (x : ℕ) → node_with (opening_of h) x (core_of x (set h.cores i new))
           ≡ at (seen h).node a (node_of new) x
-      nodes_are x = ap (node_with (opening_of h) x) (wrote x) ∙ go (x == a)
+      nodes_are x = ap (node_with (opening_of h) x) (wrote new S.name x) ∙ go (x == a)
         where
           go : (b : Bool) → node_with (opening_of h) x (if b then Some new else core_of x h.cores)
               ≡ (if b then node_of new else node_with (opening_of h) x (core_of x h.cores))

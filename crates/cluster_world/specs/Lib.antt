@@ -6,6 +6,7 @@ pub use Rattle.world_events.specs.Events
 pub use Rattle.world_events.specs.Openings
 pub use Rattle.world_events.specs.Refusals
 pub mod Links
+pub mod Mail
 pub mod Cores
 pub mod Histories
 pub mod Held

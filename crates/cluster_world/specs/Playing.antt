@@ -1,5 +1,5 @@
 -- What playing events comes to, as the protocol has it.
-use Rattle.std.specs.Prelude.{ℕ, Bool, true, false, ◌&&◌, ◌≡◌, ◌≤◌, Option, Some, None, is_none, List, [], ◌∷◌, ◌++◌, map, take, length}
+use Rattle.std.specs.Prelude.{ℕ, Bool, true, ◌&&◌, ◌≡◌, ◌≤◌, Option, Some, None, is_none, List, [], ◌∷◌, ◌++◌, map, take, length}
 use Rattle.std.specs.List.{slice_get}
 use Rattle.protocol_model.specs.World.{Opening, World, refusal, happens, answers, run, all_answers, next_delivery, WorldEvent as AnyWorldEvent, Deliver}
 use Rattle.node_core.specs.declared.Answer.{Answer}
@@ -8,7 +8,7 @@ use Rattle.world_events.specs.declared.refusal.Refusal.{Refusal}
 use Rattle.world_events.specs.declared.events.WorldEvent.{WorldEvent}
 use Rattle.cluster_world.specs.Held.{Held}
 use Rattle.world_events.specs.Events.{event_of}
-use Rattle.world_events.specs.Refusals.{refusal_of, is_memory}
+use Rattle.world_events.specs.Refusals.{refusal_of}
 use Rattle.cluster_world.specs.Seen.{opening_of, seen}
 
 -- what no event changes, whatever comes of it
@@ -36,11 +36,6 @@ abbrev pub accepts_all : Opening → World → List AnyWorldEvent → Bool
 accepts_all o w [] = true
 accepts_all o w (e ∷ es) = is_none (refusal o w e) && accepts_all o (happens o w e) es
 
--- memory was refused on the way
-abbrev pub ran_out : Option Refusal → Bool
-ran_out None = false
-ran_out (Some r) = is_memory r
-
 -- why a list of events stopped there, where the events before had made this world
 abbrev pub IsStop : List WorldEvent → ℕ → Opening → World → Option Refusal → Type 0
 IsStop es k o w None = k ≡ length es
@@ -54,14 +49,13 @@ pub record IsSoFar (es : List WorldEvent) (old new : Held) (k : ℕ) (given : Li
   pub world : seen new ≡ run (opening_of old) (seen old) (events_of (take k es))
   pub answers : map answer_of given ≡ all_answers (opening_of old) (seen old) (events_of (take k es))
 
--- The first k of these events were accepted and played, with these answers, and then it stopped. What the world is where
--- memory was refused isn't said
+-- the first k of these events were accepted and played, with these answers, and then it stopped, which changed nothing
 pub record Ran (es : List WorldEvent) (old new : Held) (k : ℕ) (given : List Answer) (stop : Option Refusal) : Type 0 where
   pub nodes : new.nodes ≡ old.nodes
   pub cluster : new.cluster ≡ old.cluster
   pub within : k ≤ length es
   pub accepted : accepts_all (opening_of old) (seen old) (events_of (take k es)) ≡ true
-  pub world : ran_out stop ≡ false → seen new ≡ run (opening_of old) (seen old) (events_of (take k es))
+  pub world : seen new ≡ run (opening_of old) (seen old) (events_of (take k es))
   pub answers : map answer_of given ≡ all_answers (opening_of old) (seen old) (events_of (take k es))
   pub stopped : IsStop es k (opening_of old) (run (opening_of old) (seen old) (events_of (take k es))) stop
 

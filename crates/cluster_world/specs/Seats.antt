@@ -1,5 +1,5 @@
 -- What is played for a call at a lock holder's seat, and what answers the call.
-use Rattle.std.specs.Prelude.{ℕ, zero, suc, Bool, true, false, ◌+◌, ◌==◌, ◌&&◌, ◌≡◌, Option, Some, None, is_some, List, [], ◌∷◌, ◌++◌, map, Result, Ok, Err, if◌then◌else◌}
+use Rattle.std.specs.Prelude.{ℕ, zero, suc, Bool, true, false, ◌+◌, ◌==◌, ◌&&◌, ◌≡◌, ◌≤◌, ◌⊎◌, Option, Some, None, is_some, List, [], ◌∷◌, ◌++◌, map, Result, Ok, Err, if◌then◌else◌}
 use Rattle.registry_model.specs.Process.{Process}
 use Rattle.registry_model.specs.Call.{Reply as AnyReply, True, False}
 use Rattle.protocol_model.specs.Event.{Event as AnyEvent, Answer as AnyAnswer}
@@ -63,10 +63,10 @@ awaiting o a k (suc most) w =
     then []
     else awaiting o a k most (happens o w (next_for o a w)))
 
--- an event that makes call k of node a, and then what is played until that is answered
-abbrev pub until_answered : Opening → ℕ → ℕ → World → AnyWorldEvent → List AnyWorldEvent
-until_answered o a k w e =
-    e ∷ (if is_some (verdict_in a k (answers o w e)) then [] else awaiting o a k most_events (happens o w e))
+-- an event that makes call k of node a, and then what is played until that is answered; at most this many
+abbrev pub until_answered : Opening → ℕ → ℕ → ℕ → World → AnyWorldEvent → List AnyWorldEvent
+until_answered o a k most w e =
+    e ∷ (if is_some (verdict_in a k (answers o w e)) then [] else awaiting o a k most (happens o w e))
 
 -- these events were accepted and played, with these answers
 pub record WentThrough (es : List WorldEvent) (old new : Held) (given : List Answer) : Type 0 where
@@ -74,28 +74,31 @@ pub record WentThrough (es : List WorldEvent) (old new : Held) (given : List Ans
   pub world : seen new ≡ run (opening_of old) (seen old) (events_of es)
   pub answers : map answer_of given ≡ all_answers (opening_of old) (seen old) (events_of es)
 
--- these events were played while call k of node a wasn't answered, and this is what it was answered then, if it was
-pub record Waited (a k : ℕ) (old new : Held) (verdict : Option Bool) : Type 0 where
+-- these events, at most so many, were played while call k of node a wasn't answered, and this is what it was answered
+-- then, if it was
+pub record Waited (a k most : ℕ) (old new : Held) (verdict : Option Bool) : Type 0 where
   pub events : List WorldEvent
   pub given : List Answer
   pub played : WentThrough events old new given
-  pub are : events_of events ≡ awaiting (opening_of old) a k most_events (seen old)
+  pub are : events_of events ≡ awaiting (opening_of old) a k most (seen old)
   pub answered : verdict_in a k (map answer_of given) ≡ verdict
 
--- what waiting comes to
+-- what waiting comes to; where memory is refused, the events until then were played
 abbrev pub HasWaited : ℕ → ℕ → Held → Held → Result Bool SeatFault → Type 0
-HasWaited a k old new (Ok granted) = Waited a k old new (Some granted)
-HasWaited a k old new (Err NoAnswer) = Waited a k old new None
-HasWaited a k old new (Err (Refused r)) = r ≡ out_of_memory
+HasWaited a k old new (Ok granted) = Waited a k most_events old new (Some granted)
+HasWaited a k old new (Err NoAnswer) = Waited a k most_events old new None
+HasWaited a k old new (Err (Refused r)) =
+    (r ≡ out_of_memory) × (most : ℕ) × (most ≤ most_events) × Waited a k most old new None
 HasWaited a k old new (Err NoMemory) = ⊥
 
--- A call was accepted at node a and played, and then what it waits for. This is what it was answered, if it was, the
--- headline and the laws of locks hold and nothing is left over behind all that was played, and a lock call counts
-pub record Called (a : ℕ) (c : Call) (old new : Held) (verdict : Option Bool) : Type 0 where
+-- A call was accepted at node a and played, and then what it waits for, at most so many events. This is what it was
+-- answered, if it was, the headline and the laws of locks hold and nothing is left over behind all that was played, and a
+-- lock call counts
+pub record Called (a : ℕ) (c : Call) (most : ℕ) (old new : Held) (verdict : Option Bool) : Type 0 where
   pub events : List WorldEvent
   pub given : List Answer
   pub played : WentThrough events old new given
-  pub are : events_of events ≡ until_answered (opening_of old) a (next_number a (seen old)) (seen old)
+  pub are : events_of events ≡ until_answered (opening_of old) a (next_number a (seen old)) most (seen old)
       (AnyWorldEvent.At a (AnyEvent.Calling (call_of c)))
   pub answered : verdict_in a (next_number a (seen old)) (map answer_of given) ≡ verdict
   pub agrees : Agrees events given old new
@@ -109,21 +112,29 @@ names_nodes (SetLock p id nodes retries) = is_named nodes
 names_nodes (DelLock p id nodes) = is_named nodes
 names_nodes _ = false
 
+-- memory was refused before a call of node a was played, and nothing was; or while it waits, and what was played until then
+-- stands
+abbrev pub HasBegun : ℕ → Call → Held → Held → Type 0
+HasBegun a c old new =
+    (seen new ≡ seen old) ⊎ ((most : ℕ) × (most ≤ most_events) × Called a c most old new None)
+
 -- why a call got no reply: it was refused as the protocol refuses it, which changes nothing; or it was accepted, and
 -- memory was refused; or it names nodes and there was no memory to make it; or no answer came
 abbrev pub Unanswered : ℕ → Call → Held → Held → SeatFault → Type 0
-Unanswered a c old new (Refused r) = RefusedWith r (At a (Calls c)) old × (is_memory r ≡ false → new ≡ old)
+Unanswered a c old new (Refused r) =
+    RefusedWith r (At a (Calls c)) old × (is_memory r ≡ false → new ≡ old)
+    × (is_memory r ≡ true → HasBegun a c old new)
 Unanswered a c old new NoMemory = (new ≡ old) × (names_nodes c ≡ true)
-Unanswered a c old new NoAnswer = Called a c old new None
+Unanswered a c old new NoAnswer = Called a c most_events old new None
 
 -- what a `set_lock` comes to
 abbrev pub SetsLock : ℕ → Call → Held → Held → Result Bool SeatFault → Type 0
-SetsLock a c old new (Ok granted) = Called a c old new (Some granted)
+SetsLock a c old new (Ok granted) = Called a c most_events old new (Some granted)
 SetsLock a c old new (Err fault) = Unanswered a c old new fault
 
 -- what a `del_lock` comes to
 abbrev pub DeletesLock : ℕ → Call → Held → Held → Result Unit SeatFault → Type 0
-DeletesLock a c old new (Ok _) = (granted : Bool) × Called a c old new (Some granted)
+DeletesLock a c old new (Ok _) = (granted : Bool) × Called a c most_events old new (Some granted)
 DeletesLock a c old new (Err fault) = Unanswered a c old new fault
 
 -- whose seat it is, and the replies to its calls so far

@@ -2,13 +2,13 @@
 use Rattle.std.specs.Prelude.{ℕ, Bool, not, ◌&&◌, Option, Some, None, map}
 use Rattle.protocol_model.specs.Node.{Node, opening_node, holds_global}
 use Rattle.protocol_model.specs.World.{Opening, in_cluster, World}
-use Rattle.link.specs.Held.{Held as Mesh, seen as links_of}
-use Rattle.node_core.specs.declared.Letter.{Letter}
 use Rattle.node_core.specs.Held.{Held as Core}
 use Rattle.node_core.specs.Letters.{letter_of}
 use Rattle.node_core.specs.Seen.{node_of}
 use Rattle.world_events.specs.Openings.{opening_with}
+use Rattle.cluster_world.specs.declared.mail.Mail.{Mail}
 use Rattle.cluster_world.specs.Links.{mapped}
+use Rattle.cluster_world.specs.Mail.{links_of}
 use Rattle.cluster_world.specs.Cores.{core_of}
 use Rattle.cluster_world.specs.Held.{Held}
 use Rattle.world_history.specs.Histories.{entry_of}
@@ -31,5 +31,5 @@ seen h = record {
 }
 
 -- over these links, the core is that of a running joined node that holds the global lock
-abbrev pub is_holding : Mesh Letter → Core → Bool
+abbrev pub is_holding : Mail → Core → Bool
 is_holding links c = c.joined && holds_global (node_of c) && not ((links_of links).closed c.name)

@@ -1,18 +1,23 @@
 -- The step of one node within its world.
-use Rattle.std.specs.Prelude.{ℕ, false, true, ◌≡◌, Some, None, List, map}
+use Rattle.std.specs.Prelude.{ℕ, false, true, ◌≡◌, ◌≤◌, Some, None, List, length, map, slice_index_or}
+use Rattle.protocol_model.specs.Links.{is_nil}
 use Rattle.protocol_model.specs.Turn.{Turn}
-use Rattle.protocol_model.specs.World.{apply, left, join_number}
+use Rattle.protocol_model.specs.World.{apply, left, join_number, refusal, place as node_at}
 use Rattle.term.specs.NodeSets.{set_of}
+use Rattle.link.specs.Held.{place}
 use Rattle.node_core.specs.declared.Answer.{Answer}
 use Rattle.node_core.specs.declared.Event.{Event as NodeEvent}
 use Rattle.node_core.specs.Held.{Held as Core}
-use Rattle.node_core.specs.NodeEventsSeen.{answer_of, fault_of}
+use Rattle.node_core.specs.NodeEventsSeen.{answer_of}
+use Rattle.node_core.specs.Rare.{most_answers}
 use Rattle.node_core.specs.Steps.{IsTurn, refusal_of as node_refusal}
-use Rattle.world_events.specs.declared.refusal.Refusal.{Refusal}
-use Rattle.world_events.specs.declared.refusal.Refusal.TheVariants.{NoSuchNode, NodeLeft, EmptyLink, Step}
+use Rattle.world_events.specs.declared.events.WorldEvent.{WorldEvent}
+use Rattle.world_events.specs.declared.events.WorldEvent.TheVariants.{At, Deliver}
+use Rattle.world_events.specs.Events.{event_of, knows_contact}
 use Rattle.cluster_world.specs.Held.{Held}
 use Rattle.cluster_world.specs.Cores.{core_of}
-use Rattle.cluster_world.specs.Seen.{seen}
+use Rattle.cluster_world.specs.Mail.{links_of}
+use Rattle.cluster_world.specs.Seen.{opening_of, seen}
 
 -- node a is of the world, hasn't left it, and this is its core
 pub record Stands (a : ℕ) (h : Held) (c : Core) : Type 0 where
@@ -34,9 +39,18 @@ pub record Moves (a : ℕ) (e : NodeEvent) (old new : Held) (given : List Answer
   pub world : seen new ≡ apply a turn (seen old)
   pub answers : map answer_of given ≡ turn.answers
 
--- why an event isn't accepted at node a
-abbrev pub FailsAt : Refusal → ℕ → NodeEvent → Held → Type 0
-FailsAt NoSuchNode a e h = set_of h.nodes a ≡ false
-FailsAt NodeLeft a e h = (set_of h.nodes a ≡ true) × (left (seen h) a ≡ true)
-FailsAt EmptyLink a e h = ⊥
-FailsAt (Step fault) a e h = (c : Core) × Stands a h c × (node_refusal e c ≡ fault_of fault)
+-- the contact of the event is of the world, if it has one; or the sender is, and a letter of it waits
+abbrev pub Knows : WorldEvent → Held → Type 0
+Knows (At a e) h = knows_contact h.nodes e ≡ true
+Knows (Deliver f t) h = (set_of h.nodes f ≡ true) × (is_nil ((links_of h.links).queue f t) ≡ false)
+
+-- the event is accepted, and the running node at this place takes its step
+pub record IsAdmitted (p : ℕ) (e : WorldEvent) (h : Held) : Type 0 where
+  pub place : place (node_at (event_of e)) h.nodes ≡ Some p
+  pub running : left (seen h) (node_at (event_of e)) ≡ false
+  pub knows : Knows e h
+  pub accepted : refusal (opening_of h) (seen h) (event_of e) ≡ None
+
+-- no more answers than the core at this place gives in its next step
+abbrev pub AreFew : ℕ → Held → List Answer → Type 0
+AreFew p h given = (d : Core) → length given ≤ most_answers (slice_index_or h.cores p d)

@@ -1,5 +1,5 @@
 //! What a step enters into the history.
-ghost use Rattle.std.specs.Prelude.{◌≡◌, ◌++◌, map, OnOk};
+ghost use Rattle.std.specs.Prelude.{◌≡◌, ◌≤◌, ◌++◌, length, map};
 ghost use Rattle.node_core.specs.NodeEventsSeen.{entry_by};
 ghost use Rattle.world_history.specs.Histories.{entry_of};
 ghost use Rattle.cluster_world.specs.Cores.{core_of};
@@ -7,7 +7,7 @@ ghost use Rattle.cluster_world.specs.Histories.{number_of, number_at};
 
 use name_table::Names;
 use node_core::{Entry, NodeCore};
-use std::alloc::{AllocError, Global};
+use std::alloc::Global;
 use term::NodeName;
 use world_history::History;
 
@@ -56,19 +56,21 @@ fn number_for<N: Names<Memory = Global>>(
     }
 }
 
-/// Puts what the node `stepped` entered, which had the join `own` before its step, at the end of the history.
+/// Puts what the node `stepped` entered, which had the join `own` before its step, at the end of the history. It takes no memory that
+/// can be refused, since there is room.
 pub(crate) fn enter_all<N: Names<Memory = Global>>(
     history: &mut History,
-    entries: &[Entry],
+    entries: Vec<Entry>,
     cores: &[NodeCore<N>],
     stepped: &NodeName,
     own: u32,
-) -> Result<(), AllocError>
-    ensures { OnOk result (map entry_of history.new
-        ≡ map entry_of history.old ++ map (entry_by (number_at cores.now stepped.now own)) entries.now) }
+)
+    requires { length entries.items ≤ history.old.room }
+    ensures { map entry_of history.new.entries
+        ≡ map entry_of history.old.entries ++ map (entry_by (number_at cores.now stepped.now own)) entries.items }
 {
     for entry in entries {
-        history.enter(entry, number_for(entry, cores, stepped, own))?;
+        let number = number_for(&entry, cores, stepped, own);
+        history.enter(entry, number);
     }
-    Ok(())
 }

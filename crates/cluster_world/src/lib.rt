@@ -3,7 +3,7 @@
 
 mod history;
 pub mod laws;
-mod post;
+mod mail;
 mod run_end;
 mod seat;
 mod start;

@@ -19,8 +19,8 @@ const MOST_EVENTS: u32 = 100_000;
 /// Why a call at a seat got no reply.
 #[derive(Debug, PartialEq, Eq, Error, Drop)]
 pub enum SeatFault {
-    /// The world refused the call, and nothing changed. `Memory` alone may also be refused behind the call; what stands then
-    /// isn't said, and the world isn't to be used any more.
+    /// The world refused the call, and nothing changed. `Memory` alone may also be refused while the call waits: then what was played
+    /// until then stands, and the call goes on waiting in the world.
     #[error("{0}")]
     Refused(Refusal),
     /// There was no memory for the call itself, which names the nodes that it asks. Nothing was played.
@@ -182,8 +182,9 @@ impl<'a, N: Names<Memory = Global>> WorldSeat<'a, N> {
         let node = self.holder.node.copy();
         let number = self.world.next_number(&node);
         let event = WorldEvent::At(node.copy(), Event::Call(call));
-        let answers = self.world.play(&event)?;
+        let place = self.world.admit(&event)?;
         self.replies.reserve(1)?;
+        let answers = self.world.accept(place, &event)?;
         match verdict_in(answers.as_slice(), &node, number) {
             Some(granted) => Ok(granted),
             None => self.world.wait(&node, number),

@@ -8,6 +8,7 @@ ghost use Rattle.cluster_world.specs.Locks.{LocksAfter};
 ghost use Rattle.protocol_model.specs.Leftovers.{NothingIsLeft};
 ghost use Rattle.cluster_world.specs.Starting.{Opens};
 
+use crate::mail::Mail;
 use crate::world::World;
 use link::Mesh;
 use name_table::Names;
@@ -49,13 +50,13 @@ impl<N: Names<Memory = Global>> World<N> {
     {
         let opening = Opening::of(cluster, lone)?;
         let cores = cores_of(alloc, &opening)?;
-        let links = Mesh::new(alloc, opening.nodes().as_slice())?;
+        let mesh = Mesh::new(alloc, opening.nodes().as_slice())?;
         let history = History::new(alloc, opening.nodes())?;
         Ok(World {
             nodes: opening.nodes().copy(),
             cluster: opening.cluster().copy(),
             cores,
-            links,
+            links: Mail { mesh, unsent: None },
             history,
         })
     }

@@ -1,16 +1,17 @@
 //! A world of up to eight nodes.
-ghost use Rattle.std.specs.Prelude.{◌≡◌};
+ghost use Rattle.std.specs.Prelude.{◌≡◌, ◌≤◌, ◌-◌, ◌^◌, min, None, OnOk};
+ghost use Rattle.node_core.specs.Rare.{most_entries};
+ghost use Rattle.cluster_world.specs.Mail.{links_of};
 ghost use Rattle.cluster_world.specs.Seen.{is_holding};
 
 use crate::history::enter_all;
-use crate::post::post;
+use crate::mail::Mail;
 use crate::run_end::RunEnd;
-use link::Mesh;
 use name_table::Names;
-use std::alloc::Global;
+use std::alloc::{AllocError, Global};
 use std::marker::Model;
 use term::{NodeName, NodeSet};
-use world_events::{Answer, Cause, Event, Letter, NodeCore, Refusal, Turn, WorldEvent};
+use world_events::{Answer, Cause, Event, NodeCore, Refusal, Turn, WorldEvent};
 use world_history::{History, KeptEntry};
 
 /// A world: its nodes, the links between them, and the history. Contracts see what it holds as the protocol's world.
@@ -21,7 +22,7 @@ pub struct World<N: Names> {
     pub(crate) cluster: NodeSet,
     /// The core of each node, in the order of the nodes.
     pub(crate) cores: Vec<NodeCore<N>>,
-    pub(crate) links: Mesh<Letter>,
+    pub(crate) links: Mail,
     pub(crate) history: History,
 }
 
@@ -35,7 +36,7 @@ impl<N: Names> Model for World<N> {
       cluster = w.cluster;
       cores = w.cores.items;
       links = w.links;
-      history = w.history;
+      history = w.history.entries;
     } };
 
     ghost invariant = { λ w. IsWhole (record {
@@ -43,115 +44,182 @@ impl<N: Names> Model for World<N> {
       cluster = w.cluster;
       cores = w.cores.items;
       links = w.links;
-      history = w.history;
+      history = w.history.entries;
     }) };
 }
 
 /// Whether the core, over these links, is that of a running joined node that holds the global lock.
-fn is_holder<N: Names<Memory = Global>>(links: &Mesh<Letter>, core: &NodeCore<N>) -> bool
+fn is_holder<N: Names<Memory = Global>>(links: &Mail, core: &NodeCore<N>) -> bool
     ensures { result ≡ is_holding links.now core.now }
 {
     core.is_joined() && core.holds_global() && !links.is_closed(core.name())
 }
 
+/// Makes room for the next step of a core: all that was sent is on its links, and the history has room for the step's entries. What
+/// the world holds stays, memory refused or not.
+fn make_room<N: Names<Memory = Global>>(
+    core: &NodeCore<N>,
+    links: &mut Mail,
+    history: &mut History,
+) -> Result<(), AllocError>
+    ensures nodes { links.new.mesh.nodes ≡ links.old.mesh.nodes }
+    ensures links { links_of links.new ≡ links_of links.old }
+    ensures entries { history.new.entries ≡ history.old.entries }
+    ensures all { OnOk result (links.new.unsent ≡ None) }
+    ensures room { OnOk result (min (2 ^ 64 - 1) (most_entries core.now) ≤ history.new.room) }
+{
+    links.drain()?;
+    history.reserve(core.most_entries(), core.name())
+}
+
 impl<N: Names<Memory = Global>> World<N> {
-    ghost use Rattle.std.specs.Prelude.{true, false, [], ◌∷◌, take, is_some, OnOk, OnErr, IfOk, IfErr, IfSome};
+    ghost use Rattle.std.specs.Prelude.{true, false, [], ◌∷◌, take, is_some, OnErr, IfOk, IfErr, IfSome};
     ghost use Rattle.std.specs.Option.{option_copied};
-    ghost use Rattle.protocol_model.specs.Links.{closed_out};
     ghost use Rattle.protocol_model.specs.World.{holder, left};
-    ghost use Rattle.link.specs.Held.{seen as links_of};
     ghost use Rattle.node_core.specs.Held.{IsWithin};
-    ghost use Rattle.node_core.specs.Steps.{IsHeardWithin};
     ghost use Rattle.term.specs.NodeSets.{set_of};
     ghost use Rattle.cluster_world.specs.Held.{IsWhole};
     ghost use Rattle.cluster_world.specs.Cores.{core_of};
-    ghost use Rattle.node_core.specs.Causes.{event_by};
     ghost use Rattle.cluster_world.specs.Seen.{opening_of, seen};
     ghost use Rattle.world_events.specs.Refusals.{is_memory};
-    ghost use Rattle.cluster_world.specs.Steps.{Moves, FailsAt};
-    ghost use Rattle.cluster_world.specs.Playing.{Keeps, Played, RefusedWith, ran_out, Ran, WaitsOn};
+    ghost use Rattle.cluster_world.specs.Steps.{IsAdmitted, AreFew};
+    ghost use Rattle.cluster_world.specs.Playing.{Keeps, Played, RefusedWith, Ran, WaitsOn};
     ghost use Rattle.cluster_world.specs.Agreeing.{Agrees};
     ghost use Rattle.cluster_world.specs.Locks.{LocksBehind};
     ghost use Rattle.cluster_world.specs.Leftovers.{LeavesNothing};
 
-    /// A node takes the step of an event: its letters go onto their links, and its entries into the history.
-    fn step(&mut self, node: &NodeName, cause: Cause<'_>) -> Result<Vec<Answer>, Refusal>
-        requires { IsHeardWithin self.old.nodes node.now (event_by cause) }
-        ensures kept { Keeps self.old self.new }
-        ensures ok { IfOk result (λ answers. Moves node.now (event_by cause.entry) self.old self.new answers.items) }
-        ensures refused { IfErr result (λ refusal. FailsAt refusal node.now (event_by cause.entry) self.old) }
-        ensures unchanged { IfErr result (λ refusal. is_memory refusal ≡ false → self.new ≡ self.old) }
-        ensures whole { IsWhole self.old }
+    /// The place of the node that an event of a node is played at, or why the event is refused. It takes no memory.
+    fn admit_own(&self, node: &NodeName, event: &Event) -> Result<usize, Refusal>
+        ensures ok { IfOk result (λ place. IsAdmitted place (WorldEvent.At node.now event.now) self.now) }
+        ensures refused { IfErr result (λ refusal. RefusedWith refusal (WorldEvent.At node.now event.now) self.now) }
     {
         let Some(place) = self.nodes.position(node) else {
             return Err(Refusal::NoSuchNode);
         };
+        if !event.knows_contact(&self.nodes) {
+            return Err(Refusal::NoSuchNode);
+        }
         if self.links.is_closed(node) {
             return Err(Refusal::NodeLeft);
         }
+        match self.cores[place].refusal(event.cause()) {
+            Some(fault) => Err(Refusal::Step(fault)),
+            None => Ok(place),
+        }
+    }
+
+    /// The place of the node that reads the oldest letter of a link, or why the delivery is refused. It takes no memory.
+    fn admit_delivery(&self, sender: &NodeName, receiver: &NodeName) -> Result<usize, Refusal>
+        ensures ok { IfOk result (λ place. IsAdmitted place (WorldEvent.Deliver sender.now receiver.now) self.now) }
+        ensures refused { IfErr result (λ refusal. RefusedWith refusal (WorldEvent.Deliver sender.now receiver.now) self.now) }
+    {
+        if !self.nodes.contains(sender) {
+            return Err(Refusal::NoSuchNode);
+        }
+        let Some(place) = self.nodes.position(receiver) else {
+            return Err(Refusal::NoSuchNode);
+        };
+        if self.links.is_closed(receiver) {
+            return Err(Refusal::NodeLeft);
+        }
+        if self.links.is_empty(sender, receiver) {
+            return Err(Refusal::EmptyLink);
+        }
+        Ok(place)
+    }
+
+    /// The place of the node that an event is played at, or why the event is refused. It takes no memory.
+    pub(crate) fn admit(&self, event: &WorldEvent) -> Result<usize, Refusal>
+        ensures ok { IfOk result (λ place. IsAdmitted place event.now self.now) }
+        ensures refused { IfErr result (λ refusal. RefusedWith refusal event.now self.now) }
+    {
+        match event {
+            WorldEvent::At(node, event) => self.admit_own(node, event),
+            WorldEvent::Deliver(sender, receiver) => self.admit_delivery(sender, receiver),
+        }
+    }
+
+    /// The node at this place takes the step of its own event: its letters go onto their links, and its entries into the history. All
+    /// links towards one that leaves are closed. Where memory is refused, nothing has happened.
+    fn happen(
+        &mut self,
+        place: usize,
+        node: &NodeName,
+        event: &Event,
+    ) -> Result<Vec<Answer>, AllocError>
+        requires { IsAdmitted place (WorldEvent.At node.now event.now) self.old }
+        ensures kept { Keeps self.old self.new }
+        ensures ok { IfOk result (λ answers. Played (WorldEvent.At node.now event.now) self.old self.new [] answers.items) }
+        ensures few { IfOk result (λ answers. AreFew place self.old answers.items) }
+        ensures as_before { OnErr result (seen self.new ≡ seen self.old) }
+    {
+        make_room(&self.cores[place], &mut self.links, &mut self.history)?;
         let core = &mut self.cores[place];
         let join = core.join_number().unwrap_or(0);
         let Turn {
             letters,
             entries,
             answers,
-        } = core.turn(cause)?;
-        post(&mut self.links, node, letters)?;
-        enter_all(
-            &mut self.history,
-            entries.as_slice(),
-            &self.cores,
-            node,
-            join,
-        )?;
-        Ok(answers)
-    }
-
-    /// Empties all links towards a node of the world, for good.
-    fn close_out(&mut self, node: &NodeName)
-        requires { set_of self.old.nodes node.now ≡ true }
-        ensures closed { links_of self.new.links ≡ closed_out node.now (links_of self.old.links) }
-        ensures others { self.new ≡ record self.old { links = self.new.links } }
-    {
-        let _ = self.links.close_out(node);
-    }
-
-    /// An event of a node is played. All links towards one that leaves are closed.
-    fn happen(&mut self, node: &NodeName, event: &Event) -> Result<Vec<Answer>, Refusal>
-        ensures kept { Keeps self.old self.new }
-        ensures ok { IfOk result (λ answers. Played (WorldEvent.At node.now event.now) self.old self.new [] answers.items) }
-        ensures refused { IfErr result (λ refusal. RefusedWith refusal (WorldEvent.At node.now event.now) self.old) }
-        ensures unchanged { IfErr result (λ refusal. is_memory refusal ≡ false → self.new ≡ self.old) }
-    {
-        if !event.knows_contact(&self.nodes) {
-            return Err(Refusal::NoSuchNode);
-        }
-        let answers = self.step(node, event.cause())?;
+        } = core.accept(event.cause())?;
+        self.links.post(node, letters);
+        enter_all(&mut self.history, entries, &self.cores, node, join);
         if event.is_leave() {
-            self.close_out(node);
+            self.links.close_out(node);
         }
         Ok(answers)
     }
 
-    /// The oldest letter of a link is taken, and its receiver reads it.
-    fn deliver(&mut self, sender: &NodeName, receiver: &NodeName) -> Result<Vec<Answer>, Refusal>
+    /// The node at this place reads the oldest letter of a link, which is taken off it. Where memory is refused, nothing has happened.
+    fn deliver(
+        &mut self,
+        place: usize,
+        sender: &NodeName,
+        receiver: &NodeName,
+    ) -> Result<Vec<Answer>, AllocError>
+        requires { IsAdmitted place (WorldEvent.Deliver sender.now receiver.now) self.old }
         ensures kept { Keeps self.old self.new }
         ensures ok { IfOk result (λ answers. Played (WorldEvent.Deliver sender.now receiver.now) self.old self.new [] answers.items) }
-        ensures refused { IfErr result (λ refusal. RefusedWith refusal (WorldEvent.Deliver sender.now receiver.now) self.old) }
-        ensures unchanged { IfErr result (λ refusal. is_memory refusal ≡ false → self.new ≡ self.old) }
+        ensures few { IfOk result (λ answers. AreFew place self.old answers.items) }
+        ensures as_before { OnErr result (seen self.new ≡ seen self.old) }
     {
-        if !self.nodes.contains(sender) {
-            return Err(Refusal::NoSuchNode);
-        }
-        if self.links.is_closed(receiver) {
-            return Err(Refusal::NodeLeft);
-        }
-        let letter = self.links.deliver(sender, receiver)?;
-        self.step(receiver, Cause::FromPeer(sender, &letter))
+        make_room(&self.cores[place], &mut self.links, &mut self.history)?;
+        let Some(letter) = self.links.front(sender, receiver) else {
+            unreachable!()
+        };
+        let core = &mut self.cores[place];
+        let join = core.join_number().unwrap_or(0);
+        let Turn {
+            letters,
+            entries,
+            answers,
+        } = core.accept(Cause::FromPeer(sender, letter))?;
+        self.links.take(sender, receiver);
+        self.links.post(receiver, letters);
+        enter_all(&mut self.history, entries, &self.cores, receiver, join);
+        Ok(answers)
     }
 
-    /// Plays one event, and gives what its step answers. A refused event changes nothing; only where `Memory` is refused is the
-    /// world not to be used any more.
+    /// Plays an event at the place that it was admitted for, and gives what its step answers. Where memory is refused, nothing has
+    /// happened.
+    pub(crate) fn accept(
+        &mut self,
+        place: usize,
+        event: &WorldEvent,
+    ) -> Result<Vec<Answer>, AllocError>
+        requires { IsAdmitted place event.now self.old }
+        ensures kept { Keeps self.old self.new }
+        ensures ok { IfOk result (λ answers. Played event.now self.old self.new [] answers.items) }
+        ensures few { IfOk result (λ answers. AreFew place self.old answers.items) }
+        ensures as_before { OnErr result (seen self.new ≡ seen self.old) }
+    {
+        match event {
+            WorldEvent::At(node, event) => self.happen(place, node, event),
+            WorldEvent::Deliver(sender, receiver) => self.deliver(place, sender, receiver),
+        }
+    }
+
+    /// Plays one event, and gives what its step answers. A refused event changes nothing. So it is where `Memory` is refused, too: the
+    /// event may be played again later, and nothing is lost.
     ///
     /// Whatever was played on a world since it opened, the headline holds behind that and this event: the answers to name
     /// calls and joins are those of one sequential registry that takes the granted operations in lock order, and whenever the
@@ -164,41 +232,41 @@ impl<N: Names<Memory = Global>> World<N> {
         ensures agrees { IfOk result (λ answers. Agrees (event.now ∷ []) answers.items self.old self.new) }
         ensures locks { IfOk result (λ _. LocksBehind (event.now ∷ []) self.old self.new) }
         ensures leaves_nothing { IfOk result (λ _. LeavesNothing (event.now ∷ []) self.old self.new) }
-        ensures still_agrees { IfErr result (λ refusal. is_memory refusal ≡ false → Agrees [] [] self.old self.new) }
-        ensures still_locks { IfErr result (λ refusal. is_memory refusal ≡ false → LocksBehind [] self.old self.new) }
-        ensures still_leaves_nothing { IfErr result (λ refusal. is_memory refusal ≡ false → LeavesNothing [] self.old self.new) }
+        ensures still_agrees { OnErr result (Agrees [] [] self.old self.new) }
+        ensures still_locks { OnErr result (LocksBehind [] self.old self.new) }
+        ensures still_leaves_nothing { OnErr result (LeavesNothing [] self.old self.new) }
         ensures ok { IfOk result (λ answers. Played event.now self.old self.new [] answers.items) }
         ensures refused { IfErr result (λ refusal. RefusedWith refusal event.now self.old) }
         ensures unchanged { IfErr result (λ refusal. is_memory refusal ≡ false → self.new ≡ self.old) }
+        ensures as_before { OnErr result (seen self.new ≡ seen self.old) }
     {
-        match event {
-            WorldEvent::At(node, event) => self.happen(node, event),
-            WorldEvent::Deliver(sender, receiver) => self.deliver(sender, receiver),
-        }
+        let place = self.admit(event)?;
+        Ok(self.accept(place, event)?)
     }
 
-    /// Plays one event, and puts its answers behind those given before.
+    /// Plays one event, and puts its answers behind those given before. Room for them is had before the event is played.
     fn play_into(&mut self, event: &WorldEvent, answers: &mut Vec<Answer>) -> Result<(), Refusal>
         ensures kept { Keeps self.old self.new }
         ensures ok { OnOk result (Played event.now self.old self.new answers.old.items answers.new.items) }
         ensures refused { IfErr result (λ refusal. RefusedWith refusal event.now self.old) }
-        ensures unchanged { IfErr result (λ refusal. is_memory refusal ≡ false → self.new ≡ self.old) }
+        ensures as_before { OnErr result (seen self.new ≡ seen self.old) }
         ensures unanswered { OnErr result (answers.new.items ≡ answers.old.items) }
     {
-        let mut given = self.play(event)?;
-        answers.append(&mut given)?;
+        let taker = self.admit(event)?;
+        answers.reserve(self.cores[taker].most_answers())?;
+        let mut given = self.accept(taker, event)?;
+        let _ = answers.append(&mut given);
         Ok(())
     }
 
-    /// Plays events in order, up to the first that is refused. That one changes nothing, and those behind it aren't looked
-    /// at. Where `Memory` is refused, what it counts as played was played, with these answers, and the world isn't to be used
-    /// any more. The headline, the laws of clients' locks and that nothing is left over hold behind what was played, as they do
-    /// behind one event.
+    /// Plays events in order, up to the first that is refused. That one changes nothing, `Memory` or not, and those behind it aren't
+    /// looked at: what it counts as played was played, with these answers, and the others may be played later. The headline, the
+    /// laws of clients' locks and that nothing is left over hold behind what was played, as they do behind one event.
     pub fn run(&mut self, events: &[WorldEvent]) -> RunEnd
         ensures ran { Ran events.now self.old self.new result.played result.answers.items result.refusal }
-        ensures agrees { ran_out result.refusal ≡ false → Agrees (take result.played events.now) result.answers.items self.old self.new }
-        ensures locks { ran_out result.refusal ≡ false → LocksBehind (take result.played events.now) self.old self.new }
-        ensures leaves_nothing { ran_out result.refusal ≡ false → LeavesNothing (take result.played events.now) self.old self.new }
+        ensures agrees { Agrees (take result.played events.now) result.answers.items self.old self.new }
+        ensures locks { LocksBehind (take result.played events.now) self.old self.new }
+        ensures leaves_nothing { LeavesNothing (take result.played events.now) self.old self.new }
     {
         self.play_all(events)
     }

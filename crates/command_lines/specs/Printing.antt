@@ -8,10 +8,8 @@ use Rattle.protocol_model.specs.Script.{Output, Said, Okay, Error, Settled, Sett
 use Rattle.term.specs.Spelling.{bytes_of, dot}
 use Rattle.term.specs.declared.faults.TextFault.TheVariants as text
 use Rattle.world_events.specs.declared.opening.StartFault.TheVariants as start
-use Rattle.world_events.specs.declared.refusal.Refusal.{Refusal as WorldRefusal}
 use Rattle.world_events.specs.declared.StepFault.{StepFault}
 use Rattle.world_events.specs.NodeEventsSeen.{fault_of}
-use Rattle.world_events.specs.Refusals.{refusal_of, is_memory}
 use Rattle.command_lines.specs.declared.faults.LineFault.{LineFault}
 use Rattle.command_lines.specs.declared.faults.LineFault.TheVariants.{BadLine, LineTooLong, NotAscii, Text, Start, Memory}
 
@@ -92,11 +90,6 @@ ended text = text ++ 10 ∷ []
 -- a refusal
 abbrev pub error_line : List ℕ → List ℕ
 error_line word = ended (codes "error " ++ word)
-
--- the line of a refusal, unless memory was refused
-abbrev pub IsLineOf : WorldRefusal → Option (List ℕ) → Type 0
-IsLineOf r None = is_memory r ≡ true
-IsLineOf r (Some line) = (any : Refusal) × (refusal_of r ≡ Some any) × (line ≡ error_line (refusal_word any))
 
 -- a line that is printed
 pub data Shown : Type 0 where

@@ -18,9 +18,9 @@ pub enum LineFault {
     NotAscii,
     /// A text spells nothing.
     Text(TextFault),
-    /// There can't be a world of these nodes. Want of memory is no such cause: it ends the script.
+    /// There can't be a world of these nodes. Want of memory is no such cause: that is `Memory`.
     Start(StartFault),
-    /// Memory was refused while it was read, which ends the script or console.
+    /// Memory was refused for it. A console ends there; a script goes on, unless the line is a header.
     Memory,
 }
 

@@ -1,8 +1,8 @@
 //! What is printed.
-ghost use Rattle.std.specs.Prelude.{◌≡◌, ◌++◌, IfOk, OnOk, string_bytes, option_map};
+ghost use Rattle.std.specs.Prelude.{◌≡◌, ◌++◌, IfOk, OnOk, string_bytes};
 ghost use Rattle.protocol_model.specs.Script.{Said, TableIs, MembersAre};
 ghost use Rattle.world_events.specs.NodeEventsSeen.{answer_of as any_answer, reply_of as any_reply};
-ghost use Rattle.world_events.specs.Refusals.{is_memory};
+ghost use Rattle.world_events.specs.Refusals.{refusal_of};
 ghost use Rattle.command_lines.specs.Printing as print;
 
 use name_table::Pair;
@@ -101,24 +101,14 @@ pub fn step_line(fault: &StepFault) -> &'static str
     }
 }
 
-/// Whether memory was refused.
-fn is_want_of_memory(refusal: &Refusal) -> bool
-    ensures { result ≡ is_memory refusal.now }
+/// The line that is printed where a world refuses an event.
+pub fn refusal_line(refusal: &Refusal) -> &'static str
+    ensures { result.now ≡ print.error_line (print.word_for (refusal_of refusal.now)) }
 {
-    matches!(refusal, Refusal::Step(StepFault::Memory))
-}
-
-/// The line of a refusal, unless it is want of memory.
-pub fn refusal_line(refusal: &Refusal) -> Option<&'static str>
-    ensures { print.IsLineOf refusal.now (option_map (λ line. line.now) result) }
-{
-    if is_want_of_memory(refusal) {
-        return None;
-    }
-    Some(match refusal {
+    match refusal {
         Refusal::NoSuchNode => "error no_such_node\n",
         Refusal::NodeLeft => "error node_left\n",
         Refusal::EmptyLink => "error empty_link\n",
         Refusal::Step(fault) => step_line(fault),
-    })
+    }
 }

@@ -8,7 +8,7 @@ ghost use Rattle.exchange.specs.Bodies.{admit_letter, welcome_letter};
 ghost use Rattle.exchange.specs.Puts.{pairs_of, written};
 
 use crate::settled::Settled;
-use name_table::{Change, Names, Pair};
+use name_table::{Change, Names, Pair, copied_pairs};
 use std::alloc::{AllocError, Global};
 use term::{NodeName, NodeSet, Pid};
 
@@ -41,13 +41,6 @@ fn copied(alloc: Global, processes: &[Pid]) -> Result<Vec<Pid>, AllocError>
     ensures { IfOk result (λ copy. copy.items ≡ processes.now) }
 {
     processes.iter().map(|pid| pid.copy()).collect(alloc)
-}
-
-/// The same pairs.
-fn copied_pairs(alloc: Global, pairs: &[Pair]) -> Result<Vec<Pair>, AllocError>
-    ensures { IfOk result (λ copy. copy.items ≡ pairs.now) }
-{
-    pairs.iter().map(|pair| pair.copy()).collect(alloc)
 }
 
 /// The names that are put, each with its owner.
@@ -94,7 +87,7 @@ impl Admission {
         let alloc: Global = *self.puts.allocator();
         Ok(Admission {
             joiner: self.joiner.copy(),
-            puts: copied_pairs(alloc, self.puts.as_slice())?,
+            puts: copied_pairs(&self.puts)?,
             kills: copied(alloc, self.kills.as_slice())?,
         })
     }
@@ -108,7 +101,7 @@ impl Welcome {
         let alloc: Global = *self.pairs.allocator();
         Ok(Welcome {
             members: self.members.copy(),
-            pairs: copied_pairs(alloc, self.pairs.as_slice())?,
+            pairs: copied_pairs(&self.pairs)?,
             told: self.told.copy(),
             kills: copied(alloc, self.kills.as_slice())?,
         })

@@ -1,4 +1,5 @@
 mod Among
+mod Copied
 mod Filed
 mod Ordered
 pub mod Standing

@@ -1,7 +1,7 @@
 -- Calls that stand elsewhere: what is written over a call is what the protocol puts in its place.
 use Rattle.std.proofs.Common.{ℕ, Bool, true, false, ◌==◌, ◌≡◌, Option, Some, None, List, [], ◌∷◌, refl, sym, ap, subst, ◌∙◌, arith, nat_cmp}
 use Rattle.std.specs.Prelude.{not, ◌&&◌, if◌then◌else◌, cond, All}
-use Rattle.std.specs.BTreeMap.{insert_entry, is_at}
+use Rattle.std.specs.BTreeMap.{BTreeMap, insert_entry, is_at}
 use Rattle.std.specs.List.Sorted.{IsStrictlySortedBy}
 use Rattle.std.specs.Map.{keys_of, values_of, lookup, set_value}
 use Rattle.std.specs.Option.{option_map}
@@ -18,8 +18,8 @@ use Rattle.lock_calls.specs.declared.call.LockCall.{LockCall}
 use Rattle.lock_calls.specs.declared.call.CallPhase.{CallPhase}
 use Rattle.lock_calls.specs.declared.call.CallPhase.TheVariants.{Asking, Waiting, Deleting}
 use Rattle.lock_calls.specs.Calls.{as_call, phase_of}
-use Rattle.lock_calls.specs.Held.{Held, seen, IsOf}
-use Rattle.lock_calls.specs.Standing.{stands_by, given_up, with_one_less}
+use Rattle.lock_calls.specs.Held.{Held, seen, IsOf, IsFiled}
+use Rattle.lock_calls.specs.Standing.{becomes, given_up, with_one_less}
 use Rattle.lock_calls.proofs.Ordered.{Entries, calls_in}
 use Rattle.lock_calls.proofs.Filed.{at_is, call_of-other, call_of-own, filed-put, put_call-own, written-put}
 
@@ -59,33 +59,32 @@ found_of a s d (e ∷ es) of found =
         (subst (λ (k : ℕ). IsOf a (k, e.1)) under (All-head (IsOf a) e es of))
     go false here is rest = rest is
 
--- What the calls es of node a are seen as, and what is asked of a process that is seen as p
-module _ (a : ℕ) (es : Entries) (h : Held) (q p : Process) (next : LockPhase → LockPhase)
+-- What the calls es of node a are seen as, and what is asked of a process that is seen as p, whose call changes so
+module _ (a : ℕ) (es : Entries) (h : Held) (q p : Process) (change : AnyCall → AnyCall)
     (view : record { node = a; calls = values_of es } ≡ h) (process : q ≡ p) (of : All (IsOf a) es) where
   -- a process of another node has no call
-  pub stands-other : true ≡ not (q.node == a) → seen h ≡ stands_by next (call_of p (seen h)) (seen h)
-  stands-other other =
-      ap (λ (o : Option AnyCall). stands_by next o (seen h)) (sym (call_of-other a es h q p view process of other))
+  pub becomes-other : true ≡ not (q.node == a) → seen h ≡ becomes change (call_of p (seen h)) (seen h)
+  becomes-other other =
+      ap (λ (o : Option AnyCall). becomes change o (seen h)) (sym (call_of-other a es h q p view process of other))
 
   -- nor has one under whose serial none is found
-  pub stands-absent : false ≡ not (q.node == a) → None ≡ lookup (is_at (nat_cmp q.serial)) es
-      → seen h ≡ stands_by next (call_of p (seen h)) (seen h)
-  stands-absent same absent =
-      ap (λ (o : Option AnyCall). stands_by next o (seen h))
+  pub becomes-absent : false ≡ not (q.node == a) → None ≡ lookup (is_at (nat_cmp q.serial)) es → (new : Entries)
+      → new ≡ es → calls_in new ≡ becomes change (call_of p (seen h)) (seen h)
+  becomes-absent same absent new is =
+      ap calls_in is ∙ ap seen view
+      ∙ ap (λ (o : Option AnyCall). becomes change o (seen h))
       (ap (option_map as_call) absent ∙ call_of-own a es h q p view process of same)
 
-  -- c is written over d, which is found
-  module _ (rising : IsStrictlySortedBy nat_cmp (keys_of es)) (same : false ≡ not (q.node == a)) (c d : LockCall)
-      (found : Some d ≡ lookup (is_at (nat_cmp q.serial)) es)
-      (stands : as_call c ≡ in_phase (next (as_call d).phase) (as_call d)) where
-    abbrev pub new : Entries
-    new = set_value (is_at (nat_cmp q.serial)) es c
-
+  -- c is written over d, which is found, and is of the same process
+  module _ (rising : IsStrictlySortedBy nat_cmp (keys_of es)) (same : false ≡ not (q.node == a))
+      (keeps : (x : AnyCall) → (change x).holder ≡ x.holder) (c d : LockCall)
+      (found : Some d ≡ lookup (is_at (nat_cmp q.serial)) es) (changed : as_call c ≡ change (as_call d))
+      (new : Entries) (set : new ≡ set_value (is_at (nat_cmp q.serial)) es c) where
     written : new ≡ insert_entry nat_cmp es q.serial c
-    written = written-put q.serial c d es rising found
+    written = set ∙ written-put q.serial c d es rising found
 
     owner : c.holder ≡ record { node = a; serial = q.serial }
-    owner = ap (λ (x : AnyCall). x.holder) stands ∙ (found_of a q.serial d es of found).0
+    owner = ap (λ (x : AnyCall). x.holder) changed ∙ keeps (as_call d) ∙ (found_of a q.serial d es of found).0
 
     under : q.serial ≡ c.holder.serial
     under = ap (λ (x : Process). x.serial) (sym owner)
@@ -93,16 +92,17 @@ module _ (a : ℕ) (es : Entries) (h : Held) (q p : Process) (next : LockPhase �
     own : c.holder.node ≡ h.node
     own = ap (λ (x : Process). x.node) owner ∙ ap (λ (k : Held). k.node) view
 
-    pub stands-filed : All (IsOf a) new
-    stands-filed = subst (All (IsOf a)) (sym written)
-        (filed-put a q.serial es h c view under of own
-        (omega (arith, under, (found_of a q.serial d es of found).1)))
+    pub becomes-filed : (m : BTreeMap ℕ LockCall) → m.entries ≡ new → IsFiled a m
+    becomes-filed m is = record {
+      of = subst (All (IsOf a)) (sym (is ∙ written))
+          (filed-put a q.serial es h c view under of own
+          (omega (arith, under, (found_of a q.serial d es of found).1)));
+      rising = subst (IsStrictlySortedBy nat_cmp)
+          (sym (ap keys_of (is ∙ set) ∙ keys-set_value (is_at (nat_cmp q.serial)) es c)) rising;
+    }
 
-    pub stands-rising : IsStrictlySortedBy nat_cmp (keys_of new)
-    stands-rising = subst (IsStrictlySortedBy nat_cmp) (sym (keys-set_value (is_at (nat_cmp q.serial)) es c)) rising
-
-    pub stands-seen : calls_in new ≡ stands_by next (call_of p (seen h)) (seen h)
-    stands-seen = ap calls_in written ∙ put_call-own a q.serial es h c view under of own
-        ∙ ap (λ (x : AnyCall). put_call x (seen h)) stands
-        ∙ ap (λ (o : Option AnyCall). stands_by next o (seen h))
+    pub becomes-seen : calls_in new ≡ becomes change (call_of p (seen h)) (seen h)
+    becomes-seen = ap calls_in written ∙ put_call-own a q.serial es h c view under of own
+        ∙ ap (λ (x : AnyCall). put_call x (seen h)) changed
+        ∙ ap (λ (o : Option AnyCall). becomes change o (seen h))
         (ap (option_map as_call) found ∙ call_of-own a es h q p view process of same)

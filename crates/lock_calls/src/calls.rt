@@ -1,15 +1,17 @@
 //! The calls of one node.
-ghost use Rattle.std.specs.Prelude.{◌≡◌, ◌<◌, ◌⊎◌, None, map, All, IfOk, IfSome, OnOk, OnErr};
+ghost use Rattle.std.specs.Prelude.{◌≡◌, ◌==◌, ◌<◌, ◌⊎◌, None, length, map, All, IfOk, IfSome, OnOk, OnErr};
 ghost use Rattle.std.specs.List.{list_any, IsAmong};
 ghost use Rattle.std.specs.Option.{option_map, option_copied};
-ghost use Rattle.protocol_model.specs.Node.{call_of, put_call, drop_call};
+ghost use Rattle.protocol_model.specs.Node.{LockPhase, call_of, put_call, drop_call};
 ghost use Rattle.protocol_model.specs.Event.{is_waiting_call};
+ghost use Rattle.locker.specs.Held.{seen as seen_round};
 ghost use Rattle.lock_calls.specs.Calls.{as_call};
 ghost use Rattle.lock_calls.specs.Held.{none_at, seen, AreOrdered};
-ghost use Rattle.lock_calls.specs.Standing.{stands_by, answered, given_up};
+ghost use Rattle.lock_calls.specs.Standing.{stands_by, asks_again, answered, lost, given_up};
 
 use crate::call::LockCall;
 use crate::kept::KeptCall;
+use locker::Round;
 use std::alloc::{AllocError, Global};
 use std::collections::BTreeMap;
 use std::marker::Model;
@@ -44,6 +46,31 @@ impl LockCalls {
             node,
             calls: BTreeMap::new(alloc),
         }
+    }
+
+    /// How many processes have a call.
+    pub fn len(&self) -> usize
+        ensures { result ≡ length self.now.calls }
+    {
+        self.calls.len()
+    }
+
+    /// Whether no process has a call.
+    pub fn is_empty(&self) -> bool
+        ensures { result ≡ (length self.now.calls == 0) }
+    {
+        self.len() == 0
+    }
+
+    /// The same calls, in memory of their own.
+    pub fn copy(&self) -> Result<Self, AllocError>
+        ensures { IfOk result (λ copy. copy ≡ self.now) }
+    {
+        Ok(LockCalls {
+            alloc: self.alloc,
+            node: self.node.copy(),
+            calls: self.calls.clone()?,
+        })
     }
 
     /// The call of a process, if it has one.
@@ -93,6 +120,49 @@ impl LockCalls {
             return;
         };
         kept.answer(from, granted);
+    }
+
+    /// Tells the round of a process's call, where the process has a call whose round asks, that a node has gone down. It takes
+    /// no memory.
+    pub fn lose(&mut self, holder: &Pid, gone: &NodeName)
+        ensures node { self.new.node ≡ self.old.node }
+        ensures calls { seen self.new ≡ stands_by (lost gone.now) (call_of holder.now (seen self.old)) (seen self.old) }
+    {
+        if holder.node != self.node {
+            return;
+        }
+        let Some(kept) = self.calls.get_mut(&holder.serial) else {
+            return;
+        };
+        kept.lose(gone);
+    }
+
+    /// The process's call, if it has one, waits for a retry from now on. It takes no memory.
+    pub fn wait(&mut self, holder: &Pid)
+        ensures node { self.new.node ≡ self.old.node }
+        ensures calls { seen self.new ≡ stands_by (λ _. LockPhase.Waiting) (call_of holder.now (seen self.old)) (seen self.old) }
+    {
+        if holder.node != self.node {
+            return;
+        }
+        let Some(kept) = self.calls.get_mut(&holder.serial) else {
+            return;
+        };
+        kept.wait();
+    }
+
+    /// The process's call, if it has one, uses one retry and asks by this round from now on. It takes no memory.
+    pub fn ask_again(&mut self, holder: &Pid, round: Round)
+        ensures node { self.new.node ≡ self.old.node }
+        ensures calls { seen self.new ≡ asks_again (seen_round round) (call_of holder.now (seen self.old)) (seen self.old) }
+    {
+        if holder.node != self.node {
+            return;
+        }
+        let Some(kept) = self.calls.get_mut(&holder.serial) else {
+            return;
+        };
+        kept.ask_again(round);
     }
 
     /// Tells the deletion of a process's call, where the process has a call that is one, that a node has given the lock up. It

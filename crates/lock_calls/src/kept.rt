@@ -1,10 +1,13 @@
 //! Calls as they are kept.
 ghost use Rattle.std.specs.Prelude.{◌≡◌, IfOk};
 ghost use Rattle.protocol_model.specs.Client.{in_phase};
+ghost use Rattle.locker.specs.Held.{seen};
+ghost use Rattle.lock_calls.specs.declared.call.CallPhase.TheVariants.{Waiting};
 ghost use Rattle.lock_calls.specs.Calls.{as_call};
-ghost use Rattle.lock_calls.specs.Standing.{answered, with_one_less};
+ghost use Rattle.lock_calls.specs.Standing.{answered, lost, with_one_less, asking_again};
 
 use crate::call::{CallPhase, LockCall};
+use locker::Round;
 use std::alloc::{AllocError, Global};
 use std::marker::Model;
 use term::NodeName;
@@ -56,6 +59,30 @@ impl KeptCall {
         }
     }
 
+    /// Tells the round of the call, where it asks, that a node has gone down.
+    pub(crate) fn lose(&mut self, gone: &NodeName)
+        ensures { as_call self.new ≡ in_phase (lost gone.now (as_call self.old).phase) (as_call self.old) }
+    {
+        if let CallPhase::Asking(round) = &mut self.call.phase {
+            round.down(gone);
+        }
+    }
+
+    /// The call waits for a retry.
+    pub(crate) fn wait(&mut self)
+        ensures { self.new ≡ record self.old { phase = Waiting } }
+    {
+        self.call.phase = CallPhase::Waiting;
+    }
+
+    /// The call uses one retry, and asks by this round.
+    pub(crate) fn ask_again(&mut self, round: Round)
+        ensures { as_call self.new ≡ asking_again (seen round) (as_call self.old) }
+    {
+        self.call.retries = self.call.retries.one_less();
+        self.call.phase = CallPhase::Asking(round);
+    }
+
     /// Tells the call, where it is a deletion, that a node has given the lock up.
     pub(crate) fn give_up(&mut self, from: &NodeName)
         ensures { self.new ≡ record self.old { phase = with_one_less from.now self.old.phase } }
@@ -70,5 +97,14 @@ impl KeptCall {
         ensures { result ≡ self }
     {
         Box::into_inner(self.call)
+    }
+}
+
+impl Clone for KeptCall {
+    ghost is_clone = { λ k l. l ≡ k };
+
+    fn clone(&self) -> Result<Self, AllocError> {
+        let alloc = *Box::allocator(&self.call);
+        KeptCall::new(alloc, self.call.as_ref().copy()?)
     }
 }

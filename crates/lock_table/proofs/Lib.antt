@@ -1,5 +1,6 @@
 mod Asking
 mod Changes
+mod Copied
 mod Dropping
 mod Facts
 mod Filing

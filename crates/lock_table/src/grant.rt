@@ -4,14 +4,14 @@ ghost use Rattle.std.specs.Prelude.{◌≡◌};
 use term::{LockId, Pid, Requester, Resource};
 
 /// What a grant is filed under: what the lock is on, and who has it.
-#[derive(Debug, PartialEq, Eq, Hash, Drop)]
+#[derive(Clone, Debug, PartialEq, Eq, Hash, Drop)]
 pub(crate) struct Key {
     pub(crate) resource: Resource,
     pub(crate) holder: Pid,
 }
 
 /// How often a holder has a lock, and in whose name.
-#[derive(Debug, Drop)]
+#[derive(Clone, Debug, Drop)]
 pub(crate) struct Held {
     pub(crate) requester: Requester,
     pub(crate) count: u32,
@@ -21,7 +21,7 @@ pub(crate) struct Held {
 
 /// Where a grant stands among its holder's. Holders of one node stand together, and the grants of one holder, as their
 /// numbers rise.
-#[derive(Debug, PartialEq, Eq, PartialOrd, Ord, Drop)]
+#[derive(Clone, Debug, PartialEq, Eq, PartialOrd, Ord, Drop)]
 pub(crate) struct Place {
     pub(crate) holder: Pid,
     pub(crate) number: u64,

@@ -7,7 +7,7 @@ use indexmap::IndexMap;
 use term::{Requester, Resource};
 
 /// The requester that a resource is under, and how many grants are on it.
-#[derive(Debug, Drop)]
+#[derive(Clone, Debug, Drop)]
 pub(crate) struct Sharers {
     pub(crate) requester: Requester,
     pub(crate) grants: u64,

@@ -70,6 +70,18 @@ impl LockTable {
         }
     }
 
+    /// The same table, in memory of its own.
+    pub fn copy(&self) -> Result<Self, AllocError>
+        ensures { IfOk result (λ copy. copy ≡ self.now) }
+    {
+        Ok(LockTable {
+            grants: self.grants.clone()?,
+            shared: self.shared.clone()?,
+            by_holder: self.by_holder.clone()?,
+            next: self.next,
+        })
+    }
+
     /// How often a holder has a lock, 0 where it has it not.
     pub fn count(&self, id: &LockId, holder: &Pid) -> u32
         ensures count { result ≡ count (id_of id.now) holder.now self.now }

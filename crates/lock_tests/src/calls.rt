@@ -114,6 +114,38 @@ fn copies(alloc: Global, holder: &Pid) -> bool {
     }
 }
 
+/// Whether a copy of calls keeps a call that is taken out of them.
+fn copy_keeps(alloc: Global, node: &NodeName) -> bool {
+    let holder = process(node, 1);
+    let mut calls = LockCalls::new(alloc, node.copy());
+    if !puts(&mut calls, &holder, 1, CallPhase::Waiting) {
+        return false;
+    }
+    match calls.copy() {
+        Ok(copy) => {
+            calls.take(&holder).is_some()
+                && calls.is_empty()
+                && copy.len() == 1
+                && has_call(&copy, &holder, 1)
+        }
+        Err(_) => false,
+    }
+}
+
+/// Whether a call that waits asks again, loses its node and waits again.
+fn asks_again(alloc: Global, node: &NodeName) -> bool {
+    let holder = process(node, 1);
+    let mut calls = LockCalls::new(alloc, node.copy());
+    if !puts(&mut calls, &holder, 1, CallPhase::Waiting) {
+        return false;
+    }
+    calls.ask_again(&holder, Round::begin(&NodeSet::one(node.copy())));
+    let asks = !calls.has_waiting();
+    calls.lose(&holder, node);
+    calls.wait(&holder);
+    asks && calls.has_waiting()
+}
+
 #[test]
 fn keeps_one_call_of_a_process(rt: HostRuntime) {
     match (parse_node("a"), parse_node("b")) {
@@ -121,6 +153,8 @@ fn keeps_one_call_of_a_process(rt: HostRuntime) {
             assert!(rt; keep_one(rt.alloc(), &a, &b));
             assert!(rt; tell_waiting(rt.alloc(), &a));
             assert!(rt; copies(rt.alloc(), &process(&a, 1)));
+            assert!(rt; copy_keeps(rt.alloc(), &a));
+            assert!(rt; asks_again(rt.alloc(), &a));
         }
         _ => assert!(rt; false),
     }

@@ -1,5 +1,5 @@
 //! A registrar that works its queue off.
-use name_table::Change;
+use name_table::{Change, Pair};
 use std::alloc::Global;
 use term::{NodeName, NodeSet, Pid, parse_name, parse_node, parse_nodes, parse_pid};
 use transaction::{NameCall, Op, Registrar};
@@ -53,6 +53,33 @@ fn goes_on(registrar: &mut Registrar, call: &NameCall) -> bool {
     registrar.current().is_none() && registrar.start(None) && is_current(registrar, 2, call)
 }
 
+/// Whether a copy of a registrar goes on.
+fn copy_goes_on(registrar: &Registrar, call: &NameCall) -> bool {
+    match registrar.copy() {
+        Ok(mut copy) => { copy.waiting() == 1 && !copy.next_is_join() && goes_on(&mut copy, call) }
+        Err(_) => false,
+    }
+}
+
+/// Whether an operation is its copy.
+fn is_copied(op: &Op) -> bool {
+    match op.copy() {
+        Ok(copy) => copy == *op,
+        Err(_) => false,
+    }
+}
+
+/// Whether an admission with a name is its copy.
+fn admission_is_copied(alloc: Global) -> bool {
+    match (parse_node("b"), parse_name("x"), parse_pid("b.1")) {
+        (Ok(joiner), Ok(name), Ok(owner)) => {
+            let mut pairs = Vec::new(alloc);
+            pairs.push(Pair { name, owner }).is_ok() && is_copied(&Op::Admission(joiner, pairs))
+        }
+        _ => false,
+    }
+}
+
 /// Whether a call is its copy, and puts the name.
 fn is_put(call: &NameCall) -> bool {
     call.copy() == *call
@@ -69,6 +96,7 @@ fn carries_out(alloc: Global, call: &NameCall) -> bool {
         (Ok(both), Ok(a), Ok(b)) => {
             starts(&mut registrar, call)
                 && awaits(&mut registrar, &both, &a, &b)
+                && copy_goes_on(&registrar, call)
                 && goes_on(&mut registrar, call)
         }
         _ => false,
@@ -81,6 +109,7 @@ fn carries_out_what_waits(rt: HostRuntime) {
         Some(call) => {
             assert!(rt; is_put(&call));
             assert!(rt; carries_out(rt.alloc(), &call));
+            assert!(rt; admission_is_copied(rt.alloc()));
         }
         None => assert!(rt; false),
     }

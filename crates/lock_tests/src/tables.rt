@@ -86,6 +86,31 @@ fn first_wrong<'a>(alloc: Global, script: &'a str) -> Option<&'a str> {
     None
 }
 
+/// Whether a row of a text holds.
+fn holds_text(table: &mut LockTable, text: &str) -> bool {
+    match row_of(text) {
+        Some(row) => holds(table, row),
+        None => false,
+    }
+}
+
+/// Whether a copy of a table keeps a lock that the table drops.
+fn copy_keeps(alloc: Global) -> bool {
+    let mut table = LockTable::new(alloc);
+    if !holds_text(&mut table, "ask a.1 db r1 grant") {
+        return false;
+    }
+    match table.copy() {
+        Ok(mut copy) => {
+            holds_text(&mut table, "exit a.1")
+                && holds_text(&mut copy, "count a.1 db r1 1")
+                && holds_text(&mut copy, "ask b.1 db r2 r1")
+                && holds_text(&mut table, "ask b.1 db r2 grant")
+        }
+        Err(_) => false,
+    }
+}
+
 /// A resource is shared in the name of one requester.
 const SHARED: &str = "\
 ask a.1 db r1 grant
@@ -189,4 +214,5 @@ fn shares_by_requester(rt: HostRuntime) {
     for script in [SHARED, DROPPED, MIDDLE, HOLDERS, LAST] {
         assert_eq!(rt; first_wrong(rt.alloc(), script), None);
     }
+    assert!(rt; copy_keeps(rt.alloc()));
 }

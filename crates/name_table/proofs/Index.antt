@@ -1,14 +1,14 @@
 -- The table of an index: who has a name in it, what a change of it is, and the least name of a process.
-use Rattle.std.proofs.Common.{ℕ, Bool, true, false, ◌==◌, ◌≡◌, ◌≤◌, Option, Some, None, [], ◌∷◌, filter, fold, refl, sym, subst, ap, ◌∙◌, inl, inr, arith}
+use Rattle.std.proofs.Common.{ℕ, Bool, true, false, ◌==◌, ◌≡◌, ◌≤◌, Option, Some, None, [], ◌∷◌, filter, refl, sym, subst, ap, ◌∙◌, inl, inr, arith}
 use Rattle.std.specs.Prelude.{if◌then◌else◌, not}
 use Rattle.std.specs.List.{IsDistinct, AllByRecursion}
 use Rattle.std.specs.Map.{keys_of}
 use Rattle.std.proofs.lemmas.Bool.{cases_eq, cases_order, eq-eqb, ne_eqb, lt-ltb}
 use Rattle.registry_model.specs.Process.{Text, Process, is_process}
 use Rattle.registry_model.specs.Table.{Table, is_below, is_rising, get, put, remove, strike, without}
-use Rattle.registry_model.proofs.Tables.{is_rising-parts, is_rising-put, is_rising-remove, is_rising-strike, is_rising-without, get-below, get-put, get-remove, get-strike, get-without, get-front, get-behind, if_kept, or_else, same_table}
+use Rattle.registry_model.proofs.Tables.{is_rising-parts, is_rising-put, is_rising-remove, is_rising-strike, is_rising-without, get-below, get-put, get-remove, get-strike, get-without, get-front, get-behind, if_kept, same_table}
 use Rattle.name_table.specs.Owners.{name_of}
-use Rattle.name_table.specs.Index.{Owners, owner_of, table_of, put_in_turn, is_owner}
+use Rattle.name_table.specs.Index.{Owners, owner_of, table_of, is_owner}
 
 -- who has a name
 pub get-table_of : (es : Owners) (y : Text) → get y (table_of es) ≡ owner_of y es
@@ -111,35 +111,6 @@ table-without es d u =
     (λ y. owner_of-filter (λ q. not (q.node == d)) es u y
     ∙ sym (get-without (λ n. n == d) (table_of es) (is_rising-table_of es) y
     ∙ ap (if_kept (λ q. not (q.node == d))) (get-table_of es y)))
-
--- who has a name after each is put in turn
-get-put_from : (es : Owners) (t : Table) → IsDistinct (λ x y. x == y) (keys_of es) → (y : Text) →
-    get y (fold (λ u e. put e.0 e.1 u) t es) ≡ or_else (owner_of y es) (get y t)
-unfolding IsDistinct
-get-put_from [] t d y = refl
-get-put_from (e ∷ es) t d y = get-put_from es (put e.0 e.1 t) d.1 y ∙ (elim (cases_eq e.0 y) [
-  | inl i ↦ rw (none i, eq-eqb y e.0 (sym i)) (get-put e.0 e.1 t y ∙ rw (eq-eqb e.0 y i))
-  | inr ne ↦ rw (ne_eqb y e.0 (λ i. ne (sym i)))
-      (ap (or_else (owner_of y es)) (get-put e.0 e.1 t y ∙ rw (ne_eqb e.0 y ne)))
-])
-  where
-    none : e.0 ≡ y → owner_of y es ≡ None
-    none i = subst (λ (z : Text). owner_of z es ≡ None) i (owner_of-absent e.0 es d.0)
-
-is_rising-put_from : (es : Owners) (t : Table) → is_rising t ≡ true →
-    is_rising (fold (λ u e. put e.0 e.1 u) t es) ≡ true
-is_rising-put_from [] t r = r
-is_rising-put_from (e ∷ es) t r = is_rising-put_from es (put e.0 e.1 t) (is_rising-put e.0 e.1 t r)
-
--- that is the table
-pub put_in_turn-table_of : (es : Owners) → IsDistinct (λ x y. x == y) (keys_of es) → put_in_turn es ≡ table_of es
-put_in_turn-table_of es d =
-    sym (table_told es (put_in_turn es) (is_rising-put_from es [] refl)
-    (λ y. or_none (owner_of y es) ∙ sym (get-put_from es [] d y)))
-  where
-    or_none : (o : Option Process) → o ≡ or_else o None
-    or_none None = refl
-    or_none (Some p) = refl
 
 -- who owns no name has no least one
 pub name_of-none : (p : Process) (t : Table) → is_rising t ≡ true → ((y : Text) → is_owner p (get y t) ≡ false) →

@@ -8,4 +8,3 @@ mod Owners
 mod Places
 mod Puts
 mod Sorting
-mod Turns

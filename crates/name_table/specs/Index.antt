@@ -1,5 +1,5 @@
 -- An index from processes to their names, beside a map from names to processes.
-use Rattle.std.specs.Prelude.{◌≡◌, ◌<◌, Bool, false, not, ◌&&◌, ◌||◌, ◌==◌, Option, Some, None, List, [], ◌∷◌, length, map, fold, if◌then◌else◌}
+use Rattle.std.specs.Prelude.{◌≡◌, ◌<◌, Bool, false, not, ◌&&◌, ◌||◌, ◌==◌, Option, Some, None, List, [], ◌∷◌, length, map, if◌then◌else◌}
 use Rattle.std.specs.Map.{lookup}
 use Rattle.std.specs.Ordering.{nat_cmp}
 use Rattle.std.specs.BTreeSet.{BTreeSet, contains}
@@ -26,10 +26,6 @@ names_of p owned = lookup (is_process p) owned
 abbrev pub table_of : Owners → Table
 table_of [] = []
 table_of (e ∷ es) = put e.0 e.1 (table_of es)
-
--- the table after each name is put in turn
-abbrev pub put_in_turn : Owners → Table
-put_in_turn owners = fold (λ t e. put e.0 e.1 t) [] owners
 
 -- the pairs of these names and their owners, in this order
 abbrev pub pairs_of : Owners → Table

@@ -1,6 +1,7 @@
 //! What a table has, and how it changes.
-ghost use Rattle.std.specs.Prelude.{◌≡◌};
+ghost use Rattle.std.specs.Prelude.{◌≡◌, IfOk};
 
+use std::alloc::{AllocError, Global};
 use std::marker::Model;
 use term::{Name, Pid};
 
@@ -33,6 +34,14 @@ impl Pair {
             owner: self.owner.copy(),
         }
     }
+}
+
+/// The same pairs, in memory of their own.
+pub fn copied_pairs(pairs: &Vec<Pair>) -> Result<Vec<Pair>, AllocError>
+    ensures { IfOk result (λ copy. copy.items ≡ pairs.now.items) }
+{
+    let alloc: Global = *pairs.allocator();
+    pairs.iter().map(|pair| pair.copy()).collect(alloc)
 }
 
 /// A change of a table.

@@ -111,20 +111,6 @@ fn pairs_in<A: Allocator>(alloc: A, entries: &[Entry<'_>]) -> Result<Vec<Pair, A
         .collect(alloc)
 }
 
-/// A table of these names and their owners.
-fn copied<A: Allocator + Copy + Drop>(
-    memory: A,
-    owners: &Owners<A>,
-) -> Result<IndexTable<A>, AllocError>
-    ensures { IfOk result (λ copy. copy ≡ table_of owners.now.entries) }
-{
-    let mut copy = IndexTable::new(memory);
-    for (name, owner) in owners {
-        copy.put(name.copy(), owner.copy())?;
-    }
-    Ok(copy)
-}
-
 impl<A: Allocator + Copy + Drop> IndexTable<A> {
     /// A table without names. It takes no memory.
     fn new(memory: A) -> Self
@@ -219,7 +205,11 @@ impl<A: Allocator + Copy + Drop> Names for IndexTable<A> {
         let _owners = self.owners.len();
     }
 
-    fn copy(&self, memory: A) -> Result<Self, AllocError> {
-        copied(memory, &self.owners)
+    // The clone of a map takes its memory from where the map does.
+    fn copy(&self, _memory: A) -> Result<Self, AllocError> {
+        Ok(IndexTable {
+            owners: self.owners.clone()?,
+            owned: self.owned.clone()?,
+        })
     }
 }

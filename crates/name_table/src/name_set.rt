@@ -27,6 +27,16 @@ impl<A: Allocator> Model for NameSet<A> {
     ghost view = { λ s. record { keys = option_to_list s.first ++ s.others.keys } };
 }
 
+/// The same name, where there is one.
+fn copied(place: &Option<Name>) -> Option<Name>
+    ensures { result ≡ place.now }
+{
+    match place {
+        Some(there) => Some(there.copy()),
+        None => None,
+    }
+}
+
 /// Whether this name is there.
 fn is_there(place: &Option<Name>, name: &Name) -> bool
     ensures { result ≡ list_any (λ x. name.now == x) (option_to_list place.now) }
@@ -105,5 +115,16 @@ impl<A: Allocator + Copy + Drop> NameSet<A> {
             (Some(first), _) => Some(first),
             (None, other) => other,
         }
+    }
+}
+
+impl<A: Allocator + Copy + Drop> Clone for NameSet<A> {
+    ghost is_clone = { λ s t. t ≡ s };
+
+    fn clone(&self) -> Result<Self, AllocError> {
+        Ok(NameSet {
+            first: copied(&self.first),
+            others: self.others.clone()?,
+        })
     }
 }

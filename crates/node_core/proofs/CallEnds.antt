@@ -5,13 +5,13 @@ use Rattle.std.proofs.lemmas.Bool.{eqb-true, ne_eqb, eq-eqb, cases_eq}
 use Rattle.std.proofs.lemmas.List.Elements.{All-head, All-tail, All-same}
 use Rattle.std.proofs.Math.Bool.{and-false}
 use Rattle.registry_model.specs.Process.{Process, is_process, Nodes, without_node as without}
-use Rattle.registry_model.specs.Call.{True}
+use Rattle.registry_model.specs.Call.{True, False}
 use Rattle.protocol_model.specs.Letter.{Letter as AnyLetter}
 use Rattle.protocol_model.specs.Node.{LockPhase, LockCall as AnyCall, call_of, put_call, drop_call}
-use Rattle.protocol_model.specs.Round.{Round, is_empty, is_over, owes, answer, asked as asked_by, ending, Ending as AnyEnding, Held as IsHeld, GiveBack as GiveBackTo}
+use Rattle.protocol_model.specs.Round.{Round, is_empty, is_over, owes, answer, down, asked as asked_by, ending, Ending as AnyEnding, Held as IsHeld, GiveBack as GiveBackTo}
 use Rattle.protocol_model.specs.Turn.{Turn, keep_call, reply_with, become}
 use Rattle.protocol_model.specs.Registrar.{ask_rest}
-use Rattle.protocol_model.specs.Client.{in_phase, close_call, give_lock, refuse_lock, end_lock_by, go_on_lock, hear_lock, hear_lock_in, owe_less, owe_less_in}
+use Rattle.protocol_model.specs.Client.{in_phase, close_call, give_lock, refuse_lock, end_lock_by, go_on_lock, hear_lock, hear_lock_in, lose_node_in, owe_less, owe_less_in}
 use Rattle.walk.proofs.Calls.{is_process-same, is_process-true, call_of-holder}
 use Rattle.term.specs.NodeSets.{set_of}
 use Rattle.locker.specs.declared.ending.Ending.{Ending}
@@ -19,18 +19,18 @@ use Rattle.locker.specs.declared.ending.Ending.TheVariants.{Held as Holds, GiveB
 use Rattle.locker.specs.Held.{Held as HeldRound, seen}
 use Rattle.locker.specs.Ends.{EndsAs}
 use Rattle.lock_calls.specs.declared.call.CallPhase.{CallPhase}
-use Rattle.lock_calls.specs.declared.call.CallPhase.TheVariants.{Asking, Deleting}
+use Rattle.lock_calls.specs.declared.call.CallPhase.TheVariants.{Asking, Waiting, Deleting}
 use Rattle.lock_calls.specs.declared.call.LockCall.{LockCall}
 use Rattle.lock_calls.specs.Calls.{phase_of, as_call}
 use Rattle.lock_calls.specs.Held.{Held as LockCalls, seen as calls_seen}
-use Rattle.lock_calls.specs.Standing.{stands_by, answered, given_up}
+use Rattle.lock_calls.specs.Standing.{stands_by, answered, lost, given_up}
 use Rattle.node_events.specs.Made.{Made}
 use Rattle.node_core.specs.Held.{Held, bound_of, IsWithin, IsCallWithin, IsWhole}
-use Rattle.node_core.specs.Locking.{end_of, end_in, deleted_of, deleted_in}
+use Rattle.node_core.specs.Locking.{end_of, end_in, loss_of, deleted_of, deleted_in}
 use Rattle.node_core.specs.Seen.{turn_of}
 use Rattle.node_core.specs.Steps.{Makes}
 use Rattle.node_core.proofs.Bounds.{all_below}
-use Rattle.node_core.proofs.Receivers.{answered_of}
+use Rattle.node_core.proofs.Receivers.{answered_of, down_of}
 use Rattle.node_core.proofs.Rules.{followed}
 use Rattle.node_core.proofs.Rounds.{held_end, failed_end}
 use Rattle.node_core.proofs.Whole.{whole_with}
@@ -167,6 +167,14 @@ answer_within h0 h c r f granted same asking owed within =
     (subst (λ (x : CallPhase). IsCallWithin h.world (phase_of x)) asking within) d
     (answered_of (seen r) f granted owed d e))
 
+-- the nodes of a round that lost f are
+pub lost_within : (h0 h : Held) (c : LockCall) (r : HeldRound) (f : ℕ) → h0 ≡ h → c.phase ≡ Asking r
+    → IsCallWithin h.world (phase_of c.phase) → IsCallWithin h0.world (lost f (as_call c).phase)
+lost_within h0 h c r f same asking within =
+    subst (λ (x : CallPhase). IsCallWithin h0.world (lost f (phase_of x))) (sym asking)
+    (λ d e. subst (λ (x : Held). IsCallWithin x.world (phase_of (Asking r))) (sym same)
+    (subst (λ (x : CallPhase). IsCallWithin h.world (phase_of x)) asking within) d (down_of (seen r) f d e))
+
 -- the nodes of a deletion that f gave up are, too
 pub give_up_within : (h0 h : Held) (c : LockCall) (owing : List ℕ) (f : ℕ) → h0 ≡ h
     → c.phase ≡ Deleting owing → IsCallWithin h.world (phase_of c.phase)
@@ -298,3 +306,34 @@ owes_less h0 h k2 t u c p f a owing k same is found deleting owed own all stands
     put : calls_seen k ≡ put_call now (calls_seen h0.calls)
     put = stood h0 h c p k (given_up f) same found stands
         ∙ ap (λ (x : CallPhase). put_call (in_phase (given_up f (phase_of x)) (as_call c)) (calls_seen h0.calls)) deleting
+
+-- the round of the call is told that f has gone down
+pub loses_lock : (h0 h k2 : Held) (t u : Made) (c : LockCall) (p : Process) (r : HeldRound) (f : ℕ) (k : LockCalls)
+    → h0 ≡ h → p ≡ c.holder → Some (as_call c) ≡ call_of p (calls_seen h.calls) → c.phase ≡ Asking r
+    → calls_seen k ≡ stands_by (lost f) (call_of p (calls_seen h0.calls)) (calls_seen h0.calls)
+    → Makes (λ n a w. end_of n a (call_of p w.node.calls) w) (record h0 { calls = k }) t k2 u
+    → Makes (λ n a w. loss_of n a f (call_of p w.node.calls) w) h t k2 u
+loses_lock h0 h k2 t u c p r f k same is found asking stands E =
+    made_as (goes_on_lock h0 h k2 t u (as_call c) p (down f (seen r)) k same is put E)
+    (ap (λ (x : CallPhase). lose_node_in (bound_of h.world) h.name f (phase_of x) (as_call c) (turn_of h t)) (sym asking)
+    ∙ ap (λ (o : Option AnyCall). loss_of (bound_of h.world) h.name f o (turn_of h t)) found)
+  where
+    put : calls_seen k ≡ put_call (in_phase (LockPhase.Asking (down f (seen r))) (as_call c)) (calls_seen h0.calls)
+    put = stood h0 h c p k (lost f) same found stands
+        ∙ ap (λ (x : CallPhase). put_call (in_phase (lost f (phase_of x)) (as_call c)) (calls_seen h0.calls)) asking
+
+-- a call that isn't asking is told as its deletion is
+pub loses_other : (h k : Held) (t u : Made) (c : LockCall) (p : Process) (f : ℕ)
+    → Some (as_call c) ≡ call_of p (calls_seen h.calls) → ((r : HeldRound) → c.phase ≡ Asking r → ⊥)
+    → Makes (λ n a w. owe_less n a f (call_of p w.node.calls) w) h t k u
+    → Makes (λ n a w. loss_of n a f (call_of p w.node.calls) w) h t k u
+loses_other h k t u c p f found other M = made_as M (
+    ap (λ (o : Option AnyCall). owe_less (bound_of h.world) h.name f o (turn_of h t)) (sym found)
+    ∙ go c.phase refl ∙ ap (λ (o : Option AnyCall). loss_of (bound_of h.world) h.name f o (turn_of h t)) found)
+  where
+    go : (x : CallPhase) → c.phase ≡ x
+        → owe_less_in (bound_of h.world) h.name f (phase_of x) (as_call c) (turn_of h t)
+        ≡ lose_node_in (bound_of h.world) h.name f (phase_of x) (as_call c) (turn_of h t)
+    go (Asking r) e = absurd (other r e)
+    go Waiting e = refl
+    go (Deleting owing) e = refl

@@ -1,6 +1,8 @@
 pub mod Bounds
 mod Whole
 mod Sends
+mod Rooms
+mod Copying
 mod Receivers
 mod ReceiversOfLocks
 mod ReceiversOfOperations
@@ -19,6 +21,7 @@ mod Opening
 mod Each
 mod Locking
 mod CallEnds
+mod CallsOf
 mod Gone
 mod Leaving
 mod Numbers

@@ -1,7 +1,8 @@
 -- The queue of a registrar: what becomes current of it.
-use Rattle.std.proofs.Common.{ℕ, Bool, true, false, ◌≡◌, Option, Some, None, List, [], ◌∷◌, map, refl, sym, ap, ◌∙◌, subst}
+use Rattle.std.proofs.Common.{ℕ, Bool, true, false, ◌≡◌, ◌+◌, ◌≤◌, Option, Some, None, List, [], ◌∷◌, ◌++◌, length, length-append, map, arith, refl, sym, ap, ◌∙◌, subst}
 use Rattle.std.specs.Prelude.{if◌then◌else◌, All}
 use Rattle.std.proofs.lemmas.List.Elements.{All-head, All-tail}
+use Rattle.protocol_model.specs.Event.{is_join}
 use Rattle.protocol_model.specs.Node.{Op as AnyOp}
 use Rattle.protocol_model.specs.Turn.{Turn, with_queue}
 use Rattle.protocol_model.specs.Registrar.{start_queue, ask_join, contact_left}
@@ -9,9 +10,10 @@ use Rattle.term.specs.NodeSets.{set_of}
 use Rattle.transaction.specs.declared.op.Op.{Op}
 use Rattle.transaction.specs.declared.op.Op.TheVariants.{Join}
 use Rattle.transaction.specs.Ops.{op_of}
-use Rattle.transaction.specs.Work.{Work, started, starts}
-use Rattle.node_events.specs.Made.{Made}
+use Rattle.transaction.specs.Work.{Work, started, starts, begins_with_join}
+use Rattle.node_events.specs.Made.{Made, Spends}
 use Rattle.node_core.specs.Held.{Held, IsWhole, IsOpWithin, IsCurrentWithin, bound_of}
+use Rattle.node_core.specs.Rare.{joins_in, Adds}
 use Rattle.node_core.specs.Seen.{node_of, turn_of}
 use Rattle.node_core.specs.Steps.{Makes}
 use Rattle.node_core.proofs.Whole.{IsWorkWithin, whole_at}
@@ -143,3 +145,65 @@ whole_freed h w w2 whole begun ended = whole_at h w2 whole (subst (IsWorkWithin 
 pub contact_within : (h : Held) (w : Work) (i m : ℕ) → IsWhole h → w ≡ started None h.registrar
     → w.current ≡ Some (Join i m) → set_of h.world m ≡ true
 contact_within h w i m whole begun cur = subst (IsCurrentWithin h.world) cur (started_within h w whole begun).current
+
+-- a join that becomes current stood at the front
+pub join_first : (r w : Work) (i m : ℕ) → r.current ≡ None → w ≡ started None r → w.current ≡ Some (Join i m)
+    → begins_with_join r.queue ≡ true
+join_first r w i m free begun cur = go r.queue (sym (ap (λ (x : Work). x.current) (begun ∙ ap (started None) same)) ∙ cur)
+  where
+    same : r ≡ record r { current = None }
+    same = ap (λ (o : Option Op). let x : Work = record r { current = o } in x) free
+
+    go : (ops : List Op) → (started None (record r { queue = ops; current = None })).current ≡ Some (Join i m)
+        → begins_with_join ops ≡ true
+    go [] e = cc
+    go (op ∷ ops) e = ap (λ (o : Option Op). joins o) e
+      where
+        joins : Option Op → Bool
+        joins None = false
+        joins (Some o) = is_join (op_of o)
+
+-- one operation less waits where one becomes current of the queue
+pub one_less : (r w : Work) → r.current ≡ None → w ≡ started None r → starts None r ≡ true
+    → length w.queue + 1 ≡ length r.queue
+one_less r w free begun some =
+    ap (λ (x : Work). length x.queue + 1) (begun ∙ ap (started None) same)
+    ∙ go r.queue (ap (starts None) (sym same) ∙ some)
+  where
+    same : r ≡ record r { current = None }
+    same = ap (λ (o : Option Op). let x : Work = record r { current = o } in x) free
+
+    go : (ops : List Op) → starts None (record r { queue = ops; current = None }) ≡ true
+        → length (started None (record r { queue = ops; current = None })).queue + 1 ≡ length ops
+    go [] e = cc
+    go (op ∷ ops) e = omega arith
+
+-- what was made while joins at the front were answered
+pub few_joins : (q r : List Op) (t u : Made) → length u.entries + length r ≤ length t.entries + length q
+    → length u.answers + length r ≤ length t.answers + length q → (begins_with_join q ≡ false → u ≡ t)
+    → Adds (joins_in q) (joins_in q) t u
+few_joins q r t u es ss first = go (begins_with_join q) refl
+  where
+    go : (b : Bool) → begins_with_join q ≡ b
+        → Adds (if b then length q else 0) (if b then length q else 0) t u
+    go true e = record { entries = omega arith; answers = omega arith }
+    go false e = subst (λ (v : Made). Adds 0 0 t v) (sym (first e)) (record { entries = omega arith; answers = omega arith })
+
+-- an operation that is no join goes to the back
+pub next_stays : (q : List Op) (op : Op) → begins_with_join q ≡ false → is_join (op_of op) ≡ false
+    → begins_with_join (q ++ op ∷ []) ≡ false
+next_stays [] op e other = other
+next_stays (o ∷ q) op e other = e
+
+-- and one more at most may be a join that is answered at once
+pub one_join_more : (q : List Op) (op : Op) → joins_in (q ++ op ∷ []) ≤ joins_in q + 1
+one_join_more [] op = go (is_join (op_of op))
+  where
+    go : (b : Bool) → (if b then length (op ∷ []) else 0) ≤ 0 + 1
+    go true = omega arith
+    go false = omega arith
+one_join_more (o ∷ q) op = go (is_join (op_of o))
+  where
+    go : (b : Bool) → (if b then length (o ∷ (q ++ op ∷ [])) else 0) ≤ (if b then length (o ∷ q) else 0) + 1
+    go true = grind (arith, length-append)
+    go false = omega arith

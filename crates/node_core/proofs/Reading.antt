@@ -1,6 +1,6 @@
 -- The rules of letters and calls, one by one.
 use Rattle.std.proofs.Common.{ℕ, Bool, true, false, ◌≡◌, List, refl, sym, ap, ◌∙◌, subst}
-use Rattle.std.specs.Prelude.{not, if◌then◌else◌}
+use Rattle.std.specs.Prelude.{not, ◌||◌, if◌then◌else◌, Result, Ok, Err, OnOk, OnErr}
 use Rattle.registry_model.specs.Process.{Process, is_process}
 use Rattle.protocol_model.specs.Node.{call_of}
 use Rattle.protocol_model.specs.Turn.{Turn}
@@ -17,7 +17,9 @@ use Rattle.node_core.specs.Held.{Held, bound_of}
 use Rattle.node_events.specs.Letters.{letter_of}
 use Rattle.node_core.specs.Seen.{turn_of}
 use Rattle.node_events.specs.Seen.{unnumbered}
-use Rattle.node_core.specs.Steps.{Makes, Takes, IsOther, IsSaidBy}
+use Rattle.transaction.specs.Work.{begins_with_join}
+use Rattle.node_core.specs.Rare.{is_admission, moves_names, is_rare}
+use Rattle.node_core.specs.Steps.{Makes, Takes, IsAsBefore, IsOther, IsSaidBy}
 
 -- an answer goes to the round of its holder: p is who it is for, and q the registrar
 module _ (h k : Held) (t u : Made) (f : ℕ) (p q : Process) (g : Bool) (is : q ≡ registrar h.name)
@@ -61,7 +63,25 @@ pub said_down : (world : List ℕ) (a f : ℕ) (l : Letter) → l ≡ Down → I
 said_down world a f l is said = subst (λ (m : Letter). IsSaidBy world a f m) is said
 
 -- a letter's event is taken
-pub takes_letter : (e : Event) (f : ℕ) (l : Letter) (h k : Held) (t u : Made) → e ≡ FromPeer f l
-    → (IsSaidBy h.world h.name f l → Makes (λ n a. receive n a unnumbered f (letter_of l)) h t k u)
-    → Takes e h t k u
-takes_letter e f l h k t u is each = subst (λ (x : Event). Takes x h t k u) (sym is) each
+pub takes_letter : {A E : Type 0} (result : Result A E) (e : Event) (f : ℕ) (l : Letter) (h k : Held) (t u : Made)
+    → e ≡ FromPeer f l
+    → (IsSaidBy h.world h.name f l → OnOk result (Makes (λ n a. receive n a unnumbered f (letter_of l)) h t k u))
+    → OnOk result (Takes e h t k u)
+takes_letter (Ok x) e f l h k t u is each = subst (λ (y : Event). Takes y h t k u) (sym is) each
+takes_letter (Err x) e f l h k t u is each = tt
+
+-- where a letter moves no names and no join is at the front, the node is as before
+pub unchanged_by_letter : {A E : Type 0} (result : Result A E) (e : Event) (f : ℕ) (l : Letter) (h k : Held)
+    → e ≡ FromPeer f l
+    → OnErr result (moves_names (is_admission h.registrar.current) l ≡ false
+    → begins_with_join h.registrar.queue ≡ false → IsAsBefore h k)
+    → OnErr result (is_rare e h ≡ false → IsAsBefore h k)
+unchanged_by_letter (Ok x) e f l h k is same = tt
+unchanged_by_letter (Err x) e f l h k is same = λ common.
+    let both = apart (moves_names (is_admission h.registrar.current) l) (begins_with_join h.registrar.queue)
+    (ap (λ (y : Event). is_rare y h) (sym is) ∙ common) in
+    same both.0 both.1
+  where
+    apart : (a b : Bool) → (a || b) ≡ false → (a ≡ false) × (b ≡ false)
+    apart false b e = (refl, e)
+    apart true b e = absurd (cc e)

@@ -7,3 +7,5 @@ pub mod Steps
 pub mod Causes
 pub mod Locking
 pub mod Joining
+pub mod Rare
+pub mod Copies

@@ -30,6 +30,25 @@ pub record Keeps (old new : Held) : Type 0 where
   pub name : new.name ≡ old.name
   pub world : new.world ≡ old.world
 
+-- nor does a rule that leaves the queue alone
+pub record KeepsQueue (old new : Held) : Type 0 where
+  pub name : new.name ≡ old.name
+  pub world : new.world ≡ old.world
+  pub queue : new.registrar.queue ≡ old.registrar.queue
+
+-- nor the lock calls
+pub record KeepsCalls (old new : Held) : Type 0 where
+  pub name : new.name ≡ old.name
+  pub world : new.world ≡ old.world
+  pub queue : new.registrar.queue ≡ old.registrar.queue
+  pub calls : new.calls ≡ old.calls
+
+-- the node is as before, as the protocol sees it
+pub record IsAsBefore (old new : Held) : Type 0 where
+  pub name : new.name ≡ old.name
+  pub world : new.world ≡ old.world
+  pub node : node_of new ≡ node_of old
+
 -- A rule of a node n, above all nodes of the world, and a, this node. It makes k and u of what was held and made before
 pub record Makes (rule : ℕ → ℕ → Turn → Turn) (h : Held) (t : Made) (k : Held) (u : Made) : Type 0 where
   pub name : k.name ≡ h.name

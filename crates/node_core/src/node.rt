@@ -1,5 +1,6 @@
 //! One node.
-ghost use Rattle.std.specs.Prelude.{◌≡◌};
+ghost use Rattle.std.specs.Prelude.{◌≡◌, IfOk};
+ghost use Rattle.node_core.specs.Copies.{IsSamePhase};
 
 mod calling;
 mod joining;
@@ -15,8 +16,8 @@ use lock_calls::LockCalls;
 use lock_table::LockTable;
 use locker::Round;
 use name_table::Names;
-use node_events::{Answer, Event, Letter, Reply, StepFault, Turn};
-use std::alloc::Global;
+use node_events::{Answer, Call, Event, Letter, Reply, StepFault, Turn};
+use std::alloc::{AllocError, Global};
 use std::marker::Model;
 use term::{NodeName, NodeSet, Pid};
 use transaction::{Op, Registrar};
@@ -33,6 +34,23 @@ pub(crate) enum Phase {
     Writing(NodeSet, Option<Reply>),
     /// It is a join, under this number, that waits for its contact.
     Joining(u32, NodeName),
+}
+
+impl Phase {
+    /// The same phase. Memory is refused only for a list of names, which no operation is answered.
+    fn copy(&self) -> Result<Self, AllocError>
+        ensures { IfOk result (IsSamePhase self.now) }
+    {
+        Ok(match self {
+            Phase::Asking(round) => Phase::Asking(round.copy()),
+            Phase::Waiting => Phase::Waiting,
+            Phase::Writing(asked, None) => Phase::Writing(asked.copy(), None),
+            Phase::Writing(asked, Some(reply)) => {
+                Phase::Writing(asked.copy(), Some(reply.copy()?))
+            }
+            Phase::Joining(number, contact) => Phase::Joining(*number, contact.copy()),
+        })
+    }
 }
 
 /// One node: its table, its locks, its processes and their lock calls, its registrar, and the numbers that it has given.
@@ -94,23 +112,27 @@ impl<N: Names> Model for NodeCore<N> {
 }
 
 impl<N: Names<Memory = Global>> NodeCore<N> {
-    ghost use Rattle.std.specs.Prelude.{false, true, None, is_some, ◌++◌, OnOk, OnErr, IfOk, IfErr};
+    ghost use Rattle.std.specs.Prelude.{false, true, None, is_some, ◌++◌, ◌+◌, ◌-◌, ◌^◌, min, length, OnOk, OnErr, IfOk, IfErr};
     ghost use Rattle.std.specs.Option.{option_copied};
     ghost use Rattle.protocol_model.specs.Node.{call_of, holds_global};
     ghost use Rattle.node_core.specs.Held.{IsWhole};
     ghost use Rattle.node_core.specs.Seen.{node_of};
     ghost use Rattle.node_events.specs.Seen.{fault_of, is_memory};
-    ghost use Rattle.node_events.specs.declared.events.StepFault.TheVariants.{Memory};
-    ghost use Rattle.node_core.specs.Steps.{Steps, Keeps, Takes, refusal_of, cause_of};
+    ghost use Rattle.node_core.specs.Rare.{is_admission, is_rare, most_entries, most_answers, Adds, IsFew};
+    ghost use Rattle.node_core.specs.Steps.{Steps, Keeps, KeepsQueue, Takes, IsAsBefore, refusal_of, cause_of};
     ghost use Rattle.protocol_model.specs.Event.{can_retry, is_waiting};
     ghost use Rattle.node_core.specs.Joining.{join_number_of};
-    ghost use Rattle.node_events.specs.Made.{Made, nothing};
+    ghost use Rattle.node_events.specs.Made.{Made, HasRoom, nothing};
     ghost use Rattle.node_core.specs.Causes.{event_by};
+    ghost use Rattle.node_core.specs.Copies.{IsAsBounded};
+    ghost use Rattle.node_core.specs.Steps.{Makes};
+    ghost use Rattle.protocol_model.specs.Registrar.{retry_global};
+    ghost use Rattle.protocol_model.specs.Client.{retry_locks};
     ghost use Rattle.registry_model.specs.Table.{is_rising};
 
     /// Takes the step of a cause, and gives what it makes: letters, each with its receiver, entries of the history, and answers.
     /// The letters go to nodes of its world and say what their readers rely on, where what it reads does. A refused cause
-    /// changes nothing; where `Memory` is refused the node isn't to be used any more.
+    /// changes nothing; where `Memory` is refused the node is as before, as the protocol sees it, and the cause may be given again.
     /// Of what no node of the world says (a departure of this node or of a stranger, a join of a stranger) no clause says what it does.
     pub fn turn(&mut self, cause: Cause<'_>) -> Result<Turn, StepFault>
         ensures name { self.new.name ≡ self.old.name }
@@ -118,17 +140,20 @@ impl<N: Names<Memory = Global>> NodeCore<N> {
         ensures ok { IfOk result (λ turn. Steps (event_by cause.entry) self.old self.new turn) }
         ensures refused { IfErr result (λ fault. refusal_of (event_by cause.entry) self.old ≡ fault_of fault) }
         ensures unchanged { IfErr result (λ fault. is_memory fault ≡ false → self.new ≡ self.old) }
+        ensures as_before { OnErr result (IsAsBefore self.old self.new) }
     {
         if let Some(fault) = self.refusal(cause) {
             return Err(fault);
         }
-        let mut turn = self.begin();
-        self.take(&mut turn, cause)?;
-        Ok(turn)
+        match self.accept(cause) {
+            Ok(turn) => Ok(turn),
+            Err(_) => Err(StepFault::Memory),
+        }
     }
 
     /// Takes the step of an event, as `turn` does: gives its answers, and puts its letters, each with its receiver, behind those
-    /// that are there. Its entries of the history it doesn't give, and `turn` does. A refused event puts no letter there.
+    /// that are there. Its entries of the history it doesn't give, and `turn` does. A refused event changes nothing, and puts no
+    /// letter there, also where memory is refused: so the step is taken by a copy of the node, which `turn` mostly needn't.
     pub fn step(
         &mut self,
         event: &Event,
@@ -139,16 +164,149 @@ impl<N: Names<Memory = Global>> NodeCore<N> {
         ensures ok { IfOk result (λ answers. (made : Made) × Steps event.now self.old self.new made
             × (letters.new.items ≡ letters.old.items ++ made.letters) × (answers.items ≡ made.answers)) }
         ensures refused { IfErr result (λ fault. refusal_of event.now self.old ≡ fault_of fault) }
-        ensures unchanged { IfErr result (λ fault. is_memory fault ≡ false → self.new ≡ self.old) }
+        ensures unchanged { OnErr result (self.new ≡ self.old) }
         ensures unsent { OnErr result (letters.new.items ≡ letters.old.items) }
     {
+        let cause = Cause::of(event);
+        if let Some(fault) = self.refusal(cause) {
+            return Err(fault);
+        }
+        let Ok((copy, turn)) = self.stepped(cause) else {
+            return Err(StepFault::Memory);
+        };
         let Turn {
             letters: mut sent,
             answers,
             ..
-        } = self.turn(Cause::of(event))?;
-        letters.append(&mut sent)?;
+        } = turn;
+        if letters.append(&mut sent).is_err() {
+            return Err(StepFault::Memory);
+        }
+        *self = copy;
         Ok(answers)
+    }
+
+    /// Takes the step of a cause that isn't refused, as `turn` does. Where memory is refused the node is as before, as the protocol
+    /// sees it.
+    ///
+    /// Most steps make room first, and then change the node in place. A few want memory behind a change, such as those that move
+    /// the names of a node: these are taken by a copy of the node, which then stands in its place.
+    pub fn accept(&mut self, cause: Cause<'_>) -> Result<Turn, AllocError>
+        requires { refusal_of (event_by cause) self.old ≡ None }
+        ensures name { self.new.name ≡ self.old.name }
+        ensures world { self.new.world ≡ self.old.world }
+        ensures ok { IfOk result (λ turn. Steps (event_by cause.entry) self.old self.new turn) }
+        ensures few { IfOk result (IsFew self.old) }
+        ensures unchanged { OnErr result (IsAsBefore self.old self.new) }
+    {
+        if self.is_rare(cause) {
+            self.accept_on_copy(cause)
+        } else {
+            self.accept_in_place(cause)
+        }
+    }
+
+    /// Takes the step of a cause that isn't refused. Where memory is refused and the step isn't a rare one, the node is as before,
+    /// as the protocol sees it.
+    fn accept_in_place(&mut self, cause: Cause<'_>) -> Result<Turn, AllocError>
+        requires { refusal_of (event_by cause) self.old ≡ None }
+        ensures name { self.new.name ≡ self.old.name }
+        ensures world { self.new.world ≡ self.old.world }
+        ensures ok { IfOk result (λ turn. Steps (event_by cause.entry) self.old self.new turn) }
+        ensures few { IfOk result (IsFew self.old) }
+        ensures unchanged { OnErr result (is_rare (event_by cause.entry) self.old ≡ false → IsAsBefore self.old self.new) }
+    {
+        let mut turn = self.begin();
+        self.take(&mut turn, cause)?;
+        Ok(turn)
+    }
+
+    /// A copy of the node behind the step of a cause that isn't refused, and what that makes.
+    fn stepped(&self, cause: Cause<'_>) -> Result<(Self, Turn), AllocError>
+        requires { refusal_of (event_by cause) self.now ≡ None }
+        ensures ok { IfOk result (λ stepped. Steps (event_by cause.entry) self.now stepped.0 stepped.1) }
+        ensures few { IfOk result (λ stepped. IsFew self.now stepped.1) }
+    {
+        let mut copy = self.copy()?;
+        let turn = copy.accept_in_place(cause)?;
+        Ok((copy, turn))
+    }
+
+    /// Takes the step of a cause that isn't refused, by a copy of the node, which then stands in its place.
+    fn accept_on_copy(&mut self, cause: Cause<'_>) -> Result<Turn, AllocError>
+        requires { refusal_of (event_by cause) self.old ≡ None }
+        ensures name { self.new.name ≡ self.old.name }
+        ensures world { self.new.world ≡ self.old.world }
+        ensures ok { IfOk result (λ turn. Steps (event_by cause.entry) self.old self.new turn) }
+        ensures few { IfOk result (IsFew self.old) }
+        ensures unchanged { OnErr result (self.new ≡ self.old) }
+    {
+        let (copy, turn) = self.stepped(cause)?;
+        *self = copy;
+        Ok(turn)
+    }
+
+    /// Whether the current operation is an admission.
+    fn is_admitting(&self) -> bool
+        ensures { result ≡ is_admission self.now.registrar.current }
+    {
+        matches!(self.current(), Some(Op::Admission(..)))
+    }
+
+    /// Whether the step of a cause may want memory behind a change of the node.
+    fn is_rare(&self, cause: Cause<'_>) -> bool
+        ensures { result ≡ is_rare (event_by cause.entry) self.now }
+    {
+        if self.registrar.next_is_join() {
+            return true;
+        }
+        match cause {
+            Cause::Call(call) => matches!(call, Call::Join(_)),
+            Cause::FromPeer(_, Letter::Admit(_) | Letter::Welcome(_)) => true,
+            Cause::FromPeer(_, Letter::Down) => self.is_admitting(),
+            _ => false,
+        }
+    }
+
+    /// How many entries of the history its next step makes at most.
+    pub fn most_entries(&self) -> usize
+        ensures { result ≡ min (2 ^ 64 - 1) (most_entries self.now) }
+    {
+        let joins = if self.registrar.next_is_join() {
+            self.registrar.waiting()
+        } else {
+            0
+        };
+        joins.saturating_add(4)
+    }
+
+    /// How many answers its next step gives at most.
+    pub fn most_answers(&self) -> usize
+        ensures { result ≡ min (2 ^ 64 - 1) (most_answers self.now) }
+    {
+        self.most_entries().saturating_add(self.calls.len())
+    }
+
+    /// The same node, in memory of its own, as the protocol sees it.
+    fn copy(&self) -> Result<Self, AllocError>
+        ensures copy { IfOk result (IsAsBefore self.now) }
+        ensures bounds { IfOk result (IsAsBounded self.now) }
+    {
+        Ok(NodeCore {
+            alloc: self.alloc,
+            name: self.name.copy(),
+            world: self.world.copy(),
+            members: self.members.copy(),
+            told: self.told.copy(),
+            joined: self.joined,
+            table: self.table.copy(self.alloc)?,
+            locks: self.locks.copy()?,
+            watch: self.watch.copy()?,
+            registrar: self.registrar.copy()?,
+            phase: self.phase.copy()?,
+            calls: self.calls.copy()?,
+            last_call: self.last_call,
+        })
     }
 
     /// A step begins, and has made nothing yet. A welcome relies on the names of its sponsor's table rising.
@@ -161,25 +319,45 @@ impl<N: Names<Memory = Global>> NodeCore<N> {
         Turn::begin(self.alloc)
     }
 
-    /// What a cause that isn't refused does.
-    fn take(&mut self, turn: &mut Turn, cause: Cause<'_>) -> Result<(), StepFault>
+    /// Refused rounds begin anew, the registrar's first. There is room for a letter more behind that. Where memory is refused the
+    /// node is as it was.
+    fn retry(&mut self, turn: &mut Turn) -> Result<(), AllocError>
+        ensures turn { OnOk result (Makes (λ n a u. retry_locks n a (retry_global n a u.node.current u)) self.old turn.old self.new turn.new) }
+        ensures kept { KeepsQueue self.old self.new }
+        ensures adds { OnOk result (Adds 0 (length self.old.calls.calls) turn.old turn.new) }
+        ensures room { OnOk result (HasRoom 1 0 0 turn.new) }
+        ensures unchanged { OnErr result (self.new ≡ self.old) }
+    {
+        let holders = self.calls.holders(self.alloc)?;
+        let count = holders.len();
+        let letters = count.checked_add(2).ok_or(AllocError)?;
+        turn.reserve(letters, 0, count)?;
+        self.retry_global(turn);
+        self.retry_locks(turn, &holders);
+        Ok(())
+    }
+
+    /// What a cause that isn't refused does. Where memory is refused and the step isn't a rare one, the node is as before, as the
+    /// protocol sees it.
+    fn take(&mut self, turn: &mut Turn, cause: Cause<'_>) -> Result<(), AllocError>
         requires { refusal_of (event_by cause) self.old ≡ None }
         ensures turn { OnOk result (Takes (event_by cause.entry) self.old turn.old self.new turn.new) }
-        ensures memory { IfErr result (λ fault. fault ≡ Memory) }
         ensures kept { Keeps self.old self.new }
+        ensures adds { OnOk result (Adds (most_entries self.old) (most_answers self.old) turn.old turn.new) }
+        ensures unchanged { OnErr result (is_rare (event_by cause.entry) self.old ≡ false → IsAsBefore self.old self.new) }
     {
         match cause {
             Cause::Call(call) => self.call(turn, call)?,
-            Cause::Retry => {
-                self.retry_global(turn)?;
-                self.retry_locks(turn)?;
-            }
+            Cause::Retry => self.retry(turn)?,
             Cause::Exit(process) => self.exit(turn, process)?,
-            Cause::Leave => return Ok(self.leave(turn)?),
-            Cause::FromPeer(from, letter) => return Ok(self.receive(turn, from, letter)?),
+            Cause::Leave => {
+                turn.reserve(8, 1, 0)?;
+                self.leave(turn);
+                return Ok(());
+            }
+            Cause::FromPeer(from, letter) => return self.receive(turn, from, letter),
         }
-        self.start(turn)?;
-        Ok(())
+        self.start(turn)
     }
 
     /// Whether an operation is current.
@@ -203,8 +381,8 @@ impl<N: Names<Memory = Global>> NodeCore<N> {
         self.is_waiting() || self.calls.has_waiting()
     }
 
-    /// Why the step of a cause is refused, if it is.
-    fn refusal(&self, cause: Cause<'_>) -> Option<StepFault>
+    /// Why the step of a cause is refused, if it is. `Memory` is none of it.
+    pub fn refusal(&self, cause: Cause<'_>) -> Option<StepFault>
         ensures { refusal_of (event_by cause.entry) self.now ≡ cause_of result }
     {
         match cause {

@@ -4,7 +4,7 @@ ghost use Rattle.std.specs.Prelude.{◌≡◌, true, IfOk, OnErr};
 use crate::name_list::NameList;
 use exchange::{Admission, Welcome};
 use exit_watch::WatchFault;
-use name_table::{Change, Pair};
+use name_table::{Change, Pair, copied_pairs};
 use std::alloc::{AllocError, Global};
 use term::{LockId, Name, NodeName, Pid};
 use thiserror::Error;
@@ -37,14 +37,6 @@ pub enum Letter {
     Welcome(Box<Welcome>),
     /// The sender has left.
     Down,
-}
-
-/// The same pairs, in memory of their own.
-pub fn copied_pairs(pairs: &Vec<Pair>) -> Result<Vec<Pair>, AllocError>
-    ensures { IfOk result (λ copy. copy.items ≡ pairs.now.items) }
-{
-    let alloc: Global = *pairs.allocator();
-    pairs.iter().map(|pair| pair.copy()).collect(alloc)
 }
 
 impl Letter {
@@ -257,7 +249,7 @@ pub enum StepFault {
     /// The node has given its last number of a call, 4,294,967,295.
     #[error("calls_spent")]
     CallsSpent,
-    /// Memory was refused. What stands then isn't said, and the node isn't to be used any more.
+    /// Memory was refused. The node is as before, as the protocol sees it, and the step may be taken again.
     #[error("memory")]
     Memory,
 }

@@ -5,6 +5,7 @@ mod events;
 mod name_list;
 mod turn;
 
-pub use events::{Answer, Call, Entry, Event, Letter, Look, Reply, StepFault, copied_pairs};
+pub use events::{Answer, Call, Entry, Event, Letter, Look, Reply, StepFault};
 pub use name_list::NameList;
+pub use name_table::copied_pairs;
 pub use turn::Turn;

@@ -1,5 +1,5 @@
 //! What one step has made so far.
-ghost use Rattle.std.specs.Prelude.{◌≡◌, OnOk, OnErr};
+ghost use Rattle.std.specs.Prelude.{◌≡◌, false, OnOk, OnErr};
 
 use crate::events::{Answer, Entry, Letter};
 use std::alloc::{AllocError, Global};
@@ -7,6 +7,7 @@ use std::marker::Model;
 use term::{NodeName, NodeSet};
 
 /// What one step of a node has made so far: the letters that it sends, its entries of the history, and its answers, in order.
+/// Room for them is had before the step changes its node, so that nothing can be refused behind a change.
 #[derive(Drop)]
 pub struct Turn {
     /// The letters, each with its receiver.
@@ -18,18 +19,29 @@ pub struct Turn {
 }
 
 impl Model for Turn {
+    ghost use Rattle.std.specs.Vec.{vec_capacity};
     ghost use Rattle.node_events.specs.Made.{Made};
 
     ghost Value = { Made };
 
-    ghost view = { λ t. record { letters = t.letters.items; entries = t.entries.items; answers = t.answers.items } };
+    ghost view = { λ t. record {
+      letters = t.letters.items;
+      entries = t.entries.items;
+      answers = t.answers.items;
+      room = record {
+        letters = vec_capacity t.letters;
+        entries = vec_capacity t.entries;
+        answers = vec_capacity t.answers;
+      };
+    } };
 }
 
 impl Turn {
     ghost use Rattle.term.specs.NodeSets.{IsNodeSet};
-    ghost use Rattle.node_events.specs.Made.{nothing, sent, SendsAll, SendsSome, entered, answered};
+    ghost use Rattle.node_events.specs.Letters.{has_lists};
+    ghost use Rattle.node_events.specs.Made.{nothing, sent, SendsAll, SendsSome, entered, answered, HasRoom, Spends, IsSameMade, IsRoomier};
 
-    /// Nothing is made yet.
+    /// Nothing is made yet, and there is no room yet.
     pub fn begin(alloc: Global) -> Self
         ensures { result ≡ nothing }
     {
@@ -40,40 +52,78 @@ impl Turn {
         }
     }
 
-    /// A letter to a node.
-    pub fn send(&mut self, to: NodeName, letter: Letter) -> Result<(), AllocError>
-        ensures ok { OnOk result (self.new ≡ sent to letter self.old) }
-        ensures unchanged { OnErr result (self.new ≡ self.old) }
+    /// Makes room for so many letters, entries and answers more. Where memory is refused, what was made stays.
+    pub fn reserve(
+        &mut self,
+        letters: usize,
+        entries: usize,
+        answers: usize,
+    ) -> Result<(), AllocError>
+        ensures room { OnOk result (HasRoom letters entries answers self.new) }
+        ensures made { IsSameMade self.old self.new }
+        ensures roomier { IsRoomier self.old self.new }
     {
-        self.letters.push((to, letter))?;
-        Ok(())
+        self.letters.reserve(letters)?;
+        self.entries.reserve(entries)?;
+        self.answers.reserve(answers)
     }
 
-    /// A letter to each of these nodes, in their order. Where memory is refused the first of them have theirs.
-    pub fn send_all(&mut self, nodes: &NodeSet, letter: &Letter) -> Result<(), AllocError>
-        ensures letters { OnOk result (SendsAll nodes.now letter.now self.old self.new) }
-        ensures some { OnErr result (SendsSome nodes.now letter.now self.old self.new) }
+    /// A letter to a node. It takes no memory, since there is room.
+    pub fn send(&mut self, to: NodeName, letter: Letter)
+        requires { HasRoom 1 0 0 self.old }
+        ensures made { self.new ≡ sent to letter self.old }
+        ensures spends { Spends 1 0 0 self.old self.new }
+    {
+        self.letters.push_reserved((to, letter));
+    }
+
+    /// A letter without lists to each of these nodes, in their order. It takes no memory, since there is room.
+    pub fn send_all(&mut self, nodes: &NodeSet, letter: &Letter)
+        requires room { HasRoom 8 0 0 self.old }
+        requires plain { has_lists letter.now ≡ false }
+        ensures letters { SendsAll nodes.now letter.now self.old self.new }
+        ensures spends { Spends 8 0 0 self.old self.new }
         ensures set { IsNodeSet nodes.now }
     {
         for node in nodes.as_slice() {
-            self.send(node.copy(), letter.copy()?)?;
+            let Ok(copy) = letter.copy() else {
+                return;
+            };
+            self.send(node.copy(), copy);
+        }
+    }
+
+    /// A copy of a letter that may have lists to each of these nodes, in their order. Where memory is refused the first of them
+    /// have theirs.
+    pub fn send_copies(&mut self, nodes: &NodeSet, letter: &Letter) -> Result<(), AllocError>
+        requires { HasRoom 8 0 0 self.old }
+        ensures letters { OnOk result (SendsAll nodes.now letter.now self.old self.new) }
+        ensures some { OnErr result (SendsSome nodes.now letter.now self.old self.new) }
+        ensures spends { Spends 8 0 0 self.old self.new }
+        ensures set { IsNodeSet nodes.now }
+    {
+        for node in nodes.as_slice() {
+            let copy = letter.copy()?;
+            self.send(node.copy(), copy);
         }
         Ok(())
     }
 
-    /// An entry of the history.
-    pub fn enter(&mut self, entry: Entry) -> Result<(), AllocError>
-        ensures { OnOk result (self.new ≡ entered entry self.old) }
+    /// An entry of the history. It takes no memory, since there is room.
+    pub fn enter(&mut self, entry: Entry)
+        requires { HasRoom 0 1 0 self.old }
+        ensures made { self.new ≡ entered entry self.old }
+        ensures spends { Spends 0 1 0 self.old self.new }
     {
-        self.entries.push(entry)?;
-        Ok(())
+        self.entries.push_reserved(entry);
     }
 
-    /// An answer to a call.
-    pub fn answer(&mut self, answer: Answer) -> Result<(), AllocError>
-        ensures { OnOk result (self.new ≡ answered answer self.old) }
+    /// An answer to a call. It takes no memory, since there is room.
+    pub fn answer(&mut self, answer: Answer)
+        requires { HasRoom 0 0 1 self.old }
+        ensures made { self.new ≡ answered answer self.old }
+        ensures spends { Spends 0 0 1 self.old self.new }
     {
-        self.answers.push(answer)?;
-        Ok(())
+        self.answers.push_reserved(answer);
     }
 }

@@ -1,2 +1,3 @@
 pub use Rattle.world_events.proofs.Faults
+pub use Rattle.world_events.proofs.Before
 pub mod Answers

@@ -1,5 +1,5 @@
 -- The steps in a log.
-use Rattle.std.specs.Prelude.{ℕ, ◌<◌, ◌≡◌, Option, None, List, length, slice_index_or}
+use Rattle.std.specs.Prelude.{ℕ, Bool, ◌<◌, ◌≡◌, Option, None, List, length, slice_index_or}
 use Rattle.world_events.specs.declared.Answer.{Answer}
 use Rattle.world_events.specs.declared.events.WorldEvent.{WorldEvent}
 use Rattle.world_events.specs.declared.events.WorldEvent.TheVariants.{Deliver}
@@ -18,6 +18,7 @@ pub record Entry : Type 0 where
 pub record Logged : Type 0 where
   pub node : ℕ
   pub entries : List Entry  -- the oldest first
+  pub has_room : Bool  -- for a step more
 
 -- the seat of an event that is kept
 abbrev pub seat_in : KeptEvent → Option ℕ

@@ -1,5 +1,5 @@
 //! The log of a node.
-ghost use Rattle.std.specs.Prelude.{◌≡◌, ◌==◌, ◌-◌, [], ◌∷◌, ◌++◌, Some, None, length, take, OnOk, OnErr, IfSome, MatchOption};
+ghost use Rattle.std.specs.Prelude.{◌≡◌, ◌==◌, ◌-◌, [], ◌∷◌, ◌++◌, Some, None, true, false, is_some, length, take, OnOk, OnErr, IfSome, MatchOption};
 ghost use Rattle.std.specs.List.{slice_get};
 ghost use Rattle.world_events.specs.declared.events.WorldEvent.TheVariants.{Deliver};
 ghost use Rattle.node_log.specs.Entries.{IsPlaceOf};
@@ -11,22 +11,29 @@ use std::marker::Model;
 use term::{NodeName, NodeSet};
 use world_events::{Answer, WorldEvent};
 
-/// The log of a node: all its steps, the oldest first. Contracts see it as their list.
+/// The log of a node: all its steps, the oldest first. Contracts see them as a list, and whether there is room for one more.
 #[derive(Debug, Drop)]
 pub struct Log {
     node: NodeName,
     /// The nodes whose deliveries are kept by their places.
     nodes: NodeSet,
     entries: Vec<KeptEntry>,
+    /// Memory for the next event that isn't kept by a place.
+    spare: Option<Box<Asked>>,
 }
 
 impl Model for Log {
-    ghost use Rattle.std.specs.Prelude.{map, All};
+    ghost use Rattle.std.specs.Prelude.{◌&&◌, is_some, nat_lt, map, All};
+    ghost use Rattle.std.specs.Vec.{vec_len, vec_capacity};
     ghost use Rattle.node_log.specs.Entries.{Logged, entry_in, IsPlaced};
 
     ghost Value = { Logged };
 
-    ghost view = { λ l. record { node = l.node; entries = map (entry_in l.node l.nodes) l.entries.items } };
+    ghost view = { λ l. record {
+      node = l.node;
+      entries = map (entry_in l.node l.nodes) l.entries.items;
+      has_room = is_some l.spare && nat_lt (vec_len l.entries) (vec_capacity l.entries);
+    } };
 
     ghost invariant = { λ l. All (λ e. IsPlaced l.nodes e.event) l.entries.items };
 }
@@ -42,15 +49,30 @@ fn place_of(nodes: &NodeSet, node: &NodeName) -> Option<u8>
     Some(place)
 }
 
+/// Sees to it that there is memory for an event. Where it is refused there was none, and is none.
+fn provide(spare: &mut Option<Box<Asked>>, alloc: Global, node: &NodeName) -> Result<(), AllocError>
+    ensures ok { OnOk result (is_some spare.new ≡ true) }
+    ensures none { OnErr result (is_some spare.old ≡ false) }
+    ensures still { OnErr result (is_some spare.new ≡ false) }
+{
+    if spare.is_some() {
+        return Ok(());
+    }
+    let event = WorldEvent::Deliver(node.copy(), node.copy());
+    *spare = Some(Box::new(alloc, Asked { seat: None, event })?);
+    Ok(())
+}
+
 impl Log {
-    /// The log of a node of this world, without a step. It takes no memory.
+    /// The log of a node of this world, without a step and without room for one. It takes no memory.
     pub fn new(alloc: Global, node: NodeName, world: &NodeSet) -> Self
-        ensures { result ≡ record { node = node; entries = [] } }
+        ensures { result ≡ record { node = node; entries = []; has_room = false } }
     {
         Log {
             node,
             nodes: world.copy(),
             entries: Vec::new(alloc),
+            spare: None,
         }
     }
 
@@ -95,7 +117,58 @@ impl Log {
         })
     }
 
-    /// Puts a step at the end that has no answers yet: that of an event, and of the seat that it came from, if it did.
+    /// Makes room for a step more. Where memory is refused nothing changes.
+    pub fn reserve(&mut self) -> Result<(), AllocError>
+        ensures node { self.new.node ≡ self.old.node }
+        ensures entries { self.new.entries ≡ self.old.entries }
+        ensures room { OnOk result (self.new.has_room ≡ true) }
+        ensures err { OnErr result (self.new ≡ self.old) }
+    {
+        self.entries.reserve(1)?;
+        let alloc = *self.entries.allocator();
+        provide(&mut self.spare, alloc, &self.node)
+    }
+
+    /// Puts a step at the end that has no answers yet: that of an event, and of the seat that it came from, if it did. It takes
+    /// no memory, since there is room.
+    pub fn put(&mut self, stamp: u64, seat: Option<u32>, event: WorldEvent)
+        requires { self.old.has_room ≡ true }
+        ensures node { self.new.node ≡ self.old.node }
+        ensures entries { self.new.entries ≡ self.old.entries ++ record { stamp = stamp; seat = seat; event = event; answers = [] } ∷ [] }
+    {
+        let Some(mut asked) = self.spare.take() else {
+            return;
+        };
+        *asked = Asked { seat, event };
+        let alloc = *self.entries.allocator();
+        self.entries.push_reserved(KeptEntry {
+            stamp,
+            event: KeptEvent::Other(asked),
+            answers: Vec::new(alloc),
+        });
+    }
+
+    /// Puts a step at the end that has no answers yet: that of the delivery of the oldest letter from a node. It takes no
+    /// memory, since there is room.
+    pub fn put_delivery(&mut self, stamp: u64, sender: &NodeName)
+        requires { self.old.has_room ≡ true }
+        ensures node { self.new.node ≡ self.old.node }
+        ensures entries { self.new.entries ≡ self.old.entries ++ record { stamp = stamp; seat = None; event = Deliver sender.now self.old.node; answers = [] } ∷ [] }
+    {
+        let Some(place) = place_of(&self.nodes, sender) else {
+            let event = WorldEvent::Deliver(sender.copy(), self.node.copy());
+            self.put(stamp, None, event);
+            return;
+        };
+        let alloc = *self.entries.allocator();
+        self.entries.push_reserved(KeptEntry {
+            stamp,
+            event: KeptEvent::Delivery(place),
+            answers: Vec::new(alloc),
+        });
+    }
+
+    /// Does what `put` does, with room that it makes. Where memory is refused nothing changes.
     pub fn begin(
         &mut self,
         stamp: u64,
@@ -106,32 +179,19 @@ impl Log {
         ensures ok { OnOk result (self.new.entries ≡ self.old.entries ++ record { stamp = stamp; seat = seat; event = event; answers = [] } ∷ []) }
         ensures err { OnErr result (self.new ≡ self.old) }
     {
-        let alloc = *self.entries.allocator();
-        let asked = Box::new(alloc, Asked { seat, event })?;
-        self.entries.push(KeptEntry {
-            stamp,
-            event: KeptEvent::Other(asked),
-            answers: Vec::new(alloc),
-        })?;
+        self.reserve()?;
+        self.put(stamp, seat, event);
         Ok(())
     }
 
-    /// Puts a step at the end that has no answers yet: that of the delivery of the oldest letter from a node.
+    /// Does what `put_delivery` does, with room that it makes. Where memory is refused nothing changes.
     pub fn begin_delivery(&mut self, stamp: u64, sender: &NodeName) -> Result<(), AllocError>
         ensures node { self.new.node ≡ self.old.node }
         ensures ok { OnOk result (self.new.entries ≡ self.old.entries ++ record { stamp = stamp; seat = None; event = Deliver sender.now self.old.node; answers = [] } ∷ []) }
         ensures err { OnErr result (self.new ≡ self.old) }
     {
-        let Some(place) = place_of(&self.nodes, sender) else {
-            let event = WorldEvent::Deliver(sender.copy(), self.node.copy());
-            return self.begin(stamp, None, event);
-        };
-        let alloc = *self.entries.allocator();
-        self.entries.push(KeptEntry {
-            stamp,
-            event: KeptEvent::Delivery(place),
-            answers: Vec::new(alloc),
-        })?;
+        self.reserve()?;
+        self.put_delivery(stamp, sender);
         Ok(())
     }
 

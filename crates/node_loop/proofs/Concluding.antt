@@ -5,29 +5,30 @@ use Rattle.node_log.specs.NodeCoreHeld.{Held}
 use Rattle.node_log.specs.NodeCoreMade.{Made as Turn}
 use Rattle.node_log.specs.NodeCoreSteps.{Steps}
 use Rattle.node_log.specs.declared.WorldEvent.{WorldEvent}
-use Rattle.node_log.specs.Entries.{Entry, Logged}
+use Rattle.node_log.specs.Entries.{Entry}
 use Rattle.node_log.specs.Logs.{answered}
 use Rattle.node_loop.specs.declared.item.Ticket.{Ticket}
 use Rattle.node_loop.specs.declared.waiting.Course.{Course}
 use Rattle.node_loop.specs.Desks.{Kept, settled, left_by}
-use Rattle.node_loop.specs.Held.{Looping, with_letters}
+use Rattle.node_loop.specs.Held.{Looping, Written, with_letters}
 use Rattle.node_loop.specs.Steps.{Cause, stamp_of, entry_of, desk_of, Ends, Goes, Concludes}
 use Rattle.node_loop.proofs.Logs.{answered_last}
+use Rattle.node_loop.proofs.Letters.{puts_at}
 use Rattle.node_loop.proofs.Telling.{begins_on, begins_as, left_begins}
 
 -- the entry is last in the log, and has no answers yet
 abbrev pub begun_entry : Cause → Looping → Entry
 begun_entry k a = entry_of k a []
 
-module _ (k : Cause) (a : Looping) (core : Held) (log : Logged) (s : ℕ) (own : Option Ticket) (course : Course) (turn : Turn) (b : Looping) where
-  abbrev logged_by : Logged
+module _ (k : Cause) (a : Looping) (core : Held) (log : Written) (s : ℕ) (own : Option Ticket) (course : Course) (turn : Turn) (b : Looping) where
+  abbrev logged_by : Written
   logged_by = record a.log { entries = a.log.entries ++ entry_of k a turn.answers ∷ [] }
 
   -- the log, when the last step is answered
   log_path : log ≡ record a.log { entries = a.log.entries ++ begun_entry k a ∷ [] }
       → b.log ≡ record log { entries = answered turn.answers log.entries } → b.log ≡ logged_by
   log_path l e =
-      e ∙ ap (λ (x : Logged). record x { entries = answered turn.answers x.entries }) l
+      e ∙ ap (λ (x : Written). record x { entries = answered turn.answers x.entries }) l
       ∙ ap (λ (es : List Entry). record a.log { entries = es }) (answered_last turn.answers a.log.entries (begun_entry k a))
 
   -- the desk, by the names that the step has
@@ -55,20 +56,24 @@ module _ (k : Cause) (a : Looping) (core : Held) (log : Logged) (s : ℕ) (own :
     turn = turn;
     step = subst (λ (h : Held). Steps k.event a.core h turn) (sym c.core) step;
     log = log_path l c.log;
-    replies = begins_as _ _ _ _ refl (ap (λ (d : Kept). d.replies) (desk_path o q c.core)) c.told;
+    tray = puts_at s (stamp_of k a) turn.letters a.tray b.tray e c.told.1;
+    replies = begins_as _ _ _ _ refl (ap (λ (d : Kept). d.replies) (desk_path o q c.core)) c.told.0;
   })
 
 -- the core's step, of what its event is
 pub stepped : (e f : NodeEvent) (old new : Held) (turn : Turn) → e ≡ f → Steps e old new turn → Steps f old new turn
 stepped e f old new turn p h = subst (λ (x : NodeEvent). Steps x old new turn) p h
 
--- the log, where a step was begun in it
-pub begun : (old new : Logged) (s t : ℕ) (seat seat_is : Option ℕ) (w v : WorldEvent) → new.node ≡ old.node
-    → new.entries ≡ old.entries ++ record { stamp = s; seat = seat; event = w; answers = [] } ∷ []
+-- the log, where a step was put at its end, with room that was made
+pub begun : (old mid new : Written) (s t : ℕ) (seat seat_is : Option ℕ) (w v : WorldEvent) → mid ≡ old → new.node ≡ mid.node
+    → new.entries ≡ mid.entries ++ record { stamp = s; seat = seat; event = w; answers = [] } ∷ []
     → s ≡ t → seat ≡ seat_is → w ≡ v
     → new ≡ record old { entries = old.entries ++ record { stamp = t; seat = seat_is; event = v; answers = [] } ∷ [] }
-begun old new s t seat seat_is w v n es p q r =
-    λ j. record { node = n j; entries = (es ∙ (λ i. old.entries ++ record { stamp = p i; seat = q i; event = r i; answers = [] } ∷ [])) j }
+begun old mid new s t seat seat_is w v m n es p q r =
+    λ j. record {
+      node = (n ∙ ap (λ (l : Written). l.node) m) j;
+      entries = (es ∙ (λ i. (m i).entries ++ record { stamp = p i; seat = q i; event = r i; answers = [] } ∷ [])) j;
+    }
 
 -- the thread ends within the step of a leave
 pub ends_leaving : (k : Cause) (a b : Looping) → Ends k (desk_of k a) a b
@@ -78,6 +83,7 @@ ends_leaving k a b (inr h) = inr (record {
   turn = h.turn;
   step = h.step;
   log = h.log;
+  tray = h.tray;
   replies = begins_on _ _ _ h.replies (left_begins (desk_of k a b.core h.turn.answers));
 })
 

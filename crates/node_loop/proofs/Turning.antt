@@ -1,5 +1,5 @@
 -- What is tried where no item is found, and which leave.
-use Rattle.std.proofs.Common.{◌≡◌, ◌==◌, ◌&&◌, ◌-◌, Bool, true, false, Option, Some, None, List, [], ◌∷◌, refl, sym, ap, subst, ◌∙◌}
+use Rattle.std.proofs.Common.{◌≡◌, ◌==◌, ◌&&◌, ◌-◌, Bool, true, false, Option, Some, None, List, [], ◌∷◌, refl, ap, subst, ◌∙◌}
 use Rattle.std.specs.Option.{option_flatten}
 use Rattle.node_log.specs.declared.Event.TheVariants.{Retry}
 use Rattle.node_loop.specs.declared.item.Ticket.{Ticket}

@@ -1,5 +1,5 @@
 -- What a node's loop holds.
-use Rattle.std.specs.Prelude.{ℕ, Bool, ◌==◌, ◌&&◌, ◌||◌, not, is_some, List, [], ◌∷◌}
+use Rattle.std.specs.Prelude.{ℕ, Bool, ◌≡◌, ◌==◌, ◌&&◌, ◌||◌, not, is_some, List, [], ◌∷◌, ◌++◌}
 use Rattle.std.specs.List.{list_all}
 use Rattle.protocol_model.specs.Links.{is_nil}
 use Rattle.protocol_model.specs.Node.{holds_global}
@@ -8,15 +8,23 @@ use Rattle.node_log.specs.declared.Letter.{Letter}
 use Rattle.node_log.specs.NodeCoreHeld.{Held}
 use Rattle.node_log.specs.NodeCoreSeen.{node_of}
 use Rattle.tray.specs.Held.{Waiting, with_letter}
-use Rattle.node_log.specs.Entries.{Logged}
+use Rattle.node_log.specs.Entries.{Entry, Logged}
 use Rattle.node_loop.specs.declared.item.Item.{Item}
 use Rattle.node_loop.specs.declared.item.Item.TheVariants.{Letter as LetterItem}
 use Rattle.node_loop.specs.Desks.{Kept, first_leave}
 
+-- what the log of a node says, whatever room it has
+pub record Written : Type 0 where
+  pub node : ℕ
+  pub entries : List Entry  -- the oldest first
+
+abbrev pub written : Logged → Written
+written l = record { node = l.node; entries = l.entries }
+
 pub record Looping : Type 0 where
   pub core : Held
   pub world : List ℕ  -- all nodes, rising
-  pub log : Logged
+  pub log : Written
   pub tray : List (Waiting Item)
   pub desk : Kept
   pub wait : ℕ  -- for how many empty turns a refused round gives way to rivals
@@ -57,3 +65,10 @@ abbrev pub with_letters : ℕ → List (ℕ × Letter) → List (Waiting Item) �
 with_letters stamp [] tray = tray
 with_letters stamp (s ∷ ss) tray =
     with_letters stamp ss (with_letter s.0 (LetterItem (record { stamp = stamp; letter = s.1 })) tray)
+
+-- the first of the letters of a step with this stamp are put there so, if not all
+pub record PutsSome (stamp : ℕ) (letters : List (ℕ × Letter)) (old new : List (Waiting Item)) : Type 0 where
+  pub put : List (ℕ × Letter)
+  pub rest : List (ℕ × Letter)
+  pub split : letters ≡ put ++ rest
+  pub tray : new ≡ with_letters stamp put old

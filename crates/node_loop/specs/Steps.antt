@@ -7,7 +7,7 @@ use Rattle.node_log.specs.declared.CoreEvent.TheVariants.{FromPeer}
 use Rattle.node_log.specs.NodeEventsSeen.{fault_of, is_memory}
 use Rattle.node_log.specs.NodeCoreHeld.{Held}
 use Rattle.node_log.specs.NodeCoreMade.{Made as Turn}
-use Rattle.node_log.specs.NodeCoreSteps.{Steps, refusal_of}
+use Rattle.node_log.specs.NodeCoreSteps.{Steps, IsAsBefore, refusal_of}
 use Rattle.node_log.specs.declared.Event.{Event}
 use Rattle.node_log.specs.declared.WorldEvent.{WorldEvent}
 use Rattle.node_log.specs.declared.WorldEvent.TheVariants.{At, Deliver}
@@ -22,7 +22,7 @@ use Rattle.node_loop.specs.declared.waiting.Course.{Course}
 use Rattle.node_loop.specs.declared.waiting.Course.TheVariants.{AtOnce}
 use Rattle.node_loop.specs.Waiting.{course_of}
 use Rattle.node_loop.specs.Desks.{Kept, Begins, settled}
-use Rattle.node_loop.specs.Held.{Looping, with_letters}
+use Rattle.node_loop.specs.Held.{Looping, with_letters, PutsSome}
 
 -- What a step is made for: the event, as the core and the log have it, whose it is, how it is answered, and the stamp of
 -- the letter that is read, or 0
@@ -82,17 +82,18 @@ pub record Makes (k : Cause) (a b : Looping) : Type 0 where
   pub left : b.left ≡ a.left
   pub worked : b.worked ≡ a.worked
 
--- the thread ends before the step stands in the log: nobody is told anything
+-- the thread ends and the step isn't made: nothing changed, as the protocol sees it
 pub record Rests (a b : Looping) : Type 0 where
-  pub name : b.core.name ≡ a.core.name
-  pub log : b.log ≡ a.log
-  pub replies : b.desk.replies ≡ a.desk.replies
+  pub core : IsAsBefore a.core b.core
+  pub others : b ≡ record a { core = b.core }
 
--- The thread ends when the core's step is made and stands in the log. The first of those are told who are to be
+-- The thread ends when the core's step is made and stands in the log. The first of its letters, if not all, are last in
+-- the tray, and the first of those are told who are to be
 pub record Begun (k : Cause) (due : Held → List Answer → Kept) (a b : Looping) : Type 0 where
   pub turn : Turn
   pub step : Steps k.event a.core b.core turn
   pub log : b.log ≡ record a.log { entries = a.log.entries ++ entry_of k a turn.answers ∷ [] }
+  pub tray : PutsSome (stamp_of k a) turn.letters a.tray b.tray
   pub replies : Begins b.desk.replies (due b.core turn.answers).replies
 
 -- the thread ends within a step
@@ -121,4 +122,5 @@ pub record Concludes (given : ℕ) (own : Option Ticket) (course : Course) (turn
   pub worked : b.worked ≡ a.worked
   pub told : MatchBool going
       ((b.desk ≡ settled course own a.core turn.answers a.desk) × (b.tray ≡ with_letters given turn.letters a.tray))
-      (Begins b.desk.replies (settled course own a.core turn.answers a.desk).replies)
+      (Begins b.desk.replies (settled course own a.core turn.answers a.desk).replies
+      × PutsSome given turn.letters a.tray b.tray)

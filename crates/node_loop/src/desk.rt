@@ -1,14 +1,15 @@
 //! Who waits at a node, and the replies.
 ghost use Rattle.std.specs.Prelude.{◌≡◌, [], ◌∷◌, ◌++◌, Ok, Err, map, flat_map, OnOk, OnErr, IfOk, MatchOption};
-ghost use Rattle.node_log.specs.NodeEventsSeen.{answer_of};
+ghost use Rattle.node_log.specs.NodeEventsSeen.{answer_of, reply_of};
 ghost use Rattle.node_loop.specs.Told.{tell, told_by};
 ghost use Rattle.node_loop.specs.Desks.{empty_desk, Begins, answered, all_answered, awaiting, drop_told, swept, settled, leave_refused, call_refused, leaves_told, left_by, first_leave};
 
 use crate::item::Ticket;
 use crate::replies::{Replies, TaskFault, TaskReply};
+use crate::tries::{TRIES, room_in_list};
 use crate::waiting::{Caller, Course, forget, forget_dropped, is_dropped, ticket_under, wait_for};
 use name_table::Names;
-use node_log::{Answer, NodeCore, StepFault};
+use node_log::{Answer, NodeCore, Reply, StepFault};
 use std::alloc::{AllocError, Global};
 use std::marker::Model;
 
@@ -28,11 +29,23 @@ impl Model for Desk {
     ghost view = { λ d. record { calls = d.calls.items; leaves = d.leaves.items; replies = d.replies } };
 }
 
+/// The same reply, if there is memory, which only a list of names takes.
+fn copied_reply(reply: &Reply) -> Result<Reply, AllocError>
+    ensures { IfOk result (λ copy. reply_of copy ≡ reply_of reply.now) }
+{
+    for _ in 0..TRIES {
+        if let Ok(copy) = reply.copy() {
+            return Ok(copy);
+        }
+    }
+    Err(AllocError)
+}
+
 /// The same answer. Only a list of names takes memory.
 fn copied(answer: &Answer) -> Result<Answer, AllocError>
     ensures { IfOk result (λ copy. answer_of copy ≡ answer_of answer.now) }
 {
-    let reply = answer.reply.copy()?;
+    let reply = copied_reply(&answer.reply)?;
     Ok(Answer {
         node: answer.node.copy(),
         call: answer.call,
@@ -131,7 +144,8 @@ impl Desk {
         ensures ok { OnOk result (self.new ≡ record self.old { leaves = self.old.leaves ++ ticket ∷ [] }) }
         ensures unchanged { OnErr result (self.new ≡ self.old) }
     {
-        self.leaves.push(ticket)?;
+        room_in_list(&mut self.leaves)?;
+        self.leaves.push_reserved(ticket);
         Ok(())
     }
 

@@ -11,6 +11,7 @@ mod outgoing;
 mod replies;
 mod ring;
 mod stepping;
+mod tries;
 mod waiting;
 
 pub use gate::{Gate, OpenGate};

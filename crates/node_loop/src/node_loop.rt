@@ -3,7 +3,7 @@ ghost use Rattle.std.specs.Prelude.{◌≡◌, ◌∷◌, [], false, map, IfOk, 
 ghost use Rattle.tray.specs.Held.{none_for};
 ghost use Rattle.node_loop.specs.Told.{told_by};
 ghost use Rattle.node_loop.specs.Desks.{empty_desk};
-ghost use Rattle.node_loop.specs.Held.{owes};
+ghost use Rattle.node_loop.specs.Held.{owes, written};
 ghost use Rattle.node_loop.specs.Turned.{Turned};
 
 use crate::courtesy::Courtesy;
@@ -37,14 +37,14 @@ pub struct NodeLoop<N: Names> {
 }
 
 impl<N: Names> Model for NodeLoop<N> {
-    ghost use Rattle.node_loop.specs.Held.{Looping};
+    ghost use Rattle.node_loop.specs.Held.{Looping, written};
 
     ghost Value = { Looping };
 
     ghost view = { λ l. record {
       core = l.core;
       world = l.world;
-      log = l.log;
+      log = written l.log;
       tray = l.tray;
       desk = l.desk;
       wait = l.courtesy;
@@ -89,9 +89,10 @@ impl<N: Names<Memory = Global>> NodeLoop<N> {
 
     /// One turn: it asks the gate, sends what waits, takes one item from the inbox, and makes its step; where it finds none,
     /// the node tries its refused rounds again, unless it gives way to rivals still. A leave that waits is tried behind that.
-    /// It answers whether the thread goes on: it ends where no stamp is left, or where memory was refused. What a turn that
-    /// ends the thread leaves half done isn't to be used any more, but for its log, which has no step that wasn't made, and
-    /// the replies, each of which is as it is to be.
+    /// It answers whether the thread goes on: it ends where no stamp is left, or where memory was refused as often as it is asked
+    /// for. Then the log still has the steps that were made, and no other, and each reply is as it is to be. A step that isn't made
+    /// leaves the node as it was. Of one that is made the last letters and replies may be missing then: so the loop isn't to be used
+    /// any more, but for its replies and its end.
     pub fn turn<E: Post<Item> + Inbox<Item>, G: Gate>(&mut self, end: &mut E, gate: &G) -> bool
         ensures { Turned E.posts E.refuses E.takes E.misses (G.held gate.now) self.old (E.state end.old) result self.new (E.state end.new) }
     {
@@ -137,7 +138,7 @@ impl<N: Names<Memory = Global>> NodeLoop<N> {
 
     /// What the node's thread gives back, and whether it ended without a leave and without being asked to.
     pub fn into_end(self, ended_alone: bool) -> NodeEnd<N>
-        ensures log { result.log ≡ self.log }
+        ensures log { written result.log ≡ self.log }
         ensures table { N.contents result.table ≡ self.core.table }
         ensures ended_alone { result.ended_alone ≡ ended_alone }
     {

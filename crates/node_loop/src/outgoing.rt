@@ -1,8 +1,9 @@
 //! Stamps, and the letters of a step.
-ghost use Rattle.std.specs.Prelude.{◌≡◌, ◌+◌, ◌^◌, ◌-◌, [], ◌∷◌, max, OnOk, MatchOption};
-ghost use Rattle.node_loop.specs.Held.{with_letters};
+ghost use Rattle.std.specs.Prelude.{◌≡◌, ◌+◌, ◌^◌, ◌-◌, [], ◌∷◌, max, OnOk, OnErr, MatchOption};
+ghost use Rattle.node_loop.specs.Held.{with_letters, PutsSome};
 
 use crate::item::{Item, Stamped};
+use crate::tries::TRIES;
 use link::LinkFault;
 use node_log::Letter;
 use std::alloc::AllocError;
@@ -23,24 +24,31 @@ fn put_one(
     to: &NodeName,
     letter: Letter,
 ) -> Result<(), AllocError>
-    ensures { OnOk result (tray.new ≡ with_letters stamp ((to.now, letter) ∷ []) tray.old) }
+    ensures ok { OnOk result (tray.new ≡ with_letters stamp ((to.now, letter) ∷ []) tray.old) }
+    ensures unchanged { OnErr result (tray.new ≡ tray.old) }
 {
-    match tray.put(to, Item::Letter(Stamped { stamp, letter })) {
-        Ok(()) => Ok(()),
-        Err(unsent) => match unsent.fault {
-            LinkFault::NoSuchNode => Ok(()),
-            _ => Err(AllocError),
-        },
+    let mut item = Item::Letter(Stamped { stamp, letter });
+    for _ in 0..TRIES {
+        match tray.put(to, item) {
+            Ok(()) => return Ok(()),
+            Err(unsent) => match unsent.fault {
+                LinkFault::NoSuchNode => return Ok(()),
+                _ => item = unsent.letter,
+            },
+        }
     }
+    Err(AllocError)
 }
 
-/// Puts the letters of a step into the tray, each behind those that wait for its receiver.
+/// Puts the letters of a step into the tray, each behind those that wait for its receiver. Where memory is refused the first of
+/// them are there.
 pub(crate) fn put_all(
     tray: &mut Tray<Item>,
     stamp: u64,
     letters: Vec<(NodeName, Letter)>,
 ) -> Result<(), AllocError>
-    ensures { OnOk result (tray.new ≡ with_letters stamp letters.items tray.old) }
+    ensures ok { OnOk result (tray.new ≡ with_letters stamp letters.items tray.old) }
+    ensures some { OnErr result (PutsSome stamp letters.items tray.old tray.new) }
 {
     for (to, letter) in letters {
         put_one(tray, stamp, &to, letter)?;

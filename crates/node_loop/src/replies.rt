@@ -3,6 +3,7 @@ ghost use Rattle.std.specs.Prelude.{◌≡◌, [], ◌∷◌, ◌++◌, OnOk, On
 ghost use Rattle.node_loop.specs.Told.{tell, outcome_of, told_by};
 
 use crate::item::Ticket;
+use crate::tries::room_in_queue;
 use node_log::{Answer, StepFault};
 use std::alloc::{AllocError, Global};
 use std::collections::VecDeque;
@@ -69,7 +70,8 @@ impl Replies {
         let Some(ticket) = ticket else {
             return Ok(());
         };
-        self.list.push_back(TaskReply { ticket, outcome })?;
+        room_in_queue(&mut self.list)?;
+        self.list.push_back_reserved(TaskReply { ticket, outcome });
         Ok(())
     }
 

@@ -1,7 +1,9 @@
 //! The steps of a node's loop.
-ghost use Rattle.std.specs.Prelude.{◌≡◌, ◌-◌};
+ghost use Rattle.std.specs.Prelude.{◌≡◌, ◌-◌, true, None, OnOk, OnErr, IfOk};
 ghost use Rattle.std.specs.Option.{option_map};
-ghost use Rattle.node_loop.specs.Held.{can_step, has_retry, is_due, has_leave, is_free_to_leave};
+ghost use Rattle.node_log.specs.NodeCoreCauses.{event_by};
+ghost use Rattle.node_log.specs.NodeCoreSteps.{Steps, IsAsBefore, refusal_of};
+ghost use Rattle.node_loop.specs.Held.{written, can_step, has_retry, is_due, has_leave, is_free_to_leave};
 ghost use Rattle.node_loop.specs.Steps.{Concludes, Tries};
 ghost use Rattle.node_loop.specs.Items.{Refuses, Reads, Accepts, Handles, Hears, Idles, Works};
 
@@ -9,10 +11,11 @@ use crate::item::{Item, Stamped, Task, Ticket};
 use crate::node_loop::NodeLoop;
 use crate::outgoing::{next_stamp, put_all};
 use crate::replies::TaskFault;
+use crate::tries::TRIES;
 use crate::waiting::Course;
 use name_table::Names;
-use node_log::{Cause, Event, StepFault, Turn, WorldEvent};
-use std::alloc::Global;
+use node_log::{Cause, Event, Log, NodeCore, StepFault, Turn, WorldEvent};
+use std::alloc::{AllocError, Global};
 use term::NodeName;
 
 /// What came of trying a step.
@@ -34,6 +37,43 @@ fn seat_of(own: Option<Ticket>) -> Option<u32>
         Some(ticket) => Some(ticket.seat),
         None => None,
     }
+}
+
+/// Tries a step that the core doesn't refuse. There is room for it in the log before it is made, so that it can be logged. Where
+/// memory is refused the core is as before, as the protocol sees it.
+fn try_step<N: Names<Memory = Global>>(
+    core: &mut NodeCore<N>,
+    log: &mut Log,
+    cause: Cause<'_>,
+) -> Result<Turn, AllocError>
+    requires { refusal_of (event_by cause) core.old ≡ None }
+    ensures made { IfOk result (λ turn. Steps (event_by cause.entry) core.old core.new turn) }
+    ensures as_before { OnErr result (IsAsBefore core.old core.new) }
+    ensures log { written log.new ≡ written log.old }
+    ensures room { OnOk result (log.new.has_room ≡ true) }
+{
+    log.reserve()?;
+    core.accept(cause)
+}
+
+/// The same, as often as a step is tried.
+fn step<N: Names<Memory = Global>>(
+    core: &mut NodeCore<N>,
+    log: &mut Log,
+    cause: Cause<'_>,
+) -> Result<Turn, AllocError>
+    requires { refusal_of (event_by cause) core.old ≡ None }
+    ensures made { IfOk result (λ turn. Steps (event_by cause.entry) core.old core.new turn) }
+    ensures as_before { OnErr result (IsAsBefore core.old core.new) }
+    ensures log { written log.new ≡ written log.old }
+    ensures room { OnOk result (log.new.has_room ≡ true) }
+{
+    for _ in 0..TRIES {
+        if let Ok(turn) = try_step(core, log, cause) {
+            return Ok(turn);
+        }
+    }
+    Err(AllocError)
 }
 
 impl<N: Names<Memory = Global>> NodeLoop<N> {
@@ -93,15 +133,18 @@ impl<N: Names<Memory = Global>> NodeLoop<N> {
             return Tried::Ended;
         };
         let course = Course::of(&event);
-        let turn = match self.core.turn(event.cause()) {
-            Ok(turn) => turn,
-            Err(StepFault::Memory) => return Tried::Ended,
-            Err(fault) => return Tried::Refused(fault),
-        };
-        let event = WorldEvent::At(self.core.name().copy(), event);
-        let Ok(()) = self.log.begin(stamp, seat_of(own), event) else {
+        let cause = event.cause();
+        // Want of memory is never told here, but no clause says so.
+        match self.core.refusal(cause) {
+            None => {}
+            Some(StepFault::Memory) => return Tried::Ended,
+            Some(fault) => return Tried::Refused(fault),
+        }
+        let Ok(turn) = step(&mut self.core, &mut self.log, cause) else {
             return Tried::Ended;
         };
+        let event = WorldEvent::At(self.core.name().copy(), event);
+        self.log.put(stamp, seat_of(own), event);
         if self.conclude(stamp, own, course, turn) {
             Tried::Made
         } else {
@@ -123,12 +166,11 @@ impl<N: Names<Memory = Global>> NodeLoop<N> {
         let Some(stamp) = next_stamp(self.stamp, sent) else {
             return false;
         };
-        let Ok(turn) = self.core.turn(Cause::FromPeer(&from, &letter)) else {
+        let cause = Cause::FromPeer(&from, &letter);
+        let Ok(turn) = step(&mut self.core, &mut self.log, cause) else {
             return false;
         };
-        let Ok(()) = self.log.begin_delivery(stamp, &from) else {
-            return false;
-        };
+        self.log.put_delivery(stamp, &from);
         self.conclude(stamp, None, Course::AtOnce, turn)
     }
 

@@ -3,6 +3,7 @@ ghost use Rattle.std.specs.Prelude.{◌≡◌, ◌++◌, not, filter, OnOk, OnEr
 ghost use Rattle.node_loop.specs.Waiting.{course_of, callers_of, ticket_under, is_dropped, without};
 
 use crate::item::Ticket;
+use crate::tries::room_in_list;
 use name_table::Names;
 use node_log::{Call, Event, NodeCore};
 use std::alloc::{AllocError, Global};
@@ -72,11 +73,12 @@ pub(crate) fn wait_for(
         Course::Numbered => None,
         Course::OfHolder(holder) => Some(holder),
     };
-    calls.push(Caller {
+    room_in_list(calls)?;
+    calls.push_reserved(Caller {
         number,
         holder,
         ticket,
-    })?;
+    });
     Ok(())
 }
 

@@ -1,5 +1,6 @@
 //! What a node's thread has of the node's seats.
 ghost use Rattle.std.specs.Prelude.{◌≡◌, [], true, false};
+ghost use Rattle.node_loop.specs.Held.{written};
 
 use crate::bell::Rest;
 use crate::hub::Hub;
@@ -75,7 +76,7 @@ impl Host {
     /// alone where the node hasn't left and the thread wasn't asked to end. Then the cluster is over, and all threads are asked to
     /// end: what other nodes ask of this one is never answered.
     pub fn end<N: Names<Memory = Global>>(self, node: NodeLoop<N>) -> NodeEnd<N>
-        ensures log { result.log ≡ node.log }
+        ensures log { written result.log ≡ node.log }
         ensures table { N.contents result.table ≡ node.core.table }
         ensures ended_alone { node.left ≡ true → result.ended_alone ≡ false }
     {

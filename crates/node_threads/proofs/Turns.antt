@@ -29,7 +29,7 @@ module _ (a b : Looping) where
   makes k m = ap (λ l. l.node) m.log
 
   ends : (k : Cause) (due : Held → List Answer → Kept) → Ends k due a b → Same a b
-  ends k due (inl rests) = ap (λ l. l.node) rests.log
+  ends k due (inl rests) = ap (λ l. l.log.node) rests.others
   ends k due (inr begun) = ap (λ l. l.node) begun.log
 
   goes : (k : Cause) (going : Bool) → Goes k a going b → Same a b

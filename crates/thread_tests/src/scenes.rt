@@ -3,12 +3,13 @@
 use leaves::Ending;
 use meeting::{Flags, Meeting};
 use name_table::ListTable;
-use node_threads::{Call, Cluster, Reply, Seat, SeatFault, Transcript};
+use node_threads::{Call, CloseFault, Cluster, Reply, Seat, SeatFault, Transcript};
 use std::alloc::Global;
 use std::sync::{Arc, Wait};
 use std::test::Fail;
 use std::thread::Threads;
 use std::time::Clock;
+use stubborn::Stubborn;
 use term::{NodeSet, parse_node, parse_nodes};
 
 mod crowds;
@@ -16,7 +17,9 @@ mod holders;
 mod leaves;
 mod meeting;
 mod names;
+mod refusals;
 mod rings;
+mod stubborn;
 
 /// A cluster whose tables are lists.
 type Small = Cluster<Meeting, ListTable<Global>>;
@@ -258,4 +261,19 @@ where
 #[test]
 fn seats_are_spent(rt: HostRuntime) {
     assert!(rt; spends(&rt, rt.alloc()));
+}
+
+/// The replay's own table refuses the name, too, and it is played but once.
+#[test]
+fn a_step_that_is_refused_is_tried_again(rt: HostRuntime) {
+    assert!(rt;
+        refusals::ends::<Stubborn<2>, _>(&rt, rt.alloc(), Ok(Reply::Yes), &CloseFault::Memory)
+    );
+}
+
+#[test]
+fn a_node_that_is_refused_three_times_ends_alone(rt: HostRuntime) -> Result<(), Fail> {
+    let fault = CloseFault::LeftInHold(parse_node("a")?);
+    assert!(rt; refusals::ends::<Stubborn<3>, _>(&rt, rt.alloc(), Err(SeatFault::Closed), &fault));
+    Ok(())
 }

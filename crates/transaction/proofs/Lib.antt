@@ -1,2 +1,3 @@
 mod Awaited
+mod Copied
 mod Counted

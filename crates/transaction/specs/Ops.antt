@@ -1,4 +1,5 @@
 -- Operations, as the protocol has them.
+use Rattle.std.specs.Prelude.{Bool, true, false}
 use Rattle.registry_model.specs.Call.{NameCall as AnyNameCall}
 use Rattle.protocol_model.specs.Node.{Op as AnyOp}
 use Rattle.transaction.specs.declared.op.NameCall.{NameCall}
@@ -16,3 +17,8 @@ op_of (Name k c) = AnyOp.Name k (name_call_of c)
 op_of (Strike p) = AnyOp.Strike p
 op_of (Join k m) = AnyOp.Join k m
 op_of (Admission j pairs) = AnyOp.Admission j pairs.items
+
+-- it carries a list of names, so a copy takes memory
+abbrev pub is_admission : Op → Bool
+is_admission (Admission j pairs) = true
+is_admission _ = false

@@ -1,6 +1,9 @@
 -- The work of a registrar.
-use Rattle.std.specs.Prelude.{ℕ, Bool, true, false, Option, Some, None, is_some, List, [], ◌∷◌, ◌++◌}
+use Rattle.std.specs.Prelude.{ℕ, Bool, true, false, ◌≡◌, Option, Some, None, is_some, List, [], ◌∷◌, ◌++◌, map}
+use Rattle.std.specs.Option.{option_map}
 use Rattle.registry_model.specs.Process.{Process}
+use Rattle.protocol_model.specs.Event.{is_join}
+use Rattle.transaction.specs.Ops.{op_of}
 use Rattle.transaction.specs.declared.op.Op.{Op}
 use Rattle.transaction.specs.declared.op.Op.TheVariants.{Strike}
 
@@ -50,3 +53,14 @@ starts owed w = starts_from owed w.current w
 abbrev pub is_nobody : List ℕ → Bool
 is_nobody [] = true
 is_nobody (c ∷ cs) = false
+
+-- the operation at the front is a join
+abbrev pub begins_with_join : List Op → Bool
+begins_with_join [] = false
+begins_with_join (op ∷ ops) = is_join (op_of op)
+
+-- v is the same work as w: the same operations, as the protocol has them, and the same nodes that are awaited
+pub record IsCopyOf (w v : Work) : Type 0 where
+  pub queue : map op_of v.queue ≡ map op_of w.queue
+  pub current : option_map op_of v.current ≡ option_map op_of w.current
+  pub awaited : v.awaited ≡ w.awaited

@@ -1,10 +1,11 @@
 //! What a registrar carries out.
-ghost use Rattle.std.specs.Prelude.{◌≡◌};
+ghost use Rattle.std.specs.Prelude.{◌≡◌, true, IfOk, OnErr};
 ghost use Rattle.registry_model.specs.Call.{change_of as change_of_call};
 ghost use Rattle.name_table.specs.Changes.{change_of};
-ghost use Rattle.transaction.specs.Ops.{name_call_of};
+ghost use Rattle.transaction.specs.Ops.{name_call_of, op_of, is_admission};
 
-use name_table::{Change, Pair};
+use name_table::{Change, Pair, copied_pairs};
+use std::alloc::AllocError;
 use term::{Name, NodeName, Pid};
 
 /// A call that goes through the registry.
@@ -54,4 +55,27 @@ pub enum Op {
     Join(u32, NodeName),
     /// A lone node is let in, with the names that it has, rising.
     Admission(NodeName, Vec<Pair>),
+}
+
+impl Op {
+    /// The same operation. Only an admission takes memory.
+    pub fn copy(&self) -> Result<Self, AllocError>
+        ensures copy { IfOk result (λ copy. op_of copy ≡ op_of self.now) }
+        ensures admission { OnErr result (is_admission self.now ≡ true) }
+    {
+        Ok(match self {
+            Op::Name(number, call) => Op::Name(*number, call.copy()),
+            Op::Strike(process) => Op::Strike(process.copy()),
+            Op::Join(number, contact) => Op::Join(*number, contact.copy()),
+            Op::Admission(joiner, pairs) => Op::Admission(joiner.copy(), copied_pairs(pairs)?),
+        })
+    }
+}
+
+impl Clone for Op {
+    ghost is_clone = { λ o p. op_of p ≡ op_of o };
+
+    fn clone(&self) -> Result<Self, AllocError> {
+        self.copy()
+    }
 }

@@ -1,9 +1,9 @@
 //! The operations that wait.
-ghost use Rattle.std.specs.Prelude.{◌≡◌, ◌++◌, ◌∷◌, [], OnOk, OnErr};
+ghost use Rattle.std.specs.Prelude.{◌≡◌, ◌++◌, ◌∷◌, [], length, map, IfOk, OnOk, OnErr};
 ghost use Rattle.std.specs.List.{list_any};
 ghost use Rattle.protocol_model.specs.Event.{is_join};
 ghost use Rattle.transaction.specs.Ops.{op_of};
-ghost use Rattle.transaction.specs.Work.{next_op, left_of};
+ghost use Rattle.transaction.specs.Work.{next_op, left_of, begins_with_join};
 
 use crate::op::Op;
 use std::alloc::{AllocError, Global};
@@ -80,6 +80,33 @@ impl Queue {
             self.has_join = any_join(&self.ops);
         }
         Some(op)
+    }
+
+    /// The same operations, in memory of their own.
+    pub(crate) fn copy(&self) -> Result<Self, AllocError>
+        ensures { IfOk result (λ copy. map op_of copy ≡ map op_of self.now) }
+    {
+        Ok(Queue {
+            ops: self.ops.clone()?,
+            has_join: self.has_join,
+        })
+    }
+
+    /// How many operations wait.
+    pub(crate) fn len(&self) -> usize
+        ensures { result ≡ length self.now }
+    {
+        self.ops.len()
+    }
+
+    /// Whether the operation at the front is a join.
+    pub(crate) fn begins_with_join(&self) -> bool
+        ensures { result ≡ begins_with_join self.now }
+    {
+        match self.ops.front() {
+            Some(op) => is_join(op),
+            None => false,
+        }
     }
 
     /// Whether a join waits.

@@ -1,5 +1,7 @@
 //! The registrar's queue and its current operation.
-ghost use Rattle.std.specs.Prelude.{◌≡◌};
+ghost use Rattle.std.specs.Prelude.{◌≡◌, IfOk};
+ghost use Rattle.std.specs.Option.{option_map};
+ghost use Rattle.transaction.specs.Ops.{op_of};
 
 use crate::op::Op;
 use crate::queue::Queue;
@@ -24,14 +26,23 @@ impl Model for Registrar {
     ghost view = { λ r. record { queue = r.queue; current = r.current; awaited = r.awaited } };
 }
 
+/// The same operation, where there is one.
+fn copied(op: &Option<Op>) -> Result<Option<Op>, AllocError>
+    ensures { IfOk result (λ copy. option_map op_of copy ≡ option_map op_of op.now) }
+{
+    Ok(match op {
+        Some(op) => Some(op.copy()?),
+        None => None,
+    })
+}
+
 impl Registrar {
-    ghost use Rattle.std.specs.Prelude.{false, is_some, None, IsTrue, [], OnOk, OnErr};
+    ghost use Rattle.std.specs.Prelude.{false, is_some, length, None, IsTrue, [], OnOk, OnErr};
     ghost use Rattle.std.specs.List.{list_any};
     ghost use Rattle.std.specs.Option.{option_copied};
     ghost use Rattle.protocol_model.specs.Event.{is_join};
     ghost use Rattle.term.specs.NodeSets.{set_of, without_node};
-    ghost use Rattle.transaction.specs.Ops.{op_of};
-    ghost use Rattle.transaction.specs.Work.{idle, enqueued, started, starts, is_nobody};
+    ghost use Rattle.transaction.specs.Work.{idle, enqueued, started, starts, is_nobody, begins_with_join, IsCopyOf};
 
     /// A registrar without operations. It takes no memory.
     pub fn new(alloc: Global) -> Self
@@ -42,6 +53,17 @@ impl Registrar {
             current: None,
             awaited: NodeSet::empty(),
         }
+    }
+
+    /// The same work, in memory of its own.
+    pub fn copy(&self) -> Result<Self, AllocError>
+        ensures { IfOk result (IsCopyOf self.now) }
+    {
+        Ok(Registrar {
+            queue: self.queue.copy()?,
+            current: copied(&self.current)?,
+            awaited: self.awaited.copy(),
+        })
     }
 
     /// Puts an operation at the back of the queue. Where memory is refused the registrar stays as it was.
@@ -57,6 +79,20 @@ impl Registrar {
         ensures { option_copied result ≡ self.now.current }
     {
         self.current.as_ref()
+    }
+
+    /// How many operations wait.
+    pub fn waiting(&self) -> usize
+        ensures { result ≡ length self.now.queue }
+    {
+        self.queue.len()
+    }
+
+    /// Whether the operation at the front of the queue is a join.
+    pub fn next_is_join(&self) -> bool
+        ensures { result ≡ begins_with_join self.now.queue }
+    {
+        self.queue.begins_with_join()
     }
 
     /// Whether a join waits.

@@ -20,8 +20,8 @@ pub enum Refusal {
     /// Nothing is on the link.
     #[error("empty_link")]
     EmptyLink,
-    /// The node doesn't take the step; or memory was refused, there or on the links. In that case the world has its nodes still;
-    /// nothing else is said of it, and it isn't to be used any more.
+    /// The node doesn't take the step; or memory was refused, there, on the links or for the history. Either way nothing has happened, and
+    /// where memory was refused the event may be played again later.
     #[error("{0}")]
     Step(StepFault),
 }

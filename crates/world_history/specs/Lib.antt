@@ -1,3 +1,4 @@
 pub mod KeptTexts
 pub mod Kept
 pub mod Histories
+pub mod Held

@@ -4,6 +4,7 @@ ghost use Rattle.node_events.specs.Seen.{reply_of, is_list};
 ghost use Rattle.world_history.specs.Histories.{entry_of, has_list};
 ghost use Rattle.world_history.specs.Kept.{reply_in, call_in, entry_in};
 
+use crate::entered::Entered;
 use crate::entry::HistoryEntry;
 use crate::kept_name::KeptName;
 use crate::kept_names::KeptNames;
@@ -113,7 +114,8 @@ pub(crate) struct Decision {
 }
 
 /// What is kept of an entry. Each of its kinds is that of a `HistoryEntry`, but a look-up for one name and one for all are two.
-/// A decided name call lies in memory of its own, since it is larger than the others.
+/// A decided name call lies in memory of its own, since it is larger than the others, and so does an entry that is kept whole,
+/// since there was no memory to make it small.
 #[derive(Drop)]
 pub(crate) enum Kept {
     Name(Box<Decision>),
@@ -125,10 +127,12 @@ pub(crate) enum Kept {
     Told(Rc<NodeName>, Rc<NodeName>),
     Whereis(Rc<NodeName>, KeptName, KeptReply),
     RegisteredNames(Rc<NodeName>, KeptReply),
+    Whole(Box<Entered>),
 }
 
 /// An entry as a world keeps it: 72 bytes, and memory of its own for a decided name call, a list of names, a name of more than
-/// 16 bytes and the name of a node outside the world. Contracts see the entry that is kept.
+/// 16 bytes and the name of a node outside the world. One that came where memory was refused is kept as its node made it. Contracts
+/// see the entry that is kept.
 #[derive(Drop)]
 pub struct KeptEntry {
     kept: Kept,
@@ -180,6 +184,7 @@ impl KeptEntry {
             Kept::RegisteredNames(node, reply) => {
                 HistoryEntry::Read(node.copy(), Look::RegisteredNames, reply.reply()?)
             }
+            Kept::Whole(entered) => entered.entry()?,
         })
     }
 }

@@ -1,6 +1,7 @@
 //! The history of a world, kept in little memory.
 #![tactic(auto)]
 
+mod entered;
 mod entry;
 mod history;
 mod keeper;

@@ -8,7 +8,7 @@ use term::{LockId, NodeName, Pid, Resource};
 use transaction::{NameCall, Nodes, Op, Retries};
 
 impl<N: Names<Memory = Global>> NodeCore<N> {
-    ghost use Rattle.std.specs.Prelude.{◌≡◌, ◌+◌, false, ◌==◌, true, None, Some, [], ◌∷◌, OnOk, OnErr, IfOk, IfErr};
+    ghost use Rattle.std.specs.Prelude.{◌≡◌, ◌+◌, ◌-◌, ◌<◌, ◌≤◌, false, ◌==◌, true, None, Some, [], ◌∷◌, OnOk, OnErr, IfOk, IfErr};
     ghost use Rattle.registry_model.specs.Process.{Text};
     ghost use Rattle.registry_model.specs.Call.{seen_in};
     ghost use Rattle.registry_model.specs.History.{Entry as AnyEntry};
@@ -21,13 +21,15 @@ impl<N: Names<Memory = Global>> NodeCore<N> {
     ghost use Rattle.term.specs.NodeSets.{set_of};
     ghost use Rattle.transaction.specs.Ops.{name_call_of};
     ghost use Rattle.transaction.specs.Calls.{target_of};
-    ghost use Rattle.node_events.specs.declared.events.Call.TheVariants.{Spawn};
+    ghost use Rattle.node_events.specs.declared.events.Call.TheVariants.{Spawn, SetLock as SetsLock, DelLock as DeletesLock};
     ghost use Rattle.node_events.specs.declared.events.Event.TheVariants.{Call as Calls, Exit as Exits};
     ghost use Rattle.node_events.specs.declared.events.StepFault.TheVariants.{Memory};
-    ghost use Rattle.node_events.specs.Made.{Made};
+    ghost use Rattle.node_events.specs.Made.{Made, HasRoom, Spends, IsSameMade};
+    ghost use Rattle.transaction.specs.Work.{begins_with_join};
+    ghost use Rattle.node_core.specs.Rare.{is_join_call, joins_in, Adds, HasRoomToCall};
     ghost use Rattle.node_core.specs.Seen.{node_of};
     ghost use Rattle.node_events.specs.Seen.{call_of, look_of, reply_of};
-    ghost use Rattle.node_core.specs.Steps.{Keeps, Makes, IsAskedWithin, refusal_of, cause_of};
+    ghost use Rattle.node_core.specs.Steps.{KeepsQueue, Keeps, Makes, IsAskedWithin, refusal_of, cause_of};
 
     /// Why a call is refused, if it is.
     pub(super) fn call_refusal(&self, call: &Call) -> Option<StepFault>
@@ -142,16 +144,78 @@ impl<N: Names<Memory = Global>> NodeCore<N> {
         })
     }
 
-    /// A new process.
-    fn spawn(&mut self, turn: &mut Turn) -> Result<(), StepFault>
-        requires { refusal_of (Calls Spawn) self.old ≡ None }
-        ensures turn { OnOk result (Makes (λ n a u. spawned n a (next_serial u.node.watch) u) self.old turn.old self.new turn.new) }
-        ensures memory { IfErr result (λ fault. fault ≡ Memory) }
-        ensures kept { Keeps self.old self.new }
+    /// A number that was given for a call that couldn't be kept is free again.
+    fn take_number_back(&mut self)
+        requires { 0 < self.old.last_call }
+        ensures { self.new ≡ record self.old { last_call = self.old.last_call - 1 } }
     {
-        let process = self.watch.spawn()?;
-        turn.answer(self.answer(0, Reply::Pid(process)))?;
-        Ok(())
+        self.last_call -= 1;
+    }
+
+    /// A `set_lock` is numbered, and tried. Where memory is refused the node is as it was.
+    fn set_lock_call(
+        &mut self,
+        turn: &mut Turn,
+        holder: &Pid,
+        id: &LockId,
+        nodes: &Nodes,
+        retries: Retries,
+    ) -> Result<(), AllocError>
+        requires accepted { refusal_of (Calls (SetsLock holder.now id.now nodes.now retries)) self.old ≡ None }
+        requires room { HasRoom 1 0 1 turn.old }
+        ensures turn { OnOk result (Makes (λ n a u. called n a (u.node.last_call + 1) (call_of (SetsLock holder.now id.now nodes.now retries)) u) self.old turn.old self.new turn.new) }
+        ensures kept { KeepsQueue self.old self.new }
+        ensures spends { Spends 1 0 1 turn.old turn.new }
+        ensures unchanged { OnErr result (self.new ≡ self.old) }
+    {
+        let call = self.new_call(holder, id, nodes, retries)?;
+        match self.try_lock(turn, call) {
+            Ok(()) => Ok(()),
+            Err(fault) => {
+                self.take_number_back();
+                Err(fault)
+            }
+        }
+    }
+
+    /// A `del_lock` is numbered, and sent. Where memory is refused the node is as it was.
+    fn delete_lock_call(
+        &mut self,
+        turn: &mut Turn,
+        holder: &Pid,
+        id: &LockId,
+        nodes: &Nodes,
+    ) -> Result<(), AllocError>
+        requires accepted { refusal_of (Calls (DeletesLock holder.now id.now nodes.now)) self.old ≡ None }
+        requires room { HasRoom 8 0 1 turn.old }
+        ensures turn { OnOk result (Makes (λ n a u. called n a (u.node.last_call + 1) (call_of (DeletesLock holder.now id.now nodes.now)) u) self.old turn.old self.new turn.new) }
+        ensures kept { KeepsQueue self.old self.new }
+        ensures spends { Spends 8 0 1 turn.old turn.new }
+        ensures unchanged { OnErr result (self.new ≡ self.old) }
+    {
+        let call = self.new_call(holder, id, nodes, Retries::Times(0))?;
+        match self.delete_lock(turn, call) {
+            Ok(()) => Ok(()),
+            Err(fault) => {
+                self.take_number_back();
+                Err(fault)
+            }
+        }
+    }
+
+    /// A new process. A serial is left for it.
+    fn spawn(&mut self, turn: &mut Turn)
+        requires accepted { refusal_of (Calls Spawn) self.old ≡ None }
+        requires room { HasRoom 0 0 1 turn.old }
+        ensures turn { Makes (λ n a u. spawned n a (next_serial u.node.watch) u) self.old turn.old self.new turn.new }
+        ensures kept { KeepsQueue self.old self.new }
+        ensures spends { Spends 0 0 1 turn.old turn.new }
+    {
+        match self.watch.spawn() {
+            Ok(process) => turn.answer(self.answer(0, Reply::Pid(process))),
+            // A serial is left, and a spawn takes no memory.
+            Err(_) => {}
+        }
     }
 
     /// What is seen in the node's own table.
@@ -167,84 +231,122 @@ impl<N: Names<Memory = Global>> NodeCore<N> {
         })
     }
 
-    /// A look into the node's own table is entered, and answered.
-    fn look_up(&mut self, turn: &mut Turn, look: Look) -> Result<(), AllocError>
-        ensures turn { OnOk result (Makes (λ n a u. looked n a (look_of look) (seen_in u.node.replica.table (look_of look)) u) self.old turn.old self.new turn.new) }
-        ensures kept { Keeps self.old self.new }
+    /// A look into the node's own table is entered, and answered. It doesn't change the node.
+    fn look_up(&self, turn: &mut Turn, look: Look) -> Result<(), AllocError>
+        requires { HasRoom 0 1 1 turn.old }
+        ensures spends { Spends 0 1 1 turn.old turn.new }
+        ensures turn { OnOk result (Makes (λ n a u. looked n a (look_of look) (seen_in u.node.replica.table (look_of look)) u) self.now turn.old self.now turn.new) }
     {
         let reply = self.seen(&look)?;
         let entry = Entry::Read(self.name.copy(), look, reply.copy()?);
-        turn.enter(entry)?;
-        turn.answer(self.answer(0, reply))
+        turn.enter(entry);
+        turn.answer(self.answer(0, reply));
+        Ok(())
     }
 
-    /// A name call is numbered, and goes to the back of the queue.
+    /// A name call is numbered, and goes to the back of the queue. Where memory is refused the node is as it was.
     fn enqueue(&mut self, name_call: NameCall) -> Result<(), AllocError>
         requires { (self.old.last_call == last_u32) ≡ false }
         ensures turn { (made : Made) → OnOk result (Makes (λ n a u. queued n a (AnyOp.Name (u.node.last_call + 1) (name_call_of name_call)) (count_call u)) self.old made self.new made) }
         ensures kept { Keeps self.old self.new }
+        ensures next { begins_with_join self.old.registrar.queue ≡ false → begins_with_join self.new.registrar.queue ≡ false }
+        ensures joins { joins_in self.new.registrar.queue ≤ joins_in self.old.registrar.queue + 1 }
+        ensures unchanged { OnErr result (self.new ≡ self.old) }
     {
-        let number = self.next_call();
-        self.registrar.enqueue(Op::Name(number, name_call))
+        self.registrar
+            .enqueue(Op::Name(self.last_call + 1, name_call))?;
+        self.last_call += 1;
+        Ok(())
     }
 
-    /// A join is numbered, and goes to the back of the queue. One by a stranger is passed over.
+    /// A join is numbered, and goes to the back of the queue. One by a stranger is passed over. Where memory is refused the node is
+    /// as it was.
     fn enqueue_join(&mut self, contact: &NodeName) -> Result<(), AllocError>
         requires { (self.old.last_call == last_u32) ≡ false }
         ensures turn { (made : Made) → set_of self.old.world contact.now ≡ true
             → OnOk result (Makes (λ n a u. queued n a (AnyOp.Join (u.node.last_call + 1) contact.now) (count_call u)) self.old made self.new made) }
         ensures kept { Keeps self.old self.new }
+        ensures joins { joins_in self.new.registrar.queue ≤ joins_in self.old.registrar.queue + 1 }
+        ensures unchanged { OnErr result (self.new ≡ self.old) }
     {
         if !self.world.contains(contact) {
             return Ok(());
         }
-        let number = self.next_call();
-        self.registrar.enqueue(Op::Join(number, contact.copy()))
-    }
-
-    /// What a call does that isn't refused.
-    pub(super) fn call(&mut self, turn: &mut Turn, call: &Call) -> Result<(), StepFault>
-        requires { refusal_of (Calls call.now) self.old ≡ None }
-        ensures turn { IsAskedWithin self.old.world call.now
-            → OnOk result (Makes (λ n a u. called n a (u.node.last_call + 1) (call_of call.now) u) self.old turn.old self.new turn.new) }
-        ensures memory { IfErr result (λ fault. fault ≡ Memory) }
-        ensures kept { Keeps self.old self.new }
-    {
-        match call {
-            Call::Spawn => self.spawn(turn)?,
-            Call::Whereis(name) => self.look_up(turn, Look::Whereis(name.copy()))?,
-            Call::RegisteredNames => self.look_up(turn, Look::RegisteredNames)?,
-            Call::Register(name, owner) => {
-                self.enqueue(NameCall::Register(name.copy(), owner.copy()))?
-            }
-            Call::ReRegister(name, owner) => {
-                self.enqueue(NameCall::ReRegister(name.copy(), owner.copy()))?
-            }
-            Call::Unregister(name) => self.enqueue(NameCall::Unregister(name.copy()))?,
-            Call::SetLock(holder, id, nodes, retries) => {
-                let call = self.new_call(holder, id, nodes, retries.copy())?;
-                self.try_lock(turn, call)?
-            }
-            Call::DelLock(holder, id, nodes) => {
-                let call = self.new_call(holder, id, nodes, Retries::Times(0))?;
-                self.delete_lock(turn, call)?
-            }
-            Call::Join(contact) => self.enqueue_join(contact)?,
-        }
+        self.registrar
+            .enqueue(Op::Join(self.last_call + 1, contact.copy()))?;
+        self.last_call += 1;
         Ok(())
     }
 
-    /// A process dies: its call is dropped, and every member is to release its locks.
-    pub(super) fn exit(&mut self, turn: &mut Turn, process: &Pid) -> Result<(), StepFault>
+    /// Makes room for what is made of a call, and for one letter more.
+    fn make_room_to_call(turn: &mut Turn, call: &Call) -> Result<(), AllocError>
+        ensures room { OnOk result (HasRoomToCall call.now turn.new) }
+        ensures made { IsSameMade turn.old turn.new }
+    {
+        let (letters, entries, answers) = match call {
+            Call::Spawn => (1, 0, 1),
+            Call::Whereis(_) | Call::RegisteredNames => (1, 1, 1),
+            Call::SetLock(..) => (2, 0, 1),
+            Call::DelLock(..) => (9, 0, 1),
+            _ => (1, 0, 0),
+        };
+        turn.reserve(letters, entries, answers)
+    }
+
+    /// What a call does that isn't refused. There is room for a letter more behind it. Where memory is refused the node is as it was.
+    pub(super) fn call(&mut self, turn: &mut Turn, call: &Call) -> Result<(), AllocError>
+        requires { refusal_of (Calls call.now) self.old ≡ None }
+        ensures turn { IsAskedWithin self.old.world call.now
+            → OnOk result (Makes (λ n a u. called n a (u.node.last_call + 1) (call_of call.now) u) self.old turn.old self.new turn.new) }
+        ensures kept { Keeps self.old self.new }
+        ensures next { is_join_call call.now ≡ false → begins_with_join self.old.registrar.queue ≡ false
+            → begins_with_join self.new.registrar.queue ≡ false }
+        ensures joins { joins_in self.new.registrar.queue ≤ joins_in self.old.registrar.queue + 1 }
+        ensures adds { OnOk result (Adds 1 1 turn.old turn.new) }
+        ensures room { OnOk result (HasRoom 1 0 0 turn.new) }
+        ensures unchanged { OnErr result (self.new ≡ self.old) }
+    {
+        Self::make_room_to_call(turn, call)?;
+        match call {
+            Call::Spawn => {
+                self.spawn(turn);
+                Ok(())
+            }
+            Call::Whereis(name) => self.look_up(turn, Look::Whereis(name.copy())),
+            Call::RegisteredNames => self.look_up(turn, Look::RegisteredNames),
+            Call::Register(name, owner) => {
+                self.enqueue(NameCall::Register(name.copy(), owner.copy()))
+            }
+            Call::ReRegister(name, owner) => {
+                self.enqueue(NameCall::ReRegister(name.copy(), owner.copy()))
+            }
+            Call::Unregister(name) => self.enqueue(NameCall::Unregister(name.copy())),
+            Call::SetLock(holder, id, nodes, retries) => {
+                self.set_lock_call(turn, holder, id, nodes, retries.copy())
+            }
+            Call::DelLock(holder, id, nodes) => self.delete_lock_call(turn, holder, id, nodes),
+            Call::Join(contact) => self.enqueue_join(contact),
+        }
+    }
+
+    /// A process dies: its call is dropped, and every member is to release its locks. There is room for a letter more behind it. Where memory is refused the node is as it
+    /// was.
+    pub(super) fn exit(&mut self, turn: &mut Turn, process: &Pid) -> Result<(), AllocError>
         requires { refusal_of (Exits process.now) self.old ≡ None }
         ensures turn { OnOk result (Makes (λ n a u. die n a process.now (entering (AnyEntry.Exit process.now) u)) self.old turn.old self.new turn.new) }
-        ensures memory { IfErr result (λ fault. fault ≡ Memory) }
-        ensures kept { Keeps self.old self.new }
+        ensures kept { KeepsQueue self.old self.new }
+        ensures adds { OnOk result (Adds 1 0 turn.old turn.new) }
+        ensures room { OnOk result (HasRoom 1 0 0 turn.new) }
+        ensures unchanged { OnErr result (self.new ≡ self.old) }
     {
-        self.watch.exit(process)?;
+        turn.reserve(9, 1, 0)?;
+        // The process lives: so only memory may be refused.
+        let Ok(()) = self.watch.exit(process) else {
+            return Err(AllocError);
+        };
         self.calls.take(process);
-        turn.enter(Entry::Exit(process.copy()))?;
-        turn.send_all(&self.members, &Letter::ReleaseOf(process.copy()))?;
+        turn.enter(Entry::Exit(process.copy()));
+        turn.send_all(&self.members, &Letter::ReleaseOf(process.copy()));
         Ok(())
     }
 }

@@ -1,5 +1,5 @@
 //! The rules of joins: a lone node asks a contact, which lets it in under the global lock.
-ghost use Rattle.std.specs.Prelude.{◌≡◌, ℕ, true, ◌&&◌, ◌||◌, OnOk, IfOk};
+ghost use Rattle.std.specs.Prelude.{◌≡◌, ℕ, true, false, ◌&&◌, ◌||◌, OnOk, IfOk};
 ghost use Rattle.registry_model.specs.Table.{is_rising, without};
 ghost use Rattle.term.specs.NodeSets.{set_of};
 ghost use Rattle.exit_watch.specs.Held.{AreSuspected, KeepsSuspects};
@@ -45,7 +45,7 @@ fn table_of<N: Names<Memory = Global>>(
 }
 
 impl<N: Names<Memory = Global>> NodeCore<N> {
-    ghost use Rattle.std.specs.Prelude.{None, Some, is_some, IsTrue, IfSome, fold};
+    ghost use Rattle.std.specs.Prelude.{◌+◌, ◌≤◌, None, Some, is_some, IsTrue, IfSome, fold, OnErr};
     ghost use Rattle.registry_model.specs.Process.{Process};
     ghost use Rattle.registry_model.specs.Table.{Table};
     ghost use Rattle.registry_model.specs.Settlement.{settle};
@@ -58,14 +58,16 @@ impl<N: Names<Memory = Global>> NodeCore<N> {
     ghost use Rattle.protocol_model.specs.Deciding.{admit, held};
     ghost use Rattle.protocol_model.specs.Reading.{admitted, welcomed, asked_to_admit, refused_join, welcome, with_member};
     ghost use Rattle.protocol_model.specs.Calling.{kill};
-    ghost use Rattle.node_events.specs.Made.{Made, entered};
+    ghost use Rattle.node_events.specs.Made.{Made, entered, HasRoom, Spends};
     ghost use Rattle.node_events.specs.declared.events.Entry.TheVariants.{Joined as HasJoined};
     ghost use Rattle.term.specs.NodeSets.{IsNodeSet};
     ghost use Rattle.node_core.specs.Held.{IsWithin};
     ghost use Rattle.node_core.specs.Joining.{join_by, kill_one, put_names, IsAdmitting, IsWelcomeTo, TellsToAdmit, Welcomes};
     ghost use Rattle.node_core.specs.Seen.{node_of};
     ghost use Rattle.node_events.specs.Seen.{unnumbered};
-    ghost use Rattle.node_core.specs.Steps.{Keeps, Makes};
+    ghost use Rattle.transaction.specs.Work.{begins_with_join};
+    ghost use Rattle.node_core.specs.Rare.{Adds, is_admission, joins_in};
+    ghost use Rattle.node_core.specs.Steps.{Keeps, KeepsQueue, KeepsCalls, Makes};
 
     /// The number of the join that waits for a contact, if one does.
     fn join_by(&self, contact: &NodeName) -> Option<u32>
@@ -78,7 +80,7 @@ impl<N: Names<Memory = Global>> NodeCore<N> {
         }
     }
 
-    /// The current operation is a join: its contact is asked, and gets the whole table.
+    /// The current operation is a join: its contact is asked, and gets the whole table. There is room for one letter.
     pub(super) fn ask_join(
         &mut self,
         turn: &mut Turn,
@@ -87,52 +89,54 @@ impl<N: Names<Memory = Global>> NodeCore<N> {
     ) -> Result<(), AllocError>
         requires current { IsTrue (is_some self.old.registrar.current) }
         requires within { set_of self.old.world contact ≡ true }
+        requires room { HasRoom 1 0 0 turn.old }
         ensures turn { OnOk result (Makes (λ n a. ask_join n a number contact) self.old turn.old self.new turn.new) }
         ensures kept { Keeps self.old self.new }
+        ensures spends { Spends 1 0 0 turn.old turn.new }
     {
         let pairs = self.table.pairs(self.alloc)?;
-        turn.send(contact.copy(), Letter::JoinAsk(pairs))?;
+        turn.send(contact.copy(), Letter::JoinAsk(pairs));
         self.phase = Phase::Joining(number, contact);
         Ok(())
     }
 
     /// A join of this node ends, since its contact has left.
-    pub(super) fn contact_left(
-        &self,
-        turn: &mut Turn,
-        number: u32,
-        contact: NodeName,
-    ) -> Result<(), AllocError>
-        ensures { OnOk result (Makes (λ n a. contact_left n a number contact) self.now turn.old self.now turn.new) }
+    pub(super) fn contact_left(&self, turn: &mut Turn, number: u32, contact: NodeName)
+        requires { HasRoom 0 1 1 turn.old }
+        ensures turn { Makes (λ n a. contact_left n a number contact) self.now turn.old self.now turn.new }
+        ensures spends { Spends 0 1 1 turn.old turn.new }
     {
-        turn.enter(Entry::ContactLeft(self.name.copy(), number, contact))?;
-        turn.answer(self.answer(number, Reply::ContactLeft))
+        turn.enter(Entry::ContactLeft(self.name.copy(), number, contact));
+        turn.answer(self.answer(number, Reply::ContactLeft));
     }
 
     /// A node has gone down: a join by it ends.
-    pub(super) fn lose_contact(
-        &mut self,
-        turn: &mut Turn,
-        gone: &NodeName,
-    ) -> Result<(), AllocError>
-        ensures turn { OnOk result (Makes (λ n a u. lose_contact n a gone.now u.node.current u) self.old turn.old self.new turn.new) }
-        ensures kept { Keeps self.old self.new }
+    pub(super) fn lose_contact(&mut self, turn: &mut Turn, gone: &NodeName)
+        requires { HasRoom 0 1 1 turn.old }
+        ensures turn { Makes (λ n a u. lose_contact n a gone.now u.node.current u) self.old turn.old self.new turn.new }
+        ensures kept { KeepsCalls self.old self.new }
+        ensures spends { Spends 0 1 1 turn.old turn.new }
+        ensures admission { is_admission self.new.registrar.current ≡ true → is_admission self.old.registrar.current ≡ true }
     {
-        let Some(number) = self.join_by(gone) else {
-            return Ok(());
-        };
-        self.registrar.finish();
-        self.contact_left(turn, number, gone.copy())
+        if let Some(number) = self.join_by(gone) {
+            self.registrar.finish();
+            self.contact_left(turn, number, gone.copy());
+        }
     }
 
     /// A lone node asks to join: its admission goes to the back of the queue, or is refused by a lone node. A stranger is
-    /// passed over.
+    /// passed over. Where memory is refused the node is as it was.
     pub(super) fn asked_to_admit(
         &mut self,
         turn: &mut Turn,
         from: &NodeName,
         pairs: &Vec<Pair>,
     ) -> Result<(), AllocError>
+        requires { HasRoom 1 1 0 turn.old }
+        ensures spends { Spends 1 1 0 turn.old turn.new }
+        ensures next { begins_with_join self.old.registrar.queue ≡ false → begins_with_join self.new.registrar.queue ≡ false }
+        ensures joins { joins_in self.new.registrar.queue ≤ joins_in self.old.registrar.queue + 1 }
+        ensures unchanged { OnErr result (self.new ≡ self.old) }
         ensures turn { set_of self.old.world from.now ≡ true
             → OnOk result (Makes (λ n a. asked_to_admit n a unnumbered from.now pairs.now.items) self.old turn.old self.new turn.new) }
         ensures kept { Keeps self.old self.new }
@@ -141,34 +145,34 @@ impl<N: Names<Memory = Global>> NodeCore<N> {
             return Ok(());
         }
         if !self.joined {
-            turn.enter(Entry::NotMember(from.copy(), self.name.copy()))?;
-            return turn.send(from.copy(), Letter::JoinRefused);
+            turn.enter(Entry::NotMember(from.copy(), self.name.copy()));
+            turn.send(from.copy(), Letter::JoinRefused);
+            return Ok(());
         }
         self.registrar
             .enqueue(Op::Admission(from.copy(), copied_pairs(pairs)?))
     }
 
     /// A join by the node that says so is refused.
-    pub(super) fn refused_join(
-        &mut self,
-        turn: &mut Turn,
-        from: &NodeName,
-    ) -> Result<(), AllocError>
-        ensures turn { OnOk result (Makes (λ n a u. refused_join n a unnumbered from.now u.node.current u) self.old turn.old self.new turn.new) }
-        ensures kept { Keeps self.old self.new }
+    pub(super) fn refused_join(&mut self, turn: &mut Turn, from: &NodeName)
+        requires { HasRoom 0 0 1 turn.old }
+        ensures turn { Makes (λ n a u. refused_join n a unnumbered from.now u.node.current u) self.old turn.old self.new turn.new }
+        ensures kept { KeepsQueue self.old self.new }
+        ensures spends { Spends 0 0 1 turn.old turn.new }
     {
-        let Some(number) = self.join_by(from) else {
-            return Ok(());
-        };
-        self.registrar.finish();
-        turn.answer(self.answer(number, Reply::NotMember))
+        if let Some(number) = self.join_by(from) {
+            self.registrar.finish();
+            turn.answer(self.answer(number, Reply::NotMember));
+        }
     }
 
     /// The join of a lone node enters the history.
-    fn enter_joined(&self, turn: &mut Turn, joiner: &NodeName) -> Result<(), AllocError>
-        ensures { OnOk result (turn.new ≡ entered (HasJoined joiner.now self.now.name) turn.old) }
+    fn enter_joined(&self, turn: &mut Turn, joiner: &NodeName)
+        requires { HasRoom 0 1 0 turn.old }
+        ensures entered { turn.new ≡ entered (HasJoined joiner.now self.now.name) turn.old }
+        ensures spends { Spends 0 1 0 turn.old turn.new }
     {
-        turn.enter(Entry::Joined(joiner.copy(), self.name.copy()))
+        turn.enter(Entry::Joined(joiner.copy(), self.name.copy()));
     }
 
     /// The members are told to admit a lone node.
@@ -178,11 +182,13 @@ impl<N: Names<Memory = Global>> NodeCore<N> {
         joiner: &NodeName,
         settled: &Settled,
     ) -> Result<(), AllocError>
+        requires { HasRoom 8 0 0 turn.old }
         ensures told { OnOk result (TellsToAdmit self.now joiner.now settled.now turn.old turn.new) }
         ensures set { OnOk result (IsNodeSet self.now.members) }
+        ensures spends { Spends 8 0 0 turn.old turn.new }
     {
         let admission = admit_of(self.alloc, joiner, settled)?;
-        turn.send_all(&self.members, &Letter::Admit(admission))
+        turn.send_copies(&self.members, &Letter::Admit(admission))
     }
 
     /// A lone node is sent all that this node has, and what is settled.
@@ -194,7 +200,9 @@ impl<N: Names<Memory = Global>> NodeCore<N> {
     ) -> Result<(), AllocError>
         requires joiner { set_of self.now.world joiner.now ≡ true }
         requires members { IsNodeSet self.now.members }
-        ensures { OnOk result (Welcomes self.now joiner.now settled.now turn.old turn.new) }
+        requires room { HasRoom 1 0 0 turn.old }
+        ensures welcomed { OnOk result (Welcomes self.now joiner.now settled.now turn.old turn.new) }
+        ensures spends { Spends 1 0 0 turn.old turn.new }
     {
         let alloc = self.alloc;
         // The members and the joiner are of the world, so there is room for all of them.
@@ -202,10 +210,12 @@ impl<N: Names<Memory = Global>> NodeCore<N> {
         prove!(fits);
         let (table, members, told) = (&self.table, &self.members, &self.told);
         let welcome = welcome_of(alloc, joiner, table, members, told, settled)?;
-        turn.send(joiner.copy(), Letter::Welcome(Box::new(alloc, welcome)?))
+        turn.send(joiner.copy(), Letter::Welcome(Box::new(alloc, welcome)?));
+        Ok(())
     }
 
-    /// The lock is held: a lone node is let in. The members are to admit it, and it is welcomed with all that this node has.
+    /// The lock is held: a lone node is let in. The members are to admit it, and it is welcomed with all that this node has. Where
+    /// memory is refused the node is as it was.
     pub(super) fn let_in(
         &mut self,
         turn: &mut Turn,
@@ -216,11 +226,14 @@ impl<N: Names<Memory = Global>> NodeCore<N> {
         requires current { IsTrue (is_some self.old.registrar.current) }
         requires joiner { set_of self.old.world joiner ≡ true }
         requires within { IsWithin self.old.world asked }
+        requires room { HasRoom 9 1 1 turn.old }
+        ensures spends { Spends 9 1 1 turn.old turn.new }
         ensures turn { (pairs : Table) → IsAdmitting self.old joiner pairs
             → OnOk result (Makes (λ n a. admit n a unnumbered joiner pairs (set_of asked) settled.now) self.old turn.old self.new turn.new) }
-        ensures kept { Keeps self.old self.new }
+        ensures kept { KeepsCalls self.old self.new }
+        ensures unchanged { OnErr result (self.new ≡ self.old) }
     {
-        self.enter_joined(turn, &joiner)?;
+        self.enter_joined(turn, &joiner);
         self.tell_to_admit(turn, &joiner, settled)?;
         self.send_welcome(turn, &joiner, settled)?;
         self.registrar
@@ -229,7 +242,8 @@ impl<N: Names<Memory = Global>> NodeCore<N> {
         Ok(())
     }
 
-    /// The lock is held: the current admission is decided. A joiner that has left isn't let in.
+    /// The lock is held: the current admission is decided. A joiner that has left isn't let in. Where memory is refused the node is as
+    /// it was.
     pub(super) fn decide_admission(
         &mut self,
         turn: &mut Turn,
@@ -240,12 +254,16 @@ impl<N: Names<Memory = Global>> NodeCore<N> {
         requires current { IsTrue (is_some self.old.registrar.current) }
         requires joiner { set_of self.old.world joiner ≡ true }
         requires within { IsWithin self.old.world asked }
+        requires room { HasRoom 9 1 1 turn.old }
+        ensures spends { Spends 9 1 1 turn.old turn.new }
         ensures turn { (pairs : Table) → IsAdmitting self.old joiner pairs → settled.now ≡ settle self.old.table pairs
             → OnOk result (Makes (λ n a. held n a unnumbered (AnyOp.Admission joiner pairs) (set_of asked)) self.old turn.old self.new turn.new) }
-        ensures kept { Keeps self.old self.new }
+        ensures kept { KeepsCalls self.old self.new }
+        ensures unchanged { OnErr result (self.new ≡ self.old) }
     {
         if self.told.contains(&joiner) {
-            return self.finish(turn, &asked, None);
+            self.finish(turn, &asked, None);
+            return Ok(());
         }
         self.let_in(turn, asked, joiner, settled)
     }
@@ -253,19 +271,23 @@ impl<N: Names<Memory = Global>> NodeCore<N> {
     /// A process dies, if it lives here: its call is dropped, and every member is to release its locks.
     fn kill_one(&mut self, turn: &mut Turn, process: &Pid) -> Result<(), AllocError>
         ensures turn { OnOk result (Makes (λ n a. kill_one n a process.now) self.old turn.old self.new turn.new) }
-        ensures kept { Keeps self.old self.new }
+        ensures kept { KeepsQueue self.old self.new }
+        ensures adds { Adds 0 0 turn.old turn.new }
     {
         if !self.watch.kill(process)? {
             return Ok(());
         }
         self.calls.take(process);
-        turn.send_all(&self.members, &Letter::ReleaseOf(process.copy()))
+        turn.reserve(8, 0, 0)?;
+        turn.send_all(&self.members, &Letter::ReleaseOf(process.copy()));
+        Ok(())
     }
 
     /// Those of these processes that live here die, in order.
     fn kill(&mut self, turn: &mut Turn, processes: &[Pid]) -> Result<(), AllocError>
         ensures turn { OnOk result (Makes (λ n a. kill n a processes.now) self.old turn.old self.new turn.new) }
-        ensures kept { Keeps self.old self.new }
+        ensures kept { KeepsQueue self.old self.new }
+        ensures adds { Adds 0 0 turn.old turn.new }
     {
         for process in processes {
             self.kill_one(turn, process)?;
@@ -277,7 +299,7 @@ impl<N: Names<Memory = Global>> NodeCore<N> {
     fn add_member(&mut self, joiner: &NodeName)
         ensures turn { (made : Made) → set_of self.old.world joiner.now ≡ true
             → Makes (λ n a. with_replica (with_member joiner.now)) self.old made self.new made }
-        ensures kept { Keeps self.old self.new }
+        ensures kept { KeepsQueue self.old self.new }
     {
         if !self.told.contains(joiner) {
             self.members = and_one(&self.world, &self.members, joiner);
@@ -287,7 +309,7 @@ impl<N: Names<Memory = Global>> NodeCore<N> {
     /// The names are put, in order.
     fn put_names(&mut self, pairs: &[Pair]) -> Result<(), AllocError>
         ensures turn { (made : Made) → OnOk result (Makes (λ n a. with_replica (put_names pairs.now)) self.old made self.new made) }
-        ensures kept { Keeps self.old self.new }
+        ensures kept { KeepsQueue self.old self.new }
     {
         for pair in pairs {
             self.write_change(&Change::Put(pair.name.copy(), pair.owner.copy()))?;
@@ -305,12 +327,16 @@ impl<N: Names<Memory = Global>> NodeCore<N> {
         ensures turn { set_of self.old.world admission.now.joiner ≡ true → OnOk result
             (Makes (λ n a u. send from.now AnyLetter.Applied (kill n a admission.now.kills.items
             (with_replica (admitted admission.now.joiner admission.now.puts.items) u))) self.old turn.old self.new turn.new) }
-        ensures kept { Keeps self.old self.new }
+        ensures kept { KeepsQueue self.old self.new }
+        ensures adds { Adds 0 0 turn.old turn.new }
+        ensures room { OnOk result (HasRoom 1 0 0 turn.new) }
     {
         self.add_member(&admission.joiner);
         self.put_names(admission.puts.as_slice())?;
         self.kill(turn, admission.kills.as_slice())?;
-        turn.send(from.copy(), Letter::Applied)
+        turn.reserve(2, 0, 0)?;
+        turn.send(from.copy(), Letter::Applied);
+        Ok(())
     }
 
     /// This node is joined: it has the members and the names of its sponsor, less those that either was told have left.
@@ -318,7 +344,7 @@ impl<N: Names<Memory = Global>> NodeCore<N> {
         ensures turn { (made : Made) → IsWelcomeTo self.old.world self.old.name welcome.now → OnOk result
             (Makes (λ n a. with_replica (welcomed (set_of welcome.now.members) welcome.now.pairs.items (set_of welcome.now.told)))
             self.old made self.new made) }
-        ensures kept { Keeps self.old self.new }
+        ensures kept { KeepsQueue self.old self.new }
     {
         let alloc = self.alloc;
         let mut told = either(&self.world, &self.told, &welcome.told);
@@ -337,10 +363,13 @@ impl<N: Names<Memory = Global>> NodeCore<N> {
         from: &NodeName,
         body: &Welcome,
     ) -> Result<(), AllocError>
+        requires { HasRoom 1 0 0 turn.old }
         ensures turn { IsWelcomeTo self.old.world self.old.name body.now → OnOk result
             (Makes (λ n a u. welcome n a unnumbered from.now (set_of body.now.members) body.now.pairs.items
             (set_of body.now.told) body.now.kills.items u.node.current u) self.old turn.old self.new turn.new) }
-        ensures kept { Keeps self.old self.new }
+        ensures kept { KeepsQueue self.old self.new }
+        ensures adds { Adds 0 1 turn.old turn.new }
+        ensures room { OnOk result (HasRoom 1 0 0 turn.new) }
     {
         let Some(number) = self.join_by(from) else {
             return Ok(());
@@ -348,7 +377,9 @@ impl<N: Names<Memory = Global>> NodeCore<N> {
         self.registrar.finish();
         self.move_in(body)?;
         self.kill(turn, body.kills.as_slice())?;
-        turn.answer(self.answer(number, Reply::Joined))?;
-        turn.send(from.copy(), Letter::Applied)
+        turn.reserve(2, 0, 1)?;
+        turn.answer(self.answer(number, Reply::Joined));
+        turn.send(from.copy(), Letter::Applied);
+        Ok(())
     }
 }

@@ -10,34 +10,20 @@ use term::{NodeName, NodeSet, Pid};
 use transaction::Nodes;
 
 impl<N: Names<Memory = Global>> NodeCore<N> {
-    ghost use Rattle.std.specs.Prelude.{◌≡◌, ℕ, ◌<◌, length, IfSome, IfOk, OnOk};
-    ghost use Rattle.std.specs.Option.{option_map};
-    ghost use Rattle.protocol_model.specs.Node.{targets, call_of, drop_call};
-    ghost use Rattle.protocol_model.specs.Client.{close_call, ask_lock, try_lock, give_lock, refuse_lock, go_on_lock, hear_lock, delete_lock, owe_less, retry_locks};
+    ghost use Rattle.std.specs.Prelude.{◌≡◌, ℕ, ◌<◌, false, Some, length, map, OnOk, OnErr};
+    ghost use Rattle.protocol_model.specs.Node.{LockCall as AnyCall, targets, call_of, drop_call};
+    ghost use Rattle.protocol_model.specs.Client.{close_call, ask_lock, try_lock, give_lock, refuse_lock, hear_lock, delete_lock, owe_less, retry_locks};
     ghost use Rattle.protocol_model.specs.Letter.{Letter as AnyLetter};
     ghost use Rattle.term.specs.NodeSets.{set_of};
     ghost use Rattle.lock_table.specs.Ids.{id_of};
-    ghost use Rattle.locker.specs.Held.{seen};
     ghost use Rattle.lock_calls.specs.Calls.{as_call};
     ghost use Rattle.lock_calls.specs.Held.{AreOrdered, seen as calls_seen};
     ghost use Rattle.transaction.specs.Calls.{target_of};
-    ghost use Rattle.node_core.specs.Held.{IsWithin, IsCallWithin, IsOwnCall};
+    ghost use Rattle.node_core.specs.Held.{IsWithin, IsOwnCall};
     ghost use Rattle.node_core.specs.Locking.{retry_of, end_of, deleted_of};
-    ghost use Rattle.node_events.specs.Letters.{letter_of};
-    ghost use Rattle.node_core.specs.Steps.{Keeps, Makes};
-
-    /// The call of a process, if it has one, with its nodes in memory of their own.
-    pub(super) fn lock_call(&self, holder: &Pid) -> Result<Option<LockCall>, AllocError>
-        ensures call { IfOk result (λ call. option_map as_call call ≡ call_of holder.now (calls_seen self.now.calls)) }
-        ensures own { IfOk result (λ call. IfSome call (IsOwnCall self.now)) }
-        ensures within { IfOk result (λ call. IfSome call (λ call. IsCallWithin self.now.world (as_call call).phase)) }
-        ensures ordered { AreOrdered self.now.calls.node (calls_seen self.now.calls) }
-    {
-        match self.calls.get(holder) {
-            Some(call) => Ok(Some(call.copy()?)),
-            None => Ok(None),
-        }
-    }
+    ghost use Rattle.node_events.specs.Letters.{letter_of, has_lists};
+    ghost use Rattle.node_events.specs.Made.{HasRoom, Spends};
+    ghost use Rattle.node_core.specs.Steps.{KeepsQueue, Makes};
 
     /// The nodes that a lock call asks, as the members are now.
     fn targets(&self, nodes: &Nodes) -> NodeSet
@@ -52,7 +38,8 @@ impl<N: Names<Memory = Global>> NodeCore<N> {
 
     /// Asks for one grant to a lock call.
     fn lock_letter(call: &LockCall) -> Letter
-        ensures { letter_of result ≡ AnyLetter.SetLock (id_of call.now.id) call.now.holder }
+        ensures says { letter_of result ≡ AnyLetter.SetLock (id_of call.now.id) call.now.holder }
+        ensures plain { has_lists result ≡ false }
     {
         Letter::SetLock(call.id.copy(), call.holder.copy())
     }
@@ -67,22 +54,32 @@ impl<N: Names<Memory = Global>> NodeCore<N> {
     }
 
     /// The call ends with this answer.
-    fn close_call(
-        &mut self,
-        turn: &mut Turn,
-        call: &LockCall,
-        granted: bool,
-    ) -> Result<(), AllocError>
-        ensures turn { OnOk result (Makes (λ n a. close_call n a (as_call call.now) granted) self.old turn.old self.new turn.new) }
-        ensures kept { Keeps self.old self.new }
+    fn close_call(&mut self, turn: &mut Turn, call: &LockCall, granted: bool)
+        requires { HasRoom 0 0 1 turn.old }
+        ensures turn { Makes (λ n a. close_call n a (as_call call.now) granted) self.old turn.old self.new turn.new }
+        ensures kept { KeepsQueue self.old self.new }
+        ensures spends { Spends 0 0 1 turn.old turn.new }
         ensures ordered { AreOrdered self.old.calls.node (calls_seen self.old.calls) }
     {
         self.end_call(&call.holder);
         let reply = if granted { Reply::True } else { Reply::False };
-        turn.answer(self.answer(call.number, reply))
+        turn.answer(self.answer(call.number, reply));
     }
 
-    /// A round of the call begins over these nodes: the boss is asked.
+    /// The call of a process, if it has one, ends with this answer.
+    fn close_of(&mut self, turn: &mut Turn, holder: &Pid, granted: bool)
+        requires { HasRoom 0 0 1 turn.old }
+        ensures turn { (c : AnyCall) → call_of holder.now (calls_seen self.old.calls) ≡ Some c
+            → Makes (λ n a. close_call n a c granted) self.old turn.old self.new turn.new }
+        ensures kept { KeepsQueue self.old self.new }
+        ensures spends { Spends 0 0 1 turn.old turn.new }
+    {
+        if let Some(call) = self.calls.take(holder) {
+            self.close_call(turn, &call, granted);
+        }
+    }
+
+    /// A round of the call begins over these nodes: the boss is asked. Where memory is refused the node is as it was.
     fn ask_lock(
         &mut self,
         turn: &mut Turn,
@@ -92,72 +89,61 @@ impl<N: Names<Memory = Global>> NodeCore<N> {
         requires some { 0 < length nodes.now }
         requires within { IsWithin self.old.world nodes.now }
         requires own { IsOwnCall self.old call }
+        requires room { HasRoom 1 0 0 turn.old }
         ensures turn { OnOk result (Makes (λ n a. ask_lock n a (as_call call) (set_of nodes.now)) self.old turn.old self.new turn.new) }
-        ensures kept { Keeps self.old self.new }
+        ensures kept { KeepsQueue self.old self.new }
+        ensures spends { Spends 1 0 0 turn.old turn.new }
+        ensures unchanged { OnErr result (self.new ≡ self.old) }
     {
-        turn.send(boss(nodes), Self::lock_letter(&call))?;
+        turn.send(boss(nodes), Self::lock_letter(&call));
         call.phase = CallPhase::Asking(Round::begin(nodes));
         self.calls.put(call)
     }
 
-    /// A `set_lock` is tried, or tried again, over the members of now; where there is nobody to ask it is answered
-    /// `false`.
+    /// A `set_lock` is tried over the members of now; where there is nobody to ask it is answered `false`. Where memory is refused
+    /// the node is as it was.
     pub(super) fn try_lock(&mut self, turn: &mut Turn, call: LockCall) -> Result<(), AllocError>
         requires own { IsOwnCall self.old call }
+        requires room { HasRoom 1 0 1 turn.old }
         ensures turn { OnOk result (Makes (λ n a. try_lock n a (as_call call)) self.old turn.old self.new turn.new) }
-        ensures kept { Keeps self.old self.new }
+        ensures kept { KeepsQueue self.old self.new }
+        ensures spends { Spends 1 0 1 turn.old turn.new }
+        ensures unchanged { OnErr result (self.new ≡ self.old) }
     {
         let nodes = self.targets(&call.nodes);
         if nodes.is_empty() {
-            return self.close_call(turn, &call, false);
+            self.close_call(turn, &call, false);
+            return Ok(());
         }
         self.ask_lock(turn, call, &nodes)
     }
 
     /// These nodes get their grant of the call back.
-    fn give_lock(
-        &self,
-        turn: &mut Turn,
-        call: &LockCall,
-        granted: &NodeSet,
-    ) -> Result<(), AllocError>
-        requires { IsWithin self.now.world granted.now }
-        ensures { OnOk result (Makes (λ n a. give_lock n a (as_call call.now) (set_of granted.now)) self.now turn.old self.now turn.new) }
+    fn give_lock(&self, turn: &mut Turn, call: &LockCall, granted: &NodeSet)
+        requires within { IsWithin self.now.world granted.now }
+        requires room { HasRoom 8 0 0 turn.old }
+        ensures turn { Makes (λ n a. give_lock n a (as_call call.now) (set_of granted.now)) self.now turn.old self.now turn.new }
+        ensures spends { Spends 8 0 0 turn.old turn.new }
     {
         let letter = Letter::GiveBack(call.id.copy(), call.holder.copy(), false);
-        turn.send_all(granted, &letter)
+        turn.send_all(granted, &letter);
     }
 
-    /// The round failed: the call ends where no retry is left, and else waits for one.
-    fn refuse_lock(&mut self, turn: &mut Turn, mut call: LockCall) -> Result<(), AllocError>
-        requires own { IsOwnCall self.old call }
-        ensures turn { OnOk result (Makes (λ n a. refuse_lock n a (as_call call)) self.old turn.old self.new turn.new) }
-        ensures kept { Keeps self.old self.new }
-        ensures ordered { AreOrdered self.old.calls.node (calls_seen self.old.calls) }
+    /// The round of a process's call failed: the call ends where no retry is left, and else waits for one.
+    fn refuse_lock(&mut self, turn: &mut Turn, holder: &Pid)
+        requires { HasRoom 0 0 1 turn.old }
+        ensures turn { (c : AnyCall) → call_of holder.now (calls_seen self.old.calls) ≡ Some c
+            → Makes (λ n a. refuse_lock n a c) self.old turn.old self.new turn.new }
+        ensures kept { KeepsQueue self.old self.new }
+        ensures spends { Spends 0 0 1 turn.old turn.new }
     {
+        let Some(call) = self.calls.get(holder) else {
+            return;
+        };
         if call.retries.is_spent() {
-            return self.close_call(turn, &call, false);
+            return self.close_of(turn, holder, false);
         }
-        call.phase = CallPhase::Waiting;
-        self.calls.put(call)
-    }
-
-    /// The round of the call stands so now, and ends where it is over.
-    pub(super) fn go_on_lock(
-        &mut self,
-        turn: &mut Turn,
-        mut call: LockCall,
-        round: Round,
-    ) -> Result<(), AllocError>
-        requires own { IsOwnCall self.old call }
-        requires within { IsWithin self.old.world round.nodes }
-        ensures turn { OnOk result (Makes (λ n a. go_on_lock n a (as_call call) (seen round)) self.old turn.old self.new turn.new) }
-        ensures kept { Keeps self.old self.new }
-    {
-        let holder = call.holder.copy();
-        call.phase = CallPhase::Asking(round);
-        self.calls.put(call)?;
-        self.end_lock(turn, &holder)
+        self.calls.wait(holder);
     }
 
     /// A node answers the round of a process's call, if there is one: the rest are asked where it is the boss's grant,
@@ -168,135 +154,149 @@ impl<N: Names<Memory = Global>> NodeCore<N> {
         from: &NodeName,
         holder: &Pid,
         granted: bool,
-    ) -> Result<(), AllocError>
-        ensures turn { OnOk result (Makes (λ n a u. hear_lock n a from.now granted (call_of holder.now u.node.calls) u) self.old turn.old self.new turn.new) }
-        ensures kept { Keeps self.old self.new }
+    )
+        requires { HasRoom 16 0 1 turn.old }
+        ensures turn { Makes (λ n a u. hear_lock n a from.now granted (call_of holder.now u.node.calls) u) self.old turn.old self.new turn.new }
+        ensures kept { KeepsQueue self.old self.new }
+        ensures spends { Spends 16 0 1 turn.old turn.new }
     {
         let Some(call) = self.calls.get(holder) else {
-            return Ok(());
+            return;
         };
         let CallPhase::Asking(round) = &call.phase else {
-            return Ok(());
+            return;
         };
         if !round.owes(from) {
-            return Ok(());
+            return;
         }
-        self.ask_rest(turn, round, from, granted, &Self::lock_letter(call))?;
+        self.ask_rest(turn, round, from, granted, &Self::lock_letter(call));
         self.calls.answer(holder, from, granted);
-        self.end_lock(turn, holder)
+        self.end_lock(turn, holder);
     }
 
     /// The round of a process's call ends, where it is over.
-    fn end_lock(&mut self, turn: &mut Turn, holder: &Pid) -> Result<(), AllocError>
-        ensures turn { OnOk result (Makes (λ n a u. end_of n a (call_of holder.now u.node.calls) u) self.old turn.old self.new turn.new) }
-        ensures kept { Keeps self.old self.new }
+    pub(super) fn end_lock(&mut self, turn: &mut Turn, holder: &Pid)
+        requires { HasRoom 8 0 1 turn.old }
+        ensures turn { Makes (λ n a u. end_of n a (call_of holder.now u.node.calls) u) self.old turn.old self.new turn.new }
+        ensures kept { KeepsQueue self.old self.new }
+        ensures spends { Spends 8 0 1 turn.old turn.new }
     {
         let Some(call) = self.calls.get(holder) else {
-            return Ok(());
+            return;
         };
         let CallPhase::Asking(round) = &call.phase else {
-            return Ok(());
+            return;
         };
         if !round.is_over() {
-            return Ok(());
+            return;
         }
-        let ending = round.finish(&round.asked());
-        let call = call.copy()?;
-        match ending {
-            Ending::Held => self.close_call(turn, &call, true),
+        match round.finish(&round.asked()) {
+            Ending::Held => self.close_of(turn, holder, true),
             Ending::GiveBack(granted) => {
-                self.give_lock(turn, &call, &granted)?;
-                self.refuse_lock(turn, call)
+                self.give_lock(turn, call, &granted);
+                self.refuse_lock(turn, holder);
             }
         }
     }
 
     /// A `del_lock` goes to the members, or to those named nodes that are members; where there are none it is answered
-    /// at once.
+    /// at once. Where memory is refused the node is as it was.
     pub(super) fn delete_lock(
         &mut self,
         turn: &mut Turn,
         mut call: LockCall,
     ) -> Result<(), AllocError>
         requires own { IsOwnCall self.old call }
+        requires room { HasRoom 8 0 1 turn.old }
         ensures turn { OnOk result (Makes (λ n a. delete_lock n a (as_call call)) self.old turn.old self.new turn.new) }
-        ensures kept { Keeps self.old self.new }
+        ensures kept { KeepsQueue self.old self.new }
+        ensures spends { Spends 8 0 1 turn.old turn.new }
+        ensures unchanged { OnErr result (self.new ≡ self.old) }
     {
         let nodes = self.targets(&call.nodes);
         if nodes.is_empty() {
-            return self.close_call(turn, &call, true);
+            self.close_call(turn, &call, true);
+            return Ok(());
         }
         let letter = Letter::GiveBack(call.id.copy(), call.holder.copy(), true);
-        turn.send_all(&nodes, &letter)?;
+        turn.send_all(&nodes, &letter);
         call.phase = CallPhase::Deleting(nodes);
         self.calls.put(call)
     }
 
     /// A node has given a lock of a process up: its deletion has one node less to wait for, and at none it is answered.
-    pub(super) fn owe_less(
-        &mut self,
-        turn: &mut Turn,
-        from: &NodeName,
-        holder: &Pid,
-    ) -> Result<(), AllocError>
-        ensures turn { OnOk result (Makes (λ n a u. owe_less n a from.now (call_of holder.now u.node.calls) u) self.old turn.old self.new turn.new) }
-        ensures kept { Keeps self.old self.new }
+    pub(super) fn owe_less(&mut self, turn: &mut Turn, from: &NodeName, holder: &Pid)
+        requires { HasRoom 0 0 1 turn.old }
+        ensures turn { Makes (λ n a u. owe_less n a from.now (call_of holder.now u.node.calls) u) self.old turn.old self.new turn.new }
+        ensures kept { KeepsQueue self.old self.new }
+        ensures spends { Spends 0 0 1 turn.old turn.new }
     {
         let Some(call) = self.calls.get(holder) else {
-            return Ok(());
+            return;
         };
         let CallPhase::Deleting(owing) = &call.phase else {
-            return Ok(());
+            return;
         };
         if !owing.contains(from) {
-            return Ok(());
+            return;
         }
         self.calls.give_up(holder, from);
-        self.end_deletion(turn, holder)
+        self.end_deletion(turn, holder);
     }
 
     /// A process's call is answered, where it is a deletion that waits for nobody.
-    fn end_deletion(&mut self, turn: &mut Turn, holder: &Pid) -> Result<(), AllocError>
-        ensures turn { OnOk result (Makes (λ n a u. deleted_of n a (call_of holder.now u.node.calls) u) self.old turn.old self.new turn.new) }
-        ensures kept { Keeps self.old self.new }
+    fn end_deletion(&mut self, turn: &mut Turn, holder: &Pid)
+        requires { HasRoom 0 0 1 turn.old }
+        ensures turn { Makes (λ n a u. deleted_of n a (call_of holder.now u.node.calls) u) self.old turn.old self.new turn.new }
+        ensures kept { KeepsQueue self.old self.new }
+        ensures spends { Spends 0 0 1 turn.old turn.new }
     {
         let Some(call) = self.calls.get(holder) else {
-            return Ok(());
+            return;
         };
         let CallPhase::Deleting(owing) = &call.phase else {
-            return Ok(());
+            return;
         };
         if !owing.is_empty() {
-            return Ok(());
+            return;
         }
-        let call = call.copy()?;
-        self.close_call(turn, &call, true)
+        self.close_of(turn, holder, true);
     }
 
     /// The refused call of a process, if it has one, uses one retry and is tried again.
-    fn retry_lock(&mut self, turn: &mut Turn, holder: &Pid) -> Result<(), AllocError>
-        ensures turn { OnOk result (Makes (λ n a u. retry_of n a (call_of holder.now u.node.calls) u) self.old turn.old self.new turn.new) }
-        ensures kept { Keeps self.old self.new }
+    fn retry_lock(&mut self, turn: &mut Turn, holder: &Pid)
+        requires { HasRoom 1 0 1 turn.old }
+        ensures turn { Makes (λ n a u. retry_of n a (call_of holder.now u.node.calls) u) self.old turn.old self.new turn.new }
+        ensures kept { KeepsQueue self.old self.new }
+        ensures spends { Spends 1 0 1 turn.old turn.new }
     {
         let Some(call) = self.calls.get(holder) else {
-            return Ok(());
+            return;
         };
         if !call.phase.is_waiting() {
-            return Ok(());
+            return;
         }
-        let mut call = call.copy()?;
-        call.retries = call.retries.one_less();
-        self.try_lock(turn, call)
+        let nodes = self.targets(&call.nodes);
+        if nodes.is_empty() {
+            return self.close_of(turn, holder, false);
+        }
+        turn.send(boss(&nodes), Self::lock_letter(call));
+        self.calls.ask_again(holder, Round::begin(&nodes));
     }
 
-    /// All refused calls are tried again, by serial.
-    pub(super) fn retry_locks(&mut self, turn: &mut Turn) -> Result<(), AllocError>
-        ensures turn { OnOk result (Makes (λ n a. retry_locks n a) self.old turn.old self.new turn.new) }
-        ensures kept { Keeps self.old self.new }
+    /// All refused calls are tried again, by serial: these are the processes that have one.
+    pub(super) fn retry_locks(&mut self, turn: &mut Turn, holders: &[Pid])
+        requires holders { holders.now ≡ map (λ c. c.holder) self.old.calls.calls }
+        requires ordered { AreOrdered self.old.calls.node (calls_seen self.old.calls) }
+        requires room { HasRoom (length holders.now) 0 (length holders.now) turn.old }
+        ensures turn { Makes (λ n a. retry_locks n a) self.old turn.old self.new turn.new }
+        ensures kept { KeepsQueue self.old self.new }
+        ensures spends { Spends (length holders.now) 0 (length holders.now) turn.old turn.new }
     {
-        for holder in &self.calls.holders(self.alloc)? {
-            self.retry_lock(turn, holder)?;
+        // Its calls are in order: the proof has this from a field.
+        let _ = &self.alloc;
+        for holder in holders {
+            self.retry_lock(turn, holder);
         }
-        Ok(())
     }
 }

@@ -10,31 +10,39 @@ use term::NodeName;
 use transaction::Op;
 
 impl<N: Names<Memory = Global>> NodeCore<N> {
-    ghost use Rattle.std.specs.Prelude.{◌≡◌, ℕ, None, Some, OnOk};
+    ghost use Rattle.std.specs.Prelude.{◌≡◌, ◌+◌, ◌≤◌, ℕ, true, false, None, Some, OnOk, OnErr, length};
     ghost use Rattle.protocol_model.specs.Letter.{Global as GlobalId, Letter as AnyLetter};
     ghost use Rattle.protocol_model.specs.Registrar.{registrar, ask_global, ask_rest, start_queue, start, retry_global};
     ghost use Rattle.protocol_model.specs.Deciding.{end_round, hear_answer};
     ghost use Rattle.locker.specs.Held.{Held as HeldRound, seen};
     ghost use Rattle.node_core.specs.declared.node.Phase.TheVariants.{Asking};
     ghost use Rattle.node_core.specs.Held.{IsWithin};
-    ghost use Rattle.node_events.specs.Letters.{letter_of};
+    ghost use Rattle.transaction.specs.Work.{begins_with_join};
+    ghost use Rattle.node_events.specs.Letters.{letter_of, has_lists};
+    ghost use Rattle.node_events.specs.Made.{HasRoom, Spends};
     ghost use Rattle.node_events.specs.Seen.{unnumbered};
-    ghost use Rattle.node_core.specs.Steps.{Keeps, Makes, Works};
+    ghost use Rattle.node_core.specs.Rare.{is_admission, joins_in, Adds};
+    ghost use Rattle.node_core.specs.Steps.{Keeps, KeepsCalls, Makes, Works};
 
     /// A round over the members begins: the boss is asked.
-    fn ask_global(&mut self, turn: &mut Turn) -> Result<(), AllocError>
-        ensures turn { OnOk result (Works (λ op n a. ask_global n a op) self.old turn.old self.new turn.new) }
-        ensures kept { Keeps self.old self.new }
+    fn ask_global(&mut self, turn: &mut Turn)
+        requires { HasRoom 1 0 0 turn.old }
+        ensures turn { Works (λ op n a. ask_global n a op) self.old turn.old self.new turn.new }
+        ensures kept { KeepsCalls self.old self.new }
+        ensures spends { Spends 1 0 0 turn.old turn.new }
     {
-        turn.send(boss(&self.members), self.set_lock())?;
+        turn.send(boss(&self.members), self.set_lock());
         self.phase = Phase::Asking(Round::begin(&self.members));
-        Ok(())
     }
 
-    /// A free registrar begins the next operation: an owed strike comes before all that waits.
+    /// A free registrar begins the next operation: an owed strike comes before all that waits. Memory is refused only where the
+    /// queue begins with a join.
     pub(super) fn start(&mut self, turn: &mut Turn) -> Result<(), AllocError>
+        requires { HasRoom 1 0 0 turn.old }
         ensures turn { OnOk result (Makes start self.old turn.old self.new turn.new) }
         ensures kept { Keeps self.old self.new }
+        ensures adds { Adds (joins_in self.old.registrar.queue) (joins_in self.old.registrar.queue) turn.old turn.new }
+        ensures refused { OnErr result (begins_with_join self.old.registrar.queue ≡ true) }
     {
         if self.is_at_work() {
             return Ok(());
@@ -44,38 +52,45 @@ impl<N: Names<Memory = Global>> NodeCore<N> {
             return self.start_queue(turn);
         }
         self.registrar.start(owed);
-        self.ask_global(turn)
+        self.ask_global(turn);
+        Ok(())
     }
 
     /// The front of the queue becomes current. A join whose contact has left is answered at once, and the next one's turn comes.
     fn start_queue(&mut self, turn: &mut Turn) -> Result<(), AllocError>
-        requires { self.old.registrar.current ≡ None }
+        requires free { self.old.registrar.current ≡ None }
+        requires room { HasRoom 1 0 0 turn.old }
         ensures turn { OnOk result (Makes (λ n a u. start_queue n a u.node.queue u) self.old turn.old self.new turn.new) }
         ensures kept { Keeps self.old self.new }
+        ensures adds { Adds (joins_in self.old.registrar.queue) (joins_in self.old.registrar.queue) turn.old turn.new }
+        ensures refused { OnErr result (begins_with_join self.old.registrar.queue ≡ true) }
     {
         while self.registrar.start(None) {
             let Some(Op::Join(number, contact)) = self.registrar.current() else {
-                return self.ask_global(turn);
+                self.ask_global(turn);
+                return Ok(());
             };
             let (number, contact) = (*number, contact.copy());
             if !self.told.contains(&contact) {
                 return self.ask_join(turn, number, contact);
             }
             self.registrar.finish();
-            self.contact_left(turn, number, contact)?;
+            turn.reserve(0, 1, 1)?;
+            self.contact_left(turn, number, contact);
         }
         Ok(())
     }
 
     /// A refused round begins anew.
-    pub(super) fn retry_global(&mut self, turn: &mut Turn) -> Result<(), AllocError>
-        ensures turn { OnOk result (Makes (λ n a u. retry_global n a u.node.current u) self.old turn.old self.new turn.new) }
-        ensures kept { Keeps self.old self.new }
+    pub(super) fn retry_global(&mut self, turn: &mut Turn)
+        requires { HasRoom 1 0 0 turn.old }
+        ensures turn { Makes (λ n a u. retry_global n a u.node.current u) self.old turn.old self.new turn.new }
+        ensures kept { KeepsCalls self.old self.new }
+        ensures spends { Spends 1 0 0 turn.old turn.new }
     {
         if self.is_waiting() {
-            self.ask_global(turn)?;
+            self.ask_global(turn);
         }
-        Ok(())
     }
 
     /// The boss's grant sends the same request to the rest, but for those that have gone down.
@@ -86,21 +101,28 @@ impl<N: Names<Memory = Global>> NodeCore<N> {
         from: &NodeName,
         granted: bool,
         request: &Letter,
-    ) -> Result<(), AllocError>
-        requires { IsWithin self.now.world round.now.nodes }
-        ensures { OnOk result (Makes (λ n a. ask_rest n a from.now granted (letter_of request.now) (seen round.now)) self.now turn.old self.now turn.new) }
+    )
+        requires within { IsWithin self.now.world round.now.nodes }
+        requires plain { has_lists request.now ≡ false }
+        requires room { HasRoom 8 0 0 turn.old }
+        ensures turn { Makes (λ n a. ask_rest n a from.now granted (letter_of request.now) (seen round.now)) self.now turn.old self.now turn.new }
+        ensures spends { Spends 8 0 0 turn.old turn.new }
     {
-        if round.opens(from, granted) {
-            turn.send_all(&except(&round.rest(), &self.told), request)?;
+        if !round.opens(from, granted) {
+            return;
         }
-        Ok(())
+        turn.send_all(&except(&round.rest(), &self.told), request);
     }
 
-    /// The round ends, where it is over.
+    /// The round ends, where it is over. Memory is refused only where it asks for an admission.
     pub(super) fn end_round(&mut self, turn: &mut Turn) -> Result<(), AllocError>
+        requires { HasRoom 9 1 1 turn.old }
+        ensures spends { Spends 9 1 1 turn.old turn.new }
+        ensures refused { OnErr result (is_admission self.old.registrar.current ≡ true) }
+        ensures unchanged { OnErr result (self.new ≡ self.old) }
         ensures turn { (round : HeldRound) → self.old.phase ≡ Asking round
             → OnOk result (Works (λ op n a. end_round n a unnumbered op (seen round)) self.old turn.old self.new turn.new) }
-        ensures kept { Keeps self.old self.new }
+        ensures kept { KeepsCalls self.old self.new }
     {
         let Phase::Asking(round) = &self.phase else {
             return Ok(());
@@ -111,19 +133,26 @@ impl<N: Names<Memory = Global>> NodeCore<N> {
         let asked = round.asked();
         match round.finish(&self.members) {
             Ending::Held => self.held(turn, asked),
-            Ending::GiveBack(granted) => self.give_up(turn, &granted),
+            Ending::GiveBack(granted) => {
+                self.give_up(turn, &granted);
+                Ok(())
+            }
         }
     }
 
-    /// A node answers the registrar's round: the rest are asked where it is the boss's grant, and the round may be over.
+    /// A node answers the registrar's round: the rest are asked where it is the boss's grant, and the round may be over. Where memory
+    /// is refused the node is as it was.
     pub(super) fn hear_answer(
         &mut self,
         turn: &mut Turn,
         from: &NodeName,
         granted: bool,
     ) -> Result<(), AllocError>
+        requires { HasRoom 17 1 1 turn.old }
+        ensures spends { Spends 17 1 1 turn.old turn.new }
+        ensures unchanged { OnErr result (self.new ≡ self.old) }
         ensures turn { OnOk result (Makes (λ n a u. hear_answer n a unnumbered from.now granted u.node.current u) self.old turn.old self.new turn.new) }
-        ensures kept { Keeps self.old self.new }
+        ensures kept { KeepsCalls self.old self.new }
     {
         if !self.is_at_work() {
             return Ok(());
@@ -134,11 +163,18 @@ impl<N: Names<Memory = Global>> NodeCore<N> {
         if !round.owes(from) {
             return Ok(());
         }
-        self.ask_rest(turn, round, from, granted, &self.set_lock())?;
+        self.ask_rest(turn, round, from, granted, &self.set_lock());
+        let before = round.copy();
         let Phase::Asking(round) = &mut self.phase else {
             return Ok(());
         };
         round.answer(from, granted);
-        self.end_round(turn)
+        match self.end_round(turn) {
+            Ok(()) => Ok(()),
+            Err(fault) => {
+                self.phase = Phase::Asking(before);
+                Err(fault)
+            }
+        }
     }
 }

@@ -5,11 +5,11 @@ use Rattle.cluster_script.specs.Played.{ReadsOn}
 use Rattle.cluster_script.proofs.Headers.{ReadsLone-by}
 use Rattle.cluster_script.proofs.header.read_behind.Goals as goal
 
-pub returns-in_ok-open_lone-in-Some-clause-read : goal.returns-in_ok-open_lone-in-Some-clause-read
-returns-in_ok-open_lone-in-Some-clause-read g c =
+pub returns-in-Some-clause-read : goal.returns-in-Some-clause-read
+returns-in-Some-clause-read g c =
     let input = reader_remaining g.R.Read.remaining c.args.reader.now in
     let rest = reader_remaining g.R.Read.remaining c.next_line.new.reader in
     let t = subst (λ (o : Option Line). ReadsOn input rest c.args.left.now c.next_line.new.left o) c.in-Some.is
     c.in_ok-line.ensures.read in
     ReadsLone-by c.args.cluster.nodes.items input rest c.args.left.now c.next_line.new.left t.0 t.1 t.4 t.5 t.3
-    c.in_ok-open_lone-in-Some.field-0 (c.in_ok-open_lone-in-Some.ensures t.1 t.2)
+    c.open_lone.result (c.open_lone.ensures t.1 t.2)

@@ -1,28 +1,14 @@
 use Rattle.std.proofs.Common.{ℕ, List, Option, Result, subst, sym}
 use Rattle.std.specs.Io.Buffered.{reader_remaining}
 use Rattle.std.proofs.KnownBytes.{Keeps-trans}
-use Rattle.std.proofs.lemmas.Result.{err_from_is_err_and}
 use Rattle.text_lines.specs.declared.lines.Line.{Line}
 use Rattle.command_lines.specs.declared.faults.LineFault.{LineFault}
-use Rattle.text_lines.specs.declared.faults.ScriptFault.{ScriptFault}
-use Rattle.text_lines.proofs.Known.{MatchResult-err}
 use Rattle.cluster_script.specs.declared.header.Cluster.{Cluster}
-use Rattle.cluster_script.specs.Headers.{OpensCluster, StopsOpening}
+use Rattle.cluster_script.specs.Headers.{OpensCluster}
 use Rattle.cluster_script.specs.Script.{OpensNone}
 use Rattle.cluster_script.specs.Played.{ReadsOn}
-use Rattle.cluster_script.proofs.Headers.{StopsOpening-next, headers_behind}
+use Rattle.cluster_script.proofs.Headers.{headers_behind}
 use Rattle.cluster_script.proofs.header.read_headers.Goals as goal
-
-pub returns-in_err-cluster-clause-read : goal.returns-in_err-cluster-clause-read
-returns-in_err-cluster-clause-read g c =
-    let input = reader_remaining g.R.Read.remaining c.args.reader.now in
-    let rest = reader_remaining g.R.Read.remaining c.next_line.new.reader in
-    let p = err_from_is_err_and c.from_residual-in_err-cluster.result c.from_residual-in_err-cluster.ensures.1 in
-    let t = subst (λ (o : Option Line). ReadsOn input rest c.args.left.now c.next_line.new.left o) c.in-Some.is
-    c.in_ok-line.ensures.read in
-    MatchResult-err _ (StopsOpening input rest c.args.left.now) c.from_residual-in_err-cluster.result p.0 p.1
-    (subst (λ (f : ScriptFault). StopsOpening input rest c.args.left.now f) (sym p.2)
-    (StopsOpening-next input rest c.args.left.now t.6))
 
 pub read_behind-requires-clause-opening : goal.read_behind-requires-clause-opening
 read_behind-requires-clause-opening g c =
@@ -30,7 +16,7 @@ read_behind-requires-clause-opening g c =
     let rest = reader_remaining g.R.Read.remaining c.next_line.new.reader in
     let t = subst (λ (o : Option Line). ReadsOn input rest c.args.left.now c.next_line.new.left o) c.in-Some.is
     c.in_ok-line.ensures.read in
-    let o = subst (λ (r : Result Cluster LineFault). OpensCluster t.1 r) c.in-Ok.is (c.in_ok-cluster.ensures t.1 t.2) in
+    let o = subst (λ (r : Result Cluster LineFault). OpensCluster t.1 r) c.in-Ok.is (c.open_cluster.ensures t.1 t.2) in
     o.1
 
 pub returns-in-Ok-clause-read : goal.returns-in-Ok-clause-read
@@ -40,7 +26,7 @@ returns-in-Ok-clause-read g c =
     let rest = reader_remaining g.R.Read.remaining c.read_behind.new.reader in
     let t = subst (λ (o : Option Line). ReadsOn input mid c.args.left.now c.next_line.new.left o) c.in-Some.is
     c.in_ok-line.ensures.read in
-    let o = subst (λ (r : Result Cluster LineFault). OpensCluster t.1 r) c.in-Ok.is (c.in_ok-cluster.ensures t.1 t.2) in
+    let o = subst (λ (r : Result Cluster LineFault). OpensCluster t.1 r) c.in-Ok.is (c.open_cluster.ensures t.1 t.2) in
     headers_behind input mid rest c.args.left.now c.next_line.new.left t.0 t.1 c.in-Ok.cluster.nodes.items t.4 t.5 t.3
     o.0 o.1.0 c.read_behind.new.left c.read_behind.result c.read_behind.ensures.read
 
@@ -56,5 +42,5 @@ returns-clause-read g c =
     let t = subst (λ (o : Option Line). ReadsOn input rest c.args.left.now c.next_line.new.left o) c.in-Some.is
     c.in_ok-line.ensures.read in
     let o = subst (λ (r : Result Cluster LineFault). OpensCluster t.1 r) c.in-Err.is
-    (c.in_ok-cluster.ensures t.1 t.2) in
+    (c.open_cluster.ensures t.1 t.2) in
     (t.0, t.4, t.5, subst (λ (xs : List (List ℕ)). OpensNone xs rest c.in-Err.fault) (sym t.3) o)

@@ -1,5 +1,5 @@
-use Rattle.cluster_script.proofs.Ends.{never_both}
+use Rattle.cluster_script.proofs.Ends.{ends_one_way}
 use Rattle.cluster_script.proofs.laws.one_end.Goals as goal
 
 pub returns : goal.returns
-returns c = never_both c.names_are_exact.ensures
+returns c = ends_one_way c.names_are_exact.ensures

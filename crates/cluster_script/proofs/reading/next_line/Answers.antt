@@ -6,7 +6,7 @@ use Rattle.text_lines.specs.declared.lines.Line.{Line}
 use Rattle.text_lines.specs.declared.faults.ScriptFault.{ScriptFault}
 use Rattle.cluster_script.specs.Played.{StopsReading}
 use Rattle.text_lines.proofs.Known.{LosesLines-trans, spoken-append, spoken-blank, spoken-said, count_of_all-append, MatchResult-err}
-use Rattle.cluster_script.proofs.Known.{LosesNext-behind, StopsReading-behind}
+use Rattle.cluster_script.proofs.Known.{StopsReading-behind}
 use Rattle.std.specs.Io.Buffered.{reader_remaining}
 use Rattle.cluster_script.proofs.reading.next_line.Goals as goal
 
@@ -45,7 +45,6 @@ returns-then-not-is_blank-clause-read g c =
       spoken-append i.0 (t.0 ∷ []) ∙ ap (λ (ls : List (List ℕ)). ls ++ spoken (t.0 ∷ [])) i.1 ∙ spoken-said t.0 b,
       LosesLines-trans input mid rest i.0 (t.0 ∷ []) i.2 t.2,
       omega (arith, i.3, t.4, count_of_all-append i.0 (t.0 ∷ [])),
-      LosesNext-behind input mid rest i.0 i.1 i.2 t.3,
     )
 
 pub loop-line-preserved : goal.loop-line-preserved

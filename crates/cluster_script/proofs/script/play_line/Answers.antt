@@ -1,7 +1,13 @@
-use Rattle.std.proofs.Common.{inl}
 use Rattle.command_lines.specs.Commands.{asked_by}
+use Rattle.cluster_script.proofs.Headers.{read_or_memory}
+use Rattle.cluster_script.proofs.Runs.{ComesTo-read}
 use Rattle.cluster_script.proofs.script.play_line.Goals as goal
 
 pub returns : goal.returns
 returns g c = λ bytes k.
-    inl (asked_by c.read_task-task.result, c.read_task-task.ensures c.if-ran_out.ensures bytes k, c.play_task.ensures)
+    let p = c.play_task.ensures in (
+      p.0,
+      ComesTo-read bytes (asked_by c.read_task-task.result) p.0
+          (read_or_memory bytes c.read_task-task.result (λ n. c.read_task-task.ensures n bytes k)) p.1,
+      p.2,
+    )

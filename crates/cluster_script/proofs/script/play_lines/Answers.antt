@@ -1,14 +1,11 @@
-use Rattle.std.proofs.Common.{◌≡◌, ◌+◌, ◌<◌, ◌⊎◌, inl, inr, ℕ, Bool, List, [], ◌∷◌, Option, Result, Ok, Err, ◌∙◌, ap, subst, sym, arith, refl}
+use Rattle.std.proofs.Common.{◌≡◌, ◌+◌, ◌<◌, ℕ, Bool, List, [], ◌∷◌, Option, ◌∙◌, subst, sym, arith, refl}
 use Rattle.std.proofs.lemmas.Result.{err_from_is_err_and}
 use Rattle.text_lines.specs.declared.lines.Line.{Line}
 use Rattle.text_lines.specs.declared.faults.ScriptFault.{ScriptFault}
-use Rattle.text_lines.specs.declared.faults.WriteFault.{WriteFault}
-use Rattle.text_lines.specs.declared.faults.WriteFault.TheVariants.{Memory}
-use Rattle.text_lines.specs.Writing.{stop_of}
 use Rattle.text_lines.specs.Lines.{spoken, count_of_all}
 use Rattle.cluster_script.specs.Played.{ReadsOn, PlaysLines, StopsPlaying}
 use Rattle.text_lines.proofs.Known.{count_of_all-some}
-use Rattle.cluster_script.proofs.Scripts.{PlaysLines-start, PlaysLines-next, PlaysSome-next, PlaysLines-blank, PlaysLines-kept, StopsPlaying-next, PlaysAll-err, StopsPlaying-reading, StopsPlaying-writing}
+use Rattle.cluster_script.proofs.Scripts.{PlaysLines-start, PlaysLines-next, PlaysSome-next, PlaysLines-blank, PlaysLines-kept, PlaysAll-err, StopsPlaying-reading, StopsPlaying-writing}
 use Rattle.std.specs.Io.Buffered.{reader_remaining}
 use Rattle.cluster_script.proofs.script.play_lines.Goals as goal
 
@@ -21,11 +18,6 @@ less most left ls line s e =
   where
     cons_nil : (l : List ℕ) → l ∷ [] ≡ [] → ⊥
     cons_nil l h = cc
-
--- in either case
-either : {A B P : Type 0} → A ⊎ B → (A → P) → (B → P) → P
-either (inl a) f g = f a
-either (inr b) f g = g b
 
 pub loop-line-init : goal.loop-line-init
 loop-line-init g c = PlaysLines-start _ _ _ _
@@ -41,16 +33,10 @@ returns-in_err-fine g c =
     let p = err_from_is_err_and c.from_residual-in_err-fine.result c.from_residual-in_err-fine.ensures.1 in
     let t = subst (λ (o : Option Line). ReadsOn mid rest c.loop-line.left c.next_line.new.left o)
     c.in-Some.is c.in_ok-line.ensures.read in
+    let q = c.in_err-fine.ensures t.1 t.2 in
     PlaysAll-err [] _ _ _ _ _ _ _ _ c.from_residual-in_err-fine.result p.0 p.1
-    (either (c.in_err-fine.ensures t.1 t.2)
-    (λ q. StopsPlaying-writing [] _ rest _ _ _ _ c.in_err-fine.field-0.0 p.0 p.2
+    (StopsPlaying-writing [] _ rest _ _ _ _ c.in_err-fine.field-0.0 p.0 p.2
     (PlaysSome-next _ _ _ _ _ _ _ _ _ P rest t.0 t.1 q.0 t.3 t.4 q.1 _ q.2) refl)
-    (λ q. subst (λ (f : ScriptFault). StopsPlaying [] input rest c.args.left.now c.args.world.now old new f)
-    (sym (p.2 ∙ ap stop_of (memory c.in_err-fine.field-0.0 q.0)))
-    (StopsPlaying-next _ _ _ _ _ _ _ _ _ (PlaysLines-kept _ _ _ _ _ _ _ _ _ _ P q.1) rest t.6)))
-  where
-    memory : (f : WriteFault) → ◌≡◌ {A = Result Bool WriteFault} (Err f) (Err Memory) → f ≡ Memory
-    memory f e = cc
 
 pub loop-line-smaller : goal.loop-line-smaller
 loop-line-smaller g c =
@@ -70,14 +56,10 @@ loop-line-preserved g c =
     let P = PlaysLines-kept _ _ _ _ _ _ _ _ _ _ c.loop-line.invariant c.in_ok-line.ensures.kept in
     let t = subst (λ (o : Option Line). ReadsOn mid rest c.loop-line.left c.next_line.new.left o)
     c.in-Some.is c.in_ok-line.ensures.read in
+    let q = c.in_ok-fine.ensures t.1 t.2 in
     subst (λ (b : Bool). PlaysLines [] input rest c.args.left.now c.next_line.new.left c.args.world.now
     c.play_line.new.world old new b) (sym c.both-is_fine.ensures)
-    (either (c.in_ok-fine.ensures t.1 t.2)
-    (λ q. PlaysLines-next _ _ _ _ _ _ _ _ _ P rest t.0 t.1 q.0 t.3 t.4 q.1 _ _ _ c.in_ok-fine.fine t.5 q.2)
-    (λ q. absurd (never c.in_ok-fine.fine q.0)))
-  where
-    never : (fine : Bool) → ◌≡◌ {A = Result Bool WriteFault} (Ok fine) (Err Memory) → ⊥
-    never fine e = cc
+    (PlaysLines-next _ _ _ _ _ _ _ _ _ P rest t.0 t.1 q.0 t.3 t.4 q.1 _ _ _ c.in_ok-fine.fine t.5 q.2)
 
 pub returns : goal.returns
 returns g c =

@@ -52,9 +52,10 @@ returns-in-Open g c =
     let t = subst (λ (h : Headers). ReadsHeaders input rest 1000000 c.read_headers.new.left h) c.in-Open.is
     c.in_ok-world.ensures.read in
     let q = opened_by (spoken t.0) rest c.in-Open.world c.in-Open.first t.3 in
+    let p = c.play_all.ensures in
     Ran-played input rest 1000000 c.read_headers.new.left (omega arith) old new t.0 t.1 t.2 q.0 q.1 q.2 q.3 q.4
-    c.in-Open.world c.in-Open.first q.5 last same c.in_ok-world.ensures.kept c.play_all.new.world c.play_all.new.left
-    c.play_all.result refl c.play_all.ensures
+    c.in-Open.world c.in-Open.first q.5 p.0 p.1 last same c.in_ok-world.ensures.kept c.play_all.new.world
+    c.play_all.new.left c.play_all.result refl p.2
 
 pub returns-in-Ended : goal.returns-in-Ended
 returns-in-Ended g c =

@@ -1,10 +1,12 @@
-use Rattle.std.proofs.Common.{◌≡◌, ◌++◌, map, take}
+use Rattle.std.proofs.Common.{◌≡◌, ◌≤◌, ◌++◌, map, length}
 use Rattle.node_core.specs.NodeEventsSeen.{entry_by}
 use Rattle.world_history.specs.Histories.{entry_of}
 use Rattle.cluster_world.specs.Histories.{number_at}
 use Rattle.cluster_world.proofs.history.enter_all.Given as goal
 
 abbrev pub invariant-loop-entry : goal.invariant-loop-entry
-invariant-loop-entry g l = map entry_of l.history
-    ≡ map entry_of l.initial.history
-    ++ map (entry_by (number_at l.cores l.stepped l.own)) (take l.entry-index l.entries)
+invariant-loop-entry g l = record {
+  entries : map entry_of l.history.entries
+      ≡ map entry_of l.initial.history.entries ++ map (entry_by (number_at l.cores l.stepped l.own)) l.yielded;
+  room : length l.entry-iterator.rest.items ≤ l.history.room;
+}

@@ -1,4 +1,5 @@
 use Rattle.std.proofs.Common.{◌∙◌, length, map, sym, ap, subst, rules}
+use Rattle.std.proofs.lemmas.Result.{err_from_is_err_and}
 use Rattle.std.proofs.lemmas.List.{length-map}
 use Rattle.cluster_world.specs.Seen.{seen}
 use Rattle.node_log.specs.Openings.{repeats}
@@ -40,7 +41,9 @@ least_other_table-requires g c =
 
 pub returns-in_err-place-clause-refused : goal.returns-in_err-place-clause-refused
 returns-in_err-place-clause-refused g c =
-    let fault : IsFault c.args.cluster.now c.args.lone.now (map (end_of g.N.Names.contents) c.args.ends.now) c.args.transcripts.now Memory = (as_many EndedWell (map (end_of g.N.Names.contents) c.args.ends.now) _ (sym (length-map c.args.ends.now (end_of g.N.Names.contents))) c.in_default.ensures) in search rules
+    let fault : IsFault c.args.cluster.now c.args.lone.now (map (end_of g.N.Names.contents) c.args.ends.now) c.args.transcripts.now Memory = (as_many EndedWell (map (end_of g.N.Names.contents) c.args.ends.now) _ (sym (length-map c.args.ends.now (end_of g.N.Names.contents))) c.in_default.ensures) in
+    let p = err_from_is_err_and c.from_residual-in_err-place.result c.from_residual-in_err-place.ensures.1 in
+    rw (p.1, p.2) fault
 
 pub returns-in-Some-2-clause-refused : goal.returns-in-Some-2-clause-refused
 returns-in-Some-2-clause-refused g c =

@@ -6,7 +6,7 @@ use Rattle.transaction.specs.declared.reply.LockReply.TheVariants.{Set}
 use Rattle.registry_model.specs.Process.{Process}
 use Rattle.node_core.specs.declared.Call.{Call}
 use Rattle.node_core.specs.declared.Call.TheVariants.{SetLock}
-use Rattle.cluster_world.specs.Seats.{Called}
+use Rattle.cluster_world.specs.Seats.{most_events, Called}
 use Rattle.cluster_world.proofs.seat.WorldSeatLockSeat.set_lock.Goals as goal
 
 pub returns : goal.returns
@@ -24,6 +24,6 @@ returns g c =
         same_world = c.call.ensures.same_world;
       },
       c.call.ensures.kept,
-      subst (λ (k : Call). Called c.args.self.now.holder.node k c.args.self.now.world.now c.call.new.self.world.now
+      subst (λ (k : Call). Called c.args.self.now.holder.node k most_events c.args.self.now.world.now c.call.new.self.world.now
           (Some c.in_ok-granted.granted)) call c.in_ok-granted.ensures.called,
     )

@@ -20,7 +20,7 @@ returns-in-Err g c =
     c.index-events-played.result c.in-Err.refusal c.loop-played.invariant c.loop-played-test.true
     (slice_get-get_or c.args.events.now c.loop-played.played c.index-events-played.result c.loop-played-test.true
     ∙ ap (λ (e : WorldEvent). Some e) (sym c.index-events-played.is))
-    c.in-Err.ensures.refused c.play_into.ensures.kept c.in-Err.ensures.unchanged c.in-Err.ensures.unanswered
+    c.in-Err.ensures.refused c.play_into.ensures.kept c.in-Err.ensures.as_before c.in-Err.ensures.unanswered
 
 pub returns : goal.returns
 returns g c =

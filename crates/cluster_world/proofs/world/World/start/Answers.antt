@@ -1,4 +1,4 @@
-use Rattle.std.proofs.Common.{◌≡◌, ◌∙◌, [], subst}
+use Rattle.std.proofs.Common.{◌≡◌, ◌∙◌, None, [], subst}
 use Rattle.protocol_model.specs.World.{opening_world}
 use Rattle.term.specs.NodeSets.{IsNodeSet}
 use Rattle.cluster_world.specs.Held.{Held, IsWhole}
@@ -13,27 +13,27 @@ use Rattle.cluster_world.proofs.world.World.start.Goals as goal
 pub invariant_of-result : goal.invariant_of-result
 invariant_of-result g c =
     subst IsWhole (with_sets c.in_ok-opening.opening.nodes c.in_ok-opening.opening.cluster c.copy.result c.copy-2.result
-    c.in_ok-cores.cores.items c.in_ok-links.links c.in_ok-history.history (c.copy.ensures ∙ c.nodes-3.ensures.nodes) (c.copy-2.ensures ∙ c.cluster.ensures))
-    (opens_whole c.in_ok-opening.opening.nodes c.in_ok-opening.opening.cluster c.in_ok-cores.cores.items c.in_ok-links.links
-    c.in_ok-history.history c.in_ok-cores.ensures c.in_ok-links.ensures.empty
+    c.in_ok-cores.cores.items (record { mesh = c.in_ok-mesh.mesh; unsent = None }) c.in_ok-history.history.entries (c.copy.ensures ∙ c.nodes-3.ensures.nodes) (c.copy-2.ensures ∙ c.cluster.ensures))
+    (opens_whole c.in_ok-opening.opening.nodes c.in_ok-opening.opening.cluster c.in_ok-cores.cores.items (record { mesh = c.in_ok-mesh.mesh; unsent = None })
+    c.in_ok-history.history.entries c.in_ok-cores.ensures c.in_ok-mesh.ensures.empty
     (subst IsNodeSet c.nodes.ensures.nodes c.as_slice.ensures.set)
-    (c.in_ok-links.ensures.nodes ∙ c.as_slice.ensures.nodes ∙ c.nodes.ensures.nodes))
+    (c.in_ok-mesh.ensures.nodes ∙ c.as_slice.ensures.nodes ∙ c.nodes.ensures.nodes))
 
 pub returns-clause-nodes : goal.returns-clause-nodes
 returns-clause-nodes g c =
     subst (Opens c.args.cluster.now c.args.lone.now)
     (with_sets c.in_ok-opening.opening.nodes c.in_ok-opening.opening.cluster c.copy.result c.copy-2.result
-    c.in_ok-cores.cores.items c.in_ok-links.links c.in_ok-history.history (c.copy.ensures ∙ c.nodes-3.ensures.nodes) (c.copy-2.ensures ∙ c.cluster.ensures))
+    c.in_ok-cores.cores.items (record { mesh = c.in_ok-mesh.mesh; unsent = None }) c.in_ok-history.history.entries (c.copy.ensures ∙ c.nodes-3.ensures.nodes) (c.copy-2.ensures ∙ c.cluster.ensures))
     (opens c.args.cluster.now c.args.lone.now c.in_ok-opening.opening c.in_ok-opening.ensures.ok
-    c.in_ok-cores.cores.items c.in_ok-links.links c.in_ok-history.history)
+    c.in_ok-cores.cores.items (record { mesh = c.in_ok-mesh.mesh; unsent = None }) c.in_ok-history.history.entries)
 
 pub returns-clause-world : goal.returns-clause-world
 returns-clause-world g c =
     subst (λ (h : Held). seen h ≡ opening_world (opening_of h))
     (with_sets c.in_ok-opening.opening.nodes c.in_ok-opening.opening.cluster c.copy.result c.copy-2.result
-    c.in_ok-cores.cores.items c.in_ok-links.links c.in_ok-history.history (c.copy.ensures ∙ c.nodes-3.ensures.nodes) (c.copy-2.ensures ∙ c.cluster.ensures))
-    (opens_seen c.in_ok-opening.opening.nodes c.in_ok-opening.opening.cluster c.in_ok-cores.cores.items c.in_ok-links.links
-    c.in_ok-history.history c.in_ok-cores.ensures c.in_ok-links.ensures.empty c.nodes.ensures.within
+    c.in_ok-cores.cores.items (record { mesh = c.in_ok-mesh.mesh; unsent = None }) c.in_ok-history.history.entries (c.copy.ensures ∙ c.nodes-3.ensures.nodes) (c.copy-2.ensures ∙ c.cluster.ensures))
+    (opens_seen c.in_ok-opening.opening.nodes c.in_ok-opening.opening.cluster c.in_ok-cores.cores.items (record { mesh = c.in_ok-mesh.mesh; unsent = None })
+    c.in_ok-history.history.entries c.in_ok-cores.ensures c.in_ok-mesh.ensures.empty c.nodes.ensures.within
     c.in_ok-history.ensures)
 
 pub returns-clause-agrees : goal.returns-clause-agrees

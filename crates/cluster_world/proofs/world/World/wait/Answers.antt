@@ -1,8 +1,8 @@
-use Rattle.std.proofs.Common.{◌-◌, ◌≡◌, ◌∙◌, zero, List, map, ap, sym, subst, arith}
+use Rattle.std.proofs.Common.{ℕ, ◌≡◌, ◌∙◌, None, List, map, ap, sym, subst, arith}
 use Rattle.node_core.specs.declared.Answer.{Answer}
 use Rattle.node_core.specs.NodeEventsSeen.{answer_of}
-use Rattle.cluster_world.specs.Seats.{most_events, verdict_in}
-use Rattle.cluster_world.proofs.Seats.{IsWaiting, begins, ends, refused_end, is_answered, waits_on}
+use Rattle.cluster_world.specs.Seats.{most_events, verdict_in, Waited}
+use Rattle.cluster_world.proofs.Seats.{begins, ends, refused_end, is_answered, waits_on}
 use Rattle.cluster_world.proofs.world.World.wait.Goals as goal
 
 pub loop-init : goal.loop-init
@@ -20,7 +20,7 @@ pub returns-in-Err-clause-waited : goal.returns-in-Err-clause-waited
 returns-in-Err-clause-waited g c =
     refused_end c.args.node.now c.args.number c.args.self.now c.loop.self c.play.new.self c.loop.counter
     c.next_for.result c.loop-test.true c.loop.invariant c.next_for.ensures c.in-Err.refusal c.no_answer.result
-    c.in-Err.ensures.refused c.in-Err.ensures.unchanged c.no_answer.ensures
+    c.in-Err.ensures.refused c.in-Err.ensures.as_before c.no_answer.ensures
 
 pub loop-preserved : goal.loop-preserved
 loop-preserved g c =
@@ -32,8 +32,8 @@ loop-preserved g c =
 
 pub returns-clause-waited : goal.returns-clause-waited
 returns-clause-waited g c =
-    ends c.args.node.now c.args.number c.args.self.now c.loop.self
-    (subst (IsWaiting c.args.node.now c.args.number c.args.self.now c.loop.self) over c.loop.invariant)
+    subst (λ (most : ℕ). Waited c.args.node.now c.args.number most c.args.self.now c.loop.self None) over
+    (ends c.args.node.now c.args.number c.loop.counter c.args.self.now c.loop.self c.loop.invariant)
   where
-    over : most_events - c.loop.counter ≡ zero
+    over : c.loop.counter ≡ most_events
     over = omega (arith, c.loop-test.false)

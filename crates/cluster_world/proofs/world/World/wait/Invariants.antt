@@ -1,7 +1,5 @@
-use Rattle.std.proofs.Common.{◌-◌}
-use Rattle.cluster_world.specs.Seats.{most_events}
 use Rattle.cluster_world.proofs.Seats.{IsWaiting}
 use Rattle.cluster_world.proofs.world.World.wait.Given as goal
 
 abbrev pub invariant-loop : goal.invariant-loop
-invariant-loop g l = IsWaiting l.node l.number l.fn.self l.self (most_events - l.counter)
+invariant-loop g l = IsWaiting l.node l.number l.fn.self l.self l.counter

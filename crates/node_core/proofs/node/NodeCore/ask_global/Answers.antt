@@ -8,6 +8,6 @@ use Rattle.node_core.proofs.node.NodeCore.ask_global.Goals as goal
 pub returns-clause-turn : goal.returns-clause-turn
 returns-clause-turn g c =
     asks_global _ _ _ _ _ _ c.begin.result c.self.view_is c.self.invariant.members c.boss.ensures.protocol
-    (c.set_lock.ensures ∙ ap (λ (h : Held). AnyLetter.SetLock (Global h.name) (registrar h.name)) (sym c.self.view_is))
+    (c.set_lock.ensures.says ∙ ap (λ (h : Held). AnyLetter.SetLock (Global h.name) (registrar h.name)) (sym c.self.view_is))
     c.begin.ensures.protocol
-    c.in_ok-send.ensures.ok
+    c.send.ensures.made

@@ -17,5 +17,5 @@ returns-clause-turn g c =
     on_ok_weaker c.put.result
     (asks_lock _ c.args.self.now c.args.turn.now c.send.new.self c.args.call c.put.new.self c.boss.result
     c.lock_letter.result c.begin.result c.args.nodes.now c.self.view_is c.requires.within c.boss.ensures.protocol
-    c.lock_letter.ensures c.begin.ensures.protocol c.in_ok-send.ensures.ok)
+    c.lock_letter.ensures.says c.begin.ensures.protocol c.send.ensures.made)
     c.put.ensures.ok

@@ -5,9 +5,9 @@ use Rattle.node_core.specs.Held.{Held}
 use Rattle.node_core.proofs.Rounds.{asks_rest}
 use Rattle.node_core.proofs.node.NodeCore.ask_rest.Goals as goal
 
-pub returns-in_ok-send_all : goal.returns-in_ok-send_all
-returns-in_ok-send_all g c =
-    asks_rest c.args.self.now c.args.turn.now _ _ _ _ c.rest.result c.except.result _ c.in_ok-send_all.ensures.set
-    c.requires c.rest.ensures.value c.rest.ensures.protocol
+pub returns-clause-turn : goal.returns-clause-turn
+returns-clause-turn g c =
+    asks_rest c.args.self.now c.args.turn.now _ _ _ _ c.rest.result c.except.result _ c.send_all.ensures.set
+    c.requires.within c.rest.ensures.value c.rest.ensures.protocol
     (λ d. c.except.ensures d ∙ ap (λ (h : Held). set_of c.rest.result d && not (set_of h.told d)) c.self.view_is)
-    (sym c.opens.ensures ∙ c.if-opens.true) c.in_ok-send_all.ensures.letters
+    (sym c.opens.ensures ∙ c.if-not-opens.false) c.send_all.ensures.letters

@@ -1,6 +1,5 @@
 use Rattle.std.proofs.Common.{ap, sym, ◌∙◌}
 use Rattle.std.specs.Prelude.{is_some}
-use Rattle.std.proofs.lemmas.Result.{on_ok_weaker}
 use Rattle.node_core.specs.Held.{Held}
 use Rattle.node_core.proofs.Rules.{whole_less, last_awaited, more_awaited}
 use Rattle.node_core.proofs.node.NodeCore.await_less.Goals.{in-Writing, in_default}
@@ -27,11 +26,9 @@ pub returns-in-Writing-replace-clause-turn : goal.returns-in-Writing-replace-cla
 returns-in-Writing-replace-clause-turn g c =
     let was = c.applied.ensures.was in let yes_ = c.if-not-applied.false in let left = c.is_done.ensures in let none =
     c.if-not-is_done.false in
-    on_ok_weaker c.done.result
-    (λ w. last_awaited _ c.args.self.now c.args.turn.now c.applied.new.self c.args.from.now
+    last_awaited _ c.args.self.now c.args.turn.now c.applied.new.self c.args.from.now
     c.in-Writing-replace.asked c.in-Writing-replace.reply c.self.view_is
     c.self.invariant (sym c.replace.ensures.value ∙ c.in-Writing-replace.is) (cc was) c.applied.ensures.state
     c.done.new.self c.done.new.turn c.replace.new.dest
     (ap (λ (h : Held). is_some h.registrar.current) c.self.view_is ∙ sym c.is_at_work.ensures
-    ∙ c.if-not-is_at_work.false) (cc left) w)
-    c.done.ensures.turn
+    ∙ c.if-not-is_at_work.false) (cc left) c.done.ensures.turn

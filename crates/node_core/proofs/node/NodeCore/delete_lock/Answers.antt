@@ -7,11 +7,9 @@ use Rattle.node_core.proofs.node.NodeCore.delete_lock.Goals as goal
 
 pub returns-then-is_empty-clause-turn : goal.returns-then-is_empty-clause-turn
 returns-then-is_empty-clause-turn g c =
-    on_ok_weaker c.close_call.result
-    (deletes_none c.args.self.now c.args.turn.now c.args.call c.targets-nodes.result c.is_empty.result
+    deletes_none c.args.self.now c.args.turn.now c.args.call c.targets-nodes.result c.is_empty.result
     c.targets-nodes.ensures.within c.targets-nodes.ensures.asked c.is_empty.ensures c.close_call.new.self
-    c.close_call.new.turn c.if-is_empty.true)
-    c.close_call.ensures.turn
+    c.close_call.new.turn c.if-is_empty.true c.close_call.ensures.turn
 
 pub invariant_of-self : goal.invariant_of-self
 invariant_of-self g c =
@@ -27,5 +25,5 @@ returns-clause-turn g c =
     (deletes_some c.args.self.now c.args.turn.now c.args.call c.targets-nodes.result c.is_empty.result
     c.targets-nodes.ensures.within c.targets-nodes.ensures.asked c.is_empty.ensures _ c.send_all.new.self
     c.put.new.self _ c.self.view_is c.if-is_empty.false c.send_all.ensures.set (cc (id, holder))
-    c.in_ok-send_all.ensures.letters)
+    c.send_all.ensures.letters)
     c.put.ensures.ok

@@ -1,6 +1,5 @@
 use Rattle.std.proofs.Common.{refl, ap, ◌∙◌}
 use Rattle.std.specs.Option.{option_map}
-use Rattle.std.proofs.lemmas.Result.{on_ok_weaker}
 use Rattle.term.specs.NodeSets.{set_of}
 use Rattle.node_core.specs.Held.{Held}
 use Rattle.node_events.specs.Seen.{reply_of}
@@ -9,9 +8,7 @@ use Rattle.node_core.proofs.node.NodeCore.done.Goals as goal
 
 pub returns-clause-turn : goal.returns-clause-turn
 returns-clause-turn g c =
-    on_ok_weaker c.finish.result
-    (λ w. does c.args.self.now c.args.self.now c.finish.new.self c.args.turn.now c.enter.new.self c.finish.new.turn
+    does c.args.self.now c.args.self.now c.finish.new.self c.args.turn.now c.enter.new.self c.finish.new.turn
     c.copy.result (set_of c.args.asked.now)
     (option_map reply_of c.args.reply) refl (c.copy.ensures ∙ ap (λ (h : Held). h.name) c.self.view_is)
-    c.in_ok-enter.ensures w)
-    c.finish.ensures.turn
+    c.enter.ensures.made c.finish.ensures.turn

@@ -1,6 +1,4 @@
-use Rattle.std.proofs.Common.{Some, ap, ◌∙◌}
-use Rattle.std.proofs.lemmas.Result.{on_ok_weaker}
-use Rattle.lock_calls.specs.declared.call.LockCall.{LockCall}
+use Rattle.std.proofs.Common.{Some, sym}
 use Rattle.lock_calls.specs.Calls.{as_call}
 use Rattle.node_core.proofs.Locking.{found_within}
 use Rattle.node_core.proofs.CallEnds.{same_found, deletion_goes_on, deletion_ends}
@@ -17,13 +15,10 @@ returns-then-not-is_empty-clause-turn g c =
 
 pub returns-clause-turn : goal.returns-clause-turn
 returns-clause-turn g c =
-    let found = ap (λ (x : LockCall). Some (as_call x)) c.in_ok-call.ensures.copy
-    ∙ same_found _ c.args.self.now c.args.holder.now (as_call c.in-Some.call.now) c.self.view_is
+    let found = same_found _ c.args.self.now c.args.holder.now (as_call c.in-Some.call.now) c.self.view_is
     c.in-Some.ensures.call in
-    on_ok_weaker c.close_call.result
-    (deletion_ends c.args.self.now c.args.turn.now c.in_ok-call.call c.args.holder.now c.in-Deleting.owing
-    c.is_empty.result found (ap (λ (x : LockCall). x.phase) c.in_ok-call.ensures.copy ∙ c.in-Deleting.is)
-    c.is_empty.ensures
-    (found_within _ c.args.self.now c.args.holder.now (Some c.in_ok-call.call) c.self.view_is c.self.invariant found)
-    c.close_call.new.self c.close_call.new.turn c.if-not-is_empty.false)
-    c.close_call.ensures.turn
+    deletion_ends c.args.self.now c.args.turn.now c.in-Some.call.now c.args.holder.now c.in-Deleting.owing
+    c.is_empty.result found c.in-Deleting.is c.is_empty.ensures
+    (found_within _ c.args.self.now c.args.holder.now (Some c.in-Some.call.now) c.self.view_is c.self.invariant found)
+    c.close_of.new.self c.close_of.new.turn c.if-not-is_empty.false
+    (c.close_of.ensures.turn (as_call c.in-Some.call.now) (sym found))

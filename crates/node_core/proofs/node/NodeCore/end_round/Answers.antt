@@ -17,16 +17,14 @@ returns-then-not-is_over-clause-turn g c =
     (ap (λ (h : Held). h.phase) (sym c.self.view_is) ∙ c.in-Asking.is) whole.phase c.is_over.ensures.protocol
     c.if-not-is_over.true unnumbered
 
-pub give_up-requires : goal.give_up-requires
-give_up-requires g c =
+pub give_up-requires-clause-within : goal.give_up-requires-clause-within
+give_up-requires-clause-within g c =
     let whole : IsWhole c.args.self.now = subst (λ (h : Held). IsWhole h) c.self.view_is c.self.invariant in
-    record {
-      within = granted_within c.args.self.now.world c.self.inside.members c.in-GiveBack.granted c.in-Asking.round
-          c.finish.result
-          (round_within c.args.self.now.world c.args.self.now.phase c.in-Asking.round
-          (ap (λ (h : Held). h.phase) (sym c.self.view_is) ∙ c.in-Asking.is) whole.phase)
-          c.finish.ensures.value c.in-GiveBack.is;
-    }
+    granted_within c.args.self.now.world c.self.inside.members c.in-GiveBack.granted c.in-Asking.round
+    c.finish.result
+    (round_within c.args.self.now.world c.args.self.now.phase c.in-Asking.round
+    (ap (λ (h : Held). h.phase) (sym c.self.view_is) ∙ c.in-Asking.is) whole.phase)
+    c.finish.ensures.value c.in-GiveBack.is
 
 pub returns-in-Held-clause-turn : goal.returns-in-Held-clause-turn
 returns-in-Held-clause-turn g c = λ round is.
@@ -45,13 +43,11 @@ returns-in-Held-clause-turn g c = λ round is.
 pub returns-in-GiveBack-clause-turn : goal.returns-in-GiveBack-clause-turn
 returns-in-GiveBack-clause-turn g c = λ round is.
     let whole : IsWhole c.args.self.now = subst (λ (h : Held). IsWhole h) c.self.view_is c.self.invariant in
-    on_ok_weaker c.give_up.result
-    (λ w. ends_failed c.args.self.now c.args.self.now c.args.turn.now c.in-Asking.round c.is_over.result refl
+    ends_failed c.args.self.now c.args.self.now c.args.turn.now c.in-Asking.round c.is_over.result refl
     (ap (λ (h : Held). h.phase) (sym c.self.view_is) ∙ c.in-Asking.is) whole.phase c.is_over.ensures.protocol
     whole.members c.finish.result
     (subst (λ (h : Held). (n : ℕ) → All (λ d. d < n) c.in-Asking.round.nodes → All (λ d. d < n) h.members
     → EndsAs c.finish.result (ending n (set_of h.members) (seen c.in-Asking.round))) c.self.view_is
     c.finish.ensures.protocol)
-    c.give_up.new.self c.give_up.new.turn c.in-GiveBack.granted c.if-not-is_over.false c.in-GiveBack.is unnumbered w
-    round is)
-    c.give_up.ensures.turn
+    c.give_up.new.self c.give_up.new.turn c.in-GiveBack.granted c.if-not-is_over.false c.in-GiveBack.is unnumbered
+    c.give_up.ensures.turn round is

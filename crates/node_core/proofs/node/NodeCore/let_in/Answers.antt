@@ -10,7 +10,7 @@ returns-clause-turn g c = λ pairs admitting.
     let told = subst (λ (h : Held). TellsToAdmit h c.args.joiner c.args.settled.now c.enter_joined.new.turn
     c.tell_to_admit.new.turn) (sym c.self.view_is) c.in_ok-tell_to_admit.ensures.told in
     let welcome = subst (λ (h : Held). Welcomes h c.args.joiner c.args.settled.now c.tell_to_admit.new.turn
-    c.send_welcome.new.turn) (sym c.self.view_is) c.in_ok-send_welcome.ensures in
+    c.send_welcome.new.turn) (sym c.self.view_is) c.in_ok-send_welcome.ensures.welcomed in
     lets_in _ c.args.self.now c.args.turn.now c.enter_joined.new.turn c.tell_to_admit.new.turn c.send_welcome.new.turn
     c.await_from.new.self c.args.asked c.and_one.result c.args.self.now.name c.args.joiner c.args.joiner c.args.joiner
     told.0 welcome.0 c.args.settled.now
@@ -18,4 +18,4 @@ returns-clause-turn g c = λ pairs admitting.
     (subst (λ (h : Held). set_of h.world c.args.joiner ≡ true) (sym c.self.view_is) c.requires.joiner)
     (subst (λ (h : Held). IsNodeSet h.members) (sym c.self.view_is) c.in_ok-tell_to_admit.ensures.set)
     c.and_one.ensures c.await_from.ensures refl (ap (λ (h : Held). h.name) (sym c.self.view_is))
-    c.in_ok-enter_joined.ensures told.1 told.2 welcome.1 refl welcome.2 admitting
+    c.enter_joined.ensures.entered told.1 told.2 welcome.1 refl welcome.2 admitting

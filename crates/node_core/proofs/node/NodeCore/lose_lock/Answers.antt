@@ -1,25 +1,25 @@
-use Rattle.std.proofs.Common.{ap, sym, ◌∙◌}
-use Rattle.std.proofs.lemmas.Option.{MatchOption-at_some}
-use Rattle.std.proofs.lemmas.Result.{on_ok_weaker}
-use Rattle.std.specs.Option.{option_map}
+use Rattle.std.proofs.Common.{Some, sym, refl}
 use Rattle.lock_calls.specs.Calls.{as_call}
-use Rattle.protocol_model.specs.Round.{down}
-use Rattle.locker.specs.Held.{Held as HeldRound, seen}
-use Rattle.node_core.proofs.Locking.{round_within}
-use Rattle.node_core.proofs.Leaving.{loses_round}
+use Rattle.lock_calls.specs.Standing.{lost}
+use Rattle.node_core.proofs.Locking.{found_within}
+use Rattle.node_core.proofs.CallEnds.{same_found, found_is, whole_stood, lost_within, loses_lock, loses_other}
 use Rattle.node_core.proofs.node.NodeCore.lose_lock.Goals as goal
 
-pub go_on_lock-requires-clause-within : goal.go_on_lock-requires-clause-within
-go_on_lock-requires-clause-within g c =
-    round_within c.args.self.now.world c.in-Some.call c.in-Asking.round c.down.new.self c.in-Asking.is
-    (c.down.ensures.nodes ∙ ap (λ (r : HeldRound). r.nodes) c.copy-round.ensures)
-    (MatchOption-at_some _ _ c.in-Some.call c.in-Some.is c.in_ok-call.ensures.within)
+pub invariant_of-self : goal.invariant_of-self
+invariant_of-self g c =
+    let found = same_found _ c.args.self.now c.args.holder.now (as_call c.in-Some.call.now) c.self.view_is
+    c.in-Some.ensures.call in
+    whole_stood _ c.args.self.now c.in-Some.call.now c.args.holder.now c.lose.new.self
+    (lost c.args.gone.now) c.self.view_is found c.lose.ensures.calls c.self.invariant
+    c.lose.ensures.node
+    (lost_within _ c.args.self.now c.in-Some.call.now c.in-Asking.field-0 c.args.gone.now c.self.view_is c.in-Asking.is
+    (found_within _ c.args.self.now c.args.holder.now (Some c.in-Some.call.now) c.self.view_is c.self.invariant found))
 
 pub returns-clause-turn : goal.returns-clause-turn
 returns-clause-turn g c =
-    on_ok_weaker c.go_on_lock.result
-    (loses_round c.args.self.now c.go_on_lock.new.self c.args.turn.now c.go_on_lock.new.turn c.in-Some.call
-    c.args.holder.now c.args.gone.now (sym (ap (option_map as_call) c.in-Some.is) ∙ c.in_ok-call.ensures.call)
-    c.in-Asking.round c.down.new.self c.in-Asking.is
-    (c.down.ensures.protocol ∙ ap (λ (r : HeldRound). down c.args.gone.now (seen r)) c.copy-round.ensures))
-    c.go_on_lock.ensures.turn
+    let found = same_found _ c.args.self.now c.args.holder.now (as_call c.in-Some.call.now) c.self.view_is
+    c.in-Some.ensures.call in
+    loses_lock _ c.args.self.now c.end_lock.new.self c.args.turn.now c.end_lock.new.turn c.in-Some.call.now
+    c.args.holder.now c.in-Asking.field-0 c.args.gone.now c.lose.new.self c.self.view_is
+    (found_is c.args.holder.now _ (as_call c.in-Some.call.now) found) found c.in-Asking.is c.lose.ensures.calls
+    c.end_lock.ensures.turn

@@ -1,6 +1,5 @@
 use Rattle.std.proofs.Common.{Some, sym, subst, ◌≡◌, ◌∙◌}
 use Rattle.std.specs.Prelude.{All}
-use Rattle.std.proofs.lemmas.Result.{on_ok_weaker}
 use Rattle.lock_calls.specs.Calls.{as_call}
 use Rattle.lock_calls.specs.Held.{seen}
 use Rattle.lock_calls.specs.Standing.{given_up}
@@ -26,12 +25,11 @@ returns-clause-turn g c =
     c.in-Some.ensures.call in
     let own = found_own _ c.args.self.now c.args.holder.now (Some c.in-Some.call.now) c.self.view_is c.self.invariant
     c.in-Some.ensures.ordered found in
-    on_ok_weaker c.end_deletion.result
-    (owes_less _ c.args.self.now c.end_deletion.new.self c.args.turn.now c.end_deletion.new.turn
+    owes_less _ c.args.self.now c.end_deletion.new.self c.args.turn.now c.end_deletion.new.turn
     c.in-Some.call.now c.args.holder.now c.args.from.now c.args.self.now.name c.in-Deleting.owing c.give_up.new.self
     c.self.view_is (found_is c.args.holder.now _ (as_call c.in-Some.call.now) found) found c.in-Deleting.is
     (sym c.contains.ensures ∙ c.if-not-contains.false) own.0
     (subst (λ (h : Held). All (λ d. d.holder.node ≡ h.name) (seen h.calls)) c.self.view_is
     (subst (λ n. All (λ d. d.holder.node ≡ n) (seen c.self.inside.calls)) c.self.invariant.calls
-    c.in-Some.ensures.ordered.own)) c.give_up.ensures.calls)
+    c.in-Some.ensures.ordered.own)) c.give_up.ensures.calls
     c.end_deletion.ensures.turn

@@ -12,11 +12,11 @@ returns-in-LockAnswer-clause-turn g c = λ said. on_ok_weaker c.hear.result
     (reads _ _ _ _ _ _ _ c.in-LockAnswer.is unnumbered) c.hear.ensures.turn
 
 pub returns-in-GiveBack-clause-turn : goal.returns-in-GiveBack-clause-turn
-returns-in-GiveBack-clause-turn g c = λ said. on_ok_weaker c.take_back.result
-    (reads _ _ _ _ _ _ _ c.in-GiveBack.is unnumbered) c.take_back.ensures.turn
+returns-in-GiveBack-clause-turn g c = λ said. reads _ _ _ _ _ _ _ c.in-GiveBack.is unnumbered
+    c.take_back.ensures.turn
 
 pub returns-in-Down-clause-turn : goal.returns-in-Down-clause-turn
-returns-in-Down-clause-turn g c = λ said. on_ok_weaker c.bereave.result
+returns-in-Down-clause-turn g c = λ said. on_ok_weaker c.hear_of_departure.result
     (reads _ _ _ _ _ _ _ c.in-Down.is unnumbered)
-    (c.bereave.ensures.turn (said_down c.args.self.now.world c.args.self.now.name c.args.from.now
+    (c.hear_of_departure.ensures.turn (said_down c.args.self.now.world c.args.self.now.name c.args.from.now
     c.args.letter.now c.in-Down.is said))

@@ -1,12 +1,14 @@
-use Rattle.std.proofs.Common.{take, take_all, ◌∙◌}
+use Rattle.std.proofs.Common.{map, ap, sym, subst, take, take_all, ◌∙◌}
+use Rattle.lock_calls.specs.Held.{AreOrdered, seen}
+use Rattle.node_core.specs.Held.{Held}
 use Rattle.node_core.proofs.Each.{retries_all}
 use Rattle.node_core.proofs.node.NodeCore.retry_locks.Goals as goal
 
 pub returns-clause-turn : goal.returns-clause-turn
 returns-clause-turn g c =
     retries_all _ c.args.self.now c.loop-holder.self c.args.turn.now c.loop-holder.turn
-    (take c.loop-holder.holder-index c.deref-holder-items.result.now) c.self.view_is c.self.invariant
-    c.in_ok-holders.ensures.ordered
-    (take_all c.loop-holder.holder-index c.deref-holder-items.result.now c.loop-holder-test.false
-    ∙ c.deref-holder-items.ensures.value ∙ c.in_ok-holders.ensures.holders)
-    c.loop-holder.invariant
+    (take c.loop-holder.holder-index c.args.holders.now) c.self.view_is c.self.invariant
+    (subst (λ (h : Held). AreOrdered h.calls.node (seen h.calls)) (sym c.self.view_is) c.requires.ordered)
+    (take_all c.loop-holder.holder-index c.args.holders.now c.loop-holder-test.false ∙ c.requires.holders
+    ∙ ap (λ (h : Held). map (λ c. c.holder) h.calls.calls) (sym c.self.view_is))
+    c.loop-holder.invariant.makes

@@ -1,5 +1,4 @@
 use Rattle.std.proofs.Common.{true, ◌≡◌, ◌∙◌, ap, sym, subst}
-use Rattle.std.proofs.lemmas.Result.{on_ok_weaker}
 use Rattle.term.specs.NodeSets.{IsNodeSet, set_of}
 use Rattle.exchange.specs.Bodies.{welcome_letter}
 use Rattle.node_core.specs.Held.{Held}
@@ -12,10 +11,8 @@ welcome_of-requires g c =
     (subst (λ (h : Held). IsNodeSet h.members) (sym c.self.view_is) c.requires.members) c.self.invariant.members
     (subst (λ (h : Held). set_of h.world c.args.joiner.now ≡ true) (sym c.self.view_is) c.requires.joiner)
 
-pub returns : goal.returns
-returns g c =
-    on_ok_weaker c.send.result
-    (λ sends. welcomed_by _ c.args.self.now c.args.joiner.now c.copy.result c.args.settled.now c.args.turn.now
+pub returns-clause-welcomed : goal.returns-clause-welcomed
+returns-clause-welcomed g c =
+    welcomed_by _ c.args.self.now c.args.joiner.now c.copy.result c.args.settled.now c.args.turn.now
     c.send.new.self _ c.self.view_is
-    (ap welcome_letter c.in_ok-new.ensures.ok ∙ c.in_ok-welcome.ensures.letter) c.copy.ensures sends)
-    c.send.ensures.ok
+    (ap welcome_letter c.in_ok-new.ensures.ok ∙ c.in_ok-welcome.ensures.letter) c.copy.ensures c.send.ensures.made

@@ -1,7 +1,7 @@
 use Rattle.std.proofs.Common.{ℕ, refl, ap, subst, ◌∙◌}
 use Rattle.std.proofs.lemmas.Bool.{MatchBool-at_true, MatchBool-at_false}
 use Rattle.node_log.specs.declared.WorldEvent.TheVariants.{At}
-use Rattle.node_loop.specs.Held.{Looping}
+use Rattle.node_loop.specs.Held.{Looping, written}
 use Rattle.node_loop.specs.Steps.{by_event, Goes}
 use Rattle.node_loop.proofs.Concluding.{goes, stepped, begun}
 use Rattle.node_loop.proofs.node_loop.NodeLoop.attempt.Goals as goal
@@ -11,7 +11,7 @@ returns-then-conclude g c =
     let a : Looping = record {
       core = c.self.inside.core;
       world = c.self.inside.world;
-      log = c.self.inside.log;
+      log = written c.self.inside.log;
       tray = c.self.inside.tray;
       desk = c.self.inside.desk;
       wait = c.self.inside.courtesy;
@@ -22,11 +22,12 @@ returns-then-conclude g c =
     MatchBool-at_true _ _ c.if-conclude.true
     (subst (λ (x : Looping). Goes (by_event c.args.own c.args.event x) x c.conclude.result c.conclude.new.self)
     c.self.view_is
-    (goes (by_event c.args.own c.args.event a) a c.turn.new.self c.begin.new.self c.in-Some.stamp c.args.own
+    (goes (by_event c.args.own c.args.event a) a c.step.new.core (written c.put.new.self) c.in-Some.stamp c.args.own
     c.of-course.result c.in-Ok.turn c.conclude.new.self c.conclude.result
-    (stepped _ _ _ _ _ c.cause.ensures c.in-Ok.ensures.ok)
-    (begun _ _ _ _ _ _ _ _ c.in-Ok-begin.ensures.node c.in-Ok-begin.ensures.ok c.in-Some.ensures c.seat_of.ensures
-    (ap (λ (n : ℕ). At n c.args.event) (c.copy.ensures ∙ c.name.ensures.name ∙ c.in-Ok.ensures.name)))
+    (stepped _ _ _ _ _ c.cause-cause.ensures c.in-Ok.ensures.made)
+    (begun _ _ _ _ _ _ _ _ _ c.step.ensures.log c.put.ensures.node c.put.ensures.entries c.in-Some.ensures
+    c.seat_of.ensures
+    (ap (λ (n : ℕ). At n c.args.event) (c.copy.ensures ∙ c.name.ensures.name ∙ c.in-Ok.ensures.made.name)))
     c.in-Some.ensures refl c.of-course.ensures c.conclude.ensures))
 
 pub returns-else-conclude : goal.returns-else-conclude
@@ -34,7 +35,7 @@ returns-else-conclude g c =
     let a : Looping = record {
       core = c.self.inside.core;
       world = c.self.inside.world;
-      log = c.self.inside.log;
+      log = written c.self.inside.log;
       tray = c.self.inside.tray;
       desk = c.self.inside.desk;
       wait = c.self.inside.courtesy;
@@ -45,9 +46,10 @@ returns-else-conclude g c =
     MatchBool-at_false _ _ c.if-conclude.false
     (subst (λ (x : Looping). Goes (by_event c.args.own c.args.event x) x c.conclude.result c.conclude.new.self)
     c.self.view_is
-    (goes (by_event c.args.own c.args.event a) a c.turn.new.self c.begin.new.self c.in-Some.stamp c.args.own
+    (goes (by_event c.args.own c.args.event a) a c.step.new.core (written c.put.new.self) c.in-Some.stamp c.args.own
     c.of-course.result c.in-Ok.turn c.conclude.new.self c.conclude.result
-    (stepped _ _ _ _ _ c.cause.ensures c.in-Ok.ensures.ok)
-    (begun _ _ _ _ _ _ _ _ c.in-Ok-begin.ensures.node c.in-Ok-begin.ensures.ok c.in-Some.ensures c.seat_of.ensures
-    (ap (λ (n : ℕ). At n c.args.event) (c.copy.ensures ∙ c.name.ensures.name ∙ c.in-Ok.ensures.name)))
+    (stepped _ _ _ _ _ c.cause-cause.ensures c.in-Ok.ensures.made)
+    (begun _ _ _ _ _ _ _ _ _ c.step.ensures.log c.put.ensures.node c.put.ensures.entries c.in-Some.ensures
+    c.seat_of.ensures
+    (ap (λ (n : ℕ). At n c.args.event) (c.copy.ensures ∙ c.name.ensures.name ∙ c.in-Ok.ensures.made.name)))
     c.in-Some.ensures refl c.of-course.ensures c.conclude.ensures))

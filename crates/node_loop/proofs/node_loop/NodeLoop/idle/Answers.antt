@@ -1,5 +1,4 @@
-use Rattle.std.proofs.Common.{true, false, refl, sym, ap, ◌∙◌}
-use Rattle.node_loop.specs.Held.{Looping, has_retry}
+use Rattle.std.proofs.Common.{true, false, refl, sym, ◌∙◌}
 use Rattle.node_loop.proofs.Faults.{retry_stands}
 use Rattle.node_loop.proofs.Turning.{retries, due_waits}
 use Rattle.node_loop.proofs.node_loop.NodeLoop.idle.Goals as goal

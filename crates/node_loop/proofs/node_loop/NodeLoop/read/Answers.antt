@@ -1,6 +1,7 @@
-use Rattle.std.proofs.Common.{None, refl, subst}
+use Rattle.std.proofs.Common.{None, refl, ap, subst}
+use Rattle.node_log.specs.declared.WorldEvent.TheVariants.{Deliver}
 use Rattle.node_loop.specs.declared.waiting.Course.TheVariants.{AtOnce}
-use Rattle.node_loop.specs.Held.{Looping}
+use Rattle.node_loop.specs.Held.{Looping, Written, written}
 use Rattle.node_loop.specs.Steps.{by_letter}
 use Rattle.node_loop.specs.Items.{Reads}
 use Rattle.node_loop.proofs.Concluding.{goes, begun, at_false}
@@ -11,7 +12,7 @@ returns g c =
     let a : Looping = record {
       core = c.self.inside.core;
       world = c.self.inside.world;
-      log = c.self.inside.log;
+      log = written c.self.inside.log;
       tray = c.self.inside.tray;
       desk = c.self.inside.desk;
       wait = c.self.inside.courtesy;
@@ -21,9 +22,10 @@ returns g c =
     } in
     subst (λ (x : Looping). Reads c.args.from c.args.stamped x c.conclude.result c.conclude.new.self) c.self.view_is
     (at_false _ _ c.self.inside.left c.if-self.false
-    (goes (by_letter c.args.from c.args.stamped a) a c.turn.new.self c.begin_delivery.new.self c.in-Some.stamp None AtOnce
-    c.in-Ok.turn c.conclude.new.self c.conclude.result
-    c.in-Ok.ensures.ok
-    (begun _ _ _ _ _ _ _ _ c.in-Ok-begin_delivery.ensures.node c.in-Ok-begin_delivery.ensures.ok c.in-Some.ensures refl
-    refl)
+    (goes (by_letter c.args.from c.args.stamped a) a c.step.new.core (written c.put_delivery.new.self) c.in-Some.stamp None
+    AtOnce c.in-Ok.turn c.conclude.new.self c.conclude.result
+    c.in-Ok.ensures.made
+    (begun _ _ _ _ _ _ _ _ _ c.step.ensures.log c.put_delivery.ensures.node c.put_delivery.ensures.entries
+    c.in-Some.ensures refl
+    (ap (λ (l : Written). Deliver c.args.from l.node) c.step.ensures.log))
     c.in-Some.ensures refl refl c.conclude.ensures))

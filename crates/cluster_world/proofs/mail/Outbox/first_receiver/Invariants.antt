@@ -1,0 +1,7 @@
+use Rattle.std.proofs.Common.{take}
+use Rattle.link.specs.Held.{seen}
+use Rattle.cluster_world.specs.Links.{IsLeastOpen}
+use Rattle.cluster_world.proofs.mail.Outbox.first_receiver.Given as goal
+
+abbrev pub invariant-loop-to : goal.invariant-loop-to
+invariant-loop-to l = IsLeastOpen (seen l.mesh).closed (take l.to-index l.to-items) l.first

@@ -1,0 +1,209 @@
+//! What is on the links of a world, and what was sent and isn't there yet.
+ghost use Rattle.std.specs.Prelude.{◌≡◌, true, not, None, OnOk};
+ghost use Rattle.std.specs.List.{slice_get};
+ghost use Rattle.std.specs.Option.{option_copied};
+ghost use Rattle.protocol_model.specs.Links.{is_nil, posted, taken, closed_out};
+ghost use Rattle.link.specs.Held.{has, seen as on_mesh};
+ghost use Rattle.cluster_world.specs.Links.{letters_to, with_unsent, lesser, earlier, WaitsFirst, IsLeastOpen};
+ghost use Rattle.cluster_world.specs.Mail.{links_of};
+
+use link::Mesh;
+use std::alloc::AllocError;
+use std::collections::VecDeque;
+use std::marker::Model;
+use term::NodeName;
+use world_events::Letter;
+
+/// Letters that a node has sent and that memory on their links was refused for, in their order, with their receivers.
+#[derive(Drop)]
+pub(crate) struct Outbox {
+    sender: NodeName,
+    letters: Vec<(NodeName, Letter)>,
+}
+
+impl Model for Outbox {
+    ghost use Rattle.cluster_world.specs.Links.{Unsent};
+
+    ghost Value = { Unsent };
+
+    ghost view = { λ o. record { sender = o.sender; letters = o.letters.items } };
+}
+
+/// The links between the nodes of a world: the mesh, and what the last step sent that isn't on it yet. Whoever looks at a link sees
+/// both.
+#[derive(Drop)]
+pub(crate) struct Mail {
+    pub(crate) mesh: Mesh<Letter>,
+    pub(crate) unsent: Option<Outbox>,
+}
+
+/// Puts letters of a node at the back of the links to their receivers, in order. Where memory is refused it gives those back that
+/// aren't on their links.
+fn send_all(
+    mesh: &mut Mesh<Letter>,
+    sender: &NodeName,
+    mut letters: VecDeque<(NodeName, Letter)>,
+) -> Option<Outbox>
+    ensures nodes { mesh.new.nodes ≡ mesh.old.nodes }
+    ensures links { with_unsent result (on_mesh mesh.new) ≡ posted sender.now (λ t. letters_to t letters.items) (on_mesh mesh.old) }
+{
+    while let Some((receiver, letter)) = letters.pop_front() {
+        if let Err(unsent) = mesh.send(sender, &receiver, letter) {
+            letters.push_front_reserved((receiver, unsent.letter));
+            return Some(Outbox {
+                sender: sender.copy(),
+                letters: Vec::from(letters),
+            });
+        }
+    }
+    None
+}
+
+impl Outbox {
+    /// Whether a letter to this node waits here.
+    fn has_for(&self, receiver: &NodeName) -> bool
+        ensures { is_nil (letters_to receiver.now self.now.letters) ≡ not result }
+    {
+        for (to, _) in &self.letters {
+            if to == receiver {
+                return true;
+            }
+        }
+        false
+    }
+
+    /// The least node, of those that weren't closed out, that a letter waits for here.
+    fn first_receiver(&self, mesh: &Mesh<Letter>) -> Option<NodeName>
+        ensures { IsLeastOpen (on_mesh mesh.now).closed self.now.letters result }
+    {
+        let mut first = None;
+        for (to, _) in &self.letters {
+            if mesh.is_closed(to) {
+                continue;
+            }
+            first = Some(lesser(first, to));
+        }
+        first
+    }
+}
+
+/// The lesser of two nodes, of which the first may be missing.
+fn lesser(first: Option<NodeName>, node: &NodeName) -> NodeName
+    ensures { result ≡ lesser first node.now }
+{
+    match first {
+        Some(first) if first <= *node => first,
+        _ => node.copy(),
+    }
+}
+
+/// The earlier of two links, by sender and then receiver, of which there may be none.
+fn earlier(
+    first: Option<(NodeName, NodeName)>,
+    sender: &NodeName,
+    receiver: Option<NodeName>,
+) -> Option<(NodeName, NodeName)>
+    ensures { result ≡ earlier first sender.now receiver }
+{
+    let Some(receiver) = receiver else {
+        return first;
+    };
+    match first {
+        Some((from, to)) if from < *sender || (from == *sender && to < receiver) => {
+            Some((from, to))
+        }
+        _ => Some((sender.copy(), receiver)),
+    }
+}
+
+impl Mail {
+    /// Whether a node was closed out.
+    pub(crate) fn is_closed(&self, node: &NodeName) -> bool
+        ensures { result ≡ (links_of self.now).closed node.now }
+    {
+        self.mesh.is_closed(node)
+    }
+
+    /// Whether nothing is on a link.
+    pub(crate) fn is_empty(&self, sender: &NodeName, receiver: &NodeName) -> bool
+        ensures { result ≡ is_nil ((links_of self.now).queue sender.now receiver.now) }
+    {
+        if !self.mesh.is_empty(sender, receiver) {
+            return false;
+        }
+        match &self.unsent {
+            Some(outbox) => {
+                outbox.sender != *sender
+                    || self.mesh.is_closed(receiver)
+                    || !outbox.has_for(receiver)
+            }
+            None => true,
+        }
+    }
+
+    /// The first link, by sender and then receiver, on which a letter waits.
+    pub(crate) fn first_waiting(&self) -> Option<(NodeName, NodeName)>
+        ensures { WaitsFirst result (links_of self.now) }
+    {
+        let first = self.mesh.first_waiting();
+        match &self.unsent {
+            Some(outbox) => earlier(first, &outbox.sender, outbox.first_receiver(&self.mesh)),
+            None => first,
+        }
+    }
+
+    /// The oldest letter on a link, where all letters are on theirs.
+    pub(crate) fn front(&self, sender: &NodeName, receiver: &NodeName) -> Option<&Letter>
+        requires { self.now.unsent ≡ None }
+        ensures { option_copied result ≡ slice_get ((links_of self.now).queue sender.now receiver.now) 0 }
+    {
+        self.mesh.front(sender, receiver)
+    }
+
+    /// Puts what isn't on its link yet there. Where memory is refused the rest waits on, and no letter is lost.
+    pub(crate) fn drain(&mut self) -> Result<(), AllocError>
+        ensures nodes { self.new.mesh.nodes ≡ self.old.mesh.nodes }
+        ensures links { links_of self.new ≡ links_of self.old }
+        ensures all { OnOk result (self.new.unsent ≡ None) }
+    {
+        if self.unsent.is_none() {
+            return Ok(());
+        }
+        if let Some(Outbox { sender, letters }) = self.unsent.take() {
+            self.unsent = send_all(&mut self.mesh, &sender, VecDeque::from(letters));
+        }
+        if self.unsent.is_some() {
+            return Err(AllocError);
+        }
+        Ok(())
+    }
+
+    /// Takes the oldest letter off a link, if there is one. It takes no memory.
+    pub(crate) fn take(&mut self, sender: &NodeName, receiver: &NodeName)
+        requires { self.old.unsent ≡ None }
+        ensures nodes { self.new.mesh.nodes ≡ self.old.mesh.nodes }
+        ensures links { links_of self.new ≡ taken sender.now receiver.now (links_of self.old) }
+        ensures all { self.new.unsent ≡ None }
+    {
+        let _ = self.mesh.deliver(sender, receiver);
+    }
+
+    /// Puts each of these letters at the back of the link to its receiver. Those that memory is refused for are kept until there is
+    /// some: nothing is refused, and no letter is lost.
+    pub(crate) fn post(&mut self, sender: &NodeName, letters: Vec<(NodeName, Letter)>)
+        requires { self.old.unsent ≡ None }
+        ensures nodes { self.new.mesh.nodes ≡ self.old.mesh.nodes }
+        ensures links { links_of self.new ≡ posted sender.now (λ t. letters_to t letters.items) (links_of self.old) }
+    {
+        self.unsent = send_all(&mut self.mesh, sender, VecDeque::from(letters));
+    }
+
+    /// Empties all links towards a node, for good. It takes no memory.
+    pub(crate) fn close_out(&mut self, node: &NodeName)
+        requires { has node.now self.old.mesh ≡ true }
+        ensures nodes { self.new.mesh.nodes ≡ self.old.mesh.nodes }
+        ensures links { links_of self.new ≡ closed_out node.now (links_of self.old) }
+    {
+        let _ = self.mesh.close_out(node);
+    }
+}

@@ -1,0 +1,10 @@
+use Rattle.std.proofs.Common.{ap, ◌∙◌}
+use Rattle.node_core.specs.Causes.{event_by}
+use Rattle.node_core.proofs.Stepping.{steps_from}
+use Rattle.node_core.proofs.node.NodeCore.accept_in_place.Goals as goal
+
+pub returns-clause-ok : goal.returns-clause-ok
+returns-clause-ok g c =
+    steps_from (event_by c.args.cause) c.args.self.now c.take.new.self c.begin-turn.result c.take.new.turn
+    c.begin-turn.ensures.nothing c.requires
+    c.take.ensures.kept c.in_ok-take.ensures.turn c.begin-turn.ensures.whole c.begin-turn.ensures.rising

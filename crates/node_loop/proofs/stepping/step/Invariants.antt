@@ -1,0 +1,10 @@
+use Rattle.std.proofs.Common.{◌≡◌}
+use Rattle.node_log.specs.NodeCoreSteps.{IsAsBefore}
+use Rattle.node_loop.specs.Held.{written}
+use Rattle.node_loop.proofs.stepping.step.Given as goal
+
+abbrev pub invariant-loop : goal.invariant-loop
+invariant-loop g l = record {
+  core : IsAsBefore l.fn.core l.core;
+  log : written l.log ≡ written l.fn.log;
+}

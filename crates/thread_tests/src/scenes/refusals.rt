@@ -1,0 +1,52 @@
+//! Steps that are refused memory.
+use name_table::Names;
+use node_threads::{Call, CloseFault, Cluster, OpenGate, Reply, Seat, SeatFault};
+use std::alloc::Global;
+use std::sync::Wait;
+use std::thread::Threads;
+use std::time::Clock;
+use term::{NodeName, parse_name, parse_node, parse_pid};
+
+/// Spawns the first process of `a`, and registers `bad` for it. Whether that was answered so.
+fn names_bad<R: Wait + Clock>(rt: &R, seat: &mut Seat, answer: Result<Reply, SeatFault>) -> bool {
+    let (Ok(process), Ok(bad)) = (parse_pid("a.1"), parse_name("bad")) else {
+        return false;
+    };
+    seat.call(rt, Call::Spawn).is_ok() && seat.call(rt, Call::Register(bad, process)) == answer
+}
+
+/// Registers `bad` at a node of a cluster. Whether that was answered so.
+fn is_answered<N: Names<Memory = Global> + Send + 'static, R: Wait + Clock>(
+    rt: &R,
+    cluster: &mut Cluster<OpenGate, N>,
+    node: &NodeName,
+    answer: Result<Reply, SeatFault>,
+) -> bool {
+    match cluster.seat(node) {
+        Ok(mut seat) => names_bad(rt, &mut seat, answer),
+        Err(_) => false,
+    }
+}
+
+/// Registers `bad` in a cluster of the node `a` with such a table. Whether that was answered so, and the close was refused so.
+pub(super) fn ends<N, R>(
+    rt: &R,
+    alloc: Global,
+    answer: Result<Reply, SeatFault>,
+    fault: &CloseFault,
+) -> bool
+where
+    N: Names<Memory = Global> + Send + 'static,
+    R: Threads + Wait + Clock + Drop + Copy + Send + 'static,
+{
+    let Ok(a) = parse_node("a") else {
+        return false;
+    };
+    let Ok(mut cluster) = Cluster::<OpenGate, N>::start(rt, alloc, &[a.copy()], &[], OpenGate, 0)
+    else {
+        return false;
+    };
+    let answered = is_answered(rt, &mut cluster, &a, answer);
+    let closed = cluster.close(rt, &[]);
+    answered && closed.is_err_and(|found| found == *fault)
+}
