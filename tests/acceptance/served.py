@@ -11,6 +11,7 @@ from .outcomes import Failure, expect_same, shown
 
 # How often another port is tried where somebody else took the one that was free.
 MOST_PORTS = 20
+PIPES = {"stdin": subprocess.DEVNULL, "stdout": subprocess.PIPE, "stderr": subprocess.PIPE}
 
 
 def free_port():
@@ -46,8 +47,7 @@ class Served:
         raise Failure(f"expected `listening ..`, got {shown(line + output + errors)}")
 
     def start(self, words):
-        pipes = {"stdin": subprocess.DEVNULL, "stdout": subprocess.PIPE, "stderr": subprocess.PIPE}
-        self.process = subprocess.Popen(words, bufsize=0, **pipes)
+        self.process = subprocess.Popen(words, bufsize=0, **PIPES)
 
     def expect_line(self):
         """The first line of standard output. A program that doesn't print one in time is killed."""
