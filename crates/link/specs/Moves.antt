@@ -66,7 +66,7 @@ pub record StampedMove (L : Type 0) : Type 0 where
   pub stamp : ℕ
   pub move : Move L
 
--- the moves_of without their stamps
+-- the moves without their stamps
 abbrev pub moves_of : {L : Type 0} → List (StampedMove L) → List (Move L)
 moves_of ss = map (λ s. s.move) ss
 
@@ -78,7 +78,7 @@ module _ {L : Type 0} (sent_at : L → ℕ) where
   IsTimely n (Takes f t l) = sent_at l < n
   IsTimely n (Closes d) = Unit {0}
 
-  -- the moves_of stand in the order of their stamps, of which none is below n
+  -- the moves stand in the order of their stamps, of which none is below n
   abbrev pub AreByStamp : ℕ → List (StampedMove L) → Type 0
   AreByStamp n [] = Unit {0}
   AreByStamp n (s ∷ ss) = (n ≤ s.stamp) × IsTimely s.stamp s.move × AreByStamp s.stamp ss
