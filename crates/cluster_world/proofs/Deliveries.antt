@@ -36,25 +36,29 @@ module _ (h : Held) (whole : IsWhole h) where
   second true d e = e
   second false d e = cc
 
+  module _ (f t : ℕ) (waiting : is_nil ((links_of h.links).queue f t) ≡ false) where
+    pub from_known : set_of h.nodes f ≡ true
+    from_known = first (set_of h.nodes f) (set_of h.nodes t) (ends f t waiting)
+
+    pub to_known : set_of h.nodes t ≡ true
+    to_known = second (set_of h.nodes f) (set_of h.nodes t) (ends f t waiting)
+
+    running : (b : Bool) → (seen h).links.closed t ≡ b → (seen h).links.closed t ≡ false
+    running false e = e
+    running true e = cc (ap (λ (ls : List Letter). is_nil ls) (whole.fit.quiet f t e), waiting)
+
+    -- a letter waits for a running node alone
+    pub to_running : (seen h).links.closed t ≡ false
+    to_running = running ((seen h).links.closed t) refl
+
   pub waits : (o : Option (ℕ × ℕ)) → WaitsFirst o (links_of h.links) → WaitsOn o h
   waits None none = next_none (opening_of h) (seen h) h.nodes (nodes_are h.nodes h.cluster whole.set)
       (λ x y. nothing x y (none x y))
   waits (Some (f, t)) w = next_first (opening_of h) (seen h) h.nodes (nodes_are h.nodes h.cluster whole.set) f t
-      whole.set.rising sender receiver
-      (accepted_waiting (opening_of h) (seen h) f t (inside f sender) (inside t receiver)
-      (running ((seen h).links.closed t) refl) (is_nil-map letter_of ((links_of h.links).queue f t) ∙ w.0))
+      whole.set.rising (from_known f t w.0) (to_known f t w.0)
+      (accepted_waiting (opening_of h) (seen h) f t (inside f (from_known f t w.0)) (inside t (to_known f t w.0))
+      (to_running f t w.0) (is_nil-map letter_of ((links_of h.links).queue f t) ∙ w.0))
       (λ x y before. nothing x y (w.1 x y before))
     where
-      sender : set_of h.nodes f ≡ true
-      sender = first (set_of h.nodes f) (set_of h.nodes t) (ends f t w.0)
-
-      receiver : set_of h.nodes t ≡ true
-      receiver = second (set_of h.nodes f) (set_of h.nodes t) (ends f t w.0)
-
-      -- a letter waits for a running node alone
-      running : (b : Bool) → (seen h).links.closed t ≡ b → (seen h).links.closed t ≡ false
-      running false e = e
-      running true e = cc (ap (λ (ls : List Letter). is_nil ls) (whole.fit.quiet f t e), w.0)
-
       inside : (a : ℕ) → set_of h.nodes a ≡ true → in_world (opening_of h) a ≡ true
       inside a e = ap (λ (s : Nodes). s a) (world_is h.nodes h.cluster) ∙ e

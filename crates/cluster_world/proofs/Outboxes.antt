@@ -11,6 +11,7 @@ use Rattle.link.specs.Faults.{IsStranger}
 use Rattle.link.specs.Held.{Held as Mesh, WaitsFirst as FirstOfMesh, has, only_to, seen as on_mesh}
 use Rattle.node_core.specs.declared.Letter.{Letter}
 use Rattle.cluster_world.specs.Links.{letters_to, Unsent, with_unsent, WaitsFirst, IsLeastOpen, lesser, earlier}
+use Rattle.cluster_world.proofs.Posting.{posted-nothing}
 
 -- who was closed out is so by the mesh
 pub closed_as : (u : Option Unsent) (w : Links Letter) → (with_unsent u w).closed ≡ w.closed
@@ -46,21 +47,32 @@ shut_behind u a h k (Err on_link.EmptyLink) known ok err = absurd err
 shut_behind u a h k (Err on_link.Full) known ok err = absurd err
 shut_behind u a h k (Err on_link.Memory) known ok err = absurd err
 
--- letters are given back: x is a, and what they are, posted on links that stayed, is what all of them are
-pub given_back : (a x r : ℕ) (l k : Letter) (vs qs ls rest : List (ℕ × Letter)) (m w all : Links Letter) → x ≡ a
-    → vs ≡ qs → qs ≡ (r, k) ∷ rest → k ≡ l → ls ≡ (r, l) ∷ rest → m ≡ w
-    → posted a (λ t. letters_to t ls) w ≡ all → posted x (λ t. letters_to t vs) m ≡ all
-given_back a x r l k vs qs ls rest m w all named moved put same were stayed posts =
-    ap (λ (b : ℕ). posted b (λ t. letters_to t vs) m) named
-    ∙ ap (λ (v : Links Letter). posted a (λ t. letters_to t vs) v) stayed
+-- a letter is put back in front of the others: what they are, posted on links that stayed, is what all of them are
+pub put_back : (a r : ℕ) (l k : Letter) (qs ls rest : List (ℕ × Letter)) (m w all : Links Letter)
+    → qs ≡ (r, k) ∷ rest → k ≡ l → ls ≡ (r, l) ∷ rest → m ≡ w
+    → posted a (λ t. letters_to t ls) w ≡ all → posted a (λ t. letters_to t qs) m ≡ all
+put_back a r l k qs ls rest m w all put same were stayed posts =
+    ap (λ (v : Links Letter). posted a (λ t. letters_to t qs) v) stayed
     ∙ ap (λ (ss : List (ℕ × Letter)). posted a (λ t. letters_to t ss) w)
-    (moved ∙ put ∙ ap (λ (y : Letter). (r, y) ∷ rest) same ∙ sym were)
+    (put ∙ ap (λ (y : Letter). (r, y) ∷ rest) same ∙ sym were)
     ∙ posts
 
 -- no letter is left
 pub none_left : (ls : List (ℕ × Letter)) (n : ℕ) → n ≡ length ls → n ≡ 0 → ls ≡ []
 none_left [] n is none = refl
 none_left (l ∷ ls) n is none = absurd (omega arith)
+
+-- what no letter is left of posts nothing
+pub nothing_left : (a : ℕ) (ls : List (ℕ × Letter)) → ls ≡ [] → (w : Links Letter)
+    → w ≡ posted a (λ t. letters_to t ls) w
+nothing_left a ls none w = sym (posted-nothing a w)
+    ∙ ap (λ (ss : List (ℕ × Letter)). posted a (λ t. letters_to t ss) w) (sym none)
+
+-- letters that are left are those of an outbox
+pub all_left : (a x : ℕ) (vs ls : List (ℕ × Letter)) → x ≡ a → vs ≡ ls → (w : Links Letter)
+    → posted x (λ t. letters_to t vs) w ≡ posted a (λ t. letters_to t ls) w
+all_left a x vs ls named same w = ap (λ (b : ℕ). posted b (λ t. letters_to t vs) w) named
+    ∙ ap (λ (ss : List (ℕ × Letter)). posted a (λ t. letters_to t ss) w) same
 
 -- nothing is on a link, by what is there and what isn't yet
 pub nothing_posted : (a : ℕ) (ss : List (ℕ × Letter)) (w : Links Letter) (f t : ℕ)

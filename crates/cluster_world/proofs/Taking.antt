@@ -46,6 +46,9 @@ module _ (old h : Held) (same : h ≡ old) (whole : IsWhole h) (p : ℕ) (event 
   pub admitted : IsAdmitted p event h
   admitted = subst (IsAdmitted p event) (sym same) A
 
+  pub place_within : p < length h.cores
+  place_within = within h whole a p core admitted.place is
+
   -- the core at the place, however it was reached
   pub same_core : (other : Core) → other ≡ get_or h.cores p other → other ≡ core
   same_core other here = here ∙ get_or_default h.cores p other core (within h whole a p core admitted.place is) ∙ sym is

@@ -60,17 +60,17 @@ fn number_for<N: Names<Memory = Global>>(
 /// can be refused, since there is room.
 pub(crate) fn enter_all<N: Names<Memory = Global>>(
     history: &mut History,
-    entries: Vec<Entry>,
+    entries: &mut Vec<Entry>,
     cores: &[NodeCore<N>],
     stepped: &NodeName,
     own: u32,
 )
-    requires { length entries.items ≤ history.old.room }
+    requires { length entries.old.items ≤ history.old.room }
     ensures { map entry_of history.new.entries
-        ≡ map entry_of history.old.entries ++ map (entry_by (number_at cores.now stepped.now own)) entries.items }
+        ≡ map entry_of history.old.entries ++ map (entry_by (number_at cores.now stepped.now own)) entries.old.items }
 {
-    for entry in entries {
+    for mut entry in entries.drain(..) {
         let number = number_for(&entry, cores, stepped, own);
-        history.enter(entry, number);
+        history.enter(&mut entry, number);
     }
 }

@@ -2,15 +2,16 @@
 ghost use Rattle.std.specs.Prelude.{◌≡◌, true, not, None, OnOk};
 ghost use Rattle.std.specs.List.{slice_get};
 ghost use Rattle.std.specs.Option.{option_copied};
-ghost use Rattle.protocol_model.specs.Links.{is_nil, posted, taken, closed_out};
+ghost use Rattle.protocol_model.specs.Links.{Links, is_nil, posted, taken, closed_out};
 ghost use Rattle.link.specs.Held.{has, seen as on_mesh};
 ghost use Rattle.cluster_world.specs.Links.{letters_to, with_unsent, lesser, earlier, WaitsFirst, IsLeastOpen};
 ghost use Rattle.cluster_world.specs.Mail.{links_of};
 
 use link::Mesh;
-use std::alloc::AllocError;
+use std::alloc::{AllocError, Global};
 use std::collections::VecDeque;
 use std::marker::Model;
+use std::mem;
 use term::NodeName;
 use world_events::Letter;
 
@@ -37,26 +38,34 @@ pub(crate) struct Mail {
     pub(crate) unsent: Option<Outbox>,
 }
 
-/// Puts letters of a node at the back of the links to their receivers, in order. Where memory is refused it gives those back that
-/// aren't on their links.
-fn send_all(
-    mesh: &mut Mesh<Letter>,
-    sender: &NodeName,
-    mut letters: VecDeque<(NodeName, Letter)>,
-) -> Option<Outbox>
+/// Puts letters of a node at the back of the links to their receivers, in order, and takes them out of the list. Those that memory is
+/// refused for stay there.
+fn send_all(mesh: &mut Mesh<Letter>, sender: &NodeName, letters: &mut VecDeque<(NodeName, Letter)>)
     ensures nodes { mesh.new.nodes ≡ mesh.old.nodes }
-    ensures links { with_unsent result (on_mesh mesh.new) ≡ posted sender.now (λ t. letters_to t letters.items) (on_mesh mesh.old) }
+    ensures links { posted sender.now (λ t. letters_to t letters.new.items) (on_mesh mesh.new)
+        ≡ posted sender.now (λ t. letters_to t letters.old.items) (on_mesh mesh.old) }
 {
     while let Some((receiver, letter)) = letters.pop_front() {
         if let Err(unsent) = mesh.send(sender, &receiver, letter) {
             letters.push_front_reserved((receiver, unsent.letter));
-            return Some(Outbox {
-                sender: sender.copy(),
-                letters: Vec::from(letters),
-            });
+            return;
         }
     }
-    None
+}
+
+/// Takes what is left of a node's letters, if anything is.
+fn rest_of(sender: &NodeName, letters: &mut VecDeque<(NodeName, Letter)>) -> Option<Outbox>
+    ensures { (w : Links Letter) → with_unsent result w ≡ posted sender.now (λ t. letters_to t letters.old.items) w }
+{
+    if letters.is_empty() {
+        return None;
+    }
+    let alloc: Global = *letters.allocator();
+    let rest = mem::replace(letters, VecDeque::new(alloc));
+    Some(Outbox {
+        sender: sender.copy(),
+        letters: Vec::from(rest),
+    })
 }
 
 impl Outbox {
@@ -145,11 +154,14 @@ impl Mail {
     pub(crate) fn first_waiting(&self) -> Option<(NodeName, NodeName)>
         ensures { WaitsFirst result (links_of self.now) }
     {
-        let first = self.mesh.first_waiting();
-        match &self.unsent {
-            Some(outbox) => earlier(first, &outbox.sender, outbox.first_receiver(&self.mesh)),
-            None => first,
-        }
+        let Some(outbox) = &self.unsent else {
+            return self.mesh.first_waiting();
+        };
+        earlier(
+            self.mesh.first_waiting(),
+            &outbox.sender,
+            outbox.first_receiver(&self.mesh),
+        )
     }
 
     /// The oldest letter on a link, where all letters are on theirs.
@@ -169,13 +181,14 @@ impl Mail {
         if self.unsent.is_none() {
             return Ok(());
         }
-        if let Some(Outbox { sender, letters }) = self.unsent.take() {
-            self.unsent = send_all(&mut self.mesh, &sender, VecDeque::from(letters));
+        let Some(mut outbox) = self.unsent.take() else {
+            return Ok(());
+        };
+        self.post(&outbox.sender, &mut outbox.letters);
+        match &self.unsent {
+            Some(_) => Err(AllocError),
+            None => Ok(()),
         }
-        if self.unsent.is_some() {
-            return Err(AllocError);
-        }
-        Ok(())
     }
 
     /// Takes the oldest letter off a link, if there is one. It takes no memory.
@@ -189,13 +202,17 @@ impl Mail {
     }
 
     /// Puts each of these letters at the back of the link to its receiver. Those that memory is refused for are kept until there is
-    /// some: nothing is refused, and no letter is lost.
-    pub(crate) fn post(&mut self, sender: &NodeName, letters: Vec<(NodeName, Letter)>)
+    /// some: nothing is refused, and no letter is lost. The memory of the list stays its own where it can.
+    pub(crate) fn post(&mut self, sender: &NodeName, letters: &mut Vec<(NodeName, Letter)>)
         requires { self.old.unsent ≡ None }
         ensures nodes { self.new.mesh.nodes ≡ self.old.mesh.nodes }
-        ensures links { links_of self.new ≡ posted sender.now (λ t. letters_to t letters.items) (links_of self.old) }
+        ensures links { links_of self.new ≡ posted sender.now (λ t. letters_to t letters.old.items) (links_of self.old) }
     {
-        self.unsent = send_all(&mut self.mesh, sender, VecDeque::from(letters));
+        let alloc: Global = *letters.allocator();
+        let mut waiting = VecDeque::from(mem::replace(letters, Vec::new(alloc)));
+        send_all(&mut self.mesh, sender, &mut waiting);
+        self.unsent = rest_of(sender, &mut waiting);
+        *letters = Vec::from(waiting);
     }
 
     /// Empties all links towards a node, for good. It takes no memory.

@@ -14,7 +14,7 @@ use link::Mesh;
 use name_table::Names;
 use std::alloc::{AllocError, Global};
 use term::NodeName;
-use world_events::{NodeCore, Opening, StartFault};
+use world_events::{NodeCore, Opening, StartFault, Turn};
 use world_history::History;
 
 /// The core that each node opens with.
@@ -58,6 +58,7 @@ impl<N: Names<Memory = Global>> World<N> {
             cores,
             links: Mail { mesh, unsent: None },
             history,
+            spare: Turn::begin(alloc),
         })
     }
 }

@@ -10,6 +10,7 @@ use crate::run_end::RunEnd;
 use name_table::Names;
 use std::alloc::{AllocError, Global};
 use std::marker::Model;
+use std::mem;
 use term::{NodeName, NodeSet};
 use world_events::{Answer, Cause, Event, NodeCore, Refusal, Turn, WorldEvent};
 use world_history::{History, KeptEntry};
@@ -24,6 +25,8 @@ pub struct World<N: Names> {
     pub(crate) cores: Vec<NodeCore<N>>,
     pub(crate) links: Mail,
     pub(crate) history: History,
+    /// The memory of an earlier step, for what the next one makes.
+    pub(crate) spare: Turn,
 }
 
 impl<N: Names> Model for World<N> {
@@ -75,6 +78,7 @@ fn make_room<N: Names<Memory = Global>>(
 impl<N: Names<Memory = Global>> World<N> {
     ghost use Rattle.std.specs.Prelude.{true, false, [], ◌∷◌, take, is_some, OnErr, IfOk, IfErr, IfSome};
     ghost use Rattle.std.specs.Option.{option_copied};
+    ghost use Rattle.protocol_model.specs.Links.{is_nil};
     ghost use Rattle.protocol_model.specs.World.{holder, left};
     ghost use Rattle.node_core.specs.Held.{IsWithin};
     ghost use Rattle.term.specs.NodeSets.{set_of};
@@ -113,19 +117,31 @@ impl<N: Names<Memory = Global>> World<N> {
         ensures ok { IfOk result (λ place. IsAdmitted place (WorldEvent.Deliver sender.now receiver.now) self.now) }
         ensures refused { IfErr result (λ refusal. RefusedWith refusal (WorldEvent.Deliver sender.now receiver.now) self.now) }
     {
-        if !self.nodes.contains(sender) {
-            return Err(Refusal::NoSuchNode);
+        // Letters wait between nodes of the world alone, and for none that has left.
+        if self.links.is_empty(sender, receiver) {
+            return Err(self.why_nothing_waits(sender, receiver));
         }
         let Some(place) = self.nodes.position(receiver) else {
-            return Err(Refusal::NoSuchNode);
+            unreachable!()
         };
-        if self.links.is_closed(receiver) {
-            return Err(Refusal::NodeLeft);
-        }
-        if self.links.is_empty(sender, receiver) {
-            return Err(Refusal::EmptyLink);
-        }
         Ok(place)
+    }
+
+    /// Why the delivery of a link is refused on which nothing waits. It takes no memory.
+    fn why_nothing_waits(&self, sender: &NodeName, receiver: &NodeName) -> Refusal
+        requires { is_nil ((links_of self.now.links).queue sender.now receiver.now) ≡ true }
+        ensures { RefusedWith result (WorldEvent.Deliver sender.now receiver.now) self.now }
+    {
+        if !self.nodes.contains(sender) {
+            return Refusal::NoSuchNode;
+        }
+        if !self.nodes.contains(receiver) {
+            return Refusal::NoSuchNode;
+        }
+        if self.links.is_closed(receiver) {
+            return Refusal::NodeLeft;
+        }
+        Refusal::EmptyLink
     }
 
     /// The place of the node that an event is played at, or why the event is refused. It takes no memory.
@@ -154,15 +170,22 @@ impl<N: Names<Memory = Global>> World<N> {
         ensures as_before { OnErr result (seen self.new ≡ seen self.old) }
     {
         make_room(&self.cores[place], &mut self.links, &mut self.history)?;
+        let alloc: Global = *self.cores.allocator();
+        let spare = mem::replace(&mut self.spare, Turn::begin(alloc));
         let core = &mut self.cores[place];
         let join = core.join_number().unwrap_or(0);
         let Turn {
+            mut letters,
+            mut entries,
+            answers,
+        } = core.accept(event.cause(), spare)?;
+        self.links.post(node, &mut letters);
+        enter_all(&mut self.history, &mut entries, &self.cores, node, join);
+        self.spare = Turn {
             letters,
             entries,
-            answers,
-        } = core.accept(event.cause())?;
-        self.links.post(node, letters);
-        enter_all(&mut self.history, entries, &self.cores, node, join);
+            answers: Vec::new(alloc),
+        };
         if event.is_leave() {
             self.links.close_out(node);
         }
@@ -186,16 +209,23 @@ impl<N: Names<Memory = Global>> World<N> {
         let Some(letter) = self.links.front(sender, receiver) else {
             unreachable!()
         };
+        let alloc: Global = *self.cores.allocator();
+        let spare = mem::replace(&mut self.spare, Turn::begin(alloc));
         let core = &mut self.cores[place];
         let join = core.join_number().unwrap_or(0);
         let Turn {
+            mut letters,
+            mut entries,
+            answers,
+        } = core.accept(Cause::FromPeer(sender, letter), spare)?;
+        self.links.take(sender, receiver);
+        self.links.post(receiver, &mut letters);
+        enter_all(&mut self.history, &mut entries, &self.cores, receiver, join);
+        self.spare = Turn {
             letters,
             entries,
-            answers,
-        } = core.accept(Cause::FromPeer(sender, letter))?;
-        self.links.take(sender, receiver);
-        self.links.post(receiver, letters);
-        enter_all(&mut self.history, entries, &self.cores, receiver, join);
+            answers: Vec::new(alloc),
+        };
         Ok(answers)
     }
 

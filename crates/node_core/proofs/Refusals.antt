@@ -48,6 +48,16 @@ same_cause (Some fault.AlreadyExited) (Some f) is = ap fault_of_step (sym is)
 same_cause (Some fault.Memory) (Some f) is = ap fault_of_step (sym is)
 same_cause (Some x) None is = absurd is
 
+-- want of memory isn't told, where the watch tells none
+pub never_memory : (o : Option WatchFault) (r : Option StepFault)
+    → MatchOption o (r ≡ None) (λ x. IsSomeAnd r (λ y. y ≡ step_fault_of x)) → (o ≡ Some fault.Memory → ⊥) → r ≡ Some Memory → ⊥
+never_memory None r is none told = cc
+never_memory (Some fault.SerialsSpent) (Some f) is none told = cc
+never_memory (Some fault.NoSuchProcess) (Some f) is none told = cc
+never_memory (Some fault.AlreadyExited) (Some f) is none told = cc
+never_memory (Some fault.Memory) (Some f) is none told = none refl
+never_memory (Some x) None is none told = absurd is
+
 -- no join is current, where the phase is none
 pub no_join_stands : (o : Option Op) (awaited : List ℕ) (p : Phase) → ((k m : ℕ) → p ≡ Joining k m → ⊥)
     → is_joining (current_of o awaited p) ≡ false

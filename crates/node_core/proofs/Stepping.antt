@@ -1,5 +1,5 @@
 -- The step of an event: its turn, where the joins that it enters get the numbers that the world finds.
-use Rattle.std.proofs.Common.{ℕ, true, ◌≡◌, None, List, refl, sym, ap, ◌∙◌, subst}
+use Rattle.std.proofs.Common.{ℕ, true, ◌≡◌, None, List, [], refl, sym, ap, ◌∙◌, subst}
 use Rattle.registry_model.specs.Table.{is_rising}
 use Rattle.protocol_model.specs.Event.{Event as AnyEvent, causes, first_cause}
 use Rattle.protocol_model.specs.Node.{Node}
@@ -7,10 +7,13 @@ use Rattle.protocol_model.specs.Turn.{Turn, begun}
 use Rattle.protocol_model.specs.Calling.{event}
 use Rattle.protocol_model.specs.Reading.{receive}
 use Rattle.term.specs.NodeSets.{set_of}
+use Rattle.node_events.specs.declared.events.Answer.{Answer}
+use Rattle.node_events.specs.declared.events.Entry.{Entry}
+use Rattle.node_events.specs.declared.events.Letter.{Letter}
 use Rattle.node_events.specs.declared.events.Event.{Event}
 use Rattle.node_events.specs.declared.events.Event.TheVariants.{Call, FromPeer, Retry, Exit, Leave}
 use Rattle.node_events.specs.Letters.{letter_of}
-use Rattle.node_events.specs.Made.{Made, nothing}
+use Rattle.node_events.specs.Made.{Made, Room, IsNothing}
 use Rattle.node_core.specs.Held.{Held, IsWhole, bound_of}
 use Rattle.node_core.specs.Seen.{turn_by, node_of}
 use Rattle.node_events.specs.Seen.{unnumbered, call_of}
@@ -30,36 +33,47 @@ stepped e h k u accepted whole rising name world turn = record {
   turn = turn;
 }
 
+-- nothing, with this room
+abbrev begun_with : Room → Made
+begun_with r = record { letters = []; entries = []; answers = []; room = r }
+
+-- what is nothing is that with its own room
+is_begun : (t : Made) → IsNothing t → t ≡ begun_with t.room
+is_begun t empty =
+    ap (λ (ls : List (ℕ × Letter)). record t { letters = ls }) empty.letters
+    ∙ ap (λ (es : List Entry). record t { letters = []; entries = es }) empty.entries
+    ∙ ap (λ (ss : List Answer). record t { letters = []; entries = []; answers = ss }) empty.answers
+
 -- the step of an event that was taken
-steps : (e : Event) (h k : Held) (u : Made) → refusal_of e h ≡ None
-    → Keeps h k → Takes e h nothing k u → IsWhole h → is_rising h.table ≡ true → Steps e h k u
-steps (Call c) h k u accepted kept made whole rising =
+steps : (e : Event) (h k : Held) (r : Room) (u : Made) → refusal_of e h ≡ None
+    → Keeps h k → Takes e h (begun_with r) k u → IsWhole h → is_rising h.table ≡ true → Steps e h k u
+steps (Call c) h k r u accepted kept made whole rising =
     stepped (Call c) h k u accepted whole rising kept.name kept.world (λ number asked.
     turn_numbered number k u ∙ ap (numbered number) (made asked).turn
     ∙ event_numbered (bound_of h.world) h.name number (set_of h.world) (AnyEvent.Calling (call_of c))
     (begun (node_of h)))
-steps Retry h k u accepted kept made whole rising =
+steps Retry h k r u accepted kept made whole rising =
     stepped Retry h k u accepted whole rising made.name made.world (λ number.
     turn_numbered number k u ∙ ap (numbered number) made.turn
     ∙ event_numbered (bound_of h.world) h.name number (set_of h.world) AnyEvent.Retry (begun (node_of h)))
-steps (Exit p) h k u accepted kept made whole rising =
+steps (Exit p) h k r u accepted kept made whole rising =
     stepped (Exit p) h k u accepted whole rising made.name made.world (λ number.
     turn_numbered number k u ∙ ap (numbered number) made.turn
     ∙ event_numbered (bound_of h.world) h.name number (set_of h.world) (AnyEvent.Exiting p) (begun (node_of h)))
-steps Leave h k u accepted kept made whole rising =
+steps Leave h k r u accepted kept made whole rising =
     stepped Leave h k u accepted whole rising made.name made.world (λ number.
     turn_numbered number k u ∙ ap (numbered number) made.turn
     ∙ event_numbered (bound_of h.world) h.name number (set_of h.world) AnyEvent.Leave (begun (node_of h)))
-steps (FromPeer f l) h k u accepted kept made whole rising =
+steps (FromPeer f l) h k r u accepted kept made whole rising =
     stepped (FromPeer f l) h k u accepted whole rising kept.name kept.world (λ number said.
     turn_numbered number k u ∙ ap (numbered number) (made said).turn
     ∙ receive_numbered (bound_of h.world) h.name number f (letter_of l) (begun (node_of h)))
 
 -- the same, where the turn began with nothing
-pub steps_from : (e : Event) (h k : Held) (t u : Made) → t ≡ nothing → refusal_of e h ≡ None
+pub steps_from : (e : Event) (h k : Held) (t u : Made) → IsNothing t → refusal_of e h ≡ None
     → Keeps h k → Takes e h t k u → IsWhole h → is_rising h.table ≡ true → Steps e h k u
-steps_from e h k t u begun accepted kept made whole rising =
-    steps e h k u accepted kept (subst (λ (x : Made). Takes e h x k u) begun made) whole rising
+steps_from e h k t u empty accepted kept made whole rising =
+    steps e h k t.room u accepted kept (subst (λ (x : Made). Takes e h x k u) (is_begun t empty) made) whole rising
 
 -- a refusal asks the node alone, as the protocol sees it
 pub same_refusal : (e : Event) (h k : Held) → IsAsBefore h k → refusal_of e k ≡ refusal_of e h

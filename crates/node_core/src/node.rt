@@ -112,17 +112,18 @@ impl<N: Names> Model for NodeCore<N> {
 }
 
 impl<N: Names<Memory = Global>> NodeCore<N> {
-    ghost use Rattle.std.specs.Prelude.{false, true, None, is_some, ◌++◌, ◌+◌, ◌-◌, ◌^◌, min, length, OnOk, OnErr, IfOk, IfErr};
+    ghost use Rattle.std.specs.Prelude.{false, true, None, Some, is_some, ◌++◌, ◌+◌, ◌-◌, ◌^◌, min, length, OnOk, OnErr, IfOk, IfErr};
     ghost use Rattle.std.specs.Option.{option_copied};
     ghost use Rattle.protocol_model.specs.Node.{call_of, holds_global};
     ghost use Rattle.node_core.specs.Held.{IsWhole};
     ghost use Rattle.node_core.specs.Seen.{node_of};
     ghost use Rattle.node_events.specs.Seen.{fault_of, is_memory};
+    ghost use Rattle.node_events.specs.declared.events.StepFault.TheVariants.{Memory};
     ghost use Rattle.node_core.specs.Rare.{is_admission, is_rare, most_entries, most_answers, Adds, IsFew};
     ghost use Rattle.node_core.specs.Steps.{Steps, Keeps, KeepsQueue, Takes, IsAsBefore, refusal_of, cause_of};
     ghost use Rattle.protocol_model.specs.Event.{can_retry, is_waiting};
     ghost use Rattle.node_core.specs.Joining.{join_number_of};
-    ghost use Rattle.node_events.specs.Made.{Made, HasRoom, nothing};
+    ghost use Rattle.node_events.specs.Made.{Made, HasRoom, IsNothing, nothing};
     ghost use Rattle.node_core.specs.Causes.{event_by};
     ghost use Rattle.node_core.specs.Copies.{IsAsBounded};
     ghost use Rattle.node_core.specs.Steps.{Makes};
@@ -145,7 +146,8 @@ impl<N: Names<Memory = Global>> NodeCore<N> {
         if let Some(fault) = self.refusal(cause) {
             return Err(fault);
         }
-        match self.accept(cause) {
+        let spare = self.new_turn();
+        match self.accept(cause, spare) {
             Ok(turn) => Ok(turn),
             Err(_) => Err(StepFault::Memory),
         }
@@ -171,7 +173,7 @@ impl<N: Names<Memory = Global>> NodeCore<N> {
         if let Some(fault) = self.refusal(cause) {
             return Err(fault);
         }
-        let Ok((copy, turn)) = self.stepped(cause) else {
+        let Ok((copy, turn)) = self.stepped(cause, self.new_turn()) else {
             return Err(StepFault::Memory);
         };
         let Turn {
@@ -191,7 +193,7 @@ impl<N: Names<Memory = Global>> NodeCore<N> {
     ///
     /// Most steps make room first, and then change the node in place. A few want memory behind a change, such as those that move
     /// the names of a node: these are taken by a copy of the node, which then stands in its place.
-    pub fn accept(&mut self, cause: Cause<'_>) -> Result<Turn, AllocError>
+    pub fn accept(&mut self, cause: Cause<'_>, spare: Turn) -> Result<Turn, AllocError>
         requires { refusal_of (event_by cause) self.old ≡ None }
         ensures name { self.new.name ≡ self.old.name }
         ensures world { self.new.world ≡ self.old.world }
@@ -200,15 +202,15 @@ impl<N: Names<Memory = Global>> NodeCore<N> {
         ensures unchanged { OnErr result (IsAsBefore self.old self.new) }
     {
         if self.is_rare(cause) {
-            self.accept_on_copy(cause)
+            self.accept_on_copy(cause, spare)
         } else {
-            self.accept_in_place(cause)
+            self.accept_in_place(cause, spare)
         }
     }
 
     /// Takes the step of a cause that isn't refused. Where memory is refused and the step isn't a rare one, the node is as before,
     /// as the protocol sees it.
-    fn accept_in_place(&mut self, cause: Cause<'_>) -> Result<Turn, AllocError>
+    fn accept_in_place(&mut self, cause: Cause<'_>, spare: Turn) -> Result<Turn, AllocError>
         requires { refusal_of (event_by cause) self.old ≡ None }
         ensures name { self.new.name ≡ self.old.name }
         ensures world { self.new.world ≡ self.old.world }
@@ -216,24 +218,24 @@ impl<N: Names<Memory = Global>> NodeCore<N> {
         ensures few { IfOk result (IsFew self.old) }
         ensures unchanged { OnErr result (is_rare (event_by cause.entry) self.old ≡ false → IsAsBefore self.old self.new) }
     {
-        let mut turn = self.begin();
+        let mut turn = self.begin(spare);
         self.take(&mut turn, cause)?;
         Ok(turn)
     }
 
     /// A copy of the node behind the step of a cause that isn't refused, and what that makes.
-    fn stepped(&self, cause: Cause<'_>) -> Result<(Self, Turn), AllocError>
+    fn stepped(&self, cause: Cause<'_>, spare: Turn) -> Result<(Self, Turn), AllocError>
         requires { refusal_of (event_by cause) self.now ≡ None }
         ensures ok { IfOk result (λ stepped. Steps (event_by cause.entry) self.now stepped.0 stepped.1) }
         ensures few { IfOk result (λ stepped. IsFew self.now stepped.1) }
     {
         let mut copy = self.copy()?;
-        let turn = copy.accept_in_place(cause)?;
+        let turn = copy.accept_in_place(cause, spare)?;
         Ok((copy, turn))
     }
 
     /// Takes the step of a cause that isn't refused, by a copy of the node, which then stands in its place.
-    fn accept_on_copy(&mut self, cause: Cause<'_>) -> Result<Turn, AllocError>
+    fn accept_on_copy(&mut self, cause: Cause<'_>, spare: Turn) -> Result<Turn, AllocError>
         requires { refusal_of (event_by cause) self.old ≡ None }
         ensures name { self.new.name ≡ self.old.name }
         ensures world { self.new.world ≡ self.old.world }
@@ -241,13 +243,13 @@ impl<N: Names<Memory = Global>> NodeCore<N> {
         ensures few { IfOk result (IsFew self.old) }
         ensures unchanged { OnErr result (self.new ≡ self.old) }
     {
-        let (copy, turn) = self.stepped(cause)?;
+        let (copy, turn) = self.stepped(cause, spare)?;
         *self = copy;
         Ok(turn)
     }
 
     /// Whether the current operation is an admission.
-    fn is_admitting(&self) -> bool
+    pub(super) fn is_admitting(&self) -> bool
         ensures { result ≡ is_admission self.now.registrar.current }
     {
         matches!(self.current(), Some(Op::Admission(..)))
@@ -309,14 +311,22 @@ impl<N: Names<Memory = Global>> NodeCore<N> {
         })
     }
 
+    /// What a step makes goes into this: nothing is made yet, and it has no memory.
+    pub fn new_turn(&self) -> Turn
+        ensures { result ≡ nothing }
+    {
+        Turn::begin(self.alloc)
+    }
+
     /// A step begins, and has made nothing yet. A welcome relies on the names of its sponsor's table rising.
-    fn begin(&self) -> Turn
-        ensures nothing { result ≡ nothing }
+    fn begin(&self, mut spare: Turn) -> Turn
+        ensures nothing { IsNothing result }
         ensures rising { is_rising self.now.table ≡ true }
         ensures whole { IsWhole self.now }
     {
         self.table.rising();
-        Turn::begin(self.alloc)
+        spare.clear();
+        spare
     }
 
     /// Refused rounds begin anew, the registrar's first. There is room for a letter more behind that. Where memory is refused the
@@ -383,7 +393,8 @@ impl<N: Names<Memory = Global>> NodeCore<N> {
 
     /// Why the step of a cause is refused, if it is. `Memory` is none of it.
     pub fn refusal(&self, cause: Cause<'_>) -> Option<StepFault>
-        ensures { refusal_of (event_by cause.entry) self.now ≡ cause_of result }
+        ensures cause { refusal_of (event_by cause.entry) self.now ≡ cause_of result }
+        ensures never_memory { result ≡ Some Memory → ⊥ }
     {
         match cause {
             Cause::Call(call) => self.call_refusal(call),

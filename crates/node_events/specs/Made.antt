@@ -22,6 +22,12 @@ pub record Made : Type 0 where
 abbrev pub nothing : Made
 nothing = record { letters = []; entries = []; answers = []; room = record { letters = 0; entries = 0; answers = 0 } }
 
+-- nothing is made, whatever the room
+pub record IsNothing (m : Made) : Type 0 where
+  pub letters : m.letters ≡ []
+  pub entries : m.entries ≡ []
+  pub answers : m.answers ≡ []
+
 -- there is room for l letters, e entries and a answers more
 pub record HasRoom (l e a : ℕ) (m : Made) : Type 0 where
   pub letters : length m.letters + l ≤ m.room.letters

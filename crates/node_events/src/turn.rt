@@ -39,7 +39,7 @@ impl Model for Turn {
 impl Turn {
     ghost use Rattle.term.specs.NodeSets.{IsNodeSet};
     ghost use Rattle.node_events.specs.Letters.{has_lists};
-    ghost use Rattle.node_events.specs.Made.{nothing, sent, SendsAll, SendsSome, entered, answered, HasRoom, Spends, IsSameMade, IsRoomier};
+    ghost use Rattle.node_events.specs.Made.{nothing, IsNothing, sent, SendsAll, SendsSome, entered, answered, HasRoom, Spends, IsSameMade, IsRoomier};
 
     /// Nothing is made yet, and there is no room yet.
     pub fn begin(alloc: Global) -> Self
@@ -50,6 +50,15 @@ impl Turn {
             entries: Vec::new(alloc),
             answers: Vec::new(alloc),
         }
+    }
+
+    /// Nothing is made any more; the memory stays.
+    pub fn clear(&mut self)
+        ensures { IsNothing self.new }
+    {
+        self.letters.clear();
+        self.entries.clear();
+        self.answers.clear();
     }
 
     /// Makes room for so many letters, entries and answers more. Where memory is refused, what was made stays.

@@ -53,7 +53,8 @@ fn try_step<N: Names<Memory = Global>>(
     ensures room { OnOk result (log.new.has_room ≡ true) }
 {
     log.reserve()?;
-    core.accept(cause)
+    let spare = core.new_turn();
+    core.accept(cause, spare)
 }
 
 /// The same, as often as a step is tried.
@@ -134,11 +135,8 @@ impl<N: Names<Memory = Global>> NodeLoop<N> {
         };
         let course = Course::of(&event);
         let cause = event.cause();
-        // Want of memory is never told here, but no clause says so.
-        match self.core.refusal(cause) {
-            None => {}
-            Some(StepFault::Memory) => return Tried::Ended,
-            Some(fault) => return Tried::Refused(fault),
+        if let Some(fault) = self.core.refusal(cause) {
+            return Tried::Refused(fault);
         }
         let Ok(turn) = step(&mut self.core, &mut self.log, cause) else {
             return Tried::Ended;

@@ -10,6 +10,7 @@ use crate::kept::{Kept, KeptEntry};
 use node_events::Entry;
 use std::alloc::{AllocError, Global};
 use std::marker::Model;
+use std::mem;
 use term::{NodeName, NodeSet};
 
 /// The history of a world: all entries, the oldest first. Contracts see their list, and for how many more there is room.
@@ -46,17 +47,18 @@ fn fill(spare: &mut Vec<Box<Entered>>, more: usize, node: &NodeName) -> Result<(
     Ok(())
 }
 
-/// Keeps an entry small, or where memory is refused in spare memory.
-fn keep(keeper: &Keeper, spare: &mut Vec<Box<Entered>>, entry: Entry, number: u32) -> KeptEntry
+/// Keeps an entry small, or where memory is refused in spare memory, whose entry is then in its place.
+fn keep(keeper: &Keeper, spare: &mut Vec<Box<Entered>>, entry: &mut Entry, number: u32) -> KeptEntry
     requires { 0 < vec_len spare.old }
-    ensures kept { entry_of result ≡ entry_by (λ _. number) entry }
+    ensures kept { entry_of result ≡ entry_by (λ _. number) entry.old }
     ensures spare { vec_len spare.old ≤ vec_len spare.new + 1 }
 {
-    match keeper.entry(&entry, number) {
+    match keeper.entry(entry, number) {
         Ok(kept) => kept,
         Err(_) => {
             let mut place = spare.take_last();
-            *place = Entered { entry, number };
+            place.number = number;
+            mem::swap(&mut place.entry, entry);
             KeptEntry::new(Kept::Whole(place))
         }
     }
@@ -96,10 +98,10 @@ impl History {
     }
 
     /// Puts an entry of a node at the end, for which there is room: so it is put whatever memory there is, and nothing is refused.
-    /// Where that decided a join of another node, `number` is that of its call there.
-    pub fn enter(&mut self, entry: Entry, number: u32)
+    /// Where that decided a join of another node, `number` is that of its call there. What is left in the entry's place says nothing.
+    pub fn enter(&mut self, entry: &mut Entry, number: u32)
         requires { 0 < self.old.room }
-        ensures entries { map entry_of self.new.entries ≡ map entry_of self.old.entries ++ entry_by (λ _. number) entry ∷ [] }
+        ensures entries { map entry_of self.new.entries ≡ map entry_of self.old.entries ++ entry_by (λ _. number) entry.old ∷ [] }
         ensures room { self.old.room ≤ self.new.room + 1 }
     {
         let kept = keep(&self.keeper, &mut self.spare, entry, number);

@@ -33,7 +33,8 @@ impl<N: Names<Memory = Global>> NodeCore<N> {
 
     /// Why a call is refused, if it is.
     pub(super) fn call_refusal(&self, call: &Call) -> Option<StepFault>
-        ensures { refusal_of (Calls call.now) self.now ≡ cause_of result }
+        ensures cause { refusal_of (Calls call.now) self.now ≡ cause_of result }
+        ensures never_memory { result ≡ Some Memory → ⊥ }
     {
         match call {
             Call::Spawn => self.watch.is_spent().then_some(StepFault::SerialsSpent),
@@ -57,7 +58,8 @@ impl<N: Names<Memory = Global>> NodeCore<N> {
 
     /// Where the node has given its last number, the next call is refused.
     fn calls_spent(&self) -> Option<StepFault>
-        ensures { cause_of result ≡ first_cause (calls_spent (node_of self.now) ∷ []) }
+        ensures cause { cause_of result ≡ first_cause (calls_spent (node_of self.now) ∷ []) }
+        ensures never_memory { result ≡ Some Memory → ⊥ }
     {
         (self.last_call == u32::MAX).then_some(StepFault::CallsSpent)
     }
@@ -91,8 +93,9 @@ impl<N: Names<Memory = Global>> NodeCore<N> {
 
     /// Why a `set_lock` is refused, if it is.
     fn set_refusal(&self, holder: &Pid, id: &LockId, nodes: &Nodes) -> Option<StepFault>
-        ensures { (requester : Text) (retries : AnyRetries) → cause_of result
+        ensures cause { (requester : Text) (retries : AnyRetries) → cause_of result
             ≡ first_cause (call_causes self.now.name (node_of self.now) (AnyCall.SetLock holder.now id.now.resource requester (target_of nodes.now) retries)) }
+        ensures never_memory { result ≡ Some Memory → ⊥ }
     {
         if let Some(fault) = self.lock_refusal(holder, id) {
             return Some(fault);
@@ -278,7 +281,7 @@ impl<N: Names<Memory = Global>> NodeCore<N> {
         Ok(())
     }
 
-    /// Makes room for what is made of a call, and for one letter more.
+    /// Makes room for what is made of a call, and for one letter more. A deletion goes to eight nodes at most.
     fn make_room_to_call(turn: &mut Turn, call: &Call) -> Result<(), AllocError>
         ensures room { OnOk result (HasRoomToCall call.now turn.new) }
         ensures made { IsSameMade turn.old turn.new }
@@ -329,8 +332,8 @@ impl<N: Names<Memory = Global>> NodeCore<N> {
         }
     }
 
-    /// A process dies: its call is dropped, and every member is to release its locks. There is room for a letter more behind it. Where memory is refused the node is as it
-    /// was.
+    /// A process dies: its call is dropped, and every member is to release its locks. There is room for a letter more behind it.
+    /// Where memory is refused the node is as it was.
     pub(super) fn exit(&mut self, turn: &mut Turn, process: &Pid) -> Result<(), AllocError>
         requires { refusal_of (Exits process.now) self.old ≡ None }
         ensures turn { OnOk result (Makes (λ n a u. die n a process.now (entering (AnyEntry.Exit process.now) u)) self.old turn.old self.new turn.new) }

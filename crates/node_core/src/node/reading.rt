@@ -161,8 +161,9 @@ impl<N: Names<Memory = Global>> NodeCore<N> {
         self.bereave(turn, gone, &holders)
     }
 
-    /// Makes room for what is made of a letter, and for one letter more. That of `Admit`, `Welcome` and `Down` is made where they are
-    /// read.
+    /// Makes room for what is made of a letter, and for one letter more, by which the registrar may start what is next. An answer may
+    /// ask the rest of eight nodes and then be told to all of them, and what is applied frees them all. The room for `Admit`,
+    /// `Welcome` and `Down` is made where they are read.
     fn make_room(turn: &mut Turn, letter: &Letter) -> Result<(), AllocError>
         ensures room { OnOk result (HasRoomToRead letter.now turn.new) }
         ensures made { IsSameMade turn.old turn.new }

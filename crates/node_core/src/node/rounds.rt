@@ -164,7 +164,7 @@ impl<N: Names<Memory = Global>> NodeCore<N> {
             return Ok(());
         }
         self.ask_rest(turn, round, from, granted, &self.set_lock());
-        let before = round.copy();
+        let before = self.is_admitting().then(|| round.copy());
         let Phase::Asking(round) = &mut self.phase else {
             return Ok(());
         };
@@ -172,7 +172,9 @@ impl<N: Names<Memory = Global>> NodeCore<N> {
         match self.end_round(turn) {
             Ok(()) => Ok(()),
             Err(fault) => {
-                self.phase = Phase::Asking(before);
+                if let Some(before) = before {
+                    self.phase = Phase::Asking(before);
+                }
                 Err(fault)
             }
         }

@@ -3,16 +3,16 @@ use Rattle.protocol_model.specs.Links.{Links, posted}
 use Rattle.link.specs.Held.{Held as Mesh, seen}
 use Rattle.node_core.specs.declared.Letter.{Letter}
 use Rattle.cluster_world.specs.Links.{letters_to}
-use Rattle.cluster_world.proofs.Outboxes.{given_back, none_left}
-use Rattle.cluster_world.proofs.Posting.{posted-nothing, posted-cons}
+use Rattle.cluster_world.proofs.Outboxes.{put_back}
+use Rattle.cluster_world.proofs.Posting.{posted-cons}
 use Rattle.cluster_world.proofs.mail.send_all.Goals as goal
 
 pub returns-in-Err-clause-links : goal.returns-in-Err-clause-links
 returns-in-Err-clause-links c =
-    given_back c.args.sender.now c.copy.result c.in-Some.receiver c.in-Some.letter c.in-Err.unsent.letter
-    c.from.result.items c.push_front_reserved.new.self.items c.loop-receiver.letters.items c.pop_front.new.self.items
+    put_back c.args.sender.now c.in-Some.receiver c.in-Some.letter c.in-Err.unsent.letter
+    c.push_front_reserved.new.self.items c.loop-receiver.letters.items c.pop_front.new.self.items
     (seen c.send.new.self) (seen c.loop-receiver.mesh) _
-    c.copy.ensures c.from.ensures.0 c.push_front_reserved.ensures.items c.in-Err.ensures.returned
+    c.push_front_reserved.ensures.items c.in-Err.ensures.returned
     c.in-Some.ensures.items (ap (λ (k : Mesh Letter). seen k) c.in-Err.ensures.unchanged) c.loop-receiver.invariant.links
 
 pub loop-receiver-preserved : goal.loop-receiver-preserved
@@ -29,8 +29,6 @@ loop-receiver-preserved c = record {
 
 pub returns-clause-links : goal.returns-clause-links
 returns-clause-links c =
-    sym (posted-nothing c.args.sender.now (seen c.loop-receiver.mesh))
-    ∙ ap (λ (ss : List (ℕ × Letter)). posted c.args.sender.now (λ t. letters_to t ss) (seen c.loop-receiver.mesh))
-    (sym (none_left c.loop-receiver.letters.items c.loop-receiver.letters.len c.loop-receiver.letters.ok.0
-    c.in_default.ensures.cases.0))
+    ap (λ (ss : List (ℕ × Letter)). posted c.args.sender.now (λ t. letters_to t ss) (seen c.loop-receiver.mesh))
+    (sym c.in_default.ensures.items)
     ∙ c.loop-receiver.invariant.links

@@ -40,7 +40,7 @@ returns-in-Some-refusal-clause-refused g c =
     (stands _ c.self.invariant c.args.node.now c.in-Some.place c.index.result.now (sym c.position.ensures ∙ c.in-Some.is)
     c.index.ensures (sym c.is_closed.ensures ∙ c.if-is_closed.false))
     c.in-Some-refusal.fault
-    (ap (λ (e : NodeEvent). refusal_of e c.index.result.now) (sym c.cause.ensures) ∙ c.refusal.ensures
+    (ap (λ (e : NodeEvent). refusal_of e c.index.result.now) (sym c.cause.ensures) ∙ c.refusal.ensures.cause
     ∙ ap cause_of c.in-Some-refusal.is))
 
 pub returns-in-None-clause-ok : goal.returns-in-None-clause-ok
@@ -53,6 +53,6 @@ returns-in-None-clause-ok g c =
           (sym c.knows_contact.ensures ∙ c.if-not-knows_contact.false) c.index.result.now
           (stands _ c.self.invariant c.args.node.now c.in-Some.place c.index.result.now
           (sym c.position.ensures ∙ c.in-Some.is) c.index.ensures (sym c.is_closed.ensures ∙ c.if-is_closed.false))
-          (ap (λ (e : NodeEvent). refusal_of e c.index.result.now) (sym c.cause.ensures) ∙ c.refusal.ensures
+          (ap (λ (e : NodeEvent). refusal_of e c.index.result.now) (sym c.cause.ensures) ∙ c.refusal.ensures.cause
           ∙ ap cause_of c.in-None.is);
     })

@@ -1,4 +1,4 @@
-use Rattle.std.proofs.Common.{ℕ, ◌≤◌, ◌∙◌, ◌++◌, ◌^◌, ◌-◌, min, Option, List, map, ap, sym, subst}
+use Rattle.std.proofs.Common.{ℕ, ◌<◌, ◌≤◌, ◌∙◌, ◌++◌, ◌^◌, ◌-◌, min, Option, List, map, ap, sym, subst}
 use Rattle.std.specs.Prelude.{unwrap_or}
 use Rattle.std.specs.Option.{option_copied}
 use Rattle.std.proofs.lemmas.Result.{err_from_is_err_and}
@@ -14,8 +14,14 @@ use Rattle.world_history.specs.declared.entry.HistoryEntry.{HistoryEntry}
 use Rattle.world_history.specs.Histories.{entry_of}
 use Rattle.cluster_world.specs.Histories.{number_at}
 use Rattle.cluster_world.proofs.Steps.{number_is}
-use Rattle.cluster_world.proofs.Taking.{fits_room, same_core, few_answers, refused_whole, refused_seen, read_whole, read_played}
+use Rattle.cluster_world.proofs.Taking.{fits_room, place_within, same_core, few_answers, refused_whole, refused_seen, read_whole, read_played}
 use Rattle.cluster_world.proofs.world.World.deliver.Goals as goal
+
+pub index_mut-core-requires : goal.index_mut-core-requires
+index_mut-core-requires g c =
+    subst (λ (n : ℕ). c.args.place < n) (sym c.self.inside.cores.ok.0)
+    (place_within c.args.self.now _ c.self.view_is c.self.invariant c.args.place (Deliver c.args.sender.now c.args.receiver.now)
+    c.requires c.index.result.now c.index.ensures)
 
 pub invariant_of-self-in_err-letters : goal.invariant_of-self-in_err-letters
 invariant_of-self-in_err-letters g c =

@@ -8,16 +8,16 @@ use Rattle.node_core.specs.Steps.{refusal_of, cause_of}
 use Rattle.node_core.proofs.LockRefusals.{faults_next}
 use Rattle.node_core.proofs.node.NodeCore.call_refusal.Goals as goal
 
-pub returns-in-SetLock : goal.returns-in-SetLock
-returns-in-SetLock g c =
+pub returns-in-SetLock-clause-cause : goal.returns-in-SetLock-clause-cause
+returns-in-SetLock-clause-cause g c =
     ap (λ (x : Call). refusal_of (Calls x) c.args.self.now) c.in-SetLock.is
-    ∙ sym (c.set_refusal.ensures c.in-SetLock.id.requester (retries_of c.in-SetLock.field-3))
+    ∙ sym (c.set_refusal.ensures.cause c.in-SetLock.id.requester (retries_of c.in-SetLock.field-3))
 
-pub returns-in-DelLock : goal.returns-in-DelLock
-returns-in-DelLock g c =
+pub returns-in-DelLock-clause-cause : goal.returns-in-DelLock-clause-cause
+returns-in-DelLock-clause-cause g c =
     ap (λ (x : Call). refusal_of (Calls x) c.args.self.now) c.in-DelLock.is
     ∙ sym (ap cause_of c.or.ensures
     ∙ faults_next
     (lock_causes c.args.self.now.name (node_of c.args.self.now) c.in-DelLock.holder c.in-DelLock.id.resource)
     (calls_spent (node_of c.args.self.now) ∷ []) c.lock_refusal.result c.calls_spent.result
-    c.lock_refusal.ensures.never_memory c.lock_refusal.ensures.cause c.calls_spent.ensures)
+    c.lock_refusal.ensures.never_memory c.lock_refusal.ensures.cause c.calls_spent.ensures.cause)

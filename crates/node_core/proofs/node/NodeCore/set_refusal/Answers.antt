@@ -7,8 +7,8 @@ use Rattle.node_core.specs.Steps.{cause_of}
 use Rattle.node_core.proofs.LockRefusals.{faults_first}
 use Rattle.node_core.proofs.node.NodeCore.set_refusal.Goals as goal
 
-pub returns-in-Some : goal.returns-in-Some
-returns-in-Some g c = λ requester retries.
+pub returns-in-Some-clause-cause : goal.returns-in-Some-clause-cause
+returns-in-Some-clause-cause g c = λ requester retries.
     faults_first
     (lock_causes c.args.self.now.name (node_of c.args.self.now) c.args.holder.now c.args.id.now.resource)
     (cause (not (names_members (node_of c.args.self.now) (target_of c.args.nodes.now))) UnknownNode
