@@ -25,7 +25,7 @@ mod CallsOf
 mod Gone
 mod Leaving
 mod Numbers
-mod Stepping
+pub mod Stepping
 mod Tables
 mod Joining
 mod Queues

@@ -1,3 +1,3 @@
 pub mod Faults
-pub mod Before
+pub use Rattle.node_core.proofs.Stepping
 mod Openings
