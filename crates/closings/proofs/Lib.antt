@@ -3,6 +3,6 @@ mod Worlds
 mod Stepping
 mod Advance
 mod Runs
-mod Merged
-mod Onward
+pub mod Merged
+pub mod Onward
 mod Fitting

@@ -6,3 +6,4 @@ pub mod Playing
 pub mod Parts
 pub mod Ends
 pub mod Replaying
+pub mod Consistent

@@ -7,3 +7,4 @@ pub mod Least
 pub mod Ends
 pub mod Transcripts
 pub mod Replaying
+pub mod Consistent

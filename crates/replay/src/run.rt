@@ -1,9 +1,10 @@
 //! Plays the logs of closed nodes on a world.
-ghost use Rattle.std.specs.Prelude.{◌≡◌, ◌++◌, ◌<◌, ℕ, [], false, None, Some, length, map, IfOk, IfErr, slice_get};
+ghost use Rattle.std.specs.Prelude.{◌≡◌, ◌++◌, ◌<◌, ℕ, [], true, false, None, Some, length, map, IfOk, IfErr, slice_get};
 ghost use Rattle.term.specs.NodeSets.{set_of};
 ghost use Rattle.cluster_world.specs.Seen.{opening_of};
 ghost use Rattle.cluster_world.specs.Playing.{Keeps};
 ghost use Rattle.node_log.specs.Openings.{repeats, start_refused};
+ghost use Rattle.replay.specs.Consistent.{AreConsistent, is_torn};
 ghost use Rattle.replay.specs.Ends.{end_of, logs_of};
 ghost use Rattle.replay.specs.Playing.{IsRun};
 ghost use Rattle.replay.specs.Replaying.{RunsThrough, StopsLogs, Replayed, IsFault};
@@ -45,7 +46,8 @@ fn play_logs<N: Names<Memory = Global>>(
 
 /// Plays the logs of a closed cluster's nodes, merged by stamp and then node, on a world that is started with the same lists, and
 /// compares all answers, the nodes' last tables and what seats were answered. Where that succeeds, the run of the threads was one of
-/// the world's. `CloseFault` says what is refused, and in which order.
+/// the world's. `CloseFault` says what is refused, and in which order. It is `Torn` for ends alone that aren't consistent: some node,
+/// played by its own log and by the letters that the others' logs send it, doesn't do what its log says, or has another table then.
 pub fn replay<N: Names<Memory = Global>>(
     alloc: Global,
     cluster: &[NodeName],
@@ -58,6 +60,7 @@ pub fn replay<N: Names<Memory = Global>>(
     requires each { (c : ℕ) → set_of (map (λ e. e.log.node) ends.now) c ≡ set_of (cluster.now ++ lone.now) c }
     ensures ok { IfOk result (λ closed. Replayed cluster.now lone.now (map (end_of N.contents) ends.now) transcripts.now closed.events closed.world) }
     ensures refused { IfErr result (λ fault. IsFault cluster.now lone.now (map (end_of N.contents) ends.now) transcripts.now fault) }
+    ensures torn { IfErr result (λ fault. is_torn fault ≡ true → AreConsistent cluster.now lone.now (map (end_of N.contents) ends.now) → ⊥) }
 {
     if let Some(place) = least_alone(ends) {
         return Err(CloseFault::LeftInHold(ends[place].log.node().copy()));

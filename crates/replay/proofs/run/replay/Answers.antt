@@ -1,13 +1,15 @@
-use Rattle.std.proofs.Common.{◌∙◌, length, map, sym, ap, subst, rules}
+use Rattle.std.proofs.Common.{true, ◌≡◌, ◌∙◌, length, map, sym, ap, subst, rules}
 use Rattle.std.proofs.lemmas.Result.{err_from_is_err_and}
 use Rattle.std.proofs.lemmas.List.{length-map}
 use Rattle.cluster_world.specs.Seen.{seen}
 use Rattle.node_log.specs.Openings.{repeats}
 use Rattle.node_log.specs.declared.transcript.Transcript.{Transcript}
-use Rattle.replay.specs.declared.faults.CloseFault.TheVariants.{Memory}
+use Rattle.replay.specs.declared.faults.CloseFault.TheVariants.{Torn, Memory}
 use Rattle.replay.specs.Ends.{end_of, logs_of, is_lesser, EndedWell, HasTableOf}
 use Rattle.replay.specs.Least.{LeastOther}
 use Rattle.replay.specs.Replaying.{IsFault}
+use Rattle.replay.proofs.Consistent.{never_torn}
+use Rattle.replay.specs.Consistent.{AreConsistent, is_torn}
 use Rattle.replay.proofs.Ends.{end_at, same_node, same_length}
 use Rattle.replay.proofs.Playing.{nodes_are}
 use Rattle.replay.proofs.Replaying.{as_many, alone, stopped, replayed, other_table, stranger, of_world}
@@ -68,3 +70,24 @@ pub returns-clause-ok : goal.returns-clause-ok
 returns-clause-ok g c =
     replayed c.args.cluster.now c.args.lone.now (map (end_of g.N.Names.contents) c.args.ends.now) c.args.transcripts.now c.in-Ok.world c.play_logs.new.world c.in_ok-events.events c.in-Ok.ensures.nodes c.in_ok-events.ensures.ok (as_many EndedWell (map (end_of g.N.Names.contents) c.args.ends.now) _ (sym (length-map c.args.ends.now (end_of g.N.Names.contents))) c.in_default.ensures)
     (as_many (HasTableOf (seen c.play_logs.new.world)) (map (end_of g.N.Names.contents) c.args.ends.now) _ (sym (length-map c.args.ends.now (end_of g.N.Names.contents))) (subst (LeastOther (HasTableOf (seen c.play_logs.new.world)) is_lesser (map (end_of g.N.Names.contents) c.args.ends.now) (length c.args.ends.now)) c.in_default-2.is c.in_ok-place.ensures)) c.in_default-least_stranger.ensures
+
+pub returns-in_err-events-clause-torn : goal.returns-in_err-events-clause-torn
+returns-in_err-events-clause-torn g c =
+    let fault : IsFault c.args.cluster.now c.args.lone.now (map (end_of g.N.Names.contents) c.args.ends.now) c.args.transcripts.now c.in_err-events.field-0.0 =
+    stopped c.args.cluster.now c.args.lone.now (map (end_of g.N.Names.contents) c.args.ends.now) c.args.transcripts.now c.in-Ok.world c.in_err-events.field-0.0
+    c.in-Ok.ensures.nodes (as_many EndedWell (map (end_of g.N.Names.contents) c.args.ends.now) _ (sym (length-map c.args.ends.now (end_of g.N.Names.contents))) c.in_default.ensures) c.in_err-events.ensures.stopped in
+    let torn : is_torn c.in_err-events.field-0.0 ≡ true → AreConsistent c.args.cluster.now c.args.lone.now (map (end_of g.N.Names.contents) c.args.ends.now) → ⊥ =
+    never_torn c.args.cluster.now c.args.lone.now (map (end_of g.N.Names.contents) c.args.ends.now) c.args.transcripts.now c.in_err-events.field-0.0 fault in
+    search rules
+
+pub returns-in-Some-2-clause-torn : goal.returns-in-Some-2-clause-torn
+returns-in-Some-2-clause-torn g c =
+    let least = (subst (LeastOther (HasTableOf (seen c.play_logs.new.world)) is_lesser (map (end_of g.N.Names.contents) c.args.ends.now) (length c.args.ends.now)) c.in-Some-2.is c.in_ok-place.ensures) in
+    never_torn c.args.cluster.now c.args.lone.now (map (end_of g.N.Names.contents) c.args.ends.now) c.args.transcripts.now (Torn c.copy-in-Some-2.result c.len.result)
+    (other_table c.args.cluster.now c.args.lone.now (map (end_of g.N.Names.contents) c.args.ends.now) c.args.transcripts.now c.in-Ok.world c.play_logs.new.world c.in_ok-events.events _ c.in-Some-2.place c.copy-in-Some-2.result c.len.result
+    (end_of g.N.Names.contents c.index-ends-place-in-Some-2.result) c.in-Ok.ensures.nodes (ap repeats (nodes_are g.N.Names.contents c.args.ends.now) ∙ c.requires.once) c.in_ok-events.ensures.ok (as_many EndedWell (map (end_of g.N.Names.contents) c.args.ends.now) _ (sym (length-map c.args.ends.now (end_of g.N.Names.contents))) c.in_default.ensures)
+    (sym (length-map c.args.ends.now (end_of g.N.Names.contents))) least
+    (end_at g.N.Names.contents c.args.ends.now c.in-Some-2.place c.index-ends-place-in-Some-2.result least.within
+    c.index-ends-place-in-Some-2.is)
+    (sym (c.copy-in-Some-2.ensures ∙ c.node-in-Some-2.ensures ∙ sym (same_node _ _ c.index-ends-place-in-Some-2.is)))
+    (c.len.ensures ∙ sym (same_length _ _ c.index-ends-place-in-Some-2.is)))
