@@ -7,7 +7,7 @@ use Rattle.std.proofs.lemmas.Option.{slice_get_within, get_or_from_slice_get, sl
 use Rattle.term.specs.NodeSets.{IsNodeSet, set_of, without_node}
 use Rattle.term.proofs.NodeSets.{without_node-there}
 use Rattle.boss_order.specs.Boss.{boss_of, others_of}
-use Rattle.boss_order.proofs.Sets.{set_of-filter}
+use Rattle.term.proofs.Subsets.{set_of-filter}
 
 -- without the boss, all but the last are left
 pub without_boss : (xs : List ℕ) → IsNodeSet xs → 0 < length xs → without_node xs (boss_of xs) ≡ others_of xs

@@ -16,6 +16,7 @@ use Rattle.registry_model.specs.Process.{Nodes, nodes_of}
 use Rattle.protocol_model.specs.Links.{is_nil}
 use Rattle.protocol_model.specs.Round.{is_empty, greatest}
 use Rattle.term.specs.NodeSets.{set_of}
+use Rattle.term.proofs.Subsets.{set_of-filter}
 use Rattle.boss_order.specs.Boss.{boss_of}
 
 -- x is less than each of these
@@ -140,38 +141,6 @@ is_empty-set_of n xs rising below = is_empty-nodes_of n (set_of xs) ∙ ap is_ni
 pub greatest-set_of : (n : ℕ) (xs : List ℕ) → IsStrictlyIncreasing xs → All (λ c. c < n) xs
     → greatest n (set_of xs) ≡ boss_of xs
 greatest-set_of n xs rising below = greatest-nodes_of n (set_of xs) ∙ ap boss_of (nodes_of-set_of n xs rising below)
-
--- a node that is kept where it passes
-set_of-kept : (p : ℕ → Bool) (c x : ℕ) (ys : List ℕ) (t : Bool) → set_of ys c ≡ (t && p c)
-    → set_of (if p x then x ∷ ys else ys) c ≡ (((x == c) || t) && p c)
-set_of-kept p c x ys t e =
-    by_test c (λ y b. set_of (if p y then y ∷ ys else ys) c ≡ ((b || t) && p c)) (here (p c) refl)
-    (λ y ne. there y ne (p y)) x
-  where
-    here : (b : Bool) → p c ≡ b → set_of (if b then c ∷ ys else ys) c ≡ b
-    here true q = rw (eq-eqb c c refl) refl
-    here false q = e ∙ ap (λ (b : Bool). t && b) q ∙ and-false t
-
-    there : (y : ℕ) → (y ≡ c → ⊥) → (b : Bool) → set_of (if b then y ∷ ys else ys) c ≡ (t && p c)
-    there y ne true = rw (ne_eqb y c ne) e
-    there y ne false = e
-
--- the set of those that pass a test
-pub set_of-filter : (p : ℕ → Bool) (xs : List ℕ) (c : ℕ) → set_of (filter p xs) c ≡ (set_of xs c && p c)
-set_of-filter p [] c = refl
-set_of-filter p (x ∷ xs) c = set_of-kept p c x (filter p xs) (set_of xs c) (set_of-filter p xs c)
-
--- the set of two lists
-pub set_of-append : (xs ys : List ℕ) (c : ℕ) → set_of (xs ++ ys) c ≡ (set_of xs c || set_of ys c)
-set_of-append xs ys c = list_any-append (λ m. m == c) xs ys
-
--- the set of the first nodes, with the one behind them
-pub set_of-take : (xs : List ℕ) (i : ℕ) (x : ℕ) → i < length xs → x ≡ get_or xs i x → (c : ℕ)
-    → set_of (take (i + 1) xs) c ≡ (set_of (take i xs) c || (x == c))
-set_of-take xs i x l e c =
-    ap (λ (ys : List ℕ). set_of ys c) (take_at_read xs i x l).1
-    ∙ ap (λ (y : ℕ). set_of (take i xs ++ y ∷ []) c) (sym e)
-    ∙ set_of-append (take i xs) (x ∷ []) c ∙ ap (λ (b : Bool). set_of (take i xs) c || b) (or-false (x == c))
 
 -- each node of a list is of its set
 pub set_of-item : (xs : List ℕ) (k d : ℕ) → k < length xs → set_of xs (get_or xs k d) ≡ true

@@ -1,6 +1,6 @@
-//! The boss of a set of nodes: the greatest, which is asked first. And what two sets have in common.
+//! The boss of a set of nodes: the greatest, which is asked first; and the rest.
 #![tactic(auto)]
 
 mod order;
 
-pub use order::{boss, common, rest};
+pub use order::{boss, rest};

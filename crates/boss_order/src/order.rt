@@ -29,16 +29,3 @@ pub fn rest(nodes: &NodeSet) -> NodeSet
     }
     rest
 }
-
-/// Those of these nodes that are among the others, too.
-pub fn common(nodes: &NodeSet, others: &NodeSet) -> NodeSet
-    ensures { (c : ℕ) → set_of result c ≡ (set_of nodes.now c && set_of others.now c) }
-{
-    let mut common = nodes.copy();
-    for node in nodes.as_slice() {
-        if !others.contains(node) {
-            common.remove(node);
-        }
-    }
-    common
-}

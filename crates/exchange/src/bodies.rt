@@ -69,16 +69,6 @@ fn write_all<N: Names>(table: &mut N, changes: &[Change]) -> Result<(), AllocErr
     Ok(())
 }
 
-/// The members with the joiner.
-fn members_with(members: &NodeSet, joiner: &NodeName) -> NodeSet
-    requires { length (and_node members.now joiner.now) ≤ most_nodes }
-    ensures { set_of result ≡ with_node joiner.now (set_of members.now) }
-{
-    let mut all = members.copy();
-    let _is_new = all.insert(joiner.copy());
-    all
-}
-
 impl Admission {
     /// The same admission, in memory of its own.
     pub fn copy(&self) -> Result<Self, AllocError>
@@ -143,7 +133,7 @@ pub fn welcome_of<N: Names<Memory = Global>>(
     let mut after = table.copy(alloc)?;
     write_all(&mut after, settled.puts.as_slice())?;
     Ok(Welcome {
-        members: members_with(members, joiner),
+        members: members.with(joiner),
         pairs: after.pairs(alloc)?,
         told: told.copy(),
         kills: copied(alloc, settled.kills.as_slice())?,

@@ -13,7 +13,7 @@ use Rattle.registry_model.specs.Process.{Process, at}
 use Rattle.protocol_model.specs.Node.{LockPhase, LockCall as AnyCall, call_of, put_call}
 use Rattle.protocol_model.specs.Client.{in_phase}
 use Rattle.term.specs.NodeSets.{set_of, without_node}
-use Rattle.boss_order.proofs.Sets.{set_of-filter}
+use Rattle.term.proofs.Subsets.{set_of-filter}
 use Rattle.lock_calls.specs.declared.call.LockCall.{LockCall}
 use Rattle.lock_calls.specs.declared.call.CallPhase.{CallPhase}
 use Rattle.lock_calls.specs.declared.call.CallPhase.TheVariants.{Asking, Waiting, Deleting}

@@ -1,5 +1,5 @@
 //! Rounds over a few nodes, row by row, and the boss of a set.
-use boss_order::{boss, common, rest};
+use boss_order::{boss, rest};
 use locker::{Ending, Round};
 use term::{NodeName, NodeSet, parse_node, parse_nodes};
 
@@ -133,7 +133,7 @@ fn has_boss(list: &str, wanted: &str, others: &str) -> bool {
 
 /// Whether the nodes of two lists have these in common.
 fn have_in_common(first: &str, second: &str, wanted: &str) -> bool {
-    common(&nodes_of(first), &nodes_of(second)) == nodes_of(wanted)
+    nodes_of(first).intersection(&nodes_of(second)) == nodes_of(wanted)
 }
 
 #[test]

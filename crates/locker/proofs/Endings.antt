@@ -7,7 +7,8 @@ use Rattle.protocol_model.specs.Round as protocol
 use Rattle.protocol_model.specs.Round.{Mark, is_empty, is_out, is_refused, is_granted, has_granted, granted, is_held}
 use Rattle.term.specs.NodeSets.{IsNodeSet, set_of}
 use Rattle.boss_order.specs.Boss.{boss_of}
-use Rattle.boss_order.proofs.Sets.{set_of-filter, is_nil-filter, passes_within, is_empty-within, is_empty-set_of_passing}
+use Rattle.term.proofs.Subsets.{set_of-filter}
+use Rattle.boss_order.proofs.Sets.{is_nil-filter, passes_within, is_empty-within, is_empty-set_of_passing}
 use Rattle.locker.specs.declared.ending.Ending.TheVariants.{Held as IsHeld, GiveBack}
 use Rattle.locker.specs.Held.{Held, IsRound, seen}
 use Rattle.locker.specs.Ends.{granted_by, is_won, end_of, EndsAs}

@@ -26,7 +26,8 @@ use Rattle.protocol_model.specs.Registrar.{finish}
 use Rattle.term.specs.NodeSets.{IsNodeSet, set_of, without_node, with_node as and_node, most_nodes}
 use Rattle.term.proofs.NodeSets.{set_of-with_node}
 use Rattle.term.proofs.NodeLists.{rising-with_node}
-use Rattle.boss_order.proofs.Sets.{set_of-filter, nodes_of-set_of, nodes_of-within}
+use Rattle.term.proofs.Subsets.{set_of-filter}
+use Rattle.boss_order.proofs.Sets.{nodes_of-set_of, nodes_of-within}
 use Rattle.exit_watch.specs.Held.{Held as Watch, with_killed, AreSuspected}
 use Rattle.lock_calls.specs.Held.{Held as LockCalls, seen}
 use Rattle.transaction.specs.declared.op.Op.{Op}

@@ -17,7 +17,7 @@ use Rattle.protocol_model.specs.Calling.{event}
 use Rattle.protocol_model.specs.Client.{go_on_lock, lose_node_in, lose_node}
 use Rattle.protocol_model.specs.Reading.{told_of, lose_current, bereave}
 use Rattle.term.specs.NodeSets.{IsNodeSet, set_of, without_node}
-use Rattle.boss_order.proofs.Sets.{set_of-filter}
+use Rattle.term.proofs.Subsets.{set_of-filter}
 use Rattle.exit_watch.specs.Held.{process_of}
 use Rattle.exit_watch.proofs.Owners.{owns-filter}
 use Rattle.locker.specs.Held.{Held as HeldRound, seen}

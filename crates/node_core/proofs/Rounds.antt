@@ -15,7 +15,7 @@ use Rattle.protocol_model.specs.Watch.{Watch as AnyWatch, owed}
 use Rattle.exit_watch.specs.Held.{Held as Watch, process_of}
 use Rattle.term.specs.NodeSets.{IsNodeSet, set_of}
 use Rattle.boss_order.specs.Boss.{others_of}
-use Rattle.boss_order.proofs.Sets.{set_of-filter}
+use Rattle.term.proofs.Subsets.{set_of-filter}
 use Rattle.locker.specs.declared.ending.Ending.{Ending}
 use Rattle.locker.specs.declared.ending.Ending.TheVariants.{Held as Holds, GiveBack}
 use Rattle.locker.specs.Held.{Held as HeldRound, seen}

@@ -15,7 +15,7 @@ use Rattle.protocol_model.specs.Node.{Op as AnyOp, Current}
 use Rattle.protocol_model.specs.Turn.{Turn, at_work, send_all, enter}
 use Rattle.protocol_model.specs.Registrar.{registrar, give_global, answer_op, finish, done, write, decide, await_less}
 use Rattle.protocol_model.specs.Round.{is_empty}
-use Rattle.boss_order.proofs.Sets.{set_of-filter}
+use Rattle.term.proofs.Subsets.{set_of-filter}
 use Rattle.protocol_model.specs.Deciding.{held}
 use Rattle.name_table.specs.declared.change.Change.{Change}
 use Rattle.name_table.specs.Changes.{change_of}

@@ -6,7 +6,7 @@ use Rattle.std.proofs.lemmas.Bool.Decides.{nat_tests}
 use Rattle.std.proofs.lemmas.List.Folds.{list_any_at}
 use Rattle.std.proofs.Math.Bool.{or-true}
 use Rattle.term.specs.NodeSets.{set_of, most_nodes}
-use Rattle.boss_order.proofs.Sets.{set_of-append}
+use Rattle.term.proofs.Subsets.{set_of-append}
 use Rattle.node_loop.specs.declared.StartFault.TheVariants.{SameNode, TooManyNodes}
 use Rattle.node_loop.specs.Openings.{Opened, repeats, start_refused, IsOpening}
 

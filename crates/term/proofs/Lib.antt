@@ -1,3 +1,4 @@
+mod Algebra
 pub mod ExactNodes
 mod ExactPids
 mod ExactTexts
@@ -9,3 +10,4 @@ mod Parts
 mod Places
 pub mod Serials
 pub mod Texts
+pub mod Subsets

@@ -11,6 +11,7 @@ mod node_set;
 mod pid;
 mod requester;
 mod resource;
+mod set_algebra;
 mod text;
 
 pub use faults::TextFault;

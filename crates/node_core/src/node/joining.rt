@@ -4,7 +4,6 @@ ghost use Rattle.registry_model.specs.Table.{is_rising, without};
 ghost use Rattle.term.specs.NodeSets.{set_of};
 ghost use Rattle.exit_watch.specs.Held.{AreSuspected, KeepsSuspects};
 
-use crate::node::leaving::{and_one, except};
 use crate::node::{NodeCore, Phase};
 use exchange::{Admission, Settled, Welcome, admit_of, welcome_of};
 use exit_watch::Watch;
@@ -13,13 +12,6 @@ use node_events::{Entry, Letter, Reply, Turn, copied_pairs};
 use std::alloc::{AllocError, Global};
 use term::{MOST_NODES, NodeName, NodeSet, Pid};
 use transaction::Op;
-
-/// Those of a world that are in one of two sets. As the world is a set there is room for all of them.
-fn either(world: &NodeSet, nodes: &NodeSet, others: &NodeSet) -> NodeSet
-    ensures { (c : ℕ) → set_of result c ≡ (set_of world.now c && (set_of nodes.now c || set_of others.now c)) }
-{
-    except(world, &except(&except(world, nodes), others))
-}
 
 /// A table of those of these pairs whose owners' nodes haven't gone. The watch is told of each owner.
 fn table_of<N: Names<Memory = Global>>(
@@ -237,7 +229,7 @@ impl<N: Names<Memory = Global>> NodeCore<N> {
         self.tell_to_admit(turn, &joiner, settled)?;
         self.send_welcome(turn, &joiner, settled)?;
         self.registrar
-            .await_from(&and_one(&self.world, &self.members, &joiner));
+            .await_from(&self.members.with_within(&joiner, &self.world));
         self.phase = Phase::Writing(asked, None);
         Ok(())
     }
@@ -302,7 +294,7 @@ impl<N: Names<Memory = Global>> NodeCore<N> {
         ensures kept { KeepsQueue self.old self.new }
     {
         if !self.told.contains(joiner) {
-            self.members = and_one(&self.world, &self.members, joiner);
+            self.members = self.members.with_within(joiner, &self.world);
         }
     }
 
@@ -347,10 +339,13 @@ impl<N: Names<Memory = Global>> NodeCore<N> {
         ensures kept { KeepsQueue self.old self.new }
     {
         let alloc = self.alloc;
-        let mut told = either(&self.world, &self.told, &welcome.told);
+        let mut told = self.told.union_within(&welcome.told, &self.world);
         told.remove(&self.name);
         self.table = table_of(alloc, &mut self.watch, welcome.pairs.as_slice(), &told)?;
-        self.members = and_one(&self.world, &except(&welcome.members, &told), &self.name);
+        self.members = welcome
+            .members
+            .difference(&told)
+            .with_within(&self.name, &self.world);
         self.told = told;
         self.joined = true;
         Ok(())

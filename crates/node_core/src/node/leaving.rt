@@ -1,5 +1,5 @@
 //! The rules of departures: this node leaves, or is told that another has left.
-ghost use Rattle.std.specs.Prelude.{◌≡◌, ℕ, ◌&&◌, ◌||◌, ◌==◌, not, OnOk};
+ghost use Rattle.std.specs.Prelude.{◌≡◌, OnOk};
 ghost use Rattle.term.specs.NodeSets.{set_of};
 
 use crate::node::{NodeCore, Phase};
@@ -7,27 +7,7 @@ use lock_calls::CallPhase;
 use name_table::Names;
 use node_events::{Entry, Letter, Turn};
 use std::alloc::{AllocError, Global};
-use term::{NodeName, NodeSet, Pid};
-
-/// Those of these nodes that aren't among the ones that have gone.
-pub(super) fn except(nodes: &NodeSet, gone: &NodeSet) -> NodeSet
-    ensures { (c : ℕ) → set_of result c ≡ (set_of nodes.now c && not (set_of gone.now c)) }
-{
-    let mut rest = nodes.copy();
-    for node in gone.as_slice() {
-        rest.remove(node);
-    }
-    rest
-}
-
-/// Those of a world that are among these nodes, or are this one. As the world is a set there is room for all of them.
-pub(super) fn and_one(world: &NodeSet, nodes: &NodeSet, one: &NodeName) -> NodeSet
-    ensures { (c : ℕ) → set_of result c ≡ (set_of world.now c && (set_of nodes.now c || (c == one.now))) }
-{
-    let mut others = except(world, nodes);
-    others.remove(one);
-    except(world, &others)
-}
+use term::{NodeName, Pid};
 
 impl<N: Names<Memory = Global>> NodeCore<N> {
     ghost use Rattle.std.specs.Prelude.{true, ◌+◌, ◌*◌, length, map, OnErr};
@@ -76,7 +56,7 @@ impl<N: Names<Memory = Global>> NodeCore<N> {
         ensures spends { Spends 0 1 0 turn.old turn.new }
     {
         self.enter_told(turn, gone);
-        self.told = and_one(&self.world, &self.told, gone);
+        self.told = self.told.with_within(gone, &self.world);
         self.members.remove(gone);
         self.table.drop_node(gone);
         self.locks.drop_node(gone);

@@ -1,6 +1,6 @@
 //! The rules of clients' lock calls: each call of a process of this node has rounds of its own.
 use crate::node::NodeCore;
-use boss_order::{boss, common};
+use boss_order::boss;
 use lock_calls::{CallPhase, LockCall};
 use locker::{Ending, Round};
 use name_table::Names;
@@ -32,7 +32,7 @@ impl<N: Names<Memory = Global>> NodeCore<N> {
     {
         match nodes {
             Nodes::All => self.members.copy(),
-            Nodes::Named(named) => common(&self.members, named.as_set()),
+            Nodes::Named(named) => self.members.intersection(named.as_set()),
         }
     }
 

@@ -1,5 +1,4 @@
 //! The rules of the registrar, which runs its operations one at a time, each under the global lock.
-use crate::node::leaving::except;
 use crate::node::{NodeCore, Phase};
 use exchange::settle;
 use name_table::{Change, Names};
@@ -96,7 +95,7 @@ impl<N: Names<Memory = Global>> NodeCore<N> {
         ensures spends { Spends 8 0 1 turn.old turn.new }
     {
         self.answer_op(turn, reply);
-        self.give_global(turn, &except(asked, &self.told));
+        self.give_global(turn, &asked.difference(&self.told));
         self.registrar.finish();
     }
 

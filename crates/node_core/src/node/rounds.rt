@@ -1,5 +1,4 @@
 //! The rounds of the registrar: the lock is asked for, first of the boss and then of the rest.
-use crate::node::leaving::except;
 use crate::node::{NodeCore, Phase};
 use boss_order::boss;
 use locker::{Ending, Round};
@@ -111,7 +110,7 @@ impl<N: Names<Memory = Global>> NodeCore<N> {
         if !round.opens(from, granted) {
             return;
         }
-        turn.send_all(&except(&round.rest(), &self.told), request);
+        turn.send_all(&round.rest().difference(&self.told), request);
     }
 
     /// The round ends, where it is over. Memory is refused only where it asks for an admission.

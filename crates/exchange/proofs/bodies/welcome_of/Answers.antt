@@ -23,4 +23,4 @@ returns-clause-letter g c =
     ∙ written-puts c.settled.inside.puts.items t c.settled.invariant
     ∙ ap (λ (s : Settled). put_all s.puts t) c.settled.view_is in
     let kills = c.in_ok-copied.ensures ∙ c.as_slice-2.ensures.keys ∙ ap (λ (s : Settled). s.kills) c.settled.view_is in
-    same_letter _ _ _ _ _ _ _ _ c.members_with.ensures pairs (ap set_of c.copy-2.ensures) kills
+    same_letter _ _ _ _ _ _ _ _ c.with.ensures pairs (ap set_of c.copy-2.ensures) kills

@@ -3,7 +3,7 @@ use Rattle.std.specs.Prelude.{◌||◌}
 use Rattle.std.proofs.Math.Bool.{or_assoc}
 use Rattle.term.specs.NodeSets.{set_of}
 use Rattle.world_events.proofs.Openings.{at_ok, matched_ok, length-with_node}
-use Rattle.boss_order.proofs.Sets.{set_of-take}
+use Rattle.term.proofs.Subsets.{set_of-take}
 use Rattle.world_events.proofs.opening.gather.Goals as goal
 
 pub loop-node-preserved : goal.loop-node-preserved

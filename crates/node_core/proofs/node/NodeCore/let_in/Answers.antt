@@ -12,10 +12,10 @@ returns-clause-turn g c = λ pairs admitting.
     let welcome = subst (λ (h : Held). Welcomes h c.args.joiner c.args.settled.now c.tell_to_admit.new.turn
     c.send_welcome.new.turn) (sym c.self.view_is) c.in_ok-send_welcome.ensures.welcomed in
     lets_in _ c.args.self.now c.args.turn.now c.enter_joined.new.turn c.tell_to_admit.new.turn c.send_welcome.new.turn
-    c.await_from.new.self c.args.asked c.and_one.result c.args.self.now.name c.args.joiner c.args.joiner c.args.joiner
+    c.await_from.new.self c.args.asked c.with_within.result c.args.self.now.name c.args.joiner c.args.joiner c.args.joiner
     told.0 welcome.0 c.args.settled.now
     pairs c.self.view_is c.self.invariant
     (subst (λ (h : Held). set_of h.world c.args.joiner ≡ true) (sym c.self.view_is) c.requires.joiner)
     (subst (λ (h : Held). IsNodeSet h.members) (sym c.self.view_is) c.in_ok-tell_to_admit.ensures.set)
-    c.and_one.ensures c.await_from.ensures refl (ap (λ (h : Held). h.name) (sym c.self.view_is))
+    c.with_within.ensures c.await_from.ensures refl (ap (λ (h : Held). h.name) (sym c.self.view_is))
     c.enter_joined.ensures.entered told.1 told.2 welcome.1 refl welcome.2 admitting

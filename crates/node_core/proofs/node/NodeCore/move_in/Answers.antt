@@ -8,15 +8,15 @@ use Rattle.node_core.proofs.node.NodeCore.move_in.Goals as goal
 
 pub invariant_of-self-2 : goal.invariant_of-self-2
 invariant_of-self-2 g c =
-    whole_moved _ c.args.welcome.now c.either-told.result c.remove.new.self c.except.result c.and_one-self-inside.result
-    _ c.table_of.new.watch c.self.invariant c.either-told.ensures c.remove.ensures.others c.except.ensures
-    c.and_one-self-inside.ensures c.table_of.ensures.node c.in_ok-self-inside.ensures.ok
+    whole_moved _ c.args.welcome.now c.union_within-told.result c.remove.new.self c.difference.result c.with_within-self-inside.result
+    _ c.table_of.new.watch c.self.invariant c.union_within-told.ensures c.remove.ensures.others c.difference.ensures
+    c.with_within-self-inside.ensures c.table_of.ensures.node c.in_ok-self-inside.ensures.ok
 
 pub returns-clause-turn : goal.returns-clause-turn
 returns-clause-turn g c = λ made to.
-    moves_in _ c.args.welcome.now c.either-told.result c.remove.new.self c.except.result c.and_one-self-inside.result
-    _ c.table_of.new.watch c.self.invariant c.either-told.ensures c.remove.ensures.others c.except.ensures
-    c.and_one-self-inside.ensures
+    moves_in _ c.args.welcome.now c.union_within-told.result c.remove.new.self c.difference.result c.with_within-self-inside.result
+    _ c.table_of.new.watch c.self.invariant c.union_within-told.ensures c.remove.ensures.others c.difference.ensures
+    c.with_within-self-inside.ensures
     (subst (λ (h : Held). IsWelcomeTo h.world h.name c.args.welcome.now) (sym c.self.view_is) to)
     c.args.self.now made c.self.view_is c.table_of.ensures.watch
     (subst (λ (ps : Table). is_rising ps ≡ true → g.N.Names.contents c.in_ok-self-inside.field-0

@@ -7,14 +7,14 @@ use Rattle.node_core.proofs.node.NodeCore.take_in.Goals as goal
 
 pub invariant_of-self : goal.invariant_of-self
 invariant_of-self g c =
-    whole_told _ c.args.gone.now c.remove.new.self c.and_one-self-inside.result _ _ c.self.invariant
-    c.remove.ensures.others c.drop_node.ensures c.and_one-self-inside.ensures
+    whole_told _ c.args.gone.now c.remove.new.self c.with_within-self-inside.result _ _ c.self.invariant
+    c.remove.ensures.others c.drop_node.ensures c.with_within-self-inside.ensures
     (subst (λ (h : Held). IsOther h.world h.name c.args.gone.now) (sym c.self.view_is) c.requires.other)
 
 pub returns-clause-turn : goal.returns-clause-turn
 returns-clause-turn g c =
-    takes_in _ c.args.gone.now c.remove.new.self c.and_one-self-inside.result _ _ c.self.invariant
-    c.remove.ensures.others c.drop_node.ensures c.and_one-self-inside.ensures c.args.self.now c.args.turn.now _
+    takes_in _ c.args.gone.now c.remove.new.self c.with_within-self-inside.result _ _ c.self.invariant
+    c.remove.ensures.others c.drop_node.ensures c.with_within-self-inside.ensures c.args.self.now c.args.turn.now _
     c.args.self.now.name c.args.gone.now unnumbered c.self.view_is (ap (λ (h : Held). h.name) (sym c.self.view_is)) refl
     c.drop_node-2.ensures
     (subst (λ (h : Held). IsOther h.world h.name c.args.gone.now) (sym c.self.view_is) c.requires.other)

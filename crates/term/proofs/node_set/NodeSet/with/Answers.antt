@@ -2,8 +2,8 @@ use Rattle.std.proofs.Common.{ℕ, List, ◌∙◌}
 use Rattle.std.proofs.Math.Path.{ap₂}
 use Rattle.registry_model.specs.Process.{with_node}
 use Rattle.term.specs.NodeSets.{set_of}
-use Rattle.exchange.proofs.Members.{with_one_more}
-use Rattle.exchange.proofs.bodies.members_with.Goals as goal
+use Rattle.term.proofs.Algebra.{with_one_more}
+use Rattle.term.proofs.node_set.NodeSet.with.Goals as goal
 
 pub returns : goal.returns
 returns c =
