@@ -9,3 +9,4 @@ pub mod Held
 pub mod Steps
 pub mod Items
 pub mod Turned
+pub mod Coming

@@ -17,7 +17,7 @@ use name_table::Names;
 use node_log::{Log, NodeCore, NodeEnd};
 use std::alloc::{AllocError, Global};
 use std::marker::Model;
-use term::NodeSet;
+use term::{NodeName, NodeSet};
 use tray::Tray;
 
 /// What a node's thread works on: the node's core, the log of its steps, the letters that it has to send, those who wait, and
@@ -105,6 +105,13 @@ impl<N: Names<Memory = Global>> NodeLoop<N> {
             return self.idle();
         };
         self.work(from, item)
+    }
+
+    /// Its node.
+    pub fn node(&self) -> &NodeName
+        ensures { result.now ≡ self.now.log.node }
+    {
+        self.log.node()
     }
 
     /// The oldest reply, which is taken off the list.

@@ -1,1 +1,3 @@
 pub mod Holders
+mod Coming
+mod Sittings

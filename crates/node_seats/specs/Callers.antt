@@ -1,7 +1,16 @@
 -- What contracts see of a caller, and of the hub that it shares.
-use Rattle.std.specs.Prelude.{ℕ, List}
+use Rattle.std.specs.Prelude.{ℕ, ◌≡◌, ◌⊎◌, Option, Some, None, Result, Ok, Err, List, [], ◌∷◌}
+use Rattle.std.specs.List.{flat_map}
+use Rattle.node_loop.specs.declared.Event.{Event}
+use Rattle.node_loop.specs.declared.item.Ticket.{Ticket}
+use Rattle.node_loop.specs.declared.item.Item.{Item}
+use Rattle.node_loop.specs.declared.item.Item.TheVariants.{Letter, Task}
 use Rattle.node_seats.specs.declared.caller.Caller.{Caller}
+use Rattle.node_seats.specs.declared.fault.SeatFault.{SeatFault}
+use Rattle.node_seats.specs.declared.fault.SeatFault.TheVariants.{NoSuchNode, Closed, Step}
 use Rattle.node_seats.specs.declared.hub.Hub.{Hub}
+use Rattle.node_seats.specs.declared.parcel.Parcel.{Parcel}
+use Rattle.node_seats.specs.Lines.{with_parcel}
 
 -- the node that it asks
 abbrev pub name_of : Caller → ℕ
@@ -18,3 +27,47 @@ nodes_at h = h.nodes
 -- the nodes of its cluster
 abbrev pub nodes_of : Caller → List ℕ
 nodes_of c = nodes_at c.hub.value
+
+-- the event that an item asks for, if it is a task
+abbrev pub event_in : Item → List Event
+event_in (Letter l) = []
+event_in (Task t) = t.event ∷ []
+
+-- the events that it has put into its node's inbox, the oldest first
+abbrev pub asked_by : Caller → List Event
+asked_by c = flat_map (λ p. event_in p.item) c.line.parcels
+
+-- the ticket of the next event that it asks for
+abbrev pub ticket_of : Caller → Ticket
+ticket_of c = record { seat = c.slot; number = c.next }
+
+-- the task by which it asks for an event
+abbrev pub task_for : Caller → Event → Item
+task_for c e = Task (record { ticket = Some (ticket_of c); event = e })
+
+-- it has put an item into its node's inbox
+abbrev pub Puts : Item → Caller → Caller → Type 0
+Puts i c d = d.line ≡ with_parcel c.node i c.line
+
+-- it has put the item there, or has it still
+abbrev pub Offers : Item → Option Item → Caller → Caller → Type 0
+Offers i None c d = Puts i c d
+Offers i (Some back) c d = (back ≡ i) × (d.line ≡ c.line)
+
+-- no reply comes any more for such a reason, and the node itself says none of them of an event
+abbrev pub IsEnd : SeatFault → Type 0
+IsEnd NoSuchNode = ⊥
+IsEnd (Step fault) = ⊥
+IsEnd _ = Unit {0}
+
+-- What is known of an item that came to this: the node said so itself only of what was put into its inbox
+abbrev pub MayPut : SeatFault → Item → Caller → Caller → Type 0
+MayPut NoSuchNode i c d = Puts i c d
+MayPut (Step fault) i c d = Puts i c d
+MayPut _ i c d = (d.line ≡ c.line) ⊎ Puts i c d
+
+-- what its caller is told: a node has the nodes of its cluster, and calls none of them a stranger
+abbrev pub told_as : {A : Type 0} → Result A SeatFault → Result A SeatFault
+told_as (Ok a) = Ok a
+told_as (Err NoSuchNode) = Err Closed
+told_as (Err fault) = Err fault

@@ -1,5 +1,6 @@
 -- Why a seat isn't made, or what it asks isn't done.
-use Rattle.std.specs.Prelude.{ℕ, Bool, true, false, ◌≡◌, ◌<◌}
+use Rattle.std.specs.Prelude.{ℕ, Bool, true, false, ◌≡◌, ◌<◌, ◌⊎◌, List, [], ◌∷◌, ◌++◌}
+use Rattle.node_loop.specs.declared.Event.{Event}
 use Rattle.node_loop.specs.declared.replies.TaskFault.{TaskFault}
 use Rattle.node_loop.specs.declared.replies.TaskFault.TheVariants as of_task
 use Rattle.node_seats.specs.declared.fault.SeatFault.{SeatFault}
@@ -15,6 +16,13 @@ fault_by (of_task.Step fault) = Step fault
 abbrev pub IsAskRefused : SeatFault → Bool → Type 0
 IsAskRefused NoSuchNode known = known ≡ false
 IsAskRefused _ known = Unit {0}
+
+-- What the node was asked for where an event comes to this: for it once where the node refused it itself, for nothing where its contact is a
+-- stranger, and else for it once or for nothing
+abbrev pub MayAsk : SeatFault → Event → List Event → List Event → Type 0
+MayAsk NoSuchNode e before after = after ≡ before
+MayAsk (Step fault) e before after = after ≡ before ++ e ∷ []
+MayAsk _ e before after = (after ≡ before) ⊎ (after ≡ before ++ e ∷ [])
 
 -- how many seats a cluster makes
 abbrev pub most_seats : ℕ

@@ -13,7 +13,8 @@ use Rattle.node_loop.specs.declared.SeatEntry.{SeatEntry}
 use Rattle.transaction.specs.declared.reply.LockReply.{LockReply}
 use Rattle.transaction.specs.declared.reply.LockReply.TheVariants.{Set, Deleted}
 use Rattle.node_seats.specs.declared.holder.HolderSeat.{HolderSeat}
-use Rattle.node_seats.specs.Seats.{Sitting, with_entry}
+use Rattle.node_seats.specs.declared.fault.SeatFault.{SeatFault}
+use Rattle.node_seats.specs.Seats.{Sitting, Hears, with_entry, Unanswered}
 
 -- the lock is granted by this reply
 abbrev pub grants : AnyReply → Bool
@@ -36,19 +37,22 @@ abbrev pub lock_replies : Process → List SeatEntry → List LockReply
 lock_replies me [] = []
 lock_replies me (e ∷ es) = lock_reply_in me e.event e.answer ++ lock_replies me es
 
--- a lock call was answered: it stands last in the transcript
-abbrev pub Grants : Call → Bool → Sitting → Sitting → Type 0
-Grants call granted s t = (answer : Answer) × (grants (reply_of answer.reply) ≡ granted) × (t ≡ with_entry (Calls call) (Some answer) s)
+-- a lock call was answered: the seat heard so, and it stands last in the transcript
+pub record Grants (call : Call) (granted : Bool) (s t : Sitting) : Type 0 where
+  pub answer : Answer
+  pub heard : Hears s (Ok (Some answer))
+  pub says : grants (reply_of answer.reply) ≡ granted
+  pub kept : t ≡ with_entry (Calls call) (Some answer) s
 
 -- what a `set_lock` comes to
-abbrev pub SetsLock : {E : Type 0} → Call → Result Bool E → Sitting → Sitting → Type 0
+abbrev pub SetsLock : Call → Result Bool SeatFault → Sitting → Sitting → Type 0
 SetsLock call (Ok granted) s t = Grants call granted s t
-SetsLock call (Err fault) s t = t ≡ s
+SetsLock call (Err fault) s t = Unanswered fault (Calls call) s t
 
 -- what a `del_lock` comes to
-abbrev pub DeletesLock : {E : Type 0} → Call → Result Unit E → Sitting → Sitting → Type 0
+abbrev pub DeletesLock : Call → Result Unit SeatFault → Sitting → Sitting → Type 0
 DeletesLock call (Ok _) s t = (granted : Bool) × Grants call granted s t
-DeletesLock call (Err fault) s t = t ≡ s
+DeletesLock call (Err fault) s t = Unanswered fault (Calls call) s t
 
 -- whose seat it is
 abbrev pub holder_of : {R : Type 0} → HolderSeat R → Process

@@ -1,6 +1,7 @@
 pub mod Lines
 pub mod Addresses
 pub mod Faults
+pub mod Replies
 pub mod Callers
 pub mod Seats
 pub mod Holders

@@ -1,5 +1,5 @@
 -- What a seat was answered.
-use Rattle.std.specs.Prelude.{ℕ, ◌≡◌, Option, Some, None, List, [], ◌∷◌, ◌++◌}
+use Rattle.std.specs.Prelude.{ℕ, ◌≡◌, Option, Some, None, Result, Ok, Err, List, [], ◌∷◌, ◌++◌}
 use Rattle.node_loop.specs.declared.Answer.{Answer}
 use Rattle.node_loop.specs.declared.Call.{Call}
 use Rattle.node_loop.specs.declared.Reply.{Reply}
@@ -10,22 +10,57 @@ use Rattle.node_loop.specs.declared.Event.{Event}
 use Rattle.node_loop.specs.declared.Event.TheVariants as event
 use Rattle.node_loop.specs.declared.WorldEvent.TheVariants.{At}
 use Rattle.node_loop.specs.declared.SeatEntry.{SeatEntry}
+use Rattle.node_seats.specs.declared.fault.SeatFault.{SeatFault}
+use Rattle.node_seats.specs.declared.fault.SeatFault.TheVariants.{Step}
+use Rattle.node_loop.specs.declared.replies.TaskFault.{TaskFault}
+use Rattle.node_loop.specs.declared.replies.TaskFault.TheVariants as task
+use Rattle.node_seats.specs.Faults.{MayAsk}
+use Rattle.node_seats.specs.Replies.{IsToldTo}
 
--- a seat: its number, its node, the nodes of its cluster, and its transcript, the oldest entry first
+-- a seat: its number, its node, the nodes of its cluster, the events that it has asked its node for, and its transcript, the oldest of each
+-- first
 pub record Sitting : Type 0 where
   pub seat : ℕ
   pub node : ℕ
   pub nodes : List ℕ
+  pub asked : List Event
   pub entries : List SeatEntry
 
--- the transcript ends with this event of the seat's node, and what was answered
+-- the node was asked for this event, once; the transcript ends with it, and with what was answered
 abbrev pub with_entry : Event → Option Answer → Sitting → Sitting
-with_entry e answer s = record s { entries = s.entries ++ record { event = At s.node e; answer = answer } ∷ [] }
+with_entry e answer s = record s {
+  asked = s.asked ++ e ∷ [];
+  entries = s.entries ++ record { event = At s.node e; answer = answer } ∷ [];
+}
 
--- the call got this reply: it stands last in the transcript with an answer that says so, and nothing else changed
-abbrev pub Answered : Call → Reply → Sitting → Sitting → Type 0
-Answered call reply s t = (answer : Answer) × (reply_of answer.reply ≡ reply_of reply)
-    × (t ≡ with_entry (event.Call call) (Some answer) s)
+-- the loop of the seat's node told the seat so, for something that it asked
+pub record Hears (s : Sitting) (outcome : Result (Option Answer) TaskFault) : Type 0 where
+  pub number : ℕ
+  pub told : IsToldTo s.node (record { seat = s.seat; number = number }) outcome
+
+-- a refusal by the node is its loop's
+abbrev pub HearsFault : Sitting → SeatFault → Type 0
+HearsFault s (Step fault) = Hears s (Err (task.Step fault))
+HearsFault s _ = Unit {0}
+
+-- an event comes to this fault: the node was asked for it once at most, and the transcript is as it was
+pub record Unanswered (fault : SeatFault) (e : Event) (s t : Sitting) : Type 0 where
+  pub asked : MayAsk fault e s.asked t.asked
+  pub kept : t ≡ record s { asked = t.asked }
+  pub heard : HearsFault s fault
+
+-- an event that has no answer is done: the seat heard so, and it stands last in the transcript
+pub record Done (e : Event) (s t : Sitting) : Type 0 where
+  pub answer : Option Answer
+  pub heard : Hears s (Ok answer)
+  pub kept : t ≡ with_entry e None s
+
+-- the call got this reply: the seat heard an answer that says so, and the call stands last in the transcript with that; nothing else changed
+pub record Answered (call : Call) (reply : Reply) (s t : Sitting) : Type 0 where
+  pub answer : Answer
+  pub heard : Hears s (Ok (Some answer))
+  pub says : reply_of answer.reply ≡ reply_of reply
+  pub kept : t ≡ with_entry (event.Call call) (Some answer) s
 
 -- what a look-up of one name is answered
 abbrev pub owner_reply : Option Process → Reply

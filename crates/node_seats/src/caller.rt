@@ -1,9 +1,10 @@
 //! How a thread asks a node's thread.
-ghost use Rattle.std.specs.Prelude.{◌≡◌, ◌<◌, ◌+◌, true, false, IfOk, OnOk, IfErr, IfSome, Err};
+ghost use Rattle.std.specs.Prelude.{◌≡◌, ◌<◌, ◌+◌, ◌++◌, ◌∷◌, [], true, false, IfOk, OnOk, IfErr, IfSome, Ok, Err};
 ghost use Rattle.node_loop.specs.Events.{knows_contact as knows};
-ghost use Rattle.node_seats.specs.Callers.{name_of, slot_of, nodes_of, nodes_at};
+ghost use Rattle.node_seats.specs.Callers.{name_of, slot_of, nodes_of, nodes_at, asked_by, ticket_of, task_for, told_as, Puts, Offers, IsEnd, MayPut};
 ghost use Rattle.node_seats.specs.declared.fault.SeatFault.TheVariants.{NoSuchNode};
-ghost use Rattle.node_seats.specs.Faults.{IsAskRefused};
+ghost use Rattle.node_seats.specs.Faults.{IsAskRefused, MayAsk};
+ghost use Rattle.node_seats.specs.Replies.{IsToldTo, IsFaultTold};
 
 use crate::address::Address;
 use crate::bell::Rest;
@@ -11,14 +12,14 @@ use crate::fault::SeatFault;
 use crate::hub::Hub;
 use crate::line::Line;
 use crate::standing::Standing;
-use node_loop::{Answer, Event, Item, Task, TaskFault, TaskReply, Ticket};
+use node_loop::{Answer, Event, Item, Task, Ticket};
 use std::alloc::{AllocError, Global};
 use std::sync::{Arc, Wait};
 use std::time::Clock;
 use term::NodeName;
 
 /// Asks the thread of one node, one event after another, and waits for each reply. Contracts see the node, the slot of its replies,
-/// and the nodes of the cluster.
+/// the nodes of the cluster, and the events that it has put into the node's inbox.
 #[derive(Drop)]
 pub struct Caller {
     /// The slot of its replies.
@@ -32,20 +33,10 @@ pub struct Caller {
     rest: Rest,
 }
 
-/// What a reply says, if it is to this ticket.
-fn outcome_for(reply: TaskReply, ticket: Ticket) -> Option<Result<Option<Answer>, TaskFault>>
-    ensures to { IfSome result (λ _. reply.ticket ≡ ticket) }
-    ensures outcome { IfSome result (λ outcome. outcome ≡ reply.outcome) }
-{
-    if reply.ticket.seat != ticket.seat || reply.ticket.number != ticket.number {
-        return None;
-    }
-    Some(reply.outcome)
-}
-
 /// What a caller is told of an event whose contact is of the cluster. Its node has the same nodes, and calls none of them a stranger.
 fn known_outcome(outcome: Result<Option<Answer>, SeatFault>) -> Result<Option<Answer>, SeatFault>
-    ensures { IfErr result (λ fault. IsAskRefused fault true) }
+    ensures told { result ≡ told_as outcome }
+    ensures known { IfErr result (λ fault. IsAskRefused fault true) }
 {
     match outcome {
         Err(SeatFault::NoSuchNode) => Err(SeatFault::Closed),
@@ -66,6 +57,7 @@ impl Caller {
         ensures slot { IfOk result (λ caller. slot_of caller ≡ slot) }
         ensures node { IfOk result (λ caller. name_of caller ≡ address.old.node) }
         ensures nodes { IfOk result (λ caller. nodes_of caller ≡ nodes_at hub.now.value) }
+        ensures unasked { IfOk result (λ caller. asked_by caller ≡ []) }
         ensures address { OnOk result (address.new ≡ record address.old { lines = address.old.lines + 1 }) }
         ensures same { address.new.node ≡ address.old.node }
     {
@@ -96,6 +88,7 @@ impl Caller {
         ensures slot { IfOk result (λ caller. slot_of caller ≡ slot) }
         ensures node { IfOk result (λ caller. name_of caller ≡ address.old.node) }
         ensures nodes { IfOk result (λ caller. nodes_of caller ≡ nodes_at hub.now.value) }
+        ensures unasked { IfOk result (λ caller. asked_by caller ≡ []) }
         ensures address { OnOk result (address.new ≡ record address.old { lines = address.old.lines + 1 }) }
         ensures same { address.new.node ≡ address.old.node }
     {
@@ -116,8 +109,9 @@ impl Caller {
         self.slot
     }
 
-    /// Asks for an event, waits until the node has taken it, or refused it, and gives what was answered. A contact that isn't of
-    /// the cluster is refused at once, also where the node has left.
+    /// Asks for an event, once, waits until the node has taken it, or refused it, and gives what was answered. A contact that isn't of
+    /// the cluster is refused at once, also where the node has left. What is answered, and what the node refuses, its loop told this
+    /// caller for this event; where no reply comes any more, the event may have been asked for.
     pub fn ask<R: Wait + Clock>(
         &mut self,
         rt: &R,
@@ -128,6 +122,10 @@ impl Caller {
         ensures nodes { nodes_of self.new ≡ nodes_of self.old }
         ensures stranger { knows (nodes_of self.old) event ≡ false → result ≡ Err NoSuchNode }
         ensures known { IfErr result (λ fault. IsAskRefused fault (knows (nodes_of self.old) event)) }
+        ensures asked { OnOk result (asked_by self.new ≡ asked_by self.old ++ event ∷ []) }
+        ensures unanswered { IfErr result (λ fault. MayAsk fault event (asked_by self.old) (asked_by self.new)) }
+        ensures told { IfOk result (λ answer. IsToldTo (name_of self.old) (ticket_of self.old) (Ok answer)) }
+        ensures refused { IfErr result (IsFaultTold (name_of self.old) (ticket_of self.old)) }
     {
         if !event.knows_contact(self.hub.nodes()) {
             return Err(SeatFault::NoSuchNode);
@@ -144,6 +142,10 @@ impl Caller {
         ensures slot { slot_of self.new ≡ slot_of self.old }
         ensures node { name_of self.new ≡ name_of self.old }
         ensures nodes { nodes_of self.new ≡ nodes_of self.old }
+        ensures asked { OnOk result (Puts (task_for self.old event) self.old self.new) }
+        ensures unanswered { IfErr result (λ fault. MayPut fault (task_for self.old event) self.old self.new) }
+        ensures told { IfOk result (λ answer. IsToldTo (name_of self.old) (ticket_of self.old) (Ok answer)) }
+        ensures refused { IfErr result (IsFaultTold (name_of self.old) (ticket_of self.old)) }
     {
         let number = self.next;
         let Some(next) = number.checked_add(1) else {
@@ -169,7 +171,9 @@ impl Caller {
     }
 
     /// Why no reply comes any more, if none does.
-    fn end(&self) -> Option<SeatFault> {
+    fn end(&self) -> Option<SeatFault>
+        ensures { IfSome result IsEnd }
+    {
         if self.standing.has_ended() {
             Some(if self.standing.has_left() {
                 SeatFault::NodeLeft
@@ -188,6 +192,8 @@ impl Caller {
         ensures slot { slot_of self.new ≡ slot_of self.old }
         ensures node { name_of self.new ≡ name_of self.old }
         ensures nodes { nodes_of self.new ≡ nodes_of self.old }
+        ensures offers { IfOk result (λ back. Offers item back self.old self.new) }
+        ensures ended { IfErr result (λ fault. IsEnd fault × (self.new.line ≡ self.old.line)) }
     {
         match self.line.send(rt, &self.node, item) {
             Ok(()) => Ok(None),
@@ -203,6 +209,8 @@ impl Caller {
         ensures slot { slot_of self.new ≡ slot_of self.old }
         ensures node { name_of self.new ≡ name_of self.old }
         ensures nodes { nodes_of self.new ≡ nodes_of self.old }
+        ensures put { OnOk result (Puts item self.old self.new) }
+        ensures ended { IfErr result (λ fault. IsEnd fault × (self.new.line ≡ self.old.line)) }
     {
         self.rest.worked();
         let mut waiting = item;
@@ -217,11 +225,14 @@ impl Caller {
     }
 
     /// What came of a ticket, if that is known. Replies to others, which this caller has given up, are dropped.
-    fn find<R: Wait>(&self, rt: &R, ticket: Ticket) -> Result<Option<Option<Answer>>, SeatFault> {
+    fn find<R: Wait>(&self, rt: &R, ticket: Ticket) -> Result<Option<Option<Answer>>, SeatFault>
+        ensures told { IfOk result (λ found. IfSome found (λ answer. IsToldTo (name_of self.now) ticket (Ok answer))) }
+        ensures refused { IfErr result (IsFaultTold (name_of self.now) ticket) }
+    {
         // This comes first: a reply that was laid down before the thread ended is then found.
         let end = self.end();
         let outcome = match self.hub.take(rt, self.slot) {
-            Some(reply) => outcome_for(reply, ticket),
+            Some(reply) => reply.outcome(&self.node, ticket),
             None => None,
         };
         match (outcome, end) {
@@ -240,6 +251,9 @@ impl Caller {
         ensures slot { slot_of self.new ≡ slot_of self.old }
         ensures node { name_of self.new ≡ name_of self.old }
         ensures nodes { nodes_of self.new ≡ nodes_of self.old }
+        ensures line { self.new.line ≡ self.old.line }
+        ensures told { IfOk result (λ answer. IsToldTo (name_of self.old) ticket (Ok answer)) }
+        ensures refused { IfErr result (IsFaultTold (name_of self.old) ticket) }
     {
         self.rest.worked();
         for _ in rt.forever() {

@@ -1,9 +1,11 @@
 //! What a node's thread has of the node's seats.
 ghost use Rattle.std.specs.Prelude.{◌≡◌, [], true, false};
 ghost use Rattle.node_loop.specs.Held.{written};
+ghost use Rattle.node_loop.specs.Coming.{IsLoopOf};
 
 use crate::bell::Rest;
 use crate::hub::Hub;
+use crate::laid::Laid;
 use crate::standing::Standing;
 use name_table::Names;
 use node_loop::{NodeEnd, NodeLoop};
@@ -48,10 +50,12 @@ impl Host {
 
     /// Call it behind each turn of the node: lays its replies down for their callers, and tells them where it has left.
     pub fn hand_out<N: Names<Memory = Global>, R: Wait>(&self, rt: &R, node: &mut NodeLoop<N>)
-        ensures { node.new ≡ record node.old { desk = record node.old.desk { replies = [] } } }
+        requires { IsLoopOf node.old.log.node node.old }
+        ensures came { IsLoopOf node.old.log.node node.new }
+        ensures all { node.new ≡ record node.old { desk = record node.old.desk { replies = [] } } }
     {
         for _ in rt.forever() {
-            let Some(reply) = node.next_reply() else {
+            let Some(reply) = Laid::next(node) else {
                 break;
             };
             self.hub.lay(rt, reply);

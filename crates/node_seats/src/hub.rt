@@ -2,7 +2,7 @@
 ghost use Rattle.std.specs.Prelude.{◌≡◌, ◌<◌, vec_len, IfOk};
 
 use crate::bell::{Bell, Rest};
-use node_loop::TaskReply;
+use crate::laid::Laid;
 use std::alloc::{AllocError, Global};
 use std::sync::atomic::{AtomicBool, Ordering};
 use std::sync::{Mutex, Wait};
@@ -18,7 +18,7 @@ const SLOTS: u32 = 72;
 /// so none is ever lost.
 #[derive(Drop)]
 struct Slot {
-    reply: Mutex<Option<TaskReply>>,
+    reply: Mutex<Option<Laid>>,
     bell: Bell,
 }
 
@@ -40,7 +40,7 @@ impl Slot {
     }
 
     /// Lays a reply down, and wakes the caller.
-    fn lay<R: Wait>(&self, rt: &R, reply: TaskReply) {
+    fn lay<R: Wait>(&self, rt: &R, reply: Laid) {
         *self.reply.lock(rt) = Some(reply);
         self.bell.ring();
     }
@@ -79,14 +79,14 @@ impl Hub {
     }
 
     /// Lays a reply down for its caller, and wakes it. A reply that still lies there is one to a call that its caller has given up.
-    pub(crate) fn lay<R: Wait>(&self, rt: &R, reply: TaskReply) {
-        if let Some(slot) = self.slots.get(reply.ticket.seat as usize) {
+    pub(crate) fn lay<R: Wait>(&self, rt: &R, reply: Laid) {
+        if let Some(slot) = self.slots.get(reply.slot() as usize) {
             slot.lay(rt, reply);
         }
     }
 
     /// Takes the reply up that lies there for a caller, if one does.
-    pub(crate) fn take<R: Wait>(&self, rt: &R, caller: u32) -> Option<TaskReply> {
+    pub(crate) fn take<R: Wait>(&self, rt: &R, caller: u32) -> Option<Laid> {
         let slot = self.slots.get(caller as usize)?;
         slot.reply.lock(rt).take()
     }

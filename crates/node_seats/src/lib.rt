@@ -12,6 +12,7 @@ mod fault;
 mod holder;
 mod host;
 mod hub;
+mod laid;
 mod line;
 mod opened;
 mod parcel;

@@ -1,7 +1,7 @@
 //! Nodes that were opened: what their seats and their threads are made from.
 ghost use Rattle.std.specs.Prelude.{◌≡◌, ◌<◌, ◌+◌, [], IfOk};
 ghost use Rattle.link.specs.Mailboxes.{taken};
-ghost use Rattle.node_seats.specs.Callers.{name_of, slot_of, nodes_of, nodes_at};
+ghost use Rattle.node_seats.specs.Callers.{name_of, slot_of, nodes_of, nodes_at, asked_by};
 
 use crate::address::{Address, Entrance, open_inbox};
 use crate::caller::Caller;
@@ -42,6 +42,7 @@ pub fn open_node(
     ensures slot { IfOk result (λ opened. slot_of opened.caller ≡ 64 + place) }
     ensures node { IfOk result (λ opened. name_of opened.caller ≡ node) }
     ensures nodes { IfOk result (λ opened. nodes_of opened.caller ≡ nodes_at hub.now.value) }
+    ensures unasked { IfOk result (λ opened. asked_by opened.caller ≡ []) }
     ensures empty { IfOk result (λ opened. taken opened.mailbox ≡ []) }
     ensures host { IfOk result (λ opened. opened.host ≡ yields) }
 {

@@ -1,12 +1,13 @@
 //! Seats: from each, one caller calls one node.
-ghost use Rattle.std.specs.Prelude.{◌≡◌, [], None, OnOk, OnErr, IfOk, IfErr};
+ghost use Rattle.std.specs.Prelude.{◌≡◌, ◌++◌, ◌∷◌, [], Some, None, Ok, OnOk, IfOk, IfErr};
 ghost use Rattle.node_loop.specs.Events.{knows_contact as knows};
 ghost use Rattle.node_loop.specs.declared.Event.TheVariants.{Exit, Leave, Call as Calls};
 ghost use Rattle.node_loop.specs.declared.WorldEvent.TheVariants.{At};
 ghost use Rattle.node_loop.specs.declared.Call.TheVariants.{Whereis};
-ghost use Rattle.node_seats.specs.Seats.{with_entry, Answered, owner_reply};
-ghost use Rattle.node_seats.specs.Callers.{name_of, slot_of, nodes_of};
-ghost use Rattle.node_seats.specs.Faults.{IsAskRefused};
+ghost use Rattle.node_seats.specs.Seats.{Answered, Unanswered, Done, owner_reply};
+ghost use Rattle.node_seats.specs.Callers.{name_of, slot_of, nodes_of, asked_by, ticket_of};
+ghost use Rattle.node_seats.specs.Replies.{IsToldTo, IsFaultTold};
+ghost use Rattle.node_seats.specs.Faults.{IsAskRefused, MayAsk};
 
 use crate::caller::Caller;
 use crate::calls::copied_call;
@@ -19,7 +20,7 @@ use std::time::Clock;
 use term::{Name, NodeName, Pid};
 
 /// One caller's place at a node, with the transcript of what it was answered. It may go to another thread. Contracts see its
-/// number, its node, the nodes of its cluster, and its transcript.
+/// number, its node, the nodes of its cluster, the events that it has asked the node for, and its transcript.
 #[derive(Drop)]
 pub struct Seat {
     caller: Caller,
@@ -27,12 +28,18 @@ pub struct Seat {
 }
 
 impl Model for Seat {
-    ghost use Rattle.node_seats.specs.Callers.{name_of, slot_of, nodes_of};
+    ghost use Rattle.node_seats.specs.Callers.{name_of, slot_of, nodes_of, asked_by};
     ghost use Rattle.node_seats.specs.Seats.{Sitting};
 
     ghost Value = { Sitting };
 
-    ghost view = { λ s. record { seat = slot_of s.caller; node = name_of s.caller; nodes = nodes_of s.caller; entries = s.entries.items } };
+    ghost view = { λ s. record {
+      seat = slot_of s.caller;
+      node = name_of s.caller;
+      nodes = nodes_of s.caller;
+      asked = asked_by s.caller;
+      entries = s.entries.items;
+    } };
 }
 
 /// Asks for a call, and gives its answer.
@@ -41,6 +48,10 @@ fn ask_call<R: Wait + Clock>(rt: &R, caller: &mut Caller, call: Call) -> Result<
     ensures node { name_of caller.new ≡ name_of caller.old }
     ensures nodes { nodes_of caller.new ≡ nodes_of caller.old }
     ensures known { IfErr result (λ fault. IsAskRefused fault (knows (nodes_of caller.old) (Calls call))) }
+    ensures asked { OnOk result (asked_by caller.new ≡ asked_by caller.old ++ Calls call ∷ []) }
+    ensures unanswered { IfErr result (λ fault. MayAsk fault (Calls call) (asked_by caller.old) (asked_by caller.new)) }
+    ensures told { IfOk result (λ answer. IsToldTo (name_of caller.old) (ticket_of caller.old) (Ok (Some answer))) }
+    ensures refused { IfErr result (IsFaultTold (name_of caller.old) (ticket_of caller.old)) }
 {
     match caller.ask(rt, Event::Call(call))? {
         Some(answer) => Ok(answer),
@@ -52,7 +63,13 @@ fn ask_call<R: Wait + Clock>(rt: &R, caller: &mut Caller, call: Call) -> Result<
 impl Seat {
     /// The seat of a caller, with an empty transcript.
     pub fn new(alloc: Global, caller: Caller) -> Self
-        ensures { result ≡ record { seat = slot_of caller; node = name_of caller; nodes = nodes_of caller; entries = [] } }
+        ensures { result ≡ record {
+          seat = slot_of caller;
+          node = name_of caller;
+          nodes = nodes_of caller;
+          asked = asked_by caller;
+          entries = [];
+        } }
     {
         Seat {
             caller,
@@ -81,13 +98,13 @@ impl Seat {
         self.entries.as_slice()
     }
 
-    /// Calls the node and waits for the reply. The call and its answer then stand last in the transcript, which nothing else
-    /// changes. `Memory`: nothing was asked, or it was and the reply is a list of names. `NodeLeft`: the node has left.
+    /// Calls the node, once, and waits for the reply, which the node's loop told this seat. The call and its answer then stand last in
+    /// the transcript, which nothing else changes. `Memory`: nothing was asked, or it was and the reply is a list of names. `NodeLeft`: the node has left.
     /// `NoSuchNode`: the contact of a join isn't of the cluster. `Step`: the node refuses the call. `Closed`: the node's thread
     /// ended without a leave, or the cluster was closed; whether the call was made then isn't known.
     pub fn call<R: Wait + Clock>(&mut self, rt: &R, call: Call) -> Result<Reply, SeatFault>
         ensures ok { IfOk result (λ reply. Answered call reply self.old self.new) }
-        ensures err { OnErr result (self.new ≡ self.old) }
+        ensures err { IfErr result (λ fault. Unanswered fault (Calls call) self.old self.new) }
         ensures known { IfErr result (λ fault. IsAskRefused fault (knows self.old.nodes (Calls call))) }
     {
         let event = self.event(Event::Call(copied_call(&call)?));
@@ -106,7 +123,7 @@ impl Seat {
         name: &Name,
     ) -> Result<Option<Pid>, SeatFault>
         ensures ok { IfOk result (λ owner. Answered (Whereis name.now) (owner_reply owner) self.old self.new) }
-        ensures err { OnErr result (self.new ≡ self.old) }
+        ensures err { IfErr result (λ fault. Unanswered fault (Calls (Whereis name.now)) self.old self.new) }
     {
         let event = self.event(Event::Call(Call::Whereis(name.copy())));
         self.entries.reserve(1)?;
@@ -125,8 +142,8 @@ impl Seat {
     /// A process of the node dies. It waits until that is so, and the exit then stands last in the transcript. It is refused as
     /// `call` is.
     pub fn exit<R: Wait + Clock>(&mut self, rt: &R, process: &Pid) -> Result<(), SeatFault>
-        ensures ok { OnOk result (self.new ≡ with_entry (Exit process.now) None self.old) }
-        ensures err { OnErr result (self.new ≡ self.old) }
+        ensures ok { OnOk result (Done (Exit process.now) self.old self.new) }
+        ensures err { IfErr result (λ fault. Unanswered fault (Exit process.now) self.old self.new) }
     {
         self.entries.reserve(1)?;
         self.caller.ask(rt, Event::Exit(process.copy()))?;
@@ -139,8 +156,8 @@ impl Seat {
     /// The seat's own node leaves. It waits until that is so, behind the hold of the global lock where the node holds it, and the
     /// leave then stands last in the transcript. It is refused as `call` is.
     pub fn leave<R: Wait + Clock>(&mut self, rt: &R) -> Result<(), SeatFault>
-        ensures ok { OnOk result (self.new ≡ with_entry Leave None self.old) }
-        ensures err { OnErr result (self.new ≡ self.old) }
+        ensures ok { OnOk result (Done Leave self.old self.new) }
+        ensures err { IfErr result (λ fault. Unanswered fault Leave self.old self.new) }
     {
         self.entries.reserve(1)?;
         self.caller.ask(rt, Event::Leave)?;

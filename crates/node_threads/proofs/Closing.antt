@@ -1,6 +1,6 @@
 -- What closing a cluster comes to, by what a replay says.
-use Rattle.std.proofs.Common.{ℕ, ◌≡◌, List, ◌++◌, map, ap, subst, inl, ◌∙◌}
-use Rattle.std.specs.Prelude.{Result, Ok, Err, IfOk, IfErr}
+use Rattle.std.proofs.Common.{ℕ, ◌≡◌, List, ◌++◌, map, ap, sym, subst, inl, ◌∙◌}
+use Rattle.std.specs.Prelude.{Result, Ok, Err, IfOk, IfErr, All}
 use Rattle.registry_model.specs.Table.{Table}
 use Rattle.node_loop.specs.declared.NodeEnd.{NodeEnd}
 use Rattle.node_loop.specs.declared.Transcript.{Transcript}
@@ -8,7 +8,7 @@ use Rattle.replay.specs.declared.closed.Closed.{Closed}
 use Rattle.replay.specs.declared.faults.CloseFault.{CloseFault}
 use Rattle.replay.specs.Ends.{end_of as seen_end}
 use Rattle.replay.specs.Replaying.{Replayed, IsFault}
-use Rattle.node_threads.specs.Closing.{end_of, Replays, CloseIs}
+use Rattle.node_threads.specs.Closing.{end_of, IsLeftBy, Replays, CloseIs}
 
 module _ {N M : Type 0} (contents : N → Table) (cluster lone : List ℕ) (ts : List Transcript) (ends : List (NodeEnd N M)) where
   replays : (result : Result (Closed N M) CloseFault)
@@ -21,13 +21,15 @@ module _ {N M : Type 0} (contents : N → Table) (cluster lone : List ℕ) (ts :
 -- the same, of the lists that a replay was lent
 pub closes : {N M : Type 0} (contents : N → Table) (cluster lone joined others row : List ℕ) (ts : List Transcript)
     (ends lent : List (NodeEnd N M)) (result : Result (Closed N M) CloseFault)
-    → joined ≡ cluster → others ≡ lone → lent ≡ ends → map end_of ends ≡ row → row ≡ cluster ++ lone
+    → joined ≡ cluster → others ≡ lone → lent ≡ ends → map end_of ends ≡ row → All (λ e. IsLeftBy contents (end_of e) e) ends
+    → row ≡ cluster ++ lone
     → IfOk result (λ closed. Replayed joined others (map (seen_end contents) lent) ts closed.events closed.world)
     → IfErr result (λ fault. IsFault joined others (map (seen_end contents) lent) ts fault)
     → CloseIs contents cluster lone ts result
-closes contents cluster lone joined others row ts ends lent result a b same of_row all ok err = inl (
+closes {N} {M} contents cluster lone joined others row ts ends lent result a b same of_row left all ok err = inl (
   lent,
   ap (map end_of) same ∙ of_row ∙ all,
+  subst (λ (es : List (NodeEnd N M)). All (λ e. IsLeftBy contents (end_of e) e) es) (sym same) left,
   subst (λ (cs : List ℕ). Replays contents cs lone ts lent result) a
       (subst (λ (ls : List ℕ). Replays contents joined ls ts lent result) b
       (replays contents joined others ts lent result ok err)),

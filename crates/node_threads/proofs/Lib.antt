@@ -2,3 +2,4 @@ pub mod Turns
 pub mod Opening
 pub mod Rows
 pub mod Closing
+mod Coming

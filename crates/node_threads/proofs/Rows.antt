@@ -10,6 +10,7 @@ use Rattle.term.specs.NodeSets.{set_of}
 use Rattle.term.proofs.NodePlaces.{place-Some}
 use Rattle.link.specs.Held.{place}
 use Rattle.node_threads.specs.Clusters.{Crewed, nodes_in}
+use Rattle.node_loop.specs.declared.Event.{Event}
 use Rattle.node_seats.specs.Seats.{Sitting}
 
 -- a node that has a place is one of the row
@@ -40,21 +41,22 @@ module _ (c : ℕ) (row running : List ℕ) (inside crew : Crewed) (p : Option �
       ap (λ (ns : List ℕ). get_or ns i d) (sym same) ∙ get_or_default row i d 0 here.0 ∙ here.1
 
 -- a seat that was made without entries
-abbrev seated : ℕ → ℕ → List ℕ → Sitting
-seated seat node nodes = record { seat = seat; node = node; nodes = nodes; entries = [] }
+abbrev pub seated : ℕ → ℕ → List ℕ → List Event → Sitting
+seated seat node nodes asked = record { seat = seat; node = node; nodes = nodes; asked = asked; entries = [] }
 
-pub sits : (s : Sitting) (slot name seat node : ℕ) (nodes : List ℕ)
-    → s ≡ record { seat = slot; node = name; nodes = nodes; entries = [] } → slot ≡ seat → name ≡ node
-    → s ≡ record { seat = seat; node = node; nodes = s.nodes; entries = [] }
-sits s slot name seat node nodes is e f = is ∙ ap (λ (a : ℕ). seated a name nodes) e ∙ ap (λ (b : ℕ). seated seat b nodes) f
-    ∙ ap (seated seat node) (sym (ap (λ (t : Sitting). t.nodes) is))
+pub sits : (s : Sitting) (slot name seat node : ℕ) (nodes : List ℕ) (asked : List Event)
+    → s ≡ seated slot name nodes asked → slot ≡ seat → name ≡ node → asked ≡ []
+    → s ≡ record { seat = seat; node = node; nodes = s.nodes; asked = []; entries = [] }
+sits s slot name seat node nodes asked is e f none = is ∙ ap (λ (a : ℕ). seated a name nodes asked) e
+    ∙ ap (λ (b : ℕ). seated seat b nodes asked) f ∙ ap (seated seat node nodes) none
+    ∙ ap (λ (ns : List ℕ). seated seat node ns []) (sym (ap (λ (t : Sitting). t.nodes) is))
 
 -- a seat has the nodes of its cluster
-pub seats_nodes : (s : Sitting) (slot name : ℕ) (nodes hub : List ℕ) (inside crew : Crewed)
-    → s ≡ record { seat = slot; node = name; nodes = nodes; entries = [] } → nodes ≡ hub
+pub seats_nodes : (s : Sitting) (slot name : ℕ) (nodes hub : List ℕ) (asked : List Event) (inside crew : Crewed)
+    → s ≡ seated slot name nodes asked → nodes ≡ hub
     → ((n : ℕ) → set_of hub n ≡ set_of (nodes_in inside) n) → inside ≡ crew
     → (n : ℕ) → set_of s.nodes n ≡ set_of (nodes_in crew) n
-seats_nodes s slot name nodes hub inside crew is same all view n =
+seats_nodes s slot name nodes hub asked inside crew is same all view n =
     ap (λ (t : Sitting). set_of t.nodes n) is ∙ ap (λ (ns : List ℕ). set_of ns n) same ∙ all n
     ∙ ap (λ (k : Crewed). set_of (nodes_in k) n) view
 

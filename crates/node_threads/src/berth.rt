@@ -33,12 +33,13 @@ pub(crate) struct Berth<G: Gate + Drop, N: Names> {
 
 impl<G: Gate + Drop, N: Names> Model for Berth<G, N> {
     ghost use Rattle.std.specs.Prelude.{ℕ, ◌≡◌};
+    ghost use Rattle.node_loop.specs.Coming.{IsLoopOf};
 
     ghost Value = { ℕ };
 
     ghost view = { λ b. b.address.node };
 
-    ghost invariant = { λ b. b.node.log.node ≡ b.address.node };
+    ghost invariant = { λ b. (b.node.log.node ≡ b.address.node) × IsLoopOf b.node.log.node b.node };
 }
 
 impl<G: Gate + Drop, N: Names<Memory = Global>> Berth<G, N> {

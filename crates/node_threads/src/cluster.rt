@@ -1,11 +1,11 @@
 //! Clusters: the threads of all nodes, and the seats at them.
-ghost use Rattle.std.specs.Prelude.{ℕ, ◌≡◌, ◌+◌, ◌≤◌, ◌++◌, false, [], None, Err, map, IfOk, OnOk, IfErr, OnErr, IfSome};
+ghost use Rattle.std.specs.Prelude.{ℕ, ◌≡◌, ◌+◌, ◌≤◌, ◌++◌, false, [], None, Err, All, map, IfOk, OnOk, IfErr, OnErr, IfSome};
 ghost use Rattle.term.specs.NodeSets.{set_of};
 ghost use Rattle.link.specs.Held.{place};
 ghost use Rattle.node_loop.specs.Openings.{start_refused, start_fault_of, IsOpening};
 ghost use Rattle.node_seats.specs.declared.fault.SeatFault.TheVariants.{NoSuchNode};
 ghost use Rattle.node_seats.specs.Faults.{IsSeatRefused};
-ghost use Rattle.node_threads.specs.Closing.{end_of, CloseIs};
+ghost use Rattle.node_threads.specs.Closing.{end_of, IsLeftBy, CloseIs};
 
 use crate::berth::Berth;
 use crate::berths::berths_of;
@@ -113,7 +113,8 @@ fn end_all<N, R>(rt: &R, alloc: Global, running: Vec<Running<N>>) -> Option<Vec<
 where
     N: Names<Memory = Global> + Send + 'static,
     R: Threads,
-    ensures { IfSome result (λ ends. map end_of ends.items ≡ running.items) }
+    ensures nodes { IfSome result (λ ends. map end_of ends.items ≡ running.items) }
+    ensures left { IfSome result (λ ends. All (λ e. IsLeftBy N.contents (end_of e) e) ends.items) }
 {
     for one in &running {
         one.stop();
@@ -196,7 +197,7 @@ where
     /// A new seat at a node, also at one that has left. Seats are numbered from 0 on as they are made. `NoSuchNode`: the node isn't of
     /// the cluster. `SeatsSpent`: 64 seats were made.
     pub fn seat(&mut self, node: &NodeName) -> Result<Seat, SeatFault>
-        ensures ok { IfOk result (λ seat. seat ≡ record { seat = self.old.seats; node = node.now; nodes = seat.nodes; entries = [] }) }
+        ensures ok { IfOk result (λ seat. seat ≡ record { seat = self.old.seats; node = node.now; nodes = seat.nodes; asked = []; entries = [] }) }
         ensures cluster { IfOk result (λ seat. (n : ℕ) → set_of seat.nodes n ≡ set_of (nodes_in self.old) n) }
         ensures made { IfOk result (λ _. self.new.seats ≡ self.old.seats + 1) }
         ensures refused { IfErr result (λ fault. IsSeatRefused fault (set_of (nodes_in self.old) node.now) (self.old.seats)) }

@@ -1,7 +1,8 @@
 //! The thread of one node.
 ghost use denote.Param.Send.{IsSend, IsSync};
 ghost use Rattle.std.specs.Prelude.{◌≡◌, IfOk, OnOk};
-ghost use Rattle.node_threads.specs.Closing.{end_of};
+ghost use Rattle.node_loop.specs.Coming.{IsLoopOf};
+ghost use Rattle.node_threads.specs.Closing.{IsLeftBy};
 
 use crate::ruled_end::RuledEnd;
 use link::{Inbox, Post};
@@ -17,14 +18,14 @@ use std::thread::{Promise, PromisedHandle, Threads};
 use std::time::Clock;
 use term::NodeName;
 
-/// That what a thread gives back is of this node.
+/// That what a thread gives back is what the loop of this node left behind.
 #[derive(Drop)]
 pub(crate) struct EndOf(Snapshot<NodeName>);
 
 impl<N: Names> Promise<NodeEnd<N>> for EndOf {
-    ghost use Rattle.node_threads.specs.Closing.{end_of};
+    ghost use Rattle.node_threads.specs.Closing.{IsLeftBy};
 
-    ghost kept_by = { λ promise end. end_of end ≡ promise.0.value };
+    ghost kept_by = { λ promise end. IsLeftBy N.contents promise.0.value end };
 }
 
 /// A node whose thread runs: where it is reached, how it stands, and the thread. Contracts see the name of the node.
@@ -61,7 +62,8 @@ fn turn<E: Post<Item> + Inbox<Item>, G: Gate, N: Names<Memory = Global>>(
     end: &mut E,
     gate: &G,
 ) -> bool
-    ensures { node.new.log.node ≡ node.old.log.node }
+    ensures node { node.new.log.node ≡ node.old.log.node }
+    ensures came { IsLoopOf node.old.log.node node.old → IsLoopOf node.old.log.node node.new }
 {
     node.turn(end, gate)
 }
@@ -75,7 +77,9 @@ fn turns<E: Post<Item> + Inbox<Item>, G: Gate, N: Names<Memory = Global>, R: Wai
     gate: &G,
     host: &mut Host,
 )
-    ensures { node.new.log.node ≡ node.old.log.node }
+    requires { IsLoopOf node.old.log.node node.old }
+    ensures node { node.new.log.node ≡ node.old.log.node }
+    ensures came { IsLoopOf node.old.log.node node.new }
 {
     for _ in rt.forever() {
         if host.is_closing() {
@@ -95,7 +99,8 @@ fn run<G: Gate + Drop, N: Names<Memory = Global>, R: Wait + Clock + Drop>(
     rt: &R,
     work: Work<G, N, R>,
 ) -> NodeEnd<N>
-    ensures { end_of result ≡ work.node.log.node }
+    requires { IsLoopOf work.node.log.node work.node }
+    ensures { IsLeftBy N.contents work.node.log.node result }
 {
     let Work {
         mut node,
@@ -117,7 +122,8 @@ where
     G: Gate + Drop + Send + Sync + 'static,
     N: Names<Memory = Global> + Send + 'static,
     R: Threads + Wait + Clock + Drop + Copy + Send + 'static,
-    requires { work.node.log.node ≡ node.now }
+    requires node { work.node.log.node ≡ node.now }
+    requires came { IsLoopOf work.node.log.node work.node }
     ensures { IfOk result (λ handle. handle.promise.0.value ≡ node.now) }
 {
     let promise = EndOf(Snapshot::of(node));
@@ -127,15 +133,15 @@ where
         promise,
         move || -> NodeEnd<N>
             requires { IsSend G.row × IsSend N.row × IsSend R.row × IsSync G.row }
-            ensures { end_of result ≡ work.node.log.node }
+            ensures { IsLeftBy N.contents work.node.log.node result }
         { run(&own, work) },
     )?;
     Ok(handle)
 }
 
 impl<N: Names<Memory = Global> + Send + 'static> Running<N> {
-    ghost use Rattle.std.specs.Prelude.{◌<◌};
-    ghost use Rattle.node_seats.specs.Callers.{name_of, slot_of, nodes_of, nodes_at};
+    ghost use Rattle.std.specs.Prelude.{◌<◌, []};
+    ghost use Rattle.node_seats.specs.Callers.{name_of, slot_of, nodes_of, nodes_at, asked_by};
 
     /// Starts the thread of a node. What it works with is the node's.
     pub(crate) fn start<G, R>(
@@ -147,7 +153,8 @@ impl<N: Names<Memory = Global> + Send + 'static> Running<N> {
     where
         G: Gate + Drop + Send + Sync + 'static,
         R: Threads + Wait + Clock + Drop + Copy + Send + 'static,
-        requires { work.node.log.node ≡ address.node }
+        requires node { work.node.log.node ≡ address.node }
+        requires came { IsLoopOf work.node.log.node work.node }
         ensures { IfOk result (λ running. running ≡ address.node) }
     {
         let handle = spawn(rt, address.node(), work)?;
@@ -176,6 +183,7 @@ impl<N: Names<Memory = Global> + Send + 'static> Running<N> {
         ensures slot { IfOk result (λ caller. slot_of caller ≡ slot) }
         ensures asks { IfOk result (λ caller. name_of caller ≡ self.old) }
         ensures nodes { IfOk result (λ caller. nodes_of caller ≡ nodes_at hub.now.value) }
+        ensures unasked { IfOk result (λ caller. asked_by caller ≡ []) }
         ensures node { self.new ≡ self.old }
     {
         self.caller.another(hub, &mut self.address, slot, yields)
@@ -196,7 +204,7 @@ impl<N: Names<Memory = Global> + Send + 'static> Running<N> {
 
     /// Waits until its thread has ended, and gives what it left behind.
     pub(crate) fn join<R: Threads>(self, rt: &R) -> NodeEnd<N>
-        ensures { end_of result ≡ self }
+        ensures { IsLeftBy N.contents self result }
     {
         let Running { handle, .. } = self;
         handle.join(rt)

@@ -20,9 +20,17 @@ returns g c =
     let answered : Answered (DelLock c.args.self.now.holder c.args.id.now c.args.nodes.now) c.in_ok-call.field-0 c.args.self.now.seat.now c.call.new.self =
     subst (λ (k : Call). Answered k c.in_ok-call.field-0 c.args.self.now.seat.now c.call.new.self) call c.in_ok-call.ensures.ok in (
       record {
-        replies = deleted_more c.args.self.now.holder c.args.self.now.seat.now c.call.new.self c.args.id.now c.args.nodes.now answered.0 answered.2;
+        replies = deleted_more c.args.self.now.holder c.args.self.now.seat.now c.call.new.self c.args.id.now c.args.nodes.now answered.answer answered.kept;
         holder = refl;
         same_seat = refl;
       },
-      (grants (reply_of answered.0.reply), (answered.0, refl, answered.2)),
+      (
+        grants (reply_of answered.answer.reply),
+        record {
+          answer = answered.answer;
+          heard = answered.heard;
+          says = refl;
+          kept = answered.kept;
+        },
+      ),
     )

@@ -19,11 +19,16 @@ returns g c =
     ∙ ap (λ (ns : Nodes). SetLock c.args.self.now.holder c.args.id.now ns c.args.retries) c.in_ok-copy.ensures.copy in
     let answered : Answered (SetLock c.args.self.now.holder c.args.id.now c.args.nodes.now c.args.retries) c.in_ok-reply.reply c.args.self.now.seat.now c.call.new.self =
     subst (λ (k : Call). Answered k c.in_ok-reply.reply c.args.self.now.seat.now c.call.new.self) call c.in_ok-reply.ensures.ok in
-    let granted : grants (reply_of answered.0.reply) ≡ c.is_granted.result = ap grants answered.1 ∙ sym c.is_granted.ensures in (
+    let granted : grants (reply_of answered.answer.reply) ≡ c.is_granted.result = ap grants answered.says ∙ sym c.is_granted.ensures in (
       record {
-        replies = set_more c.args.self.now.holder c.args.self.now.seat.now c.call.new.self c.args.id.now c.args.nodes.now answered.0 c.args.retries c.is_granted.result answered.2 granted;
+        replies = set_more c.args.self.now.holder c.args.self.now.seat.now c.call.new.self c.args.id.now c.args.nodes.now answered.answer c.args.retries c.is_granted.result answered.kept granted;
         holder = refl;
         same_seat = refl;
       },
-      (answered.0, granted, answered.2),
+      record {
+        answer = answered.answer;
+        heard = answered.heard;
+        says = granted;
+        kept = answered.kept;
+      },
     )

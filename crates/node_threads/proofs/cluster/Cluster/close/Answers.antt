@@ -8,5 +8,5 @@ returns g c = closes g.N.Names.contents c.args.self.cluster c.args.self.lone c.a
     c.self.inside.running.items c.args.transcripts.now c.in-Some.ends.items c.as_slice-3.result.now c.replay.result
     (c.as_slice.ensures.value ∙ ap (λ (k : Crewed). k.cluster) c.self.view_is)
     (c.as_slice-2.ensures.value ∙ ap (λ (k : Crewed). k.lone) c.self.view_is)
-    c.as_slice-3.ensures.value c.in-Some.ensures (c.self.invariant.1 ∙ ap nodes_in c.self.view_is)
+    c.as_slice-3.ensures.value c.in-Some.ensures.nodes c.in-Some.ensures.left (c.self.invariant.1 ∙ ap nodes_in c.self.view_is)
     c.replay.ensures.ok c.replay.ensures.refused

@@ -28,13 +28,13 @@ returns-in_err-caller-clause-refused g c =
     ) in search rules
 
 pub returns-clause-ok : goal.returns-clause-ok
-returns-clause-ok g c = sits c.new.result _ _ _ _ _ c.new.ensures
+returns-clause-ok g c = sits c.new.result _ _ _ _ _ _ c.new.ensures
     (c.in_ok-caller.ensures.slot ∙ ap (λ (k : Crewed). k.seats) c.self.view_is)
     (c.in_ok-caller.ensures.asks ∙ c.index_mut.ensures.value
     ∙ stands c.args.node.now c.as_slice.result.now c.self.inside.running.items (record { cluster = c.self.inside.cluster.items; lone = c.self.inside.lone.items; seats = c.self.inside.seats }) c.args.self.now
     c.place_of.result c.place_of.ensures c.as_slice.ensures.value c.self.invariant.1 c.self.view_is
-    c.in-Some.place _ c.in-Some.is)
+    c.in-Some.place _ c.in-Some.is) c.in_ok-caller.ensures.unasked
 
 pub returns-clause-cluster : goal.returns-clause-cluster
-returns-clause-cluster g c = seats_nodes c.new.result _ _ _ _ (record { cluster = c.self.inside.cluster.items; lone = c.self.inside.lone.items; seats = c.self.inside.seats }) c.args.self.now
+returns-clause-cluster g c = seats_nodes c.new.result _ _ _ _ _ (record { cluster = c.self.inside.cluster.items; lone = c.self.inside.lone.items; seats = c.self.inside.seats }) c.args.self.now
     c.new.ensures c.in_ok-caller.ensures.nodes c.self.invariant.3 c.self.view_is

@@ -1,0 +1,48 @@
+-- How the loop of a node comes to be as it is.
+use Rattle.std.specs.Prelude.{ℕ, Bool, false, zero, suc, ◌≡◌, ◌⊎◌, List, [], ◌∷◌, map}
+use Rattle.node_log.specs.NodeCoreHeld.{Held}
+use Rattle.node_log.specs.Openings.{opening_core}
+use Rattle.tray.specs.Held.{Waiting, none_for}
+use Rattle.node_loop.specs.declared.item.Item.{Item}
+use Rattle.node_loop.specs.Told.{Told}
+use Rattle.node_loop.specs.Desks.{empty_desk}
+use Rattle.node_loop.specs.Held.{Looping}
+use Rattle.node_loop.specs.Items.{Works, Idles}
+
+-- the loop of a node that begins with this core, before its first turn
+abbrev pub begun : Held → Looping
+begun core = record {
+  core = core;
+  world = core.world;
+  log = record { node = core.name; entries = [] };
+  tray = map none_for core.world;
+  desk = empty_desk;
+  wait = 0;
+  stamp = 0;
+  left = false;
+  worked = false;
+}
+
+-- a turn, whatever the links took of the letters that wait, and whatever came
+pub record Turns (a b : Looping) : Type 0 where
+  pub tray : List (Waiting Item)
+  pub going : Bool
+  pub turned : ((from : ℕ) × (i : Item) × Works from i (record a { tray = tray }) going b) ⊎ Idles (record a { tray = tray }) going b
+
+-- the oldest reply is handed out
+pub record HandsOut (a b : Looping) : Type 0 where
+  pub told : Told
+  pub oldest : a.desk.replies ≡ told ∷ b.desk.replies
+  pub rest : b ≡ record a { desk = record a.desk { replies = b.desk.replies } }
+
+-- so many turns, and replies handed out, lead from the beginning to b
+abbrev pub ComesBy : ℕ → Held → Looping → Type 0
+ComesBy zero core b = b ≡ begun core
+ComesBy (suc n) core b = (a : Looping) × ComesBy n core a × (Turns a b ⊎ HandsOut a b)
+
+-- it is the loop of this node: it came by turns, and by replies handed out, from the core that such a node opens with in some cluster
+pub record IsLoopOf (name : ℕ) (b : Looping) : Type 0 where
+  pub nodes : List ℕ
+  pub cluster : List ℕ
+  pub moves : ℕ
+  pub comes : ComesBy moves (opening_core nodes cluster name) b

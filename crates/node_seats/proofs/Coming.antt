@@ -1,0 +1,14 @@
+-- A loop whose oldest reply is handed out came by turns still.
+use Rattle.std.proofs.Common.{ℕ, ◌≡◌, ◌∷◌, suc, inr}
+use Rattle.node_loop.specs.Told.{Told}
+use Rattle.node_loop.specs.Held.{Looping}
+use Rattle.node_loop.specs.Coming.{IsLoopOf}
+
+pub handed_out : (name : ℕ) (a b : Looping) (told : Told) → IsLoopOf name a → a.desk.replies ≡ told ∷ b.desk.replies
+    → b ≡ record a { desk = record a.desk { replies = b.desk.replies } } → IsLoopOf name b
+handed_out name a b told came oldest rest = record {
+  nodes = came.nodes;
+  cluster = came.cluster;
+  moves = suc came.moves;
+  comes = (a, came.comes, inr (record { told = told; oldest = oldest; rest = rest }));
+}
