@@ -18,7 +18,7 @@ asked_in (Whereis x) = event.Call (call.Whereis x)
 asked_in (Exit p) = event.Exit p
 asked_in Leave = event.Leave
 
--- what an order was answered: the seat asked its node for just that, once, heard the answer from the node's loop, and it stands last in the
+-- what an order was answered: the seat asked its node for just that, once, was told the answer by the node's loop, and it stands last in the
 -- seat's transcript. For a refused one it asked once at most, and the transcript stays
 abbrev pub SeatAnswers : Sitting → Order → Result Reply SeatFault → Sitting → Type 0
 SeatAnswers s (Call c) (Ok r) t = Answered c r s t

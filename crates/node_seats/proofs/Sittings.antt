@@ -11,7 +11,7 @@ use Rattle.node_seats.specs.declared.fault.SeatFault.{SeatFault}
 use Rattle.node_seats.specs.declared.fault.SeatFault.TheVariants.{NoSuchNode, NodeLeft, Closed, SeatsSpent, Step, Memory}
 use Rattle.node_seats.specs.Callers.{name_of, slot_of, nodes_of, asked_by, ticket_of, told_as}
 use Rattle.node_seats.specs.Replies.{IsToldTo}
-use Rattle.node_seats.specs.Seats.{Sitting, Hears, with_entry}
+use Rattle.node_seats.specs.Seats.{Sitting, IsAnswered, with_entry}
 
 -- the seat of a caller with these entries
 abbrev sitting : Caller → List SeatEntry → Sitting
@@ -20,10 +20,10 @@ sitting c es = record { seat = slot_of c; node = name_of c; nodes = nodes_of c; 
 abbrev sits : ℕ → ℕ → List ℕ → List Event → List SeatEntry → Sitting
 sits seat node nodes asked es = record { seat = seat; node = node; nodes = nodes; asked = asked; entries = es }
 
--- what its caller is told, the seat hears
+-- what its caller is told, the seat is answered
 module _ (c : Caller) (es : List SeatEntry) (s : Sitting) (is : sitting c es ≡ s) where
-  pub hears : (outcome : Result (Option Answer) TaskFault) → IsToldTo (name_of c) (ticket_of c) outcome → Hears s outcome
-  hears outcome told = subst (λ (x : Sitting). Hears x outcome) is (record { number = c.next; told = told })
+  pub answered_so : (outcome : Result (Option Answer) TaskFault) → IsToldTo (name_of c) (ticket_of c) outcome → IsAnswered s outcome
+  answered_so outcome told = subst (λ (x : Sitting). IsAnswered x outcome) is (record { number = c.next; told = told })
 
   -- it asked for an event, and has an entry more
   pub grown : (d : Caller) (fs : List SeatEntry) (e : Event) (w : WorldEvent) (answer : Option Answer) → slot_of d ≡ slot_of c

@@ -14,7 +14,7 @@ use Rattle.transaction.specs.declared.reply.LockReply.{LockReply}
 use Rattle.transaction.specs.declared.reply.LockReply.TheVariants.{Set, Deleted}
 use Rattle.node_seats.specs.declared.holder.HolderSeat.{HolderSeat}
 use Rattle.node_seats.specs.declared.fault.SeatFault.{SeatFault}
-use Rattle.node_seats.specs.Seats.{Sitting, Hears, with_entry, Unanswered}
+use Rattle.node_seats.specs.Seats.{Sitting, IsAnswered, with_entry, Unanswered}
 
 -- the lock is granted by this reply
 abbrev pub grants : AnyReply → Bool
@@ -37,10 +37,10 @@ abbrev pub lock_replies : Process → List SeatEntry → List LockReply
 lock_replies me [] = []
 lock_replies me (e ∷ es) = lock_reply_in me e.event e.answer ++ lock_replies me es
 
--- a lock call was answered: the seat heard so, and it stands last in the transcript
+-- a lock call was answered: its node's loop told the seat so, and it stands last in the transcript
 pub record Grants (call : Call) (granted : Bool) (s t : Sitting) : Type 0 where
   pub answer : Answer
-  pub heard : Hears s (Ok (Some answer))
+  pub told : IsAnswered s (Ok (Some answer))
   pub says : grants (reply_of answer.reply) ≡ granted
   pub kept : t ≡ with_entry (Calls call) (Some answer) s
 

@@ -12,7 +12,7 @@ use Rattle.node_seats.specs.declared.fault.SeatFault.{SeatFault}
 use Rattle.node_seats.specs.declared.fault.SeatFault.TheVariants.{Step}
 
 -- the loop of a node came to where it tells this reply next
-pub record Tells (name : ℕ) (reply : TaskReply) : Type 0 where
+pub record TellsNext (name : ℕ) (reply : TaskReply) : Type 0 where
   pub node : Looping
   pub came : IsLoopOf name node
   pub later : List Told
@@ -20,7 +20,7 @@ pub record Tells (name : ℕ) (reply : TaskReply) : Type 0 where
 
 -- the loop of this node told this reply
 abbrev pub IsTold : ℕ → TaskReply → Type 0
-IsTold name reply = ∥ Tells name reply ∥₁
+IsTold name reply = ∥ TellsNext name reply ∥₁
 
 -- it told the owner of this ticket so
 abbrev pub IsToldTo : ℕ → Ticket → Result (Option Answer) TaskFault → Type 0

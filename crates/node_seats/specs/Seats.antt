@@ -34,31 +34,32 @@ with_entry e answer s = record s {
 }
 
 -- the loop of the seat's node told the seat so, for something that it asked
-pub record Hears (s : Sitting) (outcome : Result (Option Answer) TaskFault) : Type 0 where
+pub record IsAnswered (s : Sitting) (outcome : Result (Option Answer) TaskFault) : Type 0 where
   pub number : ℕ
   pub told : IsToldTo s.node (record { seat = s.seat; number = number }) outcome
 
 -- a refusal by the node is its loop's
-abbrev pub HearsFault : Sitting → SeatFault → Type 0
-HearsFault s (Step fault) = Hears s (Err (task.Step fault))
-HearsFault s _ = Unit {0}
+abbrev pub IsToldFault : Sitting → SeatFault → Type 0
+IsToldFault s (Step fault) = IsAnswered s (Err (task.Step fault))
+IsToldFault s _ = Unit {0}
 
 -- an event comes to this fault: the node was asked for it once at most, and the transcript is as it was
 pub record Unanswered (fault : SeatFault) (e : Event) (s t : Sitting) : Type 0 where
   pub asked : MayAsk fault e s.asked t.asked
   pub kept : t ≡ record s { asked = t.asked }
-  pub heard : HearsFault s fault
+  pub told : IsToldFault s fault
 
--- an event that has no answer is done: the seat heard so, and it stands last in the transcript
+-- an event that has no answer is done: its node's loop told the seat so, and it stands last in the transcript
 pub record Done (e : Event) (s t : Sitting) : Type 0 where
   pub answer : Option Answer
-  pub heard : Hears s (Ok answer)
+  pub told : IsAnswered s (Ok answer)
   pub kept : t ≡ with_entry e None s
 
--- the call got this reply: the seat heard an answer that says so, and the call stands last in the transcript with that; nothing else changed
+-- the call got this reply: its node's loop told the seat an answer that says so, and the call stands last in the transcript with that;
+-- nothing else changed
 pub record Answered (call : Call) (reply : Reply) (s t : Sitting) : Type 0 where
   pub answer : Answer
-  pub heard : Hears s (Ok (Some answer))
+  pub told : IsAnswered s (Ok (Some answer))
   pub says : reply_of answer.reply ≡ reply_of reply
   pub kept : t ≡ with_entry (event.Call call) (Some answer) s
 

@@ -28,7 +28,7 @@ returns g c =
         grants (reply_of answered.answer.reply),
         record {
           answer = answered.answer;
-          heard = answered.heard;
+          told = answered.told;
           says = refl;
           kept = answered.kept;
         },

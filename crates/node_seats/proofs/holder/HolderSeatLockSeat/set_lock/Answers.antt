@@ -27,7 +27,7 @@ returns g c =
       },
       record {
         answer = answered.answer;
-        heard = answered.heard;
+        told = answered.told;
         says = granted;
         kept = answered.kept;
       },

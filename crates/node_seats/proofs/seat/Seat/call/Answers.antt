@@ -4,13 +4,13 @@ use Rattle.node_loop.specs.declared.Event.TheVariants.{Call as Calls}
 use Rattle.node_loop.specs.declared.WorldEvent.TheVariants.{At}
 use Rattle.node_loop.specs.declared.SeatEntry.{SeatEntry}
 use Rattle.node_seats.specs.Seats.{Sitting}
-use Rattle.node_seats.proofs.Sittings.{hears, grown}
+use Rattle.node_seats.proofs.Sittings.{answered_so, grown}
 use Rattle.node_seats.proofs.seat.Seat.call.Goals as goal
 
 pub returns-clause-ok : goal.returns-clause-ok
 returns-clause-ok g c = record {
   answer = c.in_ok-answer.answer;
-  heard = hears c.self.inside.caller c.self.inside.entries.items c.args.self.now c.self.view_is (Ok (Some c.in_ok-answer.answer))
+  told = answered_so c.self.inside.caller c.self.inside.entries.items c.args.self.now c.self.view_is (Ok (Some c.in_ok-answer.answer))
       c.in_ok-answer.ensures.told;
   says = sym c.in_ok-reply.ensures.copy;
   kept = grown c.self.inside.caller c.self.inside.entries.items c.args.self.now c.self.view_is c.ask_call.new.caller

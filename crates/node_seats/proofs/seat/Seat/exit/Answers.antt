@@ -4,13 +4,13 @@ use Rattle.node_loop.specs.declared.Event.TheVariants.{Exit}
 use Rattle.node_loop.specs.declared.WorldEvent.TheVariants.{At}
 use Rattle.node_loop.specs.declared.SeatEntry.{SeatEntry}
 use Rattle.node_seats.specs.Callers.{asked_by}
-use Rattle.node_seats.proofs.Sittings.{hears, grown}
+use Rattle.node_seats.proofs.Sittings.{answered_so, grown}
 use Rattle.node_seats.proofs.seat.Seat.exit.Goals as goal
 
 pub returns-clause-ok : goal.returns-clause-ok
 returns-clause-ok g c = record {
   answer = c.in_ok-ask.field-0;
-  heard = hears c.self.inside.caller c.self.inside.entries.items c.args.self.now c.self.view_is (Ok c.in_ok-ask.field-0)
+  told = answered_so c.self.inside.caller c.self.inside.entries.items c.args.self.now c.self.view_is (Ok c.in_ok-ask.field-0)
       c.in_ok-ask.ensures.told;
   kept = grown c.self.inside.caller c.self.inside.entries.items c.args.self.now c.self.view_is c.ask.new.self
       c.push_reserved.new.self.items (Exit c.args.process.now) c.event-event.result None c.in_ok-ask.ensures.slot

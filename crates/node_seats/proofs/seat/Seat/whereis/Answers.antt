@@ -5,14 +5,14 @@ use Rattle.node_loop.specs.declared.WorldEvent.TheVariants.{At}
 use Rattle.node_loop.specs.declared.SeatEntry.{SeatEntry}
 use Rattle.node_seats.specs.Callers.{asked_by}
 use Rattle.node_seats.specs.Seats.{Sitting}
-use Rattle.node_seats.proofs.Sittings.{hears, grown}
+use Rattle.node_seats.proofs.Sittings.{answered_so, grown}
 use Rattle.node_seats.proofs.seat.Seat.whereis.Goals.{in-Pid, in-Undefined}
 use Rattle.node_seats.proofs.seat.Seat.whereis.Goals as goal
 
 pub returns-clause-ok : goal.returns-clause-ok
 returns-clause-ok g c = record {
   answer = c.in_ok-answer.answer;
-  heard = hears c.self.inside.caller c.self.inside.entries.items c.args.self.now c.self.view_is (Ok (Some c.in_ok-answer.answer))
+  told = answered_so c.self.inside.caller c.self.inside.entries.items c.args.self.now c.self.view_is (Ok (Some c.in_ok-answer.answer))
       c.in_ok-answer.ensures.told;
   says = elim c.match-answer.branch [
     | in-Pid w ↦ search rules
