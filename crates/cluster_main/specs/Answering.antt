@@ -4,7 +4,7 @@ use Rattle.std.specs.Io.KnownBytes.{Keeps}
 use Rattle.clap.specs.Words.{IsAmong, Kinds, Text, subcommand_of}
 use Rattle.clap.specs.declared.error.kind.ErrorKind.{ErrorKind}
 use Rattle.cluster_script.specs.Script.{Ran, Stopped}
-use Rattle.text_lines.specs.declared.faults.ScriptFault.{ScriptFault}
+use Rattle.text_lines.specs.declared.faults.StreamFault.{StreamFault}
 use Rattle.arguments.specs.CommandLine.{Entered, name_in, program, refusals, value_in}
 use Rattle.arguments.specs.Reading.{RefusesLists, Tells, Values}
 use Rattle.arguments.specs.declared.faults.ArgFault.{ArgFault}
@@ -14,7 +14,7 @@ use Rattle.cluster_main.specs.Serving.{Serves, TellsWhy, served_status}
 use Rattle.cluster_main.specs.declared.serving.Served.{Served}
 
 -- the status for a script that was played: 0 where it ended with no fault and printed no refusal, and else 1
-abbrev pub status_of : Result Bool ScriptFault → ℕ
+abbrev pub status_of : Result Bool StreamFault → ℕ
 status_of (Ok fine) = if fine then 0 else 1
 status_of (Err f) = 1
 
@@ -32,7 +32,7 @@ pub record Told : Type 0 where
 
 -- a script was played, with the status for it, or 1 where what it printed couldn't be handed on
 pub record PlaysScript (s : Streams) (status : ℕ) : Type 0 where
-  pub played : Result Bool ScriptFault
+  pub played : Result Bool StreamFault
   pub printed : Option (List ℕ)
   pub runs : MatchResult played (Ran s.input s.rest s.old printed) (Stopped s.input s.rest s.old printed)
   pub flushed : Keeps printed s.new

@@ -1,6 +1,5 @@
 //! Lines that are written.
 ghost use Rattle.std.specs.Prelude.{◌++◌};
-ghost use Rattle.std.specs.Io.KnownBytes.{Keeps};
 ghost use Rattle.text_lines.specs.Writing.{Writes};
 ghost use Rattle.server.specs.Printing.{ended};
 
@@ -18,14 +17,4 @@ pub(crate) fn write_line<W: Write>(
     write_text(writer, first.as_bytes())?;
     write_text(writer, second.as_bytes())?;
     write_text(writer, b"\n")
-}
-
-/// Hands on what was written.
-pub(crate) fn hand_on<W: Write>(writer: &mut W) -> Result<(), WriteFault>
-    ensures { Keeps (W.contents writer.old) (W.contents writer.new) }
-{
-    match writer.flush() {
-        Ok(()) => Ok(()),
-        Err(_) => Err(WriteFault::Writer),
-    }
 }

@@ -3,7 +3,7 @@ ghost use Rattle.std.specs.Prelude.{◌≡◌};
 ghost use Rattle.cluster_main.specs.Serving.{IsPlaced, Serves, TellsWhy, served_status, listening_line};
 ghost use Rattle.text_lines.specs.Writing.{Writes};
 
-use crate::lines::{hand_on, write_line};
+use crate::lines::write_line;
 use arguments::ServeOptions;
 use server::{ServeFault, run_serve};
 use std::alloc::Global;
@@ -12,7 +12,7 @@ use std::net::{Net, TcpListener, TcpStream};
 use std::sync::Wait;
 use std::thread::Threads;
 use std::time::Clock;
-use text_lines::WriteFault;
+use text_lines::{WriteFault, hand_on};
 
 /// What it came to that consoles were to be served.
 #[derive(Debug, Drop)]

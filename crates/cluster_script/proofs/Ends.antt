@@ -4,7 +4,7 @@ use Rattle.term.specs.declared.faults.TextFault.{TextFault}
 use Rattle.term.specs.Laws.{IsExact}
 use Rattle.term.specs.Spelling.{SpellsText, RefusesText}
 use Rattle.command_lines.specs.declared.faults.LineFault.{LineFault}
-use Rattle.text_lines.specs.declared.faults.ScriptFault.TheVariants.{TooManyLines}
+use Rattle.text_lines.specs.declared.faults.StreamFault.TheVariants.{TooManyLines}
 use Rattle.text_lines.specs.Lines.{count_of, count_of_all, spoken}
 use Rattle.text_lines.specs.Words.{words}
 use Rattle.command_lines.specs.Commands.{unread}

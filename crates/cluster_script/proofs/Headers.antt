@@ -20,7 +20,7 @@ use Rattle.command_lines.specs.Commands.{LineAsks, asked_by, unread}
 use Rattle.text_lines.specs.Words.{words}
 use Rattle.command_lines.specs.declared.grammar.Task.{Task}
 use Rattle.protocol_model.specs.Script.{Line as ScriptLine}
-use Rattle.text_lines.specs.declared.faults.ScriptFault.{ScriptFault}
+use Rattle.text_lines.specs.declared.faults.StreamFault.{StreamFault}
 use Rattle.text_lines.specs.Lines.{spoken, count_of_all, LosesLines}
 use Rattle.text_lines.proofs.Known.{spoken-append, count_of_all-append, LosesLines-trans, LosesInto-behind, GoesPastFor-behind}
 use Rattle.cluster_script.specs.Script.{LineOpens, PrintsOn, PrintsSpoken, opening_for}
@@ -251,7 +251,7 @@ pub PrintsOn-blank : (ls : List (List ℕ)) → spoken ls ≡ [] → PrintsOn (s
 PrintsOn-blank ls s = subst (λ (xs : List (List ℕ)). PrintsOn xs []) (sym s) refl
 
 -- the first line isn't read
-pub StopsOpening-reading : (input rest : Option (List ℕ)) (most : ℕ) (f : ScriptFault) → StopsReading input rest most f
+pub StopsOpening-reading : (input rest : Option (List ℕ)) (most : ℕ) (f : StreamFault) → StopsReading input rest most f
     → StopsOpening input rest most f
 StopsOpening-reading input rest most f g = (g.0, g.1, PrintsOn-blank g.0 g.2, g.3, g.4, g.5)
 
@@ -305,7 +305,7 @@ module _ (input mid rest : Option (List ℕ)) (most mid_left : ℕ) (front : Lis
   )
 
   -- which isn't read
-  pub StopsOpening-behind : (f : ScriptFault) → StopsReading mid rest mid_left f → StopsOpening input rest most f
+  pub StopsOpening-behind : (f : StreamFault) → StopsReading mid rest mid_left f → StopsOpening input rest most f
   StopsOpening-behind f g = (
     front ++ g.0,
     g.1,
@@ -315,7 +315,7 @@ module _ (input mid rest : Option (List ℕ)) (most mid_left : ℕ) (front : Lis
     GoesPastFor-behind f input mid front g.0 most mid_left l e g.5,
   )
 
-  pub headers_behind : (left : ℕ) (q : Result Headers ScriptFault)
+  pub headers_behind : (left : ℕ) (q : Result Headers StreamFault)
       → MatchResult q (ReadsLone cluster mid rest mid_left left) (StopsReading mid rest mid_left)
       → MatchResult q (ReadsHeaders input rest most left) (StopsOpening input rest most)
   headers_behind left (Ok h) g = ReadsHeaders-by left h g

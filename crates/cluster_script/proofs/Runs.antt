@@ -10,8 +10,8 @@ use Rattle.cluster_world.specs.Seen.{opening_of, seen}
 use Rattle.command_lines.specs.declared.faults.LineFault.{LineFault}
 use Rattle.command_lines.specs.declared.faults.LineFault.TheVariants.{Memory}
 use Rattle.command_lines.specs.Commands.{LineAsks}
-use Rattle.text_lines.specs.declared.faults.ScriptFault.{ScriptFault}
-use Rattle.text_lines.specs.declared.faults.ScriptFault.TheVariants as fault
+use Rattle.text_lines.specs.declared.faults.StreamFault.{StreamFault}
+use Rattle.text_lines.specs.declared.faults.StreamFault.TheVariants as fault
 use Rattle.text_lines.specs.declared.faults.WriteFault.{WriteFault}
 use Rattle.text_lines.specs.declared.faults.WriteFault.TheVariants as write
 use Rattle.text_lines.specs.Lines.{spoken, LosesLines, LosesInto, count_of_all, HasNoLine, GoesPast, MayEndIn}
@@ -77,7 +77,7 @@ module _ (input rest a b : Option (List ℕ)) (kept : Keeps a b) (ls : List (Lis
   }
 
 -- no world is opened
-pub Stopped-opening : (input rest a b : Option (List ℕ)) → Keeps a b → (f : ScriptFault)
+pub Stopped-opening : (input rest a b : Option (List ℕ)) → Keeps a b → (f : StreamFault)
     → StopsOpening input rest 1000000 f → Stopped input rest a b f
 Stopped-opening input rest a b k fault.TooManyLines g = (between input rest a b k g.0 g.1 g.2 g.3, g.4, g.5)
 Stopped-opening input rest a b k fault.Read g = (between input rest a b k g.0 g.1 g.2 g.3, g.4)
@@ -85,16 +85,16 @@ Stopped-opening input rest a b k fault.Write g = (within input rest a b k g.0 g.
 Stopped-opening input rest a b k fault.Memory g = (within input rest a b k g.0 g.1 g.2 g.3, g.4)
 
 -- a text wasn't written
-pub Stopped-writing : (input rest a b : Option (List ℕ)) (f : WriteFault) (y : ScriptFault) → y ≡ stop_of f
+pub Stopped-writing : (input rest a b : Option (List ℕ)) (f : WriteFault) (y : StreamFault) → y ≡ stop_of f
     → (s : StoppedWithin input rest a b) → s.part ≡ [] → Stopped input rest a b y
 Stopped-writing input rest a b write.Writer y e s n =
-    subst (λ (g : ScriptFault). Stopped input rest a b g) (sym e) (
+    subst (λ (g : StreamFault). Stopped input rest a b g) (sym e) (
       s,
       subst (λ (xs : List ℕ). MayEndIn fault.Write
           xs) (sym n) (MayEndIn-none fault.Write),
     )
 Stopped-writing input rest a b write.Memory y e s n =
-    subst (λ (g : ScriptFault). Stopped input rest a b g) (sym e) (
+    subst (λ (g : StreamFault). Stopped input rest a b g) (sym e) (
       s,
       subst (λ (xs : List ℕ). MayEndIn fault.Memory
           xs) (sym n) (MayEndIn-none fault.Memory),
@@ -275,7 +275,7 @@ module _ (input rest : Option (List ℕ)) (most left : ℕ) (bound : most ≤ 10
         wrote = (p.wrote.0, p.wrote.1, p.wrote.2, Appends-behind a x b p.wrote.0 kept p.wrote.3);
       }
 
-      Stopped-played : (f : ScriptFault) → StopsPlaying first rest last left world x b f → most ≡ 1000000
+      Stopped-played : (f : StreamFault) → StopsPlaying first rest last left world x b f → most ≡ 1000000
           → Stopped input last a b f
       Stopped-played fault.TooManyLines p n =
           let past : GoesPast input most (ls ++ p.0.taken) = GoesPast-behind input rest ls p.0.taken most left l e
@@ -285,7 +285,7 @@ module _ (input rest : Option (List ℕ)) (most left : ℕ) (bound : most ≤ 10
       Stopped-played fault.Write p n = (StoppedWithin-played p.0, p.1)
       Stopped-played fault.Memory p n = (StoppedWithin-played p.0, p.1)
 
-      pub Ran-played : (new : Held) (left2 : ℕ) (r : Result Bool ScriptFault) → most ≡ 1000000
+      pub Ran-played : (new : Held) (left2 : ℕ) (r : Result Bool StreamFault) → most ≡ 1000000
           → PlaysAll first rest last left left2 world new x b r
           → MatchResult r (Ran input last a b) (Stopped input last a b)
       Ran-played new left2 (Ok fine) n p = record {
@@ -316,7 +316,7 @@ opened_by (l ∷ m ∷ []) rest world task o = (l, m, o.0, refl, o.1, o.2)
 opened_by (l ∷ m ∷ k ∷ ls) rest world task o = absurd o
 
 -- what the exit of a `?` says of a script
-pub Stopped-err : (input rest a b : Option (List ℕ)) (r : Result Bool ScriptFault) (y : ScriptFault) → r ≡ Err y
+pub Stopped-err : (input rest a b : Option (List ℕ)) (r : Result Bool StreamFault) (y : StreamFault) → r ≡ Err y
     → Stopped input rest a b y
     → MatchResult r (Ran input rest a b) (Stopped input rest a b)
 Stopped-err input rest a b r y e p = rw e p

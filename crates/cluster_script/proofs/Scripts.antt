@@ -8,8 +8,8 @@ use Rattle.std.proofs.KnownBytes.{Appends-trans, Appends-nil, Appends-kept}
 use Rattle.protocol_model.specs.World.{Opening, World}
 use Rattle.cluster_world.specs.Held.{Held}
 use Rattle.cluster_world.specs.Seen.{opening_of, seen}
-use Rattle.text_lines.specs.declared.faults.ScriptFault.{ScriptFault}
-use Rattle.text_lines.specs.declared.faults.ScriptFault.TheVariants as fault
+use Rattle.text_lines.specs.declared.faults.StreamFault.{StreamFault}
+use Rattle.text_lines.specs.declared.faults.StreamFault.TheVariants as fault
 use Rattle.text_lines.specs.declared.faults.WriteFault.{WriteFault}
 use Rattle.text_lines.specs.declared.faults.WriteFault.TheVariants as write
 use Rattle.text_lines.specs.Lines.{spoken, count_of_all, LosesLines, LosesInto, MayEndIn}
@@ -108,7 +108,7 @@ module _ (input mid : Option (List ℕ)) (most l1 : ℕ) (old h1 : Held) (a b : 
     }
 
   -- the next line isn't read
-  pub StopsPlaying-reading : (rest : Option (List ℕ)) (f : ScriptFault) → StopsReading mid rest l1 f
+  pub StopsPlaying-reading : (rest : Option (List ℕ)) (f : StreamFault) → StopsReading mid rest l1 f
       → StopsPlaying [] input rest most old a b f
   StopsPlaying-reading rest fault.TooManyLines g =
       (PlaysSome-so_far rest g.0 g.1 g.2 g.3, g.4, GoesPast-behind input mid P.taken g.0 most l1 P.read P.counted g.5)
@@ -165,7 +165,7 @@ module _ (input mid : Option (List ℕ)) (most l1 : ℕ) (old h1 : Held) (a b : 
 
 -- what the exit of a `?` says of lines
 pub PlaysAll-err : (first : List Outcome) (input rest : Option (List ℕ)) (most left : ℕ) (old new
-    : Held) (a b : Option (List ℕ)) (r : Result Bool ScriptFault) (y : ScriptFault)
+    : Held) (a b : Option (List ℕ)) (r : Result Bool StreamFault) (y : StreamFault)
     → r ≡ Err y → StopsPlaying first input rest most old a b y → PlaysAll first input rest most left old new a b r
 PlaysAll-err first input rest most left old new a b r y e p = rw e p
 
@@ -204,16 +204,16 @@ PlaysLines-blank input mid rest most l1 l2 old h1 a b fine P ls s t e = record {
 
 -- a text wasn't written, or memory was refused
 pub StopsPlaying-writing : (first : List Outcome) (input rest : Option (List ℕ)) (most : ℕ) (old :
-    Held) (a b : Option (List ℕ)) (f : WriteFault) (y : ScriptFault) → y ≡ stop_of f
+    Held) (a b : Option (List ℕ)) (f : WriteFault) (y : StreamFault) → y ≡ stop_of f
     → (p : PlaysSome AppendsPart first input rest old a b) → p.part ≡ [] → StopsPlaying first input rest most old a b y
 StopsPlaying-writing first input rest most old a b write.Writer y e p n =
-    subst (λ (g : ScriptFault). StopsPlaying first input rest most old a b g) (sym e) (
+    subst (λ (g : StreamFault). StopsPlaying first input rest most old a b g) (sym e) (
       p,
       subst (λ (xs : List ℕ). MayEndIn
           fault.Write xs) (sym n) (MayEndIn-none fault.Write),
     )
 StopsPlaying-writing first input rest most old a b write.Memory y e p n =
-    subst (λ (g : ScriptFault). StopsPlaying first input rest most old a b g) (sym e) (
+    subst (λ (g : StreamFault). StopsPlaying first input rest most old a b g) (sym e) (
       p,
       subst (λ (xs : List ℕ). MayEndIn
           fault.Memory xs) (sym n) (MayEndIn-none fault.Memory),
@@ -274,7 +274,7 @@ module _ (input rest : Option (List ℕ)) (old mid : Held) (outcome : Outcome) (
   }
 
   -- the others end with a fault
-  pub StopsPlaying-behind : (most : ℕ) (f : ScriptFault) → StopsPlaying [] input rest most mid b c f
+  pub StopsPlaying-behind : (most : ℕ) (f : StreamFault) → StopsPlaying [] input rest most mid b c f
       → StopsPlaying (outcome ∷ []) input rest most old a c f
   StopsPlaying-behind most fault.TooManyLines p = (PlaysSome-all p.0, p.1, p.2)
   StopsPlaying-behind most fault.Read p = (PlaysSome-all p.0, p.1)

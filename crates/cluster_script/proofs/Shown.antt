@@ -16,9 +16,10 @@ use Rattle.cluster_world.specs.Seen.{opening_of, seen}
 use Rattle.command_lines.specs.Printing.{output_line, error_line, refusal_word, is_fine, is_fine_output, shown_text, Shown, Shows}
 use Rattle.text_lines.specs.declared.faults.WriteFault.{WriteFault}
 use Rattle.text_lines.specs.Writing.{AppendsPart, Writes}
-use Rattle.cluster_script.specs.Script.{Plays, settle_limit, shown, behind}
-use Rattle.cluster_script.specs.Played.{IsShown, PlaysAsked, shown_on, line_or_refusal, table_of, members_of}
+use Rattle.cluster_script.specs.Script.{Plays, settle_limit, shown, behind, made_of}
+use Rattle.cluster_script.specs.Played.{IsShown, PlaysAsked, shown_on, text_for, has_line, table_of, members_of}
 use Rattle.cluster_script.proofs.Nodes.{in_world-listed, nodes_of-listed}
+use Rattle.cluster_script.proofs.Playing.{refused-memory}
 
 module _ (h : Held) (a : ℕ) (x : Output) where
   -- what is shown where there is no such node
@@ -104,14 +105,15 @@ module _ (h : Held) (l : ScriptLine) (x : Output) (s : shown (opening_of h) (see
   )
 
 -- what is shown of a node was written, or why it isn't
-pub PlaysAsked-node : (h : Held) (a : ℕ) (x : Output) (l : ScriptLine) (line : Option (String Global))
+pub PlaysAsked-node : {E : Type 0} (h : Held) (a : ℕ) (x : Output) (l : ScriptLine) (line : Result (Option (String Global)) E)
     → shown (opening_of h) (seen h) (Plays l) ≡ Shows (shown_at (opening_of h) settle_limit (seen h) a x) ∷ []
     → behind (opening_of h) (seen h) (Plays l) ≡ seen h
-    → IsShown h a x (option_map string_bytes line)
     → (old new : Option (List ℕ)) (r : Result Bool WriteFault)
-    → Writes old new r (line_or_refusal h a (option_map string_bytes line)) → IfOk r (λ fine. fine ≡ is_some line)
+    → IfOk line (λ line. IsShown h a x (option_map string_bytes line))
+    → Writes old new r (text_for h a (made_of (option_map string_bytes) line)) → IfOk r (λ fine. fine ≡ has_line line)
     → PlaysAsked (Ok l) h h old new r
-PlaysAsked-node h a x l line s same i old new r w q =
+PlaysAsked-node h a x l (Err f) s same old new r i w q = refused-memory (Ok l) h h old new r refl refl w q
+PlaysAsked-node h a x l (Ok line) s same old new r i w q =
     PlaysAsked-shown h l (shown_at (opening_of h) settle_limit (seen h) a x) s same old new r
     (subst (λ (t : List ℕ). Writes old new r t) i.text w)
     (IfOk-weaker r _ _ (λ fine e. e ∙ sym (some_map line) ∙ i.fine) q)

@@ -9,7 +9,7 @@ use Rattle.command_lines.specs.Openings.{start_refused}
 use Rattle.command_lines.specs.declared.StartFault.{StartFault}
 use Rattle.command_lines.specs.declared.faults.LineFault.{LineFault}
 use Rattle.command_lines.specs.declared.faults.LineFault.TheVariants.{Text, Start, Memory}
-use Rattle.text_lines.specs.declared.faults.ScriptFault.{ScriptFault}
+use Rattle.text_lines.specs.declared.faults.StreamFault.{StreamFault}
 use Rattle.command_lines.specs.declared.grammar.Task.{Task}
 use Rattle.command_lines.specs.Commands.{LineAsks, asked_by}
 use Rattle.text_lines.specs.Lines.{spoken, count_of_all, LosesLines, LosesInto, HasNoLine, MayEndIn, GoesPastFor}
@@ -84,7 +84,7 @@ ReadsHeaders input rest most left headers = (ls : List (List ℕ)) × LosesLines
     × (most ≡ left + count_of_all ls) × OpensHeaders (spoken ls) rest headers
 
 -- no further line is read: lines that print nothing are lost, and a part of the next
-abbrev pub StopsOpening : Option (List ℕ) → Option (List ℕ) → ℕ → ScriptFault → Type 0
+abbrev pub StopsOpening : Option (List ℕ) → Option (List ℕ) → ℕ → StreamFault → Type 0
 StopsOpening input rest most f = (ls : List (List ℕ)) × (part : List ℕ) × PrintsOn (spoken ls) []
     × LosesInto input rest ls part × MayEndIn f part × GoesPastFor f input most ls
 

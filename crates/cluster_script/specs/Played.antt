@@ -12,13 +12,13 @@ use Rattle.cluster_world.specs.Held.{Held}
 use Rattle.cluster_world.specs.Seen.{opening_of, seen}
 use Rattle.command_lines.specs.declared.faults.LineFault.{LineFault}
 use Rattle.command_lines.specs.declared.faults.LineFault.TheVariants.{Memory}
-use Rattle.text_lines.specs.declared.faults.ScriptFault.{ScriptFault}
-use Rattle.text_lines.specs.declared.faults.ScriptFault.TheVariants.{Read, TooManyLines}
+use Rattle.text_lines.specs.declared.faults.StreamFault.{StreamFault}
+use Rattle.text_lines.specs.declared.faults.StreamFault.TheVariants.{Read, TooManyLines}
 use Rattle.text_lines.specs.declared.faults.WriteFault.{WriteFault}
 use Rattle.text_lines.specs.declared.lines.Line.{Line}
 use Rattle.text_lines.specs.Lines.{spoken, count_of_all, IsKept, LosesLines, LosesInto, HasNoLine, MayEndIn, GoesPastFor}
-use Rattle.command_lines.specs.Printing.{Shows, answers_text, shown_text, is_fine, is_fine_output, output_line, error_line, refusal_word}
-use Rattle.text_lines.specs.Writing.{AppendsPart}
+use Rattle.command_lines.specs.Printing.{Shows, answers_text, shown_text, is_fine, is_fine_output, output_line, error_line, refusal_word, word_of}
+use Rattle.text_lines.specs.Writing.{AppendsPart, Growth}
 use Rattle.cluster_script.specs.Script.{Outcome, Plays, Fails, Breaks, ComesTo, AllComeTo, settle_limit, behind, behind_all, shown, shown_all}
 
 -- what is printed for a line on what is held
@@ -87,6 +87,16 @@ abbrev pub line_or_refusal : Held → ℕ → Option (List ℕ) → List ℕ
 line_or_refusal h a None = error_line (refusal_word (hidden_by h a))
 line_or_refusal h a (Some line) = line
 
+-- the same, or where memory was refused for it that
+abbrev pub text_for : {E : Type 0} → Held → ℕ → Result (Option (List ℕ)) E → List ℕ
+text_for h a (Ok line) = line_or_refusal h a line
+text_for h a (Err f) = error_line (word_of Memory)
+
+-- there is a line
+abbrev pub has_line : {A E : Type 0} → Result (Option A) E → Bool
+has_line (Ok line) = is_some line
+has_line (Err f) = false
+
 -- the line that shows x of node a, or none where x isn't shown
 pub record IsShown (h : Held) (a : ℕ) (x : Output) (line : Option (List ℕ)) : Type 0 where
   pub text : line_or_refusal h a line ≡ output_line (shown_at (opening_of h) settle_limit (seen h) a x)
@@ -99,7 +109,7 @@ ReadsOn old new most left (Some kept) = (ls : List (List ℕ)) × (line : List �
     × (most ≡ left + count_of_all ls)
 
 -- no further line is read: empty ones are lost, and a part of the next
-abbrev pub StopsReading : Option (List ℕ) → Option (List ℕ) → ℕ → ScriptFault → Type 0
+abbrev pub StopsReading : Option (List ℕ) → Option (List ℕ) → ℕ → StreamFault → Type 0
 StopsReading input rest most f = (ls : List (List ℕ)) × (part : List ℕ) × (spoken ls ≡ [])
     × LosesInto input rest ls part × MayEndIn f part × GoesPastFor f input most ls
 
@@ -124,10 +134,6 @@ Delivers old new e before after (Ok true) = (opening_of new ≡ opening_of old) 
 Delivers old new e before after (Ok false) = (opening_of new ≡ opening_of old) × (seen new ≡ seen old) × (after ≡ before)
 Delivers old new e before after (Err f) = AppendsPart before after (answers_text (answers (opening_of old) (seen old) e))
 
--- how known bytes grow by a text: by all of it, or by a part
-abbrev pub Growth : Type 1
-Growth = Option (List ℕ) → Option (List ℕ) → List ℕ → Type 0
-
 -- This came of what was read already, and some first lines were lost and played; what they print was written, or a part of
 -- it; of the next line a part was lost
 pub record PlaysSome (Grows : Growth) (first : List Outcome) (input rest : Option (List ℕ)) (old : Held)
@@ -141,7 +147,7 @@ pub record PlaysSome (Grows : Growth) (first : List Outcome) (input rest : Optio
 
 -- only some first lines were played: all is written that they print, unless it is the writer or memory that failed
 abbrev pub StopsPlaying : List Outcome → Option (List ℕ) → Option (List ℕ) → ℕ → Held → Option (List ℕ)
-    → Option (List ℕ) → ScriptFault → Type 0
+    → Option (List ℕ) → StreamFault → Type 0
 StopsPlaying first input rest most old before after TooManyLines =
     (s : PlaysSome Appends first input rest old before after) × MayEndIn TooManyLines s.part
     × GoesPastFor TooManyLines input most s.taken
@@ -152,13 +158,13 @@ StopsPlaying first input rest most old before after f =
 
 -- lines were played, and what they print was written; or after a fault some first lines were
 abbrev pub PlaysAll : List Outcome → Option (List ℕ) → Option (List ℕ) → ℕ → ℕ → Held → Held
-    → Option (List ℕ) → Option (List ℕ) → Result Bool ScriptFault → Type 0
+    → Option (List ℕ) → Option (List ℕ) → Result Bool StreamFault → Type 0
 PlaysAll first input rest most left old new before after (Ok fine) =
     PlaysLines first input rest most left old new before after fine × HasNoLine rest
 PlaysAll first input rest most left old new before after (Err f) = StopsPlaying first input rest most old before after f
 
 -- the same, where something was read already as this
 abbrev pub PlaysBehind : List (Result ScriptLine LineFault) → Option (List ℕ) → Option (List ℕ) → ℕ → ℕ → Held → Held
-    → Option (List ℕ) → Option (List ℕ) → Result Bool ScriptFault → Type 0
+    → Option (List ℕ) → Option (List ℕ) → Result Bool StreamFault → Type 0
 PlaysBehind asked input rest most left old new before after r = (first : List Outcome) × AllComeOf asked first
     × PlaysAll first input rest most left old new before after r

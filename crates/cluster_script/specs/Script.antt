@@ -12,8 +12,8 @@ use Rattle.command_lines.specs.Openings.{start_refused}
 use Rattle.command_lines.specs.Openings.{opening_with}
 use Rattle.command_lines.specs.declared.faults.LineFault.{LineFault}
 use Rattle.command_lines.specs.declared.faults.LineFault.TheVariants.{BadLine, Text, Start, Memory}
-use Rattle.text_lines.specs.declared.faults.ScriptFault.{ScriptFault}
-use Rattle.text_lines.specs.declared.faults.ScriptFault.TheVariants as stop
+use Rattle.text_lines.specs.declared.faults.StreamFault.{StreamFault}
+use Rattle.text_lines.specs.declared.faults.StreamFault.TheVariants as stop
 use Rattle.command_lines.specs.declared.StartFault.{StartFault}
 use Rattle.text_lines.specs.Lines.{HasLines, spoken, count_of_all, most_lines, LosesLines, LosesInto, HasNoLine, HasNoFeed, IsWithinLine, GoesPast}
 use Rattle.text_lines.specs.Words.{words}
@@ -252,7 +252,7 @@ pub record StoppedWithin (input rest old new : Option (List ℕ)) : Type 0 where
   pub wrote : AppendsPart old new (shown_text out)
 
 -- A script of this input ended with a fault: with too many lines, where the next one takes the count past the most
-abbrev pub Stopped : Option (List ℕ) → Option (List ℕ) → Option (List ℕ) → Option (List ℕ) → ScriptFault → Type 0
+abbrev pub Stopped : Option (List ℕ) → Option (List ℕ) → Option (List ℕ) → Option (List ℕ) → StreamFault → Type 0
 Stopped input rest old new stop.TooManyLines = (s : StoppedBetween input rest old new) × IsWithinLine s.part
     × GoesPast input most_lines s.first
 Stopped input rest old new stop.Read = (s : StoppedBetween input rest old new) × HasNoFeed s.part

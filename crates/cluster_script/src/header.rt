@@ -15,7 +15,7 @@ use name_table::IndexTable;
 use std::alloc::{AllocError, Global};
 use std::io::{BufReader, Read, Write};
 use term::{NodeName, parse_node};
-use text_lines::{Line, ScriptFault, first_words, words_of};
+use text_lines::{Line, StreamFault, first_words, words_of};
 
 /// The world that a script plays on. Its tables are found by hashing.
 pub(crate) type ScriptWorld = World<IndexTable<Global>>;
@@ -155,7 +155,7 @@ fn read_behind<R: Read, W: Write>(
     writer: &mut W,
     cluster: Cluster,
     left: &mut u32,
-) -> Result<Headers, ScriptFault>
+) -> Result<Headers, StreamFault>
     requires most { left.old ≤ most_lines }
     requires opening { Starts cluster.nodes.items [] (Ok cluster.world) }
     ensures read { MatchResult result
@@ -178,7 +178,7 @@ pub(crate) fn read_headers<R: Read, W: Write>(
     reader: &mut BufReader<R, Global>,
     writer: &mut W,
     left: &mut u32,
-) -> Result<Headers, ScriptFault>
+) -> Result<Headers, StreamFault>
     requires { left.old ≤ most_lines }
     ensures read { MatchResult result
         (ReadsHeaders (reader_remaining R.remaining reader.old) (reader_remaining R.remaining reader.new)

@@ -10,4 +10,4 @@ mod script;
 
 pub use laws::one_end;
 pub use script::run_script;
-pub use text_lines::ScriptFault;
+pub use text_lines::StreamFault as ScriptFault;

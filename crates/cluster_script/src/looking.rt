@@ -1,9 +1,10 @@
 //! What a script shows of a node.
-ghost use Rattle.std.specs.Prelude.{◌≡◌, IfOk, Ok, is_some, option_map, string_bytes};
+ghost use Rattle.std.specs.Prelude.{◌≡◌, IfOk, Ok, option_map, string_bytes};
 ghost use Rattle.protocol_model.specs.Script.{TableAt, MembersAt};
 ghost use Rattle.command_lines.specs.Printing.{error_line, refusal_word};
 ghost use Rattle.text_lines.specs.Writing.{Writes};
-ghost use Rattle.cluster_script.specs.Played.{PlaysAsked, IsShown, table_of, members_of, hidden_by, line_or_refusal};
+ghost use Rattle.cluster_script.specs.Script.{made_of};
+ghost use Rattle.cluster_script.specs.Played.{PlaysAsked, IsShown, table_of, members_of, hidden_by, text_for, has_line};
 
 use crate::header::ScriptWorld;
 use crate::refusing::refuse_memory;
@@ -65,21 +66,22 @@ fn write_shown<W: Write>(
     writer: &mut W,
     world: &ScriptWorld,
     node: &NodeName,
-    line: Option<String>,
+    line: Result<Option<String>, AllocError>,
 ) -> Result<bool, WriteFault>
     ensures text { Writes (W.contents writer.old) (W.contents writer.new) result
-        (line_or_refusal world.now node.now (option_map string_bytes line)) }
-    ensures fine { IfOk result (λ fine. fine ≡ is_some line) }
+        (text_for world.now node.now (made_of (option_map string_bytes) line)) }
+    ensures fine { IfOk result (λ fine. fine ≡ has_line line) }
 {
     match line {
-        Some(line) => {
+        Ok(Some(line)) => {
             write_text(writer, line.as_bytes())?;
             Ok(true)
         }
-        None => {
+        Ok(None) => {
             write_text(writer, hidden_line(world, node).as_bytes())?;
             Ok(false)
         }
+        Err(AllocError) => refuse_memory(writer),
     }
 }
 
@@ -92,10 +94,7 @@ pub(crate) fn show_table<W: Write>(
 ) -> Result<bool, WriteFault>
     ensures { PlaysAsked (Ok (TableAt node.now)) world.now world.now (W.contents writer.old) (W.contents writer.new) result }
 {
-    match line_of_table(alloc, world, node) {
-        Ok(line) => write_shown(writer, world, node, line),
-        Err(AllocError) => refuse_memory(writer),
-    }
+    write_shown(writer, world, node, line_of_table(alloc, world, node))
 }
 
 /// Writes the members of a node, or why it is refused: whether it isn't.
@@ -107,8 +106,5 @@ pub(crate) fn show_members<W: Write>(
 ) -> Result<bool, WriteFault>
     ensures { PlaysAsked (Ok (MembersAt node.now)) world.now world.now (W.contents writer.old) (W.contents writer.new) result }
 {
-    match line_of_members(alloc, world, node) {
-        Ok(line) => write_shown(writer, world, node, line),
-        Err(AllocError) => refuse_memory(writer),
-    }
+    write_shown(writer, world, node, line_of_members(alloc, world, node))
 }

@@ -7,7 +7,7 @@ ghost use Rattle.cluster_script.specs.Played.{ReadsOn, StopsReading};
 
 use std::alloc::Global;
 use std::io::{BufReader, Read, Write};
-use text_lines::{Line, ScriptFault, is_blank, read_line};
+use text_lines::{Line, StreamFault, is_blank, read_line};
 
 /// Reads on to the next line that isn't empty. `left` says how many more lines may come. What was written is handed on
 /// before the reader waits. The line is kept in the memory of `room`.
@@ -17,7 +17,7 @@ pub(crate) fn next_line<R: Read, W: Write>(
     reader: &mut BufReader<R, Global>,
     writer: &mut W,
     left: &mut u32,
-) -> Result<Option<Line>, ScriptFault>
+) -> Result<Option<Line>, StreamFault>
     requires { left.old ≤ most_lines }
     ensures read { MatchResult result
         (ReadsOn (reader_remaining R.remaining reader.old) (reader_remaining R.remaining reader.new) left.old left.new)

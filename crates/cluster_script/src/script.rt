@@ -24,7 +24,7 @@ use command_lines::{
 use std::alloc::Global;
 use std::io::{BufReader, Read, Write};
 use term::NodeName;
-use text_lines::{Line, MOST_LINES, ScriptFault, WriteFault, write_text};
+use text_lines::{Line, MOST_LINES, StreamFault, WriteFault, write_text};
 
 /// The most deliveries of one `settle`.
 const SETTLE_LIMIT: u32 = 100_000;
@@ -190,7 +190,7 @@ fn play_lines<R: Read, W: Write>(
     writer: &mut W,
     world: &mut ScriptWorld,
     left: &mut u32,
-) -> Result<bool, ScriptFault>
+) -> Result<bool, StreamFault>
     requires { left.old ≤ most_lines }
     ensures { PlaysAll [] (reader_remaining R.remaining reader.old) (reader_remaining R.remaining reader.new)
         left.old left.new world.old world.new (W.contents writer.old) (W.contents writer.new) result }
@@ -213,7 +213,7 @@ fn play_all<R: Read, W: Write>(
     world: &mut ScriptWorld,
     first: Option<Result<Task, LineFault>>,
     left: &mut u32,
-) -> Result<bool, ScriptFault>
+) -> Result<bool, StreamFault>
     requires { left.old ≤ most_lines }
     ensures { PlaysBehind (asked_first first) (reader_remaining R.remaining reader.old) (reader_remaining R.remaining reader.new)
         left.old left.new world.old world.new (W.contents writer.old) (W.contents writer.new) result }
@@ -244,7 +244,7 @@ pub fn run_script<R: Read, W: Write>(
     alloc: Global,
     reader: &mut BufReader<R, Global>,
     writer: &mut W,
-) -> Result<bool, ScriptFault>
+) -> Result<bool, StreamFault>
     ensures { MatchResult result
         (Ran (reader_remaining R.remaining reader.old) (reader_remaining R.remaining reader.new)
         (W.contents writer.old) (W.contents writer.new))

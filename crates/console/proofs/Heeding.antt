@@ -3,13 +3,13 @@ use Rattle.std.proofs.Common.{ℕ, Bool, true, false, List, [], ◌∷◌, ◌++
 use Rattle.std.specs.Prelude.{◌⊎◌}
 use Rattle.text_lines.specs.declared.faults.WriteFault.{WriteFault}
 use Rattle.text_lines.specs.declared.faults.WriteFault.TheVariants as write
-use Rattle.console.specs.declared.faults.ConsoleFault.{ConsoleFault}
-use Rattle.console.specs.declared.faults.ConsoleFault.TheVariants.{Write, Memory}
-use Rattle.console.specs.Faults.{fault_of_write}
+use Rattle.text_lines.specs.Writing.{stop_of}
+use Rattle.text_lines.specs.declared.faults.StreamFault.{StreamFault}
+use Rattle.text_lines.specs.declared.faults.StreamFault.TheVariants.{Write, Memory}
 use Rattle.console.specs.Consoles.{Answering, AnswersLine, AnswersAll}
 
 -- why a text wasn't written
-pub unwritten : (f : WriteFault) (y : ConsoleFault) → y ≡ fault_of_write f → (y ≡ Write) ⊎ (y ≡ Memory)
+pub unwritten : (f : WriteFault) (y : StreamFault) → y ≡ stop_of f → (y ≡ Write) ⊎ (y ≡ Memory)
 unwritten write.Writer y e = inl e
 unwritten write.Memory y e = inr e
 

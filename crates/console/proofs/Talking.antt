@@ -4,15 +4,12 @@ use Rattle.std.specs.List.{concat}
 use Rattle.std.proofs.lemmas.List.Folds.{concat-append}
 use Rattle.std.specs.Io.KnownBytes.{Appends, Keeps}
 use Rattle.std.proofs.KnownBytes.{Appends-nil, Appends-trans, Appends-kept}
-use Rattle.text_lines.specs.declared.faults.ScriptFault.{ScriptFault}
-use Rattle.text_lines.specs.declared.faults.ScriptFault.TheVariants as script
+use Rattle.text_lines.specs.declared.faults.StreamFault.{StreamFault}
+use Rattle.text_lines.specs.declared.faults.StreamFault.TheVariants.{Read, Write, TooManyLines, Memory}
 use Rattle.text_lines.specs.Lines.{LosesLines, LosesInto, LosesWithinLine, HasNoLine, StopsAtLine, GoesPast, most_lines, count_of, count_of_all}
 use Rattle.text_lines.specs.Writing.{AppendsPart}
 use Rattle.text_lines.proofs.Known.{LosesLines-nil, LosesLines-trans, LosesInto-whole, LosesInto-behind, GoesPast-behind, MayEndIn-none, count_of_all-append}
 use Rattle.text_lines.proofs.Written.{AppendsPart-behind}
-use Rattle.console.specs.Faults.{fault_by}
-use Rattle.console.specs.declared.faults.ConsoleFault.{ConsoleFault}
-use Rattle.console.specs.declared.faults.ConsoleFault.TheVariants.{Memory}
 use Rattle.console.specs.Consoles.{Answering, AnswersLine, AnswersAll, Serves, ServesSome, ServesSoFar, Stops, Tells, TellStops}
 use Rattle.console.proofs.Heeding.{AnswersAll-push}
 
@@ -85,20 +82,16 @@ module _ {S : Type 0} (answers : Answering S) where
       }
 
     -- the next line isn't read
-    Stops-unread : (f : ScriptFault) → StopsAtLine mid rest left f → Stops answers input rest old new s t (fault_by f)
-    Stops-unread script.Read g = (so_far g.0 (mid, LosesLines-nil mid, g.1), g.2)
-    Stops-unread script.TooManyLines g = (
+    pub Stops-reading : (f : StreamFault) → StopsAtLine mid rest left f → Stops answers input rest old new s t f
+    Stops-reading Read g = (so_far g.0 (mid, LosesLines-nil mid, g.1), g.2)
+    Stops-reading TooManyLines g = (
       so_far g.0 (mid, LosesLines-nil mid, g.1),
       g.2,
       subst (λ (ls : List (List ℕ)). GoesPast input most_lines ls) (append-nil P.taken)
           (GoesPast-behind input mid P.taken [] most_lines left P.read P.counted g.3),
     )
-    Stops-unread script.Write g = (false, some_so_far g.0 (mid, LosesLines-nil mid, g.1), g.2)
-    Stops-unread script.Memory g = (false, some_so_far g.0 (mid, LosesLines-nil mid, g.1), g.2)
-
-    pub Stops-reading : (f : ScriptFault) (y : ConsoleFault) → y ≡ fault_by f → StopsAtLine mid rest left f
-        → Stops answers input rest old new s t y
-    Stops-reading f y e g = subst (λ (h : ConsoleFault). Stops answers input rest old new s t h) (sym e) (Stops-unread f g)
+    Stops-reading Write g = (false, some_so_far g.0 (mid, LosesLines-nil mid, g.1), g.2)
+    Stops-reading Memory g = (false, some_so_far g.0 (mid, LosesLines-nil mid, g.1), g.2)
 
     module _ (line : List ℕ) (l : LosesLines mid rest (line ∷ [])) where
       -- one line more
@@ -171,16 +164,16 @@ module _ {S : Type 0} (answers : Answering S) where
             other z = cc
 
         -- its answer isn't written, or not wholly
-        pub Stops-telling : (f : ConsoleFault) → LosesWithinLine mid rest → TellStops answers line new told t u f
+        pub Stops-telling : (f : StreamFault) → LosesWithinLine mid rest → TellStops answers line new told t u f
             → Stops answers input rest old told s u f
         Stops-telling f b w = elim w [
           | inl x ↦ elim x.fault_is [
-            | inl e ↦ subst (λ (g : ConsoleFault). Stops answers input rest old told s u g) (sym e)
-                (x.quits, cut x.text u x.quits x.answered told x.wrote, MayEndIn-none script.Write)
-            | inr e ↦ subst (λ (g : ConsoleFault). Stops answers input rest old told s u g) (sym e)
-                (x.quits, cut x.text u x.quits x.answered told x.wrote, MayEndIn-none script.Memory)
+            | inl e ↦ subst (λ (g : StreamFault). Stops answers input rest old told s u g) (sym e)
+                (x.quits, cut x.text u x.quits x.answered told x.wrote, MayEndIn-none Write)
+            | inr e ↦ subst (λ (g : StreamFault). Stops answers input rest old told s u g) (sym e)
+                (x.quits, cut x.text u x.quits x.answered told x.wrote, MayEndIn-none Memory)
           ]
-          | inr x ↦ subst (λ (g : ConsoleFault). Stops answers input rest old told s u g) (sym x.fault_is)
+          | inr x ↦ subst (λ (g : StreamFault). Stops answers input rest old told s u g) (sym x.fault_is)
               (subst (λ (v : S). Stops answers input rest old told s v Memory) (sym x.same)
               (false, dropped x.wrote, b.2))
         ]

@@ -6,20 +6,16 @@ use Rattle.command_lines.specs.declared.Reply.{Reply}
 use Rattle.node_seats.specs.declared.fault.SeatFault.{SeatFault}
 use Rattle.command_lines.specs.declared.faults.LineFault.{LineFault}
 use Rattle.command_lines.specs.Printing.{error_line, word_of}
+use Rattle.text_lines.specs.declared.faults.StreamFault.{StreamFault}
+use Rattle.text_lines.specs.declared.faults.StreamFault.TheVariants.{Read, Write, TooManyLines, Memory}
 use Rattle.text_lines.specs.Lines.{LosesLines, LosesInto, HasNoLine, HasNoFeed, IsWithinLine, GoesPast, count_of_all, most_lines}
-use Rattle.text_lines.specs.Writing.{AppendsPart}
+use Rattle.text_lines.specs.Writing.{AppendsPart, Growth}
 use Rattle.console.specs.Commands.{LineSays}
 use Rattle.console.specs.Greetings.{okay}
 use Rattle.console.specs.Outcomes.{outcome_text}
-use Rattle.console.specs.declared.faults.ConsoleFault.{ConsoleFault}
-use Rattle.console.specs.declared.faults.ConsoleFault.TheVariants.{Read, Write, TooManyLines, Memory}
 use Rattle.console.specs.declared.orders.Order.{Order}
 use Rattle.console.specs.declared.orders.Command.{Command}
 use Rattle.console.specs.declared.orders.Command.TheVariants.{Ask, Quit}
-
--- how known bytes grow by a text: by all of it, or by a part
-abbrev pub Growth : Type 1
-Growth = Option (List ℕ) → Option (List ℕ) → List ℕ → Type 0
 
 -- what an order may be answered, and what is left then
 abbrev pub Answering : Type 0 → Type 1
@@ -66,7 +62,7 @@ module _ {S : Type 0} (answers : Answering S) where
     pub wrote : Grows old new (concat texts)
 
   -- A console of this input ended with a fault: all its answers are written, unless the writer or memory failed
-  abbrev pub Stops : Option (List ℕ) → Option (List ℕ) → Option (List ℕ) → Option (List ℕ) → S → S → ConsoleFault → Type 0
+  abbrev pub Stops : Option (List ℕ) → Option (List ℕ) → Option (List ℕ) → Option (List ℕ) → S → S → StreamFault → Type 0
   Stops input rest old new s t Read = (some : ServesSome Appends input rest old new s t false) × HasNoFeed some.part
   Stops input rest old new s t TooManyLines = (some : ServesSome Appends input rest old new s t false)
       × IsWithinLine some.part × GoesPast input most_lines some.taken
@@ -84,7 +80,7 @@ module _ {S : Type 0} (answers : Answering S) where
   Tells line old new s t quits = (text : List ℕ) × AnswersLine line s text t quits × Appends old new text
 
   -- it was answered, and a part of the text was written
-  pub record CutsLine (line : List ℕ) (old new : Option (List ℕ)) (s t : S) (f : ConsoleFault) : Type 0 where
+  pub record CutsLine (line : List ℕ) (old new : Option (List ℕ)) (s t : S) (f : StreamFault) : Type 0 where
     pub text : List ℕ
     pub quits : Bool
     pub answered : AnswersLine line s text t quits
@@ -92,12 +88,12 @@ module _ {S : Type 0} (answers : Answering S) where
     pub fault_is : (f ≡ Write) ⊎ (f ≡ Memory)
 
   -- memory was refused before anything was asked
-  pub record DropsLine (old new : Option (List ℕ)) (s t : S) (f : ConsoleFault) : Type 0 where
+  pub record DropsLine (old new : Option (List ℕ)) (s t : S) (f : StreamFault) : Type 0 where
     pub same : t ≡ s
     pub fault_is : f ≡ Memory
     pub wrote : Appends old new []
 
-  abbrev pub TellStops : List ℕ → Option (List ℕ) → Option (List ℕ) → S → S → ConsoleFault → Type 0
+  abbrev pub TellStops : List ℕ → Option (List ℕ) → Option (List ℕ) → S → S → StreamFault → Type 0
   TellStops line old new s t f = CutsLine line old new s t f ⊎ DropsLine old new s t f
 
   -- lines were read and answered, and this many may follow

@@ -8,13 +8,12 @@ use Rattle.command_lines.specs.declared.faults.LineFault.{LineFault}
 use Rattle.command_lines.specs.declared.faults.LineFault.TheVariants.{Text}
 use Rattle.command_lines.specs.Commands.{unread}
 use Rattle.command_lines.specs.Printing.{ended, error_line}
-use Rattle.text_lines.specs.declared.faults.ScriptFault.{ScriptFault}
+use Rattle.text_lines.specs.declared.faults.StreamFault.{StreamFault}
+use Rattle.text_lines.specs.declared.faults.StreamFault.TheVariants.{Write, Memory}
 use Rattle.text_lines.specs.Lines.{LosesLines, HasNoLine, StopsAtLine, most_lines}
 use Rattle.text_lines.specs.Words.{words}
 use Rattle.text_lines.specs.Writing.{AppendsPart}
-use Rattle.console.specs.Faults.{fault_by, greet_word}
-use Rattle.console.specs.declared.faults.ConsoleFault.{ConsoleFault}
-use Rattle.console.specs.declared.faults.ConsoleFault.TheVariants.{Write, Memory}
+use Rattle.console.specs.Faults.{greet_word}
 use Rattle.console.specs.declared.faults.GreetFault.{GreetFault}
 use Rattle.console.specs.declared.faults.GreetFault.TheVariants.{Line, NotAttached, NoSuchNode}
 
@@ -81,12 +80,11 @@ Greets nodes input rest old new found =
     AnswersFirst nodes input rest old new found ⊎ HasNoFirst input rest old new found
 
 -- the first line wasn't read, and nothing was written
-abbrev pub StopsFirst : Option (List ℕ) → Option (List ℕ) → Option (List ℕ) → Option (List ℕ) → ConsoleFault → Type 0
-StopsFirst input rest old new f =
-    (cause : ScriptFault) × (f ≡ fault_by cause) × StopsAtLine input rest most_lines cause × Keeps old new
+abbrev pub StopsFirst : Option (List ℕ) → Option (List ℕ) → Option (List ℕ) → Option (List ℕ) → StreamFault → Type 0
+StopsFirst input rest old new f = StopsAtLine input rest most_lines f × Keeps old new
 
 -- it was read, and a part of its answer was written
-pub record CutsFirst (nodes : List ℕ) (input rest old new : Option (List ℕ)) (f : ConsoleFault) : Type 0 where
+pub record CutsFirst (nodes : List ℕ) (input rest old new : Option (List ℕ)) (f : StreamFault) : Type 0 where
   pub line : List ℕ
   pub answer : Result ℕ GreetFault
   pub read : LosesLines input rest (line ∷ [])
@@ -95,6 +93,6 @@ pub record CutsFirst (nodes : List ℕ) (input rest old new : Option (List ℕ))
   pub fault_is : (f ≡ Write) ⊎ (f ≡ Memory)
 
 -- A console wasn't greeted
-abbrev pub GreetStops : List ℕ → Option (List ℕ) → Option (List ℕ) → Option (List ℕ) → Option (List ℕ) → ConsoleFault → Type 0
+abbrev pub GreetStops : List ℕ → Option (List ℕ) → Option (List ℕ) → Option (List ℕ) → Option (List ℕ) → StreamFault → Type 0
 GreetStops nodes input rest old new f =
     StopsFirst input rest old new f ⊎ CutsFirst nodes input rest old new f

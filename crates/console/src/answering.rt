@@ -1,37 +1,16 @@
 //! Lines, answered one after the other.
 ghost use Rattle.std.specs.Prelude.{◌≡◌, ℕ, List, string_bytes, MatchResult};
-ghost use Rattle.std.specs.Io.KnownBytes.{Keeps};
 ghost use Rattle.std.specs.Io.Buffered.{reader_remaining};
 ghost use Rattle.text_lines.specs.Lines.{IsKept};
-ghost use Rattle.text_lines.specs.Writing.{Writes};
 ghost use Rattle.console.specs.Consoles.{AnswersLine, MayAnswer, Tells, TellStops, Serves, Stops};
 
 use crate::attendant::Attendant;
 use crate::commands::read_command;
-use crate::faults::ConsoleFault;
 use crate::orders::Command;
 use crate::outcomes::outcome_line;
 use std::alloc::{AllocError, Global};
 use std::io::{BufReader, Read, Write};
-use text_lines::{Line, MOST_LINES, WriteFault, read_line, write_text};
-
-/// Hands on what was written.
-fn hand_on<W: Write>(writer: &mut W) -> Result<(), WriteFault>
-    ensures { Keeps (W.contents writer.old) (W.contents writer.new) }
-{
-    match writer.flush() {
-        Ok(()) => Ok(()),
-        Err(_) => Err(WriteFault::Writer),
-    }
-}
-
-/// Writes a line, and hands it on at once: what comes next may wait for long.
-pub(crate) fn say<W: Write>(writer: &mut W, line: &[u8]) -> Result<(), WriteFault>
-    ensures { Writes (W.contents writer.old) (W.contents writer.new) result line.now }
-{
-    write_text(writer, line)?;
-    hand_on(writer)
-}
+use text_lines::{Line, MOST_LINES, StreamFault, read_line, tell};
 
 /// Has a line answered: the text, and whether it ends the console.
 fn reply_to<A: Attendant>(
@@ -60,13 +39,13 @@ fn answer<W: Write, A: Attendant>(
     writer: &mut W,
     attendant: &mut A,
     line: &Line,
-) -> Result<bool, ConsoleFault>
+) -> Result<bool, StreamFault>
     ensures { (bytes : List ℕ) → IsKept bytes line.now → MatchResult result
         (Tells A.answers bytes (W.contents writer.old) (W.contents writer.new) (A.state attendant.old) (A.state attendant.new))
         (TellStops A.answers bytes (W.contents writer.old) (W.contents writer.new) (A.state attendant.old) (A.state attendant.new)) }
 {
     let (text, quits) = reply_to(alloc, attendant, line)?;
-    say(writer, text.as_bytes())?;
+    tell(writer, text.as_bytes())?;
     Ok(quits)
 }
 
@@ -80,7 +59,7 @@ pub fn answer_lines<R: Read, W: Write, A: Attendant>(
     reader: &mut BufReader<R, Global>,
     writer: &mut W,
     attendant: &mut A,
-) -> Result<(), ConsoleFault>
+) -> Result<(), StreamFault>
     ensures { MatchResult result
         (λ _. Serves A.answers (reader_remaining R.remaining reader.old) (reader_remaining R.remaining reader.new)
         (W.contents writer.old) (W.contents writer.new) (A.state attendant.old) (A.state attendant.new))

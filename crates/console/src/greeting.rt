@@ -7,15 +7,14 @@ ghost use Rattle.command_lines.specs.Printing.{error_line};
 ghost use Rattle.console.specs.Greetings.{WordsAttach, LineAttaches, Greets, GreetStops, greeting_text};
 ghost use Rattle.console.specs.Outcomes.{seat_word};
 
-use crate::answering::say;
-use crate::faults::{ConsoleFault, GreetFault};
+use crate::faults::GreetFault;
 use crate::outcomes::seat_line;
 use command_lines::text_of;
 use node_seats::SeatFault;
 use std::alloc::{AllocError, Global};
 use std::io::{BufReader, Read, Write};
 use term::{NodeName, NodeSet, parse_node};
-use text_lines::{Line, MOST_LINES, WriteFault, first_words, read_line};
+use text_lines::{Line, MOST_LINES, StreamFault, WriteFault, first_words, read_line, tell};
 
 /// To which of these nodes words attach a console.
 fn read_words(words: &[&str], nodes: &NodeSet) -> Result<NodeName, GreetFault>
@@ -62,7 +61,7 @@ fn answer_first<W: Write>(
     ensures { Writes (W.contents writer.old) (W.contents writer.new) result (greeting_text answer.now) }
 {
     let text = greeting_line(alloc, answer)?;
-    say(writer, text.as_bytes())
+    tell(writer, text.as_bytes())
 }
 
 /// Reads the first line of a console, `attach` with the name of one of these nodes, and answers it: which node it is.
@@ -74,7 +73,7 @@ pub fn greet<R: Read, W: Write>(
     reader: &mut BufReader<R, Global>,
     writer: &mut W,
     nodes: &NodeSet,
-) -> Result<Option<NodeName>, ConsoleFault>
+) -> Result<Option<NodeName>, StreamFault>
     ensures { MatchResult result
         (Greets nodes.now (reader_remaining R.remaining reader.old) (reader_remaining R.remaining reader.new)
         (W.contents writer.old) (W.contents writer.new))
@@ -91,9 +90,9 @@ pub fn greet<R: Read, W: Write>(
 }
 
 /// Tells a console that was attached why it gets no seat; it ends then.
-pub fn refuse_seat<W: Write>(writer: &mut W, fault: &SeatFault) -> Result<(), ConsoleFault>
+pub fn refuse_seat<W: Write>(writer: &mut W, fault: &SeatFault) -> Result<(), StreamFault>
     ensures { Writes (W.contents writer.old) (W.contents writer.new) result (error_line (seat_word fault.now)) }
 {
-    say(writer, seat_line(fault).as_bytes())?;
+    tell(writer, seat_line(fault).as_bytes())?;
     Ok(())
 }

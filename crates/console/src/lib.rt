@@ -12,7 +12,7 @@ mod serving;
 
 pub use answering::answer_lines;
 pub use attendant::Attendant;
-pub use faults::ConsoleFault;
 pub use greeting::{greet, refuse_seat};
 pub use orders::Order;
 pub use serving::serve;
+pub use text_lines::StreamFault as ConsoleFault;

@@ -8,7 +8,6 @@ ghost use Rattle.console.specs.declared.orders.Order.TheVariants.{Whereis};
 
 use crate::answering::answer_lines;
 use crate::attendant::Attendant;
-use crate::faults::ConsoleFault;
 use crate::orders::Order;
 use command_lines::Reply;
 use node_seats::{Seat, SeatFault, Transcript};
@@ -17,6 +16,7 @@ use std::io::{BufReader, Read, Write};
 use std::sync::Wait;
 use std::time::Clock;
 use term::{Name, NodeName};
+use text_lines::StreamFault;
 
 /// A seat that answers what lines ask.
 #[derive(Drop)]
@@ -72,7 +72,7 @@ pub fn serve<R: Read, W: Write, H: Wait + Clock>(
     reader: &mut BufReader<R, Global>,
     writer: &mut W,
     seat: Seat,
-) -> Result<Transcript, (ConsoleFault, Transcript)>
+) -> Result<Transcript, (StreamFault, Transcript)>
     ensures { MatchResult result
         (λ transcript. (t : Sitting) × IsTranscript t transcript
         × Serves SeatAnswers (reader_remaining R.remaining reader.old) (reader_remaining R.remaining reader.new)

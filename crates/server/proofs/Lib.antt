@@ -1,3 +1,2 @@
 mod Gathering
 mod Leaving
-mod Partly

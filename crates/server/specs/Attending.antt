@@ -5,16 +5,16 @@ use Rattle.node_threads.specs.Seats.{Sitting}
 use Rattle.node_threads.specs.declared.SeatFault.{SeatFault}
 use Rattle.console.specs.Printing.{error_line}
 use Rattle.text_lines.specs.Writing.{AppendsPart}
+use Rattle.text_lines.specs.declared.faults.StreamFault.{StreamFault}
 use Rattle.console.specs.Consoles.{Serves, Stops}
 use Rattle.console.specs.Greetings.{Greets, GreetStops}
 use Rattle.console.specs.Outcomes.{seat_word}
 use Rattle.console.specs.Seats.{SeatAnswers, IsTranscript}
-use Rattle.console.specs.declared.faults.ConsoleFault.{ConsoleFault}
 
 -- the console read its lines and wrote their answers so, until it ended well or with a fault
 abbrev pub Talks : Option (List ℕ) → Option (List ℕ) → Option (List ℕ) → Option (List ℕ) → Sitting → Sitting → Type 0
 Talks input rest old new s t =
-    Serves SeatAnswers input rest old new s t ⊎ ((f : ConsoleFault) × Stops SeatAnswers input rest old new s t f)
+    Serves SeatAnswers input rest old new s t ⊎ ((f : StreamFault) × Stops SeatAnswers input rest old new s t f)
 
 -- it was served at a new seat of this node, and this is the transcript
 pub record IsSeated (node : ℕ) (input rest old new : Option (List ℕ)) (transcript : Transcript) : Type 0 where
@@ -47,7 +47,7 @@ pub record IsAttached (nodes : List ℕ) (input rest old new : Option (List ℕ)
 -- it was attached to none: its first line is refused, or it has none, or that line wasn't read or answered
 pub record IsUnattached (nodes : List ℕ) (input rest old new : Option (List ℕ)) (left : Option Transcript) : Type 0 where
   pub none : left ≡ None
-  pub greeted : Greets nodes input rest old new None ⊎ ((f : ConsoleFault) × GreetStops nodes input rest old new f)
+  pub greeted : Greets nodes input rest old new None ⊎ ((f : StreamFault) × GreetStops nodes input rest old new f)
 
 -- A console of a cluster of these nodes ended, and this transcript is left of it
 abbrev pub Attends : List ℕ → Option (List ℕ) → Option (List ℕ) → Option (List ℕ) → Option (List ℕ) → Option Transcript → Type 0

@@ -1,15 +1,11 @@
 //! The line that tells how a cluster closed.
 ghost use Rattle.std.specs.Prelude.{◌≡◌, ◌++◌, IfOk, OnOk, string_bytes};
-ghost use Rattle.std.specs.Io.KnownBytes.{Keeps};
-ghost use Rattle.text_lines.specs.Writing.{Writes};
 ghost use Rattle.server.specs.Ending.{ending_line as line_of, fault_text};
 
 use name_table::Names;
 use node_threads::{CloseFault, Closed};
 use std::alloc::{AllocError, Global};
 use std::fmt::Write as _;
-use std::io::Write;
-use text_lines::{WriteFault, write_text};
 
 /// Puts the words of a fault behind a text.
 fn push_fault(text: &mut String, fault: &CloseFault) -> Result<(), AllocError>
@@ -40,15 +36,4 @@ pub(crate) fn ending_line<N: Names>(
     }
     line.push('\n')?;
     Ok(line)
-}
-
-/// Writes a line, and hands it on.
-pub(crate) fn tell<W: Write>(writer: &mut W, line: &[u8]) -> Result<(), WriteFault>
-    ensures { Writes (W.contents writer.old) (W.contents writer.new) result line.now }
-{
-    write_text(writer, line)?;
-    match writer.flush() {
-        Ok(()) => Ok(()),
-        Err(_) => Err(WriteFault::Writer),
-    }
 }

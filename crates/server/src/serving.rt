@@ -6,7 +6,7 @@ ghost use Rattle.server.specs.Serving.{ServesCluster};
 ghost use Rattle.server.specs.Served.{IsServed};
 
 use crate::desk::open_desk;
-use crate::ending::{ending_line, tell};
+use crate::ending::ending_line;
 use crate::faults::{ServeFault, TakeFault};
 use crate::served::Served;
 use crate::taking::Door;
@@ -19,6 +19,7 @@ use std::sync::Wait;
 use std::thread::Threads;
 use std::time::Clock;
 use term::{NodeName, NodeSet};
+use text_lines::tell;
 
 /// A cluster that is served: its tables hash, and no turn of its nodes is held back.
 type ServedCluster = Cluster<OpenGate, IndexTable<Global>>;

@@ -11,8 +11,8 @@ use Rattle.std.proofs.lemmas.Bool.{ne_eqb}
 use Rattle.std.proofs.lemmas.List.Elements.{All-append, All-cons, All-nil, All-head, All-tail}
 use Rattle.text_lines.specs.Lines.{HasLines, TakesByte, TakesPart, HasNoFeed, LosesLines, HasNoLine, line_of, count_for, count_of, count_of_all, spoken, is_blank, BeginsWithLines, GoesPast, GoesPastFor, LosesInto, LosesWithinLine, IsWithinLine, MayEndIn, StopsAtByte, StopsAtLine, TakesSome, TakesAtHand, IsPart}
 use Rattle.text_lines.specs.declared.lines.Part.{Part}
-use Rattle.text_lines.specs.declared.faults.ScriptFault.{ScriptFault}
-use Rattle.text_lines.specs.declared.faults.ScriptFault.TheVariants as fault
+use Rattle.text_lines.specs.declared.faults.StreamFault.{StreamFault}
+use Rattle.text_lines.specs.declared.faults.StreamFault.TheVariants as fault
 use Rattle.text_lines.proofs.Parts.{length-line_of}
 
 -- bytes, and then none: the end of a line without a line feed
@@ -280,7 +280,7 @@ GoesPast-behind a b ls ms most left t e g = (
 )
 
 -- the same, for any fault
-pub GoesPastFor-behind : (f : ScriptFault) (a b : Option (List ℕ)) (ls ms : List (List ℕ)) (most left : ℕ)
+pub GoesPastFor-behind : (f : StreamFault) (a b : Option (List ℕ)) (ls ms : List (List ℕ)) (most left : ℕ)
     → LosesLines a b ls → most ≡ left + count_of_all ls
     → GoesPastFor f b left ms → GoesPastFor f a most (ls ++ ms)
 GoesPastFor-behind fault.TooManyLines a b ls ms most left t e g = GoesPast-behind a b ls ms most left t e g
@@ -311,13 +311,13 @@ pub IsWithinLine-ended : (bytes : List ℕ) → HasNoFeed bytes → IsWithinLine
 IsWithinLine-ended bytes h = omega (arith, ap (λ (ls : List (List ℕ)). length ls) (lines-ended bytes [] h))
 
 -- a part of a line may have been read behind each fault
-pub MayEndIn-part : (f : ScriptFault) (part : List ℕ) → HasNoFeed part → MayEndIn f part
+pub MayEndIn-part : (f : StreamFault) (part : List ℕ) → HasNoFeed part → MayEndIn f part
 MayEndIn-part fault.Read part h = h
 MayEndIn-part fault.Write part h = h
 MayEndIn-part fault.TooManyLines part h = IsWithinLine-part part h
 MayEndIn-part fault.Memory part h = IsWithinLine-part part h
 
-pub MayEndIn-none : (f : ScriptFault) → MayEndIn f []
+pub MayEndIn-none : (f : StreamFault) → MayEndIn f []
 MayEndIn-none f = MayEndIn-part f [] (All-nil (λ b. (b == 10) ≡ false))
 
 -- the bytes of a line
@@ -327,11 +327,11 @@ LosesWithinLine-taken a b true bytes h t = (bytes ++ 10 ∷ [], t, IsWithinLine-
 LosesWithinLine-taken a b false bytes h t = (bytes, t.0, IsWithinLine-part bytes h)
 
 -- a byte isn't read behind bytes of a line
-pub StopsAtLine-byte : (a b c : Option (List ℕ)) (bytes : List ℕ) (left : ℕ) (f : ScriptFault) → HasNoFeed bytes
+pub StopsAtLine-byte : (a b c : Option (List ℕ)) (bytes : List ℕ) (left : ℕ) (f : StreamFault) → HasNoFeed bytes
     → Consumes a b bytes → StopsAtByte b c f → StopsAtLine a c left f
 StopsAtLine-byte a b c bytes left f h t s = elim s.0 [
-  | inl e ↦ subst (λ (g : ScriptFault). StopsAtLine a c left g) (sym e) (bytes, Consumes-kept a b c bytes t s.1, h, tt)
-  | inr e ↦ subst (λ (g : ScriptFault). StopsAtLine a c left g) (sym e) (bytes, Consumes-kept a b c bytes t s.1, h, tt)
+  | inl e ↦ subst (λ (g : StreamFault). StopsAtLine a c left g) (sym e) (bytes, Consumes-kept a b c bytes t s.1, h, tt)
+  | inr e ↦ subst (λ (g : StreamFault). StopsAtLine a c left g) (sym e) (bytes, Consumes-kept a b c bytes t s.1, h, tt)
 ]
 
 -- what the exit of a `?` says, where its fault is known

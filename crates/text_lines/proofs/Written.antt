@@ -1,5 +1,5 @@
 -- Texts that are written in parts.
-use Rattle.std.proofs.Common.{ℕ, List, [], ◌++◌, ◌≡◌, ◌≤◌, ◌-◌, Option, refl, sym, ap, ◌∙◌, append_assoc, Result, Ok, Err, length, take, drop, arith}
+use Rattle.std.proofs.Common.{ℕ, List, [], ◌++◌, ◌≡◌, ◌≤◌, ◌-◌, Option, refl, sym, ap, ◌∙◌, append-nil, append_assoc, Result, Ok, Err, length, take, drop, arith}
 use Rattle.std.specs.Io.KnownBytes.{Appends}
 use Rattle.std.proofs.KnownBytes.{Appends-trans, Appends-nil}
 use Rattle.std.proofs.lemmas.Grind.{common_steps}
@@ -34,6 +34,12 @@ AppendsPart-more a b text more p =
 -- a whole text is a part of a longer one
 pub AppendsPart-whole : (a b : Option (List ℕ)) (text more : List ℕ) → Appends a b text → AppendsPart a b (text ++ more)
 AppendsPart-whole a b text more h = (text, more, refl, h)
+
+-- a text that was written, or a part of it and a fault, is written in part
+pub Writes-partly : {A E : Type 0} (a b : Option (List ℕ)) (r : Result A E) (text : List ℕ) → Writes a b r text
+    → AppendsPart a b text
+Writes-partly a b (Ok _) text w = (text, [], sym (append-nil text), w)
+Writes-partly a b (Err _) text w = w
 
 -- what the exit of a `?` says of a text
 pub Writes-err : {A E : Type 0} (a b : Option (List ℕ)) (r : Result A E) (y : E) (text : List ℕ) → r ≡ Err y

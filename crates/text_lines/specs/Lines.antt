@@ -3,8 +3,8 @@ use Rattle.std.specs.Prelude.{ℕ, Bool, true, false, ◌+◌, ◌-◌, ◌/◌,
 use Rattle.std.specs.List.{list_all, All}
 use Rattle.std.specs.Io.KnownBytes.{Consumes, IsAtEnd, Keeps}
 use Rattle.std.specs.Str.Lines.{lines, strip_carriage_return}
-use Rattle.text_lines.specs.declared.faults.ScriptFault.{ScriptFault}
-use Rattle.text_lines.specs.declared.faults.ScriptFault.TheVariants.{Read, Write, TooManyLines, Memory}
+use Rattle.text_lines.specs.declared.faults.StreamFault.{StreamFault}
+use Rattle.text_lines.specs.declared.faults.StreamFault.TheVariants.{Read, Write, TooManyLines, Memory}
 use Rattle.text_lines.specs.declared.lines.Line.{Line}
 use Rattle.text_lines.specs.declared.lines.Line.TheVariants.{Text, TooLong}
 use Rattle.text_lines.specs.declared.lines.Part.{Part}
@@ -13,7 +13,7 @@ use Rattle.text_lines.specs.declared.lines.Part.{Part}
 abbrev pub longest_line : ℕ
 longest_line = 1024
 
--- the most lines of a script
+-- the most lines of one reader
 abbrev pub most_lines : ℕ
 most_lines = 1000000
 
@@ -124,7 +124,7 @@ TakesByte old new None = Consumes old new [] × IsAtEnd new
 TakesByte old new (Some b) = Consumes old new (b ∷ [])
 
 -- the next byte isn't read: nothing is lost
-abbrev pub StopsAtByte : Option (List ℕ) → Option (List ℕ) → ScriptFault → Type 0
+abbrev pub StopsAtByte : Option (List ℕ) → Option (List ℕ) → StreamFault → Type 0
 StopsAtByte old new f = ((f ≡ Read) ⊎ (f ≡ Write)) × Keeps old new
 
 -- known bytes lose bytes of one line at most
@@ -137,18 +137,18 @@ TakesLine old new most left None = LosesLines old new [] × HasNoLine new × (mo
 TakesLine old new most left (Some kept) = (line : List ℕ) × IsKept line kept × LosesLines old new (line ∷ [])
     × LosesWithinLine old new × (most ≡ left + count_of line)
 
--- how much of the next line may have been read where a script ends with this fault: not its end, or all of it
-abbrev pub MayEndIn : ScriptFault → List ℕ → Type 0
+-- how much of the next line may have been read where lines end with this fault: not its end, or all of it
+abbrev pub MayEndIn : StreamFault → List ℕ → Type 0
 MayEndIn Read part = HasNoFeed part
 MayEndIn Write part = HasNoFeed part
 MayEndIn TooManyLines part = IsWithinLine part
 MayEndIn Memory part = IsWithinLine part
 
--- if a script ends for too many lines behind these, the next one counts for more than may come
-abbrev pub GoesPastFor : ScriptFault → Option (List ℕ) → ℕ → List (List ℕ) → Type 0
+-- if there are too many lines behind these, the next one counts for more than may come
+abbrev pub GoesPastFor : StreamFault → Option (List ℕ) → ℕ → List (List ℕ) → Type 0
 GoesPastFor TooManyLines input most ls = GoesPast input most ls
 GoesPastFor _ input most ls = ⊤
 
 -- the next line isn't read, and a part of it is lost
-abbrev pub StopsAtLine : Option (List ℕ) → Option (List ℕ) → ℕ → ScriptFault → Type 0
+abbrev pub StopsAtLine : Option (List ℕ) → Option (List ℕ) → ℕ → StreamFault → Type 0
 StopsAtLine old new left f = (part : List ℕ) × Consumes old new part × MayEndIn f part × GoesPastFor f old left []

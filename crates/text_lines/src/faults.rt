@@ -1,17 +1,17 @@
-//! Why a script ends early.
+//! Why lines aren't read or answered to their end.
 ghost use Rattle.std.specs.Prelude.{◌≡◌};
 ghost use Rattle.text_lines.specs.Writing.{stop_of};
-ghost use Rattle.text_lines.specs.declared.faults.ScriptFault.TheVariants.{Memory};
+ghost use Rattle.text_lines.specs.declared.faults.StreamFault.TheVariants.{Memory};
 ghost use Rattle.text_lines.specs.declared.faults.WriteFault.TheVariants as write;
 
 use std::alloc::AllocError;
 use thiserror::Error;
 
-/// Why a script ended before its last line was played.
+/// Why lines aren't read to their end and answered, be they those of a script or of a console. The text doesn't say which.
 #[derive(Debug, Drop, Error)]
-pub enum ScriptFault {
+pub enum StreamFault {
     /// The reader failed: all is written that the lines before print.
-    #[error("the script can't be read")]
+    #[error("the lines can't be read")]
     Read,
     /// The writer failed: a part is written of what the lines so far print.
     #[error("the answers can't be written")]
@@ -24,11 +24,11 @@ pub enum ScriptFault {
     Memory,
 }
 
-impl From<AllocError> for ScriptFault {
+impl From<AllocError> for StreamFault {
     ghost from_gives = { λ _ e. e ≡ Memory };
 
     fn from(_: AllocError) -> Self {
-        ScriptFault::Memory
+        StreamFault::Memory
     }
 }
 
@@ -49,13 +49,13 @@ impl From<AllocError> for WriteFault {
     }
 }
 
-impl From<WriteFault> for ScriptFault {
+impl From<WriteFault> for StreamFault {
     ghost from_gives = { λ f e. e ≡ stop_of f };
 
     fn from(fault: WriteFault) -> Self {
         match fault {
-            WriteFault::Writer => ScriptFault::Write,
-            WriteFault::Memory => ScriptFault::Memory,
+            WriteFault::Writer => StreamFault::Write,
+            WriteFault::Memory => StreamFault::Memory,
         }
     }
 }

@@ -6,7 +6,7 @@ mod lines;
 mod words;
 mod writing;
 
-pub use faults::{ScriptFault, WriteFault};
+pub use faults::{StreamFault, WriteFault};
 pub use lines::{Line, MOST_LINES, is_blank, read_line};
 pub use words::{MOST_WORDS, first_words, words_of};
-pub use writing::write_text;
+pub use writing::{hand_on, tell, write_text};

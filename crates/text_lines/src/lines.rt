@@ -3,10 +3,11 @@ ghost use Rattle.std.specs.Prelude.{true, false, ◌≡◌, ◌≤◌, ◌<◌, 
 ghost use Rattle.std.specs.List.{list_all};
 ghost use Rattle.std.specs.Io.KnownBytes.{Keeps, Consumes, IsAtEnd};
 ghost use Rattle.std.specs.Io.Buffered.{reader_remaining};
-ghost use Rattle.text_lines.specs.declared.faults.ScriptFault.TheVariants as fault;
+ghost use Rattle.text_lines.specs.declared.faults.StreamFault.TheVariants as fault;
 ghost use Rattle.text_lines.specs.Lines.{IsPart, IsKept, line_of, count_for, count_of, is_blank as blank, most_lines, HasNoFeed, TakesByte, TakesPart, TakesLine, StopsAtByte, StopsAtLine, LosesLines, HasNoLine, longest_part, GrowsByBytes, TakesAtHand, room_of};
 
-use crate::faults::ScriptFault;
+use crate::faults::StreamFault;
+use crate::writing::hand_on;
 use memchr::memchr;
 use std::alloc::{AllocError, Global};
 use std::io::{BufRead, BufReader, ErrorKind, Read, Write};
@@ -57,24 +58,21 @@ fn count(len: usize) -> usize
 }
 
 /// Hands on what was written, where the reader has nothing at hand and may wait for more.
-fn hand_on<R: Read, W: Write>(
+fn hand_on_before_wait<R: Read, W: Write>(
     reader: &BufReader<R, Global>,
     writer: &mut W,
-) -> Result<(), ScriptFault>
+) -> Result<(), StreamFault>
     ensures fault { IfErr result (λ f. f ≡ fault.Write) }
     ensures kept { Keeps (W.contents writer.old) (W.contents writer.new) }
 {
-    if !reader.buffer().is_empty() {
-        return Ok(());
+    if reader.buffer().is_empty() {
+        hand_on(writer)?;
     }
-    match writer.flush() {
-        Ok(()) => Ok(()),
-        Err(_) => Err(ScriptFault::Write),
-    }
+    Ok(())
 }
 
 /// The next byte of a reader, or none at its end.
-fn take_byte<R: Read>(reader: &mut R) -> Result<Option<u8>, ScriptFault>
+fn take_byte<R: Read>(reader: &mut R) -> Result<Option<u8>, StreamFault>
     ensures { MatchResult result (TakesByte (R.remaining reader.old) (R.remaining reader.new))
         (λ f. (f ≡ fault.Read) × Keeps (R.remaining reader.old) (R.remaining reader.new)) }
 {
@@ -85,25 +83,25 @@ fn take_byte<R: Read>(reader: &mut R) -> Result<Option<u8>, ScriptFault>
             Ok(_) => return Ok(Some(one[0])),
             Err(e) => {
                 if e.kind() != ErrorKind::Interrupted {
-                    return Err(ScriptFault::Read);
+                    return Err(StreamFault::Read);
                 }
             }
         }
     }
-    Err(ScriptFault::Read)
+    Err(StreamFault::Read)
 }
 
 /// The next byte of a reader, or none at its end. Nothing that was written is held back while the reader waits for it.
 fn next_byte<R: Read, W: Write>(
     reader: &mut BufReader<R, Global>,
     writer: &mut W,
-) -> Result<Option<u8>, ScriptFault>
+) -> Result<Option<u8>, StreamFault>
     ensures read { MatchResult result
         (TakesByte (reader_remaining R.remaining reader.old) (reader_remaining R.remaining reader.new))
         (StopsAtByte (reader_remaining R.remaining reader.old) (reader_remaining R.remaining reader.new)) }
     ensures kept { Keeps (W.contents writer.old) (W.contents writer.new) }
 {
-    hand_on(reader, writer)?;
+    hand_on_before_wait(reader, writer)?;
     take_byte(reader)
 }
 
@@ -196,7 +194,7 @@ fn read_part<R: Read, W: Write>(
     writer: &mut W,
     part: &mut Part,
     most: u32,
-) -> Result<bool, ScriptFault>
+) -> Result<bool, StreamFault>
     requires start { IsPart [] part.old }
     requires most { most ≤ most_lines }
     ensures read { MatchResult result (λ is_ended. (bytes : List ℕ) × IsPart bytes part.new × HasNoFeed bytes
@@ -209,7 +207,7 @@ fn read_part<R: Read, W: Write>(
             return Ok(true);
         }
         if part.exceeds(most) {
-            return Err(ScriptFault::TooManyLines);
+            return Err(StreamFault::TooManyLines);
         }
         match next_byte(reader, writer)? {
             None => return Ok(false),
@@ -226,7 +224,7 @@ pub fn read_line<R: Read, W: Write>(
     reader: &mut BufReader<R, Global>,
     writer: &mut W,
     left: &mut u32,
-) -> Result<Option<Line>, ScriptFault>
+) -> Result<Option<Line>, StreamFault>
     requires { left.old ≤ most_lines }
     ensures read { MatchResult result
         (TakesLine (reader_remaining R.remaining reader.old) (reader_remaining R.remaining reader.new)
@@ -241,7 +239,7 @@ pub fn read_line<R: Read, W: Write>(
     }
     let count = count(part.line_len(is_ended));
     if count > *left as usize {
-        return Err(ScriptFault::TooManyLines);
+        return Err(StreamFault::TooManyLines);
     }
     *left -= count as u32;
     Ok(Some(part.end(is_ended)))

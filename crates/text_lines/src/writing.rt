@@ -1,7 +1,8 @@
 //! Texts that are written.
-ghost use Rattle.std.specs.Prelude.{◌≤◌, MatchResult, length, take};
+ghost use Rattle.std.specs.Prelude.{◌≤◌, ◌≡◌, MatchResult, IfErr, length, take};
 ghost use Rattle.std.specs.Io.KnownBytes.{Appends, Keeps};
 ghost use Rattle.text_lines.specs.Writing.{Writes};
+ghost use Rattle.text_lines.specs.declared.faults.WriteFault.TheVariants.{Writer};
 
 use crate::faults::WriteFault;
 use std::io::{ErrorKind, Write};
@@ -37,4 +38,23 @@ pub fn write_text<W: Write>(writer: &mut W, text: &[u8]) -> Result<(), WriteFaul
         rest = &rest[count..];
     }
     Err(WriteFault::Writer)
+}
+
+/// Hands on what was written.
+pub fn hand_on<W: Write>(writer: &mut W) -> Result<(), WriteFault>
+    ensures fault { IfErr result (λ f. f ≡ Writer) }
+    ensures kept { Keeps (W.contents writer.old) (W.contents writer.new) }
+{
+    match writer.flush() {
+        Ok(()) => Ok(()),
+        Err(_) => Err(WriteFault::Writer),
+    }
+}
+
+/// Writes a text, and hands it on at once: what comes next may wait for long. After a fault a part of it was written.
+pub fn tell<W: Write>(writer: &mut W, text: &[u8]) -> Result<(), WriteFault>
+    ensures { Writes (W.contents writer.old) (W.contents writer.new) result text.now }
+{
+    write_text(writer, text)?;
+    hand_on(writer)
 }

@@ -3,7 +3,7 @@ use Rattle.text_lines.specs.Lines.{TakesLine, LosesLines, count_of, spoken}
 use Rattle.std.proofs.KnownBytes.{Keeps-trans}
 use Rattle.std.proofs.lemmas.Result.{err_from_is_err_and}
 use Rattle.text_lines.specs.declared.lines.Line.{Line}
-use Rattle.text_lines.specs.declared.faults.ScriptFault.{ScriptFault}
+use Rattle.text_lines.specs.declared.faults.StreamFault.{StreamFault}
 use Rattle.cluster_script.specs.Played.{StopsReading}
 use Rattle.text_lines.proofs.Known.{LosesLines-trans, spoken-append, spoken-blank, spoken-said, count_of_all-append, MatchResult-err}
 use Rattle.cluster_script.proofs.Known.{StopsReading-behind}
@@ -87,4 +87,4 @@ returns-in_err-line-clause-read g c =
     let s = StopsReading-behind input mid
     rest i.0 c.args.left.now c.loop-line.left i.1 i.2 i.3 c.in_err-line.field-0.0 c.in_err-line.ensures.read in
     MatchResult-err _ (StopsReading input rest c.args.left.now) c.from_residual.result p.0 p.1
-    (subst (λ (f : ScriptFault). StopsReading input rest c.args.left.now f) (sym p.2) s)
+    (subst (λ (f : StreamFault). StopsReading input rest c.args.left.now f) (sym p.2) s)

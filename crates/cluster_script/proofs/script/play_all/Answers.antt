@@ -2,7 +2,7 @@ use Rattle.std.proofs.Common.{Bool, [], ◌∷◌, Option, Result, Ok, subst, sy
 use Rattle.std.proofs.lemmas.Result.{err_from_is_err_and}
 use Rattle.std.specs.Io.Buffered.{reader_remaining}
 use Rattle.command_lines.specs.declared.faults.LineFault.{LineFault}
-use Rattle.text_lines.specs.declared.faults.ScriptFault.{ScriptFault}
+use Rattle.text_lines.specs.declared.faults.StreamFault.{StreamFault}
 use Rattle.command_lines.specs.declared.grammar.Task.{Task}
 use Rattle.cluster_script.specs.Headers.{asked_first}
 use Rattle.cluster_script.specs.Played.{PlaysBehind, PlaysLines, StopsPlaying}
@@ -50,7 +50,7 @@ returns-in_err-others g c =
       (q.1, tt),
       PlaysAll-err (q.0 ∷ []) input rest c.args.left.now c.play_lines-2.new.left c.args.world.now
           c.play_lines-2.new.world old new c.from_residual-in_err-others.result p.0 p.1
-          (subst (λ (f : ScriptFault). StopsPlaying (q.0 ∷ []) input rest c.args.left.now c.args.world.now old new f)
+          (subst (λ (f : StreamFault). StopsPlaying (q.0 ∷ []) input rest c.args.left.now c.args.world.now old new f)
           (sym p.2)
           (StopsPlaying-behind input rest c.args.world.now c.play_task.new.world q.0 old mid new c.in_ok-is_fine.is_fine
           q.2 c.args.left.now c.in_err-others.field-0.0 c.in_err-others.ensures)),

@@ -1,7 +1,7 @@
 use Rattle.std.proofs.Common.{◌≡◌, ◌+◌, ◌<◌, ℕ, Bool, List, [], ◌∷◌, Option, ◌∙◌, subst, sym, arith, refl}
 use Rattle.std.proofs.lemmas.Result.{err_from_is_err_and}
 use Rattle.text_lines.specs.declared.lines.Line.{Line}
-use Rattle.text_lines.specs.declared.faults.ScriptFault.{ScriptFault}
+use Rattle.text_lines.specs.declared.faults.StreamFault.{StreamFault}
 use Rattle.text_lines.specs.Lines.{spoken, count_of_all}
 use Rattle.cluster_script.specs.Played.{ReadsOn, PlaysLines, StopsPlaying}
 use Rattle.text_lines.proofs.Known.{count_of_all-some}
@@ -79,5 +79,5 @@ returns-in_err-line g c =
     let P = PlaysLines-kept _ _ _ _ _ _ _ _ _ _ c.loop-line.invariant c.in_err-line.ensures.kept in
     let p = err_from_is_err_and c.from_residual.result c.from_residual.ensures.1 in
     PlaysAll-err [] _ _ _ _ _ _ _ _ c.from_residual.result p.0 p.1
-    (subst (λ (f : ScriptFault). StopsPlaying [] input rest c.args.left.now c.args.world.now old same f) (sym p.2)
+    (subst (λ (f : StreamFault). StopsPlaying [] input rest c.args.left.now c.args.world.now old same f) (sym p.2)
     (StopsPlaying-reading _ _ _ _ _ _ _ _ _ P rest c.in_err-line.field-0.0 c.in_err-line.ensures.read))

@@ -2,7 +2,7 @@ use Rattle.std.proofs.Common.{ℕ, List, ◌∙◌, subst, sym, refl, arith}
 use Rattle.std.specs.Io.KnownBytes.{Appends}
 use Rattle.std.specs.Io.Buffered.{reader_remaining}
 use Rattle.std.proofs.lemmas.Result.{err_from_is_err_and}
-use Rattle.text_lines.specs.declared.faults.ScriptFault.{ScriptFault}
+use Rattle.text_lines.specs.declared.faults.StreamFault.{StreamFault}
 use Rattle.text_lines.specs.Lines.{spoken}
 use Rattle.text_lines.specs.Writing.{AppendsPart}
 use Rattle.cluster_script.specs.declared.header.Headers.{Headers}
@@ -19,7 +19,7 @@ returns-in_err-world g c =
     let same = g.W.Write.contents c.read_headers.new.writer in
     let p = err_from_is_err_and c.from_residual.result c.from_residual.ensures.1 in
     Stopped-err input rest old same c.from_residual.result p.0 p.1
-    (subst (λ (f : ScriptFault). Stopped input rest old same f) (sym p.2)
+    (subst (λ (f : StreamFault). Stopped input rest old same f) (sym p.2)
     (Stopped-opening input rest old same c.in_err-world.ensures.kept c.in_err-world.field-0.0
     c.in_err-world.ensures.read))
 

@@ -28,28 +28,28 @@ returns-in_err-text g c = λ bytes k.
       })
     ])
 
-pub returns-in_err-say : goal.returns-in_err-say
-returns-in_err-say g c = λ bytes k.
+pub returns-in_err-tell : goal.returns-in_err-tell
+returns-in_err-tell g c = λ bytes k.
     let old = g.W.Write.contents c.args.writer.now in
-    let new = g.W.Write.contents c.say.new.writer in
+    let new = g.W.Write.contents c.tell.new.writer in
     let answers = g.A.Attendant.answers in
     let s = g.A.Attendant.state c.args.attendant.now in
     let t = g.A.Attendant.state c.reply_to.new.attendant in
-    let r = c.from_residual-in_err-say.result in
-    let p = err_from_is_err_and r c.from_residual-in_err-say.ensures.1 in
+    let r = c.from_residual-in_err-tell.result in
+    let p = err_from_is_err_and r c.from_residual-in_err-tell.ensures.1 in
     MatchResult-err (Tells answers bytes old new s t) (TellStops answers bytes old new s t) r p.0 p.1 (inl (record {
       text = string_bytes c.in_ok-text.text;
       quits = c.in_ok-text.quits;
       answered = c.in_ok-text.ensures bytes k;
-      wrote = subst (λ (t : List ℕ). AppendsPart old new t) c.as_bytes.ensures.value c.in_err-say.ensures;
-      fault_is = unwritten c.in_err-say.field-0.0 p.0 p.2;
+      wrote = subst (λ (t : List ℕ). AppendsPart old new t) c.as_bytes.ensures.value c.in_err-tell.ensures;
+      fault_is = unwritten c.in_err-tell.field-0.0 p.0 p.2;
     }))
 
 pub returns : goal.returns
 returns g c = λ bytes k.
     let old = g.W.Write.contents c.args.writer.now in
-    let new = g.W.Write.contents c.say.new.writer in (
+    let new = g.W.Write.contents c.tell.new.writer in (
       string_bytes c.in_ok-text.text,
       c.in_ok-text.ensures bytes k,
-      subst (λ (t : List ℕ). Appends old new t) c.as_bytes.ensures.value c.in_ok-say.ensures,
+      subst (λ (t : List ℕ). Appends old new t) c.as_bytes.ensures.value c.in_ok-tell.ensures,
     )

@@ -3,7 +3,7 @@ use Rattle.std.proofs.lemmas.Bool.{ne_eqb}
 use Rattle.std.proofs.KnownBytes.{Keeps-trans, Consumes-kept}
 use Rattle.std.proofs.lemmas.Result.{err_from_is_err_and}
 use Rattle.std.specs.Io.Buffered.{reader_remaining}
-use Rattle.text_lines.specs.declared.faults.ScriptFault.{ScriptFault}
+use Rattle.text_lines.specs.declared.faults.StreamFault.{StreamFault}
 use Rattle.text_lines.specs.Lines.{IsPart, StopsAtByte, StopsAtLine}
 use Rattle.text_lines.proofs.Known.{MatchResult-err, StopsAtLine-byte, IsWithinLine-part, Consumes-end, Consumes-more, reads-on, reads-end, HasNoFeed-push, GoesPast-begun}
 use Rattle.text_lines.proofs.lines.read_part.Goals as goal
@@ -16,7 +16,7 @@ returns-in_err-take_at_hand-clause-read g c =
     let p = err_from_is_err_and c.from_residual.result c.from_residual.ensures.1 in
     let r = c.loop-part.invariant.read in
     MatchResult-err _ (StopsAtLine input rest c.args.most) c.from_residual.result p.0 p.1
-    (subst (λ (x : ScriptFault). StopsAtLine input rest c.args.most x) (sym p.2)
+    (subst (λ (x : StreamFault). StopsAtLine input rest c.args.most x) (sym p.2)
     (r.0, Consumes-kept input mid rest r.0 r.3 c.in_err-take_at_hand.ensures, IsWithinLine-part r.0 r.2, tt))
 
 pub returns-then-branch-clause-read : goal.returns-then-branch-clause-read
@@ -82,7 +82,7 @@ returns-in_err-extend-in-Some-clause-read g c =
     let t = Consumes-more _ _ _ r.0 b _ r.3 c.in_ok-next_byte.ensures.read c.in-Some.is in
     MatchResult-err _ (StopsAtLine input rest c.args.most)
     c.from_residual-in_err-extend-in-Some.result p.0 p.1
-    (subst (λ (x : ScriptFault). StopsAtLine input rest c.args.most x)
+    (subst (λ (x : StreamFault). StopsAtLine input rest c.args.most x)
     (sym p.2) (r.0 ++ b ∷ [], t, IsWithinLine-part (r.0 ++ b ∷ []) f, tt))
 
 pub returns-in-None-clause-read : goal.returns-in-None-clause-read
@@ -119,5 +119,5 @@ returns-in_err-next_byte-clause-read g c =
     c.from_residual-in_err-next_byte.result p.0 p.1
     (StopsAtLine-byte input mid
     rest r.0 c.args.most p.0 r.2 r.3
-    (subst (λ (x : ScriptFault). StopsAtByte mid rest x)
+    (subst (λ (x : StreamFault). StopsAtByte mid rest x)
     (sym p.2) c.in_err-next_byte.ensures.read))
