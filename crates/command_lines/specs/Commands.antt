@@ -8,7 +8,7 @@ use Rattle.command_lines.specs.declared.faults.LineFault.TheVariants.{LineTooLon
 use Rattle.command_lines.specs.declared.grammar.Task.{Task}
 use Rattle.text_lines.specs.Lines.{longest_line}
 use Rattle.text_lines.specs.Words.{words}
-use Rattle.command_lines.specs.Grammar.{WordsAsk}
+use Rattle.command_lines.specs.Grammar.{WordsAsk, WordsNameNodes}
 
 -- each byte is below 128
 abbrev pub is_ascii : List ℕ → Bool
@@ -26,6 +26,10 @@ AsksUnless None line r = WordsAsk (words line) r
 -- what a line asks for, or why it is refused
 abbrev pub LineAsks : List ℕ → Result Line LineFault → Type 0
 LineAsks line r = AsksUnless (unread line) line r
+
+-- a line that can be read asks for a lock call that names nodes
+abbrev pub LineNamesNodes : List ℕ → Type 0
+LineNamesNodes line = (unread line ≡ None) × WordsNameNodes (words line)
 
 -- a task of the program, as a line of a script
 abbrev pub line_in : Task → Line

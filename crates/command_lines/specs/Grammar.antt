@@ -142,3 +142,13 @@ AsksBy (Some row) texts r =
 abbrev pub WordsAsk : List (List ℕ) → Result Line LineFault → Type 0
 WordsAsk [] r = r ≡ Err BadLine
 WordsAsk (word ∷ texts) r = AsksBy (row_of word texts grammar) texts r
+
+-- Words ask for a lock call that names nodes
+pub record WordsNameNodes (ws : List (List ℕ)) : Type 0 where
+  pub holder : Process
+  pub resource : AText
+  pub requester : AText
+  pub nodes : List ℕ
+  pub asks : WordsAsk ws (Ok (call_at holder.node (DelLock holder resource requester (Target.Named nodes))))
+      ⊎ ((retries : Tries) × WordsAsk ws
+      (Ok (call_at holder.node (SetLock holder resource requester (Target.Named nodes) retries))))

@@ -1,5 +1,5 @@
 -- What is printed, as bytes.
-use Rattle.std.specs.Prelude.{ℕ, Bool, true, false, codes, ◌≡◌, ◌==◌, flat_map, List, [], ◌∷◌, ◌++◌, if◌then◌else◌, Option, Some, None}
+use Rattle.std.specs.Prelude.{ℕ, Bool, true, false, codes, ◌==◌, flat_map, List, [], ◌∷◌, ◌++◌, if◌then◌else◌, Option, Some, None}
 use Rattle.std.specs.Fmt.{decimal}
 use Rattle.registry_model.specs.Process.{Process}
 use Rattle.registry_model.specs.Call.{Reply}

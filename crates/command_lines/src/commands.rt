@@ -2,7 +2,7 @@
 ghost use Rattle.std.specs.Prelude.{◌≡◌, ◌≢◌, MatchBool, MatchResult, MatchOption, true, false, List, ℕ, Some, None, Err};
 ghost use Rattle.text_lines.specs.Lines.{IsKept};
 ghost use Rattle.command_lines.specs.declared.faults.LineFault.TheVariants.{Memory};
-ghost use Rattle.command_lines.specs.Commands.{LineAsks, asked_by, unread, is_ascii};
+ghost use Rattle.command_lines.specs.Commands.{LineAsks, LineNamesNodes, asked_by, unread, is_ascii};
 
 use crate::faults::LineFault;
 use crate::grammar::{Task, read_words};
@@ -42,10 +42,11 @@ pub fn text_of(line: &Line) -> Result<&str, LineFault>
 }
 
 /// What a line asks for, or why it is refused. No line of the grammar has seven words, so a longer one reads as its first seven.
-/// Only a lock call that names nodes takes memory; where that is refused the fault is `Memory`, and nothing is said of the line.
+/// Only a lock call that names nodes takes memory; where that is refused the fault is `Memory`.
 #[tactic(auto, using(crate::proofs::Words::first_words_ask))]
 pub fn read_task(alloc: Global, line: &Line) -> Result<Task, LineFault>
-    ensures { result ≢ Err Memory → (bytes : List ℕ) → IsKept bytes line.now → LineAsks bytes (asked_by result) }
+    ensures asks { result ≢ Err Memory → (bytes : List ℕ) → IsKept bytes line.now → LineAsks bytes (asked_by result) }
+    ensures memory { result ≡ Err Memory → (bytes : List ℕ) → IsKept bytes line.now → LineNamesNodes bytes }
 {
     read_words(alloc, &first_words(text_of(line)?))
 }

@@ -1,5 +1,5 @@
 //! The lines that are read: an arm for each. They stand by the number of their texts.
-ghost use Rattle.std.specs.Prelude.{◌≡◌, ◌≢◌, map, ◌∷◌, [], Err, MatchResult, IfOk};
+ghost use Rattle.std.specs.Prelude.{◌≡◌, ◌≢◌, map, ◌∷◌, [], Err, true, is_some, MatchResult, IfOk, OnErr};
 ghost use Rattle.protocol_model.specs.Event.{Exiting, SetLock, DelLock};
 ghost use Rattle.term.specs.Spelling.{SpellsText, SpellsPid};
 ghost use Rattle.transaction.specs.Calls.{target_of, retries_of};
@@ -7,7 +7,7 @@ ghost use Rattle.world_events.specs.NodeEventsSeen.{call_of};
 ghost use Rattle.command_lines.specs.Commands.{asked_by, line_in};
 ghost use Rattle.command_lines.specs.declared.faults.LineFault.TheVariants.{Memory};
 ghost use Rattle.command_lines.specs.LockTexts.{SpellsTarget, NamesSome, target_in};
-ghost use Rattle.command_lines.specs.Grammar.{WordsAsk, FirstRefused, at_node, call_at, Node as ANode, Name as AName, Pid as APid, Resource as AResource, Requester as ARequester, Nodes as SomeNodes};
+ghost use Rattle.command_lines.specs.Grammar.{WordsAsk, WordsNameNodes, FirstRefused, at_node, call_at, Node as ANode, Name as AName, Pid as APid, Resource as AResource, Requester as ARequester, Nodes as SomeNodes};
 
 use crate::faults::LineFault;
 use crate::lock_texts::{parse_retries, parse_target};
@@ -49,7 +49,8 @@ fn exit(process: Pid) -> Task
 /// The nodes that a lock call asks: those that it names, or all members.
 fn nodes_of(alloc: Global, named: Option<NodeSet>) -> Result<Nodes, AllocError>
     requires { NamesSome named }
-    ensures { IfOk result (λ nodes. target_of nodes ≡ target_in named) }
+    ensures ok { IfOk result (λ nodes. target_of nodes ≡ target_in named) }
+    ensures memory { OnErr result (is_some named ≡ true) }
 {
     match named {
         Some(named) => Ok(Nodes::named(alloc, named)?.unwrap_or(Nodes::All)),
@@ -66,8 +67,9 @@ fn set_lock(
     retries: Retries,
 ) -> Result<Task, AllocError>
     requires { NamesSome named }
-    ensures { IfOk result (λ task. line_in task ≡ call_at holder.node
+    ensures ok { IfOk result (λ task. line_in task ≡ call_at holder.node
         (SetLock holder id.resource id.requester (target_in named) (retries_of retries))) }
+    ensures memory { OnErr result (is_some named ≡ true) }
 {
     let nodes = nodes_of(alloc, named)?;
     Ok(call(
@@ -84,7 +86,8 @@ fn del_lock(
     named: Option<NodeSet>,
 ) -> Result<Task, AllocError>
     requires { NamesSome named }
-    ensures { IfOk result (λ task. line_in task ≡ call_at holder.node (DelLock holder id.resource id.requester (target_in named))) }
+    ensures ok { IfOk result (λ task. line_in task ≡ call_at holder.node (DelLock holder id.resource id.requester (target_in named))) }
+    ensures memory { OnErr result (is_some named ≡ true) }
 {
     let nodes = nodes_of(alloc, named)?;
     Ok(call(holder.node.copy(), Call::DelLock(holder, id, nodes)))
@@ -184,7 +187,8 @@ fn with_four(
     requester: &str,
     nodes: &str,
 ) -> Result<Task, LineFault>
-    ensures { result ≢ Err Memory → WordsAsk (word.now ∷ holder.now ∷ resource.now ∷ requester.now ∷ nodes.now ∷ []) (asked_by result) }
+    ensures asks { result ≢ Err Memory → WordsAsk (word.now ∷ holder.now ∷ resource.now ∷ requester.now ∷ nodes.now ∷ []) (asked_by result) }
+    ensures memory { result ≡ Err Memory → WordsNameNodes (word.now ∷ holder.now ∷ resource.now ∷ requester.now ∷ nodes.now ∷ []) }
 {
     match word {
         "del_lock" => {
@@ -205,8 +209,10 @@ fn with_five(
     nodes: &str,
     retries: &str,
 ) -> Result<Task, LineFault>
-    ensures { result ≢ Err Memory
+    ensures asks { result ≢ Err Memory
         → WordsAsk (word.now ∷ holder.now ∷ resource.now ∷ requester.now ∷ nodes.now ∷ retries.now ∷ []) (asked_by result) }
+    ensures memory { result ≡ Err Memory
+        → WordsNameNodes (word.now ∷ holder.now ∷ resource.now ∷ requester.now ∷ nodes.now ∷ retries.now ∷ []) }
 {
     match word {
         "set_lock" => {
@@ -222,7 +228,8 @@ fn with_five(
 
 /// What words ask for.
 pub(crate) fn read_words(alloc: Global, words: &[&str]) -> Result<Task, LineFault>
-    ensures { result ≢ Err Memory → WordsAsk (map (λ word. word.now) words.now) (asked_by result) }
+    ensures asks { result ≢ Err Memory → WordsAsk (map (λ word. word.now) words.now) (asked_by result) }
+    ensures memory { result ≡ Err Memory → WordsNameNodes (map (λ word. word.now) words.now) }
 {
     match words {
         [word] => bare(word),

@@ -17,7 +17,7 @@ returns-in_default c = λ bytes k.
     OpensLone-none c.args.cluster.nodes.items bytes c.args.cluster.world c.args.cluster.world c.read_task.result refl
     (subst (λ (x : Option (Result (Vec NodeName Global) LineFault)). ReadsHeader (lone_line bytes)
     (option_map (made_of items) x)) c.in_default.is (c.read_lone.ensures bytes k))
-    c.requires (read_or_memory bytes c.read_task.result (λ n. c.read_task.ensures n bytes k))
+    c.requires (read_or_memory bytes c.read_task.result (λ n. c.read_task.ensures.asks n bytes k))
 
 pub returns-in-Ok : goal.returns-in-Ok
 returns-in-Ok c = λ bytes k.

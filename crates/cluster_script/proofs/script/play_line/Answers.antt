@@ -8,6 +8,6 @@ returns g c = λ bytes k.
     let p = c.play_task.ensures in (
       p.0,
       ComesTo-read bytes (asked_by c.read_task-task.result) p.0
-          (read_or_memory bytes c.read_task-task.result (λ n. c.read_task-task.ensures n bytes k)) p.1,
+          (read_or_memory bytes c.read_task-task.result (λ n. c.read_task-task.ensures.asks n bytes k)) p.1,
       p.2,
     )
