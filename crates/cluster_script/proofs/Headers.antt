@@ -188,11 +188,6 @@ OpensLone-none cluster line world old task e h s q = (
   subst (λ (ls : List (List ℕ)). AllReadAs ls (asked_by task ∷ [])) (sym (lone_none line h).1) (q, tt),
 )
 
--- the first line opens no cluster
-pub LineOpens-refused : (line : List ℕ) (f : LineFault) → unread line ≡ Some f → LineOpens line (Err f)
-LineOpens-refused line f e =
-    inl (subst (λ (u : Option LineFault). OpensUnless u line (Err f)) (sym e) refl)
-
 -- by its texts it opens one, or none
 pub LineOpens-read : (line : List ℕ) (r : Result (List ℕ) LineFault) → unread line ≡ None
     → OpensIn (texts_behind (codes "cluster") (words line)) r → LineOpens line r
@@ -249,11 +244,6 @@ ReadsLone-by cluster input rest most left ls line l e s (Refused f) o = (ls, lin
 -- nothing is printed for empty lines
 pub PrintsOn-blank : (ls : List (List ℕ)) → spoken ls ≡ [] → PrintsOn (spoken ls) []
 PrintsOn-blank ls s = subst (λ (xs : List (List ℕ)). PrintsOn xs []) (sym s) refl
-
--- the first line isn't read
-pub StopsOpening-reading : (input rest : Option (List ℕ)) (most : ℕ) (f : StreamFault) → StopsReading input rest most f
-    → StopsOpening input rest most f
-StopsOpening-reading input rest most f g = (g.0, g.1, PrintsOn-blank g.0 g.2, g.3, g.4, g.5)
 
 -- the first line, which opens a cluster
 module _ (input mid rest : Option (List ℕ)) (most mid_left : ℕ) (front : List (List ℕ)) (line cluster : List ℕ)

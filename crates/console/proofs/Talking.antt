@@ -43,20 +43,6 @@ module _ {S : Type 0} (answers : Answering S) where
 
   module _ (input mid old new : Option (List ℕ)) (s t : S) (left : ℕ) (P : ServesSoFar answers input mid old new s t left)
       (rest : Option (List ℕ)) where
-    -- there is no further line
-    pub Serves-ended : LosesLines mid rest [] → HasNoLine rest → Serves answers input rest old new s t
-    Serves-ended l n = record {
-      taken = P.taken;
-      texts = P.texts;
-      quits = false;
-      read = subst (λ (ls : List (List ℕ)). LosesLines input rest ls) (append-nil P.taken)
-          (LosesLines-trans input mid rest P.taken [] P.read l);
-      counted = omega (arith, P.counted);
-      answered = P.answered;
-      ended = λ _. n;
-      wrote = P.wrote;
-    }
-
     -- a part of the next line was read, and all answers are written, or a part of them
     module _ (part : List ℕ) where
       abbrev so_far : LosesInto mid rest [] part → ServesSome answers Appends input rest old new s t false

@@ -60,10 +60,6 @@ reads-end a b c part more e r t is =
     let u = reads a b c part more e r t in
     (u.0, u.1, u.2, subst (λ (x : Bool). TakesSome a c x u.0) is u.3)
 
--- a line of so few lines isn't longer
-pub count_for-bound : (n len most : ℕ) → len ≤ n + 1 → count_for n ≤ most → most ≤ 1000000 → len ≤ 1024001025
-count_for-bound n len most l h m = omega arith
-
 -- bytes without a line feed, and one more
 pub HasNoFeed-push : (bytes : List ℕ) (b : ℕ) → HasNoFeed bytes → (b == 10) ≡ false → HasNoFeed (bytes ++ b ∷ [])
 HasNoFeed-push bytes b h n =
