@@ -9,7 +9,7 @@ use Rattle.text_lines.specs.declared.faults.StreamFault.TheVariants.{Read, Write
 use Rattle.server.specs.Attending.{IsSeated}
 use Rattle.server.specs.Served.{IsServed}
 
-module _ (s t : Sitting) (transcript : Transcript) (empty : s.entries ≡ []) (kept : IsTranscript t transcript) where
+module _ (s t : Sitting) (transcript : Transcript) (empty : s.entries ≡ []) (unasked : s.asked ≡ []) (kept : IsTranscript t transcript) where
   -- lines were answered
   left_of : (lines texts : List (List ℕ)) (quits : Bool) → AnswersAll SeatAnswers lines s texts t quits → IsServed transcript
   left_of lines texts quits answered = ∣ record {
@@ -19,6 +19,7 @@ module _ (s t : Sitting) (transcript : Transcript) (empty : s.entries ≡ []) (k
     texts = texts;
     quits = quits;
     empty = empty;
+    unasked = unasked;
     answered = answered;
     kept = kept;
   } ∣₁
@@ -39,6 +40,7 @@ module _ (s t : Sitting) (transcript : Transcript) (empty : s.entries ≡ []) (k
       left = t;
       at = refl;
       empty = empty;
+      unasked = unasked;
       talks = inl S;
       kept = kept;
     }
@@ -50,6 +52,7 @@ module _ (s t : Sitting) (transcript : Transcript) (empty : s.entries ≡ []) (k
       left = t;
       at = refl;
       empty = empty;
+      unasked = unasked;
       talks = inr (f, S);
       kept = kept;
     }
@@ -61,18 +64,18 @@ Ends input rest old new s r = MatchResult r
     (λ transcript. (t : Sitting) × IsTranscript t transcript × Serves SeatAnswers input rest old new s t)
     (λ ended. (t : Sitting) × IsTranscript t ended.1 × Stops SeatAnswers input rest old new s t ended.0)
 
-module _ (input rest old new : Option (List ℕ)) (s : Sitting) (x : Transcript) (empty : s.entries ≡ []) where
+module _ (input rest old new : Option (List ℕ)) (s : Sitting) (x : Transcript) (empty : s.entries ≡ []) (unasked : s.asked ≡ []) where
   pub left : (r : Result Transcript (StreamFault × Transcript)) → MatchResult r (λ transcript. x ≡ transcript) (λ faulty. x ≡ faulty.1)
       → Ends input rest old new s r → IsServed x
   left (Ok transcript) is e =
-      left_where_served s e.0 x empty (subst (λ (y : Transcript). IsTranscript e.0 y) (sym is) e.1) input rest old new e.2
+      left_where_served s e.0 x empty unasked (subst (λ (y : Transcript). IsTranscript e.0 y) (sym is) e.1) input rest old new e.2
   left (Err faulty) is e =
-      left_where_stopped s e.0 x empty (subst (λ (y : Transcript). IsTranscript e.0 y) (sym is) e.1) input rest old new faulty.0 e.2
+      left_where_stopped s e.0 x empty unasked (subst (λ (y : Transcript). IsTranscript e.0 y) (sym is) e.1) input rest old new faulty.0 e.2
 
   pub seated : (r : Result Transcript (StreamFault × Transcript))
       → MatchResult r (λ transcript. x ≡ transcript) (λ faulty. x ≡ faulty.1)
       → Ends input rest old new s r → IsSeated s.node input rest old new x
   seated (Ok transcript) is e =
-      seated_where_served s e.0 x empty (subst (λ (y : Transcript). IsTranscript e.0 y) (sym is) e.1) input rest old new e.2
+      seated_where_served s e.0 x empty unasked (subst (λ (y : Transcript). IsTranscript e.0 y) (sym is) e.1) input rest old new e.2
   seated (Err faulty) is e =
-      seated_where_stopped s e.0 x empty (subst (λ (y : Transcript). IsTranscript e.0 y) (sym is) e.1) input rest old new faulty.0 e.2
+      seated_where_stopped s e.0 x empty unasked (subst (λ (y : Transcript). IsTranscript e.0 y) (sym is) e.1) input rest old new faulty.0 e.2

@@ -22,6 +22,7 @@ pub record IsSeated (node : ℕ) (input rest old new : Option (List ℕ)) (trans
   pub left : Sitting
   pub at : seat.node ≡ node
   pub empty : seat.entries ≡ []
+  pub unasked : seat.asked ≡ []
   pub talks : Talks input rest old new seat left
   pub kept : IsTranscript left transcript
 

@@ -6,7 +6,7 @@ use Rattle.console.specs.Consoles.{AnswersAll}
 use Rattle.console.specs.Seats.{SeatAnswers, IsTranscript}
 
 -- lines of a console were answered at a seat, in their order, and each order once; what each was answered stands in the
--- transcript, which was empty before
+-- transcript, which was empty before, and nothing was asked there before
 pub record IsLeft (transcript : Transcript) : Type 0 where
   pub new : Sitting
   pub left : Sitting
@@ -14,6 +14,7 @@ pub record IsLeft (transcript : Transcript) : Type 0 where
   pub texts : List (List ℕ)
   pub quits : Bool
   pub empty : new.entries ≡ []
+  pub unasked : new.asked ≡ []
   pub answered : AnswersAll SeatAnswers lines new texts left quits
   pub kept : IsTranscript left transcript
 

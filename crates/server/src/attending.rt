@@ -31,7 +31,8 @@ fn serve_at<H: Wait + Clock, R: Read, W: Write>(
     writer: &mut W,
     seat: Seat,
 ) -> Served
-    requires { seat.entries ≡ [] }
+    requires new { seat.entries ≡ [] }
+    requires unasked { seat.asked ≡ [] }
     ensures { IsSeated seat.node (reader_remaining R.remaining reader.old) (reader_remaining R.remaining reader.new)
         (W.contents writer.old) (W.contents writer.new) result.transcript }
 {

@@ -14,6 +14,7 @@ use term::NodeName;
 struct NewSeat {
     seat: Seat,
     ghost new: { seat.entries ≡ [] },
+    ghost unasked: { seat.asked ≡ [] },
 }
 
 /// What a console asks for: a seat at a node.
@@ -59,6 +60,7 @@ impl Asker {
     ) -> Result<Seat, SeatFault>
         ensures node { IfOk result (λ seat. seat.node ≡ node.now) }
         ensures new { IfOk result (λ seat. seat.entries ≡ []) }
+        ensures unasked { IfOk result (λ seat. seat.asked ≡ []) }
     {
         let (reply, answers) = unbounded(alloc)?;
         let request = SeatRequest {

@@ -3,10 +3,10 @@ use Rattle.server.proofs.attending.serve_at.Goals as goal
 
 pub invariant_of-result : goal.invariant_of-result
 invariant_of-result g c = record {
-  answered = left _ _ _ _ c.args.seat c.transcript_of-transcript.result c.requires c.serve.result
+  answered = left _ _ _ _ c.args.seat c.transcript_of-transcript.result c.requires.new c.requires.unasked c.serve.result
       c.transcript_of-transcript.ensures c.serve.ensures;
 }
 
 pub returns : goal.returns
-returns g c = seated _ _ _ _ c.args.seat c.transcript_of-transcript.result c.requires c.serve.result
+returns g c = seated _ _ _ _ c.args.seat c.transcript_of-transcript.result c.requires.new c.requires.unasked c.serve.result
     c.transcript_of-transcript.ensures c.serve.ensures
