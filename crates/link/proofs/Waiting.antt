@@ -92,15 +92,6 @@ waits_here h i j whole within before here = (
     first : IsFirst f t h
     first x y less = go x y less (place x h.nodes) (place y h.nodes) refl refl
 
--- the same of the nodes that stand there
-pub waits_at : {L : Type 0} (h : Held L) (i j f t : ℕ) → IsWhole h → i < length h.nodes
-    → ((x k : ℕ) → x < i → k < length h.nodes → get_or h.links (x * MOST_NODES + k) [] ≡ []) → WaitsFrom i (Some j) h
-    → f ≡ get_or h.nodes i f → t ≡ get_or h.nodes j t → WaitsFirst (Some (f, t)) h
-waits_at h i j f t whole within before here from to =
-    subst (λ (x : ℕ). WaitsFirst (Some (x, t)) h) (sym (from ∙ get_or_default_zero h.nodes i f within))
-    (subst (λ (y : ℕ). WaitsFirst (Some (get_or h.nodes i 0, y)) h) (sym (to ∙ get_or_default_zero h.nodes j t here.0))
-    (waits_here h i j whole within before here))
-
 -- no letter waits for this node from the first i nodes
 abbrev pub NoneFrom : {L : Type 0} → ℕ → ℕ → Held L → Type 0
 NoneFrom i t h = (k : ℕ) → k < i → (seen h).queue (get_or h.nodes k 0) t ≡ []

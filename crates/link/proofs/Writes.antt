@@ -3,13 +3,13 @@ use Rattle.std.proofs.Common.{ℕ, Bool, true, false, ◌==◌, ◌≡◌, ◌<�
 use Rattle.std.specs.Prelude.{not, ◌&&◌, if◌then◌else◌}
 use Rattle.std.proofs.Math.Path.{fun_ext}
 use Rattle.std.proofs.lemmas.Bool.{eq-eqb, ne_eqb}
-use Rattle.std.proofs.lemmas.List.{append-nil, get_or_default}
+use Rattle.std.proofs.lemmas.List.{append-nil}
 use Rattle.registry_model.proofs.Updates.{by_test}
 use Rattle.protocol_model.specs.Links.{Links, posted, taken, closed_out}
 use Rattle.term.specs.declared.node_set.TheConstants.{MOST_NODES}
 use Rattle.link.specs.Held.{Held, IsWhole, place, link_at, seen, only_to}
 use Rattle.term.proofs.NodePlaces.{place-Some, one_place}
-use Rattle.link.proofs.Places.{link_at-Some, closed_at-Some, link_at-set, closed_at-set}
+use Rattle.link.proofs.Places.{link_at-Some, closed_at-Some, link_at-set, closed_at-set, read_there}
 
 -- other lists on the links
 abbrev pub with_queue : {L : Type 0} → Links L → (ℕ → ℕ → List L) → Links L
@@ -19,11 +19,6 @@ with_queue w q = record w { queue = q }
 pub queues_agree : {L : Type 0} (w : Links L) (p q : ℕ → ℕ → List L) → ((x y : ℕ) → p x y ≡ q x y) → with_queue w p
     ≡ with_queue w q
 queues_agree w p q same = ap (with_queue w) (fun_ext (λ x. fun_ext (λ y. same x y)))
-
--- what was read at a place stands there
-read_there : {X : Type 0} (d : X) (xs : List X) (i : ℕ) (old : X) → i < length xs → old ≡ get_or xs i old → old
-    ≡ get_or xs i d
-read_there d xs i old l e = e ∙ get_or_default xs i old d l
 
 -- a letter at the back of its link
 pub seen-push : {L : Type 0} (h : Held L) (f t i j : ℕ) (letter : L) (old new : List L) → IsWhole h

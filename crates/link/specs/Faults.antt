@@ -1,12 +1,18 @@
 -- When a link is refused.
-use Rattle.std.specs.Prelude.{ℕ, Bool, true, false, ◌&&◌, ◌≡◌, []}
+use Rattle.std.specs.Prelude.{ℕ, Bool, true, false, ◌&&◌, ◌≡◌, [], Option, Some, None}
 use Rattle.link.specs.declared.faults.LinkFault.{LinkFault}
 use Rattle.link.specs.declared.faults.LinkFault.TheVariants.{NoSuchNode, EmptyLink, Full, Memory}
-use Rattle.link.specs.Held.{Held, has, seen}
+use Rattle.link.specs.declared.link_place.LinkPlace.{LinkPlace}
+use Rattle.link.specs.Held.{Held, has, seen, from_of, to_of, IsWithin}
 
 -- both ends are nodes of the mesh
 abbrev pub joins : {L : Type 0} → ℕ → ℕ → Held L → Bool
 joins f t h = has f h && has t h
+
+-- the link from one node to another, if both are nodes of the mesh
+abbrev pub IsLinkOf : {L : Type 0} → Option LinkPlace → ℕ → ℕ → Held L → Type 0
+IsLinkOf None f t h = joins f t h ≡ false
+IsLinkOf (Some k) f t h = (joins f t h ≡ true) × IsWithin k h × (from_of k h ≡ f) × (to_of k h ≡ t)
 
 -- why a letter isn't sent
 abbrev pub IsUnsent : {L : Type 0} → LinkFault → ℕ → ℕ → Held L → Type 0

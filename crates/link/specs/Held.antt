@@ -4,6 +4,7 @@ use Rattle.std.specs.List.{position}
 use Rattle.std.specs.List.Sorted.{IsStrictlyIncreasing}
 use Rattle.term.specs.declared.node_set.TheConstants.{MOST_NODES}
 use Rattle.protocol_model.specs.Links.{Links, is_nil}
+use Rattle.link.specs.declared.link_place.LinkPlace.{LinkPlace}
 
 -- the nodes; the links in the order of senders and then of receivers, as many for each sender as there may be nodes; and of
 -- each node whether it was closed out
@@ -45,6 +46,21 @@ seen h = record {
   closed = λ a. closed_at (place a h.nodes) h.closed;
 }
 
+-- the node at this place
+abbrev pub node_at : {L : Type 0} → ℕ → Held L → ℕ
+node_at i h = slice_index_or h.nodes i 0
+
+-- the nodes that a link is from and to
+abbrev pub from_of : {L : Type 0} → LinkPlace → Held L → ℕ
+from_of k h = node_at k.sender h
+
+abbrev pub to_of : {L : Type 0} → LinkPlace → Held L → ℕ
+to_of k h = node_at k.receiver h
+
+-- at both its ends stand nodes of the mesh
+abbrev pub IsWithin : {L : Type 0} → LinkPlace → Held L → Type 0
+IsWithin k h = (k.sender < length h.nodes) × (k.receiver < length h.nodes)
+
 -- one letter, to one node
 abbrev pub only_to : {L : Type 0} → ℕ → L → ℕ → List L
 only_to t letter x = if x == t then letter ∷ [] else []
@@ -63,6 +79,11 @@ IsFirst f t h = (x y : ℕ) → (x < f) ⊎ ((x ≡ f) × (y < t)) → (seen h).
 abbrev pub WaitsFirst : {L : Type 0} → Option (ℕ × ℕ) → Held L → Type 0
 WaitsFirst None h = (x y : ℕ) → (seen h).queue x y ≡ []
 WaitsFirst (Some (f, t)) h = (is_nil ((seen h).queue f t) ≡ false) × IsFirst f t h
+
+-- the same of its place
+abbrev pub WaitsFirstOn : {L : Type 0} → Option LinkPlace → Held L → Type 0
+WaitsFirstOn None h = WaitsFirst None h
+WaitsFirstOn (Some k) h = IsWithin k h × WaitsFirst (Some (from_of k h, to_of k h)) h
 
 -- the least node from which a letter waits for this one
 abbrev pub WaitsTowards : {L : Type 0} → ℕ → Option ℕ → Held L → Type 0

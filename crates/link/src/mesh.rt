@@ -5,6 +5,7 @@ ghost use Rattle.link.specs.Held.{place};
 
 use crate::faults::{LinkFault, Unsent};
 use crate::link::Link;
+use crate::link_place::LinkPlace;
 use std::alloc::{AllocError, Global};
 use std::marker::Model;
 use term::{MOST_NODES, NodeName};
@@ -83,13 +84,13 @@ fn clear_towards<L: Drop>(links: &mut [Link<L>], receiver: usize)
 }
 
 impl<L: Drop> Mesh<L> {
-    ghost use Rattle.std.specs.Prelude.{◌≡◌, ◌≤◌, ◌<◌, ◌∷◌, [], true, Some, length, IfOk, OnOk, OnErr, IfErr};
+    ghost use Rattle.std.specs.Prelude.{◌≡◌, ◌≤◌, ◌<◌, ◌∷◌, [], true, Some, None, length, IfOk, OnOk, OnErr, IfErr};
     ghost use Rattle.std.specs.List.{slice_get};
     ghost use Rattle.std.specs.Option.{option_copied};
     ghost use Rattle.std.specs.List.Sorted.{IsStrictlyIncreasing};
     ghost use Rattle.protocol_model.specs.Links.{no_letters, posted, taken, closed_out, is_nil};
-    ghost use Rattle.link.specs.Held.{place, has, seen, only_to, WaitsFrom, WaitsFirst, WaitsTowards};
-    ghost use Rattle.link.specs.Faults.{joins, IsUnsent, IsUndelivered, IsStranger};
+    ghost use Rattle.link.specs.Held.{place, has, seen, only_to, node_at, from_of, to_of, IsWithin, WaitsFrom, WaitsFirst, WaitsFirstOn, WaitsTowards};
+    ghost use Rattle.link.specs.Faults.{joins, IsLinkOf, IsUnsent, IsUndelivered, IsStranger};
 
     /// Links without letters between these nodes, which rise.
     pub fn new(alloc: Global, nodes: &[NodeName]) -> Result<Mesh<L>, AllocError>
@@ -106,10 +107,30 @@ impl<L: Drop> Mesh<L> {
     }
 
     /// The place of a node.
-    pub(crate) fn place(&self, node: &NodeName) -> Option<usize>
+    pub fn place(&self, node: &NodeName) -> Option<usize>
         ensures { result ≡ place node.now self.now.nodes }
     {
         place_of(self.nodes.as_slice(), node)
+    }
+
+    /// The link from one node to another, if both are of the mesh.
+    pub fn link(&self, from: &NodeName, to: &NodeName) -> Option<LinkPlace>
+        ensures { IsLinkOf result from.now to.now self.now }
+    {
+        let sender = self.place(from)?;
+        let receiver = self.place(to)?;
+        Some(LinkPlace { sender, receiver })
+    }
+
+    /// The nodes that a link is from and to.
+    pub fn ends(&self, link: LinkPlace) -> (NodeName, NodeName)
+        requires { IsWithin link self.now }
+        ensures { result ≡ (from_of link self.now, to_of link self.now) }
+    {
+        (
+            self.nodes[link.sender].copy(),
+            self.nodes[link.receiver].copy(),
+        )
     }
 
     /// Puts a letter at the back of a link. What goes to a node that was closed out vanishes.
@@ -121,7 +142,26 @@ impl<L: Drop> Mesh<L> {
         ensures returned { IfErr result (λ unsent. unsent.letter ≡ letter) }
         ensures err { IfErr result (λ unsent. IsUnsent unsent.fault from.now to.now self.old) }
     {
-        let (Some(sender), Some(receiver)) = (self.place(from), self.place(to)) else {
+        match self.place(from) {
+            Some(sender) => self.send_from(sender, to, letter),
+            None => Err(Unsent {
+                fault: LinkFault::NoSuchNode,
+                letter,
+            }),
+        }
+    }
+
+    /// Puts a letter at the back of the link from the node at this place, as `send` does.
+    pub fn send_from(&mut self, sender: usize, to: &NodeName, letter: L) -> Result<(), Unsent<L>>
+        requires { sender < length self.old.nodes }
+        ensures nodes { self.new.nodes ≡ self.old.nodes }
+        ensures known { OnOk result (has to.now self.old ≡ true) }
+        ensures ok { OnOk result (seen self.new ≡ posted (node_at sender self.old) (only_to to.now letter) (seen self.old)) }
+        ensures unchanged { OnErr result (self.new ≡ self.old) }
+        ensures returned { IfErr result (λ unsent. unsent.letter ≡ letter) }
+        ensures err { IfErr result (λ unsent. IsUnsent unsent.fault (node_at sender self.old) to.now self.old) }
+    {
+        let Some(receiver) = self.place(to) else {
             return Err(Unsent {
                 fault: LinkFault::NoSuchNode,
                 letter,
@@ -130,27 +170,40 @@ impl<L: Drop> Mesh<L> {
         if self.closed[receiver] {
             return Ok(());
         }
-        self.links[sender * MOST_NODES + receiver].push(letter)
+        self.links[LinkPlace { sender, receiver }.index()].push(letter)
     }
 
     /// The oldest letter on a link.
     pub fn front(&self, from: &NodeName, to: &NodeName) -> Option<&L>
         ensures { option_copied result ≡ slice_get ((seen self.now).queue from.now to.now) 0 }
     {
-        let (Some(sender), Some(receiver)) = (self.place(from), self.place(to)) else {
-            return None;
-        };
-        self.links[sender * MOST_NODES + receiver].front()
+        self.front_at(self.link(from, to)?)
+    }
+
+    /// The oldest letter on the link at this place.
+    pub fn front_at(&self, link: LinkPlace) -> Option<&L>
+        requires { IsWithin link self.now }
+        ensures { option_copied result ≡ slice_get ((seen self.now).queue (from_of link self.now) (to_of link self.now)) 0 }
+    {
+        self.links[link.index()].front()
     }
 
     /// Whether nothing is on a link.
     pub fn is_empty(&self, from: &NodeName, to: &NodeName) -> bool
         ensures { result ≡ is_nil ((seen self.now).queue from.now to.now) }
     {
-        let (Some(sender), Some(receiver)) = (self.place(from), self.place(to)) else {
-            return true;
-        };
-        self.links[sender * MOST_NODES + receiver].is_empty()
+        match self.link(from, to) {
+            Some(link) => self.is_empty_at(link),
+            None => true,
+        }
+    }
+
+    /// Whether nothing is on the link at this place.
+    pub fn is_empty_at(&self, link: LinkPlace) -> bool
+        requires { IsWithin link self.now }
+        ensures { result ≡ is_nil ((seen self.now).queue (from_of link self.now) (to_of link self.now)) }
+    {
+        self.links[link.index()].is_empty()
     }
 
     /// Takes the oldest letter off a link.
@@ -162,13 +215,24 @@ impl<L: Drop> Mesh<L> {
         ensures unchanged { OnErr result (self.new ≡ self.old) }
         ensures err { IfErr result (λ fault. IsUndelivered fault from.now to.now self.old) }
     {
-        let (Some(sender), Some(receiver)) = (self.place(from), self.place(to)) else {
+        let Some(link) = self.link(from, to) else {
             return Err(LinkFault::NoSuchNode);
         };
-        match self.links[sender * MOST_NODES + receiver].pop() {
+        match self.take_at(link) {
             Some(letter) => Ok(letter),
             None => Err(LinkFault::EmptyLink),
         }
+    }
+
+    /// Takes the oldest letter off the link at this place, if there is one.
+    pub fn take_at(&mut self, link: LinkPlace) -> Option<L>
+        requires { IsWithin link self.old }
+        ensures nodes { self.new.nodes ≡ self.old.nodes }
+        ensures oldest { result ≡ slice_get ((seen self.old).queue (from_of link self.old) (to_of link self.old)) 0 }
+        ensures taken { seen self.new ≡ taken (from_of link self.old) (to_of link self.old) (seen self.old) }
+        ensures unchanged { result ≡ None → self.new ≡ self.old }
+    {
+        self.links[link.index()].pop()
     }
 
     /// Empties all links towards a node, for good: what is sent to it from now on vanishes.
@@ -227,9 +291,16 @@ impl<L: Drop> Mesh<L> {
     pub fn first_waiting(&self) -> Option<(NodeName, NodeName)>
         ensures { WaitsFirst result self.now }
     {
+        Some(self.ends(self.first_link()?))
+    }
+
+    /// The place of the first link, by sender and then receiver, on which a letter waits.
+    pub fn first_link(&self) -> Option<LinkPlace>
+        ensures { WaitsFirstOn result self.now }
+    {
         for sender in 0..self.nodes.len() {
             if let Some(receiver) = self.first_receiver(sender) {
-                return Some((self.nodes[sender].copy(), self.nodes[receiver].copy()));
+                return Some(LinkPlace { sender, receiver });
             }
         }
         None

@@ -1,28 +1,19 @@
-use Rattle.std.proofs.Common.{Some, ◌≡◌, ap, sym, ◌∙◌}
-use Rattle.std.proofs.lemmas.Result.{on_ok_weaker}
+use Rattle.std.proofs.Common.{ℕ, ◌≡◌, subst}
+use Rattle.std.specs.Prelude.{OnOk, IfErr}
 use Rattle.protocol_model.specs.Links.{posted}
-use Rattle.link.specs.Held.{Held, place, seen, only_to}
-use Rattle.link.proofs.Writes.{seen-push}
+use Rattle.link.specs.Faults.{IsUnsent}
+use Rattle.link.specs.Held.{seen, only_to}
+use Rattle.link.proofs.Places.{found_at}
 use Rattle.link.proofs.mesh.Mesh.send.Goals as goal
 
-pub returns-clause-ok : goal.returns-clause-ok
-returns-clause-ok g c =
-    let h : Held g.row.L.Denot = record {
-      nodes = c.self.inside.nodes.items;
-      links = c.self.inside.links.items;
-      closed =
-          c.self.inside.closed;
-    } in
-    let sender : place c.args.from.now h.nodes ≡ Some c.in-Some-Some.sender =
-    ap (λ (k : Held g.row.L.Denot). place c.args.from.now k.nodes) c.self.view_is ∙ sym c.place.ensures
-    ∙ c.in-Some-Some.is-0 in
-    let receiver : place c.args.to.now h.nodes ≡ Some c.in-Some-Some.receiver =
-    ap (λ (k : Held g.row.L.Denot). place c.args.to.now k.nodes) c.self.view_is ∙ sym c.place-2.ensures
-    ∙ c.in-Some-Some.is-1 in
-    on_ok_weaker c.push.result
-    (λ more. seen-push h c.args.from.now c.args.to.now c.in-Some-Some.sender c.in-Some-Some.receiver c.args.letter
-    c.index_mut.result.now c.push.new.self
-    c.self.invariant sender receiver c.if-self-receiver.false c.index_mut.ensures.value more
-    ∙ ap (λ (k : Held g.row.L.Denot). posted c.args.from.now (only_to c.args.to.now c.args.letter) (seen k))
-    c.self.view_is)
-    c.push.ensures.ok
+pub returns-in-Some-clause-ok : goal.returns-in-Some-clause-ok
+returns-in-Some-clause-ok g c =
+    let sender = found_at c.args.self.now c.args.from.now c.in-Some.sender c.place.result c.place.ensures c.in-Some.is in
+    subst (λ (f : ℕ). OnOk c.send_from.result (seen c.send_from.new.self
+    ≡ posted f (only_to c.args.to.now c.args.letter) (seen c.args.self.now))) sender.1 c.send_from.ensures.ok
+
+pub returns-in-Some-clause-err : goal.returns-in-Some-clause-err
+returns-in-Some-clause-err g c =
+    let sender = found_at c.args.self.now c.args.from.now c.in-Some.sender c.place.result c.place.ensures c.in-Some.is in
+    subst (λ (f : ℕ). IfErr c.send_from.result (λ unsent. IsUnsent unsent.fault f c.args.to.now c.args.self.now))
+    sender.1 c.send_from.ensures.err
