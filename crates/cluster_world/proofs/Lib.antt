@@ -10,6 +10,7 @@ mod Plays
 mod Taking
 mod Holding
 mod Deliveries
+mod Linked
 mod Starting
 pub mod Agreeing
 pub mod Locks

@@ -2,21 +2,21 @@
 use Rattle.std.proofs.Common.{ℕ, zero, suc, Bool, true, false, ◌≡◌, ◌<◌, ◌+◌, ◌-◌, arith, Option, Some, None, List, [], ◌∷◌, ◌++◌, map, refl, sym, ap, ◌∙◌, subst, inr, zero-add, add-zero}
 use Rattle.std.specs.Prelude.{Result, Ok, Err, is_some, is_none, ◌&&◌, if◌then◌else◌}
 use Rattle.std.proofs.lemmas.List.{append_assoc, append-nil, map-append}
-use Rattle.protocol_model.specs.Event.{Answer as AnyAnswer, Refusal as AnyRefusal}
+use Rattle.protocol_model.specs.Event.{Event as AnyEvent, Answer as AnyAnswer, Refusal as AnyRefusal}
 use Rattle.protocol_model.specs.World.{Opening, World, WorldEvent as AnyWorldEvent, refusal, happens, answers, run, all_answers}
 use Rattle.node_core.specs.declared.Answer.{Answer}
 use Rattle.node_core.specs.declared.Call.{Call}
 use Rattle.node_core.specs.NodeEventsSeen.{answer_of, call_of}
 use Rattle.world_events.specs.declared.refusal.Refusal.{Refusal}
 use Rattle.world_events.specs.declared.refusal.Refusal.TheVariants.{NoSuchNode, NodeLeft, EmptyLink, Step}
-use Rattle.world_events.specs.declared.events.Event.TheVariants.{Call as Calls}
+use Rattle.world_events.specs.declared.events.Event.TheVariants.{Call as Calls, Retry}
 use Rattle.world_events.specs.declared.events.WorldEvent.{WorldEvent}
-use Rattle.world_events.specs.declared.events.WorldEvent.TheVariants.{At}
+use Rattle.world_events.specs.declared.events.WorldEvent.TheVariants.{At, Deliver}
 use Rattle.cluster_world.specs.declared.seat.SeatFault.{SeatFault}
 use Rattle.cluster_world.specs.declared.seat.SeatFault.TheVariants.{Refused, NoMemory, NoAnswer}
 use Rattle.world_events.specs.Events.{event_of}
 use Rattle.cluster_world.specs.Held.{Held}
-use Rattle.cluster_world.specs.Playing.{Keeps, Played, RefusedWith, events_of, accepts_all}
+use Rattle.cluster_world.specs.Playing.{Keeps, Played, RefusedWith, WaitsOn, events_of, accepts_all}
 use Rattle.world_events.specs.Refusals.{refusal_of, is_memory, out_of_memory}
 use Rattle.cluster_world.specs.Seats.{most_events, verdict_in, next_number, next_for, awaiting, until_answered, WentThrough, Waited, HasWaited, Called, SetsLock}
 use Rattle.cluster_world.specs.Seen.{opening_of, seen}
@@ -47,6 +47,17 @@ module _ (o : Opening) (a k left : ℕ) (w : World) where
   pub awaiting-end : (e : AnyWorldEvent) (r : AnyRefusal) → next_for o a w ≡ e → refusal o w e ≡ Some r
       → awaiting o a k (suc left) w ≡ []
   awaiting-end e r is refused = by_refusal (Some r) (ap (refusal o w) is ∙ refused)
+
+-- that is a retry where no letter waits, and else a delivery
+pub next_retry : (h : Held) (a b : ℕ) → b ≡ a → WaitsOn None h
+    → event_of (At b Retry) ≡ next_for (opening_of h) a (seen h)
+next_retry h a b same none = ap (λ (x : ℕ). AnyWorldEvent.At x AnyEvent.Retry) same
+    ∙ sym (ap (λ (o : Option AnyWorldEvent). elim o [ None ↦ AnyWorldEvent.At a AnyEvent.Retry | Some e ↦ e ]) none)
+
+pub next_delivered : (h : Held) (a f t : ℕ) → WaitsOn (Some (f, t)) h
+    → event_of (Deliver f t) ≡ next_for (opening_of h) a (seen h)
+next_delivered h a f t waits =
+    sym (ap (λ (o : Option AnyWorldEvent). elim o [ None ↦ AnyWorldEvent.At a AnyEvent.Retry | Some e ↦ e ]) waits)
 
 -- what was played stands in another state that the protocol sees the same
 stands_still : (es : List WorldEvent) (old mid new : Held) (given : List Answer) → WentThrough es old mid given

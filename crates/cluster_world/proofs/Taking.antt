@@ -34,9 +34,17 @@ use Rattle.cluster_world.proofs.Posting.{fit_closed}
 use Rattle.cluster_world.proofs.Steps.{with_core, within, stands, whole_with, as_before, posted_fit, moves}
 
 -- so many entries fit into the room that was made
-pub fits_room : (n len cap most room : ℕ) → len ≡ n → cap < 2 ^ 63 → len ≤ cap → n ≤ most
-    → min (2 ^ 64 - 1) most ≤ room → n ≤ room
-fits_room n len cap most room same small under few made = omega arith
+pub fits_room : (n len cap room : ℕ) → len ≡ n → cap < 2 ^ 63 → len ≤ cap → min (2 ^ 64 - 1) n ≤ room → n ≤ room
+fits_room n len cap room same small under made = omega arith
+
+-- so it is of fewer than there is room for
+pub less_fits : (n most room : ℕ) → n ≤ most → min (2 ^ 64 - 1) most ≤ room → min (2 ^ 64 - 1) n ≤ room
+less_fits n most room few made = omega arith
+
+-- the answers that are given are those that its turn has
+pub answers_are : {e : WorldEvent} {old new : Held} {given now : List Answer} → now ≡ given → Played e old new [] given
+    → Played e old new [] now
+answers_are {e} {old} {new} same played = subst (λ (given : List Answer). Played e old new [] given) (sym same) played
 
 module _ (old h : Held) (same : h ≡ old) (whole : IsWhole h) (p : ℕ) (event : WorldEvent)
     (A : IsAdmitted p event old) (core : Core) (is : core ≡ get_or h.cores p core) where

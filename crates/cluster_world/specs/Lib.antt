@@ -17,5 +17,6 @@ pub mod Playing
 pub mod Agreeing
 pub mod Locks
 pub mod Leftovers
+pub mod Settling
 pub mod Counting
 pub mod Seats

@@ -17,9 +17,11 @@ use Rattle.cluster_world.specs.declared.seat.WorldSeat.{WorldSeat}
 use Rattle.cluster_world.specs.declared.seat.SeatFault.{SeatFault}
 use Rattle.cluster_world.specs.declared.seat.SeatFault.TheVariants.{Refused, NoMemory, NoAnswer}
 use Rattle.cluster_world.specs.Held.{Held}
+use Rattle.world_events.specs.declared.refusal.Refusal.{Refusal}
+use Rattle.world_events.specs.Events.{event_of}
 use Rattle.world_events.specs.Refusals.{is_memory, out_of_memory}
 use Rattle.cluster_world.specs.Seen.{opening_of, seen}
-use Rattle.cluster_world.specs.Playing.{RefusedWith, events_of, accepts_all}
+use Rattle.cluster_world.specs.Playing.{Played, RefusedWith, events_of, accepts_all}
 use Rattle.cluster_world.specs.Agreeing.{Agrees}
 use Rattle.cluster_world.specs.Locks.{LocksBehind}
 use Rattle.cluster_world.specs.Leftovers.{LeavesNothing}
@@ -52,6 +54,18 @@ next_number a w = (w.node a).last_call + 1
 -- node
 abbrev pub next_for : Opening → ℕ → World → AnyWorldEvent
 next_for o a w = elim (next_delivery o w) [ None ↦ AnyWorldEvent.At a AnyEvent.Retry | Some e ↦ e ]
+
+-- it was played, and gave these answers
+pub record PlaysNext (a : ℕ) (old new : Held) (given : List Answer) : Type 0 where
+  pub event : WorldEvent
+  pub next : event_of event ≡ next_for (opening_of old) a (seen old)
+  pub played : Played event old new [] given
+
+-- or it was refused
+pub record RefusesNext (a : ℕ) (old : Held) (why : Refusal) : Type 0 where
+  pub event : WorldEvent
+  pub next : event_of event ≡ next_for (opening_of old) a (seen old)
+  pub refused : RefusedWith why event old
 
 -- that again and again, until call k is answered or that is refused; at most this many
 abbrev pub awaiting : Opening → ℕ → ℕ → ℕ → World → List AnyWorldEvent

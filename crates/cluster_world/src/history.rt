@@ -1,6 +1,8 @@
 //! What a step enters into the history.
 ghost use Rattle.std.specs.Prelude.{◌≡◌, ◌≤◌, ◌++◌, length, map};
+ghost use Rattle.protocol_model.specs.World.{number_in};
 ghost use Rattle.node_core.specs.NodeEventsSeen.{entry_by};
+ghost use Rattle.node_core.specs.Seen.{node_of};
 ghost use Rattle.world_history.specs.Histories.{entry_of};
 ghost use Rattle.cluster_world.specs.Cores.{core_of};
 ghost use Rattle.cluster_world.specs.Histories.{number_of, number_at};
@@ -11,13 +13,20 @@ use std::alloc::Global;
 use term::NodeName;
 use world_history::History;
 
-/// The number of a node's join that waits for its contact, or 0 where it has none.
+/// The number of a core's join that waits for its contact, or 0 where it has none.
+pub(crate) fn join_of<N: Names<Memory = Global>>(core: &NodeCore<N>) -> u32
+    ensures { result ≡ number_in (node_of core.now).current }
+{
+    core.join_number().unwrap_or(0)
+}
+
+/// The same of a node, which is 0 where it has no core.
 fn number_of<N: Names<Memory = Global>>(cores: &[NodeCore<N>], node: &NodeName) -> u32
     ensures { result ≡ number_of (core_of node.now cores.now) }
 {
     for core in cores {
         if core.name() == node {
-            return core.join_number().unwrap_or(0);
+            return join_of(core);
         }
     }
     0

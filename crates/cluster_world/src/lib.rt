@@ -7,6 +7,8 @@ mod mail;
 mod run_end;
 mod seat;
 mod start;
+mod turns;
+
 mod world;
 
 pub use run_end::RunEnd;

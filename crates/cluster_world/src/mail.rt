@@ -3,11 +3,11 @@ ghost use Rattle.std.specs.Prelude.{◌≡◌, true, not, None, OnOk};
 ghost use Rattle.std.specs.List.{slice_get};
 ghost use Rattle.std.specs.Option.{option_copied};
 ghost use Rattle.protocol_model.specs.Links.{Links, is_nil, posted, taken, closed_out};
-ghost use Rattle.link.specs.Held.{has, seen as on_mesh};
+ghost use Rattle.link.specs.Held.{has, from_of, to_of, IsWithin, seen as on_mesh};
 ghost use Rattle.cluster_world.specs.Links.{letters_to, with_unsent, lesser, earlier, WaitsFirst, IsLeastOpen};
 ghost use Rattle.cluster_world.specs.Mail.{links_of};
 
-use link::Mesh;
+use link::{LinkPlace, Mesh};
 use std::alloc::{AllocError, Global};
 use std::collections::VecDeque;
 use std::marker::Model;
@@ -45,8 +45,11 @@ fn send_all(mesh: &mut Mesh<Letter>, sender: &NodeName, letters: &mut VecDeque<(
     ensures links { posted sender.now (λ t. letters_to t letters.new.items) (on_mesh mesh.new)
         ≡ posted sender.now (λ t. letters_to t letters.old.items) (on_mesh mesh.old) }
 {
+    let Some(place) = mesh.place(sender) else {
+        return;
+    };
     while let Some((receiver, letter)) = letters.pop_front() {
-        if let Err(unsent) = mesh.send(sender, &receiver, letter) {
+        if let Err(unsent) = mesh.send_from(place, &receiver, letter) {
             letters.push_front_reserved((receiver, unsent.letter));
             return;
         }
@@ -134,17 +137,19 @@ impl Mail {
     }
 
     /// Whether nothing is on a link.
-    pub(crate) fn is_empty(&self, sender: &NodeName, receiver: &NodeName) -> bool
-        ensures { result ≡ is_nil ((links_of self.now).queue sender.now receiver.now) }
+    pub(crate) fn is_empty(&self, link: LinkPlace) -> bool
+        requires { IsWithin link self.now.mesh }
+        ensures { result ≡ is_nil ((links_of self.now).queue (from_of link self.now.mesh) (to_of link self.now.mesh)) }
     {
-        if !self.mesh.is_empty(sender, receiver) {
+        if !self.mesh.is_empty_at(link) {
             return false;
         }
         match &self.unsent {
             Some(outbox) => {
-                outbox.sender != *sender
-                    || self.mesh.is_closed(receiver)
-                    || !outbox.has_for(receiver)
+                let (sender, receiver) = self.mesh.ends(link);
+                outbox.sender != sender
+                    || self.mesh.is_closed(&receiver)
+                    || !outbox.has_for(&receiver)
             }
             None => true,
         }
@@ -165,11 +170,13 @@ impl Mail {
     }
 
     /// The oldest letter on a link, where all letters are on theirs.
-    pub(crate) fn front(&self, sender: &NodeName, receiver: &NodeName) -> Option<&Letter>
-        requires { self.now.unsent ≡ None }
-        ensures { option_copied result ≡ slice_get ((links_of self.now).queue sender.now receiver.now) 0 }
+    pub(crate) fn front(&self, link: LinkPlace) -> Option<&Letter>
+        requires all { self.now.unsent ≡ None }
+        requires within { IsWithin link self.now.mesh }
+        ensures { option_copied result
+            ≡ slice_get ((links_of self.now).queue (from_of link self.now.mesh) (to_of link self.now.mesh)) 0 }
     {
-        self.mesh.front(sender, receiver)
+        self.mesh.front_at(link)
     }
 
     /// Puts what isn't on its link yet there. Where memory is refused the rest waits on, and no letter is lost.
@@ -192,13 +199,14 @@ impl Mail {
     }
 
     /// Takes the oldest letter off a link, if there is one. It takes no memory.
-    pub(crate) fn take(&mut self, sender: &NodeName, receiver: &NodeName)
-        requires { self.old.unsent ≡ None }
+    pub(crate) fn take(&mut self, link: LinkPlace)
+        requires all { self.old.unsent ≡ None }
+        requires within { IsWithin link self.old.mesh }
         ensures nodes { self.new.mesh.nodes ≡ self.old.mesh.nodes }
-        ensures links { links_of self.new ≡ taken sender.now receiver.now (links_of self.old) }
+        ensures links { links_of self.new ≡ taken (from_of link self.old.mesh) (to_of link self.old.mesh) (links_of self.old) }
         ensures all { self.new.unsent ≡ None }
     {
-        let _ = self.mesh.deliver(sender, receiver);
+        let _ = self.mesh.take_at(link);
     }
 
     /// Puts each of these letters at the back of the link to its receiver. Those that memory is refused for are kept until there is

@@ -85,11 +85,10 @@ fn no_answer(refusal: &Refusal) -> SeatFault
 }
 
 impl<N: Names<Memory = Global>> World<N> {
-    ghost use Rattle.std.specs.Prelude.{Some};
-    ghost use Rattle.world_events.specs.Events.{event_of};
+    ghost use Rattle.std.specs.Prelude.{Some, OnErr, IfOk, IfErr};
     ghost use Rattle.cluster_world.specs.Playing.{Keeps};
-    ghost use Rattle.cluster_world.specs.Seats.{next_number, next_for, HasWaited};
-    ghost use Rattle.cluster_world.specs.Seen.{opening_of, seen};
+    ghost use Rattle.cluster_world.specs.Seats.{next_number, PlaysNext, RefusesNext, HasWaited};
+    ghost use Rattle.cluster_world.specs.Seen.{seen};
 
     /// The number of the node's next numbered call.
     fn next_number(&self, node: &NodeName) -> u64
@@ -102,13 +101,17 @@ impl<N: Names<Memory = Global>> World<N> {
         u64::from(last) + 1
     }
 
-    /// What a call at the node waits for: the delivery that comes next, or else a retry.
-    fn next_for(&self, node: &NodeName) -> WorldEvent
-        ensures { event_of result ≡ next_for (opening_of self.now) node.now (seen self.now) }
+    /// Plays what a call at the node waits for: the delivery that `settle` makes next, or else a retry.
+    fn play_next(&mut self, node: &NodeName) -> Result<Vec<Answer>, Refusal>
+        ensures kept { Keeps self.old self.new }
+        ensures ok { IfOk result (λ answers. PlaysNext node.now self.old self.new answers.items) }
+        ensures refused { IfErr result (λ refusal. RefusesNext node.now self.old refusal) }
+        ensures as_before { OnErr result (seen self.new ≡ seen self.old) }
     {
-        match self.waiting() {
-            Some((sender, receiver)) => WorldEvent::Deliver(sender, receiver),
-            None => WorldEvent::At(node.copy(), Event::Retry),
+        match self.deliver_next() {
+            Ok(Some(answers)) => Ok(answers),
+            Ok(None) => self.play(&WorldEvent::At(node.copy(), Event::Retry)),
+            Err(refused) => Err(Refusal::from(refused)),
         }
     }
 
@@ -118,7 +121,7 @@ impl<N: Names<Memory = Global>> World<N> {
         ensures waited { HasWaited node.now number self.old self.new result }
     {
         for _ in 0..MOST_EVENTS {
-            match self.play(&self.next_for(node)) {
+            match self.play_next(node) {
                 Ok(answers) => {
                     if let Some(granted) = verdict_in(answers.as_slice(), node, number) {
                         return Ok(granted);

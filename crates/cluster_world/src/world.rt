@@ -4,9 +4,11 @@ ghost use Rattle.node_core.specs.Rare.{most_entries};
 ghost use Rattle.cluster_world.specs.Mail.{links_of};
 ghost use Rattle.cluster_world.specs.Seen.{is_holding};
 
-use crate::history::enter_all;
+use crate::history::join_of;
 use crate::mail::Mail;
 use crate::run_end::RunEnd;
+use crate::turns::take_in;
+use link::LinkPlace;
 use name_table::Names;
 use std::alloc::{AllocError, Global};
 use std::marker::Model;
@@ -76,12 +78,13 @@ fn make_room<N: Names<Memory = Global>>(
 }
 
 impl<N: Names<Memory = Global>> World<N> {
-    ghost use Rattle.std.specs.Prelude.{true, false, [], ◌∷◌, take, is_some, OnErr, IfOk, IfErr, IfSome};
+    ghost use Rattle.std.specs.Prelude.{true, false, [], ◌∷◌, Some, None, take, is_some, OnErr, IfOk, IfErr, IfSome, MatchOption};
     ghost use Rattle.std.specs.Option.{option_copied};
     ghost use Rattle.protocol_model.specs.Links.{is_nil};
     ghost use Rattle.protocol_model.specs.World.{holder, left};
     ghost use Rattle.node_core.specs.Held.{IsWithin};
     ghost use Rattle.term.specs.NodeSets.{set_of};
+    ghost use Rattle.link.specs.Held.{place};
     ghost use Rattle.cluster_world.specs.Held.{IsWhole};
     ghost use Rattle.cluster_world.specs.Cores.{core_of};
     ghost use Rattle.cluster_world.specs.Seen.{opening_of, seen};
@@ -91,6 +94,7 @@ impl<N: Names<Memory = Global>> World<N> {
     ghost use Rattle.cluster_world.specs.Agreeing.{Agrees};
     ghost use Rattle.cluster_world.specs.Locks.{LocksBehind};
     ghost use Rattle.cluster_world.specs.Leftovers.{LeavesNothing};
+    ghost use Rattle.cluster_world.specs.Settling.{WaitsOnLink, HasNext, DeliversNext};
 
     /// The place of the node that an event of a node is played at, or why the event is refused. It takes no memory.
     fn admit_own(&self, node: &NodeName, event: &Event) -> Result<usize, Refusal>
@@ -117,31 +121,17 @@ impl<N: Names<Memory = Global>> World<N> {
         ensures ok { IfOk result (λ place. IsAdmitted place (WorldEvent.Deliver sender.now receiver.now) self.now) }
         ensures refused { IfErr result (λ refusal. RefusedWith refusal (WorldEvent.Deliver sender.now receiver.now) self.now) }
     {
-        // Letters wait between nodes of the world alone, and for none that has left.
-        if self.links.is_empty(sender, receiver) {
-            return Err(self.why_nothing_waits(sender, receiver));
-        }
-        let Some(place) = self.nodes.position(receiver) else {
-            unreachable!()
+        let Some(link) = self.links.mesh.link(sender, receiver) else {
+            return Err(Refusal::NoSuchNode);
         };
-        Ok(place)
-    }
-
-    /// Why the delivery of a link is refused on which nothing waits. It takes no memory.
-    fn why_nothing_waits(&self, sender: &NodeName, receiver: &NodeName) -> Refusal
-        requires { is_nil ((links_of self.now.links).queue sender.now receiver.now) ≡ true }
-        ensures { RefusedWith result (WorldEvent.Deliver sender.now receiver.now) self.now }
-    {
-        if !self.nodes.contains(sender) {
-            return Refusal::NoSuchNode;
-        }
-        if !self.nodes.contains(receiver) {
-            return Refusal::NoSuchNode;
+        // Letters wait for no node that has left.
+        if !self.links.is_empty(link) {
+            return Ok(link.receiver);
         }
         if self.links.is_closed(receiver) {
-            return Refusal::NodeLeft;
+            return Err(Refusal::NodeLeft);
         }
-        Refusal::EmptyLink
+        Err(Refusal::EmptyLink)
     }
 
     /// The place of the node that an event is played at, or why the event is refused. It takes no memory.
@@ -173,26 +163,24 @@ impl<N: Names<Memory = Global>> World<N> {
         let alloc: Global = *self.cores.allocator();
         let spare = mem::replace(&mut self.spare, Turn::begin(alloc));
         let core = &mut self.cores[place];
-        let join = core.join_number().unwrap_or(0);
-        let Turn {
-            mut letters,
-            mut entries,
-            answers,
-        } = core.accept(event.cause(), spare)?;
-        self.links.post(node, &mut letters);
-        enter_all(&mut self.history, &mut entries, &self.cores, node, join);
-        self.spare = Turn {
-            letters,
-            entries,
-            answers: Vec::new(alloc),
-        };
+        let own = join_of(core);
+        let turn = core.accept(event.cause(), spare)?;
+        let (answers, spare) = take_in(
+            turn,
+            node,
+            own,
+            &self.cores,
+            &mut self.links,
+            &mut self.history,
+        );
+        self.spare = spare;
         if event.is_leave() {
             self.links.close_out(node);
         }
         Ok(answers)
     }
 
-    /// The node at this place reads the oldest letter of a link, which is taken off it. Where memory is refused, nothing has happened.
+    /// The node at this place reads the oldest letter that a sender has sent it.
     fn deliver(
         &mut self,
         place: usize,
@@ -205,27 +193,49 @@ impl<N: Names<Memory = Global>> World<N> {
         ensures few { IfOk result (λ answers. AreFew place self.old answers.items) }
         ensures as_before { OnErr result (seen self.new ≡ seen self.old) }
     {
-        make_room(&self.cores[place], &mut self.links, &mut self.history)?;
-        let Some(letter) = self.links.front(sender, receiver) else {
+        let Some(from) = self.links.mesh.place(sender) else {
+            unreachable!()
+        };
+        let link = LinkPlace {
+            sender: from,
+            receiver: place,
+        };
+        self.read(link, sender, receiver)
+    }
+
+    /// The receiver of a link reads the oldest letter on it, which is taken off it. Where memory is refused, nothing has happened.
+    fn read(
+        &mut self,
+        link: LinkPlace,
+        sender: &NodeName,
+        receiver: &NodeName,
+    ) -> Result<Vec<Answer>, AllocError>
+        requires sender { place sender.now self.old.nodes ≡ Some link.sender }
+        requires admitted { IsAdmitted link.receiver (WorldEvent.Deliver sender.now receiver.now) self.old }
+        ensures kept { Keeps self.old self.new }
+        ensures ok { IfOk result (λ answers. Played (WorldEvent.Deliver sender.now receiver.now) self.old self.new [] answers.items) }
+        ensures few { IfOk result (λ answers. AreFew link.receiver self.old answers.items) }
+        ensures as_before { OnErr result (seen self.new ≡ seen self.old) }
+    {
+        make_room(&self.cores[link.receiver], &mut self.links, &mut self.history)?;
+        let Some(letter) = self.links.front(link) else {
             unreachable!()
         };
         let alloc: Global = *self.cores.allocator();
         let spare = mem::replace(&mut self.spare, Turn::begin(alloc));
-        let core = &mut self.cores[place];
-        let join = core.join_number().unwrap_or(0);
-        let Turn {
-            mut letters,
-            mut entries,
-            answers,
-        } = core.accept(Cause::FromPeer(sender, letter), spare)?;
-        self.links.take(sender, receiver);
-        self.links.post(receiver, &mut letters);
-        enter_all(&mut self.history, &mut entries, &self.cores, receiver, join);
-        self.spare = Turn {
-            letters,
-            entries,
-            answers: Vec::new(alloc),
-        };
+        let core = &mut self.cores[link.receiver];
+        let own = join_of(core);
+        let turn = core.accept(Cause::FromPeer(sender, letter), spare)?;
+        self.links.take(link);
+        let (answers, spare) = take_in(
+            turn,
+            receiver,
+            own,
+            &self.cores,
+            &mut self.links,
+            &mut self.history,
+        );
+        self.spare = spare;
         Ok(answers)
     }
 
@@ -272,6 +282,34 @@ impl<N: Names<Memory = Global>> World<N> {
     {
         let place = self.admit(event)?;
         Ok(self.accept(place, event)?)
+    }
+
+    /// The place of the first link, by sender and then receiver, on which a letter waits.
+    fn first_link(&self) -> Option<LinkPlace>
+        ensures { WaitsOnLink result self.now }
+    {
+        if self.links.unsent.is_none() {
+            return self.links.mesh.first_link();
+        }
+        let (sender, receiver) = self.links.first_waiting()?;
+        self.links.mesh.link(&sender, &receiver)
+    }
+
+    /// Makes the delivery that `settle` makes next, the oldest letter of the first link on which one waits, and gives its answers; or
+    /// gives none, where no letter waits. Where memory is refused, nothing has happened, and the letter waits on. What holds behind an
+    /// event that is played holds behind this one.
+    pub fn deliver_next(&mut self) -> Result<Option<Vec<Answer>>, AllocError>
+        ensures kept { Keeps self.old self.new }
+        ensures next { IfOk result (λ delivered. MatchOption delivered (WaitsOn None self.old × (self.new ≡ self.old))
+            (λ answers. DeliversNext self.old self.new answers.items)) }
+        ensures waits { OnErr result (HasNext self.old) }
+        ensures as_before { OnErr result (seen self.new ≡ seen self.old) }
+    {
+        let Some(link) = self.first_link() else {
+            return Ok(None);
+        };
+        let (sender, receiver) = self.links.mesh.ends(link);
+        Ok(Some(self.read(link, &sender, &receiver)?))
     }
 
     /// Plays one event, and puts its answers behind those given before. Room for them is had before the event is played.

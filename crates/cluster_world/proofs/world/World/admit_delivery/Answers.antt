@@ -1,29 +1,41 @@
-use Rattle.std.proofs.Common.{◌∙◌, sym, subst}
+use Rattle.std.proofs.Common.{◌∙◌, sym, subst, false, true}
 use Rattle.world_events.specs.declared.events.WorldEvent.TheVariants.{Deliver}
+use Rattle.world_events.specs.declared.refusal.Refusal.TheVariants.{NoSuchNode, NodeLeft, EmptyLink}
 use Rattle.cluster_world.specs.Held.{Held}
+use Rattle.cluster_world.specs.Playing.{RefusedWith}
 use Rattle.cluster_world.specs.Steps.{IsAdmitted}
-use Rattle.cluster_world.proofs.Deliveries.{from_known, to_known, to_running}
-use Rattle.cluster_world.proofs.Listed.{no_place}
-use Rattle.cluster_world.proofs.Plays.{free_delivery}
+use Rattle.cluster_world.proofs.Linked.{refuses_unlinked, sender_known, receiver_known, found_on, admitted_on}
+use Rattle.cluster_world.proofs.Plays.{refuses_left, refuses_empty}
 use Rattle.cluster_world.proofs.world.World.admit_delivery.Goals as goal
 
-pub unreachable-requires : goal.unreachable-requires
-unreachable-requires g c =
-    cc (
-      to_known _ c.self.invariant c.args.sender.now c.args.receiver.now (sym c.is_empty.ensures ∙ c.if-is_empty.false),
-      no_place c.self.inside.nodes c.args.receiver.now (sym c.position.ensures ∙ c.in_default.is),
-    )
+pub returns-in_default-clause-refused : goal.returns-in_default-clause-refused
+returns-in_default-clause-refused g c =
+    subst (λ (k : Held). RefusedWith NoSuchNode (Deliver c.args.sender.now c.args.receiver.now) k) c.self.view_is
+    (refuses_unlinked _ c.self.invariant c.args.sender.now c.args.receiver.now c.in_default.ensures)
 
-pub returns-clause-ok : goal.returns-clause-ok
-returns-clause-ok g c =
-    subst (λ (k : Held). IsAdmitted c.in-Some.place (Deliver c.args.sender.now c.args.receiver.now) k) c.self.view_is
-    (record {
-      place = sym c.position.ensures ∙ c.in-Some.is;
-      running = to_running _ c.self.invariant c.args.sender.now c.args.receiver.now (sym c.is_empty.ensures ∙ c.if-is_empty.false);
-      knows = (from_known _ c.self.invariant c.args.sender.now c.args.receiver.now (sym c.is_empty.ensures ∙ c.if-is_empty.false), sym c.is_empty.ensures ∙ c.if-is_empty.false);
-      accepted = free_delivery _ c.self.invariant c.args.sender.now c.args.receiver.now
-          (from_known _ c.self.invariant c.args.sender.now c.args.receiver.now (sym c.is_empty.ensures ∙ c.if-is_empty.false))
-          (to_known _ c.self.invariant c.args.sender.now c.args.receiver.now (sym c.is_empty.ensures ∙ c.if-is_empty.false))
-          (to_running _ c.self.invariant c.args.sender.now c.args.receiver.now (sym c.is_empty.ensures ∙ c.if-is_empty.false))
-          (sym c.is_empty.ensures ∙ c.if-is_empty.false);
-    })
+pub returns-then-not-is_empty-clause-ok : goal.returns-then-not-is_empty-clause-ok
+returns-then-not-is_empty-clause-ok g c =
+    subst (λ (k : Held). IsAdmitted c.in-Some.link.receiver (Deliver c.args.sender.now c.args.receiver.now) k)
+    c.self.view_is
+    (admitted_on _ c.self.invariant c.args.sender.now c.args.receiver.now c.in-Some.link c.in-Some.ensures.1
+    c.in-Some.ensures.2 c.in-Some.ensures.3
+    (found_on _ c.self.invariant c.args.sender.now c.args.receiver.now c.in-Some.link c.in-Some.ensures false
+    (sym c.if-not-is_empty.true ∙ c.is_empty.ensures)))
+
+pub returns-then-is_closed-clause-refused : goal.returns-then-is_closed-clause-refused
+returns-then-is_closed-clause-refused g c =
+    subst (λ (k : Held). RefusedWith NodeLeft (Deliver c.args.sender.now c.args.receiver.now) k) c.self.view_is
+    (refuses_left _ c.self.invariant c.args.sender.now c.args.receiver.now
+    (sender_known _ c.self.invariant c.args.sender.now c.args.receiver.now c.in-Some.link c.in-Some.ensures)
+    (receiver_known _ c.self.invariant c.args.sender.now c.args.receiver.now c.in-Some.link c.in-Some.ensures)
+    (sym c.is_closed.ensures ∙ c.if-is_closed.true))
+
+pub returns-clause-refused : goal.returns-clause-refused
+returns-clause-refused g c =
+    subst (λ (k : Held). RefusedWith EmptyLink (Deliver c.args.sender.now c.args.receiver.now) k) c.self.view_is
+    (refuses_empty _ c.self.invariant c.args.sender.now c.args.receiver.now
+    (sender_known _ c.self.invariant c.args.sender.now c.args.receiver.now c.in-Some.link c.in-Some.ensures)
+    (receiver_known _ c.self.invariant c.args.sender.now c.args.receiver.now c.in-Some.link c.in-Some.ensures)
+    (sym c.is_closed.ensures ∙ c.if-is_closed.false)
+    (found_on _ c.self.invariant c.args.sender.now c.args.receiver.now c.in-Some.link c.in-Some.ensures true
+    (sym c.if-not-is_empty.false ∙ c.is_empty.ensures)))
