@@ -6,3 +6,5 @@ mod Runs
 pub mod Merged
 pub mod Onward
 mod Fitting
+pub mod Growing
+mod Vouching

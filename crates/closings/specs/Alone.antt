@@ -65,10 +65,25 @@ abbrev pub is_leave : WorldEvent → Bool
 is_leave (At a Event.Leave) = true
 is_leave _ = false
 
+-- what is left to be read behind all these steps
+abbrev pub unread_behind : (ℕ → List Stamped) → List Made → ℕ → List Stamped
+unread_behind letters [] = letters
+unread_behind letters (d ∷ ds) = unread_behind (unread_after d.entry.event letters) ds
+
 -- the first of these steps, if there is one, has a stamp above this one
 abbrev pub StartsAbove : ℕ → List Made → Type 0
 StartsAbove n [] = Unit {0}
 StartsAbove n (d ∷ ds) = n < d.entry.stamp
+
+-- all of these steps have stamps below this one
+abbrev pub AreBelow : ℕ → List Made → Type 0
+AreBelow n [] = Unit {0}
+AreBelow n (d ∷ ds) = (d.entry.stamp < n) × AreBelow n ds
+
+-- the node leaves in none of these steps
+abbrev pub AreStaying : List Made → Type 0
+AreStaying [] = Unit {0}
+AreStaying (d ∷ ds) = (is_leave d.entry.event ≡ false) × AreStaying ds
 
 -- Doing: what it is that a node does a step
 module _ (Doing : Opening → (ℕ → List Stamped) → Node → Made → WorldEvent → Type 0) where

@@ -1,11 +1,15 @@
 -- What a node can say of its own steps alone: that they are its steps as far as the letters that it reads are such as a node relies on.
-use Rattle.std.specs.Prelude.{ℕ, ◌<◌, All, List, [], ◌∷◌}
+use Rattle.std.specs.Prelude.{ℕ, true, false, ◌≡◌, ◌<◌, All, List, [], ◌∷◌, ◌++◌}
 use Rattle.protocol_model.specs.Letter.{Letter}
-use Rattle.protocol_model.specs.Node.{Node}
+use Rattle.protocol_model.specs.Node.{Node, opening_node}
 use Rattle.protocol_model.specs.Turn.{begun, sent_to}
 use Rattle.protocol_model.specs.Reading.{receive}
-use Rattle.protocol_model.specs.World.{Opening, WorldEvent, At, Deliver}
-use Rattle.closings.specs.Alone.{Stamped, Made, IsTurnOf, Does, AllPlay, AreConsistent}
+use Rattle.protocol_model.specs.World.{Opening, WorldEvent, At, Deliver, in_world, in_cluster}
+use Rattle.closings.specs.Alone.{Stamped, Made, sent, IsTurnOf, Does, Plays, AllPlay, AreConsistent}
+
+-- these are the first of those
+abbrev pub Begins : List Stamped → List Stamped → Type 0
+Begins some whole = (rest : List Stamped) × (whole ≡ some ++ rest)
 
 -- fits f t l: the letter l from f to t is such as a node relies on
 module _ (fits : ℕ → ℕ → Letter → Type 0) where
@@ -32,3 +36,19 @@ module _ (fits : ℕ → ℕ → Letter → Type 0) where
   -- guarded steps are consistent
   abbrev pub GuardedEndsAreConsistent : Type 0
   GuardedEndsAreConsistent = (o : Opening) (course : ℕ → List Made) → AreGuarded o course → AreConsistent o course
+
+  -- What node a says at its end: with the letters that it took of each other one, none of a stranger, it did these steps, as far as
+  -- it can say so alone; and what it put for each node begins what they send there
+  pub record Vouches (o : Opening) (a : ℕ) (took put : ℕ → List Stamped) (ds : List Made) : Type 0 where
+    pub plays : Plays DoesIfFit o a took (opening_node (in_cluster o) a) ds
+    pub known : (f : ℕ) → in_world o f ≡ false → took f ≡ []
+    pub puts : (t : ℕ) → in_world o t ≡ true → Begins (put t) (sent t ds)
+
+  -- Where each node of the world says so, and what it took of another begins what that put for it, the steps of all are consistent.
+  -- took a f is what a took of f, and put a t is what a put for t
+  abbrev pub VouchedEndsAreConsistent : Type 0
+  VouchedEndsAreConsistent = (o : Opening) (course : ℕ → List Made) (took put : ℕ → ℕ → List Stamped)
+      → ((a : ℕ) → in_world o a ≡ true → Vouches o a (took a) (put a) (course a))
+      → ((a : ℕ) → in_world o a ≡ false → course a ≡ [])
+      → ((f t : ℕ) → in_world o f ≡ true → in_world o t ≡ true → Begins (took t f) (put f t))
+      → AreConsistent o course

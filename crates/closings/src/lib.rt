@@ -5,7 +5,7 @@
 
 ghost use Rattle.std.specs.Prelude.{ℕ};
 ghost use Rattle.protocol_model.specs.Letter.{Letter};
-ghost use Rattle.closings.specs.Guarded.{GuardedEndsAreConsistent};
+ghost use Rattle.closings.specs.Guarded.{GuardedEndsAreConsistent, VouchedEndsAreConsistent};
 ghost use Rattle.closings.specs.Laws.{ConsistentEndsGoOn, ConsistentEndsPlay};
 
 /// Consistent ends, merged by stamp and then by node, are played by the world to their end, with the answers that they tell of, and
@@ -29,4 +29,10 @@ pub trait Relied {
 /// such as it relies on, and that its own letters are such then. For a letter is sent by a step that read letters of lesser stamps.
 pub fn guarded_ends_are_consistent<T: Relied>()
     ensures { GuardedEndsAreConsistent T.fits }
+{}
+
+/// So does what each node says when it ends, of what it took and of what it put, where what it took of another node begins what that
+/// put for it.
+pub fn vouched_ends_are_consistent<T: Relied>()
+    ensures { VouchedEndsAreConsistent T.fits }
 {}
