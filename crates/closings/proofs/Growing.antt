@@ -80,6 +80,14 @@ module _ (Doing : Opening → (ℕ → List Stamped) → Node → Made → World
     plays_more (unread_after x.entry.event letters) x.after ds P.1 below.1 stay.1 step,
   )
 
+-- steps with stamps below one have stamps below each greater one
+pub below_from : (n m : ℕ) (ds : List Made) → n ≤ m → AreBelow n ds → AreBelow m ds
+below_from n m [] l h = tt
+below_from n m (x ∷ ds) l h = (below x.entry.stamp h.0, below_from n m ds l h.1)
+  where
+    below : (s : ℕ) → s < n → s < m
+    below s i = omega (arith, i, l)
+
 -- what stands behind one step more
 module _ (d : Made) where
   pub node_on : (v : Node) (ds : List Made) → node_behind v (ds ++ d ∷ []) ≡ d.after
@@ -96,12 +104,9 @@ module _ (d : Made) where
   sent_on t (x ∷ ds) = ap (λ (ls : List Stamped). letters_to t x ++ ls) (sent_on t ds)
       ∙ sym (append_assoc (letters_to t x) (sent t ds) (letters_to t d))
 
-  pub below_on : (n m : ℕ) (ds : List Made) → AreBelow n ds → n ≤ m → d.entry.stamp < m → AreBelow m (ds ++ d ∷ [])
-  below_on n m [] h l k = (k, tt)
-  below_on n m (x ∷ ds) h l k = (below x.entry.stamp h.0, below_on n m ds h.1 l k)
-    where
-      below : (s : ℕ) → s < n → s < m
-      below s i = omega (arith, i, l)
+  pub below_on : (n : ℕ) (ds : List Made) → AreBelow n ds → d.entry.stamp < n → AreBelow n (ds ++ d ∷ [])
+  below_on n [] h l = (l, tt)
+  below_on n (x ∷ ds) h l = (h.0, below_on n ds h.1 l)
 
   pub staying_on : (ds : List Made) → AreStaying ds → is_leave d.entry.event ≡ false → AreStaying (ds ++ d ∷ [])
   staying_on [] h e = (e, tt)

@@ -7,4 +7,4 @@ pub mod Merged
 pub mod Onward
 mod Fitting
 pub mod Growing
-mod Vouching
+pub mod Vouching

@@ -8,3 +8,4 @@ pub use Rattle.world_events.specs.NodeEventsSeen
 pub use Rattle.world_events.specs.Openings
 pub mod Entries
 pub mod Logs
+pub mod Seen

@@ -4,3 +4,11 @@ pub mod Letters
 pub mod Faults
 pub mod Concluding
 pub mod Turning
+pub mod Trays
+pub mod Dealing
+pub mod Saying
+pub mod Doing
+pub mod Standing
+pub mod Keeping
+pub mod Beginning
+pub mod Consistency

@@ -10,3 +10,7 @@ pub mod Steps
 pub mod Items
 pub mod Turned
 pub mod Coming
+pub mod Dealings
+pub mod Said
+pub mod Sound
+pub mod Telling

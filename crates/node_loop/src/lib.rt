@@ -5,6 +5,7 @@ mod courtesy;
 mod desk;
 mod gate;
 mod item;
+mod laws;
 mod leaving;
 mod node_loop;
 mod outgoing;
@@ -16,6 +17,7 @@ mod waiting;
 
 pub use gate::{Gate, OpenGate};
 pub use item::{Item, Stamped, Task, Ticket};
+pub use laws::threads_are_consistent;
 pub use node_log::{
     Answer, Call, Event, NameList, NodeCore, NodeEnd, Nodes, Opening, Reply, Retries, SeatEntry,
     StartFault, StepFault, Transcript, WorldEvent,

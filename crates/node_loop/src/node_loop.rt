@@ -4,6 +4,7 @@ ghost use Rattle.tray.specs.Held.{none_for};
 ghost use Rattle.node_loop.specs.Told.{told_by};
 ghost use Rattle.node_loop.specs.Desks.{empty_desk};
 ghost use Rattle.node_loop.specs.Held.{owes, written};
+ghost use Rattle.node_loop.specs.Sound.{BeginsSound, KeepsSound, LeavesSound};
 ghost use Rattle.node_loop.specs.Turned.{Turned};
 
 use crate::courtesy::Courtesy;
@@ -57,7 +58,7 @@ impl<N: Names> Model for NodeLoop<N> {
 impl<N: Names<Memory = Global>> NodeLoop<N> {
     /// The loop of a node that hasn't taken a step in it: nothing is logged, nothing is to be sent, nobody waits.
     pub fn new(alloc: Global, core: NodeCore<N>) -> Result<Self, AllocError>
-        ensures { IfOk result (λ new. new ≡ record {
+        ensures new { IfOk result (λ new. new ≡ record {
           core = core;
           world = core.world;
           log = record { node = core.name; entries = [] };
@@ -68,6 +69,7 @@ impl<N: Names<Memory = Global>> NodeLoop<N> {
           left = false;
           worked = false;
         }) }
+        ensures sound { IfOk result (BeginsSound core) }
     {
         let world = core.world().copy();
         let log = Log::new(alloc, core.name().copy(), &world);
@@ -93,8 +95,12 @@ impl<N: Names<Memory = Global>> NodeLoop<N> {
     /// for. Then the log still has the steps that were made, and no other, and each reply is as it is to be. A step that isn't made
     /// leaves the node as it was. Of one that is made the last letters and replies may be missing then: so the loop isn't to be used
     /// any more, but for its replies and its end.
+    ///
+    /// A loop whose log, core and links tell of the same steps stays so; where the thread ends its log and its core still do, and what
+    /// it sent is a beginning of what they send.
     pub fn turn<E: Post<Item> + Inbox<Item>, G: Gate>(&mut self, end: &mut E, gate: &G) -> bool
-        ensures { Turned E.posts E.refuses E.takes E.misses (G.held gate.now) self.old (E.state end.old) result self.new (E.state end.new) }
+        ensures turned { Turned E.posts E.refuses E.takes E.misses (G.held gate.now) self.old (E.state end.old) result self.new (E.state end.new) }
+        ensures sound { KeepsSound E.posts E.takes self.old (E.state end.old) result self.new (E.state end.new) }
     {
         gate.hold(self.core.name());
         self.tray.drain(end);
@@ -148,6 +154,7 @@ impl<N: Names<Memory = Global>> NodeLoop<N> {
         ensures log { written result.log ≡ self.log }
         ensures table { N.contents result.table ≡ self.core.table }
         ensures ended_alone { result.ended_alone ≡ ended_alone }
+        ensures sound { LeavesSound self (written result.log) (N.contents result.table) }
     {
         let NodeLoop { core, log, .. } = self;
         NodeEnd {

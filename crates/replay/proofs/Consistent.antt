@@ -27,7 +27,8 @@ use Rattle.node_log.specs.Entries.{Entry, Logged}
 use Rattle.node_log.specs.declared.transcript.Transcript.{Transcript}
 use Rattle.replay.specs.declared.faults.CloseFault.{CloseFault}
 use Rattle.replay.specs.declared.faults.CloseFault.TheVariants.{Torn, LeftInHold, Stranger, Memory}
-use Rattle.replay.specs.Consistent.{seen_entry, seen_logs, AreConsistent, is_torn}
+use Rattle.node_log.specs.Seen.{seen_entry}
+use Rattle.replay.specs.Consistent.{seen_logs, AreConsistent, is_torn}
 use Rattle.replay.specs.Ends.{End, logs_of, is_lesser, HasTableOf}
 use Rattle.replay.specs.Least.{IsLeastOther}
 use Rattle.replay.specs.Merging.{IsInOrder, IsMerged, IsNext, Rises, RisesBehind}

@@ -3,19 +3,14 @@ use Rattle.std.specs.Prelude.{ℕ, Bool, true, false, ◌≡◌, ◌++◌, List,
 use Rattle.registry_model.specs.Table.{Table}
 use Rattle.closings.specs.Alone.{Entry as Alone}
 use Rattle.closings.specs.Laws.{ConsistentEnds}
-use Rattle.node_log.specs.NodeEventsSeen.{answer_of}
-use Rattle.node_log.specs.Events.{event_of}
 use Rattle.node_log.specs.Openings.{opening_with}
-use Rattle.node_log.specs.Entries.{Entry, Logged}
+use Rattle.node_log.specs.Entries.{Logged}
+use Rattle.node_log.specs.Seen.{seen_entry}
 use Rattle.replay.specs.declared.faults.CloseFault.{CloseFault}
 use Rattle.replay.specs.declared.faults.CloseFault.TheVariants.{Torn}
 use Rattle.replay.specs.Ends.{End, logs_of}
 use Rattle.replay.specs.Replaying.{AreAll}
 use Rattle.replay.specs.Steps.{log_of}
-
--- a step of a log, as the protocol has it
-abbrev pub seen_entry : Entry → Alone
-seen_entry e = record { stamp = e.stamp; event = event_of e.event; answers = map answer_of e.answers }
 
 -- the log of each node
 abbrev pub seen_logs : List Logged → ℕ → List Alone
