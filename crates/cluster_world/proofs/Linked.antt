@@ -152,8 +152,7 @@ pub next_reader : (h : Held) → IsWhole h → (k : LinkPlace) (p : ℕ × ℕ) 
     → (place p.0 h.nodes ≡ Some k.sender) × IsAdmitted k.receiver (Deliver p.0 p.1) h × WaitsOn (Some (p.0, p.1)) h
 next_reader h whole k p w e =
     let from : from_of k h.links.mesh ≡ p.0 = sym (ap (λ (q : ℕ × ℕ). q.0) e) in
-    let to : to_of k h.links.mesh ≡ p.1 = sym (ap (λ (q : ℕ × ℕ). q.1) e) in
-    (
+    let to : to_of k h.links.mesh ≡ p.1 = sym (ap (λ (q : ℕ × ℕ). q.1) e) in (
       sender_at h whole p.0 p.1 k w.0 from to,
       admitted_on h whole p.0 p.1 k w.0 from to
           (ap (λ (ls : List Letter). is_nil ls) (sym (on_link h.links k p.0 p.1 from to)) ∙ w.1),

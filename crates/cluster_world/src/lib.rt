@@ -8,7 +8,6 @@ mod run_end;
 mod seat;
 mod start;
 mod turns;
-
 mod world;
 
 pub use run_end::RunEnd;

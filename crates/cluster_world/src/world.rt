@@ -217,7 +217,11 @@ impl<N: Names<Memory = Global>> World<N> {
         ensures few { IfOk result (λ answers. AreFew link.receiver self.old answers.items) }
         ensures as_before { OnErr result (seen self.new ≡ seen self.old) }
     {
-        make_room(&self.cores[link.receiver], &mut self.links, &mut self.history)?;
+        make_room(
+            &self.cores[link.receiver],
+            &mut self.links,
+            &mut self.history,
+        )?;
         let Some(letter) = self.links.front(link) else {
             unreachable!()
         };

@@ -1,7 +1,6 @@
-use Rattle.std.proofs.Common.{ℕ, ◌∙◌, Option, List, ap, sym}
+use Rattle.std.proofs.Common.{◌∙◌, Option, ap, sym}
 use Rattle.protocol_model.specs.Links.{posted}
 use Rattle.link.specs.Held.{seen}
-use Rattle.node_core.specs.declared.Letter.{Letter}
 use Rattle.cluster_world.specs.Links.{Unsent, letters_to, with_unsent}
 use Rattle.cluster_world.proofs.mail.Mail.drain.Goals as goal
 

@@ -8,7 +8,6 @@ use Rattle.node_core.specs.NodeEventsSeen.{entry_by}
 use Rattle.node_core.specs.Rare.{most_entries, most_answers}
 use Rattle.node_core.specs.Steps.{Steps, refusal_of}
 use Rattle.world_events.specs.declared.events.WorldEvent.TheVariants.{At}
-use Rattle.world_events.specs.Events.{node_event}
 use Rattle.world_history.specs.declared.entry.HistoryEntry.{HistoryEntry}
 use Rattle.world_history.specs.Histories.{entry_of}
 use Rattle.link.specs.Held.{place}

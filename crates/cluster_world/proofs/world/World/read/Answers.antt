@@ -1,10 +1,9 @@
-use Rattle.std.proofs.Common.{ℕ, ◌<◌, ◌≤◌, ◌∙◌, ◌++◌, ◌^◌, ◌-◌, min, Option, List, [], length, map, ap, sym, subst}
+use Rattle.std.proofs.Common.{ℕ, ◌<◌, ◌≤◌, ◌∙◌, ◌++◌, ◌^◌, ◌-◌, min, Option, List, length, map, ap, sym, subst}
 use Rattle.std.specs.List.{slice_get}
 use Rattle.std.specs.Option.{option_copied}
 use Rattle.std.proofs.lemmas.Result.{err_from_is_err_and}
 use Rattle.protocol_model.specs.Links.{Links, is_nil}
 use Rattle.node_core.specs.declared.Answer.{Answer}
-use Rattle.node_core.specs.declared.Event.TheVariants.{FromPeer}
 use Rattle.node_core.specs.declared.Letter.{Letter}
 use Rattle.node_core.specs.Held.{Held as Core}
 use Rattle.node_core.specs.NodeEventsSeen.{entry_by}
