@@ -6,7 +6,7 @@ use Rattle.std.specs.Io.KnownBytes.{Appends, Keeps}
 use Rattle.std.proofs.KnownBytes.{Appends-nil, Appends-trans, Appends-kept}
 use Rattle.text_lines.specs.declared.faults.StreamFault.{StreamFault}
 use Rattle.text_lines.specs.declared.faults.StreamFault.TheVariants.{Read, Write, TooManyLines, Memory}
-use Rattle.text_lines.specs.Lines.{LosesLines, LosesInto, LosesWithinLine, HasNoLine, StopsAtLine, GoesPast, most_lines, count_of, count_of_all}
+use Rattle.text_lines.specs.Lines.{LosesLines, LosesInto, LosesWithinLine, StopsAtLine, GoesPast, most_lines, count_of, count_of_all}
 use Rattle.text_lines.specs.Writing.{AppendsPart}
 use Rattle.text_lines.proofs.Known.{LosesLines-nil, LosesLines-trans, LosesInto-whole, LosesInto-behind, GoesPast-behind, MayEndIn-none, count_of_all-append}
 use Rattle.text_lines.proofs.Written.{AppendsPart-behind}
