@@ -21,9 +21,8 @@ use Rattle.command_lines.specs.Printing.{answers_text, output_line, error_line, 
 use Rattle.text_lines.specs.Writing.{AppendsPart, Writes}
 use Rattle.cluster_world.proofs.Agreeing.{run-append, all_answers-append}
 use Rattle.cluster_script.specs.Script.{Plays, Breaks, settle_limit, broken, shown}
-use Rattle.cluster_script.specs.Played.{PlaysOrStops, PlaysAsked, Delivers, shown_on, settle_end}
+use Rattle.cluster_script.specs.Played.{PlaysOrStops, PlaysAsked, shown_on, settle_end}
 use Rattle.text_lines.proofs.Written.{AppendsPart-behind, AppendsPart-more}
-use Rattle.cluster_script.proofs.Playing.{opening_of-same}
 
 -- how the deliveries end in a world that opened so and stands as w
 abbrev pub ends_at : Opening → World → Output
@@ -340,20 +339,15 @@ module _ (k : ℕ) (old now : Held) (a b : Option (List ℕ)) (S : Settles k old
       },
     )
 
--- an event that was accepted
+-- the answers of an event that was played were written, or a part of them
 module _ (old new : Held) (e : WorldEvent) (given : List Answer) (a b : Option (List ℕ)) (p : Played e old new [] given) where
-  -- and its answers
-  pub Delivers-played : Appends a b (answers_text (map answer_of given)) → Delivers old new (event_of e) a b (Ok true)
-  Delivers-played w = (
-    opening_of-same old new p.nodes p.cluster,
-    p.happens,
-    subst (λ (ss : List AnyAnswer). Appends a b (answers_text ss)) p.answers w,
-  )
+  pub answers-written : Appends a b (answers_text (map answer_of given))
+      → Appends a b (answers_text (answers (opening_of old) (seen old) (event_of e)))
+  answers-written w = subst (λ (ss : List AnyAnswer). Appends a b (answers_text ss)) p.answers w
 
-  -- and a part of them, behind the exit of a `?`
-  pub Delivers-err : (r : Result Bool WriteFault) (y : WriteFault) → r ≡ Err y
-      → AppendsPart a b (answers_text (map answer_of given)) → Delivers old new (event_of e) a b r
-  Delivers-err r y q w = rw q (subst (λ (ss : List AnyAnswer). AppendsPart a b (answers_text ss)) p.answers w)
+  pub answers-part : AppendsPart a b (answers_text (map answer_of given))
+      → AppendsPart a b (answers_text (answers (opening_of old) (seen old) (event_of e)))
+  answers-part w = subst (λ (ss : List AnyAnswer). AppendsPart a b (answers_text ss)) p.answers w
 
 -- a test for none, by the test for some
 pub is_none-by : {A : Type 0} (r : Option A) (x : Bool) → is_some r ≡ not x → is_none r ≡ x

@@ -1,11 +1,11 @@
 -- What it comes to that the program plays a line, or reads on to the next one.
-use Rattle.std.specs.Prelude.{ℕ, Bool, true, false, ◌≡◌, ◌⊎◌, ◌+◌, ◌<◌, List, [], ◌∷◌, ◌++◌, Option, Some, None, is_some, map, MatchResult, Result, Ok, Err, if◌then◌else◌}
+use Rattle.std.specs.Prelude.{ℕ, Bool, ◌≡◌, ◌⊎◌, ◌+◌, ◌<◌, List, [], ◌∷◌, ◌++◌, Option, Some, None, is_some, map, MatchResult, Result, Ok, Err, if◌then◌else◌}
 use Rattle.std.specs.List.{list_all}
 use Rattle.std.specs.Io.KnownBytes.{Appends}
 use Rattle.registry_model.specs.Process.{nodes_of}
 use Rattle.protocol_model.specs.Event.{Refusal, NoSuchNode, NodeLeft}
 use Rattle.protocol_model.specs.Script.{Line as ScriptLine, Settle, Output, Settled, SettleLimit, TableIs, MembersAre, okay, shown_at}
-use Rattle.protocol_model.specs.World.{Opening, WorldEvent as AnyEvent, left, happens, answers}
+use Rattle.protocol_model.specs.World.{Opening, left}
 use Rattle.command_lines.specs.declared.WorldEvent.{WorldEvent}
 use Rattle.command_lines.specs.Events.{event_of}
 use Rattle.cluster_world.specs.Held.{Held}
@@ -17,7 +17,7 @@ use Rattle.text_lines.specs.declared.faults.StreamFault.TheVariants.{Read, TooMa
 use Rattle.text_lines.specs.declared.faults.WriteFault.{WriteFault}
 use Rattle.text_lines.specs.declared.lines.Line.{Line}
 use Rattle.text_lines.specs.Lines.{spoken, count_of_all, IsKept, LosesLines, LosesInto, HasNoLine, MayEndIn, GoesPastFor}
-use Rattle.command_lines.specs.Printing.{Shows, answers_text, shown_text, is_fine, is_fine_output, output_line, error_line, refusal_word, word_of}
+use Rattle.command_lines.specs.Printing.{Shows, shown_text, is_fine, is_fine_output, output_line, error_line, refusal_word, word_of}
 use Rattle.text_lines.specs.Writing.{AppendsPart, Growth}
 use Rattle.cluster_script.specs.Script.{Outcome, Plays, Fails, Breaks, ComesTo, AllComeTo, settle_limit, behind, behind_all, shown, shown_all}
 
@@ -125,14 +125,6 @@ pub record PlaysLines (first : List Outcome) (input rest : Option (List ℕ)) (m
   pub world : seen new ≡ behind_all (opening_of old) (seen old) (first ++ outcomes)
   pub wrote : Appends before after (shown_text (shown_all (opening_of old) (seen old) (first ++ outcomes)))
   pub fine_is : fine ≡ list_all is_fine (shown_all (opening_of old) (seen old) (first ++ outcomes))
-
--- a letter was delivered, and its answers were written, or after a fault a part of them; or memory was refused, and nothing
--- was delivered or written
-abbrev pub Delivers : Held → Held → AnyEvent → Option (List ℕ) → Option (List ℕ) → Result Bool WriteFault → Type 0
-Delivers old new e before after (Ok true) = (opening_of new ≡ opening_of old) × (seen new ≡ happens (opening_of old) (seen old) e)
-    × Appends before after (answers_text (answers (opening_of old) (seen old) e))
-Delivers old new e before after (Ok false) = (opening_of new ≡ opening_of old) × (seen new ≡ seen old) × (after ≡ before)
-Delivers old new e before after (Err f) = AppendsPart before after (answers_text (answers (opening_of old) (seen old) e))
 
 -- This came of what was read already, and some first lines were lost and played; what they print was written, or a part of
 -- it; of the next line a part was lost

@@ -3,7 +3,6 @@ ghost use Rattle.std.specs.Prelude.{◌≡◌, ◌&&◌, ◌++◌, ◌∷◌, []
 ghost use Rattle.std.specs.Io.KnownBytes.{Keeps};
 ghost use Rattle.std.specs.Io.Buffered.{reader_remaining};
 ghost use Rattle.protocol_model.specs.Script as script;
-ghost use Rattle.protocol_model.specs.World.{WorldEvent as AnyEvent};
 ghost use Rattle.command_lines.specs.NodeEventsSeen.{answer_of as any_answer};
 ghost use Rattle.command_lines.specs.Events.{event_of as any_event};
 ghost use Rattle.command_lines.specs.Commands.{asked_by, line_in};
@@ -11,7 +10,7 @@ ghost use Rattle.text_lines.specs.Lines.{IsKept, most_lines};
 ghost use Rattle.command_lines.specs.Printing as print;
 ghost use Rattle.text_lines.specs.Writing.{Writes};
 ghost use Rattle.cluster_script.specs.Script.{Ran, Stopped};
-ghost use Rattle.cluster_script.specs.Played.{PlaysAsked, PlaysRead, PlaysAll, PlaysBehind, Delivers, WritesOkay, settle_end};
+ghost use Rattle.cluster_script.specs.Played.{PlaysAsked, PlaysRead, PlaysAll, PlaysBehind, WritesOkay, settle_end};
 ghost use Rattle.cluster_script.specs.Headers.{asked_first};
 
 use crate::header::{Headers, ScriptWorld, read_headers};
@@ -23,7 +22,6 @@ use command_lines::{
 };
 use std::alloc::Global;
 use std::io::{BufReader, Read, Write};
-use term::NodeName;
 use text_lines::{Line, MOST_LINES, StreamFault, WriteFault, write_text};
 
 /// The most deliveries of one `settle`.
@@ -89,25 +87,6 @@ fn end_settle<W: Write>(writer: &mut W, is_settled: bool) -> Result<bool, WriteF
     Ok(is_settled)
 }
 
-/// Delivers the letter that waits, and writes the answers: whether it was delivered. Where memory is refused for it nothing is written.
-fn deliver<W: Write>(
-    alloc: Global,
-    writer: &mut W,
-    world: &mut ScriptWorld,
-    sender: NodeName,
-    receiver: NodeName,
-) -> Result<bool, WriteFault>
-    ensures { Delivers world.old world.new (AnyEvent.Deliver sender receiver) (W.contents writer.old) (W.contents writer.new) result }
-{
-    match world.play(&WorldEvent::Deliver(sender, receiver)) {
-        Ok(answers) => {
-            write_answers(alloc, writer, &answers)?;
-            Ok(true)
-        }
-        Err(_) => Ok(false),
-    }
-}
-
 /// Delivers until no letter waits, or memory is refused for a delivery, and writes all answers: whether no letter waits then.
 fn settle<W: Write>(
     alloc: Global,
@@ -117,11 +96,10 @@ fn settle<W: Write>(
     ensures { PlaysAsked (Ok script.Settle) world.old world.new (W.contents writer.old) (W.contents writer.new) result }
 {
     for _ in 0..SETTLE_LIMIT {
-        let Some((sender, receiver)) = world.waiting() else {
-            return end_settle(writer, true);
-        };
-        if !deliver(alloc, writer, world, sender, receiver)? {
-            return refuse_memory(writer);
+        match world.deliver_next() {
+            Ok(Some(answers)) => write_answers(alloc, writer, &answers)?,
+            Ok(None) => return end_settle(writer, true),
+            Err(_) => return refuse_memory(writer),
         }
     }
     end_settle(writer, world.waiting().is_none())

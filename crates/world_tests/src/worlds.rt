@@ -21,11 +21,10 @@ const LONG: &str = "sixty-four_bytes@4567890123456789012345678901234567890123456
 /// Delivers what waits until nothing does. Whether all that was taken.
 fn settle(world: &mut Cluster) -> bool {
     for _ in 0..ENOUGH {
-        let Some((sender, receiver)) = world.waiting() else {
-            return true;
-        };
-        if world.play(&WorldEvent::Deliver(sender, receiver)).is_err() {
-            return false;
+        match world.deliver_next() {
+            Ok(Some(_)) => {}
+            Ok(None) => return true,
+            Err(_) => return false,
         }
     }
     false
