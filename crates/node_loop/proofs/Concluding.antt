@@ -1,5 +1,5 @@
 -- What comes behind a step of the core makes the step of the loop.
-use Rattle.std.proofs.Common.{◌≡◌, ℕ, Bool, true, false, inl, inr, Option, List, [], ◌∷◌, ◌++◌, refl, sym, ap, subst, ◌∙◌, MatchBool}
+use Rattle.std.proofs.Common.{◌≡◌, ◌<◌, ◌^◌, ℕ, Bool, true, false, inl, inr, Option, Ok, Err, List, [], ◌∷◌, ◌++◌, refl, sym, ap, subst, ◌∙◌, MatchBool, append-nil, arith}
 use Rattle.node_log.specs.declared.CoreEvent.{Event as NodeEvent}
 use Rattle.node_log.specs.NodeCoreHeld.{Held}
 use Rattle.node_log.specs.NodeCoreMade.{Made as Turn}
@@ -8,10 +8,12 @@ use Rattle.node_log.specs.declared.WorldEvent.{WorldEvent}
 use Rattle.node_log.specs.Entries.{Entry}
 use Rattle.node_log.specs.Logs.{answered}
 use Rattle.node_loop.specs.declared.item.Ticket.{Ticket}
+use Rattle.node_loop.specs.declared.fault.TurnFault.{TurnFault}
+use Rattle.node_loop.specs.declared.fault.TurnFault.TheVariants.{StampsSpent, Memory}
 use Rattle.node_loop.specs.declared.waiting.Course.{Course}
-use Rattle.node_loop.specs.Desks.{Kept, settled, left_by}
+use Rattle.node_loop.specs.Desks.{Kept, Begins, settled, left_by}
 use Rattle.node_loop.specs.Held.{Looping, Written, with_letters}
-use Rattle.node_loop.specs.Steps.{Cause, stamp_of, entry_of, desk_of, Ends, Goes, Concludes}
+use Rattle.node_loop.specs.Steps.{Cause, stamp_of, entry_of, desk_of, Makes, Begun, IsSpent, Ends, Concludes}
 use Rattle.node_loop.proofs.Logs.{answered_last}
 use Rattle.node_loop.proofs.Letters.{puts_at}
 use Rattle.node_loop.proofs.Telling.{begins_on, begins_as, left_begins}
@@ -35,30 +37,32 @@ module _ (k : Cause) (a : Looping) (core : Held) (log : Written) (s : ℕ) (own 
   desk_path : own ≡ k.own → course ≡ k.course → b.core ≡ core → settled course own core turn.answers a.desk ≡ desk_of k a b.core turn.answers
   desk_path o q e = λ j. settled (q j) (o j) (sym e j) turn.answers a.desk
 
-  -- so the step is made, or the thread ends within it
-  pub goes : (going : Bool) → Steps k.event a.core core turn
-      → log ≡ record a.log { entries = a.log.entries ++ begun_entry k a ∷ [] }
-      → s ≡ stamp_of k a → own ≡ k.own → course ≡ k.course
-      → Concludes s own course turn (record a { core = core; log = log }) going b → Goes k a going b
-  goes true step l e o q c = record {
-    turn = turn;
-    step = subst (λ (h : Held). Steps k.event a.core h turn) (sym c.core) step;
-    log = log_path l c.log;
-    stamp = c.stamp ∙ e;
-    tray = c.told.1 ∙ ap (λ (n : ℕ). with_letters n turn.letters a.tray) e;
-    desk = c.told.0 ∙ desk_path o q c.core;
-    world = c.world;
-    wait = c.wait;
-    left = c.left;
-    worked = c.worked;
-  }
-  goes false step l e o q c = inr (record {
-    turn = turn;
-    step = subst (λ (h : Held). Steps k.event a.core h turn) (sym c.core) step;
-    log = log_path l c.log;
-    tray = puts_at s (stamp_of k a) turn.letters a.tray b.tray e c.told.1;
-    replies = begins_as _ _ _ _ refl (ap (λ (d : Kept). d.replies) (desk_path o q c.core)) c.told.0;
-  })
+  module _ {E : Type 0} (step : Steps k.event a.core core turn) (l : log ≡ record a.log { entries = a.log.entries ++ begun_entry k a ∷ [] }) (e : s ≡ stamp_of k a) (o : own ≡ k.own) (q : course ≡ k.course) where
+    -- so the step is made
+    pub makes : s < 2 ^ 64 → (u : Unit {0}) → Concludes {E = E} s own course turn (record a { core = core; log = log }) (Ok u) b → Makes k a b
+    makes fits u c = record {
+      fits = subst (λ (n : ℕ). n < 2 ^ 64) e fits;
+      turn = turn;
+      step = subst (λ (h : Held). Steps k.event a.core h turn) (sym c.core) step;
+      log = log_path l c.log;
+      stamp = c.stamp ∙ e;
+      tray = c.told.1 ∙ ap (λ (n : ℕ). with_letters n turn.letters a.tray) e;
+      desk = c.told.0 ∙ desk_path o q c.core;
+      world = c.world;
+      wait = c.wait;
+      left = c.left;
+      worked = c.worked;
+    }
+
+    -- or the thread ends within it
+    pub begins : (why : E) → Concludes s own course turn (record a { core = core; log = log }) (Err why) b → Begun k (desk_of k a) a b
+    begins why c = record {
+      turn = turn;
+      step = subst (λ (h : Held). Steps k.event a.core h turn) (sym c.core) step;
+      log = log_path l c.log;
+      tray = puts_at s (stamp_of k a) turn.letters a.tray b.tray e c.told.1;
+      replies = begins_as _ _ _ _ refl (ap (λ (d : Kept). d.replies) (desk_path o q c.core)) c.told.0;
+    }
 
 -- the core's step, of what its event is
 pub stepped : (e f : NodeEvent) (old new : Held) (turn : Turn) → e ≡ f → Steps e old new turn → Steps f old new turn
@@ -75,17 +79,45 @@ begun old mid new s t seat seat_is w v m n es p q r =
       entries = (es ∙ (λ i. (m i).entries ++ record { stamp = p i; seat = q i; event = r i; answers = [] } ∷ [])) j;
     }
 
+-- a stamp was left for the step
+pub unspent : (k : Cause) (a : Looping) (s : ℕ) → s ≡ stamp_of k a → s < 2 ^ 64 → IsSpent k a → ⊥
+unspent k a s e l spent = omega (arith, e, l, spent)
+
+-- the step of a leave was made, and there was no memory to tell all who are to be told
+pub ends_left : (k : Cause) (a m b : Looping) → Makes k a m → b ≡ record m { left = true; desk = b.desk }
+    → Begins b.desk.replies (left_by m.desk).replies
+    → Ends Memory k (λ core answers. left_by (desk_of k a core answers)) a b
+ends_left k a m b M is told = (unspent k a (stamp_of k a) refl M.fits, inr (record {
+  turn = M.turn;
+  step = subst (λ (h : Held). Steps k.event a.core h M.turn) (sym core) M.step;
+  log = ap (λ (l : Looping). l.log) is ∙ M.log;
+  tray = record {
+    put = M.turn.letters;
+    rest = [];
+    split = sym (append-nil M.turn.letters);
+    tray = ap (λ (l : Looping). l.tray) is ∙ M.tray;
+  };
+  replies = begins_as _ _ _ _ refl (ap (λ (d : Kept). (left_by d).replies)
+      (M.desk ∙ ap (λ (h : Held). desk_of k a h M.turn.answers) (sym core))) told;
+}))
+  where
+    core : b.core ≡ m.core
+    core = ap (λ (l : Looping). l.core) is
+
 -- the thread ends within the step of a leave
-pub ends_leaving : (k : Cause) (a b : Looping) → Ends k (desk_of k a) a b
-    → Ends k (λ core answers. left_by (desk_of k a core answers)) a b
-ends_leaving k a b (inl h) = inl h
-ends_leaving k a b (inr h) = inr (record {
-  turn = h.turn;
-  step = h.step;
-  log = h.log;
-  tray = h.tray;
-  replies = begins_on _ _ _ h.replies (left_begins (desk_of k a b.core h.turn.answers));
-})
+pub ends_leaving : (why : TurnFault) (k : Cause) (a b : Looping) → Ends why k (desk_of k a) a b
+    → Ends why k (λ core answers. left_by (desk_of k a core answers)) a b
+ends_leaving StampsSpent k a b h = h
+ends_leaving Memory k a b h = (h.0, elim h.1 [
+  | inl rests ↦ inl rests
+  | inr begun ↦ inr (record {
+    turn = begun.turn;
+    step = begun.step;
+    log = begun.log;
+    tray = begun.tray;
+    replies = begins_on _ _ _ begun.replies (left_begins (desk_of k a b.core begun.turn.answers));
+  })
+])
 
 module _ (P Q : Type 0) where
   pub at_true : (b : Bool) → b ≡ true → P → MatchBool b P Q

@@ -1,6 +1,6 @@
 -- A turn keeps a loop sound.
 use Rattle.std.proofs.Common.{◌≡◌, ◌==◌, ◌<◌, ◌+◌, ◌-◌, max, ℕ, Bool, true, false, Option, None, List, [], drop, map, refl, sym, ap, subst, ◌∙◌, inl, inr, arith, true≢false}
-use Rattle.std.specs.Prelude.{if◌then◌else◌, ◌⊎◌, ◌&&◌, not, MatchBool}
+use Rattle.std.specs.Prelude.{if◌then◌else◌, ◌⊎◌, ◌&&◌, not, MatchBool, MatchResult, Ok, Err}
 use Rattle.std.specs.List.Sorted.{IsStrictlyIncreasing}
 use Rattle.std.proofs.Math.Path.{fun_ext}
 use Rattle.std.proofs.lemmas.Bool.{eq-eqb}
@@ -26,9 +26,11 @@ use Rattle.node_loop.specs.declared.item.Item.TheVariants as item
 use Rattle.node_loop.specs.declared.item.Stamped.{Stamped}
 use Rattle.node_loop.specs.declared.item.Ticket.{Ticket}
 use Rattle.node_loop.specs.declared.replies.TaskFault.{TaskFault}
+use Rattle.node_loop.specs.declared.fault.TurnFault.{TurnFault}
+use Rattle.node_loop.specs.declared.fault.TurnFault.TheVariants.{StampsSpent, Memory}
 use Rattle.node_loop.specs.Desks.{Kept, left_by}
 use Rattle.node_loop.specs.Held.{Looping, has_retry, has_leave, is_due, is_free_to_leave, can_step}
-use Rattle.node_loop.specs.Steps.{Cause, by_event, by_letter, stamp_of, entry_of, desk_of, Makes, Ends, Goes}
+use Rattle.node_loop.specs.Steps.{Cause, Outcome, by_event, by_letter, stamp_of, entry_of, desk_of, Makes, Ends, Goes}
 use Rattle.node_loop.specs.Items.{Refuses, WaitsToLeave, Asks, Accepts, Handles, by_leave, leaver, Departs, Leaves, Then, Hears, Works, Idles}
 use Rattle.node_loop.specs.Turned.{Took, Missed, Turned}
 use Rattle.node_loop.specs.Said.{IsSaid}
@@ -65,8 +67,8 @@ stays_by n Leave h = cc
 
 module _ (o : Opening) (d : Dealt) where
   -- what becomes of a sound loop
-  abbrev Outcome : Bool → Looping → Type 0
-  Outcome going b = MatchBool going (IsSound o b d) (EndsSound o b d)
+  abbrev Comes : Outcome → Looping → Type 0
+  Comes r b = MatchResult r (λ _. IsSound o b d) (λ _. EndsSound o b d)
 
   -- a step for this cause is one of the node, which has these letters to read, and reads them
   record Fits (unread : ℕ → List StampedLetter) (a : Looping) (k : Cause) : Type 0 where
@@ -117,56 +119,67 @@ module _ (o : Opening) (d : Dealt) where
         (ap (λ (l : Looping). l.tray) is ∙ M.tray) (ap (λ (l : Looping). l.world) is ∙ M.world) stays)
 
     -- or the thread ends within it
-    ends : (k : Cause) (due : Held → List Answer → Kept) → Fits unread a k → Ends k due a b → EndsSound o b d
-    ends k due F (inl rests) = ends_still o unread a d S b (ap (λ (l : Looping). l.log) rests.others) rests.core
-    ends k due F (inr begun) =
-        ends_more o unread a d S run k b.core begun.turn begun.step F.own F.known (F.does b.core begun.turn begun.step) b refl begun.log
+    ends : (why : TurnFault) (k : Cause) (due : Held → List Answer → Kept) → Fits unread a k → Ends why k due a b → EndsSound o b d
+    ends StampsSpent k due F h = ends_still o unread a d S b (ap (λ (l : Looping). l.log) h.1)
+        (subst (λ (x : Looping). IsAsBefore a.core x.core) (sym h.1) (as_it_is a.core))
+    ends Memory k due F h = elim h.1 [
+      | inl rests ↦ ends_still o unread a d S b (ap (λ (l : Looping). l.log) rests.others) rests.core
+      | inr begun ↦ ends_more o unread a d S run k b.core begun.turn begun.step F.own F.known (F.does b.core begun.turn begun.step) b refl begun.log
+    ]
 
-    goes : (k : Cause) → Fits unread a k → is_leave (event_of k.logged) ≡ false → (going : Bool) → Goes k a going b → Outcome going b
-    goes k F stays true M = makes k F M b refl (λ _. stays)
-    goes k F stays false E = ends k (desk_of k a) F E
+    goes : (k : Cause) → Fits unread a k → is_leave (event_of k.logged) ≡ false → (r : Outcome) → Goes k a r b → Comes r b
+    goes k F stays (Ok u) M = makes k F M b refl (λ _. stays)
+    goes k F stays (Err why) E = ends why k (desk_of k a) F E
+
+  -- where nothing changed
+  unchanged : (a b : Looping) → IsSound o a d → b ≡ a → EndsSound o b d
+  unchanged a b S e = ends_still o (λ f. []) a d S b (ap (λ (l : Looping). l.log) e)
+      (subst (λ (x : Looping). IsAsBefore a.core x.core) (sym e) (as_it_is a.core))
 
   -- what changes the desk alone
-  refuses : (a b : Looping) → IsSound o a d → (ticket : Option Ticket) (fault : TaskFault) (going : Bool) → Refuses ticket fault a going b → Outcome going b
-  refuses a b S ticket fault true e = subst (λ (x : Looping). IsSound o x d) (sym e) (besides o (λ f. []) a d S _ a.wait a.worked)
-  refuses a b S ticket fault false e = ends_still o (λ f. []) a d S b (ap (λ (l : Looping). l.log) e) (subst (λ (x : Looping). IsAsBefore a.core x.core) (sym e) (as_it_is a.core))
+  refuses : (a b : Looping) → IsSound o a d → (ticket : Option Ticket) (fault : TaskFault) (r : Outcome) → Refuses ticket fault a r b → Comes r b
+  refuses a b S ticket fault (Ok u) e = subst (λ (x : Looping). IsSound o x d) (sym e) (besides o (λ f. []) a d S _ a.wait a.worked)
+  refuses a b S ticket fault (Err why) e = unchanged a b S e.1
 
-  waits : (a b : Looping) → IsSound o a d → (ticket : Option Ticket) (going : Bool) → WaitsToLeave ticket a going b → Outcome going b
-  waits a b S ticket true e = subst (λ (x : Looping). IsSound o x d) (sym e) (besides o (λ f. []) a d S _ a.wait a.worked)
-  waits a b S ticket false e = ends_still o (λ f. []) a d S b (ap (λ (l : Looping). l.log) e) (subst (λ (x : Looping). IsAsBefore a.core x.core) (sym e) (as_it_is a.core))
+  waits : (a b : Looping) → IsSound o a d → (ticket : Option Ticket) (r : Outcome) → WaitsToLeave ticket a r b → Comes r b
+  waits a b S ticket (Ok u) e = subst (λ (x : Looping). IsSound o x d) (sym e) (besides o (λ f. []) a d S _ a.wait a.worked)
+  waits a b S ticket (Err why) e = unchanged a b S e.1
 
-  still : (a b : Looping) (going : Bool) → IsSound o a d → (going ≡ true) × (b ≡ a) → Outcome going b
-  still a b true S h = subst (λ (x : Looping). IsSound o x d) (sym h.1) S
-  still a b false S h = absurd (true≢false (sym h.0))
+  one_outcome : (r : Outcome) (why : TurnFault) → r ≡ Err why → r ≡ Ok tt → ⊥
+  one_outcome r why e f = cc
+
+  still : (a b : Looping) (r : Outcome) → IsSound o a d → (r ≡ Ok tt) × (b ≡ a) → Comes r b
+  still a b (Ok u) S h = subst (λ (x : Looping). IsSound o x d) (sym h.1) S
+  still a b (Err why) S h = absurd (one_outcome (Err why) why refl h.0)
 
   asks : (a b : Looping) → IsSound o a d → a.left ≡ false → (ticket : Option Ticket) (e : Event) → knows_contact a.world e ≡ true
-      → leaves_by e ≡ false → (going : Bool) → Asks ticket e a going b → Outcome going b
-  asks a b S run ticket e known stays going (inl g) =
+      → leaves_by e ≡ false → (r : Outcome) → Asks ticket e a r b → Comes r b
+  asks a b S run ticket e known stays r (inl g) =
       goes (λ f. []) a b S run (by_event ticket e a)
-      (by_own a S ticket e (ap (λ (w : List ℕ). knows_contact w e) (sym S.world) ∙ known)) (stays_by a.core.name e stays) going g
-  asks a b S run ticket e known stays going (inr r) = refuses a b S ticket _ going r.3
+      (by_own a S ticket e (ap (λ (w : List ℕ). knows_contact w e) (sym S.world) ∙ known)) (stays_by a.core.name e stays) r g
+  asks a b S run ticket e known stays r (inr x) = refuses a b S ticket _ r x.3
 
-  accepts : (a b : Looping) → IsSound o a d → (ticket : Option Ticket) (e : Event) (going : Bool) → Accepts ticket e a going b → Outcome going b
-  accepts a b S ticket e going h = at_contact (knows_contact a.world e) refl h
+  accepts : (a b : Looping) → IsSound o a d → (ticket : Option Ticket) (e : Event) (r : Outcome) → Accepts ticket e a r b → Comes r b
+  accepts a b S ticket e r h = at_contact (knows_contact a.world e) refl h
     where
       at_leave : (leaves : Bool) → leaves_by e ≡ leaves → knows_contact a.world e ≡ true → a.left ≡ false
-          → MatchBool leaves (WaitsToLeave ticket a going b) (Asks ticket e a going b) → Outcome going b
-      at_leave true q known run h = waits a b S ticket going h
-      at_leave false q known run h = asks a b S run ticket e known q going h
+          → MatchBool leaves (WaitsToLeave ticket a r b) (Asks ticket e a r b) → Comes r b
+      at_leave true q known run h = waits a b S ticket r h
+      at_leave false q known run h = asks a b S run ticket e known q r h
 
       at_left : (left : Bool) → a.left ≡ left → knows_contact a.world e ≡ true
-          → MatchBool left (Refuses ticket TaskFault.NodeLeft a going b)
-          (MatchBool (leaves_by e) (WaitsToLeave ticket a going b) (Asks ticket e a going b)) → Outcome going b
-      at_left true q known h = refuses a b S ticket _ going h
+          → MatchBool left (Refuses ticket TaskFault.NodeLeft a r b)
+          (MatchBool (leaves_by e) (WaitsToLeave ticket a r b) (Asks ticket e a r b)) → Comes r b
+      at_left true q known h = refuses a b S ticket _ r h
       at_left false q known h = at_leave (leaves_by e) refl known q h
 
       at_contact : (knows : Bool) → knows_contact a.world e ≡ knows
           → MatchBool knows
-          (MatchBool a.left (Refuses ticket TaskFault.NodeLeft a going b)
-          (MatchBool (leaves_by e) (WaitsToLeave ticket a going b) (Asks ticket e a going b)))
-          (Refuses ticket TaskFault.NoSuchNode a going b) → Outcome going b
+          (MatchBool a.left (Refuses ticket TaskFault.NodeLeft a r b)
+          (MatchBool (leaves_by e) (WaitsToLeave ticket a r b) (Asks ticket e a r b)))
+          (Refuses ticket TaskFault.NoSuchNode a r b) → Comes r b
       at_contact true q h = at_left a.left refl q h
-      at_contact false q h = refuses a b S ticket _ going h
+      at_contact false q h = refuses a b S ticket _ r h
 
   -- a node that has left has nothing to read
   gone : (unread : ℕ → List StampedLetter) (a : Looping) → Stands o unread a d → a.left ≡ true → IsSound o a d
@@ -186,29 +199,32 @@ module _ (o : Opening) (d : Dealt) where
     sends = S.sends;
   }
 
-  handles : (a b : Looping) (from : ℕ) (i : Item) → in_world o from ≡ true → Stands o (letters_from from i) a d → (going : Bool)
-      → Handles from i a going b → Outcome going b
-  handles a b from (item.Letter l) known S going h = at_left a.left refl h
+  handles : (a b : Looping) (from : ℕ) (i : Item) → in_world o from ≡ true → Stands o (letters_from from i) a d → (r : Outcome)
+      → Handles from i a r b → Comes r b
+  handles a b from (item.Letter l) known S r h = at_left a.left refl h
     where
-      at_left : (left : Bool) → a.left ≡ left → MatchBool left ((going ≡ true) × (b ≡ a)) (Goes (by_letter from l a) a going b) → Outcome going b
-      at_left true q h = still a b going (gone (letters_from from (item.Letter l)) a S q) h
-      at_left false q h = goes (letters_from from (item.Letter l)) a b S q (by_letter from l a) (by_oldest a from l S known) refl going h
-  handles a b from (item.Task t) known S going h =
-      accepts a b (subst (λ (u : ℕ → List StampedLetter). Stands o u a d) (fun_ext (λ f. none (f == from))) S) t.ticket t.event going h
+      at_left : (left : Bool) → a.left ≡ left → MatchBool left ((r ≡ Ok tt) × (b ≡ a)) (Goes (by_letter from l a) a r b) → Comes r b
+      at_left true q h = still a b r (gone (letters_from from (item.Letter l)) a S q) h
+      at_left false q h = goes (letters_from from (item.Letter l)) a b S q (by_letter from l a) (by_oldest a from l S known) refl r h
+  handles a b from (item.Task t) known S r h =
+      accepts a b (subst (λ (u : ℕ → List StampedLetter). Stands o u a d) (fun_ext (λ f. none (f == from))) S) t.ticket t.event r h
     where
       none : (x : Bool) → (if x then letter_in (item.Task t) else []) ≡ []
       none true = refl
       none false = refl
 
-  leaves : (a b : Looping) → IsSound o a d → (going : Bool) → Leaves a going b → Outcome going b
-  leaves a b S going h = at_free (is_free_to_leave a) refl going h
+  leaves : (a b : Looping) → IsSound o a d → (r : Outcome) → Leaves a r b → Comes r b
+  leaves a b S r h = at_free (is_free_to_leave a) refl r h
     where
       fits : Fits (λ f. []) a (by_leave a)
       fits = by_own a S (leaver a.desk.leaves) Leave refl
 
-      at_free : (free : Bool) → is_free_to_leave a ≡ free → (going : Bool)
-          → MatchBool free (MatchBool going (Departs a b) (Ends (by_leave a) (λ core answers. left_by (desk_of (by_leave a) a core answers)) a b)) ((going ≡ true) × (b ≡ a)) → Outcome going b
-      at_free true q true h =
+      at_free : (free : Bool) → is_free_to_leave a ≡ free → (r : Outcome)
+          → MatchBool free
+          (MatchResult r (λ _. Departs a b)
+          (λ why. Ends why (by_leave a) (λ core answers. left_by (desk_of (by_leave a) a core answers)) a b))
+          ((r ≡ Ok tt) × (b ≡ a)) → Comes r b
+      at_free true q (Ok u) h =
           makes (λ f. []) a h.stepped S (free_runs a q) (by_leave a) fits h.step b (h.behind ∙ λ j. record h.stepped { left = sym left j; desk = sym desk j })
           (λ run. absurd (true≢false (sym left ∙ run)))
         where
@@ -217,25 +233,22 @@ module _ (o : Opening) (d : Dealt) where
 
           desk : b.desk ≡ left_by h.stepped.desk
           desk = ap (λ (l : Looping). l.desk) h.behind
-      at_free true q false h = ends (λ f. []) a b S (free_runs a q) (by_leave a) _ fits h
-      at_free false q going h = still a b going S h
+      at_free true q (Err why) h = ends (λ f. []) a b S (free_runs a q) why (by_leave a) _ fits h
+      at_free false q r h = still a b r S h
 
   -- one thing comes first, and then a leave that waits
-  behind : (first : Looping → Bool → Looping → Type 0) (a : Looping) (going : Bool) (b : Looping)
-      → ((went : Bool) (m : Looping) → first a went m → Outcome went m) → Then first a going b → Outcome going b
-  behind first a going b is h = at_went h.went (is h.went h.between h.comes) h.behind
+  behind : (first : Looping → Outcome → Looping → Type 0) (a : Looping) (r : Outcome) (b : Looping)
+      → ((went : Outcome) (m : Looping) → first a went m → Comes went m) → Then first a r b → Comes r b
+  behind first a r b is h = at_went h.went (is h.went h.between h.comes) h.behind
     where
-      ended : (going : Bool) → EndsSound o h.between d → (going ≡ false) × (b ≡ h.between) → Outcome going b
-      ended true E l = absurd (true≢false l.0)
-      ended false E l = subst (λ (x : Looping). EndsSound o x d) (sym l.1) E
+      at_went : (went : Outcome) → Comes went h.between
+          → MatchResult went (λ _. Leaves h.between r b) (λ why. (r ≡ Err why) × (b ≡ h.between)) → Comes r b
+      at_went (Ok u) S l = leaves h.between b S r l
+      at_went (Err why) E l =
+          subst (λ (x : Outcome). Comes x b) (sym l.0) (subst (λ (x : Looping). EndsSound o x d) (sym l.1) E)
 
-      at_went : (went : Bool) → Outcome went h.between
-          → MatchBool went (Leaves h.between going b) ((going ≡ false) × (b ≡ h.between)) → Outcome going b
-      at_went true S l = leaves h.between b S going l
-      at_went false E l = ended going E l
-
-  idles : (a b : Looping) → IsSound o a d → (going : Bool) → Idles a going b → Outcome going b
-  idles a b S going h = at_retry (is_due a) refl h
+  idles : (a b : Looping) → IsSound o a d → (r : Outcome) → Idles a r b → Comes r b
+  idles a b S r h = at_retry (is_due a) refl h
     where
       now : Looping
       now = record a { worked = can_step a; wait = a.wait - 1 }
@@ -244,28 +257,28 @@ module _ (o : Opening) (d : Dealt) where
       S_now = besides o (λ f. []) a d S a.desk (a.wait - 1) (can_step a)
 
       at_retry : (due : Bool) → is_due a ≡ due
-          → MatchBool due (Then (Goes (by_event None Retry a)) now going b) (Leaves now going b) → Outcome going b
+          → MatchBool due (Then (Goes (by_event None Retry a)) now r b) (Leaves now r b) → Comes r b
       at_retry true q h =
-          behind (Goes (by_event None Retry a)) now going b
+          behind (Goes (by_event None Retry a)) now r b
           (λ went m g. goes (λ f. []) now m S_now (due_runs a q) (by_event None Retry now) (by_own now S_now None Retry refl) refl went g) h
-      at_retry false q h = leaves now b S_now going h
+      at_retry false q h = leaves now b S_now r h
 
   hears : (i : Item) (u : ℕ → List StampedLetter) (a b : Looping) → Stands o u a d → Hears i a b → Stands o u b d
   hears (item.Letter l) u a b S h = subst (λ (x : Looping). Stands o u x d) (sym h.0) (besides o u a d S a.desk b.wait a.worked)
   hears (item.Task t) u a b S h = subst (λ (x : Looping). Stands o u x d) (sym h) S
 
-  works : (a b : Looping) (from : ℕ) (i : Item) → in_world o from ≡ true → Stands o (letters_from from i) a d → (going : Bool)
-      → Works from i a going b → Outcome going b
-  works a b from i known S going h =
+  works : (a b : Looping) (from : ℕ) (i : Item) → in_world o from ≡ true → Stands o (letters_from from i) a d → (r : Outcome)
+      → Works from i a r b → Comes r b
+  works a b from i known S r h =
       let heard : Stands o (letters_from from i) h.hearing d =
       hears i (letters_from from i) (record a { worked = true }) h.hearing
       (besides o (letters_from from i) a d S a.desk a.wait true) h.hears in
-      behind (Handles from i) h.hearing going b (λ went m k. handles h.hearing m from i known heard went k) h.handles
+      behind (Handles from i) h.hearing r b (λ went m k. handles h.hearing m from i known heard went k) h.handles
 
 module _ {S : Type 0} (posts : S → ℕ → Item → S → Type 0) (refused : S → ℕ → Item → LinkFault → Type 0) (takes : S → ℕ → Item → S → Type 0) (misses : S → Type 0) (held : ℕ → Type 0) where
-  pub keeps : (a : Looping) (s : S) (going : Bool) (b : Looping) (t : S) → Turned posts refused takes misses held a s going b t
-      → KeepsSound posts takes a s going b t
-  keeps a s going b t h o dealt D sound = at_end h.turned
+  pub keeps : (a : Looping) (s : S) (r : Outcome) (b : Looping) (t : S) → Turned posts refused takes misses held a s r b t
+      → KeepsSound posts takes a s r b t
+  keeps a s r b t h o dealt D sound = at_end h.turned
     where
       mid : Looping
       mid = record a { tray = h.tray }
@@ -278,10 +291,10 @@ module _ {S : Type 0} (posts : S → ℕ → Item → S → Type 0) (refused : S
       S_mid = sent_off o (λ f. []) a (dealt s) sound h.tray (dealt h.between) E.slots (λ j f. letters_in (E.taken j f))
           (letters_same posts refused takes o dealt D a.tray h.tray (dealt s) (dealt h.between) E)
 
-      at_end : Took posts refused takes misses mid h.between going b t ⊎ Missed posts refused takes misses mid h.between going b t
-          → MatchBool going (IsSound o b (dealt t)) (EndsSound o b (dealt t))
+      at_end : Took posts refused takes misses mid h.between r b t ⊎ Missed posts refused takes misses mid h.between r b t
+          → MatchResult r (λ _. IsSound o b (dealt t)) (λ _. EndsSound o b (dealt t))
       at_end (inl k) = works o (dealt t) mid b k.from k.item (D.gives h.between k.from k.item t k.taken).0
           (taken o mid (dealt h.between) (dealt t) S_mid k.from k.item (D.gives h.between k.from k.item t k.taken).0
           (took_more posts refused takes o dealt D h.between k.from k.item t k.taken)
-          (put_still posts refused takes o dealt D h.between k.from k.item t k.taken)) going k.works
-      at_end (inr k) = idles o (dealt t) mid b (subst (λ (x : S). IsSound o mid (dealt x)) (sym k.still) S_mid) going k.idles
+          (put_still posts refused takes o dealt D h.between k.from k.item t k.taken)) r k.works
+      at_end (inr k) = idles o (dealt t) mid b (subst (λ (x : S). IsSound o mid (dealt x)) (sym k.still) S_mid) r k.idles

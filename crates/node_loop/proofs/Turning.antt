@@ -5,7 +5,7 @@ use Rattle.node_log.specs.declared.Event.TheVariants.{Retry}
 use Rattle.node_loop.specs.declared.item.Ticket.{Ticket}
 use Rattle.node_loop.specs.Desks.{first_leave}
 use Rattle.node_loop.specs.Held.{Looping, has_retry, is_due, can_step}
-use Rattle.node_loop.specs.Steps.{by_event, Goes}
+use Rattle.node_loop.specs.Steps.{Outcome, by_event, Goes}
 use Rattle.node_loop.specs.Items.{leaver, Leaves, Then, Idles}
 use Rattle.node_loop.proofs.Concluding.{at_true, at_false}
 
@@ -27,11 +27,11 @@ module _ (a m : Looping) (w : Bool) (set : m ≡ record a { worked = w; wait = a
   pub due_waits : is_due a ≡ true → has_retry m ≡ true
   due_waits e = ap (λ (x : Looping). has_retry x) set ∙ both_left (has_retry a) (a.wait == 0) e
 
-  pub retries : (going : Bool) (b : Looping) → is_due a ≡ true → Then (Goes (by_event None Retry m)) m going b → Idles a going b
-  retries going b e h =
+  pub retries : (r : Outcome) (b : Looping) → is_due a ≡ true → Then (Goes (by_event None Retry m)) m r b → Idles a r b
+  retries r b e h =
       at_true _ _ (is_due a) e
-      (subst (λ (x : Looping). Then (Goes (by_event None Retry x)) x going b) now_is h)
+      (subst (λ (x : Looping). Then (Goes (by_event None Retry x)) x r b) now_is h)
 
-  pub rests : (going : Bool) (b : Looping) → is_due a ≡ false → Leaves m going b → Idles a going b
-  rests going b e h =
-      at_false _ _ (is_due a) e (subst (λ (x : Looping). Leaves x going b) now_is h)
+  pub rests : (r : Outcome) (b : Looping) → is_due a ≡ false → Leaves m r b → Idles a r b
+  rests r b e h =
+      at_false _ _ (is_due a) e (subst (λ (x : Looping). Leaves x r b) now_is h)

@@ -1,5 +1,5 @@
 -- How the loop of a node comes to be as it is.
-use Rattle.std.specs.Prelude.{ℕ, Bool, false, zero, suc, ◌≡◌, ◌⊎◌, List, [], ◌∷◌, map}
+use Rattle.std.specs.Prelude.{ℕ, false, zero, suc, ◌≡◌, ◌⊎◌, List, [], ◌∷◌, map}
 use Rattle.node_log.specs.NodeCoreHeld.{Held}
 use Rattle.node_log.specs.Openings.{opening_core}
 use Rattle.tray.specs.Held.{Waiting, none_for}
@@ -7,6 +7,7 @@ use Rattle.node_loop.specs.declared.item.Item.{Item}
 use Rattle.node_loop.specs.Told.{Told}
 use Rattle.node_loop.specs.Desks.{empty_desk}
 use Rattle.node_loop.specs.Held.{Looping}
+use Rattle.node_loop.specs.Steps.{Outcome}
 use Rattle.node_loop.specs.Items.{Works, Idles}
 
 -- the loop of a node that begins with this core, before its first turn
@@ -26,8 +27,9 @@ begun core = record {
 -- a turn, whatever the links took of the letters that wait, and whatever came
 pub record Turns (a b : Looping) : Type 0 where
   pub tray : List (Waiting Item)
-  pub going : Bool
-  pub turned : ((from : ℕ) × (i : Item) × Works from i (record a { tray = tray }) going b) ⊎ Idles (record a { tray = tray }) going b
+  pub outcome : Outcome
+  pub turned : ((from : ℕ) × (i : Item) × Works from i (record a { tray = tray }) outcome b)
+      ⊎ Idles (record a { tray = tray }) outcome b
 
 -- the oldest reply is handed out
 pub record HandsOut (a b : Looping) : Type 0 where

@@ -1,5 +1,5 @@
 -- A node's loop that is sound: its log, its core and its links tell of the same steps.
-use Rattle.std.specs.Prelude.{ℕ, Bool, true, false, ◌≡◌, ◌⊎◌, ◌+◌, List, [], ◌++◌, map, MatchBool}
+use Rattle.std.specs.Prelude.{ℕ, true, false, ◌≡◌, ◌⊎◌, ◌+◌, List, [], ◌++◌, map, MatchResult}
 use Rattle.std.specs.List.Sorted.{IsStrictlyIncreasing}
 use Rattle.protocol_model.specs.Node.{Node, opening_node}
 use Rattle.protocol_model.specs.World.{Opening, in_world, in_cluster}
@@ -13,6 +13,7 @@ use Rattle.node_log.specs.Seen.{seen_entry}
 use Rattle.node_loop.specs.declared.item.Item.{Item}
 use Rattle.node_loop.specs.Said.{IsSaid}
 use Rattle.node_loop.specs.Held.{Looping, Written}
+use Rattle.node_loop.specs.Steps.{Outcome}
 use Rattle.node_loop.specs.Dealings.{Dealt, nothing_dealt, letters_in, took, put, receivers, waiting_for, Deals}
 
 -- a node is one of a world that opens so
@@ -74,6 +75,6 @@ LeavesSound a log table = (o : Opening) (d : Dealt) → IsSound o a d ⊎ EndsSo
 
 module _ {S : Type 0} (posts : S → ℕ → Item → S → Type 0) (takes : S → ℕ → Item → S → Type 0) where
   -- over any links of its world, whatever they deal in, a sound loop stays sound where it goes on, and ends sound where it doesn't
-  abbrev pub KeepsSound : Looping → S → Bool → Looping → S → Type 0
-  KeepsSound a s going b t = (o : Opening) (dealt : S → Dealt) → Deals posts takes o dealt → IsSound o a (dealt s)
-      → MatchBool going (IsSound o b (dealt t)) (EndsSound o b (dealt t))
+  abbrev pub KeepsSound : Looping → S → Outcome → Looping → S → Type 0
+  KeepsSound a s r b t = (o : Opening) (dealt : S → Dealt) → Deals posts takes o dealt → IsSound o a (dealt s)
+      → MatchResult r (λ _. IsSound o b (dealt t)) (λ _. EndsSound o b (dealt t))

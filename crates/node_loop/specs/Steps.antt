@@ -1,5 +1,5 @@
 -- The steps of a node's loop.
-use Rattle.std.specs.Prelude.{ℕ, Bool, false, ◌≡◌, ◌+◌, ◌⊎◌, max, Option, None, List, [], ◌∷◌, ◌++◌, MatchBool}
+use Rattle.std.specs.Prelude.{ℕ, false, ◌≡◌, ◌<◌, ◌+◌, ◌-◌, ◌^◌, ◌⊎◌, max, Option, None, Result, Ok, Err, List, [], ◌∷◌, ◌++◌, MatchResult}
 use Rattle.std.specs.Option.{option_map}
 use Rattle.node_log.specs.declared.Answer.{Answer}
 use Rattle.node_log.specs.declared.CoreEvent.{Event as NodeEvent}
@@ -16,6 +16,8 @@ use Rattle.node_log.specs.Entries.{Entry}
 use Rattle.node_log.specs.Logs.{answered}
 use Rattle.node_loop.specs.declared.item.Stamped.{Stamped}
 use Rattle.node_loop.specs.declared.item.Ticket.{Ticket}
+use Rattle.node_loop.specs.declared.fault.TurnFault.{TurnFault}
+use Rattle.node_loop.specs.declared.fault.TurnFault.TheVariants.{StampsSpent, Memory}
 use Rattle.node_loop.specs.declared.stepping.Tried.{Tried}
 use Rattle.node_loop.specs.declared.stepping.Tried.TheVariants.{Made, Refused, Ended}
 use Rattle.node_loop.specs.declared.waiting.Course.{Course}
@@ -69,8 +71,10 @@ entry_of k a answers = record {
 abbrev pub desk_of : Cause → Looping → Held → List Answer → Kept
 desk_of k a core answers = settled k.course k.own core answers a.desk
 
--- The core's step is made: its entry is last in the log, its letters are last in the tray, and its answers are told
+-- The core's step is made: its entry is last in the log, its letters are last in the tray, and its answers are told. Its stamp is one
+-- that there is
 pub record Makes (k : Cause) (a b : Looping) : Type 0 where
+  pub fits : stamp_of k a < 2 ^ 64
   pub turn : Turn
   pub step : Steps k.event a.core b.core turn
   pub log : b.log ≡ record a.log { entries = a.log.entries ++ entry_of k a turn.answers ∷ [] }
@@ -82,13 +86,13 @@ pub record Makes (k : Cause) (a b : Looping) : Type 0 where
   pub left : b.left ≡ a.left
   pub worked : b.worked ≡ a.worked
 
--- the thread ends and the step isn't made: nothing changed, as the protocol sees it
+-- the step isn't made, and nothing changed, as the protocol sees it
 pub record Rests (a b : Looping) : Type 0 where
   pub core : IsAsBefore a.core b.core
   pub others : b ≡ record a { core = b.core }
 
--- The thread ends when the core's step is made and stands in the log. The first of its letters, if not all, are last in
--- the tray, and the first of those are told who are to be
+-- The core's step is made and stands in the log. The first of its letters, if not all, are last in the tray, and the first of those
+-- are told who are to be
 pub record Begun (k : Cause) (due : Held → List Answer → Kept) (a b : Looping) : Type 0 where
   pub turn : Turn
   pub step : Steps k.event a.core b.core turn
@@ -96,23 +100,34 @@ pub record Begun (k : Cause) (due : Held → List Answer → Kept) (a b : Loopin
   pub tray : PutsSome (stamp_of k a) turn.letters a.tray b.tray
   pub replies : Begins b.desk.replies (due b.core turn.answers).replies
 
--- the thread ends within a step
-abbrev pub Ends : Cause → (Held → List Answer → Kept) → Looping → Looping → Type 0
-Ends k due a b = Rests a b ⊎ Begun k due a b
+-- no stamp is left for a step: that would be above the greatest `u64`
+abbrev pub IsSpent : Cause → Looping → Type 0
+IsSpent k a = max a.stamp k.seen ≡ 2 ^ 64 - 1
+
+-- The thread ends within a step. Where no stamp is left for it nothing changed. Where one is, memory was refused, before the step was
+-- made or behind that
+abbrev pub Ends : TurnFault → Cause → (Held → List Answer → Kept) → Looping → Looping → Type 0
+Ends StampsSpent k due a b = IsSpent k a × (b ≡ a)
+Ends Memory k due a b = (IsSpent k a → ⊥) × (Rests a b ⊎ Begun k due a b)
+
+-- what comes of a turn: the thread goes on, or ends for this cause
+abbrev pub Outcome : Type 0
+Outcome = Result (Unit {0}) TurnFault
 
 -- a step is made, or the thread ends within it
-abbrev pub Goes : Cause → Looping → Bool → Looping → Type 0
-Goes k a going b = MatchBool going (Makes k a b) (Ends k (desk_of k a) a b)
+abbrev pub Goes : Cause → Looping → Outcome → Looping → Type 0
+Goes k a (Ok _) b = Makes k a b
+Goes k a (Err why) b = Ends why k (desk_of k a) a b
 
 -- so, or the core refuses the event and nothing changes
 abbrev pub Tries : Option Ticket → Event → Looping → Tried → Looping → Type 0
 Tries own e a Made b = Makes (by_event own e a) a b
 Tries own e a (Refused fault) b =
     (b ≡ a) × (is_memory fault ≡ false) × (refusal_of (node_event e) a.core ≡ fault_of fault)
-Tries own e a Ended b = Ends (by_event own e a) (desk_of (by_event own e a) a) a b
+Tries own e a (Ended why) b = Ends why (by_event own e a) (desk_of (by_event own e a) a) a b
 
 -- behind a step that was logged without its answers
-pub record Concludes (given : ℕ) (own : Option Ticket) (course : Course) (turn : Turn) (a : Looping) (going : Bool) (b : Looping) : Type 0 where
+pub record Concludes {E : Type 0} (given : ℕ) (own : Option Ticket) (course : Course) (turn : Turn) (a : Looping) (result : Result (Unit {0}) E) (b : Looping) : Type 0 where
   pub core : b.core ≡ a.core
   pub world : b.world ≡ a.world
   pub log : b.log ≡ record a.log { entries = answered turn.answers a.log.entries }
@@ -120,7 +135,7 @@ pub record Concludes (given : ℕ) (own : Option Ticket) (course : Course) (turn
   pub wait : b.wait ≡ a.wait
   pub left : b.left ≡ a.left
   pub worked : b.worked ≡ a.worked
-  pub told : MatchBool going
-      ((b.desk ≡ settled course own a.core turn.answers a.desk) × (b.tray ≡ with_letters given turn.letters a.tray))
-      (Begins b.desk.replies (settled course own a.core turn.answers a.desk).replies
+  pub told : MatchResult result
+      (λ _. (b.desk ≡ settled course own a.core turn.answers a.desk) × (b.tray ≡ with_letters given turn.letters a.tray))
+      (λ _. Begins b.desk.replies (settled course own a.core turn.answers a.desk).replies
       × PutsSome given turn.letters a.tray b.tray)

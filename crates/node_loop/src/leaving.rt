@@ -1,6 +1,7 @@
 //! How a node leaves.
 ghost use Rattle.node_loop.specs.Items.{Leaves};
 
+use crate::fault::TurnFault;
 use crate::node_loop::NodeLoop;
 use crate::stepping::Tried;
 use name_table::Names;
@@ -10,20 +11,21 @@ use std::alloc::Global;
 impl<N: Names<Memory = Global>> NodeLoop<N> {
     /// The first leave that waits is accepted, where one does and the node doesn't hold the global lock. All others who wait
     /// are told that the node has left.
-    pub(crate) fn leave_if_free(&mut self) -> bool
+    pub(crate) fn leave_if_free(&mut self) -> Result<(), TurnFault>
         ensures { Leaves self.old result self.new }
     {
         if !self.is_free_to_leave() {
-            return true;
+            return Ok(());
         }
         let ticket = self.desk.first_leave().flatten();
         match self.attempt(ticket, Event::Leave) {
             Tried::Made => {
                 self.left = true;
-                self.desk.leave().is_ok()
+                self.desk.leave()?;
+                Ok(())
             }
-            Tried::Refused(_) => true,
-            Tried::Ended => false,
+            Tried::Refused(_) => Ok(()),
+            Tried::Ended(fault) => Err(fault),
         }
     }
 }

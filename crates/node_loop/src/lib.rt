@@ -3,6 +3,7 @@
 
 mod courtesy;
 mod desk;
+mod fault;
 mod gate;
 mod item;
 mod laws;
@@ -15,6 +16,7 @@ mod stepping;
 mod tries;
 mod waiting;
 
+pub use fault::TurnFault;
 pub use gate::{Gate, OpenGate};
 pub use item::{Item, Stamped, Task, Ticket};
 pub use laws::threads_are_consistent;

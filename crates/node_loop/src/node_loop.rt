@@ -9,6 +9,7 @@ ghost use Rattle.node_loop.specs.Turned.{Turned};
 
 use crate::courtesy::Courtesy;
 use crate::desk::Desk;
+use crate::fault::TurnFault;
 use crate::gate::Gate;
 use crate::item::Item;
 use crate::replies::TaskReply;
@@ -91,14 +92,17 @@ impl<N: Names<Memory = Global>> NodeLoop<N> {
 
     /// One turn: it asks the gate, sends what waits, takes one item from the inbox, and makes its step; where it finds none,
     /// the node tries its refused rounds again, unless it gives way to rivals still. A leave that waits is tried behind that.
-    /// It answers whether the thread goes on: it ends where no stamp is left, or where memory was refused as often as it is asked
-    /// for. Then the log still has the steps that were made, and no other, and each reply is as it is to be. A step that isn't made
+    /// It fails where the thread is to end: no stamp is left, or memory was refused as often as it is asked for. Then the log still has the steps that were made, and no other, and each reply is as it is to be. A step that isn't made
     /// leaves the node as it was. Of one that is made the last letters and replies may be missing then: so the loop isn't to be used
     /// any more, but for its replies and its end.
     ///
     /// A loop whose log, core and links tell of the same steps stays so; where the thread ends its log and its core still do, and what
     /// it sent is a beginning of what they send.
-    pub fn turn<E: Post<Item> + Inbox<Item>, G: Gate>(&mut self, end: &mut E, gate: &G) -> bool
+    pub fn turn<E: Post<Item> + Inbox<Item>, G: Gate>(
+        &mut self,
+        end: &mut E,
+        gate: &G,
+    ) -> Result<(), TurnFault>
         ensures turned { Turned E.posts E.refuses E.takes E.misses (G.held gate.now) self.old (E.state end.old) result self.new (E.state end.new) }
         ensures sound { KeepsSound E.posts E.takes self.old (E.state end.old) result self.new (E.state end.new) }
     {

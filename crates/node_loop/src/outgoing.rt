@@ -1,5 +1,5 @@
 //! Stamps, and the letters of a step.
-ghost use Rattle.std.specs.Prelude.{◌≡◌, ◌+◌, ◌^◌, ◌-◌, [], ◌∷◌, max, OnOk, OnErr, MatchOption};
+ghost use Rattle.std.specs.Prelude.{◌≡◌, ◌<◌, ◌+◌, ◌^◌, ◌-◌, [], ◌∷◌, max, OnOk, OnErr, MatchOption};
 ghost use Rattle.node_loop.specs.Held.{with_letters, PutsSome};
 
 use crate::item::{Item, Stamped};
@@ -12,7 +12,7 @@ use tray::Tray;
 
 /// The stamp of a step: above that of the last step and that of the letter. There is none above the greatest `u64`.
 pub(crate) fn next_stamp(last: u64, seen: u64) -> Option<u64>
-    ensures { MatchOption result (max last seen ≡ 2 ^ 64 - 1) (λ stamp. stamp ≡ max last seen + 1) }
+    ensures { MatchOption result (max last seen ≡ 2 ^ 64 - 1) (λ stamp. (stamp ≡ max last seen + 1) × (stamp < 2 ^ 64)) }
 {
     last.max(seen).checked_add(1)
 }

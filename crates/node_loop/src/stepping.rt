@@ -7,6 +7,7 @@ ghost use Rattle.node_loop.specs.Held.{written, can_step, has_retry, is_due, has
 ghost use Rattle.node_loop.specs.Steps.{Concludes, Tries};
 ghost use Rattle.node_loop.specs.Items.{Refuses, Reads, Accepts, Handles, Hears, Idles, Works};
 
+use crate::fault::TurnFault;
 use crate::item::{Item, Stamped, Task, Ticket};
 use crate::node_loop::NodeLoop;
 use crate::outgoing::{next_stamp, put_all};
@@ -25,8 +26,8 @@ pub(crate) enum Tried {
     Made,
     /// The core refuses its event, and nothing changed.
     Refused(StepFault),
-    /// No stamp is left, or memory was refused: the thread ends.
-    Ended,
+    /// The thread ends for this cause.
+    Ended(TurnFault),
 }
 
 /// The seat of a ticket.
@@ -107,7 +108,13 @@ impl<N: Names<Memory = Global>> NodeLoop<N> {
     }
 
     /// A step of the core was made and logged: its answers are told and logged, and its letters are put into the tray.
-    fn conclude(&mut self, stamp: u64, own: Option<Ticket>, course: Course, turn: Turn) -> bool
+    fn conclude(
+        &mut self,
+        stamp: u64,
+        own: Option<Ticket>,
+        course: Course,
+        turn: Turn,
+    ) -> Result<(), AllocError>
         ensures { Concludes stamp own course turn self.old result self.new }
     {
         let Turn {
@@ -120,10 +127,8 @@ impl<N: Names<Memory = Global>> NodeLoop<N> {
             .desk
             .settle(own, course, &self.core, answers.as_slice());
         self.log.answer(answers);
-        if told.is_err() {
-            return false;
-        }
-        put_all(&mut self.tray, stamp, letters).is_ok()
+        told?;
+        put_all(&mut self.tray, stamp, letters)
     }
 
     /// Tries the step of an event, of this ticket or of nobody.
@@ -131,7 +136,7 @@ impl<N: Names<Memory = Global>> NodeLoop<N> {
         ensures { Tries own event self.old result self.new }
     {
         let Some(stamp) = next_stamp(self.stamp, 0) else {
-            return Tried::Ended;
+            return Tried::Ended(TurnFault::StampsSpent);
         };
         let course = Course::of(&event);
         let cause = event.cause();
@@ -139,48 +144,49 @@ impl<N: Names<Memory = Global>> NodeLoop<N> {
             return Tried::Refused(fault);
         }
         let Ok(turn) = step(&mut self.core, &mut self.log, cause) else {
-            return Tried::Ended;
+            return Tried::Ended(TurnFault::Memory);
         };
         let event = WorldEvent::At(self.core.name().copy(), event);
         self.log.put(stamp, seat_of(own), event);
-        if self.conclude(stamp, own, course, turn) {
-            Tried::Made
-        } else {
-            Tried::Ended
+        match self.conclude(stamp, own, course, turn) {
+            Ok(()) => Tried::Made,
+            Err(_) => Tried::Ended(TurnFault::Memory),
         }
     }
 
     /// A letter is read. A node that has left drops it.
-    fn read(&mut self, from: NodeName, stamped: Stamped) -> bool
+    fn read(&mut self, from: NodeName, stamped: Stamped) -> Result<(), TurnFault>
         ensures { Reads from stamped self.old result self.new }
     {
         if self.left {
-            return true;
+            return Ok(());
         }
         let Stamped {
             stamp: sent,
             letter,
         } = stamped;
         let Some(stamp) = next_stamp(self.stamp, sent) else {
-            return false;
+            return Err(TurnFault::StampsSpent);
         };
         let cause = Cause::FromPeer(&from, &letter);
         let Ok(turn) = step(&mut self.core, &mut self.log, cause) else {
-            return false;
+            return Err(TurnFault::Memory);
         };
         self.log.put_delivery(stamp, &from);
-        self.conclude(stamp, None, Course::AtOnce, turn)
+        self.conclude(stamp, None, Course::AtOnce, turn)?;
+        Ok(())
     }
 
     /// A task is refused, and the ticket is told so.
-    fn refuse(&mut self, ticket: Option<Ticket>, fault: TaskFault) -> bool
+    fn refuse(&mut self, ticket: Option<Ticket>, fault: TaskFault) -> Result<(), TurnFault>
         ensures { Refuses ticket fault self.old result self.new }
     {
-        self.desk.refuse(ticket, fault).is_ok()
+        self.desk.refuse(ticket, fault)?;
+        Ok(())
     }
 
     /// A task is taken: it is refused, or it waits, or its step is made.
-    fn accept(&mut self, task: Task) -> bool
+    fn accept(&mut self, task: Task) -> Result<(), TurnFault>
         ensures { Accepts task.ticket task.event self.old result self.new }
     {
         let Task { ticket, event } = task;
@@ -191,17 +197,18 @@ impl<N: Names<Memory = Global>> NodeLoop<N> {
             return self.refuse(ticket, TaskFault::NodeLeft);
         }
         if event.is_leave() {
-            return self.desk.wait_to_leave(ticket).is_ok();
+            self.desk.wait_to_leave(ticket)?;
+            return Ok(());
         }
         match self.attempt(ticket, event) {
-            Tried::Made => true,
+            Tried::Made => Ok(()),
             Tried::Refused(fault) => self.refuse(ticket, TaskFault::Step(fault)),
-            Tried::Ended => false,
+            Tried::Ended(fault) => Err(fault),
         }
     }
 
     /// An item is handled.
-    fn handle(&mut self, from: NodeName, item: Item) -> bool
+    fn handle(&mut self, from: NodeName, item: Item) -> Result<(), TurnFault>
         ensures { Handles from item self.old result self.new }
     {
         match item {
@@ -220,14 +227,12 @@ impl<N: Names<Memory = Global>> NodeLoop<N> {
     }
 
     /// An item was taken: it is handled, and then a leave that waits.
-    pub(crate) fn work(&mut self, from: NodeName, item: Item) -> bool
+    pub(crate) fn work(&mut self, from: NodeName, item: Item) -> Result<(), TurnFault>
         ensures { Works from item self.old result self.new }
     {
         self.worked = true;
         self.hear(&from, &item);
-        if !self.handle(from, item) {
-            return false;
-        }
+        self.handle(from, item)?;
         self.leave_if_free()
     }
 
@@ -247,7 +252,7 @@ impl<N: Names<Memory = Global>> NodeLoop<N> {
     }
 
     /// None was taken: refused rounds are tried again, unless they give way to rivals still, and then a leave that waits.
-    pub(crate) fn idle(&mut self) -> bool
+    pub(crate) fn idle(&mut self) -> Result<(), TurnFault>
         ensures { Idles self.old result self.new }
     {
         let is_due = self.is_due();
@@ -257,9 +262,9 @@ impl<N: Names<Memory = Global>> NodeLoop<N> {
             return self.leave_if_free();
         }
         match self.attempt(None, Event::Retry) {
-            Tried::Ended => false,
+            Tried::Ended(fault) => Err(fault),
             Tried::Made => self.leave_if_free(),
-            Tried::Refused(_) => true,
+            Tried::Refused(_) => Ok(()),
         }
     }
 }

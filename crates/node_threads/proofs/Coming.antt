@@ -1,9 +1,10 @@
 -- How a node's loop comes to be as it is: by turns, from the core that it opened with.
-use Rattle.std.proofs.Common.{ℕ, Bool, ◌≡◌, ◌⊎◌, inl, inr, suc, List, ap, ◌∙◌}
+use Rattle.std.proofs.Common.{ℕ, ◌≡◌, ◌⊎◌, inl, inr, suc, List, ap, ◌∙◌}
 use Rattle.link.specs.declared.faults.LinkFault.{LinkFault}
 use Rattle.node_loop.specs.declared.item.Item.{Item}
 use Rattle.node_loop.specs.Held.{Looping}
 use Rattle.node_loop.specs.Turned.{Took, Missed, Turned}
+use Rattle.node_loop.specs.Steps.{Outcome}
 use Rattle.node_loop.specs.Items.{Works, Idles}
 use Rattle.node_loop.specs.Coming.{begun, Turns, IsLoopOf}
 use Rattle.node_loop.specs.NodeCoreHeld.{Held}
@@ -11,24 +12,24 @@ use Rattle.node_loop.specs.Openings.{opening_core}
 
 -- a turn more
 module _ {S : Type 0} (posts : S → ℕ → Item → S → Type 0) (refused : S → ℕ → Item → LinkFault → Type 0) (takes : S → ℕ → Item → S → Type 0) (misses : S → Type 0) (held : ℕ → Type 0) where
-  turn_of : (a : Looping) (s : S) (going : Bool) (b : Looping) (t : S) → Turned posts refused takes misses held a s going b t → Turns a b
-  turn_of a s going b t h = record { tray = h.tray; going = going; turned = at_end h.turned }
+  turn_of : (a : Looping) (s : S) (r : Outcome) (b : Looping) (t : S) → Turned posts refused takes misses held a s r b t → Turns a b
+  turn_of a s r b t h = record { tray = h.tray; outcome = r; turned = at_end h.turned }
     where
       mid : Looping
       mid = record a { tray = h.tray }
 
-      at_end : Took posts refused takes misses mid h.between going b t ⊎ Missed posts refused takes misses mid h.between going b t
-          → ((from : ℕ) × (i : Item) × Works from i mid going b) ⊎ Idles mid going b
+      at_end : Took posts refused takes misses mid h.between r b t ⊎ Missed posts refused takes misses mid h.between r b t
+          → ((from : ℕ) × (i : Item) × Works from i mid r b) ⊎ Idles mid r b
       at_end (inl took) = inl (took.from, took.item, took.works)
       at_end (inr missed) = inr missed.idles
 
-  pub comes_by_turn : (name : ℕ) (a : Looping) (s : S) (going : Bool) (b : Looping) (t : S)
-      → Turned posts refused takes misses held a s going b t → IsLoopOf name a → IsLoopOf name b
-  comes_by_turn name a s going b t h came = record {
+  pub comes_by_turn : (name : ℕ) (a : Looping) (s : S) (r : Outcome) (b : Looping) (t : S)
+      → Turned posts refused takes misses held a s r b t → IsLoopOf name a → IsLoopOf name b
+  comes_by_turn name a s r b t h came = record {
     nodes = came.nodes;
     cluster = came.cluster;
     moves = suc came.moves;
-    comes = (a, came.comes, inl (turn_of a s going b t h));
+    comes = (a, came.comes, inl (turn_of a s r b t h));
   }
 
 -- it begins with the core that its node opens with

@@ -7,7 +7,7 @@ ghost use Rattle.node_threads.specs.Closing.{IsLeftBy};
 use crate::ruled_end::RuledEnd;
 use link::{Inbox, Post};
 use name_table::Names;
-use node_loop::{Event, Gate, Item, NodeEnd, NodeLoop};
+use node_loop::{Event, Gate, Item, NodeEnd, NodeLoop, TurnFault};
 use node_seats::{Address, Caller, Host, Hub, SeatFault};
 use std::alloc::{AllocError, Global};
 use std::marker::Model;
@@ -61,7 +61,7 @@ fn turn<E: Post<Item> + Inbox<Item>, G: Gate, N: Names<Memory = Global>>(
     node: &mut NodeLoop<N>,
     end: &mut E,
     gate: &G,
-) -> bool
+) -> Result<(), TurnFault>
     ensures node { node.new.log.node ≡ node.old.log.node }
     ensures came { IsLoopOf node.old.log.node node.old → IsLoopOf node.old.log.node node.new }
 {
@@ -85,9 +85,9 @@ fn turns<E: Post<Item> + Inbox<Item>, G: Gate, N: Names<Memory = Global>, R: Wai
         if host.is_closing() {
             return;
         }
-        let goes_on = turn(node, end, gate);
+        let outcome = turn(node, end, gate);
         host.hand_out(rt, node);
-        if !goes_on {
+        if outcome.is_err() {
             return;
         }
         host.rest(rt, node);

@@ -1,13 +1,13 @@
-use Rattle.std.proofs.Common.{true, false, refl, sym, ◌∙◌}
+use Rattle.std.proofs.Common.{Ok, Err, refl, sym, ◌∙◌}
 use Rattle.node_loop.proofs.Faults.{retry_stands}
 use Rattle.node_loop.proofs.Turning.{retries, due_waits}
 use Rattle.node_loop.proofs.node_loop.NodeLoop.idle.Goals as goal
 
 pub returns-in-Ended : goal.returns-in-Ended
 returns-in-Ended g c =
-    retries c.args.self.now c.miss.new.self c.can_step-worked.result c.miss.ensures c.can_step-worked.ensures false
+    retries c.args.self.now c.miss.new.self c.can_step-worked.result c.miss.ensures c.can_step-worked.ensures (Err c.in-Ended.fault)
     c.attempt.new.self (sym c.is_due-is_due.ensures ∙ c.if-not-is_due.false)
-    (record { between = c.attempt.new.self; went = false; comes = c.in-Ended.ensures; behind = (refl, refl) })
+    (record { between = c.attempt.new.self; went = Err c.in-Ended.fault; comes = c.in-Ended.ensures; behind = (refl, refl) })
 
 pub returns-in-Made : goal.returns-in-Made
 returns-in-Made g c =
@@ -15,7 +15,7 @@ returns-in-Made g c =
     c.leave_if_free-in-Made.result c.leave_if_free-in-Made.new.self (sym c.is_due-is_due.ensures ∙ c.if-not-is_due.false)
     (record {
       between = c.attempt.new.self;
-      went = true;
+      went = Ok tt;
       comes = c.in-Made.ensures;
       behind = c.leave_if_free-in-Made.ensures;
     })
