@@ -101,9 +101,9 @@ behind : (first : Looping → Outcome → Looping → Type 0) (a : Looping) (r :
 behind first a r b is h = at_went h.went (is h.went h.between h.comes) h.behind
   where
     at_went : (went : Outcome) → Same a h.between
-        → MatchBool went (Leaves h.between r b) ((r ≡ false) × (b ≡ h.between)) → Same a b
-    at_went true s l = leaves h.between b r l ∙ s
-    at_went false s l = same h.between b l.1 ∙ s
+        → MatchResult went (λ _. Leaves h.between r b) (λ why. (r ≡ Err why) × (b ≡ h.between)) → Same a b
+    at_went (Ok u) s l = leaves h.between b r l ∙ s
+    at_went (Err why) s l = same h.between b l.1 ∙ s
 
 idles : (a b : Looping) (r : Outcome) → Idles a r b → Same a b
 idles a b r h = at_retry (is_due a) h
