@@ -132,7 +132,8 @@ where
         rt,
         promise,
         move || -> NodeEnd<N>
-            requires { IsSend G.row × IsSend N.row × IsSend R.row × IsSync G.row }
+            requires sends { IsSend G.row × IsSend N.row × IsSend R.row × IsSync G.row }
+            requires came { IsLoopOf work.node.log.node work.node }
             ensures { IsLeftBy N.contents work.node.log.node result }
         { run(&own, work) },
     )?;
