@@ -47,7 +47,7 @@ task_for c e = Task (record { ticket = Some (ticket_of c); event = e })
 
 -- it has put an item into its node's inbox
 abbrev pub Puts : Item → Caller → Caller → Type 0
-Puts i c d = d.line ≡ with_parcel c.node i c.line
+Puts i c d = d.line ≡ with_parcel i c.line
 
 -- it has put the item there, or has it still
 abbrev pub Offers : Item → Option Item → Caller → Caller → Type 0

@@ -14,10 +14,9 @@ module _ {L : Type 0} where
   abbrev pub nothing : Sent L
   nothing = record { receiver = 0; number = 0; parcels = [] }
 
-  -- an item more on a line, in the name of this node
-  abbrev pub with_parcel : ℕ → L → Sent L → Sent L
-  with_parcel node item line =
-      record line { parcels = line.parcels ++ record { node = node; number = line.number; item = item } ∷ [] }
+  -- an item more on a line, under its number
+  abbrev pub with_parcel : L → Sent L → Sent L
+  with_parcel item line = record line { parcels = line.parcels ++ record { number = line.number; item = item } ∷ [] }
 
   -- the place of the line to a node among these
   abbrev pub place : ℕ → List (Sent L) → Option ℕ
@@ -28,10 +27,10 @@ module _ {L : Type 0} where
   has to lines = is_some (place to lines)
 
   -- an item more on the line at this place
-  abbrev pub with_parcel_at : Option ℕ → ℕ → L → List (Sent L) → List (Sent L)
-  with_parcel_at None node item lines = lines
-  with_parcel_at (Some k) node item lines = slice_set lines k (with_parcel node item (slice_index_or lines k nothing))
+  abbrev pub with_parcel_at : Option ℕ → L → List (Sent L) → List (Sent L)
+  with_parcel_at None item lines = lines
+  with_parcel_at (Some k) item lines = slice_set lines k (with_parcel item (slice_index_or lines k nothing))
 
   -- an item more on the line to this node
-  abbrev pub with_parcel_to : ℕ → ℕ → L → List (Sent L) → List (Sent L)
-  with_parcel_to to node item lines = with_parcel_at (place to lines) node item lines
+  abbrev pub with_parcel_to : ℕ → L → List (Sent L) → List (Sent L)
+  with_parcel_to to item lines = with_parcel_at (place to lines) item lines

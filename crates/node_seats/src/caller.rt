@@ -195,7 +195,7 @@ impl Caller {
         ensures offers { IfOk result (λ back. Offers item back self.old self.new) }
         ensures ended { IfErr result (λ fault. IsEnd fault × (self.new.line ≡ self.old.line)) }
     {
-        match self.line.send(rt, &self.node, item) {
+        match self.line.send(rt, item) {
             Ok(()) => Ok(None),
             Err(unsent) => match self.end() {
                 Some(fault) => Err(fault),

@@ -2,6 +2,7 @@
 ghost use Rattle.std.specs.Prelude.{◌≡◌, [], true, false};
 ghost use Rattle.node_loop.specs.Held.{written};
 ghost use Rattle.node_loop.specs.Coming.{IsLoopOf};
+ghost use Rattle.node_loop.specs.Sound.{LeavesSound};
 
 use crate::bell::Rest;
 use crate::hub::Hub;
@@ -83,6 +84,7 @@ impl Host {
         ensures log { written result.log ≡ node.log }
         ensures table { N.contents result.table ≡ node.core.table }
         ensures ended_alone { node.left ≡ true → result.ended_alone ≡ false }
+        ensures sound { LeavesSound node (written result.log) (N.contents result.table) }
     {
         let ended_alone = !node.has_left() && !self.hub.is_closing();
         self.standing.end();

@@ -52,15 +52,14 @@ impl<L: Drop> Line<L> {
         self.bell.ring();
     }
 
-    /// Puts an item into the inbox, in the name of this node, and wakes the receiver. Or hands it back: where there is no room,
-    /// or the receiver's thread has ended.
-    pub fn send<R: Wait>(&mut self, rt: &R, node: &NodeName, item: L) -> Result<(), Unsent<L>>
-        ensures ok { OnOk result (self.new ≡ with_parcel node.now item self.old) }
+    /// Puts an item into the inbox, under the number of this line there, and wakes the receiver. Or hands it back: where there is no
+    /// room, or the receiver's thread has ended.
+    pub fn send<R: Wait>(&mut self, rt: &R, item: L) -> Result<(), Unsent<L>>
+        ensures ok { OnOk result (self.new ≡ with_parcel item self.old) }
         ensures unchanged { OnErr result (self.new ≡ self.old) }
         ensures err { IfErr result (λ unsent. unsent ≡ record { fault = Full; letter = item }) }
     {
         let parcel = Parcel {
-            node: node.copy(),
             number: self.port.number(),
             item,
         };

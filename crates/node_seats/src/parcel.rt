@@ -1,13 +1,10 @@
 //! What lies in inboxes.
 
 use link::Sourced;
-use term::NodeName;
 
-/// What lies in a node's inbox.
+/// What lies in a node's inbox. Who sent it is known by the number of the line that it came by, and by that alone.
 #[derive(Debug, Drop)]
 pub struct Parcel<L> {
-    /// The node of the sender: of a seat, the node that it is at.
-    pub node: NodeName,
     /// The number of the sender at this inbox.
     pub number: u64,
     /// What was sent.

@@ -3,3 +3,5 @@ pub mod Opening
 pub mod Rows
 pub mod Closing
 mod Coming
+mod Givers
+mod Sending

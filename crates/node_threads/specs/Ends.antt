@@ -2,7 +2,7 @@
 use Rattle.link.specs.Mailboxes.{taken}
 use Rattle.node_threads.specs.declared.ruled_end.RuledEnd.{RuledEnd}
 use Rattle.node_threads.specs.declared.ruled_end.Traffic.{Traffic}
+use Rattle.node_threads.specs.Givers.{receivers, found_in}
 
-module _ {R L : Type 0} where
-  abbrev pub traffic_of : RuledEnd R L → Traffic L
-  traffic_of e = record { node = e.node; lines = e.lines.items; taken = taken e.mailbox }
+abbrev pub traffic_of : {R : Type 0} → RuledEnd R → Traffic
+traffic_of e = record { node = e.node; lines = e.lines.items; taken = found_in e.node (receivers e.lines.items) (taken e.mailbox) }

@@ -3,6 +3,7 @@ pub use Rattle.node_seats.specs.Lines
 pub use Rattle.node_seats.specs.Faults
 pub use Rattle.node_seats.specs.Seats
 pub use Rattle.node_seats.specs.Holders
+pub mod Givers
 pub mod Traffics
 pub mod Ends
 pub mod Closing

@@ -2,47 +2,62 @@
 ghost use Rattle.std.specs.Prelude.{◌≡◌};
 ghost use Rattle.link.specs.Mailboxes.{taken};
 ghost use Rattle.node_seats.specs.Lines.{place};
+ghost use Rattle.node_threads.specs.Givers.{receivers, node_under, giver_of};
 
 use link::{Inbox, LinkFault, Mailbox, Post, Station, Unsent};
+use node_loop::Item;
 use node_seats::{Line, Parcel};
 use std::collections::LinkedList;
 use std::sync::Wait;
 use term::NodeName;
 
-/// A node's own inbox, and its lines into the inboxes of all nodes.
+/// A node's own inbox, and its lines into the inboxes of all nodes. Of each node there is one, in the order of the numbers that the
+/// lines of the nodes have at an inbox: from 1 on.
 #[derive(Drop)]
-pub struct RuledEnd<R: Wait + Drop, L: Drop> {
+pub struct RuledEnd<R: Wait + Drop> {
     rt: R,
     node: NodeName,
-    lines: Vec<Line<L>>,
-    mailbox: Mailbox<Parcel<L>>,
+    lines: Vec<Line<Item>>,
+    mailbox: Mailbox<Parcel<Item>>,
 }
 
-/// What the sends and takings of an end change. No value of it is made.
-pub struct Traffic<L: Drop> {
+/// What the sends and takings of an end change: its lines, and from whom it took what. No value of it is made.
+pub struct Traffic {
     node: NodeName,
-    lines: LinkedList<Line<L>>,
-    taken: LinkedList<Parcel<L>>,
+    lines: LinkedList<Line<Item>>,
+    taken: LinkedList<(NodeName, Item)>,
 }
 
 /// The place of the line to a node.
-fn place_of<L: Drop>(lines: &[Line<L>], receiver: &NodeName) -> Option<usize>
+fn place_of(lines: &[Line<Item>], receiver: &NodeName) -> Option<usize>
     ensures { result ≡ place receiver.now lines.now }
 {
     lines.iter().position(|line| line.receiver() == receiver)
 }
 
-impl<R: Wait + Drop, L: Drop> RuledEnd<R, L> {
+/// The node whose line into an inbox has this number there. The cluster asks under number 0, and seats behind the nodes.
+fn node_under(lines: &[Line<Item>], number: u64) -> Option<NodeName>
+    ensures { result ≡ node_under number (receivers lines.now) }
+{
+    if number == 0 {
+        return None;
+    }
+    let line = lines.get((number - 1) as usize)?;
+    Some(line.receiver().copy())
+}
+
+impl<R: Wait + Drop> RuledEnd<R> {
     ghost use Rattle.node_threads.specs.Ends.{traffic_of};
+    ghost use Rattle.node_threads.specs.Givers.{found_in};
 
     /// The end of this node.
     pub(crate) fn new(
         rt: R,
         node: NodeName,
-        lines: Vec<Line<L>>,
-        mailbox: Mailbox<Parcel<L>>,
+        lines: Vec<Line<Item>>,
+        mailbox: Mailbox<Parcel<Item>>,
     ) -> Self
-        ensures { traffic_of result ≡ record { node = node; lines = lines.items; taken = taken mailbox } }
+        ensures { traffic_of result ≡ record { node = node; lines = lines.items; taken = found_in node (receivers lines.items) (taken mailbox) } }
     {
         RuledEnd {
             rt,
@@ -51,35 +66,46 @@ impl<R: Wait + Drop, L: Drop> RuledEnd<R, L> {
             mailbox,
         }
     }
+
+    /// From whom a parcel is: a task is the node's own, whoever asked for it. A letter is a node's alone, so a seat sends none in
+    /// the name of a node.
+    fn giver(&self, parcel: &Parcel<Item>) -> Option<NodeName>
+        ensures { result ≡ giver_of self.now.node (receivers self.now.lines.items) parcel.now }
+    {
+        match parcel.item {
+            Item::Letter(_) => node_under(self.lines.as_slice(), parcel.number),
+            Item::Task(_) => Some(self.node.copy()),
+        }
+    }
 }
 
-impl<R: Wait + Drop, L: Drop> Station for RuledEnd<R, L> {
+impl<R: Wait + Drop> Station for RuledEnd<R> {
     ghost use Rattle.node_threads.specs.Ends.{traffic_of};
 
-    type State = Traffic<L>;
+    type State = Traffic;
 
     ghost state = { traffic_of };
 }
 
-impl<R: Wait + Drop, L: Drop> Post<L> for RuledEnd<R, L> {
+impl<R: Wait + Drop> Post<Item> for RuledEnd<R> {
     ghost use Rattle.node_threads.specs.Traffics.{Posts, Refuses};
 
     ghost posts = { Posts };
 
     ghost refuses = { Refuses };
 
-    fn send(&mut self, to: &NodeName, letter: L) -> Result<(), Unsent<L>> {
+    fn send(&mut self, to: &NodeName, letter: Item) -> Result<(), Unsent<Item>> {
         let Some(place) = place_of(self.lines.as_slice(), to) else {
             return Err(Unsent {
                 fault: LinkFault::NoSuchNode,
                 letter,
             });
         };
-        self.lines[place].send(&self.rt, &self.node, letter)
+        self.lines[place].send(&self.rt, letter)
     }
 }
 
-impl<R: Wait + Drop, L: Drop> Inbox<L> for RuledEnd<R, L> {
+impl<R: Wait + Drop> Inbox<Item> for RuledEnd<R> {
     ghost use Rattle.node_threads.specs.Traffics.{Takes, Fails};
 
     ghost takes = { Takes };
@@ -88,9 +114,13 @@ impl<R: Wait + Drop, L: Drop> Inbox<L> for RuledEnd<R, L> {
 
     ghost fails = { Fails };
 
-    fn take(&mut self) -> Result<Option<(NodeName, L)>, LinkFault> {
-        match self.mailbox.take(&self.rt) {
-            Some(parcel) => Ok(Some((parcel.node, parcel.item))),
+    fn take(&mut self) -> Result<Option<(NodeName, Item)>, LinkFault> {
+        let Some(parcel) = self.mailbox.take(&self.rt) else {
+            return Ok(None);
+        };
+        // A letter under a number that no node has is passed over.
+        match self.giver(&parcel) {
+            Some(from) => Ok(Some((from, parcel.item))),
             None => Ok(None),
         }
     }

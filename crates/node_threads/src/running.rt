@@ -51,7 +51,7 @@ impl<N: Names> Model for Running<N> {
 #[derive(Drop)]
 pub(crate) struct Work<G: Gate + Drop, N: Names, R: Wait + Drop> {
     pub(crate) node: NodeLoop<N>,
-    pub(crate) end: RuledEnd<R, Item>,
+    pub(crate) end: RuledEnd<R>,
     pub(crate) gate: Arc<G, Global>,
     pub(crate) host: Host,
 }

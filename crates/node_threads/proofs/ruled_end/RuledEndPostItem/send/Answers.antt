@@ -1,0 +1,11 @@
+use Rattle.std.proofs.Common.{ap, sym, ◌∙◌}
+use Rattle.link.specs.Mailboxes.{taken}
+use Rattle.node_seats.specs.Lines.{place}
+use Rattle.node_threads.proofs.Sending.{posts_or_not}
+use Rattle.node_threads.proofs.ruled_end.RuledEndPostItem.send.Goals as goal
+
+pub returns : goal.returns
+returns g c = posts_or_not c.args.self.now.node c.args.to.now c.args.self.now.lines.items (taken c.args.self.now.mailbox) c.args.letter
+    c.in-Some.place c.index_mut.result.now c.send.new.self
+    (ap (place c.args.to.now) (sym c.as_slice.ensures.value) ∙ sym c.place_of.ensures ∙ c.in-Some.is) c.index_mut.ensures.value
+    c.send.result c.send.ensures.ok c.send.ensures.unchanged c.send.ensures.err
