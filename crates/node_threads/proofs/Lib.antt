@@ -5,3 +5,4 @@ pub mod Closing
 mod Coming
 mod Givers
 mod Sending
+mod Dealing

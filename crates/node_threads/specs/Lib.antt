@@ -6,5 +6,6 @@ pub use Rattle.node_seats.specs.Holders
 pub mod Givers
 pub mod Traffics
 pub mod Ends
+pub mod Dealings
 pub mod Closing
 pub mod Clusters
