@@ -81,7 +81,7 @@ fn admits(alloc: Global, joiner: &NodeName, settled: &Settled, join: Join<'_>) -
 }
 
 /// Whether the joiner is told what the join says.
-#[tactic(auto, using(exchange::proofs::Members::one_more_at_most))]
+#[tactic(auto, using(crate::proofs::Members::one_more_at_most))]
 fn welcomes(
     alloc: Global,
     joiner: &NodeName,
