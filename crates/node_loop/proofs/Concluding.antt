@@ -87,19 +87,22 @@ unspent k a s e l spent = omega (arith, e, l, spent)
 pub ends_left : (k : Cause) (a m b : Looping) → Makes k a m → b ≡ record m { left = true; desk = b.desk }
     → Begins b.desk.replies (left_by m.desk).replies
     → Ends Memory k (λ core answers. left_by (desk_of k a core answers)) a b
-ends_left k a m b M is told = (unspent k a (stamp_of k a) refl M.fits, inr (record {
-  turn = M.turn;
-  step = subst (λ (h : Held). Steps k.event a.core h M.turn) (sym core) M.step;
-  log = ap (λ (l : Looping). l.log) is ∙ M.log;
-  tray = record {
-    put = M.turn.letters;
-    rest = [];
-    split = sym (append-nil M.turn.letters);
-    tray = ap (λ (l : Looping). l.tray) is ∙ M.tray;
-  };
-  replies = begins_as _ _ _ _ refl (ap (λ (d : Kept). (left_by d).replies)
-      (M.desk ∙ ap (λ (h : Held). desk_of k a h M.turn.answers) (sym core))) told;
-}))
+ends_left k a m b M is told = (
+  unspent k a (stamp_of k a) refl M.fits,
+  inr (record {
+    turn = M.turn;
+    step = subst (λ (h : Held). Steps k.event a.core h M.turn) (sym core) M.step;
+    log = ap (λ (l : Looping). l.log) is ∙ M.log;
+    tray = record {
+      put = M.turn.letters;
+      rest = [];
+      split = sym (append-nil M.turn.letters);
+      tray = ap (λ (l : Looping). l.tray) is ∙ M.tray;
+    };
+    replies = begins_as _ _ _ _ refl (ap (λ (d : Kept). (left_by d).replies)
+        (M.desk ∙ ap (λ (h : Held). desk_of k a h M.turn.answers) (sym core))) told;
+  }),
+)
   where
     core : b.core ≡ m.core
     core = ap (λ (l : Looping). l.core) is
@@ -108,16 +111,19 @@ ends_left k a m b M is told = (unspent k a (stamp_of k a) refl M.fits, inr (reco
 pub ends_leaving : (why : TurnFault) (k : Cause) (a b : Looping) → Ends why k (desk_of k a) a b
     → Ends why k (λ core answers. left_by (desk_of k a core answers)) a b
 ends_leaving StampsSpent k a b h = h
-ends_leaving Memory k a b h = (h.0, elim h.1 [
-  | inl rests ↦ inl rests
-  | inr begun ↦ inr (record {
-    turn = begun.turn;
-    step = begun.step;
-    log = begun.log;
-    tray = begun.tray;
-    replies = begins_on _ _ _ begun.replies (left_begins (desk_of k a b.core begun.turn.answers));
-  })
-])
+ends_leaving Memory k a b h = (
+  h.0,
+  elim h.1 [
+    | inl rests ↦ inl rests
+    | inr begun ↦ inr (record {
+      turn = begun.turn;
+      step = begun.step;
+      log = begun.log;
+      tray = begun.tray;
+      replies = begins_on _ _ _ begun.replies (left_begins (desk_of k a b.core begun.turn.answers));
+    })
+  ],
+)
 
 module _ (P Q : Type 0) where
   pub at_true : (b : Bool) → b ≡ true → P → MatchBool b P Q

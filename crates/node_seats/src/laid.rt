@@ -42,7 +42,10 @@ impl Laid {
     ) -> Option<Result<Option<Answer>, TaskFault>>
         ensures { IfSome result (λ outcome. IsToldTo node.now ticket outcome) }
     {
-        let Laid { node: teller, reply } = self;
+        let Laid {
+            node: teller,
+            reply,
+        } = self;
         if teller != *node
             || reply.ticket.seat != ticket.seat
             || reply.ticket.number != ticket.number

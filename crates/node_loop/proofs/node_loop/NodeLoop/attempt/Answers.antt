@@ -41,12 +41,13 @@ returns-in-Err g c =
       left = c.self.inside.left;
       worked = c.self.inside.worked;
     } in
-    subst (λ (x : Looping). Ends Memory (by_event c.args.own c.args.event x) (desk_of (by_event c.args.own c.args.event x) x) x c.conclude.new.self) c.self.view_is
-    (unspent (by_event c.args.own c.args.event a) a c.in-Some.stamp c.in-Some.ensures.0 c.in-Some.ensures.1,
-    inr (begins (by_event c.args.own c.args.event a) a c.step.new.core (written c.put.new.self) c.in-Some.stamp c.args.own
-    c.of-course.result c.in-Ok.turn c.conclude.new.self
-    (stepped _ _ _ _ _ c.cause-cause.ensures c.in-Ok.ensures.made)
-    (begun _ _ _ _ _ _ _ _ _ c.step.ensures.log c.put.ensures.node c.put.ensures.entries c.in-Some.ensures.0
-    c.seat_of.ensures
-    (ap (λ (n : ℕ). At n c.args.event) (c.copy.ensures ∙ c.name.ensures.name ∙ c.in-Ok.ensures.made.name)))
-    c.in-Some.ensures.0 refl c.of-course.ensures _ c.in-Err.ensures))
+    subst (λ (x : Looping). Ends Memory (by_event c.args.own c.args.event x) (desk_of (by_event c.args.own c.args.event x) x) x c.conclude.new.self) c.self.view_is (
+      unspent (by_event c.args.own c.args.event a) a c.in-Some.stamp c.in-Some.ensures.0 c.in-Some.ensures.1,
+      inr (begins (by_event c.args.own c.args.event a) a c.step.new.core (written c.put.new.self) c.in-Some.stamp c.args.own
+          c.of-course.result c.in-Ok.turn c.conclude.new.self
+          (stepped _ _ _ _ _ c.cause-cause.ensures c.in-Ok.ensures.made)
+          (begun _ _ _ _ _ _ _ _ _ c.step.ensures.log c.put.ensures.node c.put.ensures.entries c.in-Some.ensures.0
+          c.seat_of.ensures
+          (ap (λ (n : ℕ). At n c.args.event) (c.copy.ensures ∙ c.name.ensures.name ∙ c.in-Ok.ensures.made.name)))
+          c.in-Some.ensures.0 refl c.of-course.ensures _ c.in-Err.ensures),
+    )

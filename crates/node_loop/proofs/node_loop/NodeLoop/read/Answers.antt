@@ -47,11 +47,12 @@ returns-in_err-conclude g c =
     let p = err_from_is_err_and c.from_residual.result c.from_residual.ensures.1 in
     rw (p.1, p.2)
     (subst (λ (x : Looping). Reads c.args.from c.args.stamped x (Err Memory) c.conclude.new.self) c.self.view_is
-    (at_false _ _ c.self.inside.left c.if-self.false
-    (unspent (by_letter c.args.from c.args.stamped a) a c.in-Some.stamp c.in-Some.ensures.0 c.in-Some.ensures.1,
-    inr (begins (by_letter c.args.from c.args.stamped a) a c.step.new.core (written c.put_delivery.new.self) c.in-Some.stamp None
-    AtOnce c.in-Ok.turn c.conclude.new.self c.in-Ok.ensures.made
-    (begun _ _ _ _ _ _ _ _ _ c.step.ensures.log c.put_delivery.ensures.node c.put_delivery.ensures.entries
-    c.in-Some.ensures.0 refl
-    (ap (λ (l : Written). Deliver c.args.from l.node) c.step.ensures.log))
-    c.in-Some.ensures.0 refl refl _ c.in_err-conclude.ensures))))
+    (at_false _ _ c.self.inside.left c.if-self.false (
+      unspent (by_letter c.args.from c.args.stamped a) a c.in-Some.stamp c.in-Some.ensures.0 c.in-Some.ensures.1,
+      inr (begins (by_letter c.args.from c.args.stamped a) a c.step.new.core (written c.put_delivery.new.self) c.in-Some.stamp None
+          AtOnce c.in-Ok.turn c.conclude.new.self c.in-Ok.ensures.made
+          (begun _ _ _ _ _ _ _ _ _ c.step.ensures.log c.put_delivery.ensures.node c.put_delivery.ensures.entries
+          c.in-Some.ensures.0 refl
+          (ap (λ (l : Written). Deliver c.args.from l.node) c.step.ensures.log))
+          c.in-Some.ensures.0 refl refl _ c.in_err-conclude.ensures),
+    )))
