@@ -1,5 +1,5 @@
 -- What a node deals in over its links in a turn: its tray is sent, and an item is taken.
-use Rattle.std.proofs.Common.{◌≡◌, ◌==◌, ◌<◌, ℕ, suc, Bool, false, List, [], ◌∷◌, ◌++◌, refl, sym, ap, subst, ◌∙◌, inl, inr, arith, append_assoc, append-nil, true≢false}
+use Rattle.std.proofs.Common.{◌≡◌, ◌==◌, ◌<◌, ℕ, suc, Bool, true, false, List, [], ◌∷◌, ◌++◌, refl, sym, ap, subst, ◌∙◌, inl, inr, arith, append_assoc, append-nil, true≢false}
 use Rattle.std.specs.Prelude.{if◌then◌else◌, ◌⊎◌, ◌||◌}
 use Rattle.std.specs.List.{All, AllPairs}
 use Rattle.std.specs.List.Sorted.{IsStrictlyIncreasing}
@@ -44,31 +44,37 @@ once xs h = once_pairs xs (AllPairs-from_increasing xs h)
 abbrev pub letters_from : ℕ → Item → ℕ → List StampedLetter
 letters_from from i f = if f == from then letter_in i else []
 
-module _ {S : Type 0} (posts : S → ℕ → Item → S → Type 0) (refuses : S → ℕ → Item → LinkFault → Type 0) (takes : S → ℕ → Item → S → Type 0) (o : Opening) (dealt : S → Dealt) (D : Deals posts takes o dealt) where
+module _ {S : Type 0} (posts : S → ℕ → Item → S → Type 0) (refuses : S → ℕ → Item → LinkFault → Type 0) (takes : S → ℕ → Item → S → Type 0) (o : Opening) (inside : S → Bool) (dealt : S → Dealt) (D : Deals posts takes o inside dealt) where
   -- these items were sent to this node, and nothing else was dealt in
   pub record Sent (to : ℕ) (items : List Item) (d e : Dealt) : Type 0 where
     pub own : e.sent to ≡ d.sent to ++ items
     pub others : (t : ℕ) → (t ≡ to → ⊥) → e.sent t ≡ d.sent t
     pub taken : e.taken ≡ d.taken
 
-  sends_all : (to : ℕ) (s : S) (items : List Item) (t : S) → Sends posts to s items t → Sent to items (dealt s) (dealt t)
-  sends_all to s [] t h = record {
-    own = ap (λ (x : S). (dealt x).sent to) (sym h) ∙ sym (append-nil ((dealt s).sent to));
-    others = λ x ne. ap (λ (y : S). (dealt y).sent x) (sym h);
-    taken = ap (λ (x : S). (dealt x).taken) (sym h);
-  }
-  sends_all to s (i ∷ items) t h =
-      let rest : Sent to items (dealt h.0) (dealt t) = sends_all to h.0 items t h.2 in
-      let first : dealt h.0 ≡ with_sent to i (dealt s) = D.sends s to i h.0 h.1 in
-      record {
-        own = rest.own
-            ∙ (ap (λ (l : List Item). l ++ items)
-            (ap (λ (x : Dealt). x.sent to) first ∙ at_same (dealt s).sent to ((dealt s).sent to ++ i ∷ []))
-            ∙ append_assoc ((dealt s).sent to) (i ∷ []) items);
-        others = λ x ne. rest.others x ne
-            ∙ (ap (λ (y : Dealt). y.sent x) first ∙ at_other (dealt s).sent to ((dealt s).sent to ++ i ∷ []) x ne);
-        taken = rest.taken ∙ ap (λ (x : Dealt). x.taken) first;
-      }
+  sends_all : (to : ℕ) (s : S) (items : List Item) (t : S) → inside s ≡ true → Sends posts to s items t
+      → (inside t ≡ true) × Sent to items (dealt s) (dealt t)
+  sends_all to s [] t here h = (
+    ap inside (sym h) ∙ here,
+    record {
+      own = ap (λ (x : S). (dealt x).sent to) (sym h) ∙ sym (append-nil ((dealt s).sent to));
+      others = λ x ne. ap (λ (y : S). (dealt y).sent x) (sym h);
+      taken = ap (λ (x : S). (dealt x).taken) (sym h);
+    },
+  )
+  sends_all to s (i ∷ items) t here h =
+      let first : (inside h.0 ≡ true) × (dealt h.0 ≡ with_sent to i (dealt s)) = D.sends s to i h.0 here h.1 in
+      let rest : (inside t ≡ true) × Sent to items (dealt h.0) (dealt t) = sends_all to h.0 items t first.0 h.2 in (
+        rest.0,
+        record {
+          own = rest.1.own
+              ∙ (ap (λ (l : List Item). l ++ items)
+              (ap (λ (x : Dealt). x.sent to) first.1 ∙ at_same (dealt s).sent to ((dealt s).sent to ++ i ∷ []))
+              ∙ append_assoc ((dealt s).sent to) (i ∷ []) items);
+          others = λ x ne. rest.1.others x ne
+              ∙ (ap (λ (y : Dealt). y.sent x) first.1 ∙ at_other (dealt s).sent to ((dealt s).sent to ++ i ∷ []) x ne);
+          taken = rest.1.taken ∙ ap (λ (x : Dealt). x.taken) first.1;
+        },
+      )
 
   -- What was sent to each node and then what waits for it is what it was, and nothing was taken. To a node that isn't among these nothing was sent
   pub record Drains (vs ws : List (Waiting Item)) (d e : Dealt) : Type 0 where
@@ -77,18 +83,24 @@ module _ {S : Type 0} (posts : S → ℕ → Item → S → Type 0) (refuses : S
     pub apart : (t : ℕ) → set_of (receivers vs) t ≡ false → e.sent t ≡ d.sent t
     pub taken : e.taken ≡ d.taken
 
-  drains : (vs ws : List (Waiting Item)) (s t : S) → AreOnce (receivers vs) → DrainedAll posts refuses vs s ws t
-      → Drains vs ws (dealt s) (dealt t)
-  drains [] [] s t u h = record {
-    slots = refl;
-    same = λ x. ap (λ (y : S). (dealt y).sent x ++ []) (sym h);
-    apart = λ x e. ap (λ (y : S). (dealt y).sent x) (sym h);
-    taken = ap (λ (y : S). (dealt y).taken) (sym h);
-  }
-  drains [] (w ∷ ws) s t u h = absurd h
-  drains (v ∷ vs) [] s t u h = absurd h
-  drains (v ∷ vs) (w ∷ ws) s t u h =
-      joined (sends_all v.receiver s h.2.sent h.0 h.2.sends) (drains vs ws h.0 t u.1 h.3)
+  drains : (vs ws : List (Waiting Item)) (s t : S) → AreOnce (receivers vs) → inside s ≡ true → DrainedAll posts refuses vs s ws t
+      → (inside t ≡ true) × Drains vs ws (dealt s) (dealt t)
+  drains [] [] s t u here h = (
+    ap inside (sym h) ∙ here,
+    record {
+      slots = refl;
+      same = λ x. ap (λ (y : S). (dealt y).sent x ++ []) (sym h);
+      apart = λ x e. ap (λ (y : S). (dealt y).sent x) (sym h);
+      taken = ap (λ (y : S). (dealt y).taken) (sym h);
+    },
+  )
+  drains [] (w ∷ ws) s t u here h = absurd h
+  drains (v ∷ vs) [] s t u here h = absurd h
+  drains (v ∷ vs) (w ∷ ws) s t u here h =
+      let first : (inside h.0 ≡ true) × Sent v.receiver h.2.sent (dealt s) (dealt h.0) =
+      sends_all v.receiver s h.2.sent h.0 here h.2.sends in
+      let rest : (inside t ≡ true) × Drains vs ws (dealt h.0) (dealt t) = drains vs ws h.0 t u.1 first.0 h.3 in
+      (rest.0, joined first.1 rest.1)
     where
       joined : Sent v.receiver h.2.sent (dealt s) (dealt h.0) → Drains vs ws (dealt h.0) (dealt t)
           → Drains (v ∷ vs) (w ∷ ws) (dealt s) (dealt t)
@@ -123,17 +135,17 @@ module _ {S : Type 0} (posts : S → ℕ → Item → S → Type 0) (refuses : S
   letters_same vs ws d e h t = sym (flat_map-append letter_in (e.sent t) (waiting_for t ws))
       ∙ (ap letters_in (h.same t) ∙ flat_map-append letter_in (d.sent t) (waiting_for t vs))
 
-  pub drained : (vs ws : List (Waiting Item)) (s t : S) → IsStrictlyIncreasing (receivers vs) → DrainedAll posts refuses vs s ws t
-      → Drains vs ws (dealt s) (dealt t)
-  drained vs ws s t rising h = drains vs ws s t (once (receivers vs) rising) h
+  pub drained : (vs ws : List (Waiting Item)) (s t : S) → IsStrictlyIncreasing (receivers vs) → inside s ≡ true
+      → DrainedAll posts refuses vs s ws t → (inside t ≡ true) × Drains vs ws (dealt s) (dealt t)
+  drained vs ws s t rising here h = drains vs ws s t (once (receivers vs) rising) here h
 
   -- an item was taken: its letter, if it is one, is behind those from its sender
-  pub took_more : (s : S) (from : ℕ) (i : Item) (t : S) → takes s from i t
+  pub took_more : (s : S) (from : ℕ) (i : Item) (t : S) → inside s ≡ true → takes s from i t
       → took (dealt t) ≡ (λ f. took (dealt s) f ++ letters_from from i f)
-  took_more s from i t h = fun_ext (λ f. ap (λ (x : Dealt). took x f) (D.gives s from i t h).1 ∙ by_test from
+  took_more s from i t here h = fun_ext (λ f. ap (λ (x : Dealt). took x f) (D.gives s from i t here h).2 ∙ by_test from
       (λ g b. letters_in (if b then (dealt s).taken from ++ i ∷ [] else (dealt s).taken g) ≡ took (dealt s) g ++ (if b then letter_in i else []))
       (flat_map-append letter_in ((dealt s).taken from) (i ∷ []) ∙ ap (λ (ls : List StampedLetter). took (dealt s) from ++ ls) (append-nil (letter_in i)))
       (λ g ne. sym (append-nil (took (dealt s) g))) f)
 
-  pub put_still : (s : S) (from : ℕ) (i : Item) (t : S) → takes s from i t → put (dealt t) ≡ put (dealt s)
-  put_still s from i t h = ap (λ (x : Dealt). put x) (D.gives s from i t h).1
+  pub put_still : (s : S) (from : ℕ) (i : Item) (t : S) → inside s ≡ true → takes s from i t → put (dealt t) ≡ put (dealt s)
+  put_still s from i t here h = ap (λ (x : Dealt). put x) (D.gives s from i t here h).2

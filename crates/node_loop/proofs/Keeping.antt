@@ -278,23 +278,30 @@ module _ (o : Opening) (d : Dealt) where
 module _ {S : Type 0} (posts : S → ℕ → Item → S → Type 0) (refused : S → ℕ → Item → LinkFault → Type 0) (takes : S → ℕ → Item → S → Type 0) (misses : S → Type 0) (held : ℕ → Type 0) where
   pub keeps : (a : Looping) (s : S) (r : Outcome) (b : Looping) (t : S) → Turned posts refused takes misses held a s r b t
       → KeepsSound posts takes a s r b t
-  keeps a s r b t h o dealt D sound = at_end h.turned
+  keeps a s r b t h o inside dealt D here sound = at_end h.turned
     where
       mid : Looping
       mid = record a { tray = h.tray }
 
-      E : Drains posts refused takes o dealt D a.tray h.tray (dealt s) (dealt h.between)
-      E = drained posts refused takes o dealt D a.tray h.tray s h.between
-          (subst IsStrictlyIncreasing (sym sound.tray) sound.rising) h.drained
+      E : (inside h.between ≡ true) × Drains posts refused takes o inside dealt D a.tray h.tray (dealt s) (dealt h.between)
+      E = drained posts refused takes o inside dealt D a.tray h.tray s h.between
+          (subst IsStrictlyIncreasing (sym sound.tray) sound.rising) here h.drained
 
       S_mid : IsSound o mid (dealt h.between)
-      S_mid = sent_off o (λ f. []) a (dealt s) sound h.tray (dealt h.between) E.slots (λ j f. letters_in (E.taken j f))
-          (letters_same posts refused takes o dealt D a.tray h.tray (dealt s) (dealt h.between) E)
+      S_mid = sent_off o (λ f. []) a (dealt s) sound h.tray (dealt h.between) E.1.slots (λ j f. letters_in (E.1.taken j f))
+          (letters_same posts refused takes o inside dealt D a.tray h.tray (dealt s) (dealt h.between) E.1)
 
       at_end : Took posts refused takes misses mid h.between r b t ⊎ Missed posts refused takes misses mid h.between r b t
-          → MatchResult r (λ _. IsSound o b (dealt t)) (λ _. EndsSound o b (dealt t))
-      at_end (inl k) = works o (dealt t) mid b k.from k.item (D.gives h.between k.from k.item t k.taken).0
-          (taken o mid (dealt h.between) (dealt t) S_mid k.from k.item (D.gives h.between k.from k.item t k.taken).0
-          (took_more posts refused takes o dealt D h.between k.from k.item t k.taken)
-          (put_still posts refused takes o dealt D h.between k.from k.item t k.taken)) r k.works
-      at_end (inr k) = idles o (dealt t) mid b (subst (λ (x : S). IsSound o mid (dealt x)) (sym k.still) S_mid) r k.idles
+          → (inside t ≡ true) × MatchResult r (λ _. IsSound o b (dealt t)) (λ _. EndsSound o b (dealt t))
+      at_end (inl k) =
+          let known : in_world o k.from ≡ true = (D.gives h.between k.from k.item t E.0 k.taken).1 in (
+            (D.gives h.between k.from k.item t E.0 k.taken).0,
+            works o (dealt t) mid b k.from k.item known
+                (taken o mid (dealt h.between) (dealt t) S_mid k.from k.item known
+                (took_more posts refused takes o inside dealt D h.between k.from k.item t E.0 k.taken)
+                (put_still posts refused takes o inside dealt D h.between k.from k.item t E.0 k.taken)) r k.works,
+          )
+      at_end (inr k) = (
+        ap inside k.still ∙ E.0,
+        idles o (dealt t) mid b (subst (λ (x : S). IsSound o mid (dealt x)) (sym k.still) S_mid) r k.idles,
+      )

@@ -6,6 +6,7 @@ pub mod Concluding
 pub mod Turning
 pub mod Trays
 pub mod Dealing
+pub mod Links
 pub mod Saying
 pub mod Doing
 pub mod Standing

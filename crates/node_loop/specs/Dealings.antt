@@ -1,5 +1,5 @@
 -- What a node has dealt in over its links: what it sent to each node, and what it took from each.
-use Rattle.std.specs.Prelude.{ℕ, true, ◌≡◌, ◌==◌, List, [], ◌∷◌, ◌++◌, map, flat_map, if◌then◌else◌}
+use Rattle.std.specs.Prelude.{ℕ, Bool, true, ◌≡◌, ◌==◌, List, [], ◌∷◌, ◌++◌, map, flat_map, if◌then◌else◌}
 use Rattle.registry_model.specs.Process.{at}
 use Rattle.protocol_model.specs.World.{Opening, in_world}
 use Rattle.closings.specs.Alone.{Stamped as StampedLetter}
@@ -50,9 +50,10 @@ waiting_for t [] = []
 waiting_for t (w ∷ ws) = if w.receiver == t then w.letters else waiting_for t ws
 
 module _ {S : Type 0} (posts : S → ℕ → Item → S → Type 0) (takes : S → ℕ → Item → S → Type 0) where
-  -- links of a world's nodes deal as `dealt` says: each sending is behind the others to its node, each taking behind the others from
-  -- its node, and nothing is taken from a stranger
-  pub record Deals (o : Opening) (dealt : S → Dealt) : Type 0 where
-    pub sends : (s : S) (to : ℕ) (i : Item) (t : S) → posts s to i t → dealt t ≡ with_sent to i (dealt s)
-    pub gives : (s : S) (from : ℕ) (i : Item) (t : S) → takes s from i t
-        → (in_world o from ≡ true) × (dealt t ≡ with_taken from i (dealt s))
+  -- Links that lead inside a world, as `inside` tells, do so behind each step, and deal as `dealt` says: each sending is behind the
+  -- others to its node, each taking behind the others from its node, and nothing is taken from a stranger
+  pub record Deals (o : Opening) (inside : S → Bool) (dealt : S → Dealt) : Type 0 where
+    pub sends : (s : S) (to : ℕ) (i : Item) (t : S) → inside s ≡ true → posts s to i t
+        → (inside t ≡ true) × (dealt t ≡ with_sent to i (dealt s))
+    pub gives : (s : S) (from : ℕ) (i : Item) (t : S) → inside s ≡ true → takes s from i t
+        → (inside t ≡ true) × (in_world o from ≡ true) × (dealt t ≡ with_taken from i (dealt s))

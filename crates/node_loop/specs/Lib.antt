@@ -1,5 +1,8 @@
 pub use Rattle.node_log.specs.Events
+pub use Rattle.closings.specs.Alone
+pub use Rattle.closings.specs.Guarded
 pub use Rattle.node_log.specs.NodeCoreHeld
+pub use Rattle.node_log.specs.NodeCoreSeen
 pub use Rattle.node_log.specs.NodeEventsSeen
 pub use Rattle.node_log.specs.Openings
 pub mod Told

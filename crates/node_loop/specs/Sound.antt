@@ -1,5 +1,5 @@
 -- A node's loop that is sound: its log, its core and its links tell of the same steps.
-use Rattle.std.specs.Prelude.{ℕ, true, false, ◌≡◌, ◌⊎◌, ◌+◌, List, [], ◌++◌, map, MatchResult}
+use Rattle.std.specs.Prelude.{ℕ, Bool, true, false, ◌≡◌, ◌⊎◌, ◌+◌, List, [], ◌++◌, map, MatchResult}
 use Rattle.std.specs.List.Sorted.{IsStrictlyIncreasing}
 use Rattle.protocol_model.specs.Node.{Node, opening_node}
 use Rattle.protocol_model.specs.World.{Opening, in_world, in_cluster}
@@ -74,7 +74,9 @@ abbrev pub LeavesSound : Looping → Written → Table → Type 0
 LeavesSound a log table = (o : Opening) (d : Dealt) → IsSound o a d ⊎ EndsSound o a d → Tells o log table d
 
 module _ {S : Type 0} (posts : S → ℕ → Item → S → Type 0) (takes : S → ℕ → Item → S → Type 0) where
-  -- over any links of its world, whatever they deal in, a sound loop stays sound where it goes on, and ends sound where it doesn't
+  -- over any links that lead inside its world, and do so still, whatever they deal in, a sound loop stays sound where it goes on, and ends
+  -- sound where it doesn't
   abbrev pub KeepsSound : Looping → S → Outcome → Looping → S → Type 0
-  KeepsSound a s r b t = (o : Opening) (dealt : S → Dealt) → Deals posts takes o dealt → IsSound o a (dealt s)
-      → MatchResult r (λ _. IsSound o b (dealt t)) (λ _. EndsSound o b (dealt t))
+  KeepsSound a s r b t = (o : Opening) (inside : S → Bool) (dealt : S → Dealt) → Deals posts takes o inside dealt → inside s ≡ true
+      → IsSound o a (dealt s)
+      → (inside t ≡ true) × MatchResult r (λ _. IsSound o b (dealt t)) (λ _. EndsSound o b (dealt t))

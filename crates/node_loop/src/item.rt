@@ -28,7 +28,7 @@ pub struct Task {
     pub event: Event,
 }
 
-/// One item of an inbox, which lies there under the name of its sender's node.
+/// One item of an inbox, which lies there under the number of its sender's line.
 #[derive(Debug, PartialEq, Eq, Drop)]
 pub enum Item {
     /// A letter from the sender's core.

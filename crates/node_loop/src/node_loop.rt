@@ -92,9 +92,10 @@ impl<N: Names<Memory = Global>> NodeLoop<N> {
 
     /// One turn: it asks the gate, sends what waits, takes one item from the inbox, and makes its step; where it finds none,
     /// the node tries its refused rounds again, unless it gives way to rivals still. A leave that waits is tried behind that.
-    /// It fails where the thread is to end: no stamp is left, or memory was refused as often as it is asked for. Then the log still has the steps that were made, and no other, and each reply is as it is to be. A step that isn't made
-    /// leaves the node as it was. Of one that is made the last letters and replies may be missing then: so the loop isn't to be used
-    /// any more, but for its replies and its end.
+    /// It fails where the thread is to end: no stamp is left, or memory was refused as often as it is asked for. Then the log still has
+    /// the steps that were made, and no other, and each reply is as it is to be. A step that isn't made leaves the node as it was. Of
+    /// one that is made the last letters and replies may be missing then: so the loop isn't to be used any more, but for its replies and
+    /// its end.
     ///
     /// A loop whose log, core and links tell of the same steps stays so; where the thread ends its log and its core still do, and what
     /// it sent is a beginning of what they send.

@@ -22,7 +22,7 @@ use Rattle.closings.specs.Laws.{ConsistentEnds, PlaysToEnd}
 use Rattle.closings.specs.Merging as alone
 use Rattle.closings.proofs.Merged.{consistent_ends_play}
 use Rattle.closings.proofs.Onward.{consistent_ends_go_on}
-use Rattle.node_log.specs.Openings.{opening_with}
+use Rattle.node_log.specs.Openings.{Opened, IsOpening, opening_with}
 use Rattle.node_log.specs.Entries.{Entry, Logged}
 use Rattle.node_log.specs.declared.transcript.Transcript.{Transcript}
 use Rattle.replay.specs.declared.faults.CloseFault.{CloseFault}
@@ -145,11 +145,16 @@ same_bound xs ys same = omega (
 )
 
 -- how a world opens is said by the lists that it was started with
+pub opening_same : (cluster lone : List ℕ) (o : Opened) → IsOpening cluster lone o
+    → opening_with o.nodes o.cluster ≡ opening_with (cluster ++ lone) cluster
+opening_same cluster lone o O =
+    ap (λ (n : ℕ). record (opening_with o.nodes o.cluster) { bound = n }) (same_bound o.nodes (cluster ++ lone) O.nodes)
+    ∙ ap (λ (s : Nodes). record (opening_with (cluster ++ lone) o.cluster) { nodes = s }) (fun_ext O.nodes)
+    ∙ ap (λ (s : Nodes). record (opening_with (cluster ++ lone) cluster) { cluster = s }) (fun_ext O.joined)
+
 opening_is : (cluster lone : List ℕ) (h : Held) → Opens cluster lone h → opening_of h ≡ opening_with (cluster ++ lone) cluster
 opening_is cluster lone h O =
-    ap (λ (n : ℕ). record (opening_of h) { bound = n }) (same_bound h.nodes (cluster ++ lone) O.nodes)
-    ∙ ap (λ (s : Nodes). record (opening_with (cluster ++ lone) h.cluster) { nodes = s }) (fun_ext O.nodes)
-    ∙ ap (λ (s : Nodes). record (opening_with (cluster ++ lone) cluster) { cluster = s }) (fun_ext O.joined)
+    opening_same cluster lone (record { nodes = h.nodes; cluster = h.cluster }) (record { nodes = O.nodes; joined = O.joined })
 
 module _ (cluster lone : List ℕ) (ends : List End) (C : AreConsistent cluster lone ends) where
   abbrev logs : ℕ → List Alone

@@ -1,3 +1,4 @@
+pub use Rattle.cluster_world.proofs.Listed
 pub mod Sameness
 pub mod Least
 pub mod Reading
