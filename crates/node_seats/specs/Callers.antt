@@ -1,5 +1,5 @@
 -- What contracts see of a caller, and of the hub that it shares.
-use Rattle.std.specs.Prelude.{ℕ, ◌≡◌, ◌⊎◌, Option, Some, None, Result, Ok, Err, List, [], ◌∷◌}
+use Rattle.std.specs.Prelude.{ℕ, ◌+◌, ◌≡◌, ◌⊎◌, Option, Some, None, Result, Ok, Err, List, [], ◌∷◌}
 use Rattle.std.specs.List.{flat_map}
 use Rattle.node_loop.specs.declared.Event.{Event}
 use Rattle.node_loop.specs.declared.item.Ticket.{Ticket}
@@ -44,6 +44,10 @@ ticket_of c = record { seat = c.slot; number = c.next }
 -- the task by which it asks for an event
 abbrev pub task_for : Caller → Event → Item
 task_for c e = Task (record { ticket = Some (ticket_of c); event = e })
+
+-- its next event has the next number: no ticket is given twice
+abbrev pub Numbers : Caller → Caller → Type 0
+Numbers c d = d.next ≡ c.next + 1
 
 -- it has put an item into its node's inbox
 abbrev pub Puts : Item → Caller → Caller → Type 0

@@ -1,16 +1,17 @@
 //! Where the inbox of a node is reached.
 ghost use Rattle.std.specs.Prelude.{◌≡◌, ◌+◌, [], IfOk, OnOk, OnErr};
-ghost use Rattle.link.specs.Mailboxes.{made_of, taken};
+ghost use Rattle.link.specs.Rule.{Begins, of};
+ghost use Rattle.link.specs.Mailboxes.{made_of, taken, root_room, mailbox_room};
 
 use crate::bell::{Bell, Rest};
 use crate::line::Line;
 use crate::parcel::Parcel;
-use link::{INBOX_ROOM, Mailbox, Root, open};
+use link::{INBOX_ROOM, Mailbox, Root, compare, open};
 use std::alloc::{AllocError, Global};
 use std::marker::Model;
 use term::NodeName;
 
-/// Where a node's inbox is reached: what makes the lines to it. Contracts see whose it is, and how many were made.
+/// Where a node's inbox is reached: what makes the lines to it. Contracts see whose it is, how many were made, and the inbox.
 #[derive(Drop)]
 pub struct Address<L: Drop> {
     node: NodeName,
@@ -27,12 +28,12 @@ pub(crate) struct Entrance<L: Drop> {
 }
 
 impl<L: Drop> Model for Address<L> {
-    ghost use Rattle.link.specs.Mailboxes.{made_of};
+    ghost use Rattle.link.specs.Mailboxes.{made_of, root_room};
     ghost use Rattle.node_seats.specs.Addresses.{Reached};
 
-    ghost Value = { Reached };
+    ghost Value = { Reached L };
 
-    ghost view = { λ a. record { node = a.node; lines = made_of a.root } };
+    ghost view = { λ a. record { node = a.node; lines = made_of a.root; room = root_room a.root } };
 }
 
 /// Opens the inbox of a node, whose thread yields so often at most before it sleeps.
@@ -41,7 +42,7 @@ pub(crate) fn open_inbox<L: Drop>(
     node: NodeName,
     yields: u32,
 ) -> Result<Entrance<L>, AllocError>
-    ensures address { IfOk result (λ opened. opened.address ≡ record { node = node; lines = 0 }) }
+    ensures address { IfOk result (λ opened. opened.address ≡ record { node = node; lines = 0; room = mailbox_room opened.mailbox }) }
     ensures empty { IfOk result (λ opened. taken opened.mailbox ≡ []) }
     ensures rest { IfOk result (λ opened. opened.rest.yields ≡ yields) }
 {
@@ -66,7 +67,7 @@ impl<L: Drop> Address<L> {
 
     /// A line more into the inbox, on which nothing was put. Its sender's number is how many were made before.
     pub fn line(&mut self) -> Result<Line<L>, AllocError>
-        ensures ok { IfOk result (λ line. line ≡ record { receiver = self.old.node; number = self.old.lines; parcels = [] }) }
+        ensures ok { IfOk result (λ line. line ≡ record { receiver = self.old.node; number = self.old.lines; room = self.old.room; parcels = [] }) }
         ensures more { OnOk result (self.new ≡ record self.old { lines = self.old.lines + 1 }) }
         ensures err { OnErr result (self.new ≡ self.old) }
     {
@@ -77,5 +78,17 @@ impl<L: Drop> Address<L> {
         let bell = self.bell.another()?;
         let port = self.root.port()?;
         Ok(Line::new(self.node.copy(), port, bell))
+    }
+
+    /// Holds what was taken from the inbox against what was put on a line into it: of what came under the line's number, a beginning of
+    /// that was taken.
+    pub fn compare(&self, mailbox: &mut Mailbox<Parcel<L>>, line: Line<L>)
+        requires mailbox { mailbox_room mailbox.old ≡ self.now.room }
+        requires line { line.room ≡ self.now.room }
+        ensures begins { Begins (of (λ parcel. parcel.number) line.number (taken mailbox.old)) line.parcels }
+        ensures taken { taken mailbox.new ≡ taken mailbox.old }
+        ensures room { mailbox_room mailbox.new ≡ mailbox_room mailbox.old }
+    {
+        compare(&self.root, mailbox, line.into_port());
     }
 }

@@ -1,7 +1,7 @@
 //! How a thread asks a node's thread.
-ghost use Rattle.std.specs.Prelude.{◌≡◌, ◌<◌, ◌+◌, ◌++◌, ◌∷◌, [], true, false, IfOk, OnOk, IfErr, IfSome, Ok, Err};
+ghost use Rattle.std.specs.Prelude.{◌≡◌, ◌<◌, ◌+◌, ◌++◌, ◌∷◌, ◌⊎◌, [], true, false, IfOk, OnOk, OnErr, IfErr, IfSome, Ok, Err};
 ghost use Rattle.node_loop.specs.Events.{knows_contact as knows};
-ghost use Rattle.node_seats.specs.Callers.{name_of, slot_of, nodes_of, nodes_at, asked_by, ticket_of, task_for, told_as, Puts, Offers, IsEnd, MayPut};
+ghost use Rattle.node_seats.specs.Callers.{name_of, slot_of, nodes_of, nodes_at, asked_by, ticket_of, task_for, told_as, Numbers, Puts, Offers, IsEnd, MayPut};
 ghost use Rattle.node_seats.specs.declared.fault.SeatFault.TheVariants.{NoSuchNode};
 ghost use Rattle.node_seats.specs.Faults.{IsAskRefused, MayAsk};
 ghost use Rattle.node_seats.specs.Replies.{IsToldTo, IsFaultTold};
@@ -60,6 +60,7 @@ impl Caller {
         ensures unasked { IfOk result (λ caller. asked_by caller ≡ []) }
         ensures address { OnOk result (address.new ≡ record address.old { lines = address.old.lines + 1 }) }
         ensures same { address.new.node ≡ address.old.node }
+        ensures room { address.new.room ≡ address.old.room }
     {
         let rest = hub.rest(slot, yields)?;
         let hub = Arc::try_clone(hub)?;
@@ -91,6 +92,7 @@ impl Caller {
         ensures unasked { IfOk result (λ caller. asked_by caller ≡ []) }
         ensures address { OnOk result (address.new ≡ record address.old { lines = address.old.lines + 1 }) }
         ensures same { address.new.node ≡ address.old.node }
+        ensures room { address.new.room ≡ address.old.room }
     {
         Caller::new(hub, &self.standing, address, slot, yields)
     }
@@ -109,9 +111,9 @@ impl Caller {
         self.slot
     }
 
-    /// Asks for an event, once, waits until the node has taken it, or refused it, and gives what was answered. A contact that isn't of
-    /// the cluster is refused at once, also where the node has left. What is answered, and what the node refuses, its loop told this
-    /// caller for this event; where no reply comes any more, the event may have been asked for.
+    /// Asks for an event, once and under a number of its own, waits until the node has taken it, or refused it, and gives what was
+    /// answered. A contact that isn't of the cluster is refused at once, also where the node has left. What is answered, and what the
+    /// node refuses, its loop told this caller for this event; where no reply comes any more, the event may have been asked for.
     pub fn ask<R: Wait + Clock>(
         &mut self,
         rt: &R,
@@ -124,6 +126,8 @@ impl Caller {
         ensures known { IfErr result (λ fault. IsAskRefused fault (knows (nodes_of self.old) event)) }
         ensures asked { OnOk result (asked_by self.new ≡ asked_by self.old ++ event ∷ []) }
         ensures unanswered { IfErr result (λ fault. MayAsk fault event (asked_by self.old) (asked_by self.new)) }
+        ensures numbered { OnOk result (Numbers self.old self.new) }
+        ensures kept { OnErr result ((self.new.line ≡ self.old.line) ⊎ Numbers self.old self.new) }
         ensures told { IfOk result (λ answer. IsToldTo (name_of self.old) (ticket_of self.old) (Ok answer)) }
         ensures refused { IfErr result (IsFaultTold (name_of self.old) (ticket_of self.old)) }
     {
@@ -144,6 +148,8 @@ impl Caller {
         ensures nodes { nodes_of self.new ≡ nodes_of self.old }
         ensures asked { OnOk result (Puts (task_for self.old event) self.old self.new) }
         ensures unanswered { IfErr result (λ fault. MayPut fault (task_for self.old event) self.old self.new) }
+        ensures numbered { OnOk result (Numbers self.old self.new) }
+        ensures kept { OnErr result ((self.new.line ≡ self.old.line) ⊎ Numbers self.old self.new) }
         ensures told { IfOk result (λ answer. IsToldTo (name_of self.old) (ticket_of self.old) (Ok answer)) }
         ensures refused { IfErr result (IsFaultTold (name_of self.old) (ticket_of self.old)) }
     {
@@ -192,6 +198,7 @@ impl Caller {
         ensures slot { slot_of self.new ≡ slot_of self.old }
         ensures node { name_of self.new ≡ name_of self.old }
         ensures nodes { nodes_of self.new ≡ nodes_of self.old }
+        ensures next { self.new.next ≡ self.old.next }
         ensures offers { IfOk result (λ back. Offers item back self.old self.new) }
         ensures ended { IfErr result (λ fault. IsEnd fault × (self.new.line ≡ self.old.line)) }
     {
@@ -209,6 +216,7 @@ impl Caller {
         ensures slot { slot_of self.new ≡ slot_of self.old }
         ensures node { name_of self.new ≡ name_of self.old }
         ensures nodes { nodes_of self.new ≡ nodes_of self.old }
+        ensures next { self.new.next ≡ self.old.next }
         ensures put { OnOk result (Puts item self.old self.new) }
         ensures ended { IfErr result (λ fault. IsEnd fault × (self.new.line ≡ self.old.line)) }
     {
@@ -252,6 +260,7 @@ impl Caller {
         ensures node { name_of self.new ≡ name_of self.old }
         ensures nodes { nodes_of self.new ≡ nodes_of self.old }
         ensures line { self.new.line ≡ self.old.line }
+        ensures next { self.new.next ≡ self.old.next }
         ensures told { IfOk result (λ answer. IsToldTo (name_of self.old) ticket (Ok answer)) }
         ensures refused { IfErr result (IsFaultTold (name_of self.old) ticket) }
     {

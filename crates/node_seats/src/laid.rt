@@ -30,7 +30,9 @@ impl Laid {
     }
 
     /// The number of the slot where it is to be laid.
-    pub(crate) fn slot(&self) -> u32 {
+    pub(crate) fn slot(&self) -> u32
+        ensures { result ≡ self.now.reply.ticket.seat }
+    {
         self.reply.ticket.seat
     }
 

@@ -1,7 +1,7 @@
 //! Ways into the inbox of a node.
 ghost use Rattle.std.specs.Prelude.{◌≡◌, [], ◌∷◌, ◌++◌, OnOk, OnErr, IfErr};
 ghost use Rattle.link.specs.declared.faults.LinkFault.TheVariants.{Full};
-ghost use Rattle.link.specs.Mailboxes.{put, number_of};
+ghost use Rattle.link.specs.Mailboxes.{put, number_of, port_room};
 ghost use Rattle.node_seats.specs.Lines.{with_parcel};
 
 use crate::bell::Bell;
@@ -20,18 +20,18 @@ pub struct Line<L: Drop> {
 }
 
 impl<L: Drop> Model for Line<L> {
-    ghost use Rattle.link.specs.Mailboxes.{put, number_of};
+    ghost use Rattle.link.specs.Mailboxes.{put, number_of, port_room};
     ghost use Rattle.node_seats.specs.Lines.{Sent};
 
     ghost Value = { Sent L };
 
-    ghost view = { λ l. record { receiver = l.receiver; number = number_of l.port; parcels = put l.port } };
+    ghost view = { λ l. record { receiver = l.receiver; number = number_of l.port; room = port_room l.port; parcels = put l.port } };
 }
 
 impl<L: Drop> Line<L> {
     /// A line to this node, by a port of its inbox.
     pub(crate) fn new(receiver: NodeName, port: Port<Parcel<L>>, bell: Bell) -> Self
-        ensures { result ≡ record { receiver = receiver; number = number_of port; parcels = put port } }
+        ensures { result ≡ record { receiver = receiver; number = number_of port; room = port_room port; parcels = put port } }
     {
         Line {
             receiver,
@@ -50,6 +50,15 @@ impl<L: Drop> Line<L> {
     /// Wakes the receiver.
     pub(crate) fn ring(&self) {
         self.bell.ring();
+    }
+
+    /// The port that it puts its items into.
+    pub(crate) fn into_port(self) -> Port<Parcel<L>>
+        ensures number { number_of result ≡ self.number }
+        ensures room { port_room result ≡ self.room }
+        ensures parcels { put result ≡ self.parcels }
+    {
+        self.port
     }
 
     /// Puts an item into the inbox, under the number of this line there, and wakes the receiver. Or hands it back: where there is no

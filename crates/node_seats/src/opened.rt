@@ -1,6 +1,6 @@
 //! Nodes that were opened: what their seats and their threads are made from.
 ghost use Rattle.std.specs.Prelude.{◌≡◌, ◌<◌, ◌+◌, [], IfOk};
-ghost use Rattle.link.specs.Mailboxes.{taken};
+ghost use Rattle.link.specs.Mailboxes.{taken, mailbox_room};
 ghost use Rattle.node_seats.specs.Callers.{name_of, slot_of, nodes_of, nodes_at, asked_by};
 
 use crate::address::{Address, Entrance, open_inbox};
@@ -38,7 +38,7 @@ pub fn open_node(
     yields: u32,
 ) -> Result<Opened, AllocError>
     requires { place < 8 }
-    ensures address { IfOk result (λ opened. opened.address ≡ record { node = node; lines = 1 }) }
+    ensures address { IfOk result (λ opened. opened.address ≡ record { node = node; lines = 1; room = mailbox_room opened.mailbox }) }
     ensures slot { IfOk result (λ opened. slot_of opened.caller ≡ 64 + place) }
     ensures node { IfOk result (λ opened. name_of opened.caller ≡ node) }
     ensures nodes { IfOk result (λ opened. nodes_of opened.caller ≡ nodes_at hub.now.value) }

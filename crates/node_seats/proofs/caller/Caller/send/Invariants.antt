@@ -7,4 +7,5 @@ invariant-loop g l =
     (goal.iterator-loop g).can_next l.iterator' × (goal.iterator-loop g).is_finite l.iterator'
     × (l.self.slot ≡ l.fn.self.slot) × (l.self.node ≡ l.fn.self.node)
     × (nodes_of l.self ≡ nodes_of l.fn.self)
+    × (l.self.next ≡ l.fn.self.next)
     × (l.self.line ≡ l.fn.self.line) × (l.waiting ≡ l.fn.item)
