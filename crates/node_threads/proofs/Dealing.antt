@@ -1,75 +1,75 @@
 -- What an end of a node deals in.
-use Rattle.std.proofs.Common.{ℕ, Bool, true, false, ◌-◌, ◌==◌, ◌≡◌, ◌<◌, ◌≤◌, ◌⊎◌, inl, inr, Option, Some, None, is_some, List, [], ◌∷◌, ◌++◌, length, map, get_or, set, zero, suc, refl, sym, ap, subst, ◌∙◌, arith, append-nil}
-use Rattle.std.specs.Prelude.{if◌then◌else◌}
-use Rattle.std.specs.List.{find, flat_map, position_or_len, slice_get}
-use Rattle.std.proofs.lemmas.Bool.{eq-eqb, eqb-true, ne_eqb}
+use Rattle.std.proofs.Common.{ℕ, Bool, true, false, ◌-◌, ◌==◌, ◌≡◌, ◌⊎◌, inl, inr, Some, None, is_some, List, [], ◌∷◌, ◌++◌, map, get_or, refl, sym, ap, ◌∙◌, append-nil}
+use Rattle.std.specs.Prelude.{if◌then◌else◌, ◌&&◌, ◌||◌}
+use Rattle.std.specs.List.{list_all, slice_get}
+use Rattle.std.proofs.lemmas.Bool.{cases_eq, eq-eqb, eqb-true, ne_eqb}
 use Rattle.std.proofs.lemmas.Grind.{flat_map-append}
 use Rattle.std.proofs.lemmas.List.{map-append}
-use Rattle.std.proofs.lemmas.List.Folds.{find_at, find-set, list_any_at}
-use Rattle.std.proofs.lemmas.List.Quantifiers.{position-Some}
-use Rattle.std.proofs.lemmas.List.Sums.{position_or_len_is}
-use Rattle.std.proofs.lemmas.Option.{slice_get-get_or, slice_get_within, get_or_from_slice_get}
+use Rattle.std.proofs.lemmas.List.Folds.{list_any_at}
+use Rattle.std.proofs.lemmas.Option.{slice_get_within, get_or_from_slice_get}
 use Rattle.std.proofs.Math.Path.{fun_ext}
 use Rattle.registry_model.proofs.Updates.{by_test}
 use Rattle.protocol_model.specs.World.{Opening, in_world}
 use Rattle.term.specs.NodeSets.{set_of}
 use Rattle.node_loop.specs.declared.item.Item.{Item}
 use Rattle.node_loop.specs.declared.item.Item.TheVariants.{Letter, Task}
-use Rattle.node_loop.specs.Dealings.{Dealt, with_sent, with_taken, Deals}
-use Rattle.node_seats.specs.Lines.{Sent, place, nothing, with_parcel, with_parcel_at, with_parcel_to}
+use Rattle.node_loop.specs.Dealings.{with_sent, with_taken, nothing_dealt, Deals}
+use Rattle.node_seats.specs.Lines.{Sent, with_parcel, with_parcel_to}
+use Rattle.replay.proofs.Listed.{is_some-place}
 use Rattle.node_threads.specs.declared.ruled_end.Traffic.{Traffic}
 use Rattle.node_threads.specs.Givers.{receivers, node_under, given_by}
 use Rattle.node_threads.specs.Traffics.{Posts, Takes}
-use Rattle.node_threads.specs.Dealings.{put_on, sent_to, taken_from, dealt_of, IsEndAt, PostsAt, TakesAt}
-use Rattle.node_threads.proofs.Givers.{receivers_kept}
+use Rattle.node_threads.specs.Wires.{unused}
+use Rattle.node_threads.specs.Ends.{are_inside, leads_inside, fixed}
+use Rattle.node_threads.specs.Dealings.{put_on, sent_to, taken_from, dealt_of, dealt_by}
+use Rattle.node_threads.proofs.Lines.{receivers_kept, unused_kept}
+use Rattle.node_threads.proofs.Places.{place_mapped}
 
--- what isn't looked for is found no more where another such stands in its place
-find_other : {X : Type 0} (q : X → Bool) (xs : List X) (i : ℕ) (y d : X) → q y ≡ false → q (get_or xs i d) ≡ false
-    → find q (set xs i y) ≡ find q xs
-find_other q [] i y d e f = refl
-find_other q (x ∷ xs) zero y d e f = rw (e, f) refl
-find_other {X} q (x ∷ xs) (suc i) y d e f = ap (λ (r : Option X). if q x then Some x else r) (find_other q xs i y d e f)
+both : (x y : Bool) → (x && y) ≡ true → (x ≡ true) × (y ≡ true)
+both true y e = (refl, e)
+both false y e = cc
 
 -- the line to this node has an item more
-module _ (to : ℕ) (i : Item) (lines : List (Sent Item)) (k : ℕ) (found : place to lines ≡ Some k) where
-  abbrev leads : Sent Item → Bool
-  leads line = line.receiver == to
+module _ (to : ℕ) (i : Item) where
+  own : (lines : List (Sent Item)) → set_of (receivers lines) to ≡ true
+      → sent_to to (with_parcel_to to i lines) ≡ sent_to to lines ++ i ∷ []
+  own [] known = absurd (cc known)
+  own (line ∷ lines) known = go (line.receiver == to) refl (λ k. own lines k)
+    where
+      go : (b : Bool) → (line.receiver == to) ≡ b
+          → (set_of (receivers lines) to ≡ true → sent_to to (with_parcel_to to i lines) ≡ sent_to to lines ++ i ∷ [])
+          → sent_to to (if b then with_parcel i line ∷ lines else line ∷ with_parcel_to to i lines)
+          ≡ (if b then put_on line else sent_to to lines) ++ i ∷ []
+      go true e rest = ap (λ (b : Bool). if b then put_on (with_parcel i line) else sent_to to lines) e
+          ∙ map-append (λ p. p.item) line.parcels (record { number = line.number; item = i } ∷ [])
+      go false e rest = ap (λ (b : Bool). if b then put_on line else sent_to to (with_parcel_to to i lines)) e
+          ∙ rest (ap (λ (b : Bool). b || set_of (receivers lines) to) (sym e) ∙ known)
 
-  there : (k < length lines) × (leads (get_or lines k nothing) ≡ true) × ((n : ℕ) → n < k → leads (get_or lines n nothing) ≡ false)
-  there = position-Some leads lines k nothing found
+  others : (x : ℕ) → (x ≡ to → ⊥) → (lines : List (Sent Item)) → sent_to x (with_parcel_to to i lines) ≡ sent_to x lines
+  others x ne [] = refl
+  others x ne (line ∷ lines) = go (line.receiver == to) refl (others x ne lines)
+    where
+      go : (b : Bool) → (line.receiver == to) ≡ b → sent_to x (with_parcel_to to i lines) ≡ sent_to x lines
+          → sent_to x (if b then with_parcel i line ∷ lines else line ∷ with_parcel_to to i lines) ≡ sent_to x (line ∷ lines)
+      go true e rest =
+          let apart : (line.receiver == x) ≡ false = ne_eqb line.receiver x (λ k. ne (sym k ∙ eqb-true line.receiver to e)) in
+          ap (λ (b : Bool). if b then put_on (with_parcel i line) else sent_to x lines) apart
+          ∙ sym (ap (λ (b : Bool). if b then put_on line else sent_to x lines) apart)
+      go false e rest = ap (λ (items : List Item). if line.receiver == x then put_on line else items) rest
 
-  first : position_or_len leads lines ≡ k
-  first = position_or_len_is leads lines k nothing (omega (arith, there.0)) there.2 (λ _. there.1)
-
-  abbrev line : Sent Item
-  line = get_or lines k nothing
-
-  at_line : find leads lines ≡ Some line
-  at_line = find_at leads lines ∙ ap (slice_get lines) first ∙ slice_get-get_or lines k nothing there.0
-
-  own : sent_to to (with_parcel_at (Some k) i lines) ≡ sent_to to lines ++ i ∷ []
-  own = ap put_on (find-set leads lines k (with_parcel i line) (sym first) there.0 there.1)
-      ∙ map-append (λ p. p.item) line.parcels (record { number = line.number; item = i } ∷ [])
-      ∙ ap (λ (l : List Item). l ++ i ∷ []) (sym (ap put_on at_line))
-
-  others : (x : ℕ) → (x ≡ to → ⊥) → sent_to x (with_parcel_at (Some k) i lines) ≡ sent_to x lines
-  others x ne =
-      let apart : (line.receiver == x) ≡ false = ne_eqb line.receiver x (λ e. ne (sym e ∙ eqb-true line.receiver to there.1)) in
-      ap put_on (find_other (λ (l : Sent Item). l.receiver == x) lines k (with_parcel i line) nothing apart apart)
-
-  sent_more : (x : ℕ) → sent_to x (with_parcel_at (Some k) i lines) ≡ (if x == to then sent_to to lines ++ i ∷ [] else sent_to x lines)
-  sent_more x = by_test to
-      (λ y b. sent_to y (with_parcel_at (Some k) i lines) ≡ (if b then sent_to to lines ++ i ∷ [] else sent_to y lines)) own others x
+  sent_more : (lines : List (Sent Item)) → set_of (receivers lines) to ≡ true → (x : ℕ)
+      → sent_to x (with_parcel_to to i lines) ≡ (if x == to then sent_to to lines ++ i ∷ [] else sent_to x lines)
+  sent_more lines known x = by_test to
+      (λ y b. sent_to y (with_parcel_to to i lines) ≡ (if b then sent_to to lines ++ i ∷ [] else sent_to y lines))
+      (own lines known) (λ y ne. others y ne lines) x
 
 -- a sending is behind the others to its node
 sends_one : (s : Traffic) (to : ℕ) (i : Item) (t : Traffic) → Posts s to i t → dealt_of t ≡ with_sent to i (dealt_of s)
-sends_one s to i t h = ap dealt_of h.1 ∙ at (place to s.lines) refl h.0
+sends_one s to i t h = ap dealt_of h.1
+    ∙ ap (λ (f : ℕ → List Item). record { sent = f; taken = λ x. taken_from x s.taken }) (fun_ext (sent_more to i s.lines known))
   where
-    at : (p : Option ℕ) → place to s.lines ≡ p → is_some p ≡ true
-        → dealt_of (record s { lines = with_parcel_at p i s.lines }) ≡ with_sent to i (dealt_of s)
-    at None e known = absurd (cc known)
-    at (Some k) e known = ap (λ (f : ℕ → List Item). record { sent = f; taken = λ x. taken_from x s.taken })
-        (fun_ext (sent_more to i s.lines k e))
+    known : set_of (receivers s.lines) to ≡ true
+    known = sym (ap is_some (place_mapped (λ (l : Sent Item). l.receiver) to s.lines) ∙ is_some-place (receivers s.lines) to) ∙ h.0
 
 -- a taking is behind the others from its node
 taken_more : (from : ℕ) (i : Item) (pairs : List (ℕ × Item)) (x : ℕ)
@@ -91,39 +91,55 @@ under_known number nodes from e = at (number == 0) e
     at false h = list_any_at (λ m. m == from) nodes (number - 1) 0 (slice_get_within nodes (number - 1) from h)
         (eq-eqb (get_or nodes (number - 1) 0) from (get_or_from_slice_get nodes (number - 1) from 0 h))
 
-module _ (node : ℕ) (nodes : List ℕ) where
-  pub stays_by_post : (s : Traffic) (to : ℕ) (i : Item) (t : Traffic) → IsEndAt node nodes s → Posts s to i t → IsEndAt node nodes t
-  stays_by_post s to i t is h = record {
-    node = ap (λ (x : Traffic). x.node) h.1 ∙ is.node;
-    nodes = ap (λ (x : Traffic). receivers x.lines) h.1 ∙ (receivers_kept to i s.lines ∙ is.nodes);
-  }
+-- where all of these are such, each of them is
+each_of : (p : ℕ → Bool) (nodes : List ℕ) → list_all p nodes ≡ true → (c : ℕ) → set_of nodes c ≡ true → p c ≡ true
+each_of p [] all c known = absurd (cc known)
+each_of p (n ∷ ns) all c known = at (cases_eq n c) (λ k. each_of p ns (both (p n) (list_all p ns) all).1 c k)
+  where
+    at : (n ≡ c) ⊎ (n ≡ c → ⊥) → (set_of ns c ≡ true → p c ≡ true) → p c ≡ true
+    at (inl e) rest = ap p (sym e) ∙ (both (p n) (list_all p ns) all).0
+    at (inr ne) rest = rest (ap (λ (b : Bool). b || set_of ns c) (sym (ne_eqb n c ne)) ∙ known)
 
-  pub stays_by_taking : (s : Traffic) (from : ℕ) (i : Item) (t : Traffic) → IsEndAt node nodes s → Takes s from i t → IsEndAt node nodes t
-  stays_by_taking s from i t is h = record {
-    node = ap (λ (x : Traffic). x.node) h.2 ∙ is.node;
-    nodes = ap (λ (x : Traffic). receivers x.lines) h.2 ∙ is.nodes;
-  }
-
+module _ (o : Opening) where
   -- an item is from the node itself, or from one of the others
-  given_known : (number : ℕ) (i : Item) (from : ℕ) → given_by node nodes number i ≡ Some from → (node ≡ from) ⊎ (set_of nodes from ≡ true)
-  given_known number (Letter l) from e = inr (under_known number nodes from e)
-  given_known number (Task t) from e = inl (cc e)
+  given_inside : (node : ℕ) (nodes : List ℕ) → are_inside o node nodes ≡ true → (number : ℕ) (i : Item) (from : ℕ)
+      → given_by node nodes number i ≡ Some from → in_world o from ≡ true
+  given_inside node nodes here number (Letter l) from e =
+      each_of (in_world o) nodes (both (in_world o node) (list_all (in_world o) nodes) here).1 from (under_known number nodes from e)
+  given_inside node nodes here number (Task t) from e =
+      ap (in_world o) (sym (cc e)) ∙ (both (in_world o node) (list_all (in_world o) nodes) here).0
 
-  -- where they are all of the world, the end of the node deals as its lines and its inbox say
-  pub deals : (o : Opening) → in_world o node ≡ true → ((c : ℕ) → set_of nodes c ≡ true → in_world o c ≡ true)
-      → Deals (PostsAt node nodes) (TakesAt node nodes) o dealt_of
-  deals o own all = record {
-    sends = λ s to i t h. sends_one s to i t h.1;
-    gives = λ s from i t h. (known s from i t h.0 h.1, takes_one s from i t h.1);
+  -- the end of a node deals as its lines and its inbox say
+  pub deals : Deals Posts Takes o (leads_inside o) dealt_of
+  deals = record {
+    sends = λ s to i t here h. (
+      ap (leads_inside o) h.1 ∙ (ap (are_inside o s.node) (receivers_kept to i s.lines) ∙ here),
+      sends_one s to i t h,
+    );
+    gives = λ s from i t here h. (
+      ap (leads_inside o) h.2 ∙ here,
+      given_inside s.node (receivers s.lines) here h.0 i from h.1,
+      takes_one s from i t h,
+    );
   }
-    where
-      known : (s : Traffic) (from : ℕ) (i : Item) (t : Traffic) → IsEndAt node nodes s → Takes s from i t → in_world o from ≡ true
-      known s from i t is h = at (given_known h.0 i from given)
-        where
-          given : given_by node nodes h.0 i ≡ Some from
-          given = ap (λ (n : ℕ). given_by n nodes h.0 i) (sym is.node)
-              ∙ ap (λ (ns : List ℕ). given_by s.node ns h.0 i) (sym is.nodes) ∙ h.1
 
-          at : (node ≡ from) ⊎ (set_of nodes from ≡ true) → in_world o from ≡ true
-          at (inl e) = ap (in_world o) (sym e) ∙ own
-          at (inr e) = all from e
+-- what is fixed stays so
+pub fixed_by_post : (s : Traffic) (to : ℕ) (i : Item) (t : Traffic) → Posts s to i t → fixed t ≡ fixed s
+fixed_by_post s to i t h = ap fixed h.1
+    ∙ ap (λ (ls : List (Sent Item)). record { node = s.node; first = s.first; lines = ls; taken = [] }) (unused_kept to i s.lines)
+
+pub fixed_by_taking : (s : Traffic) (from : ℕ) (i : Item) (t : Traffic) → Takes s from i t → fixed t ≡ fixed s
+fixed_by_taking s from i t h = ap fixed h.2
+
+-- on lines on which nothing was put nothing was sent
+nothing_sent : (to : ℕ) (lines : List (Sent Item)) → sent_to to (map unused lines) ≡ []
+nothing_sent to [] = refl
+nothing_sent to (line ∷ lines) = go (line.receiver == to) (nothing_sent to lines)
+  where
+    go : (b : Bool) → sent_to to (map unused lines) ≡ [] → (if b then put_on (unused line) else sent_to to (map unused lines)) ≡ []
+    go true rest = refl
+    go false rest = rest
+
+pub deals_nothing : (node : ℕ) (lines : List (Sent Item)) → map unused lines ≡ lines → dealt_by node lines [] ≡ nothing_dealt
+deals_nothing node lines new = ap (λ (f : ℕ → List Item). record { sent = f; taken = λ x. [] })
+    (fun_ext (λ to. ap (sent_to to) (sym new) ∙ nothing_sent to lines))

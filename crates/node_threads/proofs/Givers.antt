@@ -1,12 +1,13 @@
--- What is found in an inbox, and the lines to its nodes.
-use Rattle.std.proofs.Common.{ℕ, true, ◌==◌, ◌≡◌, ◌<◌, Option, Some, None, List, [], ◌∷◌, ◌++◌, length, map, get_or, set, refl, sym, ap, ◌∙◌, append-nil}
-use Rattle.std.specs.List.{flat_map}
+-- What is found in an inbox.
+use Rattle.std.proofs.Common.{ℕ, ◌≡◌, Option, Some, None, List, [], ◌∷◌, ◌++◌, ap, subst, ◌∙◌, append-nil}
 use Rattle.std.proofs.lemmas.Grind.{flat_map-append}
-use Rattle.std.proofs.Math.Seq.{map-set_same}
 use Rattle.node_loop.specs.declared.item.Item.{Item}
 use Rattle.node_seats.specs.declared.parcel.Parcel.{Parcel}
-use Rattle.node_seats.specs.Lines.{Sent, place, nothing, with_parcel, with_parcel_at, with_parcel_to}
+use Rattle.link.specs.declared.mailbox.Mailbox.{Mailbox}
+use Rattle.node_seats.specs.Lines.{Sent}
+use Rattle.node_threads.specs.declared.ruled_end.Traffic.{Traffic}
 use Rattle.node_threads.specs.Givers.{receivers, giver_of, given, found_in}
+use Rattle.node_threads.specs.Traffics.{Takes}
 
 -- a parcel more
 module _ (node : ℕ) (nodes : List ℕ) (ps : List (Parcel Item)) (p : Parcel Item) where
@@ -23,10 +24,15 @@ module _ (node : ℕ) (nodes : List ℕ) (ps : List (Parcel Item)) (p : Parcel I
   pub found_none : giver_of node nodes p ≡ None → found_in node nodes (ps ++ p ∷ []) ≡ found_in node nodes ps
   found_none e = one_more None e ∙ append-nil (found_in node nodes ps)
 
--- an item more on a line changes no receiver
-pub receivers_kept : (to : ℕ) (i : Item) (lines : List (Sent Item)) → receivers (with_parcel_to to i lines) ≡ receivers lines
-receivers_kept to i lines = at (place to lines)
-  where
-    at : (p : Option ℕ) → receivers (with_parcel_at p i lines) ≡ receivers lines
-    at None = refl
-    at (Some k) = map-set_same (λ (l : Sent Item). l.receiver) lines k (with_parcel i (get_or lines k nothing)) nothing refl
+-- an end takes what is found
+pub takes_found : (node : ℕ) (first : Mailbox (Parcel Item)) (lines : List (Sent Item)) (ps more : List (Parcel Item)) (p : Parcel Item) (from : ℕ) (s : Traffic)
+    → record { node = node; first = first; lines = lines; taken = found_in node (receivers lines) ps } ≡ s
+    → giver_of node (receivers lines) p ≡ Some from → more ≡ ps ++ p ∷ []
+    → Takes s from p.item (record { node = node; first = first; lines = lines; taken = found_in node (receivers lines) more })
+takes_found node first lines ps more p from s is e grown =
+    subst (λ (x : Traffic). Takes x from p.item (record { node = node; first = first; lines = lines; taken = found_in node (receivers lines) more })) is (
+      p.number,
+      e,
+      ap (λ (ts : List (ℕ × Item)). record { node = node; first = first; lines = lines; taken = ts })
+          (ap (found_in node (receivers lines)) grown ∙ found_more node (receivers lines) ps p from e),
+    )

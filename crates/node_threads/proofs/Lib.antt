@@ -1,8 +1,17 @@
-pub mod Turns
-pub mod Opening
-pub mod Rows
-pub mod Closing
+mod Places
+mod Lines
 mod Coming
 mod Givers
 mod Sending
 mod Dealing
+mod Turns
+pub mod Opening
+mod Soundness
+mod Starting
+mod Connecting
+pub mod Rows
+mod Gathering
+mod Comparing
+mod Pairs
+mod Consistency
+pub mod Closing

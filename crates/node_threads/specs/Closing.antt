@@ -1,5 +1,5 @@
 -- What closing a cluster comes to.
-use Rattle.std.specs.Prelude.{ℕ, true, false, ◌≡◌, ◌⊎◌, All, List, ◌++◌, map, Result, Ok, Err}
+use Rattle.std.specs.Prelude.{ℕ, Bool, true, false, ◌≡◌, ◌⊎◌, All, List, ◌++◌, map, Result, Ok, Err}
 use Rattle.registry_model.specs.Table.{Table}
 use Rattle.node_loop.specs.declared.NodeEnd.{NodeEnd}
 use Rattle.node_loop.specs.declared.Transcript.{Transcript}
@@ -9,7 +9,12 @@ use Rattle.replay.specs.declared.closed.Closed.{Closed}
 use Rattle.replay.specs.declared.faults.CloseFault.{CloseFault}
 use Rattle.replay.specs.declared.faults.CloseFault.TheVariants.{Memory}
 use Rattle.replay.specs.Ends.{end_of as seen_end}
+use Rattle.replay.specs.Consistent.{AreConsistent, is_torn as tears}
 use Rattle.replay.specs.Replaying.{Replayed, IsFault}
+
+-- the run is torn
+abbrev pub is_torn : CloseFault → Bool
+is_torn fault = tears fault
 
 -- whose end it is
 abbrev pub end_of : {N M : Type 0} → NodeEnd N M → ℕ
@@ -30,9 +35,10 @@ module _ {N M : Type 0} (contents : N → Table) (cluster lone : List ℕ) (ts :
   Replays ends (Ok closed) = Replayed cluster lone (map (seen_end contents) ends) ts closed.events closed.world
   Replays ends (Err fault) = IsFault cluster lone (map (seen_end contents) ends) ts fault
 
-  -- the threads gave back one end for each node, which its loop left behind, and this is what a replay of them comes to; or there was
-  -- no memory for the ends
+  -- the threads gave back one end for each node, which its loop left behind; these ends are consistent, and this is what a replay of
+  -- them comes to. Or there was no memory for the ends
   abbrev pub CloseIs : Result (Closed N M) CloseFault → Type 0
   CloseIs result =
-      ((ends : List (NodeEnd N M)) × (map end_of ends ≡ cluster ++ lone) × All (λ e. IsLeftBy contents (end_of e) e) ends × Replays ends result)
+      ((ends : List (NodeEnd N M)) × (map end_of ends ≡ cluster ++ lone) × All (λ e. IsLeftBy contents (end_of e) e) ends
+      × AreConsistent cluster lone (map (seen_end contents) ends) × Replays ends result)
       ⊎ (result ≡ Err Memory)

@@ -3,9 +3,15 @@ pub use Rattle.node_seats.specs.Lines
 pub use Rattle.node_seats.specs.Faults
 pub use Rattle.node_seats.specs.Seats
 pub use Rattle.node_seats.specs.Holders
+pub mod Wires
+pub mod Berths
 pub mod Givers
 pub mod Traffics
 pub mod Ends
 pub mod Dealings
+pub mod Soundness
+pub mod Starts
+pub mod Drawing
 pub mod Closing
+pub mod Ended
 pub mod Clusters

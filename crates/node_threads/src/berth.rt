@@ -2,7 +2,6 @@
 ghost use Rattle.std.specs.Prelude.{◌≡◌, true};
 ghost use Rattle.term.specs.NodeSets.{set_of};
 
-use crate::ruled_end::RuledEnd;
 use crate::running::{Running, Work};
 use crate::shared::Shared;
 use link::Mailbox;
@@ -16,8 +15,8 @@ use std::thread::Threads;
 use std::time::Clock;
 use term::NodeName;
 
-/// A node whose thread is yet to start: where it is reached, and what its thread is to work with. Contracts see the
-/// name of the node.
+/// A node whose thread is yet to start: where it is reached, and what its thread is to work with. Contracts see its inbox, how many
+/// lines lead there, the core that it opens with, and its own lines.
 #[derive(Drop)]
 pub(crate) struct Berth<G: Gate + Drop, N: Names> {
     address: Address<Item>,
@@ -32,18 +31,26 @@ pub(crate) struct Berth<G: Gate + Drop, N: Names> {
 }
 
 impl<G: Gate + Drop, N: Names> Model for Berth<G, N> {
-    ghost use Rattle.std.specs.Prelude.{ℕ, ◌≡◌};
-    ghost use Rattle.node_loop.specs.Coming.{IsLoopOf};
+    ghost use Rattle.std.specs.Prelude.{◌≡◌};
+    ghost use Rattle.node_seats.specs.Callers.{name_of as asked_node};
+    ghost use Rattle.node_threads.specs.Wires.{inbox_at};
+    ghost use Rattle.node_threads.specs.Berths.{Berthed};
+    ghost use Rattle.node_threads.specs.Starts.{IsAtStart};
 
-    ghost Value = { ℕ };
+    ghost Value = { Berthed };
 
-    ghost view = { λ b. b.address.node };
+    ghost view = { λ b. record {
+      wired = record { inbox = inbox_at b.address; core = b.node.core; lines = b.lines.items };
+      made = b.address.lines;
+    } };
 
-    ghost invariant = { λ b. (b.node.log.node ≡ b.address.node) × IsLoopOf b.node.log.node b.node };
+    ghost invariant = { λ b. IsAtStart (inbox_at b.address) b.node b.lines.items b.mailbox × (asked_node b.caller ≡ b.address.node) };
 }
 
 impl<G: Gate + Drop, N: Names<Memory = Global>> Berth<G, N> {
-    ghost use Rattle.std.specs.Prelude.{◌≡◌, ◌<◌, true, IfOk};
+    ghost use Rattle.std.specs.Prelude.{◌≡◌, ◌<◌, true, map, IfOk, OnOk};
+    ghost use Rattle.node_threads.specs.Wires.{name_of, unused};
+    ghost use Rattle.node_threads.specs.Berths.{next_line, one_more, IsOpened};
 
     /// Opens a node, the one at this place among the cluster's, and makes what its thread is to work with, but for the
     /// lines.
@@ -56,7 +63,8 @@ impl<G: Gate + Drop, N: Names<Memory = Global>> Berth<G, N> {
     ) -> Result<Self, AllocError>
         requires known { set_of opening.now.nodes node.now ≡ true }
         requires place { place < 8 }
-        ensures { IfOk result (λ berth. berth ≡ node.now) }
+        ensures name { IfOk result (λ berth. name_of berth.wired ≡ node.now) }
+        ensures opened { IfOk result (IsOpened opening.now) }
     {
         // What is large comes last: the check follows each way out with all that was made before it.
         let gate = Arc::try_clone(&shared.gate)?;
@@ -80,15 +88,16 @@ impl<G: Gate + Drop, N: Names<Memory = Global>> Berth<G, N> {
 
     /// A line more into the node's inbox.
     pub(crate) fn line(&mut self) -> Result<Line<Item>, AllocError>
-        ensures node { self.new ≡ self.old }
-        ensures receiver { IfOk result (λ line. line.receiver ≡ self.old) }
+        ensures more { OnOk result (self.new ≡ one_more self.old) }
+        ensures line { IfOk result (λ line. line ≡ next_line self.old) }
     {
         self.address.line()
     }
 
-    /// Gives the node its lines.
+    /// Gives the node its lines, on which nothing was put.
     pub(crate) fn connect(&mut self, lines: Vec<Line<Item>>)
-        ensures { self.new ≡ self.old }
+        requires { map unused lines.items ≡ lines.items }
+        ensures { self.new ≡ record self.old { wired = record self.old.wired { lines = lines.items } } }
     {
         self.lines = lines;
     }
@@ -99,7 +108,7 @@ impl<G: Gate + Drop, N: Names<Memory = Global>> Berth<G, N> {
         G: Send + Sync + 'static,
         N: Send + 'static,
         R: Threads + Wait + Clock + Drop + Copy + Send + 'static,
-        ensures { IfOk result (λ running. running ≡ self) }
+        ensures { IfOk result (λ running. running ≡ self.wired) }
     {
         let Berth {
             address,
@@ -110,10 +119,10 @@ impl<G: Gate + Drop, N: Names<Memory = Global>> Berth<G, N> {
             gate,
             node,
         } = self;
-        let end = RuledEnd::new(*rt, address.node().copy(), lines, mailbox);
         let work = Work {
             node,
-            end,
+            lines,
+            mailbox,
             gate,
             host,
         };

@@ -3,6 +3,8 @@ ghost use Rattle.std.specs.Prelude.{◌≡◌, ◌+◌, ◌≤◌, ◌++◌, tru
 ghost use Rattle.std.specs.Vec.{vec_len};
 ghost use Rattle.term.specs.NodeSets.{set_of};
 ghost use Rattle.node_loop.specs.Openings.{start_refused, IsOpening};
+ghost use Rattle.node_threads.specs.Wires.{name_of, AreWired, IsCrew};
+ghost use Rattle.node_threads.specs.Berths.{wired_of, next_line, one_more, opened_of, IsOpened};
 
 use crate::berth::Berth;
 use crate::shared::Shared;
@@ -22,7 +24,9 @@ fn open_all<G: Gate + Drop, N: Names<Memory = Global>>(
 ) -> Result<(), AllocError>
     requires known { All (λ c. set_of opening.now.nodes c ≡ true) nodes.now }
     requires few { vec_len berths.old + length nodes.now ≤ 8 }
-    ensures { OnOk result (berths.new.items ≡ berths.old.items ++ nodes.now) }
+    requires opened { All (IsOpened opening.now) berths.old.items }
+    ensures names { OnOk result (map name_of (wired_of berths.new.items) ≡ map name_of (wired_of berths.old.items) ++ nodes.now) }
+    ensures opened { OnOk result (All (IsOpened opening.now) berths.new.items) }
 {
     for node in nodes {
         let place = berths.len() as u32;
@@ -36,22 +40,24 @@ fn lines_to<G: Gate + Drop, N: Names<Memory = Global>>(
     alloc: Global,
     berths: &mut [Berth<G, N>],
 ) -> Result<Vec<Line<Item>>, AllocError>
-    ensures nodes { berths.new ≡ berths.old }
-    ensures all { IfOk result (λ lines. map (λ line. line.receiver) lines.items ≡ berths.old) }
+    ensures more { OnOk result (berths.new ≡ map one_more berths.old) }
+    ensures lines { IfOk result (λ lines. lines.items ≡ map next_line berths.old) }
 {
     let mut lines = Vec::new(alloc);
-    for place in 0..berths.len() {
-        lines.push(berths[place].line()?)?;
+    for berth in berths.iter_mut() {
+        lines.push(berth.line()?)?;
     }
     Ok(lines)
 }
 
-/// Connects all these nodes with one another, and each with itself.
+/// Connects all these nodes with one another, and each with itself. The lines of each have the number of its place.
 fn connect<G: Gate + Drop, N: Names<Memory = Global>>(
     alloc: Global,
     berths: &mut [Berth<G, N>],
 ) -> Result<(), AllocError>
-    ensures { berths.new ≡ berths.old }
+    requires { All (λ b. b.made ≡ 1) berths.old }
+    ensures wired { OnOk result (AreWired (wired_of berths.new)) }
+    ensures opened { OnOk result (map opened_of berths.new ≡ map opened_of berths.old) }
 {
     for place in 0..berths.len() {
         let lines = lines_to(alloc, berths)?;
@@ -70,7 +76,7 @@ pub(crate) fn berths_of<G: Gate + Drop, N: Names<Memory = Global>>(
 ) -> Result<Vec<Berth<G, N>>, AllocError>
     requires lists { start_refused cluster.now lone.now ≡ None }
     requires opens { IsOpening cluster.now lone.now opening.now }
-    ensures { IfOk result (λ berths. berths.items ≡ cluster.now ++ lone.now) }
+    ensures { IfOk result (λ berths. IsCrew cluster.now lone.now (wired_of berths.items)) }
 {
     let mut berths = Vec::new(alloc);
     open_all(alloc, shared, opening, cluster, &mut berths)?;

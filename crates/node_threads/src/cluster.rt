@@ -1,18 +1,19 @@
 //! Clusters: the threads of all nodes, and the seats at them.
-ghost use Rattle.std.specs.Prelude.{ℕ, ◌≡◌, ◌+◌, ◌≤◌, ◌++◌, false, [], None, Err, All, map, IfOk, OnOk, IfErr, OnErr, IfSome};
+ghost use Rattle.std.specs.Prelude.{ℕ, ◌≡◌, ◌==◌, ◌+◌, ◌≤◌, ◌++◌, false, [], None, Err, IfOk, OnOk, IfErr, OnErr};
+ghost use Rattle.std.specs.List.{position};
 ghost use Rattle.term.specs.NodeSets.{set_of};
-ghost use Rattle.link.specs.Held.{place};
 ghost use Rattle.node_loop.specs.Openings.{start_refused, start_fault_of, IsOpening};
 ghost use Rattle.node_seats.specs.declared.fault.SeatFault.TheVariants.{NoSuchNode};
 ghost use Rattle.node_seats.specs.Faults.{IsSeatRefused};
-ghost use Rattle.node_threads.specs.Closing.{end_of, IsLeftBy, CloseIs};
+ghost use Rattle.node_threads.specs.Closing.{is_torn, CloseIs};
 
-use crate::berth::Berth;
 use crate::berths::berths_of;
+use crate::crew::{Gathered, end_all, launch_all};
+use crate::intake::compare_all;
 use crate::running::Running;
 use crate::shared::Shared;
 use name_table::Names;
-use node_loop::{Gate, NodeEnd, Opening, StartFault, Transcript};
+use node_loop::{Gate, Opening, StartFault, Transcript};
 use node_seats::{MOST_SEATS, Seat, SeatFault};
 use replay::{CloseFault, Closed, replay};
 use std::alloc::{AllocError, Global};
@@ -40,13 +41,14 @@ impl<G: Gate + Drop, N: Names> Model for Cluster<G, N> {
     ghost use Rattle.node_seats.specs.Callers.{nodes_at};
     ghost use Rattle.node_loop.specs.Openings.{start_refused};
     ghost use Rattle.node_threads.specs.Clusters.{Crewed};
+    ghost use Rattle.node_threads.specs.Wires.{IsCrew};
 
     ghost Value = { Crewed };
 
     ghost view = { λ c. record { cluster = c.cluster.items; lone = c.lone.items; seats = c.seats } };
 
     ghost invariant = { λ c. (start_refused c.cluster.items c.lone.items ≡ None)
-        × (c.running.items ≡ c.cluster.items ++ c.lone.items) × (c.seats ≤ 64)
+        × IsCrew c.cluster.items c.lone.items c.running.items × (c.seats ≤ 64)
         × ((n : ℕ) → set_of (nodes_at c.shared.hub.value) n ≡ set_of (c.cluster.items ++ c.lone.items) n) };
 }
 
@@ -62,72 +64,9 @@ fn place_of<N: Names<Memory = Global> + Send + 'static>(
     running: &[Running<N>],
     node: &NodeName,
 ) -> Option<usize>
-    ensures { result ≡ place node.now running.now }
+    ensures { result ≡ position (λ one. one.inbox.node == node.now) running.now }
 {
     running.iter().position(|one| one.node() == node)
-}
-
-/// Starts the threads of these nodes, one after another, up to the first that can't be started.
-fn launch_each<G, N, R>(
-    rt: &R,
-    berths: Vec<Berth<G, N>>,
-    running: &mut Vec<Running<N>>,
-) -> Result<(), AllocError>
-where
-    G: Gate + Drop + Send + Sync + 'static,
-    N: Names<Memory = Global> + Send + 'static,
-    R: Threads + Wait + Clock + Drop + Copy + Send + 'static,
-    ensures { OnOk result (running.new.items ≡ running.old.items ++ berths.items) }
-{
-    running.reserve(berths.len())?;
-    for berth in berths {
-        running.push_reserved(berth.launch(rt)?);
-    }
-    Ok(())
-}
-
-/// Starts the threads of these nodes. Where one can't be started, those that were are ended again.
-fn launch_all<G, N, R>(
-    rt: &R,
-    alloc: Global,
-    berths: Vec<Berth<G, N>>,
-) -> Result<Vec<Running<N>>, AllocError>
-where
-    G: Gate + Drop + Send + Sync + 'static,
-    N: Names<Memory = Global> + Send + 'static,
-    R: Threads + Wait + Clock + Drop + Copy + Send + 'static,
-    ensures { IfOk result (λ running. running.items ≡ berths.items) }
-{
-    let mut running = Vec::new(alloc);
-    match launch_each(rt, berths, &mut running) {
-        Ok(()) => Ok(running),
-        Err(fault) => {
-            end_all(rt, alloc, running);
-            Err(fault)
-        }
-    }
-}
-
-/// Asks these threads to end, and waits until all have. Gives what they left behind, where there is memory for it.
-fn end_all<N, R>(rt: &R, alloc: Global, running: Vec<Running<N>>) -> Option<Vec<NodeEnd<N>>>
-where
-    N: Names<Memory = Global> + Send + 'static,
-    R: Threads,
-    ensures nodes { IfSome result (λ ends. map end_of ends.items ≡ running.items) }
-    ensures left { IfSome result (λ ends. All (λ e. IsLeftBy N.contents (end_of e) e) ends.items) }
-{
-    for one in &running {
-        one.stop();
-    }
-    let mut ends = Vec::new(alloc);
-    let mut whole = true;
-    for one in running {
-        let end = one.join(rt);
-        if ends.push(end).is_err() {
-            whole = false;
-        }
-    }
-    if whole { Some(ends) } else { None }
 }
 
 impl<G, N> Cluster<G, N>
@@ -135,7 +74,7 @@ where
     G: Gate + Drop + Send + Sync + 'static,
     N: Names<Memory = Global> + Send + 'static,
 {
-    ghost use Rattle.node_threads.specs.Clusters.{nodes_in};
+    ghost use Rattle.node_threads.specs.Clusters.{nodes_in, IsAccepted};
 
     /// Starts a thread for each node: those of `cluster` are joined with each other, and each of `lone` stands for itself. It is
     /// refused as `World::start` is, in the same order; `Memory` also where a thread can't be had. The gate is held before each
@@ -221,6 +160,7 @@ where
         ensures seats { self.new.seats ≡ self.old.seats }
         ensures nodes { (self.new.cluster ≡ self.old.cluster) × (self.new.lone ≡ self.old.lone) }
         ensures stranger { set_of (nodes_in self.old) node.now ≡ false → result ≡ Err NoSuchNode }
+        ensures accepted { OnOk result (IsAccepted node.now) }
     {
         let Some(place) = place_of(self.running.as_slice(), node) else {
             return Err(SeatFault::NoSuchNode);
@@ -229,14 +169,15 @@ where
     }
 
     /// Asks all threads to end, waits until they have, and replays what they left behind on a world, with these transcripts of
-    /// seats. Where it answers `Ok` the run of the threads was one of the world's. Calls that still wait at a seat are answered
-    /// `Closed`.
+    /// seats. Where it answers `Ok` the run of the threads was one of the world's. It is never `Torn`: what the threads of a cluster leave
+    /// behind is consistent. Calls that still wait at a seat are answered `Closed`.
     pub fn close<R: Threads>(
         self,
         rt: &R,
         transcripts: &[Transcript],
     ) -> Result<Closed<N>, CloseFault>
-        ensures { CloseIs N.contents self.cluster self.lone transcripts.now result }
+        ensures is { CloseIs N.contents self.cluster self.lone transcripts.now result }
+        ensures whole { IfErr result (λ fault. is_torn fault ≡ false) }
     {
         let Cluster {
             alloc,
@@ -246,9 +187,17 @@ where
             running,
             seats: _seats,
         } = self;
-        let Some(ends) = end_all(rt, alloc, running) else {
+        let Some(
+            Gathered {
+                ends,
+                rows,
+                mut intakes,
+            },
+        ) = end_all(rt, alloc, running)
+        else {
             return Err(CloseFault::Memory);
         };
+        compare_all(intakes.as_mut_slice(), rows);
         replay(
             alloc,
             cluster.as_slice(),

@@ -27,6 +27,8 @@
 mod berth;
 mod berths;
 mod cluster;
+mod crew;
+mod intake;
 mod ruled_end;
 mod running;
 mod shared;

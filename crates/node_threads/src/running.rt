@@ -2,13 +2,18 @@
 ghost use denote.Param.Send.{IsSend, IsSync};
 ghost use Rattle.std.specs.Prelude.{◌≡◌, IfOk, OnOk};
 ghost use Rattle.node_loop.specs.Coming.{IsLoopOf};
-ghost use Rattle.node_threads.specs.Closing.{IsLeftBy};
+ghost use Rattle.node_threads.specs.Wires.{inbox_at};
+ghost use Rattle.node_threads.specs.Starts.{IsAtStart};
+ghost use Rattle.node_threads.specs.Ends.{fixed};
+ghost use Rattle.node_threads.specs.Soundness.{StaysSound, EndsSound};
+ghost use Rattle.node_threads.specs.Ended.{IsEndOf};
 
+use crate::intake::Intake;
 use crate::ruled_end::RuledEnd;
-use link::{Inbox, Post};
+use link::Mailbox;
 use name_table::Names;
 use node_loop::{Event, Gate, Item, NodeEnd, NodeLoop, TurnFault};
-use node_seats::{Address, Caller, Host, Hub, SeatFault};
+use node_seats::{Address, Caller, Host, Hub, Line, Parcel, SeatFault};
 use std::alloc::{AllocError, Global};
 use std::marker::Model;
 use std::snapshot::Snapshot;
@@ -18,68 +23,102 @@ use std::thread::{Promise, PromisedHandle, Threads};
 use std::time::Clock;
 use term::NodeName;
 
-/// That what a thread gives back is what the loop of this node left behind.
+/// What a thread gives back: what its node left behind, its lines, and its end of its inbox.
 #[derive(Drop)]
-pub(crate) struct EndOf(Snapshot<NodeName>);
-
-impl<N: Names> Promise<NodeEnd<N>> for EndOf {
-    ghost use Rattle.node_threads.specs.Closing.{IsLeftBy};
-
-    ghost kept_by = { λ promise end. IsLeftBy N.contents promise.0.value end };
+pub(crate) struct Ended<N: Names> {
+    pub(crate) end: NodeEnd<N>,
+    pub(crate) lines: Vec<Line<Item>>,
+    pub(crate) mailbox: Mailbox<Parcel<Item>>,
 }
 
-/// A node whose thread runs: where it is reached, how it stands, and the thread. Contracts see the name of the node.
+/// That what a thread gives back came by turns from this loop, with these lines and this end of an inbox.
+#[derive(Drop)]
+pub(crate) struct EndOf<N: Names>(
+    Snapshot<NodeLoop<N>>,
+    Snapshot<Vec<Line<Item>>>,
+    Snapshot<Mailbox<Parcel<Item>>>,
+);
+
+impl<N: Names> Promise<Ended<N>> for EndOf<N> {
+    ghost use Rattle.node_threads.specs.Ended.{IsEndOf};
+
+    ghost kept_by = { λ promise ended. IsEndOf N.contents promise.0.value promise.1.value.items promise.2.value ended };
+}
+
+/// A node whose thread runs: where it is reached, how it stands, and the thread. Contracts see its inbox, the core with which it
+/// opened, and its lines as they were then.
 #[derive(Drop)]
 pub(crate) struct Running<N: Names> {
     address: Address<Item>,
     /// Asks it in the name of the cluster.
     caller: Caller,
-    handle: PromisedHandle<NodeEnd<N>, EndOf>,
+    handle: PromisedHandle<Ended<N>, EndOf<N>>,
 }
 
 impl<N: Names> Model for Running<N> {
-    ghost use Rattle.std.specs.Prelude.{ℕ, ◌≡◌};
+    ghost use Rattle.std.specs.Prelude.{◌≡◌};
+    ghost use Rattle.node_seats.specs.Callers.{name_of as asked_node};
+    ghost use Rattle.node_threads.specs.Wires.{Wired, inbox_at};
+    ghost use Rattle.node_threads.specs.Starts.{IsAtStart};
 
-    ghost Value = { ℕ };
+    ghost Value = { Wired };
 
-    ghost view = { λ r. r.address.node };
+    ghost view = { λ r. record {
+      inbox = inbox_at r.address;
+      core = r.handle.promise.0.value.core;
+      lines = r.handle.promise.1.value.items;
+    } };
 
-    ghost invariant = { λ r. r.handle.promise.0.value ≡ r.address.node };
+    ghost invariant = { λ r. IsAtStart (inbox_at r.address) r.handle.promise.0.value r.handle.promise.1.value.items r.handle.promise.2.value
+        × (asked_node r.caller ≡ r.address.node) };
 }
 
 /// What a node's thread works with.
 #[derive(Drop)]
-pub(crate) struct Work<G: Gate + Drop, N: Names, R: Wait + Drop> {
+pub(crate) struct Work<G: Gate + Drop, N: Names> {
     pub(crate) node: NodeLoop<N>,
-    pub(crate) end: RuledEnd<R>,
+    pub(crate) lines: Vec<Line<Item>>,
+    pub(crate) mailbox: Mailbox<Parcel<Item>>,
     pub(crate) gate: Arc<G, Global>,
     pub(crate) host: Host,
 }
 
-/// One turn of a node is its own.
-fn turn<E: Post<Item> + Inbox<Item>, G: Gate, N: Names<Memory = Global>>(
+/// What a node whose thread has ended left behind, its lines, and its inbox.
+#[derive(Drop)]
+pub(crate) struct Returned<N: Names> {
+    pub(crate) end: NodeEnd<N>,
+    pub(crate) lines: Vec<Line<Item>>,
+    pub(crate) intake: Intake,
+}
+
+/// One turn of a node is its own, and it keeps its end.
+fn turn<G: Gate, N: Names<Memory = Global>, R: Wait + Drop>(
     node: &mut NodeLoop<N>,
-    end: &mut E,
+    end: &mut RuledEnd<R>,
     gate: &G,
 ) -> Result<(), TurnFault>
     ensures node { node.new.log.node ≡ node.old.log.node }
     ensures came { IsLoopOf node.old.log.node node.old → IsLoopOf node.old.log.node node.new }
+    ensures sound { StaysSound node.old end.old result node.new end.new }
+    ensures same { fixed end.new ≡ fixed end.old }
 {
     node.turn(end, gate)
 }
 
 /// The node takes one turn after another, until it is asked to end or can't go on. Replies are handed out behind each turn, and
 /// where one did nothing the thread rests.
-fn turns<E: Post<Item> + Inbox<Item>, G: Gate, N: Names<Memory = Global>, R: Wait + Clock>(
+fn turns<G: Gate, N: Names<Memory = Global>, R: Wait + Clock + Drop>(
     rt: &R,
     node: &mut NodeLoop<N>,
-    end: &mut E,
+    end: &mut RuledEnd<R>,
     gate: &G,
     host: &mut Host,
 )
     requires { IsLoopOf node.old.log.node node.old }
     ensures node { node.new.log.node ≡ node.old.log.node }
     ensures came { IsLoopOf node.old.log.node node.new }
+    ensures sound { EndsSound node.old end.old node.new end.new }
+    ensures same { fixed end.new ≡ fixed end.old }
 {
     for _ in rt.forever() {
         if host.is_closing() {
@@ -95,46 +134,58 @@ fn turns<E: Post<Item> + Inbox<Item>, G: Gate, N: Names<Memory = Global>, R: Wai
 }
 
 /// A node's thread, from its first turn to its end.
-fn run<G: Gate + Drop, N: Names<Memory = Global>, R: Wait + Clock + Drop>(
+fn run<G: Gate + Drop, N: Names<Memory = Global>, R: Wait + Clock + Drop + Copy>(
     rt: &R,
-    work: Work<G, N, R>,
-) -> NodeEnd<N>
+    work: Work<G, N>,
+) -> Ended<N>
     requires { IsLoopOf work.node.log.node work.node }
-    ensures { IsLeftBy N.contents work.node.log.node result }
+    ensures { IsEndOf N.contents work.node work.lines.items work.mailbox result }
 {
     let Work {
         mut node,
-        mut end,
+        lines,
+        mailbox,
         gate,
         mut host,
     } = work;
+    let mut end = RuledEnd::new(*rt, node.node().copy(), lines, mailbox);
     turns(rt, &mut node, &mut end, &*gate, &mut host);
-    host.end(node)
+    let (lines, mailbox) = end.into_parts();
+    let end = host.end(node);
+    Ended {
+        end,
+        lines,
+        mailbox,
+    }
 }
 
-/// Starts the thread of this node. What it works with is the node's.
+/// Starts the thread of a node, which works with this.
 fn spawn<G, N, R>(
     rt: &R,
-    node: &NodeName,
-    work: Work<G, N, R>,
-) -> Result<PromisedHandle<NodeEnd<N>, EndOf>, AllocError>
+    work: Work<G, N>,
+) -> Result<PromisedHandle<Ended<N>, EndOf<N>>, AllocError>
 where
     G: Gate + Drop + Send + Sync + 'static,
     N: Names<Memory = Global> + Send + 'static,
     R: Threads + Wait + Clock + Drop + Copy + Send + 'static,
-    requires node { work.node.log.node ≡ node.now }
-    requires came { IsLoopOf work.node.log.node work.node }
-    ensures { IfOk result (λ handle. handle.promise.0.value ≡ node.now) }
+    requires { IsLoopOf work.node.log.node work.node }
+    ensures node { IfOk result (λ handle. handle.promise.0.value ≡ work.node) }
+    ensures lines { IfOk result (λ handle. handle.promise.1.value ≡ work.lines) }
+    ensures mailbox { IfOk result (λ handle. handle.promise.2.value ≡ work.mailbox) }
 {
-    let promise = EndOf(Snapshot::of(node));
+    let promise = EndOf(
+        Snapshot::of(&work.node),
+        Snapshot::of(&work.lines),
+        Snapshot::of(&work.mailbox),
+    );
     let own = *rt;
     let handle = thread::spawn_with(
         rt,
         promise,
-        move || -> NodeEnd<N>
+        move || -> Ended<N>
             requires sends { IsSend G.row × IsSend N.row × IsSend R.row × IsSync G.row }
             requires came { IsLoopOf work.node.log.node work.node }
-            ensures { IsLeftBy N.contents work.node.log.node result }
+            ensures { IsEndOf N.contents work.node work.lines.items work.mailbox result }
         { run(&own, work) },
     )?;
     Ok(handle)
@@ -142,23 +193,26 @@ where
 
 impl<N: Names<Memory = Global> + Send + 'static> Running<N> {
     ghost use Rattle.std.specs.Prelude.{◌<◌, []};
-    ghost use Rattle.node_seats.specs.Callers.{name_of, slot_of, nodes_of, nodes_at, asked_by};
+    ghost use Rattle.node_seats.specs.Callers.{name_of as asked_node, slot_of, nodes_of, nodes_at, asked_by};
+    ghost use Rattle.node_threads.specs.Wires.{name_of};
+    ghost use Rattle.node_threads.specs.Ended.{Returns};
+    ghost use Rattle.node_threads.specs.Clusters.{IsAccepted};
 
-    /// Starts the thread of a node. What it works with is the node's.
+    /// Starts the thread of a node. What it works with is the node's, which is at its start.
     pub(crate) fn start<G, R>(
         rt: &R,
         address: Address<Item>,
         caller: Caller,
-        work: Work<G, N, R>,
+        work: Work<G, N>,
     ) -> Result<Self, AllocError>
     where
         G: Gate + Drop + Send + Sync + 'static,
         R: Threads + Wait + Clock + Drop + Copy + Send + 'static,
-        requires node { work.node.log.node ≡ address.node }
-        requires came { IsLoopOf work.node.log.node work.node }
-        ensures { IfOk result (λ running. running ≡ address.node) }
+        requires start { IsAtStart (inbox_at address) work.node work.lines.items work.mailbox }
+        requires asks { asked_node caller ≡ address.node }
+        ensures { IfOk result (λ running. running ≡ record { inbox = inbox_at address; core = work.node.core; lines = work.lines.items }) }
     {
-        let handle = spawn(rt, address.node(), work)?;
+        let handle = spawn(rt, work)?;
         Ok(Running {
             address,
             caller,
@@ -168,7 +222,7 @@ impl<N: Names<Memory = Global> + Send + 'static> Running<N> {
 
     /// Its node.
     pub(crate) fn node(&self) -> &NodeName
-        ensures { result.now ≡ self.now }
+        ensures { result.now ≡ name_of self.now }
     {
         self.address.node()
     }
@@ -182,7 +236,7 @@ impl<N: Names<Memory = Global> + Send + 'static> Running<N> {
     ) -> Result<Caller, AllocError>
         requires { slot < 72 }
         ensures slot { IfOk result (λ caller. slot_of caller ≡ slot) }
-        ensures asks { IfOk result (λ caller. name_of caller ≡ self.old) }
+        ensures asks { IfOk result (λ caller. asked_node caller ≡ name_of self.old) }
         ensures nodes { IfOk result (λ caller. nodes_of caller ≡ nodes_at hub.now.value) }
         ensures unasked { IfOk result (λ caller. asked_by caller ≡ []) }
         ensures node { self.new ≡ self.old }
@@ -193,6 +247,7 @@ impl<N: Names<Memory = Global> + Send + 'static> Running<N> {
     /// Asks the node to leave, in the name of the cluster, and waits until it has.
     pub(crate) fn leave<R: Wait + Clock>(&mut self, rt: &R) -> Result<(), SeatFault>
         ensures node { self.new ≡ self.old }
+        ensures accepted { OnOk result (IsAccepted (name_of self.old)) }
     {
         self.caller.ask(rt, Event::Leave)?;
         Ok(())
@@ -203,11 +258,24 @@ impl<N: Names<Memory = Global> + Send + 'static> Running<N> {
         self.caller.stop();
     }
 
-    /// Waits until its thread has ended, and gives what it left behind.
-    pub(crate) fn join<R: Threads>(self, rt: &R) -> NodeEnd<N>
-        ensures { IsLeftBy N.contents self result }
+    /// Waits until its thread has ended, and gives what it gave back.
+    pub(crate) fn join<R: Threads>(self, rt: &R) -> Returned<N>
+        ensures { Returns N.contents self result.end result.lines.items result.intake }
     {
-        let Running { handle, .. } = self;
-        handle.join(rt)
+        let Running {
+            address,
+            handle,
+            ..
+        } = self;
+        let Ended {
+            end,
+            lines,
+            mailbox,
+        } = handle.join(rt);
+        Returned {
+            end,
+            lines,
+            intake: Intake::new(address, mailbox),
+        }
     }
 }

@@ -1,9 +1,9 @@
-use Rattle.std.proofs.Common.{◌≡◌, map, take, length}
+use Rattle.std.proofs.Common.{◌≡◌, ◌++◌, map, take, drop}
+use Rattle.node_threads.specs.Berths.{next_line, one_more}
 use Rattle.node_threads.proofs.berths.lines_to.Given as goal
 
-abbrev pub invariant-loop-place : goal.invariant-loop-place
-invariant-loop-place g l = record {
-  names : l.berths ≡ l.fn.berths;
-  receivers : map (λ line. line.receiver) l.lines.items ≡ take l.place l.fn.berths;
-  ends : l.place-end ≡ length l.fn.berths;
+abbrev pub invariant-loop-berth : goal.invariant-loop-berth
+invariant-loop-berth g l = record {
+  more : l.berths ≡ map one_more (take l.berth-index l.fn.berths) ++ drop l.berth-index l.fn.berths;
+  lines : l.lines.items ≡ map next_line (take l.berth-index l.fn.berths);
 }

@@ -1,12 +1,75 @@
-use Rattle.std.proofs.Common.{ap, ◌∙◌}
-use Rattle.node_threads.specs.Clusters.{Crewed, nodes_in}
-use Rattle.node_threads.proofs.Closing.{closes}
+use Rattle.std.proofs.Common.{ℕ, false, ◌≡◌, ◌++◌, List, Vec, map, refl, ap, sym, subst, ◌∙◌}
+use Rattle.std.specs.Prelude.{All}
+use Rattle.std.specs.declared.alloc.Global.{Global}
+use Rattle.term.specs.NodeSets.{set_of}
+use Rattle.node_loop.specs.declared.NodeEnd.{NodeEnd}
+use Rattle.node_loop.specs.declared.item.Item.{Item}
+use Rattle.node_loop.specs.Openings.{repeats}
+use Rattle.node_seats.specs.Lines.{Sent}
+use Rattle.node_threads.specs.Clusters.{Crewed}
+use Rattle.node_threads.specs.Drawing.{Drawn, AllCompared}
+use Rattle.node_threads.specs.Closing.{end_of, CloseIs}
+use Rattle.node_threads.proofs.Closing.{closes, never_torn}
+use Rattle.node_threads.proofs.Comparing.{rows_lead}
+use Rattle.node_threads.proofs.Consistency.{consistent, ends_names}
+use Rattle.node_threads.proofs.Gathering.{left_all}
+use Rattle.node_threads.proofs.Opening.{once}
 use Rattle.node_threads.proofs.cluster.Cluster.close.Goals as goal
 
-pub returns : goal.returns
-returns g c = closes g.N.Names.contents c.args.self.cluster c.args.self.lone c.as_slice.result.now c.as_slice-2.result.now
-    c.self.inside.running.items c.args.transcripts.now c.in-Some.ends.items c.as_slice-3.result.now c.replay.result
-    (c.as_slice.ensures.value ∙ ap (λ (k : Crewed). k.cluster) c.self.view_is)
-    (c.as_slice-2.ensures.value ∙ ap (λ (k : Crewed). k.lone) c.self.view_is)
-    c.as_slice-3.ensures.value c.in-Some.ensures.nodes c.in-Some.ensures.left (c.self.invariant.1 ∙ ap nodes_in c.self.view_is)
-    c.replay.ensures.ok c.replay.ensures.refused
+pub compare_all-requires : goal.compare_all-requires
+compare_all-requires g c = subst
+    (λ (d : List Drawn). All (λ (v : Vec (Sent Item) Global). map (λ (l : Sent Item). l.room) v.items ≡ map (λ (x : Drawn). x.inbox.room) d) c.in-Some.field-0.rows.items)
+    (sym c.as_mut_slice.ensures.value)
+    (rows_lead g.N.Names.contents c.self.inside.cluster.items c.self.inside.lone.items c.self.inside.running.items c.self.invariant.1
+    c.in-Some.field-0.ends.items (map (λ row. row.items) c.in-Some.field-0.rows.items) c.in-Some.field-0.intakes.items c.in-Some.ensures
+    c.in-Some.field-0.rows.items refl)
+
+pub replay-requires-clause-once : goal.replay-requires-clause-once
+replay-requires-clause-once g c = ap (λ (es : List (NodeEnd _ _)). repeats (map end_of es)) c.as_slice-3.ensures.value
+    ∙ ap repeats (ends_names g.N.Names.contents c.self.inside.cluster.items c.self.inside.lone.items c.self.inside.running.items
+    c.in-Some.field-0.ends.items (map (λ row. row.items) c.in-Some.field-0.rows.items) c.in-Some.field-0.intakes.items c.self.invariant.1
+    c.in-Some.ensures
+    (subst (AllCompared (map (λ row. row.items) c.in-Some.field-0.rows.items)) c.as_mut_slice.ensures.value c.compare_all.ensures.compared)
+    (once c.self.inside.cluster.items c.self.inside.lone.items c.self.invariant.0))
+    ∙ once c.self.inside.cluster.items c.self.inside.lone.items c.self.invariant.0
+
+pub replay-requires-clause-each : goal.replay-requires-clause-each
+replay-requires-clause-each g c = λ n. ap (λ (es : List (NodeEnd _ _)). set_of (map end_of es) n) c.as_slice-3.ensures.value
+    ∙ ap (λ (ns : List ℕ). set_of ns n)
+    (ends_names g.N.Names.contents c.self.inside.cluster.items c.self.inside.lone.items c.self.inside.running.items
+    c.in-Some.field-0.ends.items (map (λ row. row.items) c.in-Some.field-0.rows.items) c.in-Some.field-0.intakes.items c.self.invariant.1
+    c.in-Some.ensures
+    (subst (AllCompared (map (λ row. row.items) c.in-Some.field-0.rows.items)) c.as_mut_slice.ensures.value c.compare_all.ensures.compared)
+    (once c.self.inside.cluster.items c.self.inside.lone.items c.self.invariant.0))
+    ∙ (λ j. set_of (sym c.as_slice.ensures.value j ++ sym c.as_slice-2.ensures.value j) n)
+
+pub returns-clause-is : goal.returns-clause-is
+returns-clause-is g c =
+    let singles : repeats (c.self.inside.cluster.items ++ c.self.inside.lone.items) ≡ false =
+    once c.self.inside.cluster.items c.self.inside.lone.items c.self.invariant.0 in
+    let rows : List (List (Sent Item)) = map (λ row. row.items) c.in-Some.field-0.rows.items in
+    let compared : AllCompared rows c.in-Some.field-0.intakes.items =
+    subst (AllCompared rows) c.as_mut_slice.ensures.value c.compare_all.ensures.compared in
+    subst (λ (k : Crewed). CloseIs g.N.Names.contents k.cluster k.lone c.args.transcripts.now c.replay.result) c.self.view_is
+    (closes g.N.Names.contents c.self.inside.cluster.items c.self.inside.lone.items c.args.transcripts.now c.in-Some.field-0.ends.items
+    (consistent g.N.Names.contents c.self.inside.cluster.items c.self.inside.lone.items c.self.inside.running.items
+    c.in-Some.field-0.ends.items rows c.in-Some.field-0.intakes.items c.self.invariant.1 c.in-Some.ensures compared singles)
+    c.as_slice.result.now c.as_slice-2.result.now c.as_slice-3.result.now c.as_slice.ensures.value c.as_slice-2.ensures.value
+    c.as_slice-3.ensures.value c.replay.result
+    (ends_names g.N.Names.contents c.self.inside.cluster.items c.self.inside.lone.items c.self.inside.running.items
+    c.in-Some.field-0.ends.items rows c.in-Some.field-0.intakes.items c.self.invariant.1 c.in-Some.ensures compared singles)
+    (left_all g.N.Names.contents c.self.inside.running.items c.in-Some.field-0.ends.items rows c.in-Some.field-0.intakes.items
+    c.in-Some.ensures) c.replay.ensures.ok c.replay.ensures.refused)
+
+pub returns-clause-whole : goal.returns-clause-whole
+returns-clause-whole g c =
+    let singles : repeats (c.self.inside.cluster.items ++ c.self.inside.lone.items) ≡ false =
+    once c.self.inside.cluster.items c.self.inside.lone.items c.self.invariant.0 in
+    let rows : List (List (Sent Item)) = map (λ row. row.items) c.in-Some.field-0.rows.items in
+    let compared : AllCompared rows c.in-Some.field-0.intakes.items =
+    subst (AllCompared rows) c.as_mut_slice.ensures.value c.compare_all.ensures.compared in
+    never_torn g.N.Names.contents c.self.inside.cluster.items c.self.inside.lone.items c.args.transcripts.now c.in-Some.field-0.ends.items
+    (consistent g.N.Names.contents c.self.inside.cluster.items c.self.inside.lone.items c.self.inside.running.items
+    c.in-Some.field-0.ends.items rows c.in-Some.field-0.intakes.items c.self.invariant.1 c.in-Some.ensures compared singles)
+    c.as_slice.result.now c.as_slice-2.result.now c.as_slice-3.result.now c.as_slice.ensures.value c.as_slice-2.ensures.value
+    c.as_slice-3.ensures.value c.replay.result c.replay.ensures.torn

@@ -1,6 +1,7 @@
-use Rattle.std.proofs.Common.{◌≡◌, ◌++◌, List, ℕ, sym, ap, ◌∙◌, arith}
+use Rattle.std.proofs.Common.{◌≡◌, ◌++◌, List, ℕ, sym, ap, subst, ◌∙◌, arith}
 use Rattle.term.specs.NodeSets.{set_of}
 use Rattle.node_loop.specs.Openings.{start_refused}
+use Rattle.node_threads.specs.Wires.{Wired, IsCrew}
 use Rattle.node_threads.proofs.cluster.Cluster.opened.Goals as goal
 
 pub invariant_of-result : goal.invariant_of-result
@@ -11,7 +12,7 @@ invariant_of-result g c =
     ap (λ (l : List ℕ). l ++ c.in_ok-others.others.items) a ∙ ap (λ (l : List ℕ). c.args.cluster.now ++ l) b in (
       ap (λ (l : List ℕ). start_refused l c.in_ok-others.others.items) a
           ∙ ap (start_refused c.args.cluster.now) b ∙ c.requires.lists,
-      c.in_ok-running.ensures ∙ c.in_ok-berths.ensures ∙ sym both,
+      subst (λ (x : List ℕ × List ℕ × List Wired). IsCrew x.0 x.1 x.2) (λ j. (sym a j, sym b j, sym c.in_ok-running.ensures j)) c.in_ok-berths.ensures,
       omega arith,
       λ n. ap (λ (ns : List ℕ). set_of ns n) (c.in_ok-shared.ensures ∙ c.nodes.ensures.nodes) ∙ c.requires.opens.nodes n
           ∙ ap (λ (ns : List ℕ). set_of ns n) (sym both),

@@ -1,0 +1,107 @@
+-- A node's loop over its end stays sound, turn by turn, and its thread gives back what tells of it.
+use Rattle.std.proofs.Common.{ℕ, true, false, ◌≡◌, inl, inr, List, [], map, Ok, Err, is_ok, sym, ap, subst, ◌∙◌}
+use Rattle.registry_model.specs.Table.{Table}
+use Rattle.protocol_model.specs.World.{Opening}
+use Rattle.link.specs.declared.mailbox.Mailbox.{Mailbox}
+use Rattle.link.specs.Mailboxes.{taken, mailbox_room}
+use Rattle.node_loop.specs.declared.item.Item.{Item}
+use Rattle.node_loop.specs.Coming.{IsLoopOf}
+use Rattle.node_loop.specs.Desks.{Kept}
+use Rattle.node_loop.specs.Held.{Looping, written}
+use Rattle.node_loop.specs.Steps.{Outcome}
+use Rattle.node_loop.specs.Dealings.{Dealt}
+use Rattle.node_loop.specs.Sound.{IsSound, EndsSound as EndsSoundWith, Tells, LeavesSound}
+use Rattle.node_loop.proofs.Standing.{besides}
+use Rattle.node_seats.specs.declared.parcel.Parcel.{Parcel}
+use Rattle.node_seats.specs.Lines.{Sent}
+use Rattle.node_threads.specs.declared.ruled_end.Traffic.{Traffic}
+use Rattle.node_threads.specs.declared.running.Ended.{Ended}
+use Rattle.node_threads.specs.Givers.{receivers, found_in}
+use Rattle.node_threads.specs.Wires.{unused}
+use Rattle.node_threads.specs.Ends.{are_inside, leads_inside, fixed}
+use Rattle.node_threads.specs.Dealings.{sent_to, taken_from, dealt_of, dealt_by}
+use Rattle.node_threads.specs.Soundness.{IsSoundAt, StaysSound, EndsSound}
+use Rattle.node_threads.specs.Ended.{IsEndOf}
+use Rattle.node_threads.proofs.Lines.{receivers_unused}
+
+-- replies that are handed out change nothing of it
+sound_without : (o : Opening) (b c : Looping) (d : Dealt) (k : Kept) → c ≡ record b { desk = k } → IsSound o b d → IsSound o c d
+sound_without o b c d k is S =
+    subst (λ (l : Looping). IsSound o l d) (sym is) (besides o (λ f. []) b d S k b.wait b.worked)
+
+ended_without : (o : Opening) (b c : Looping) (d : Dealt) (k : Kept) → c ≡ record b { desk = k } → EndsSoundWith o b d → EndsSoundWith o c d
+ended_without o b c d k is E = subst (λ (l : Looping). EndsSoundWith o l d) (sym is) (record {
+  of = E.of;
+  named = E.named;
+  course = E.course;
+  logged = E.logged;
+  node = E.node;
+  vouches = E.vouches;
+})
+
+-- a turn, behind which replies are handed out
+module _ (a : Looping) (s : Traffic) (b : Looping) (t : Traffic) (c : Looping) (k : Kept) (is : c ≡ record b { desk = k }) where
+  pub sound_on : (r : Outcome) → StaysSound a s r b t → is_ok r ≡ true → (o : Opening) → IsSoundAt o a s → IsSoundAt o c t
+  sound_on (Ok u) stays goes o here = ((stays o here).0, sound_without o b c (dealt_of t) k is (stays o here).1)
+  sound_on (Err why) stays goes o here = cc
+
+  pub sound_to_end : (r : Outcome) → StaysSound a s r b t → is_ok r ≡ false → EndsSound a s c t
+  sound_to_end (Ok u) stays ends o here = cc
+  sound_to_end (Err why) stays ends o here = inr (ended_without o b c (dealt_of t) k is (stays o here).1)
+
+-- behind turns
+pub ends_on : (a : Looping) (s : Traffic) (b : Looping) (t : Traffic) → ((o : Opening) → IsSoundAt o a s → IsSoundAt o b t) → EndsSound a s b t
+ends_on a s b t stays o here = inl (stays o here).1
+
+pub ends_behind : (a : Looping) (s : Traffic) (b : Looping) (t : Traffic) (c : Looping) (u : Traffic)
+    → ((o : Opening) → IsSoundAt o a s → IsSoundAt o b t) → EndsSound b t c u → EndsSound a s c u
+ends_behind a s b t c u stays ends o here = ends o (stays o here)
+
+-- What a thread gives back: it began with the loop a and an end that stood as s, and behind its last turn they were b and t
+module _ {N M : Type 0} (contents : N → Table) (a : Looping) (lines : List (Sent Item)) (mailbox : Mailbox (Parcel Item)) (s : Traffic) (b : Looping) (t : Traffic) (e : Ended N M)
+    (first : s ≡ record { node = a.log.node; first = mailbox; lines = lines; taken = found_in a.log.node (receivers lines) (taken mailbox) })
+    (came : IsLoopOf a.log.node b) (node : b.log.node ≡ a.log.node) (sound : EndsSound a s b t) (same : fixed t ≡ fixed s)
+    (log : written e.end.log ≡ b.log) (table : contents e.end.table ≡ b.core.table) (left : b.left ≡ true → e.end.ended_alone ≡ false) (leaves : LeavesSound b (written e.end.log) (contents e.end.table))
+    (row : e.lines.items ≡ t.lines) (took : found_in t.node (receivers t.lines) (taken e.mailbox) ≡ t.taken) (room : mailbox_room e.mailbox ≡ mailbox_room t.first) where
+  t_node : t.node ≡ a.log.node
+  t_node = ap (λ (x : Traffic). x.node) same ∙ ap (λ (x : Traffic). x.node) first
+
+  t_first : t.first ≡ mailbox
+  t_first = ap (λ (x : Traffic). x.first) same ∙ ap (λ (x : Traffic). x.first) first
+
+  t_lines : map unused t.lines ≡ map unused lines
+  t_lines = ap (λ (x : Traffic). x.lines) same ∙ ap (λ (x : Traffic). map unused x.lines) first
+
+  -- the same nodes are reached
+  t_row : receivers t.lines ≡ receivers lines
+  t_row = sym (receivers_unused t.lines) ∙ ap receivers t_lines ∙ receivers_unused lines
+
+  dealt : dealt_of t ≡ dealt_by a.log.node e.lines.items (taken e.mailbox)
+  dealt = λ j. record {
+    sent = λ x. sent_to x (sym row j);
+    taken = λ f. taken_from f ((sym took ∙ ap (λ (n : ℕ). found_in n (receivers t.lines) (taken e.mailbox)) t_node
+        ∙ ap (λ (ls : List (Sent Item)). found_in a.log.node (receivers ls) (taken e.mailbox)) (sym row)) j);
+  }
+
+  pub gives_back : IsEndOf contents a lines mailbox e
+  gives_back = record {
+    left = record {
+      loop = b;
+      came = came;
+      node = ap (λ w. w.node) log ∙ node;
+      log = log;
+      table = table;
+      left = left;
+    };
+    kept = ap (map unused) row ∙ t_lines;
+    room = room ∙ ap mailbox_room t_first;
+    tells = λ o inside begun. subst (Tells o (written e.end.log) (contents e.end.table)) dealt
+        (leaves o (dealt_of t) (sound o (here o inside begun)));
+  }
+    where
+      here : (o : Opening) → are_inside o a.log.node (receivers lines) ≡ true → IsSound o a (dealt_by a.log.node lines (taken mailbox))
+          → IsSoundAt o a s
+      here o inside begun = (
+        ap (leads_inside o) first ∙ inside,
+        subst (λ (x : Traffic). IsSound o a (dealt_of x)) (sym first) begun,
+      )

@@ -1,0 +1,46 @@
+-- Nodes as their threads start, and what those give back.
+use Rattle.std.proofs.Common.{ℕ, ◌≡◌, List, [], ap, sym, subst, ◌∙◌}
+use Rattle.registry_model.specs.Table.{Table}
+use Rattle.link.specs.declared.mailbox.Mailbox.{Mailbox}
+use Rattle.link.specs.Mailboxes.{taken}
+use Rattle.node_loop.specs.declared.item.Item.{Item}
+use Rattle.node_loop.specs.Held.{Looping, written}
+use Rattle.node_loop.specs.Dealings.{Dealt}
+use Rattle.node_loop.specs.Sound.{IsSound, Tells}
+use Rattle.node_seats.specs.declared.parcel.Parcel.{Parcel}
+use Rattle.node_seats.specs.Lines.{Sent}
+use Rattle.node_threads.specs.declared.running.Ended.{Ended}
+use Rattle.node_threads.specs.Givers.{receivers}
+use Rattle.node_threads.specs.Wires.{Inbox, Wired}
+use Rattle.node_threads.specs.Ends.{are_inside}
+use Rattle.node_threads.specs.Dealings.{dealt_by}
+use Rattle.node_threads.specs.Starts.{IsAtStart}
+use Rattle.node_threads.specs.Drawing.{Drawn}
+use Rattle.node_threads.specs.Closing.{IsLeftBy}
+use Rattle.node_threads.specs.Ended.{IsEndOf, Returns}
+use Rattle.node_threads.proofs.Dealing.{deals_nothing}
+
+-- by other names of the same
+pub at_start : (inbox : Inbox) (a b : Looping) (lines rows : List (Sent Item)) (m n : Mailbox (Parcel Item)) → b ≡ a → rows ≡ lines → n ≡ m
+    → IsAtStart inbox a lines m → IsAtStart inbox b rows n
+at_start inbox a b lines rows m n p q r S =
+    subst (λ (x : Looping × List (Sent Item) × Mailbox (Parcel Item)). IsAtStart inbox x.0 x.1 x.2) (λ j. (sym p j, sym q j, sym r j)) S
+
+-- a node that was at its start gives back what tells of it, in each world in which its core is that of its opening
+module _ {N M : Type 0} (contents : N → Table) (inbox : Inbox) (a : Looping) (lines : List (Sent Item)) (mailbox : Mailbox (Parcel Item)) (S : IsAtStart inbox a lines mailbox) (e : Ended N M) (E : IsEndOf contents a lines mailbox e) where
+  begins_with : dealt_by a.log.node lines (taken mailbox) ≡ dealt_by a.log.node lines []
+  begins_with = ap (dealt_by a.log.node lines) S.empty
+
+  pub returns_so : (w : Wired) (d : Drawn) → record { inbox = inbox; core = a.core; lines = lines } ≡ w
+      → d ≡ record { inbox = inbox; taken = taken e.mailbox } → Returns contents w e.end e.lines.items d
+  returns_so w d is drawn = subst (λ (x : Wired). Returns contents x e.end e.lines.items d) is (record {
+    left = subst (λ (n : ℕ). IsLeftBy contents n e.end) S.node E.left;
+    kept = E.kept ∙ S.fresh;
+    inbox = ap (λ (x : Drawn). x.inbox) drawn;
+    tells = λ o of opens inside.
+        subst (λ (p : List (Parcel Item)). Tells o (written e.end.log) (contents e.end.table) (dealt_by inbox.node e.lines.items p))
+        (sym (ap (λ (x : Drawn). x.taken) drawn))
+        (subst (λ (n : ℕ). Tells o (written e.end.log) (contents e.end.table) (dealt_by n e.lines.items (taken e.mailbox))) S.node
+        (E.tells o (ap (λ (n : ℕ). are_inside o n (receivers lines)) S.node ∙ inside)
+        (subst (λ (x : Dealt). IsSound o a x) (sym (begins_with ∙ deals_nothing a.log.node lines S.fresh)) (S.sound o of opens))));
+  })

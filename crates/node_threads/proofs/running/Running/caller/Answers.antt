@@ -1,0 +1,23 @@
+use Rattle.std.proofs.Common.{◌≡◌, sym, ap, subst, ◌∙◌}
+use Rattle.node_threads.specs.Wires.{Inbox, inbox_at}
+use Rattle.node_threads.specs.Starts.{IsAtStart}
+use Rattle.node_threads.proofs.running.Running.caller.Goals as goal
+
+pub invariant_of-self : goal.invariant_of-self
+invariant_of-self g c =
+    let same : inbox_at c.self.inside.address ≡ inbox_at c.another.new.address =
+    λ j. record { node = sym c.another.ensures.same j; room = sym c.another.ensures.room j } in (
+      subst (λ (b : Inbox). IsAtStart b c.self.inside.handle.promise.0.value c.self.inside.handle.promise.1.value.items c.self.inside.handle.promise.2.value)
+          same c.self.invariant.0,
+      c.self.invariant.1 ∙ sym c.another.ensures.same,
+    )
+
+pub returns-clause-node : goal.returns-clause-node
+returns-clause-node g c =
+    let same : inbox_at c.another.new.address ≡ inbox_at c.self.inside.address =
+    λ j. record { node = c.another.ensures.same j; room = c.another.ensures.room j } in
+    ap (λ (b : Inbox). record {
+      inbox = b;
+      core = c.self.inside.handle.promise.0.value.core;
+      lines = c.self.inside.handle.promise.1.value.items;
+    }) same ∙ c.self.view_is

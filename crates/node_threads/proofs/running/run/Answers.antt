@@ -1,0 +1,19 @@
+use Rattle.std.proofs.Common.{ℕ, ap, ◌∙◌}
+use Rattle.link.specs.Mailboxes.{taken}
+use Rattle.node_threads.specs.Givers.{receivers, found_in}
+use Rattle.node_threads.proofs.Soundness.{gives_back}
+use Rattle.node_threads.proofs.running.run.Goals as goal
+
+pub returns : goal.returns
+returns g c = gives_back g.N.Names.contents c.args.work.node c.args.work.lines.items c.args.work.mailbox c.new-end.result c.turns.new.node
+    c.turns.new.end (record { end = c.end-end.result; lines = c.into_parts-lines.result.0; mailbox = c.into_parts-lines.result.1 })
+    (c.new-end.ensures
+    ∙ ap (λ (n : ℕ). record {
+      node = n;
+      first = c.args.work.mailbox;
+      lines = c.args.work.lines.items;
+      taken = found_in n (receivers c.args.work.lines.items) (taken c.args.work.mailbox);
+    }) (c.copy.ensures ∙ c.node.ensures))
+    c.turns.ensures.came c.turns.ensures.node c.turns.ensures.sound c.turns.ensures.same c.end-end.ensures.log c.end-end.ensures.table
+    c.end-end.ensures.ended_alone c.end-end.ensures.sound c.into_parts-lines.ensures.lines c.into_parts-lines.ensures.taken
+    c.into_parts-lines.ensures.room

@@ -1,0 +1,48 @@
+-- What threads give back.
+use Rattle.std.specs.Prelude.{ℕ, true, ◌≡◌, ◌<◌, List, map, length, slice_index_or}
+use Rattle.registry_model.specs.Table.{Table}
+use Rattle.protocol_model.specs.World.{Opening}
+use Rattle.link.specs.declared.mailbox.Mailbox.{Mailbox}
+use Rattle.link.specs.Mailboxes.{taken, mailbox_room}
+use Rattle.node_loop.specs.NodeCoreSeen.{node_of}
+use Rattle.node_loop.specs.declared.NodeEnd.{NodeEnd}
+use Rattle.node_loop.specs.declared.item.Item.{Item}
+use Rattle.node_loop.specs.Held.{Looping, written}
+use Rattle.node_loop.specs.Sound.{IsNodeOf, opened, IsSound, Tells}
+use Rattle.node_seats.specs.declared.parcel.Parcel.{Parcel}
+use Rattle.node_seats.specs.Lines.{Sent}
+use Rattle.node_threads.specs.declared.running.Ended.{Ended}
+use Rattle.node_threads.specs.Givers.{receivers}
+use Rattle.node_threads.specs.Wires.{Wired, name_of, unused}
+use Rattle.node_threads.specs.Ends.{are_inside}
+use Rattle.node_threads.specs.Dealings.{dealt_by}
+use Rattle.node_threads.specs.Drawing.{Drawn}
+use Rattle.node_threads.specs.Closing.{IsLeftBy}
+
+module _ {N M : Type 0} (contents : N → Table) where
+  -- The thread of this loop, with these lines and this end of an inbox, gives back what the loop left behind, and both. The lines and
+  -- the inbox are those that it began with; and in each world in which it began sound, its log and its table tell of its node
+  pub record IsEndOf (a : Looping) (lines : List (Sent Item)) (mailbox : Mailbox (Parcel Item)) (e : Ended N M) : Type 0 where
+    pub left : IsLeftBy contents a.log.node e.end
+    pub kept : map unused e.lines.items ≡ map unused lines
+    pub room : mailbox_room e.mailbox ≡ mailbox_room mailbox
+    pub tells : (o : Opening) → are_inside o a.log.node (receivers lines) ≡ true
+        → IsSound o a (dealt_by a.log.node lines (taken mailbox))
+        → Tells o (written e.end.log) (contents e.end.table) (dealt_by a.log.node e.lines.items (taken e.mailbox))
+
+  -- so the thread of a node, which started so
+  pub record Returns (w : Wired) (end : NodeEnd N M) (lines : List (Sent Item)) (d : Drawn) : Type 0 where
+    pub left : IsLeftBy contents (name_of w) end
+    pub kept : map unused lines ≡ w.lines
+    pub inbox : d.inbox ≡ w.inbox
+    pub tells : (o : Opening) → IsNodeOf o w.core → node_of w.core ≡ opened o w.core
+        → are_inside o (name_of w) (receivers w.lines) ≡ true
+        → Tells o (written end.log) (contents end.table) (dealt_by (name_of w) lines d.taken)
+
+  -- so all of these, in their order
+  pub record AllReturn (ws : List Wired) (ends : List (NodeEnd N M)) (rows : List (List (Sent Item))) (drawn : List Drawn) : Type 0 where
+    pub as_many_ends : length ends ≡ length ws
+    pub as_many_rows : length rows ≡ length ws
+    pub as_many_drawn : length drawn ≡ length ws
+    pub each : (i : ℕ) (w : Wired) (e : NodeEnd N M) (r : List (Sent Item)) (d : Drawn) → i < length ws
+        → Returns (slice_index_or ws i w) (slice_index_or ends i e) (slice_index_or rows i r) (slice_index_or drawn i d)

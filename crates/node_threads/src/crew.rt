@@ -1,0 +1,115 @@
+//! The threads of all nodes of a cluster: started, and ended.
+ghost use Rattle.std.specs.Prelude.{◌≡◌, ◌++◌, ◌∷◌, [], true, map, IfOk, OnOk, IfSome};
+ghost use Rattle.node_threads.specs.Berths.{wired_of};
+ghost use Rattle.node_threads.specs.Ended.{AllReturn};
+
+use crate::berth::Berth;
+use crate::intake::Intake;
+use crate::running::{Returned, Running};
+use name_table::Names;
+use node_loop::{Gate, Item, NodeEnd};
+use node_seats::Line;
+use std::alloc::{AllocError, Global};
+use std::sync::Wait;
+use std::thread::Threads;
+use std::time::Clock;
+
+/// What all threads gave back, in the order of their nodes.
+#[derive(Drop)]
+pub(crate) struct Gathered<N: Names> {
+    pub(crate) ends: Vec<NodeEnd<N>>,
+    /// The lines of each node.
+    pub(crate) rows: Vec<Vec<Line<Item>>>,
+    pub(crate) intakes: Vec<Intake>,
+}
+
+impl<N: Names<Memory = Global>> Gathered<N> {
+    /// Nothing was given back yet. It takes no memory.
+    fn new(alloc: Global) -> Self
+        ensures ends { result.ends.items ≡ [] }
+        ensures rows { result.rows.items ≡ [] }
+        ensures intakes { result.intakes.items ≡ [] }
+    {
+        Gathered {
+            ends: Vec::new(alloc),
+            rows: Vec::new(alloc),
+            intakes: Vec::new(alloc),
+        }
+    }
+
+    /// One thread more gave this back. Whether there was memory for it.
+    fn add(&mut self, returned: Returned<N>) -> bool
+        ensures ends { result ≡ true → self.new.ends.items ≡ self.old.ends.items ++ returned.end ∷ [] }
+        ensures rows { result ≡ true → self.new.rows.items ≡ self.old.rows.items ++ returned.lines ∷ [] }
+        ensures intakes { result ≡ true → self.new.intakes.items ≡ self.old.intakes.items ++ returned.intake ∷ [] }
+    {
+        let Returned { end, lines, intake } = returned;
+        // No way out in the midst: each that is given back is either kept or dropped here.
+        let has_end = self.ends.push(end).is_ok();
+        let has_row = self.rows.push(lines).is_ok();
+        let has_intake = self.intakes.push(intake).is_ok();
+        has_end && has_row && has_intake
+    }
+}
+
+/// Starts the threads of these nodes, one after another, up to the first that can't be started.
+fn launch_each<G, N, R>(
+    rt: &R,
+    berths: Vec<Berth<G, N>>,
+    running: &mut Vec<Running<N>>,
+) -> Result<(), AllocError>
+where
+    G: Gate + Drop + Send + Sync + 'static,
+    N: Names<Memory = Global> + Send + 'static,
+    R: Threads + Wait + Clock + Drop + Copy + Send + 'static,
+    ensures { OnOk result (running.new.items ≡ running.old.items ++ wired_of berths.items) }
+{
+    running.reserve(berths.len())?;
+    for berth in berths {
+        running.push_reserved(berth.launch(rt)?);
+    }
+    Ok(())
+}
+
+/// Starts the threads of these nodes. Where one can't be started, those that were are ended again.
+pub(crate) fn launch_all<G, N, R>(
+    rt: &R,
+    alloc: Global,
+    berths: Vec<Berth<G, N>>,
+) -> Result<Vec<Running<N>>, AllocError>
+where
+    G: Gate + Drop + Send + Sync + 'static,
+    N: Names<Memory = Global> + Send + 'static,
+    R: Threads + Wait + Clock + Drop + Copy + Send + 'static,
+    ensures { IfOk result (λ running. running.items ≡ wired_of berths.items) }
+{
+    let mut running = Vec::new(alloc);
+    match launch_each(rt, berths, &mut running) {
+        Ok(()) => Ok(running),
+        Err(fault) => {
+            end_all(rt, alloc, running);
+            Err(fault)
+        }
+    }
+}
+
+/// Asks these threads to end, and waits until all have. Gives what they gave back, where there is memory for it.
+pub(crate) fn end_all<N, R>(rt: &R, alloc: Global, running: Vec<Running<N>>) -> Option<Gathered<N>>
+where
+    N: Names<Memory = Global> + Send + 'static,
+    R: Threads,
+    ensures { IfSome result (λ all. AllReturn N.contents running.items all.ends.items (map (λ row. row.items) all.rows.items) all.intakes.items) }
+{
+    for one in &running {
+        one.stop();
+    }
+    let mut gathered = Gathered::new(alloc);
+    let mut whole = true;
+    for one in running {
+        let returned = one.join(rt);
+        if !gathered.add(returned) {
+            whole = false;
+        }
+    }
+    if whole { Some(gathered) } else { None }
+}
