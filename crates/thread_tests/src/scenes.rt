@@ -3,7 +3,7 @@
 use leaves::Ending;
 use meeting::{Flags, Meeting};
 use name_table::ListTable;
-use node_threads::{Call, CloseFault, Cluster, Reply, Seat, SeatFault, Transcript};
+use node_threads::{Call, CloseFault, Closed, Cluster, Reply, Seat, SeatFault, Transcript};
 use std::alloc::Global;
 use std::sync::{Arc, Wait};
 use std::test::Fail;
@@ -11,6 +11,8 @@ use std::thread::Threads;
 use std::time::Clock;
 use stubborn::Stubborn;
 use term::{NodeSet, parse_node, parse_nodes};
+use transaction::NameCall;
+use world_history::{HistoryEntry, KeptEntry};
 
 mod crowds;
 mod holders;
@@ -39,6 +41,8 @@ enum Scene {
     Leave,
     /// A process is spawned at each node, from a seat in a thread of its own.
     Spawns,
+    /// A name of its own is registered at each node, from a seat in a thread of its own.
+    Names,
     /// Rivals register and unregister names, each from a seat in a thread of its own.
     Rivals,
     /// More letters are sent to a node that is held than its inbox has room for.
@@ -63,11 +67,35 @@ impl Scene {
             Scene::Wait(ending) => leaves::wait(rt, cluster, seats, ending),
             Scene::Leave => leaves::leave(rt, cluster, seats),
             Scene::Spawns => crowds::spawn_at_all(rt, seats),
+            Scene::Names => crowds::name_at_all(rt, seats),
             Scene::Rivals => crowds::rivals(rt, seats),
             Scene::Flood => crowds::flood(rt, seats, flags),
             Scene::LookUps => rings::look_ups(rt, seats),
         }
     }
+}
+
+impl Scene {
+    /// What counts in its run: the names that were registered, where it is about them, and else the events.
+    fn count(self, closed: &Closed<ListTable<Global>>) -> u64 {
+        match self {
+            Scene::Names => registrations(closed.history()),
+            _ => closed.events,
+        }
+    }
+}
+
+/// Whether a name was registered there.
+fn registers(kept: &KeptEntry) -> bool {
+    matches!(
+        kept.entry(),
+        Ok(HistoryEntry::Name(_, _, NameCall::Register(..), Reply::Yes))
+    )
+}
+
+/// How often a name was registered in a history.
+fn registrations(history: &[KeptEntry]) -> u64 {
+    history.iter().filter(|kept| registers(kept)).count() as u64
 }
 
 /// Spawns a process from a seat. Whether it could.
@@ -115,8 +143,8 @@ fn transcribe(seats: Vec<Seat>, transcripts: &mut Vec<Transcript>) -> bool {
     whole
 }
 
-/// Plays a scene at seats of these nodes of a cluster, and closes it with what they were told. How many events its run had, where
-/// all was as it is to be.
+/// Plays a scene at seats of these nodes of a cluster, and closes it with what they were told. What counts in its run, where all was as
+/// it is to be.
 fn events<R>(
     rt: &R,
     alloc: Global,
@@ -135,7 +163,7 @@ where
     let mut transcripts = Vec::new(alloc);
     let told = transcribe(seats, &mut transcripts);
     match cluster.close(rt, transcripts.as_slice()) {
-        Ok(closed) if fine && told && !flags.is_late() => Some(closed.events),
+        Ok(closed) if fine && told && !flags.is_late() => Some(scene.count(&closed)),
         _ => None,
     }
 }
@@ -205,6 +233,13 @@ fn eight_nodes_step_at_once(rt: HostRuntime) -> Result<(), Fail> {
     );
     assert!(rt; events == Some(8));
     Ok(())
+}
+
+/// A seat was told `yes` for each of the eight names, so each stands in the history once.
+#[test]
+fn eight_names_are_registered_once(rt: HostRuntime) {
+    let nodes = "a,b,c,d,e,f,g,h";
+    assert!(rt; plays(&rt, rt.alloc(), nodes, nodes, Scene::Names) == Some(8));
 }
 
 /// The gate holds `b` until the scene has come, too, as `z`.

@@ -27,6 +27,39 @@ pub(super) fn spawn_at_all<R: Threads + Wait + Clock + Sync>(rt: &R, seats: &mut
     seats.iter().all(|seat| seat.entries().len() == 1)
 }
 
+/// Spawns a process from a seat, and registers it under a name that reads as its node. Whether both was done.
+fn name_own<R: Wait + Clock>(rt: &R, seat: &mut Seat) -> bool {
+    let Ok(name) = parse_name(seat.node().as_str()) else {
+        return false;
+    };
+    let process = process_of(seat, 1);
+    name_process(rt, seat, &process, &name)
+}
+
+/// Whether the last thing that a seat was told is `yes`.
+fn was_named(seat: &Seat) -> bool {
+    let Some(entry) = seat.entries().last() else {
+        return false;
+    };
+    match &entry.answer {
+        Some(answer) => answer.reply == Reply::Yes,
+        None => false,
+    }
+}
+
+/// Registers a name at each node, from a seat in a thread of its own. Whether all were.
+pub(super) fn name_at_all<R: Threads + Wait + Clock + Sync>(rt: &R, seats: &mut [Seat]) -> bool {
+    for_each_mut(
+        rt,
+        seats,
+        8,
+        &|_, seat: &mut Seat| {
+            name_own(rt, seat);
+        },
+    );
+    seats.iter().all(|seat| was_named(seat))
+}
+
 /// The process of a seat's node with this serial.
 fn process_of(seat: &Seat, serial: u32) -> Pid {
     Pid {
