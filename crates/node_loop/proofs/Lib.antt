@@ -4,6 +4,7 @@ pub mod Letters
 pub mod Faults
 pub mod Concluding
 pub mod Turning
+pub mod Left
 pub mod Trays
 pub mod Dealing
 pub mod Links

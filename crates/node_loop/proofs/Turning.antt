@@ -1,5 +1,5 @@
 -- What is tried where no item is found, and which leave.
-use Rattle.std.proofs.Common.{◌≡◌, ◌==◌, ◌&&◌, ◌-◌, Bool, true, false, Option, Some, None, List, [], ◌∷◌, refl, ap, subst, ◌∙◌}
+use Rattle.std.proofs.Common.{◌≡◌, ◌==◌, ◌&&◌, ◌-◌, ℕ, Bool, true, false, Option, Some, None, List, [], ◌∷◌, refl, sym, ap, subst, ◌∙◌}
 use Rattle.std.specs.Option.{option_flatten}
 use Rattle.node_log.specs.declared.Event.TheVariants.{Retry}
 use Rattle.node_loop.specs.declared.item.Ticket.{Ticket}
@@ -35,3 +35,7 @@ module _ (a m : Looping) (w : Bool) (set : m ≡ record a { worked = w; wait = a
   pub rests : (r : Outcome) (b : Looping) → is_due a ≡ false → Leaves m r b → Idles a r b
   rests r b e h =
       at_false _ _ (is_due a) e (subst (λ (x : Looping). Leaves x r b) now_is h)
+
+-- what holds of the node that a permit names holds of the loop's own
+pub held_at : (held : ℕ → Type 0) (n : ℕ) (a b : Looping) → n ≡ b.core.name → a ≡ b → held n → held a.core.name
+held_at held n a b e is h = subst held (e ∙ sym (ap (λ (l : Looping). l.core.name) is)) h

@@ -11,7 +11,7 @@ use Rattle.node_loop.specs.declared.replies.TaskFault.TheVariants.{NodeLeft, Ste
 use Rattle.node_loop.specs.declared.waiting.Caller.{Caller}
 use Rattle.node_loop.specs.declared.waiting.Course.{Course}
 use Rattle.node_loop.specs.declared.waiting.Course.TheVariants.{Accepted}
-use Rattle.node_loop.specs.Told.{Told, tell}
+use Rattle.node_loop.specs.Told.{Told, Answered, Made, Left, tell}
 use Rattle.node_loop.specs.Waiting.{callers_of, ticket_under, without, is_dropped}
 
 -- the calls that wait for their answers, the leaves that wait, and the replies, the oldest of each first
@@ -35,7 +35,7 @@ addressee own calls a = if a.number == 0 then own else ticket_under a.number cal
 abbrev pub answered : Option Ticket → AnyAnswer → Kept → Kept
 answered own a k = record k {
   calls = without a.number k.calls;
-  replies = k.replies ++ tell (addressee own k.calls a) (Ok (Some a));
+  replies = k.replies ++ tell (addressee own k.calls a) (Ok (Answered a));
 }
 
 abbrev pub all_answered : Option Ticket → List AnyAnswer → Kept → Kept
@@ -59,7 +59,7 @@ swept h k = record k {
 
 -- what has no answer is accepted
 abbrev pub acceptance : Course → Option Ticket → List Told
-acceptance Accepted own = tell own (Ok None)
+acceptance Accepted own = tell own (Ok Made)
 acceptance _ own = []
 
 -- so it is, and a numbered call waits
@@ -88,7 +88,7 @@ call_refused c = tell (Some c.ticket) (Err NodeLeft)
 -- the first leave is accepted, and no other
 abbrev pub leaves_told : List (Option Ticket) → List Told
 leaves_told [] = []
-leaves_told (t ∷ ts) = tell t (Ok None) ++ flat_map leave_refused ts
+leaves_told (t ∷ ts) = tell t (Ok Left) ++ flat_map leave_refused ts
 
 -- the node has left: nobody waits any more
 abbrev pub left_by : Kept → Kept

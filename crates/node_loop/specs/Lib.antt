@@ -13,6 +13,7 @@ pub mod Steps
 pub mod Items
 pub mod Turned
 pub mod Coming
+pub mod Left
 pub mod Dealings
 pub mod Said
 pub mod Sound

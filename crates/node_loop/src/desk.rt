@@ -5,7 +5,7 @@ ghost use Rattle.node_loop.specs.Told.{tell, told_by};
 ghost use Rattle.node_loop.specs.Desks.{empty_desk, Begins, answered, all_answered, awaiting, drop_told, swept, settled, leave_refused, call_refused, leaves_told, left_by, first_leave};
 
 use crate::item::Ticket;
-use crate::replies::{Replies, TaskFault, TaskReply};
+use crate::replies::{Effect, Replies, TaskFault, TaskReply};
 use crate::tries::{TRIES, room_in_list};
 use crate::waiting::{Caller, Course, forget, forget_dropped, is_dropped, ticket_under, wait_for};
 use name_table::Names;
@@ -92,7 +92,7 @@ fn tell_leaves(replies: &mut Replies, leaves: &[Option<Ticket>]) -> Result<(), A
     let Some((first, others)) = leaves.split_first() else {
         return Ok(());
     };
-    replies.tell(*first, Ok(None))?;
+    replies.tell(*first, Ok(Effect::Left))?;
     refuse_leaves(replies, others)
 }
 
@@ -167,7 +167,7 @@ impl Desk {
         ensures unchanged { OnErr result (self.new.replies ≡ self.old.replies) }
     {
         match course {
-            Course::Accepted => self.replies.tell(own, Ok(None)),
+            Course::Accepted => self.replies.tell(own, Ok(Effect::Made)),
             other => wait_for(&mut self.calls, other, number, own),
         }
     }
@@ -183,7 +183,7 @@ impl Desk {
         };
         let copy = copied(answer)?;
         forget(&mut self.calls, answer.call);
-        self.replies.tell(ticket, Ok(Some(copy)))
+        self.replies.tell(ticket, Ok(Effect::Answered(copy)))
     }
 
     /// Each answer does.

@@ -1,5 +1,5 @@
 //! What holds a node's turns back.
-ghost use Rattle.std.specs.Prelude.{ℕ};
+ghost use Rattle.std.specs.Prelude.{ℕ, ◌≡◌};
 
 use term::NodeName;
 
@@ -11,6 +11,25 @@ pub trait Gate: Sync {
     /// Returns where the turn of this node may go on. It may wait.
     fn hold(&self, node: &NodeName)
         ensures { held self.now node.now };
+}
+
+/// That a gate let a turn of this node go on. Nothing else opens the rest of a turn.
+#[derive(Drop)]
+pub(crate) struct Permit<'g, G: Gate> {
+    gate: &'g G,
+    node: NodeName,
+    ghost held: { ∥ G.held gate.now node ∥₁ },
+}
+
+impl<'g, G: Gate> Permit<'g, G> {
+    /// Asks the gate, and returns where the turn of this node may go on. It may wait.
+    pub(crate) fn ask(gate: &'g G, node: NodeName) -> Self
+        ensures node { result.node ≡ node }
+        ensures held { G.held gate.now node }
+    {
+        gate.hold(&node);
+        Permit { gate, node }
+    }
 }
 
 /// A gate that holds nobody back.

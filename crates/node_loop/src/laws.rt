@@ -1,7 +1,13 @@
-//! What the ends of all loops of a world come to. The law is the contract of a function with an empty body.
+//! Laws of the loops of a world's nodes. Each is the contract of a function with an empty body.
+ghost use Rattle.node_loop.specs.Left.{LeavesAreLogged};
 ghost use Rattle.node_loop.specs.Telling.{ThreadsAreConsistent};
 
 /// What the loops of a world's nodes leave behind is consistent, if each was sound and took a beginning of what each other one sent it.
 pub fn threads_are_consistent()
     ensures { ThreadsAreConsistent }
+{}
+
+/// A loop tells a leave's owner that the node has left only where its log has a leave of the node.
+pub fn told_leaves_are_logged()
+    ensures { LeavesAreLogged }
 {}

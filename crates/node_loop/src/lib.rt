@@ -19,10 +19,10 @@ mod waiting;
 pub use fault::TurnFault;
 pub use gate::{Gate, OpenGate};
 pub use item::{Item, Stamped, Task, Ticket};
-pub use laws::threads_are_consistent;
+pub use laws::{threads_are_consistent, told_leaves_are_logged};
 pub use node_log::{
     Answer, Call, Event, NameList, NodeCore, NodeEnd, Nodes, Opening, Reply, Retries, SeatEntry,
     StartFault, StepFault, Transcript, WorldEvent,
 };
 pub use node_loop::NodeLoop;
-pub use replies::{TaskFault, TaskReply};
+pub use replies::{Effect, TaskFault, TaskReply};

@@ -10,7 +10,7 @@ ghost use Rattle.node_loop.specs.Turned.{Turned};
 use crate::courtesy::Courtesy;
 use crate::desk::Desk;
 use crate::fault::TurnFault;
-use crate::gate::Gate;
+use crate::gate::{Gate, Permit};
 use crate::item::Item;
 use crate::replies::TaskReply;
 use crate::ring::Ring;
@@ -107,7 +107,20 @@ impl<N: Names<Memory = Global>> NodeLoop<N> {
         ensures turned { Turned E.posts E.refuses E.takes E.misses (G.held gate.now) self.old (E.state end.old) result self.new (E.state end.new) }
         ensures sound { KeepsSound E.posts E.takes self.old (E.state end.old) result self.new (E.state end.new) }
     {
-        gate.hold(self.core.name());
+        let permit = Permit::ask(gate, self.core.name().copy());
+        self.go(end, permit)
+    }
+
+    /// The rest of a turn, which a gate let go on.
+    fn go<E: Post<Item> + Inbox<Item>, G: Gate>(
+        &mut self,
+        end: &mut E,
+        permit: Permit<'_, G>,
+    ) -> Result<(), TurnFault>
+        requires { permit.node ≡ self.old.core.name }
+        ensures turned { Turned E.posts E.refuses E.takes E.misses (λ n. ∥ G.held permit.entry.gate.now n ∥₁) self.old (E.state end.old) result self.new (E.state end.new) }
+        ensures sound { KeepsSound E.posts E.takes self.old (E.state end.old) result self.new (E.state end.new) }
+    {
         self.tray.drain(end);
         let Ok(found) = end.take() else {
             return self.idle();

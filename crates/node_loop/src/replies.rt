@@ -24,13 +24,24 @@ pub enum TaskFault {
     Step(StepFault),
 }
 
+/// What came of a task that was accepted.
+#[derive(Debug, PartialEq, Eq, Drop)]
+pub enum Effect {
+    /// The call has this answer.
+    Answered(Answer),
+    /// An exit or a retry was made. It has no answer.
+    Made,
+    /// The node has left.
+    Left,
+}
+
 /// What comes of a task.
 #[derive(Debug, PartialEq, Eq, Drop)]
 pub struct TaskReply {
     /// Whose task it is.
     pub ticket: Ticket,
-    /// The answer to a call, and none to an exit or a leave that was accepted; or why it is refused.
-    pub outcome: Result<Option<Answer>, TaskFault>,
+    /// What came of it, or why it is refused.
+    pub outcome: Result<Effect, TaskFault>,
 }
 
 /// The replies that nobody has fetched yet, the oldest first.
@@ -62,7 +73,7 @@ impl Replies {
     pub(crate) fn tell(
         &mut self,
         ticket: Option<Ticket>,
-        outcome: Result<Option<Answer>, TaskFault>,
+        outcome: Result<Effect, TaskFault>,
     ) -> Result<(), AllocError>
         ensures ok { OnOk result (self.new ≡ self.old ++ tell ticket (outcome_of outcome)) }
         ensures unchanged { OnErr result (self.new ≡ self.old) }

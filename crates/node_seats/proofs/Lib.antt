@@ -1,3 +1,5 @@
 pub mod Holders
+pub mod Choosing
 mod Coming
+mod Leaving
 mod Sittings

@@ -5,36 +5,34 @@ use Rattle.node_loop.specs.declared.Event.{Event}
 use Rattle.node_loop.specs.declared.WorldEvent.{WorldEvent}
 use Rattle.node_loop.specs.declared.WorldEvent.TheVariants.{At}
 use Rattle.node_loop.specs.declared.SeatEntry.{SeatEntry}
+use Rattle.node_loop.specs.declared.replies.Effect.{Effect}
 use Rattle.node_loop.specs.declared.replies.TaskFault.{TaskFault}
 use Rattle.node_seats.specs.declared.caller.Caller.{Caller}
 use Rattle.node_seats.specs.declared.fault.SeatFault.{SeatFault}
 use Rattle.node_seats.specs.declared.fault.SeatFault.TheVariants.{NoSuchNode, NodeLeft, Closed, SeatsSpent, Step, Memory}
-use Rattle.node_seats.specs.Callers.{name_of, slot_of, nodes_of, asked_by, ticket_of, told_as}
+use Rattle.node_seats.specs.Addresses.{Inbox}
+use Rattle.node_seats.specs.Callers.{inbox_of, slot_of, nodes_of, asked_by, name_of, ticket_of, told_as}
 use Rattle.node_seats.specs.Replies.{IsToldTo}
-use Rattle.node_seats.specs.Seats.{Sitting, IsAnswered, with_entry}
+use Rattle.node_seats.specs.Seats.{Sitting, sitting, IsAnswered, with_entry}
 
--- the seat of a caller with these entries
-abbrev sitting : Caller → List SeatEntry → Sitting
-sitting c es = record { seat = slot_of c; node = name_of c; nodes = nodes_of c; asked = asked_by c; entries = es }
-
-abbrev sits : ℕ → ℕ → List ℕ → List Event → List SeatEntry → Sitting
-sits seat node nodes asked es = record { seat = seat; node = node; nodes = nodes; asked = asked; entries = es }
+abbrev sits : ℕ → Inbox → List ℕ → List Event → List SeatEntry → Sitting
+sits seat inbox nodes asked es = record { seat = seat; node = inbox.node; room = inbox.room; nodes = nodes; asked = asked; entries = es }
 
 -- what its caller is told, the seat is answered
 module _ (c : Caller) (es : List SeatEntry) (s : Sitting) (is : sitting c es ≡ s) where
-  pub answered_so : (outcome : Result (Option Answer) TaskFault) → IsToldTo (name_of c) (ticket_of c) outcome → IsAnswered s outcome
+  pub answered_so : (outcome : Result Effect TaskFault) → IsToldTo (name_of c) (ticket_of c) outcome → IsAnswered s outcome
   answered_so outcome told = subst (λ (x : Sitting). IsAnswered x outcome) is (record { number = c.next; told = told })
 
   -- it asked for an event, and has an entry more
   pub grown : (d : Caller) (fs : List SeatEntry) (e : Event) (w : WorldEvent) (answer : Option Answer) → slot_of d ≡ slot_of c
-      → name_of d ≡ name_of c → nodes_of d ≡ nodes_of c → asked_by d ≡ asked_by c ++ e ∷ [] → w ≡ At (name_of c) e
+      → inbox_of d ≡ inbox_of c → nodes_of d ≡ nodes_of c → asked_by d ≡ asked_by c ++ e ∷ [] → w ≡ At (name_of c) e
       → fs ≡ es ++ record { event = w; answer = answer } ∷ [] → sitting d fs ≡ with_entry e answer s
-  grown d fs e w answer slot name nodes asked at more = subst (λ (x : Sitting). sitting d fs ≡ with_entry e answer x) is
-      (ap (λ (i : ℕ). sits i (name_of d) (nodes_of d) (asked_by d) fs) slot
-      ∙ ap (λ (n : ℕ). sits (slot_of c) n (nodes_of d) (asked_by d) fs) name
-      ∙ ap (λ (ns : List ℕ). sits (slot_of c) (name_of c) ns (asked_by d) fs) nodes
-      ∙ ap (λ (l : List Event). sits (slot_of c) (name_of c) (nodes_of c) l fs) asked
-      ∙ ap (λ (l : List SeatEntry). sits (slot_of c) (name_of c) (nodes_of c) (asked_by c ++ e ∷ []) l)
+  grown d fs e w answer slot inbox nodes asked at more = subst (λ (x : Sitting). sitting d fs ≡ with_entry e answer x) is
+      (ap (λ (i : ℕ). sits i (inbox_of d) (nodes_of d) (asked_by d) fs) slot
+      ∙ ap (λ (i : Inbox). sits (slot_of c) i (nodes_of d) (asked_by d) fs) inbox
+      ∙ ap (λ (ns : List ℕ). sits (slot_of c) (inbox_of c) ns (asked_by d) fs) nodes
+      ∙ ap (λ (l : List Event). sits (slot_of c) (inbox_of c) (nodes_of c) l fs) asked
+      ∙ ap (λ (l : List SeatEntry). sits (slot_of c) (inbox_of c) (nodes_of c) (asked_by c ++ e ∷ []) l)
       (more ∙ ap (λ (v : WorldEvent). es ++ record { event = v; answer = answer } ∷ []) at))
 
 -- an answer is told as it was

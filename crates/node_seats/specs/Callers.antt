@@ -9,12 +9,16 @@ use Rattle.node_seats.specs.declared.caller.Caller.{Caller}
 use Rattle.node_seats.specs.declared.fault.SeatFault.{SeatFault}
 use Rattle.node_seats.specs.declared.fault.SeatFault.TheVariants.{NoSuchNode, Closed, Step}
 use Rattle.node_seats.specs.declared.hub.Hub.{Hub}
-use Rattle.node_seats.specs.declared.parcel.Parcel.{Parcel}
 use Rattle.node_seats.specs.Lines.{with_parcel}
+use Rattle.node_seats.specs.Addresses.{Inbox}
 
 -- the node that it asks
 abbrev pub name_of : Caller → ℕ
 name_of c = c.node
+
+-- the inbox into which it puts what it asks
+abbrev pub inbox_of : Caller → Inbox
+inbox_of c = record { node = c.node; room = c.line.room }
 
 -- the slot of its replies
 abbrev pub slot_of : Caller → ℕ
@@ -45,7 +49,7 @@ ticket_of c = record { seat = c.slot; number = c.next }
 abbrev pub task_for : Caller → Event → Item
 task_for c e = Task (record { ticket = Some (ticket_of c); event = e })
 
--- its next event has the next number: no ticket is given twice
+-- its next event has the next number
 abbrev pub Numbers : Caller → Caller → Type 0
 Numbers c d = d.next ≡ c.next + 1
 

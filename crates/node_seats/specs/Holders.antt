@@ -10,6 +10,7 @@ use Rattle.node_loop.specs.declared.Event.TheVariants.{Call as Calls}
 use Rattle.node_loop.specs.declared.WorldEvent.{WorldEvent}
 use Rattle.node_loop.specs.declared.WorldEvent.TheVariants.{At}
 use Rattle.node_loop.specs.declared.SeatEntry.{SeatEntry}
+use Rattle.node_loop.specs.declared.replies.Effect.TheVariants.{Answered as IsAnswer}
 use Rattle.transaction.specs.declared.reply.LockReply.{LockReply}
 use Rattle.transaction.specs.declared.reply.LockReply.TheVariants.{Set, Deleted}
 use Rattle.node_seats.specs.declared.holder.HolderSeat.{HolderSeat}
@@ -40,7 +41,7 @@ lock_replies me (e ∷ es) = lock_reply_in me e.event e.answer ++ lock_replies m
 -- a lock call was answered: its node's loop told the seat so, and it stands last in the transcript
 pub record Grants (call : Call) (granted : Bool) (s t : Sitting) : Type 0 where
   pub answer : Answer
-  pub told : IsAnswered s (Ok (Some answer))
+  pub told : IsAnswered s (Ok (IsAnswer answer))
   pub says : grants (reply_of answer.reply) ≡ granted
   pub kept : t ≡ with_entry (Calls call) (Some answer) s
 

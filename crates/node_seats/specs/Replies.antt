@@ -1,13 +1,14 @@
 -- Who told a caller what.
-use Rattle.std.specs.Prelude.{ℕ, ◌≡◌, Option, Result, Err, List, ◌∷◌}
-use Rattle.node_loop.specs.declared.Answer.{Answer}
+use Rattle.std.specs.Prelude.{ℕ, true, ◌≡◌, Result, Err, List, ◌∷◌}
 use Rattle.node_loop.specs.declared.item.Ticket.{Ticket}
+use Rattle.node_loop.specs.declared.replies.Effect.{Effect}
 use Rattle.node_loop.specs.declared.replies.TaskFault.{TaskFault}
 use Rattle.node_loop.specs.declared.replies.TaskFault.TheVariants as of_task
 use Rattle.node_loop.specs.declared.replies.TaskReply.{TaskReply}
 use Rattle.node_loop.specs.Told.{Told, told_by}
 use Rattle.node_loop.specs.Held.{Looping}
 use Rattle.node_loop.specs.Coming.{IsLoopOf}
+use Rattle.node_loop.specs.Left.{logs_leave}
 use Rattle.node_seats.specs.declared.fault.SeatFault.{SeatFault}
 use Rattle.node_seats.specs.declared.fault.SeatFault.TheVariants.{Step}
 
@@ -23,10 +24,20 @@ abbrev pub IsTold : ℕ → TaskReply → Type 0
 IsTold name reply = ∥ TellsNext name reply ∥₁
 
 -- it told the owner of this ticket so
-abbrev pub IsToldTo : ℕ → Ticket → Result (Option Answer) TaskFault → Type 0
+abbrev pub IsToldTo : ℕ → Ticket → Result Effect TaskFault → Type 0
 IsToldTo name ticket outcome = IsTold name (record { ticket = ticket; outcome = outcome })
 
 -- and it told each refusal by the node
 abbrev pub IsFaultTold : ℕ → Ticket → SeatFault → Type 0
 IsFaultTold name ticket (Step fault) = IsToldTo name ticket (Err (of_task.Step fault))
 IsFaultTold name ticket _ = Unit {0}
+
+-- a loop of this node came to where its log has that the node left
+pub record LogsLeave (name : ℕ) : Type 0 where
+  pub node : Looping
+  pub came : IsLoopOf name node
+  pub logged : logs_leave node.log ≡ true
+
+-- this node has left
+abbrev pub HasLeft : ℕ → Type 0
+HasLeft name = ∥ LogsLeave name ∥₁

@@ -1,5 +1,7 @@
--- What a seat was answered.
-use Rattle.std.specs.Prelude.{ℕ, ◌≡◌, Option, Some, None, Result, Ok, Err, List, [], ◌∷◌, ◌++◌}
+-- Seats, and what they were answered.
+use Rattle.std.specs.Prelude.{ℕ, ◌≡◌, ◌==◌, Option, Some, None, Result, Ok, Err, List, [], ◌∷◌, ◌++◌}
+use Rattle.std.specs.List.{find}
+use Rattle.link.specs.Mailboxes.{Room}
 use Rattle.node_loop.specs.declared.Answer.{Answer}
 use Rattle.node_loop.specs.declared.Call.{Call}
 use Rattle.node_loop.specs.declared.Reply.{Reply}
@@ -10,21 +12,55 @@ use Rattle.node_loop.specs.declared.Event.{Event}
 use Rattle.node_loop.specs.declared.Event.TheVariants as event
 use Rattle.node_loop.specs.declared.WorldEvent.TheVariants.{At}
 use Rattle.node_loop.specs.declared.SeatEntry.{SeatEntry}
+use Rattle.node_loop.specs.declared.item.Item.{Item}
+use Rattle.node_loop.specs.declared.replies.Effect.{Effect}
+use Rattle.node_loop.specs.declared.replies.Effect.TheVariants.{Answered as IsAnswer}
+use Rattle.node_seats.specs.declared.caller.Caller.{Caller}
+use Rattle.node_seats.specs.declared.parcel.Parcel.{Parcel}
 use Rattle.node_seats.specs.declared.fault.SeatFault.{SeatFault}
 use Rattle.node_seats.specs.declared.fault.SeatFault.TheVariants.{Step}
 use Rattle.node_loop.specs.declared.replies.TaskFault.{TaskFault}
 use Rattle.node_loop.specs.declared.replies.TaskFault.TheVariants as task
+use Rattle.node_seats.specs.Addresses.{Inbox}
+use Rattle.node_seats.specs.Callers.{name_of, slot_of, nodes_of, asked_by}
 use Rattle.node_seats.specs.Faults.{MayAsk}
 use Rattle.node_seats.specs.Replies.{IsToldTo}
 
--- a seat: its number, its node, the nodes of its cluster, the events that it has asked its node for, and its transcript, the oldest of each
--- first
+-- a seat: its number, its node, the inbox of that, the nodes of its cluster, the events that it has asked its node for, and its transcript,
+-- the oldest of each first
 pub record Sitting : Type 0 where
   pub seat : ℕ
   pub node : ℕ
+  pub room : Room (Parcel Item)
   pub nodes : List ℕ
   pub asked : List Event
   pub entries : List SeatEntry
+
+-- the seat of a caller, with this transcript
+abbrev pub sitting : Caller → List SeatEntry → Sitting
+sitting c es = record {
+  seat = slot_of c;
+  node = name_of c;
+  room = c.line.room;
+  nodes = nodes_of c;
+  asked = asked_by c;
+  entries = es;
+}
+
+-- the seat with this number at the node of this inbox, in a cluster of these nodes, where nothing was asked yet
+abbrev pub new_seat : ℕ → List ℕ → Inbox → Sitting
+new_seat number nodes inbox = record {
+  seat = number;
+  node = inbox.node;
+  room = inbox.room;
+  nodes = nodes;
+  asked = [];
+  entries = [];
+}
+
+-- the first of these seats that is at this node
+abbrev pub first_at : ℕ → List Sitting → Option Sitting
+first_at name seats = find (λ s. s.node == name) seats
 
 -- the node was asked for this event, once; the transcript ends with it, and with what was answered
 abbrev pub with_entry : Event → Option Answer → Sitting → Sitting
@@ -34,7 +70,7 @@ with_entry e answer s = record s {
 }
 
 -- the loop of the seat's node told the seat so, for something that it asked
-pub record IsAnswered (s : Sitting) (outcome : Result (Option Answer) TaskFault) : Type 0 where
+pub record IsAnswered (s : Sitting) (outcome : Result Effect TaskFault) : Type 0 where
   pub number : ℕ
   pub told : IsToldTo s.node (record { seat = s.seat; number = number }) outcome
 
@@ -49,17 +85,16 @@ pub record Unanswered (fault : SeatFault) (e : Event) (s t : Sitting) : Type 0 w
   pub kept : t ≡ record s { asked = t.asked }
   pub told : IsToldFault s fault
 
--- an event that has no answer is done: its node's loop told the seat so, and it stands last in the transcript
-pub record Done (e : Event) (s t : Sitting) : Type 0 where
-  pub answer : Option Answer
-  pub told : IsAnswered s (Ok answer)
+-- an event that has no answer is done: its node's loop told the seat that it came to this, and it stands last in the transcript
+pub record Done (e : Event) (effect : Effect) (s t : Sitting) : Type 0 where
+  pub told : IsAnswered s (Ok effect)
   pub kept : t ≡ with_entry e None s
 
 -- the call got this reply: its node's loop told the seat an answer that says so, and the call stands last in the transcript with that;
 -- nothing else changed
 pub record Answered (call : Call) (reply : Reply) (s t : Sitting) : Type 0 where
   pub answer : Answer
-  pub told : IsAnswered s (Ok (Some answer))
+  pub told : IsAnswered s (Ok (IsAnswer answer))
   pub says : reply_of answer.reply ≡ reply_of reply
   pub kept : t ≡ with_entry (event.Call call) (Some answer) s
 

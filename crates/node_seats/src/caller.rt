@@ -1,7 +1,8 @@
 //! How a thread asks a node's thread.
-ghost use Rattle.std.specs.Prelude.{◌≡◌, ◌<◌, ◌+◌, ◌++◌, ◌∷◌, ◌⊎◌, [], true, false, IfOk, OnOk, OnErr, IfErr, IfSome, Ok, Err};
+ghost use Rattle.std.specs.Prelude.{◌≡◌, ◌<◌, ◌≤◌, ◌+◌, ◌++◌, ◌∷◌, ◌⊎◌, [], true, false, IfOk, OnOk, OnErr, IfErr, IfSome, Ok, Err};
 ghost use Rattle.node_loop.specs.Events.{knows_contact as knows};
-ghost use Rattle.node_seats.specs.Callers.{name_of, slot_of, nodes_of, nodes_at, asked_by, ticket_of, task_for, told_as, Numbers, Puts, Offers, IsEnd, MayPut};
+ghost use Rattle.node_seats.specs.Addresses.{inbox_at};
+ghost use Rattle.node_seats.specs.Callers.{name_of, inbox_of, slot_of, nodes_of, nodes_at, asked_by, ticket_of, task_for, told_as, Numbers, Puts, Offers, IsEnd, MayPut};
 ghost use Rattle.node_seats.specs.declared.fault.SeatFault.TheVariants.{NoSuchNode};
 ghost use Rattle.node_seats.specs.Faults.{IsAskRefused, MayAsk};
 ghost use Rattle.node_seats.specs.Replies.{IsToldTo, IsFaultTold};
@@ -12,7 +13,7 @@ use crate::fault::SeatFault;
 use crate::hub::Hub;
 use crate::line::Line;
 use crate::standing::Standing;
-use node_loop::{Answer, Event, Item, Task, Ticket};
+use node_loop::{Effect, Event, Item, Task, Ticket};
 use std::alloc::{AllocError, Global};
 use std::sync::{Arc, Wait};
 use std::time::Clock;
@@ -34,7 +35,7 @@ pub struct Caller {
 }
 
 /// What a caller is told of an event whose contact is of the cluster. Its node has the same nodes, and calls none of them a stranger.
-fn known_outcome(outcome: Result<Option<Answer>, SeatFault>) -> Result<Option<Answer>, SeatFault>
+fn known_outcome(outcome: Result<Effect, SeatFault>) -> Result<Effect, SeatFault>
     ensures told { result ≡ told_as outcome }
     ensures known { IfErr result (λ fault. IsAskRefused fault true) }
 {
@@ -60,6 +61,7 @@ impl Caller {
         ensures unasked { IfOk result (λ caller. asked_by caller ≡ []) }
         ensures address { OnOk result (address.new ≡ record address.old { lines = address.old.lines + 1 }) }
         ensures same { address.new.node ≡ address.old.node }
+        ensures inbox { IfOk result (λ caller. inbox_of caller ≡ inbox_at address.old) }
         ensures room { address.new.room ≡ address.old.room }
     {
         let rest = hub.rest(slot, yields)?;
@@ -92,6 +94,7 @@ impl Caller {
         ensures unasked { IfOk result (λ caller. asked_by caller ≡ []) }
         ensures address { OnOk result (address.new ≡ record address.old { lines = address.old.lines + 1 }) }
         ensures same { address.new.node ≡ address.old.node }
+        ensures inbox { IfOk result (λ caller. inbox_of caller ≡ inbox_at address.old) }
         ensures room { address.new.room ≡ address.old.room }
     {
         Caller::new(hub, &self.standing, address, slot, yields)
@@ -111,14 +114,15 @@ impl Caller {
         self.slot
     }
 
-    /// Asks for an event, once and under a number of its own, waits until the node has taken it, or refused it, and gives what was
-    /// answered. A contact that isn't of the cluster is refused at once, also where the node has left. What is answered, and what the
-    /// node refuses, its loop told this caller for this event; where no reply comes any more, the event may have been asked for.
+    /// Asks for an event, once, waits until the node has taken it, or refused it, and gives what came of it. A contact that isn't of
+    /// the cluster is refused at once, also where the node has left. What came of it, and what the node refuses, its loop told this
+    /// caller for this event; where no reply comes any more, the event may have been asked for. Its number is above those of all that
+    /// the caller put before, since numbers never fall, and rise behind each event that is put.
     pub fn ask<R: Wait + Clock>(
         &mut self,
         rt: &R,
         event: Event,
-    ) -> Result<Option<Answer>, SeatFault>
+    ) -> Result<Effect, SeatFault>
         ensures slot { slot_of self.new ≡ slot_of self.old }
         ensures node { name_of self.new ≡ name_of self.old }
         ensures nodes { nodes_of self.new ≡ nodes_of self.old }
@@ -126,9 +130,12 @@ impl Caller {
         ensures known { IfErr result (λ fault. IsAskRefused fault (knows (nodes_of self.old) event)) }
         ensures asked { OnOk result (asked_by self.new ≡ asked_by self.old ++ event ∷ []) }
         ensures unanswered { IfErr result (λ fault. MayAsk fault event (asked_by self.old) (asked_by self.new)) }
+        ensures put { OnOk result (Puts (task_for self.old event) self.old self.new) }
+        ensures inbox { inbox_of self.new ≡ inbox_of self.old }
         ensures numbered { OnOk result (Numbers self.old self.new) }
         ensures kept { OnErr result ((self.new.line ≡ self.old.line) ⊎ Numbers self.old self.new) }
-        ensures told { IfOk result (λ answer. IsToldTo (name_of self.old) (ticket_of self.old) (Ok answer)) }
+        ensures rises { self.old.next ≤ self.new.next }
+        ensures told { IfOk result (λ effect. IsToldTo (name_of self.old) (ticket_of self.old) (Ok effect)) }
         ensures refused { IfErr result (IsFaultTold (name_of self.old) (ticket_of self.old)) }
     {
         if !event.knows_contact(self.hub.nodes()) {
@@ -142,15 +149,17 @@ impl Caller {
         &mut self,
         rt: &R,
         event: Event,
-    ) -> Result<Option<Answer>, SeatFault>
+    ) -> Result<Effect, SeatFault>
         ensures slot { slot_of self.new ≡ slot_of self.old }
         ensures node { name_of self.new ≡ name_of self.old }
         ensures nodes { nodes_of self.new ≡ nodes_of self.old }
         ensures asked { OnOk result (Puts (task_for self.old event) self.old self.new) }
         ensures unanswered { IfErr result (λ fault. MayPut fault (task_for self.old event) self.old self.new) }
+        ensures inbox { inbox_of self.new ≡ inbox_of self.old }
         ensures numbered { OnOk result (Numbers self.old self.new) }
         ensures kept { OnErr result ((self.new.line ≡ self.old.line) ⊎ Numbers self.old self.new) }
-        ensures told { IfOk result (λ answer. IsToldTo (name_of self.old) (ticket_of self.old) (Ok answer)) }
+        ensures rises { self.old.next ≤ self.new.next }
+        ensures told { IfOk result (λ effect. IsToldTo (name_of self.old) (ticket_of self.old) (Ok effect)) }
         ensures refused { IfErr result (IsFaultTold (name_of self.old) (ticket_of self.old)) }
     {
         let number = self.next;
@@ -199,6 +208,7 @@ impl Caller {
         ensures node { name_of self.new ≡ name_of self.old }
         ensures nodes { nodes_of self.new ≡ nodes_of self.old }
         ensures next { self.new.next ≡ self.old.next }
+        ensures inbox { inbox_of self.new ≡ inbox_of self.old }
         ensures offers { IfOk result (λ back. Offers item back self.old self.new) }
         ensures ended { IfErr result (λ fault. IsEnd fault × (self.new.line ≡ self.old.line)) }
     {
@@ -217,6 +227,7 @@ impl Caller {
         ensures node { name_of self.new ≡ name_of self.old }
         ensures nodes { nodes_of self.new ≡ nodes_of self.old }
         ensures next { self.new.next ≡ self.old.next }
+        ensures inbox { inbox_of self.new ≡ inbox_of self.old }
         ensures put { OnOk result (Puts item self.old self.new) }
         ensures ended { IfErr result (λ fault. IsEnd fault × (self.new.line ≡ self.old.line)) }
     {
@@ -233,8 +244,8 @@ impl Caller {
     }
 
     /// What came of a ticket, if that is known. Replies to others, which this caller has given up, are dropped.
-    fn find<R: Wait>(&self, rt: &R, ticket: Ticket) -> Result<Option<Option<Answer>>, SeatFault>
-        ensures told { IfOk result (λ found. IfSome found (λ answer. IsToldTo (name_of self.now) ticket (Ok answer))) }
+    fn find<R: Wait>(&self, rt: &R, ticket: Ticket) -> Result<Option<Effect>, SeatFault>
+        ensures told { IfOk result (λ found. IfSome found (λ effect. IsToldTo (name_of self.now) ticket (Ok effect))) }
         ensures refused { IfErr result (IsFaultTold (name_of self.now) ticket) }
     {
         // This comes first: a reply that was laid down before the thread ended is then found.
@@ -255,19 +266,19 @@ impl Caller {
         &mut self,
         rt: &R,
         ticket: Ticket,
-    ) -> Result<Option<Answer>, SeatFault>
+    ) -> Result<Effect, SeatFault>
         ensures slot { slot_of self.new ≡ slot_of self.old }
         ensures node { name_of self.new ≡ name_of self.old }
         ensures nodes { nodes_of self.new ≡ nodes_of self.old }
         ensures line { self.new.line ≡ self.old.line }
         ensures next { self.new.next ≡ self.old.next }
-        ensures told { IfOk result (λ answer. IsToldTo (name_of self.old) ticket (Ok answer)) }
+        ensures told { IfOk result (λ effect. IsToldTo (name_of self.old) ticket (Ok effect)) }
         ensures refused { IfErr result (IsFaultTold (name_of self.old) ticket) }
     {
         self.rest.worked();
         for _ in rt.forever() {
-            if let Some(answer) = self.find(rt, ticket)? {
-                return Ok(answer);
+            if let Some(effect) = self.find(rt, ticket)? {
+                return Ok(effect);
             }
             self.rest.rest(rt, false);
         }

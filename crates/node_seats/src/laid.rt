@@ -4,7 +4,7 @@ ghost use Rattle.node_loop.specs.Coming.{IsLoopOf};
 ghost use Rattle.node_seats.specs.Replies.{IsTold, IsToldTo};
 
 use name_table::Names;
-use node_loop::{Answer, NodeLoop, TaskFault, TaskReply, Ticket};
+use node_loop::{Effect, NodeLoop, TaskFault, TaskReply, Ticket};
 use std::alloc::Global;
 use term::NodeName;
 
@@ -41,7 +41,7 @@ impl Laid {
         self,
         node: &NodeName,
         ticket: Ticket,
-    ) -> Option<Result<Option<Answer>, TaskFault>>
+    ) -> Option<Result<Effect, TaskFault>>
         ensures { IfSome result (λ outcome. IsToldTo node.now ticket outcome) }
     {
         let Laid {

@@ -5,10 +5,12 @@
 #![tactic(auto)]
 
 mod address;
+mod asking;
 mod bell;
 mod caller;
 mod calls;
 mod fault;
+mod free_seat;
 mod holder;
 mod host;
 mod hub;
@@ -22,11 +24,12 @@ mod standing;
 pub use address::Address;
 pub use caller::Caller;
 pub use fault::SeatFault;
+pub use free_seat::FreeSeat;
 pub use holder::HolderSeat;
 pub use host::Host;
 pub use hub::{Hub, MOST_SEATS};
 pub use line::Line;
-pub use node_loop::{Call, NameList, Nodes, Reply, Retries, StepFault, Transcript};
+pub use node_loop::{Call, Effect, NameList, Nodes, Reply, Retries, StepFault, Transcript};
 pub use opened::{Opened, open_node};
 pub use parcel::Parcel;
 pub use seat::Seat;

@@ -1,7 +1,8 @@
 //! Nodes that were opened: what their seats and their threads are made from.
 ghost use Rattle.std.specs.Prelude.{◌≡◌, ◌<◌, ◌+◌, [], IfOk};
 ghost use Rattle.link.specs.Mailboxes.{taken, mailbox_room};
-ghost use Rattle.node_seats.specs.Callers.{name_of, slot_of, nodes_of, nodes_at, asked_by};
+ghost use Rattle.node_seats.specs.Addresses.{inbox_at};
+ghost use Rattle.node_seats.specs.Callers.{name_of, inbox_of, slot_of, nodes_of, nodes_at, asked_by};
 
 use crate::address::{Address, Entrance, open_inbox};
 use crate::caller::Caller;
@@ -41,6 +42,7 @@ pub fn open_node(
     ensures address { IfOk result (λ opened. opened.address ≡ record { node = node; lines = 1; room = mailbox_room opened.mailbox }) }
     ensures slot { IfOk result (λ opened. slot_of opened.caller ≡ 64 + place) }
     ensures node { IfOk result (λ opened. name_of opened.caller ≡ node) }
+    ensures inbox { IfOk result (λ opened. inbox_of opened.caller ≡ inbox_at opened.address) }
     ensures nodes { IfOk result (λ opened. nodes_of opened.caller ≡ nodes_at hub.now.value) }
     ensures unasked { IfOk result (λ opened. asked_by opened.caller ≡ []) }
     ensures empty { IfOk result (λ opened. taken opened.mailbox ≡ []) }

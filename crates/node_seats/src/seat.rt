@@ -1,18 +1,18 @@
 //! Seats: from each, one caller calls one node.
-ghost use Rattle.std.specs.Prelude.{◌≡◌, ◌++◌, ◌∷◌, [], Some, None, Ok, OnOk, IfOk, IfErr};
+ghost use Rattle.std.specs.Prelude.{◌≡◌, [], OnOk, IfOk, IfErr};
 ghost use Rattle.node_loop.specs.Events.{knows_contact as knows};
 ghost use Rattle.node_loop.specs.declared.Event.TheVariants.{Exit, Leave, Call as Calls};
 ghost use Rattle.node_loop.specs.declared.WorldEvent.TheVariants.{At};
 ghost use Rattle.node_loop.specs.declared.Call.TheVariants.{Whereis};
-ghost use Rattle.node_seats.specs.Seats.{Answered, Unanswered, Done, owner_reply};
-ghost use Rattle.node_seats.specs.Callers.{name_of, slot_of, nodes_of, asked_by, ticket_of};
-ghost use Rattle.node_seats.specs.Replies.{IsToldTo, IsFaultTold};
-ghost use Rattle.node_seats.specs.Faults.{IsAskRefused, MayAsk};
+ghost use Rattle.node_loop.specs.declared.replies.Effect.TheVariants.{Made, Left};
+ghost use Rattle.node_seats.specs.Seats.{sitting, Answered, Unanswered, Done, owner_reply};
+ghost use Rattle.node_seats.specs.Replies.{HasLeft};
+ghost use Rattle.node_seats.specs.Faults.{IsAskRefused};
 
 use crate::caller::Caller;
 use crate::calls::copied_call;
 use crate::fault::SeatFault;
-use node_loop::{Answer, Call, Event, Reply, SeatEntry, Transcript, WorldEvent};
+use node_loop::{Call, Event, Reply, SeatEntry, Transcript, WorldEvent};
 use std::alloc::Global;
 use std::marker::Model;
 use std::sync::Wait;
@@ -20,7 +20,7 @@ use std::time::Clock;
 use term::{Name, NodeName, Pid};
 
 /// One caller's place at a node, with the transcript of what it was answered. It may go to another thread. Contracts see its
-/// number, its node, the nodes of its cluster, the events that it has asked the node for, and its transcript.
+/// number, its node and the inbox of that, the nodes of its cluster, the events that it has asked the node for, and its transcript.
 #[derive(Drop)]
 pub struct Seat {
     caller: Caller,
@@ -28,48 +28,17 @@ pub struct Seat {
 }
 
 impl Model for Seat {
-    ghost use Rattle.node_seats.specs.Callers.{name_of, slot_of, nodes_of, asked_by};
-    ghost use Rattle.node_seats.specs.Seats.{Sitting};
+    ghost use Rattle.node_seats.specs.Seats.{Sitting, sitting};
 
     ghost Value = { Sitting };
 
-    ghost view = { λ s. record {
-      seat = slot_of s.caller;
-      node = name_of s.caller;
-      nodes = nodes_of s.caller;
-      asked = asked_by s.caller;
-      entries = s.entries.items;
-    } };
-}
-
-/// Asks for a call, and gives its answer.
-fn ask_call<R: Wait + Clock>(rt: &R, caller: &mut Caller, call: Call) -> Result<Answer, SeatFault>
-    ensures slot { slot_of caller.new ≡ slot_of caller.old }
-    ensures node { name_of caller.new ≡ name_of caller.old }
-    ensures nodes { nodes_of caller.new ≡ nodes_of caller.old }
-    ensures known { IfErr result (λ fault. IsAskRefused fault (knows (nodes_of caller.old) (Calls call))) }
-    ensures asked { OnOk result (asked_by caller.new ≡ asked_by caller.old ++ Calls call ∷ []) }
-    ensures unanswered { IfErr result (λ fault. MayAsk fault (Calls call) (asked_by caller.old) (asked_by caller.new)) }
-    ensures told { IfOk result (λ answer. IsToldTo (name_of caller.old) (ticket_of caller.old) (Ok (Some answer))) }
-    ensures refused { IfErr result (IsFaultTold (name_of caller.old) (ticket_of caller.old)) }
-{
-    match caller.ask(rt, Event::Call(call))? {
-        Some(answer) => Ok(answer),
-        // No call is taken without an answer.
-        None => Err(SeatFault::Closed),
-    }
+    ghost view = { λ s. sitting s.caller s.entries.items };
 }
 
 impl Seat {
     /// The seat of a caller, with an empty transcript.
     pub fn new(alloc: Global, caller: Caller) -> Self
-        ensures { result ≡ record {
-          seat = slot_of caller;
-          node = name_of caller;
-          nodes = nodes_of caller;
-          asked = asked_by caller;
-          entries = [];
-        } }
+        ensures { result ≡ sitting caller [] }
     {
         Seat {
             caller,
@@ -99,9 +68,9 @@ impl Seat {
     }
 
     /// Calls the node, once, and waits for the reply, which the node's loop told this seat. The call and its answer then stand last in
-    /// the transcript, which nothing else changes. `Memory`: nothing was asked, or it was and the reply is a list of names. `NodeLeft`: the node has left.
-    /// `NoSuchNode`: the contact of a join isn't of the cluster. `Step`: the node refuses the call. `Closed`: the node's thread
-    /// ended without a leave, or the cluster was closed; whether the call was made then isn't known.
+    /// the transcript, which nothing else changes. `Memory`: nothing was asked, or it was and the reply is a list of names. `NodeLeft`:
+    /// the node has left. `NoSuchNode`: the contact of a join isn't of the cluster. `Step`: the node refuses the call. `Closed`: the
+    /// node's thread ended without a leave, or the cluster was closed; whether the call was made then isn't known.
     pub fn call<R: Wait + Clock>(&mut self, rt: &R, call: Call) -> Result<Reply, SeatFault>
         ensures ok { IfOk result (λ reply. Answered call reply self.old self.new) }
         ensures err { IfErr result (λ fault. Unanswered fault (Calls call) self.old self.new) }
@@ -109,7 +78,7 @@ impl Seat {
     {
         let event = self.event(Event::Call(copied_call(&call)?));
         self.entries.reserve(1)?;
-        let answer = ask_call(rt, &mut self.caller, call)?;
+        let answer = self.caller.call(rt, call)?;
         let reply = answer.reply.copy()?;
         let answer = Some(answer);
         self.entries.push_reserved(SeatEntry { event, answer });
@@ -127,7 +96,7 @@ impl Seat {
     {
         let event = self.event(Event::Call(Call::Whereis(name.copy())));
         self.entries.reserve(1)?;
-        let answer = ask_call(rt, &mut self.caller, Call::Whereis(name.copy()))?;
+        let answer = self.caller.call(rt, Call::Whereis(name.copy()))?;
         let owner = match &answer.reply {
             Reply::Pid(owner) => Some(owner.copy()),
             Reply::Undefined => None,
@@ -142,25 +111,26 @@ impl Seat {
     /// A process of the node dies. It waits until that is so, and the exit then stands last in the transcript. It is refused as
     /// `call` is.
     pub fn exit<R: Wait + Clock>(&mut self, rt: &R, process: &Pid) -> Result<(), SeatFault>
-        ensures ok { OnOk result (Done (Exit process.now) self.old self.new) }
+        ensures ok { OnOk result (Done (Exit process.now) Made self.old self.new) }
         ensures err { IfErr result (λ fault. Unanswered fault (Exit process.now) self.old self.new) }
     {
         self.entries.reserve(1)?;
-        self.caller.ask(rt, Event::Exit(process.copy()))?;
+        self.caller.exit(rt, process)?;
         let event = self.event(Event::Exit(process.copy()));
         let answer = None;
         self.entries.push_reserved(SeatEntry { event, answer });
         Ok(())
     }
 
-    /// The seat's own node leaves. It waits until that is so, behind the hold of the global lock where the node holds it, and the
-    /// leave then stands last in the transcript. It is refused as `call` is.
+    /// The seat's own node leaves. It waits until that is so, and the node's log says it, behind the hold of the global lock where the
+    /// node holds it; the leave then stands last in the transcript. It is refused as `call` is.
     pub fn leave<R: Wait + Clock>(&mut self, rt: &R) -> Result<(), SeatFault>
-        ensures ok { OnOk result (Done Leave self.old self.new) }
+        ensures ok { OnOk result (Done Leave Left self.old self.new) }
+        ensures left { OnOk result (HasLeft self.old.node) }
         ensures err { IfErr result (λ fault. Unanswered fault Leave self.old self.new) }
     {
         self.entries.reserve(1)?;
-        self.caller.ask(rt, Event::Leave)?;
+        self.caller.leave(rt)?;
         let event = self.event(Event::Leave);
         let answer = None;
         self.entries.push_reserved(SeatEntry { event, answer });

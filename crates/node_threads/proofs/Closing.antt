@@ -1,21 +1,27 @@
 -- What closing a cluster comes to, by what a replay says.
 use Rattle.std.proofs.Common.{ℕ, Bool, true, false, ◌≡◌, List, ◌++◌, map, refl, subst, inl}
-use Rattle.std.specs.Prelude.{Result, Ok, Err, IfOk, IfErr, All}
+use Rattle.std.specs.Prelude.{Result, Ok, Err, IfOk, IfErr}
 use Rattle.registry_model.specs.Table.{Table}
 use Rattle.node_loop.specs.declared.NodeEnd.{NodeEnd}
 use Rattle.node_loop.specs.declared.Transcript.{Transcript}
 use Rattle.replay.specs.declared.closed.Closed.{Closed}
 use Rattle.replay.specs.declared.faults.CloseFault.{CloseFault}
-use Rattle.replay.specs.Consistent.{AreConsistent, is_torn as tears}
+use Rattle.replay.specs.Consistent.{AreConsistent, is_torn}
 use Rattle.replay.specs.Ends.{end_of as seen_end}
 use Rattle.replay.specs.Replaying.{Replayed, IsFault}
-use Rattle.node_threads.specs.Closing.{is_torn, end_of, IsLeftBy, Replays, CloseIs}
+use Rattle.node_seats.specs.Lines.{Sent}
+use Rattle.node_loop.specs.declared.item.Item.{Item}
+use Rattle.node_threads.specs.Wires.{Wired}
+use Rattle.node_threads.specs.Drawing.{Drawn, AllCompared}
+use Rattle.node_threads.specs.Ended.{end_of, AllReturn}
+use Rattle.node_threads.specs.Closing.{Replays, CloseIs}
+use Rattle.node_threads.proofs.Gathering.{left_all}
 
-module _ {N M : Type 0} (contents : N → Table) (cluster lone : List ℕ) (ts : List Transcript) where
+module _ {N M : Type 0} (contents : N → Table) (cluster lone : List ℕ) (crew : List Wired) (ts : List Transcript) where
   replays : (ends : List (NodeEnd N M)) (result : Result (Closed N M) CloseFault)
       → IfOk result (λ closed. Replayed cluster lone (map (seen_end contents) ends) ts closed.events closed.world)
       → IfErr result (λ fault. IsFault cluster lone (map (seen_end contents) ends) ts fault)
-      → Replays contents cluster lone ts ends result
+      → Replays contents cluster lone crew ts ends result
   replays ends (Ok closed) ok err = ok
   replays ends (Err fault) ok err = err
 
@@ -27,31 +33,36 @@ module _ {N M : Type 0} (contents : N → Table) (cluster lone : List ℕ) (ts :
     as_lent : (F : List ℕ → List ℕ → List (NodeEnd N M) → Type 0) → As F
     as_lent F h = subst (λ (x : List ℕ × List ℕ × List (NodeEnd N M)). F x.0 x.1 x.2) (λ j. (a j, b j, same j)) h
 
-    pub closes : map end_of ends ≡ cluster ++ lone → All (λ e. IsLeftBy contents (end_of e) e) ends
+    pub closes : (lines : List (List (Sent Item))) (drawn : List Drawn) → AllReturn contents crew ends lines drawn → AllCompared lines drawn
+        → map end_of ends ≡ cluster ++ lone
         → IfOk result (λ closed. Replayed joined others (map (seen_end contents) lent) ts closed.events closed.world)
         → IfErr result (λ fault. IsFault joined others (map (seen_end contents) lent) ts fault)
-        → CloseIs contents cluster lone ts result
-    closes names left ok err = inl (
-      ends,
-      names,
-      left,
-      consistent,
-      replays ends result
+        → CloseIs contents cluster lone crew ts result
+    closes lines drawn returned compared names ok err = inl (record {
+      ends = ends;
+      lines = lines;
+      drawn = drawn;
+      returned = returned;
+      compared = compared;
+      names = names;
+      left = left_all contents crew ends lines drawn returned;
+      consistent = consistent;
+      replays = replays ends result
           (as_lent (λ js os es. IfOk result (λ closed. Replayed js os (map (seen_end contents) es) ts closed.events closed.world)) ok)
-          (as_lent (λ js os es. IfErr result (λ fault. IsFault js os (map (seen_end contents) es) ts fault)) err),
-    )
+          (as_lent (λ js os es. IfErr result (λ fault. IsFault js os (map (seen_end contents) es) ts fault)) err);
+    })
 
     -- it is whole
-    pub never_torn : IfErr result (λ fault. tears fault ≡ true → AreConsistent joined others (map (seen_end contents) lent) → ⊥)
+    pub never_torn : IfErr result (λ fault. is_torn fault ≡ true → AreConsistent joined others (map (seen_end contents) lent) → ⊥)
         → IfErr result (λ fault. is_torn fault ≡ false)
-    never_torn h = at result (as_lent (λ js os es. IfErr result (λ fault. tears fault ≡ true → AreConsistent js os (map (seen_end contents) es) → ⊥)) h)
+    never_torn h = at result (as_lent (λ js os es. IfErr result (λ fault. is_torn fault ≡ true → AreConsistent js os (map (seen_end contents) es) → ⊥)) h)
       where
         not_true : (t : Bool) → (t ≡ true → ⊥) → t ≡ false
         not_true true never = absurd (never refl)
         not_true false never = refl
 
         at : (r : Result (Closed N M) CloseFault)
-            → IfErr r (λ fault. tears fault ≡ true → AreConsistent cluster lone (map (seen_end contents) ends) → ⊥)
+            → IfErr r (λ fault. is_torn fault ≡ true → AreConsistent cluster lone (map (seen_end contents) ends) → ⊥)
             → IfErr r (λ fault. is_torn fault ≡ false)
         at (Ok closed) never = tt
-        at (Err fault) never = not_true (tears fault) (λ e. never e consistent)
+        at (Err fault) never = not_true (is_torn fault) (λ e. never e consistent)

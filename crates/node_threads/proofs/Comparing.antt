@@ -10,7 +10,8 @@ use Rattle.node_loop.specs.declared.NodeEnd.{NodeEnd}
 use Rattle.node_loop.specs.declared.item.Item.{Item}
 use Rattle.node_seats.specs.declared.parcel.Parcel.{Parcel}
 use Rattle.node_seats.specs.Lines.{Sent}
-use Rattle.node_threads.specs.Wires.{Inbox, Wired, inboxes, IsCrew}
+use Rattle.node_seats.specs.Addresses.{Inbox}
+use Rattle.node_threads.specs.Wires.{Wired, inboxes, IsCrew}
 use Rattle.node_threads.specs.Drawing.{Drawn, Compares, CompareAll, AllCompared}
 use Rattle.node_threads.specs.Ended.{AllReturn}
 use Rattle.node_threads.proofs.Gathering.{item_at, returned}

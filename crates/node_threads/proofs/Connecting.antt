@@ -7,7 +7,8 @@ use Rattle.std.proofs.lemmas.List.Elements.{All-set, All-tail, All-head}
 use Rattle.std.proofs.Math.Seq.{map-set_same}
 use Rattle.node_loop.specs.declared.item.Item.{Item}
 use Rattle.node_seats.specs.Lines.{Sent}
-use Rattle.node_threads.specs.Wires.{Inbox, Wired, name_of, line_to, unused, inboxes, AreWired}
+use Rattle.node_seats.specs.Addresses.{Inbox}
+use Rattle.node_threads.specs.Wires.{Wired, name_of, line_to, unused, inboxes, AreWired}
 use Rattle.node_threads.specs.Berths.{Berthed, wired_of, opened_of, next_line, one_more}
 use Rattle.node_threads.proofs.Lines.{unused_new}
 

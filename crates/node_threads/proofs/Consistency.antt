@@ -30,12 +30,12 @@ use Rattle.replay.specs.Consistent.{AreConsistent}
 use Rattle.replay.proofs.Listed.{world_is, known_place, no_place}
 use Rattle.replay.proofs.Merging.{alone, found, log_is, set_of-at}
 use Rattle.node_threads.specs.Givers.{receivers}
-use Rattle.node_threads.specs.Wires.{Inbox, Wired, name_of, inboxes, line_to, unused, Opens, IsCrew}
+use Rattle.node_seats.specs.Addresses.{Inbox}
+use Rattle.node_threads.specs.Wires.{Wired, name_of, inboxes, line_to, unused, Opens, IsCrew}
 use Rattle.node_threads.specs.Ends.{are_inside}
 use Rattle.node_threads.specs.Dealings.{dealt_by}
-use Rattle.node_threads.specs.Closing.{end_of}
 use Rattle.node_threads.specs.Drawing.{Drawn, Compares, AllCompared}
-use Rattle.node_threads.specs.Ended.{Returns, AllReturn}
+use Rattle.node_threads.specs.Ended.{end_of, Returns, AllReturn}
 use Rattle.node_threads.proofs.Pairs.{mapped_at, made_of, begins}
 
 -- a list has something at each of its places

@@ -8,9 +8,8 @@ use Rattle.node_loop.specs.declared.NodeEnd.{NodeEnd}
 use Rattle.node_loop.specs.declared.item.Item.{Item}
 use Rattle.node_seats.specs.Lines.{Sent}
 use Rattle.node_threads.specs.Wires.{Wired, name_of}
-use Rattle.node_threads.specs.Closing.{end_of, IsLeftBy}
 use Rattle.node_threads.specs.Drawing.{Drawn}
-use Rattle.node_threads.specs.Ended.{Returns, AllReturn}
+use Rattle.node_threads.specs.Ended.{end_of, IsLeftBy, Returns, AllReturn}
 
 -- the element at a place
 pub item_at : {X : Type 0} (xs : List X) (k : ℕ) → k < length xs → X
@@ -19,17 +18,7 @@ item_at (x ∷ xs) zero lt = x
 item_at (x ∷ xs) (suc k) lt = item_at xs k (omega (arith, lt))
 
 module _ {N M : Type 0} (contents : N → Table) where
-  -- nothing at first
-  pub none_returned : (ends : List (NodeEnd N M)) (rows : List (List (Sent Item))) (drawn : List Drawn) → ends ≡ [] → rows ≡ [] → drawn ≡ []
-      → AllReturn contents [] ends rows drawn
-  none_returned ends rows drawn p q r = record {
-    as_many_ends = ap length p;
-    as_many_rows = ap length q;
-    as_many_drawn = ap length r;
-    each = λ i w e row d lt. absurd (omega (arith, lt));
-  }
-
-  -- and one more
+  -- one thread more gave this back
   module _ (ws : List Wired) (ends : List (NodeEnd N M)) (rows : List (List (Sent Item))) (drawn : List Drawn) (A : AllReturn contents ws ends rows drawn)
       (w : Wired) (end : NodeEnd N M) (row : List (Sent Item)) (d : Drawn) (R : Returns contents w end row d) where
     pushed : AllReturn contents (ws ++ w ∷ []) (ends ++ end ∷ []) (rows ++ row ∷ []) (drawn ++ d ∷ [])

@@ -1,6 +1,8 @@
+pub use Rattle.node_seats.proofs.Choosing
 mod Places
 mod Lines
 mod Coming
+mod Departing
 mod Givers
 mod Sending
 mod Dealing

@@ -6,7 +6,8 @@ use Rattle.node_loop.specs.declared.item.Item.{Item}
 use Rattle.node_seats.specs.declared.parcel.Parcel.{Parcel}
 use Rattle.node_seats.specs.Lines.{Sent, with_parcel, with_parcel_to}
 use Rattle.node_threads.specs.Givers.{receivers}
-use Rattle.node_threads.specs.Wires.{Inbox, line_to, unused}
+use Rattle.node_seats.specs.Addresses.{Inbox}
+use Rattle.node_threads.specs.Wires.{line_to, unused}
 
 -- the inboxes that lines lead into
 abbrev pub rooms : List (Sent Item) → List (Room (Parcel Item))

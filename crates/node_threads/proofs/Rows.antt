@@ -1,15 +1,19 @@
 -- The nodes that run, and the seats at them.
 use Rattle.std.proofs.Common.{ℕ, true, false, ◌==◌, ◌≡◌, Option, Some, None, List, [], map, get_or, set, sym, ap, subst, ◌∙◌, arith}
+use Rattle.std.specs.Prelude.{option_map, Result, Ok, Err, OnOk}
 use Rattle.std.specs.List.{position}
 use Rattle.std.proofs.lemmas.List.{get_or-map, length-map, set-get_or}
 use Rattle.term.specs.NodeSets.{set_of}
 use Rattle.term.proofs.NodePlaces.{place-Some}
 use Rattle.link.specs.Held.{place}
 use Rattle.replay.proofs.Listed.{known_place, no_place}
-use Rattle.node_loop.specs.declared.Event.{Event}
-use Rattle.node_seats.specs.Seats.{Sitting}
-use Rattle.node_threads.specs.Clusters.{Crewed, nodes_in}
-use Rattle.node_threads.specs.Wires.{Wired, name_of, IsCrew}
+use Rattle.node_seats.specs.declared.caller.Caller.{Caller}
+use Rattle.node_seats.specs.Addresses.{Inbox}
+use Rattle.node_seats.specs.Callers.{slot_of, inbox_of, nodes_of, asked_by}
+use Rattle.node_seats.specs.Seats.{sitting, new_seat, first_at}
+use Rattle.node_seats.proofs.Choosing.{find_mapped, first_becomes}
+use Rattle.node_threads.specs.Clusters.{Crewed, nodes_in, next_seats}
+use Rattle.node_threads.specs.Wires.{Wired, name_of, inboxes, inbox_to, IsCrew}
 use Rattle.node_threads.proofs.Places.{place_mapped}
 
 -- those that run are the nodes of the cluster
@@ -39,22 +43,36 @@ pub crew_kept : (cluster lone : List ℕ) (ws : List Wired) (i : ℕ) (m n : Wir
 crew_kept cluster lone ws i m n read is crew =
     subst (IsCrew cluster lone) (sym (ap (set ws i) (is ∙ read) ∙ set-get_or ws i m)) crew
 
--- a seat that was made without entries
-abbrev pub seated : ℕ → ℕ → List ℕ → List Event → Sitting
-seated seat node nodes asked = record { seat = seat; node = node; nodes = nodes; asked = asked; entries = [] }
+-- the seat that a caller becomes which asked for nothing yet
+pub new_sitting : (caller : Caller) (number : ℕ) (nodes : List ℕ) (inbox : Inbox) → slot_of caller ≡ number → inbox_of caller ≡ inbox
+    → nodes_of caller ≡ nodes → asked_by caller ≡ [] → sitting caller [] ≡ new_seat number nodes inbox
+new_sitting caller number nodes inbox slot into world asked = λ j. record {
+  seat = slot j;
+  node = (into j).node;
+  room = (into j).room;
+  nodes = world j;
+  asked = asked j;
+  entries = [];
+}
 
-pub sits : (s : Sitting) (slot name seat node : ℕ) (nodes : List ℕ) (asked : List Event)
-    → s ≡ seated slot name nodes asked → slot ≡ seat → name ≡ node → asked ≡ []
-    → s ≡ record { seat = seat; node = node; nodes = s.nodes; asked = []; entries = [] }
-sits s slot name seat node nodes asked is e f none = is ∙ ap (λ (a : ℕ). seated a name nodes asked) e
-    ∙ ap (λ (b : ℕ). seated seat b nodes asked) f ∙ ap (seated seat node nodes) none
-    ∙ ap (λ (ns : List ℕ). seated seat node ns []) (sym (ap (λ (t : Sitting). t.nodes) is))
+-- the node was found among those that run
+module _ (n : ℕ) (inside crew : Crewed) (i : ℕ) (at : position (λ w. name_of w == n) inside.crew ≡ Some i) (view : inside ≡ crew) (m : Wired) (is : m ≡ get_or inside.crew i m) where
+  there : inbox_to n inside.crew ≡ Some m.inbox
+  there = first_becomes (λ (w : Wired). w.inbox) (λ inbox. inbox.node == n) inside.crew i m at is
 
--- a seat has the nodes of its cluster
-pub seats_nodes : (s : Sitting) (slot name : ℕ) (nodes hub : List ℕ) (asked : List Event) (inside crew : Crewed)
-    → s ≡ seated slot name nodes asked → nodes ≡ hub
-    → ((n : ℕ) → set_of hub n ≡ set_of (nodes_in inside) n) → inside ≡ crew
-    → (n : ℕ) → set_of s.nodes n ≡ set_of (nodes_in crew) n
-seats_nodes s slot name nodes hub asked inside crew is same all view n =
-    ap (λ (t : Sitting). set_of t.nodes n) is ∙ ap (λ (ns : List ℕ). set_of ns n) same ∙ all n
-    ∙ ap (λ (k : Crewed). set_of (nodes_in k) n) view
+  -- its inbox
+  pub inbox_is : inbox_to n crew.crew ≡ Some m.inbox
+  inbox_is = ap (λ (k : Crewed). inbox_to n k.crew) (sym view) ∙ there
+
+  -- what its caller becomes is the next seat there
+  pub seat_is : (caller : Caller) → slot_of caller ≡ inside.seats → inbox_of caller ≡ m.inbox
+      → nodes_of caller ≡ inside.world → asked_by caller ≡ [] → first_at n (next_seats crew) ≡ Some (sitting caller [])
+  seat_is caller slot inbox nodes asked = ap (λ (k : Crewed). first_at n (next_seats k)) (sym view)
+      ∙ find_mapped (new_seat inside.seats inside.world) (λ s. s.node == n) (inboxes inside.crew)
+      ∙ ap (option_map (new_seat inside.seats inside.world)) there
+      ∙ ap Some (sym (new_sitting caller inside.seats inside.world m.inbox slot inbox nodes asked))
+
+-- where it succeeded, so does what follows of that
+pub on_ok : {A E : Type 0} (r : Result A E) (P Q : Type 0) → (P → Q) → OnOk r P → OnOk r Q
+on_ok (Ok a) P Q f h = f h
+on_ok (Err e) P Q f h = h

@@ -10,7 +10,7 @@ use Rattle.node_loop.specs.Desks.{Kept}
 use Rattle.node_loop.specs.Held.{Looping, written}
 use Rattle.node_loop.specs.Steps.{Outcome}
 use Rattle.node_loop.specs.Dealings.{Dealt}
-use Rattle.node_loop.specs.Sound.{IsSound, EndsSound as EndsSoundWith, Tells, LeavesSound}
+use Rattle.node_loop.specs.Sound.{IsSound, EndsSound, Tells, LeavesSound}
 use Rattle.node_loop.proofs.Standing.{besides}
 use Rattle.node_seats.specs.declared.parcel.Parcel.{Parcel}
 use Rattle.node_seats.specs.Lines.{Sent}
@@ -20,7 +20,7 @@ use Rattle.node_threads.specs.Givers.{receivers, found_in}
 use Rattle.node_threads.specs.Wires.{unused}
 use Rattle.node_threads.specs.Ends.{are_inside, leads_inside, fixed}
 use Rattle.node_threads.specs.Dealings.{sent_to, taken_from, dealt_of, dealt_by}
-use Rattle.node_threads.specs.Soundness.{IsSoundAt, StaysSound, EndsSound}
+use Rattle.node_threads.specs.Soundness.{IsSoundAt, StaysSound, LastsSound}
 use Rattle.node_threads.specs.Ended.{IsEndOf}
 use Rattle.node_threads.proofs.Lines.{receivers_unused}
 
@@ -29,8 +29,8 @@ sound_without : (o : Opening) (b c : Looping) (d : Dealt) (k : Kept) → c ≡ r
 sound_without o b c d k is S =
     subst (λ (l : Looping). IsSound o l d) (sym is) (besides o (λ f. []) b d S k b.wait b.worked)
 
-ended_without : (o : Opening) (b c : Looping) (d : Dealt) (k : Kept) → c ≡ record b { desk = k } → EndsSoundWith o b d → EndsSoundWith o c d
-ended_without o b c d k is E = subst (λ (l : Looping). EndsSoundWith o l d) (sym is) (record {
+ended_without : (o : Opening) (b c : Looping) (d : Dealt) (k : Kept) → c ≡ record b { desk = k } → EndsSound o b d → EndsSound o c d
+ended_without o b c d k is E = subst (λ (l : Looping). EndsSound o l d) (sym is) (record {
   of = E.of;
   named = E.named;
   course = E.course;
@@ -45,22 +45,22 @@ module _ (a : Looping) (s : Traffic) (b : Looping) (t : Traffic) (c : Looping) (
   sound_on (Ok u) stays goes o here = ((stays o here).0, sound_without o b c (dealt_of t) k is (stays o here).1)
   sound_on (Err why) stays goes o here = cc
 
-  pub sound_to_end : (r : Outcome) → StaysSound a s r b t → is_ok r ≡ false → EndsSound a s c t
+  pub sound_to_end : (r : Outcome) → StaysSound a s r b t → is_ok r ≡ false → LastsSound a s c t
   sound_to_end (Ok u) stays ends o here = cc
   sound_to_end (Err why) stays ends o here = inr (ended_without o b c (dealt_of t) k is (stays o here).1)
 
 -- behind turns
-pub ends_on : (a : Looping) (s : Traffic) (b : Looping) (t : Traffic) → ((o : Opening) → IsSoundAt o a s → IsSoundAt o b t) → EndsSound a s b t
+pub ends_on : (a : Looping) (s : Traffic) (b : Looping) (t : Traffic) → ((o : Opening) → IsSoundAt o a s → IsSoundAt o b t) → LastsSound a s b t
 ends_on a s b t stays o here = inl (stays o here).1
 
 pub ends_behind : (a : Looping) (s : Traffic) (b : Looping) (t : Traffic) (c : Looping) (u : Traffic)
-    → ((o : Opening) → IsSoundAt o a s → IsSoundAt o b t) → EndsSound b t c u → EndsSound a s c u
+    → ((o : Opening) → IsSoundAt o a s → IsSoundAt o b t) → LastsSound b t c u → LastsSound a s c u
 ends_behind a s b t c u stays ends o here = ends o (stays o here)
 
 -- What a thread gives back: it began with the loop a and an end that stood as s, and behind its last turn they were b and t
 module _ {N M : Type 0} (contents : N → Table) (a : Looping) (lines : List (Sent Item)) (mailbox : Mailbox (Parcel Item)) (s : Traffic) (b : Looping) (t : Traffic) (e : Ended N M)
     (first : s ≡ record { node = a.log.node; first = mailbox; lines = lines; taken = found_in a.log.node (receivers lines) (taken mailbox) })
-    (came : IsLoopOf a.log.node b) (node : b.log.node ≡ a.log.node) (sound : EndsSound a s b t) (same : fixed t ≡ fixed s)
+    (came : IsLoopOf a.log.node b) (node : b.log.node ≡ a.log.node) (sound : LastsSound a s b t) (same : fixed t ≡ fixed s)
     (log : written e.end.log ≡ b.log) (table : contents e.end.table ≡ b.core.table) (left : b.left ≡ true → e.end.ended_alone ≡ false) (leaves : LeavesSound b (written e.end.log) (contents e.end.table))
     (row : e.lines.items ≡ t.lines) (took : found_in t.node (receivers t.lines) (taken e.mailbox) ≡ t.taken) (room : mailbox_room e.mailbox ≡ mailbox_room t.first) where
   t_node : t.node ≡ a.log.node

@@ -11,13 +11,13 @@ use Rattle.node_seats.specs.declared.parcel.Parcel.{Parcel}
 use Rattle.node_seats.specs.Lines.{Sent}
 use Rattle.node_threads.specs.declared.running.Ended.{Ended}
 use Rattle.node_threads.specs.Givers.{receivers}
-use Rattle.node_threads.specs.Wires.{Inbox, Wired}
+use Rattle.node_seats.specs.Addresses.{Inbox}
+use Rattle.node_threads.specs.Wires.{Wired}
 use Rattle.node_threads.specs.Ends.{are_inside}
 use Rattle.node_threads.specs.Dealings.{dealt_by}
 use Rattle.node_threads.specs.Starts.{IsAtStart}
 use Rattle.node_threads.specs.Drawing.{Drawn}
-use Rattle.node_threads.specs.Closing.{IsLeftBy}
-use Rattle.node_threads.specs.Ended.{IsEndOf, Returns}
+use Rattle.node_threads.specs.Ended.{IsLeftBy, IsEndOf, Returns}
 use Rattle.node_threads.proofs.Dealing.{deals_nothing}
 
 -- by other names of the same

@@ -1,20 +1,40 @@
 -- What contracts see of a cluster.
-use Rattle.std.specs.Prelude.{ℕ, Option, Ok, List, ◌++◌}
-use Rattle.node_loop.specs.declared.Answer.{Answer}
-use Rattle.node_loop.specs.declared.item.Ticket.{Ticket}
-use Rattle.node_seats.specs.Replies.{IsToldTo}
+use Rattle.std.specs.Prelude.{ℕ, ◌≡◌, Some, Ok, List, ◌++◌, map}
+use Rattle.node_loop.specs.declared.Event.TheVariants.{Leave}
+use Rattle.node_loop.specs.declared.replies.Effect.TheVariants.{Left}
+use Rattle.node_seats.specs.declared.caller.Caller.{Caller}
+use Rattle.node_seats.specs.Addresses.{Inbox}
+use Rattle.node_seats.specs.Callers.{inbox_of, ticket_of, task_for, Puts}
+use Rattle.node_seats.specs.Replies.{IsToldTo, HasLeft}
+use Rattle.node_seats.specs.Seats.{Sitting, new_seat}
+use Rattle.node_threads.specs.Wires.{Wired, inboxes, inbox_to}
 
 pub record Crewed : Type 0 where
   pub cluster : List ℕ  -- the nodes that are joined at first
   pub lone : List ℕ  -- the others
+  pub world : List ℕ  -- all of them, rising
+  pub crew : List Wired  -- the same, as their threads started
   pub seats : ℕ  -- how many seats were made
 
 -- all its nodes
 abbrev pub nodes_in : Crewed → List ℕ
 nodes_in c = c.cluster ++ c.lone
 
--- a loop of this node accepted what some ticket's owner asked
-pub record IsAccepted (node : ℕ) : Type 0 where
-  pub ticket : Ticket
-  pub answer : Option Answer
-  pub told : IsToldTo node ticket (Ok answer)
+-- the seats that its next one may become, one at each node
+abbrev pub next_seats : Crewed → List Sitting
+next_seats c = map (new_seat c.seats c.world) (inboxes c.crew)
+
+-- A leave was put into this inbox. The loop of its node told the caller that put it there that the node has left, and its log has the leave
+pub record LeftAsAsked (inbox : Inbox) : Type 0 where
+  pub caller : Caller
+  pub behind : Caller
+  pub of : inbox_of caller ≡ inbox
+  pub put : Puts (task_for caller Leave) caller behind
+  pub told : IsToldTo inbox.node (ticket_of caller) (Ok Left)
+  pub left : HasLeft inbox.node
+
+-- so at this node of the cluster
+pub record LeftAt (c : Crewed) (node : ℕ) : Type 0 where
+  pub inbox : Inbox
+  pub at : inbox_to node c.crew ≡ Some inbox
+  pub left : LeftAsAsked inbox

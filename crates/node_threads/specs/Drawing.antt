@@ -4,7 +4,7 @@ use Rattle.link.specs.Rule.{Begins, of}
 use Rattle.node_loop.specs.declared.item.Item.{Item}
 use Rattle.node_seats.specs.declared.parcel.Parcel.{Parcel}
 use Rattle.node_seats.specs.Lines.{Sent}
-use Rattle.node_threads.specs.Wires.{Inbox}
+use Rattle.node_seats.specs.Addresses.{Inbox}
 
 -- an inbox whose thread has ended, and what was taken from it
 pub record Drawn : Type 0 where

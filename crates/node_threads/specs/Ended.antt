@@ -1,5 +1,5 @@
 -- What threads give back.
-use Rattle.std.specs.Prelude.{ℕ, true, ◌≡◌, ◌<◌, List, map, length, slice_index_or}
+use Rattle.std.specs.Prelude.{ℕ, true, false, ◌≡◌, ◌<◌, List, map, length, slice_index_or}
 use Rattle.registry_model.specs.Table.{Table}
 use Rattle.protocol_model.specs.World.{Opening}
 use Rattle.link.specs.declared.mailbox.Mailbox.{Mailbox}
@@ -8,6 +8,7 @@ use Rattle.node_loop.specs.NodeCoreSeen.{node_of}
 use Rattle.node_loop.specs.declared.NodeEnd.{NodeEnd}
 use Rattle.node_loop.specs.declared.item.Item.{Item}
 use Rattle.node_loop.specs.Held.{Looping, written}
+use Rattle.node_loop.specs.Coming.{IsLoopOf}
 use Rattle.node_loop.specs.Sound.{IsNodeOf, opened, IsSound, Tells}
 use Rattle.node_seats.specs.declared.parcel.Parcel.{Parcel}
 use Rattle.node_seats.specs.Lines.{Sent}
@@ -17,7 +18,19 @@ use Rattle.node_threads.specs.Wires.{Wired, name_of, unused}
 use Rattle.node_threads.specs.Ends.{are_inside}
 use Rattle.node_threads.specs.Dealings.{dealt_by}
 use Rattle.node_threads.specs.Drawing.{Drawn}
-use Rattle.node_threads.specs.Closing.{IsLeftBy}
+
+-- whose end it is
+abbrev pub end_of : {N M : Type 0} → NodeEnd N M → ℕ
+end_of e = e.log.node
+
+-- the end is what the loop of this node left behind: its log, and its table
+pub record IsLeftBy {N M : Type 0} (contents : N → Table) (name : ℕ) (e : NodeEnd N M) : Type 0 where
+  pub loop : Looping
+  pub came : IsLoopOf name loop
+  pub node : end_of e ≡ name
+  pub log : written e.log ≡ loop.log
+  pub table : contents e.table ≡ loop.core.table
+  pub left : loop.left ≡ true → e.ended_alone ≡ false
 
 module _ {N M : Type 0} (contents : N → Table) where
   -- The thread of this loop, with these lines and this end of an inbox, gives back what the loop left behind, and both. The lines and

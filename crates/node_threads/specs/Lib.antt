@@ -1,4 +1,6 @@
 pub use Rattle.node_loop.specs.Openings
+pub use Rattle.replay.specs.Consistent
+pub use Rattle.node_seats.specs.Addresses
 pub use Rattle.node_seats.specs.Lines
 pub use Rattle.node_seats.specs.Faults
 pub use Rattle.node_seats.specs.Seats
@@ -12,6 +14,6 @@ pub mod Dealings
 pub mod Soundness
 pub mod Starts
 pub mod Drawing
-pub mod Closing
 pub mod Ended
+pub mod Closing
 pub mod Clusters

@@ -8,7 +8,8 @@ use Rattle.node_loop.specs.Coming.{IsLoopOf}
 use Rattle.node_loop.specs.Sound.{BeginsSound}
 use Rattle.node_seats.specs.declared.parcel.Parcel.{Parcel}
 use Rattle.node_seats.specs.Lines.{Sent}
-use Rattle.node_threads.specs.Wires.{Inbox, unused}
+use Rattle.node_seats.specs.Addresses.{Inbox}
+use Rattle.node_threads.specs.Wires.{unused}
 
 -- its loop, its lines, on which nothing was put, and its end of this inbox, from which nothing was taken
 pub record IsAtStart (inbox : Inbox) (a : Looping) (lines : List (Sent Item)) (mailbox : Mailbox (Parcel Item)) : Type 0 where

@@ -1,23 +1,13 @@
 -- How the nodes of a cluster are wired: the inbox of each, and its lines into the inboxes of all.
-use Rattle.std.specs.Prelude.{ℕ, ◌≡◌, ◌<◌, ◌+◌, List, [], ◌++◌, map, length, slice_index_or, All}
-use Rattle.link.specs.Mailboxes.{Room}
+use Rattle.std.specs.Prelude.{ℕ, ◌≡◌, ◌==◌, ◌<◌, ◌+◌, Option, List, [], ◌++◌, map, length, slice_index_or, All}
+use Rattle.std.specs.List.{find}
 use Rattle.node_loop.specs.NodeCoreHeld.{Held}
 use Rattle.node_loop.specs.NodeCoreSeen.{node_of}
 use Rattle.node_loop.specs.Openings.{opening_with}
 use Rattle.node_loop.specs.Sound.{IsNodeOf, opened}
 use Rattle.node_loop.specs.declared.item.Item.{Item}
-use Rattle.node_seats.specs.declared.parcel.Parcel.{Parcel}
-use Rattle.node_seats.specs.Addresses.{Reached}
+use Rattle.node_seats.specs.Addresses.{Inbox}
 use Rattle.node_seats.specs.Lines.{Sent}
-
--- an inbox, and whose it is
-pub record Inbox : Type 0 where
-  pub node : ℕ
-  pub room : Room (Parcel Item)
-
--- the inbox that is reached there
-abbrev pub inbox_at : Reached Item → Inbox
-inbox_at a = record { node = a.node; room = a.room }
 
 -- a line into this inbox, of the sender that has this number there; nothing was put on it
 abbrev pub line_to : ℕ → Inbox → Sent Item
@@ -38,6 +28,10 @@ name_of w = w.inbox.node
 
 abbrev pub inboxes : List Wired → List Inbox
 inboxes ws = map (λ w. w.inbox) ws
+
+-- the inbox of this node
+abbrev pub inbox_to : ℕ → List Wired → Option Inbox
+inbox_to n ws = find (λ inbox. inbox.node == n) (inboxes ws)
 
 -- each of these nodes has a line to each of them, in their order, under the number of its own place: from 1 on
 abbrev pub AreWired : List Wired → Type 0

@@ -32,8 +32,8 @@ pub(crate) struct Berth<G: Gate + Drop, N: Names> {
 
 impl<G: Gate + Drop, N: Names> Model for Berth<G, N> {
     ghost use Rattle.std.specs.Prelude.{◌≡◌};
-    ghost use Rattle.node_seats.specs.Callers.{name_of as asked_node};
-    ghost use Rattle.node_threads.specs.Wires.{inbox_at};
+    ghost use Rattle.node_seats.specs.Callers.{inbox_of};
+    ghost use Rattle.node_seats.specs.Addresses.{inbox_at};
     ghost use Rattle.node_threads.specs.Berths.{Berthed};
     ghost use Rattle.node_threads.specs.Starts.{IsAtStart};
 
@@ -44,7 +44,7 @@ impl<G: Gate + Drop, N: Names> Model for Berth<G, N> {
       made = b.address.lines;
     } };
 
-    ghost invariant = { λ b. IsAtStart (inbox_at b.address) b.node b.lines.items b.mailbox × (asked_node b.caller ≡ b.address.node) };
+    ghost invariant = { λ b. IsAtStart (inbox_at b.address) b.node b.lines.items b.mailbox × (inbox_of b.caller ≡ inbox_at b.address) };
 }
 
 impl<G: Gate + Drop, N: Names<Memory = Global>> Berth<G, N> {

@@ -1,20 +1,22 @@
 //! Clusters: the threads of all nodes, and the seats at them.
-ghost use Rattle.std.specs.Prelude.{ℕ, ◌≡◌, ◌==◌, ◌+◌, ◌≤◌, ◌++◌, false, [], None, Err, IfOk, OnOk, IfErr, OnErr};
+ghost use Rattle.std.specs.Prelude.{ℕ, ◌≡◌, ◌==◌, ◌+◌, ◌++◌, true, false, Some, None, Err, IfOk, OnOk, IfErr, OnErr};
 ghost use Rattle.std.specs.List.{position};
 ghost use Rattle.term.specs.NodeSets.{set_of};
 ghost use Rattle.node_loop.specs.Openings.{start_refused, start_fault_of, IsOpening};
 ghost use Rattle.node_seats.specs.declared.fault.SeatFault.TheVariants.{NoSuchNode};
 ghost use Rattle.node_seats.specs.Faults.{IsSeatRefused};
-ghost use Rattle.node_threads.specs.Closing.{is_torn, CloseIs};
+ghost use Rattle.node_seats.specs.Seats.{first_at};
+ghost use Rattle.replay.specs.Consistent.{is_torn};
+ghost use Rattle.node_threads.specs.Closing.{CloseIs};
 
 use crate::berths::berths_of;
-use crate::crew::{Gathered, end_all, launch_all};
+use crate::crew::{Gathered, end_all, free_seat_of, launch_all};
 use crate::intake::compare_all;
 use crate::running::Running;
 use crate::shared::Shared;
 use name_table::Names;
 use node_loop::{Gate, Opening, StartFault, Transcript};
-use node_seats::{MOST_SEATS, Seat, SeatFault};
+use node_seats::{FreeSeat, MOST_SEATS, Seat, SeatFault};
 use replay::{CloseFault, Closed, replay};
 use std::alloc::{AllocError, Global};
 use std::marker::Model;
@@ -23,8 +25,8 @@ use std::thread::Threads;
 use std::time::Clock;
 use term::NodeName;
 
-/// Owns the threads of all nodes. It can't be dropped: `close` ends it. Contracts see its nodes
-/// and how many seats were made.
+/// Owns the threads of all nodes. It can't be dropped: `close` ends it. Contracts see its nodes, what their threads began with, and
+/// how many seats were made.
 pub struct Cluster<G: Gate + Drop, N: Names> {
     alloc: Global,
     shared: Shared<G>,
@@ -45,7 +47,13 @@ impl<G: Gate + Drop, N: Names> Model for Cluster<G, N> {
 
     ghost Value = { Crewed };
 
-    ghost view = { λ c. record { cluster = c.cluster.items; lone = c.lone.items; seats = c.seats } };
+    ghost view = { λ c. record {
+      cluster = c.cluster.items;
+      lone = c.lone.items;
+      world = nodes_at c.shared.hub.value;
+      crew = c.running.items;
+      seats = c.seats;
+    } };
 
     ghost invariant = { λ c. (start_refused c.cluster.items c.lone.items ≡ None)
         × IsCrew c.cluster.items c.lone.items c.running.items × (c.seats ≤ 64)
@@ -74,7 +82,8 @@ where
     G: Gate + Drop + Send + Sync + 'static,
     N: Names<Memory = Global> + Send + 'static,
 {
-    ghost use Rattle.node_threads.specs.Clusters.{nodes_in, IsAccepted};
+    ghost use Rattle.node_threads.specs.Clusters.{nodes_in, next_seats, LeftAt};
+    ghost use Rattle.node_threads.specs.Wires.{IsCrew};
 
     /// Starts a thread for each node: those of `cluster` are joined with each other, and each of `lone` stands for itself. It is
     /// refused as `World::start` is, in the same order; `Memory` also where a thread can't be had. The gate is held before each
@@ -92,6 +101,8 @@ where
         R: Threads + Wait + Clock + Drop + Copy + Send + 'static,
         ensures cluster { IfOk result (λ made. made.cluster ≡ cluster.now) }
         ensures lone { IfOk result (λ made. made.lone ≡ lone.now) }
+        ensures world { IfOk result (λ made. (n : ℕ) → set_of made.world n ≡ set_of (cluster.now ++ lone.now) n) }
+        ensures crew { IfOk result (λ made. IsCrew cluster.now lone.now made.crew) }
         ensures seats { IfOk result (λ made. made.seats ≡ 0) }
         ensures ok { IfOk result (λ _. start_refused cluster.now lone.now ≡ None) }
         ensures err { IfErr result (λ fault. start_refused cluster.now lone.now ≡ start_fault_of fault) }
@@ -116,6 +127,8 @@ where
         requires opens { IsOpening cluster.now lone.now opening.now }
         ensures cluster { IfOk result (λ made. made.cluster ≡ cluster.now) }
         ensures lone { IfOk result (λ made. made.lone ≡ lone.now) }
+        ensures world { IfOk result (λ made. (n : ℕ) → set_of made.world n ≡ set_of (cluster.now ++ lone.now) n) }
+        ensures crew { IfOk result (λ made. IsCrew cluster.now lone.now made.crew) }
         ensures seats { IfOk result (λ made. made.seats ≡ 0) }
     {
         let shared = Shared::new(alloc, opening.nodes(), gate, yields)?;
@@ -136,12 +149,10 @@ where
     /// A new seat at a node, also at one that has left. Seats are numbered from 0 on as they are made. `NoSuchNode`: the node isn't of
     /// the cluster. `SeatsSpent`: 64 seats were made.
     pub fn seat(&mut self, node: &NodeName) -> Result<Seat, SeatFault>
-        ensures ok { IfOk result (λ seat. seat ≡ record { seat = self.old.seats; node = node.now; nodes = seat.nodes; asked = []; entries = [] }) }
-        ensures cluster { IfOk result (λ seat. (n : ℕ) → set_of seat.nodes n ≡ set_of (nodes_in self.old) n) }
-        ensures made { IfOk result (λ _. self.new.seats ≡ self.old.seats + 1) }
+        ensures ok { IfOk result (λ seat. first_at node.now (next_seats self.old) ≡ Some seat) }
+        ensures made { OnOk result (self.new ≡ record self.old { seats = self.old.seats + 1 }) }
         ensures refused { IfErr result (λ fault. IsSeatRefused fault (set_of (nodes_in self.old) node.now) (self.old.seats)) }
-        ensures unmade { OnErr result (self.new.seats ≡ self.old.seats) }
-        ensures nodes { (self.new.cluster ≡ self.old.cluster) × (self.new.lone ≡ self.old.lone) }
+        ensures unmade { OnErr result (self.new ≡ self.old) }
     {
         let Some(place) = place_of(self.running.as_slice(), node) else {
             return Err(SeatFault::NoSuchNode);
@@ -154,13 +165,29 @@ where
         Ok(Seat::new(self.alloc, caller))
     }
 
-    /// A node leaves. It waits until that is so, behind the hold of the global lock where the node holds it. `NoSuchNode`: the node
-    /// isn't of the cluster. `NodeLeft`: it has left before. `Closed`: its thread ended without a leave.
+    /// A new seat whose node is yet to be chosen, by a line to each. It is numbered as others are. `SeatsSpent`: 64 seats were made.
+    pub fn free_seat(&mut self) -> Result<FreeSeat, SeatFault>
+        ensures ok { IfOk result (λ free. free ≡ next_seats self.old) }
+        ensures made { OnOk result (self.new ≡ record self.old { seats = self.old.seats + 1 }) }
+        ensures refused { IfErr result (λ fault. IsSeatRefused fault true (self.old.seats)) }
+        ensures unmade { OnErr result (self.new ≡ self.old) }
+    {
+        let number = self.seats;
+        if number >= MOST_SEATS {
+            return Err(SeatFault::SeatsSpent);
+        }
+        let running = self.running.as_mut_slice();
+        let free = free_seat_of(self.alloc, running, &self.shared, number)?;
+        self.seats = number + 1;
+        Ok(free)
+    }
+
+    /// A node leaves. It waits until that is so, and the node's log says it, behind the hold of the global lock where the node holds
+    /// it. `NoSuchNode`: the node isn't of the cluster. `NodeLeft`: it has left before. `Closed`: its thread ended without a leave.
     pub fn leave<R: Wait + Clock>(&mut self, rt: &R, node: &NodeName) -> Result<(), SeatFault>
-        ensures seats { self.new.seats ≡ self.old.seats }
-        ensures nodes { (self.new.cluster ≡ self.old.cluster) × (self.new.lone ≡ self.old.lone) }
+        ensures same { self.new ≡ self.old }
         ensures stranger { set_of (nodes_in self.old) node.now ≡ false → result ≡ Err NoSuchNode }
-        ensures accepted { OnOk result (IsAccepted node.now) }
+        ensures left { OnOk result (LeftAt self.old node.now) }
     {
         let Some(place) = place_of(self.running.as_slice(), node) else {
             return Err(SeatFault::NoSuchNode);
@@ -176,7 +203,7 @@ where
         rt: &R,
         transcripts: &[Transcript],
     ) -> Result<Closed<N>, CloseFault>
-        ensures is { CloseIs N.contents self.cluster self.lone transcripts.now result }
+        ensures is { CloseIs N.contents self.cluster self.lone self.crew transcripts.now result }
         ensures whole { IfErr result (λ fault. is_torn fault ≡ false) }
     {
         let Cluster {

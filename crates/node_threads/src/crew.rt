@@ -1,14 +1,18 @@
 //! The threads of all nodes of a cluster: started, and ended.
-ghost use Rattle.std.specs.Prelude.{◌≡◌, ◌++◌, ◌∷◌, [], true, map, IfOk, OnOk, IfSome};
+ghost use Rattle.std.specs.Prelude.{◌≡◌, ◌<◌, ◌++◌, ◌∷◌, [], true, map, IfOk, OnOk, IfSome};
+ghost use Rattle.node_seats.specs.Callers.{nodes_at};
+ghost use Rattle.node_seats.specs.Seats.{new_seat};
+ghost use Rattle.node_threads.specs.Wires.{inboxes};
 ghost use Rattle.node_threads.specs.Berths.{wired_of};
 ghost use Rattle.node_threads.specs.Ended.{AllReturn};
 
 use crate::berth::Berth;
 use crate::intake::Intake;
 use crate::running::{Returned, Running};
+use crate::shared::Shared;
 use name_table::Names;
 use node_loop::{Gate, Item, NodeEnd};
-use node_seats::Line;
+use node_seats::{FreeSeat, Line};
 use std::alloc::{AllocError, Global};
 use std::sync::Wait;
 use std::thread::Threads;
@@ -37,7 +41,7 @@ impl<N: Names<Memory = Global>> Gathered<N> {
         }
     }
 
-    /// One thread more gave this back. Whether there was memory for it.
+    /// One thread more gave this back. Whether there was memory for it: it isn't kept where one of the lists couldn't grow.
     fn add(&mut self, returned: Returned<N>) -> bool
         ensures ends { result ≡ true → self.new.ends.items ≡ self.old.ends.items ++ returned.end ∷ [] }
         ensures rows { result ≡ true → self.new.rows.items ≡ self.old.rows.items ++ returned.lines ∷ [] }
@@ -91,6 +95,27 @@ where
             Err(fault)
         }
     }
+}
+
+/// A seat that may become one at each of these nodes, and finds its replies in this slot.
+pub(crate) fn free_seat_of<G, N>(
+    alloc: Global,
+    running: &mut [Running<N>],
+    shared: &Shared<G>,
+    slot: u32,
+) -> Result<FreeSeat, AllocError>
+where
+    G: Gate + Drop + Send + Sync + 'static,
+    N: Names<Memory = Global> + Send + 'static,
+    requires { slot < 72 }
+    ensures same { running.new ≡ running.old }
+    ensures seats { IfOk result (λ free. free ≡ map (new_seat slot (nodes_at shared.now.hub.value)) (inboxes running.old)) }
+{
+    let mut free = FreeSeat::new(alloc);
+    for one in running.iter_mut() {
+        free.add(one.caller(&shared.hub, slot, shared.yields)?)?;
+    }
+    Ok(free)
 }
 
 /// Asks these threads to end, and waits until all have. Gives what they gave back, where there is memory for it.

@@ -1,7 +1,7 @@
 //! What came into the inboxes of nodes, once their threads have ended.
 ghost use Rattle.std.specs.Prelude.{◌≡◌, ◌<◌, length, map, All};
 ghost use Rattle.link.specs.Mailboxes.{taken, mailbox_room};
-ghost use Rattle.node_threads.specs.Wires.{inbox_at};
+ghost use Rattle.node_seats.specs.Addresses.{inbox_at};
 ghost use Rattle.node_threads.specs.Drawing.{Compares, CompareAll, AllCompared};
 
 use link::Mailbox;
@@ -19,7 +19,7 @@ pub(crate) struct Intake {
 impl Model for Intake {
     ghost use Rattle.std.specs.Prelude.{◌≡◌};
     ghost use Rattle.link.specs.Mailboxes.{taken, mailbox_room};
-    ghost use Rattle.node_threads.specs.Wires.{inbox_at};
+    ghost use Rattle.node_seats.specs.Addresses.{inbox_at};
     ghost use Rattle.node_threads.specs.Drawing.{Drawn};
 
     ghost Value = { Drawn };

@@ -36,8 +36,8 @@ mod shared;
 pub use cluster::Cluster;
 pub use node_loop::{Gate, OpenGate, StartFault};
 pub use node_seats::{
-    Call, HolderSeat, Line, NameList, Nodes, Parcel, Reply, Retries, Seat, SeatFault, StepFault,
-    Transcript,
+    Call, FreeSeat, HolderSeat, Line, NameList, Nodes, Parcel, Reply, Retries, Seat, SeatFault,
+    StepFault, Transcript,
 };
 pub use replay::{CloseFault, Closed};
 pub use ruled_end::{RuledEnd, Traffic};

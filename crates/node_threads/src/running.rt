@@ -2,17 +2,17 @@
 ghost use denote.Param.Send.{IsSend, IsSync};
 ghost use Rattle.std.specs.Prelude.{◌≡◌, IfOk, OnOk};
 ghost use Rattle.node_loop.specs.Coming.{IsLoopOf};
-ghost use Rattle.node_threads.specs.Wires.{inbox_at};
+ghost use Rattle.node_seats.specs.Addresses.{inbox_at};
 ghost use Rattle.node_threads.specs.Starts.{IsAtStart};
 ghost use Rattle.node_threads.specs.Ends.{fixed};
-ghost use Rattle.node_threads.specs.Soundness.{StaysSound, EndsSound};
+ghost use Rattle.node_threads.specs.Soundness.{StaysSound, LastsSound};
 ghost use Rattle.node_threads.specs.Ended.{IsEndOf};
 
 use crate::intake::Intake;
 use crate::ruled_end::RuledEnd;
 use link::Mailbox;
 use name_table::Names;
-use node_loop::{Event, Gate, Item, NodeEnd, NodeLoop, TurnFault};
+use node_loop::{Gate, Item, NodeEnd, NodeLoop, TurnFault};
 use node_seats::{Address, Caller, Host, Hub, Line, Parcel, SeatFault};
 use std::alloc::{AllocError, Global};
 use std::marker::Model;
@@ -57,8 +57,9 @@ pub(crate) struct Running<N: Names> {
 
 impl<N: Names> Model for Running<N> {
     ghost use Rattle.std.specs.Prelude.{◌≡◌};
-    ghost use Rattle.node_seats.specs.Callers.{name_of as asked_node};
-    ghost use Rattle.node_threads.specs.Wires.{Wired, inbox_at};
+    ghost use Rattle.node_seats.specs.Callers.{inbox_of};
+    ghost use Rattle.node_seats.specs.Addresses.{inbox_at};
+    ghost use Rattle.node_threads.specs.Wires.{Wired};
     ghost use Rattle.node_threads.specs.Starts.{IsAtStart};
 
     ghost Value = { Wired };
@@ -70,7 +71,7 @@ impl<N: Names> Model for Running<N> {
     } };
 
     ghost invariant = { λ r. IsAtStart (inbox_at r.address) r.handle.promise.0.value r.handle.promise.1.value.items r.handle.promise.2.value
-        × (asked_node r.caller ≡ r.address.node) };
+        × (inbox_of r.caller ≡ inbox_at r.address) };
 }
 
 /// What a node's thread works with.
@@ -117,7 +118,7 @@ fn turns<G: Gate, N: Names<Memory = Global>, R: Wait + Clock + Drop>(
     requires { IsLoopOf node.old.log.node node.old }
     ensures node { node.new.log.node ≡ node.old.log.node }
     ensures came { IsLoopOf node.old.log.node node.new }
-    ensures sound { EndsSound node.old end.old node.new end.new }
+    ensures sound { LastsSound node.old end.old node.new end.new }
     ensures same { fixed end.new ≡ fixed end.old }
 {
     for _ in rt.forever() {
@@ -193,10 +194,10 @@ where
 
 impl<N: Names<Memory = Global> + Send + 'static> Running<N> {
     ghost use Rattle.std.specs.Prelude.{◌<◌, []};
-    ghost use Rattle.node_seats.specs.Callers.{name_of as asked_node, slot_of, nodes_of, nodes_at, asked_by};
+    ghost use Rattle.node_seats.specs.Callers.{inbox_of, slot_of, nodes_of, nodes_at, asked_by};
     ghost use Rattle.node_threads.specs.Wires.{name_of};
     ghost use Rattle.node_threads.specs.Ended.{Returns};
-    ghost use Rattle.node_threads.specs.Clusters.{IsAccepted};
+    ghost use Rattle.node_threads.specs.Clusters.{LeftAsAsked};
 
     /// Starts the thread of a node. What it works with is the node's, which is at its start.
     pub(crate) fn start<G, R>(
@@ -209,7 +210,7 @@ impl<N: Names<Memory = Global> + Send + 'static> Running<N> {
         G: Gate + Drop + Send + Sync + 'static,
         R: Threads + Wait + Clock + Drop + Copy + Send + 'static,
         requires start { IsAtStart (inbox_at address) work.node work.lines.items work.mailbox }
-        requires asks { asked_node caller ≡ address.node }
+        requires asks { inbox_of caller ≡ inbox_at address }
         ensures { IfOk result (λ running. running ≡ record { inbox = inbox_at address; core = work.node.core; lines = work.lines.items }) }
     {
         let handle = spawn(rt, work)?;
@@ -236,7 +237,7 @@ impl<N: Names<Memory = Global> + Send + 'static> Running<N> {
     ) -> Result<Caller, AllocError>
         requires { slot < 72 }
         ensures slot { IfOk result (λ caller. slot_of caller ≡ slot) }
-        ensures asks { IfOk result (λ caller. asked_node caller ≡ name_of self.old) }
+        ensures asks { IfOk result (λ caller. inbox_of caller ≡ self.old.inbox) }
         ensures nodes { IfOk result (λ caller. nodes_of caller ≡ nodes_at hub.now.value) }
         ensures unasked { IfOk result (λ caller. asked_by caller ≡ []) }
         ensures node { self.new ≡ self.old }
@@ -244,13 +245,12 @@ impl<N: Names<Memory = Global> + Send + 'static> Running<N> {
         self.caller.another(hub, &mut self.address, slot, yields)
     }
 
-    /// Asks the node to leave, in the name of the cluster, and waits until it has.
+    /// Asks the node to leave, in the name of the cluster, and waits until it has, as its log then says.
     pub(crate) fn leave<R: Wait + Clock>(&mut self, rt: &R) -> Result<(), SeatFault>
         ensures node { self.new ≡ self.old }
-        ensures accepted { OnOk result (IsAccepted (name_of self.old)) }
+        ensures left { OnOk result (LeftAsAsked self.old.inbox) }
     {
-        self.caller.ask(rt, Event::Leave)?;
-        Ok(())
+        self.caller.leave(rt)
     }
 
     /// Asks the threads of the cluster to end, and wakes this one.

@@ -6,5 +6,5 @@ use Rattle.node_seats.proofs.caller.Caller.ask.Goals as goal
 
 pub returns-clause-told : goal.returns-clause-told
 returns-clause-told g c =
-    told_on (λ answer. IsToldTo (name_of c.args.self.now) (ticket_of c.args.self.now) (Ok answer)) c.ask_node.result
+    told_on (λ effect. IsToldTo (name_of c.args.self.now) (ticket_of c.args.self.now) (Ok effect)) c.ask_node.result
     c.known_outcome.result c.known_outcome.ensures.told c.ask_node.ensures.told

@@ -1,8 +1,9 @@
-use Rattle.std.proofs.Common.{◌≡◌, ◌∙◌, Some, Ok, List, [], ◌∷◌, ◌++◌, sym, ap}
+use Rattle.std.proofs.Common.{◌∙◌, Some, Ok, List, [], ◌∷◌, ◌++◌, sym, ap}
 use Rattle.node_loop.specs.declared.Call.{Call}
 use Rattle.node_loop.specs.declared.Event.TheVariants.{Call as Calls}
 use Rattle.node_loop.specs.declared.WorldEvent.TheVariants.{At}
 use Rattle.node_loop.specs.declared.SeatEntry.{SeatEntry}
+use Rattle.node_loop.specs.declared.replies.Effect.TheVariants.{Answered as IsAnswer}
 use Rattle.node_seats.specs.Seats.{Sitting}
 use Rattle.node_seats.proofs.Sittings.{answered_so, grown}
 use Rattle.node_seats.proofs.seat.Seat.call.Goals as goal
@@ -10,12 +11,12 @@ use Rattle.node_seats.proofs.seat.Seat.call.Goals as goal
 pub returns-clause-ok : goal.returns-clause-ok
 returns-clause-ok g c = record {
   answer = c.in_ok-answer.answer;
-  told = answered_so c.self.inside.caller c.self.inside.entries.items c.args.self.now c.self.view_is (Ok (Some c.in_ok-answer.answer))
+  told = answered_so c.self.inside.caller c.self.inside.entries.items c.args.self.now c.self.view_is (Ok (IsAnswer c.in_ok-answer.answer))
       c.in_ok-answer.ensures.told;
   says = sym c.in_ok-reply.ensures.copy;
-  kept = grown c.self.inside.caller c.self.inside.entries.items c.args.self.now c.self.view_is c.ask_call.new.caller
+  kept = grown c.self.inside.caller c.self.inside.entries.items c.args.self.now c.self.view_is c.call.new.self
       c.push_reserved.new.self.items (Calls c.args.call) c.event-event.result (Some c.in_ok-answer.answer)
-      c.in_ok-answer.ensures.slot c.in_ok-answer.ensures.node c.in_ok-answer.ensures.nodes c.in_ok-answer.ensures.asked
+      c.in_ok-answer.ensures.slot c.in_ok-answer.ensures.inbox c.in_ok-answer.ensures.nodes c.in_ok-answer.ensures.asked
       (c.event-event.ensures ∙ ap (λ (s : Sitting). At s.node (Calls c.in_ok-copied_call.field-0)) (sym c.self.view_is)
       ∙ ap (λ (k : Call). At c.self.inside.caller.node (Calls k)) c.in_ok-copied_call.ensures)
       (c.push_reserved.ensures.items

@@ -1,23 +1,21 @@
-use Rattle.std.proofs.Common.{ℕ, ◌≡◌, ◌∙◌, None, Ok, List, [], ◌∷◌, ◌++◌, ap}
+use Rattle.std.proofs.Common.{ℕ, ◌∙◌, None, Ok, List, [], ◌∷◌, ◌++◌, ap}
 use Rattle.registry_model.specs.Process.{Process}
 use Rattle.node_loop.specs.declared.Event.TheVariants.{Exit}
 use Rattle.node_loop.specs.declared.WorldEvent.TheVariants.{At}
 use Rattle.node_loop.specs.declared.SeatEntry.{SeatEntry}
-use Rattle.node_seats.specs.Callers.{asked_by}
+use Rattle.node_loop.specs.declared.replies.Effect.TheVariants.{Made}
 use Rattle.node_seats.proofs.Sittings.{answered_so, grown}
 use Rattle.node_seats.proofs.seat.Seat.exit.Goals as goal
 
 pub returns-clause-ok : goal.returns-clause-ok
 returns-clause-ok g c = record {
-  answer = c.in_ok-ask.field-0;
-  told = answered_so c.self.inside.caller c.self.inside.entries.items c.args.self.now c.self.view_is (Ok c.in_ok-ask.field-0)
-      c.in_ok-ask.ensures.told;
-  kept = grown c.self.inside.caller c.self.inside.entries.items c.args.self.now c.self.view_is c.ask.new.self
-      c.push_reserved.new.self.items (Exit c.args.process.now) c.event-event.result None c.in_ok-ask.ensures.slot
-      c.in_ok-ask.ensures.node c.in_ok-ask.ensures.nodes
-      (c.in_ok-ask.ensures.asked ∙ ap (λ (p : Process). asked_by c.self.inside.caller ++ Exit p ∷ []) c.copy.ensures)
-      (c.event-event.ensures ∙ ap (λ (n : ℕ). At n (Exit c.copy-2.result)) c.in_ok-ask.ensures.node
-      ∙ ap (λ (p : Process). At c.self.inside.caller.node (Exit p)) c.copy-2.ensures)
+  told = answered_so c.self.inside.caller c.self.inside.entries.items c.args.self.now c.self.view_is (Ok Made)
+      c.in_ok-exit.ensures.told;
+  kept = grown c.self.inside.caller c.self.inside.entries.items c.args.self.now c.self.view_is c.exit.new.self
+      c.push_reserved.new.self.items (Exit c.args.process.now) c.event-event.result None c.in_ok-exit.ensures.slot
+      c.in_ok-exit.ensures.inbox c.in_ok-exit.ensures.nodes c.in_ok-exit.ensures.asked
+      (c.event-event.ensures ∙ ap (λ (n : ℕ). At n (Exit c.copy.result)) c.in_ok-exit.ensures.node
+      ∙ ap (λ (p : Process). At c.self.inside.caller.node (Exit p)) c.copy.ensures)
       (c.push_reserved.ensures.items ∙ ap (λ (l : List SeatEntry). l ++ record { event = c.event-event.result; answer = None } ∷ [])
       c.reserve.ensures.items);
 }

@@ -1,19 +1,19 @@
-use Rattle.std.proofs.Common.{ℕ, ◌≡◌, ◌∙◌, None, Ok, List, [], ◌∷◌, ◌++◌, ap}
+use Rattle.std.proofs.Common.{ℕ, ◌∙◌, None, Ok, List, [], ◌∷◌, ◌++◌, ap}
 use Rattle.node_loop.specs.declared.Event.TheVariants.{Leave}
 use Rattle.node_loop.specs.declared.WorldEvent.TheVariants.{At}
 use Rattle.node_loop.specs.declared.SeatEntry.{SeatEntry}
+use Rattle.node_loop.specs.declared.replies.Effect.TheVariants.{Left}
 use Rattle.node_seats.proofs.Sittings.{answered_so, grown}
 use Rattle.node_seats.proofs.seat.Seat.leave.Goals as goal
 
 pub returns-clause-ok : goal.returns-clause-ok
 returns-clause-ok g c = record {
-  answer = c.in_ok-ask.field-0;
-  told = answered_so c.self.inside.caller c.self.inside.entries.items c.args.self.now c.self.view_is (Ok c.in_ok-ask.field-0)
-      c.in_ok-ask.ensures.told;
-  kept = grown c.self.inside.caller c.self.inside.entries.items c.args.self.now c.self.view_is c.ask.new.self
-      c.push_reserved.new.self.items Leave c.event-event.result None c.in_ok-ask.ensures.slot c.in_ok-ask.ensures.node
-      c.in_ok-ask.ensures.nodes c.in_ok-ask.ensures.asked
-      (c.event-event.ensures ∙ ap (λ (n : ℕ). At n Leave) c.in_ok-ask.ensures.node)
+  told = answered_so c.self.inside.caller c.self.inside.entries.items c.args.self.now c.self.view_is (Ok Left)
+      c.in_ok-leave.ensures.told;
+  kept = grown c.self.inside.caller c.self.inside.entries.items c.args.self.now c.self.view_is c.leave.new.self
+      c.push_reserved.new.self.items Leave c.event-event.result None c.in_ok-leave.ensures.slot c.in_ok-leave.ensures.inbox
+      c.in_ok-leave.ensures.nodes c.in_ok-leave.ensures.asked
+      (c.event-event.ensures ∙ ap (λ (n : ℕ). At n Leave) c.in_ok-leave.ensures.node)
       (c.push_reserved.ensures.items ∙ ap (λ (l : List SeatEntry). l ++ record { event = c.event-event.result; answer = None } ∷ [])
       c.reserve.ensures.items);
 }

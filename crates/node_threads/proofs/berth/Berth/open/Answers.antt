@@ -26,5 +26,5 @@ invariant_of-result g c =
         empty = c.in_ok-address.ensures.empty;
         fresh = ap (map unused) c.new-2.ensures.items ∙ sym c.new-2.ensures.items;
       },
-      c.in_ok-address.ensures.node ∙ c.copy.ensures ∙ sym named,
+      c.in_ok-address.ensures.inbox,
     )

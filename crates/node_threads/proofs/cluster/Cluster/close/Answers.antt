@@ -8,11 +8,11 @@ use Rattle.node_loop.specs.Openings.{repeats}
 use Rattle.node_seats.specs.Lines.{Sent}
 use Rattle.node_threads.specs.Clusters.{Crewed}
 use Rattle.node_threads.specs.Drawing.{Drawn, AllCompared}
-use Rattle.node_threads.specs.Closing.{end_of, CloseIs}
+use Rattle.node_threads.specs.Closing.{CloseIs}
+use Rattle.node_threads.specs.Ended.{end_of}
 use Rattle.node_threads.proofs.Closing.{closes, never_torn}
 use Rattle.node_threads.proofs.Comparing.{rows_lead}
 use Rattle.node_threads.proofs.Consistency.{consistent, ends_names}
-use Rattle.node_threads.proofs.Gathering.{left_all}
 use Rattle.node_threads.proofs.Opening.{once}
 use Rattle.node_threads.proofs.cluster.Cluster.close.Goals as goal
 
@@ -50,16 +50,16 @@ returns-clause-is g c =
     let rows : List (List (Sent Item)) = map (λ row. row.items) c.in-Some.field-0.rows.items in
     let compared : AllCompared rows c.in-Some.field-0.intakes.items =
     subst (AllCompared rows) c.as_mut_slice.ensures.value c.compare_all.ensures.compared in
-    subst (λ (k : Crewed). CloseIs g.N.Names.contents k.cluster k.lone c.args.transcripts.now c.replay.result) c.self.view_is
-    (closes g.N.Names.contents c.self.inside.cluster.items c.self.inside.lone.items c.args.transcripts.now c.in-Some.field-0.ends.items
+    subst (λ (k : Crewed). CloseIs g.N.Names.contents k.cluster k.lone k.crew c.args.transcripts.now c.replay.result) c.self.view_is
+    (closes g.N.Names.contents c.self.inside.cluster.items c.self.inside.lone.items c.self.inside.running.items c.args.transcripts.now
+    c.in-Some.field-0.ends.items
     (consistent g.N.Names.contents c.self.inside.cluster.items c.self.inside.lone.items c.self.inside.running.items
     c.in-Some.field-0.ends.items rows c.in-Some.field-0.intakes.items c.self.invariant.1 c.in-Some.ensures compared singles)
     c.as_slice.result.now c.as_slice-2.result.now c.as_slice-3.result.now c.as_slice.ensures.value c.as_slice-2.ensures.value
-    c.as_slice-3.ensures.value c.replay.result
+    c.as_slice-3.ensures.value c.replay.result rows c.in-Some.field-0.intakes.items c.in-Some.ensures compared
     (ends_names g.N.Names.contents c.self.inside.cluster.items c.self.inside.lone.items c.self.inside.running.items
     c.in-Some.field-0.ends.items rows c.in-Some.field-0.intakes.items c.self.invariant.1 c.in-Some.ensures compared singles)
-    (left_all g.N.Names.contents c.self.inside.running.items c.in-Some.field-0.ends.items rows c.in-Some.field-0.intakes.items
-    c.in-Some.ensures) c.replay.ensures.ok c.replay.ensures.refused)
+    c.replay.ensures.ok c.replay.ensures.refused)
 
 pub returns-clause-whole : goal.returns-clause-whole
 returns-clause-whole g c =
@@ -68,7 +68,8 @@ returns-clause-whole g c =
     let rows : List (List (Sent Item)) = map (λ row. row.items) c.in-Some.field-0.rows.items in
     let compared : AllCompared rows c.in-Some.field-0.intakes.items =
     subst (AllCompared rows) c.as_mut_slice.ensures.value c.compare_all.ensures.compared in
-    never_torn g.N.Names.contents c.self.inside.cluster.items c.self.inside.lone.items c.args.transcripts.now c.in-Some.field-0.ends.items
+    never_torn g.N.Names.contents c.self.inside.cluster.items c.self.inside.lone.items c.self.inside.running.items c.args.transcripts.now
+    c.in-Some.field-0.ends.items
     (consistent g.N.Names.contents c.self.inside.cluster.items c.self.inside.lone.items c.self.inside.running.items
     c.in-Some.field-0.ends.items rows c.in-Some.field-0.intakes.items c.self.invariant.1 c.in-Some.ensures compared singles)
     c.as_slice.result.now c.as_slice-2.result.now c.as_slice-3.result.now c.as_slice.ensures.value c.as_slice-2.ensures.value

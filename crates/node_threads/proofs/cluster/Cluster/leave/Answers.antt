@@ -1,18 +1,34 @@
-use Rattle.std.proofs.Common.{ℕ, sym, ap, subst, ◌∙◌}
-use Rattle.std.specs.Prelude.{OnOk}
-use Rattle.node_threads.specs.Clusters.{IsAccepted}
+use Rattle.std.proofs.Common.{◌==◌, sym, ap, ◌∙◌}
+use Rattle.std.specs.List.{position}
+use Rattle.node_seats.specs.Callers.{nodes_at}
+use Rattle.node_threads.specs.Clusters.{LeftAsAsked, LeftAt}
 use Rattle.node_threads.specs.Wires.{name_of}
-use Rattle.node_threads.proofs.Rows.{crew_known, stands}
+use Rattle.node_threads.proofs.Rows.{crew_known, inbox_is, on_ok}
 use Rattle.node_threads.proofs.cluster.Cluster.leave.Goals as goal
 
 pub returns-clause-stranger : goal.returns-clause-stranger
-returns-clause-stranger g c = λ e. absurd (cc (sym (crew_known c.args.node.now c.as_slice.result.now c.self.inside.running.items (record { cluster = c.self.inside.cluster.items; lone = c.self.inside.lone.items; seats = c.self.inside.seats }) c.args.self.now
+returns-clause-stranger g c = λ e. absurd (cc (sym (crew_known c.args.node.now c.as_slice.result.now c.self.inside.running.items (record {
+      cluster = c.self.inside.cluster.items;
+      lone = c.self.inside.lone.items;
+      world = nodes_at c.self.inside.shared.hub.value;
+      crew = c.self.inside.running.items;
+      seats = c.self.inside.seats;
+    }) c.args.self.now
     c.place_of.result c.place_of.ensures c.as_slice.ensures.value c.self.invariant.1 c.self.view_is
     c.in-Some.place c.in-Some.is) ∙ e))
 
-pub returns-clause-accepted : goal.returns-clause-accepted
-returns-clause-accepted g c = subst (λ (n : ℕ). OnOk c.leave.result (IsAccepted n))
-    (ap name_of c.index_mut.ensures.value
-    ∙ stands c.args.node.now c.as_slice.result.now c.self.inside.running.items (record { cluster = c.self.inside.cluster.items; lone = c.self.inside.lone.items; seats = c.self.inside.seats }) c.args.self.now
-    c.place_of.result c.place_of.ensures c.as_slice.ensures.value c.self.invariant.1 c.self.view_is
-    c.in-Some.place _ c.in-Some.is) c.leave.ensures.accepted
+pub returns-clause-left : goal.returns-clause-left
+returns-clause-left g c = on_ok c.leave.result (LeftAsAsked c.index_mut.result.now.inbox) (LeftAt c.args.self.now c.args.node.now)
+    (λ left. record {
+      inbox = c.index_mut.result.now.inbox;
+      at = inbox_is c.args.node.now (record {
+      cluster = c.self.inside.cluster.items;
+      lone = c.self.inside.lone.items;
+      world = nodes_at c.self.inside.shared.hub.value;
+      crew = c.self.inside.running.items;
+      seats = c.self.inside.seats;
+    }) c.args.self.now c.in-Some.place
+          (sym (c.place_of.ensures ∙ ap (position (λ w. name_of w == c.args.node.now)) c.as_slice.ensures.value) ∙ c.in-Some.is) c.self.view_is c.index_mut.result.now
+          c.index_mut.ensures.value;
+      left = left;
+    }) c.leave.ensures.left

@@ -23,3 +23,9 @@ returns-clause-cluster g c = c.in_ok-joined.ensures
 
 pub returns-clause-lone : goal.returns-clause-lone
 returns-clause-lone g c = c.in_ok-others.ensures
+
+pub returns-clause-world : goal.returns-clause-world
+returns-clause-world g c = λ n. ap (λ (ns : List ℕ). set_of ns n) (c.in_ok-shared.ensures ∙ c.nodes.ensures.nodes) ∙ c.requires.opens.nodes n
+
+pub returns-clause-crew : goal.returns-clause-crew
+returns-clause-crew g c = subst (IsCrew c.args.cluster.now c.args.lone.now) (sym c.in_ok-running.ensures) c.in_ok-berths.ensures

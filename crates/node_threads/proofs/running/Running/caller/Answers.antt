@@ -1,5 +1,5 @@
 use Rattle.std.proofs.Common.{◌≡◌, sym, ap, subst, ◌∙◌}
-use Rattle.node_threads.specs.Wires.{Inbox, inbox_at}
+use Rattle.node_seats.specs.Addresses.{Inbox, inbox_at}
 use Rattle.node_threads.specs.Starts.{IsAtStart}
 use Rattle.node_threads.proofs.running.Running.caller.Goals as goal
 
@@ -9,7 +9,7 @@ invariant_of-self g c =
     λ j. record { node = sym c.another.ensures.same j; room = sym c.another.ensures.room j } in (
       subst (λ (b : Inbox). IsAtStart b c.self.inside.handle.promise.0.value c.self.inside.handle.promise.1.value.items c.self.inside.handle.promise.2.value)
           same c.self.invariant.0,
-      c.self.invariant.1 ∙ sym c.another.ensures.same,
+      c.self.invariant.1 ∙ same,
     )
 
 pub returns-clause-node : goal.returns-clause-node

@@ -1,4 +1,4 @@
-use Rattle.node_threads.specs.Wires.{inbox_at}
+use Rattle.node_seats.specs.Addresses.{inbox_at}
 use Rattle.node_threads.proofs.Starting.{returns_so}
 use Rattle.node_threads.proofs.running.Running.join.Goals as goal
 

@@ -1,0 +1,301 @@
+-- Where the owner of a leave is told that the node has left, the node's log has its leave: a loop's moves keep it so.
+use Rattle.std.proofs.Common.{◌≡◌, ℕ, zero, suc, Bool, true, false, Option, Some, None, Ok, Err, List, [], ◌∷◌, ◌++◌, map, flat_map, refl, sym, ap, subst, ◌∙◌, inl, inr, eq-eqb}
+use Rattle.std.specs.Prelude.{Result, MatchBool, MatchResult, if◌then◌else◌, ◌||◌, ◌-◌}
+use Rattle.std.specs.List.{list_any}
+use Rattle.std.proofs.lemmas.Bool.{and_from, or_from, or_left, or_right, false≢true}
+use Rattle.std.proofs.lemmas.List.Folds.{list_any-append, list_any_at}
+use Rattle.registry_model.specs.Process.{Process}
+use Rattle.protocol_model.specs.Event.{Answer as AnyAnswer}
+use Rattle.node_log.specs.declared.Answer.{Answer}
+use Rattle.node_log.specs.declared.Event.{Event}
+use Rattle.node_log.specs.declared.Event.TheVariants.{Retry}
+use Rattle.node_log.specs.Entries.{Entry}
+use Rattle.node_log.specs.Events.{is_leave as leaves_by, knows_contact}
+use Rattle.node_log.specs.NodeEventsSeen.{answer_of}
+use Rattle.node_log.specs.NodeCoreHeld.{Held}
+use Rattle.node_log.specs.Openings.{opening_core}
+use Rattle.node_loop.specs.declared.item.Item.{Item}
+use Rattle.node_loop.specs.declared.item.Item.TheVariants as item
+use Rattle.node_loop.specs.declared.item.Ticket.{Ticket}
+use Rattle.node_loop.specs.declared.replies.TaskFault.{TaskFault}
+use Rattle.node_loop.specs.declared.fault.TurnFault.{TurnFault}
+use Rattle.node_loop.specs.declared.fault.TurnFault.TheVariants.{StampsSpent, Memory}
+use Rattle.node_loop.specs.declared.waiting.Caller.{Caller}
+use Rattle.node_loop.specs.declared.waiting.Course.{Course}
+use Rattle.node_loop.specs.declared.waiting.Course.TheVariants.{AtOnce, Accepted, Numbered, OfHolder}
+use Rattle.node_loop.specs.Told.{Came, Answered, Made, Left, Told, tell}
+use Rattle.node_loop.specs.Waiting.{is_dropped}
+use Rattle.node_loop.specs.Desks.{Kept, Begins, addressee, answered, all_answered, dead_told, drop_told, acceptance, awaiting, settled, left_by}
+use Rattle.node_loop.specs.Held.{Looping, Written, is_due, is_free_to_leave, can_step}
+use Rattle.node_loop.specs.Steps.{Cause, Outcome, by_event, by_letter, entry_of, desk_of, Makes, Rests, Begun, Ends, Goes}
+use Rattle.node_loop.specs.Items.{Refuses, WaitsToLeave, Asks, Accepts, Handles, by_leave, Departs, Leaves, Then, Hears, Works, Idles}
+use Rattle.node_loop.specs.Coming.{Turns, HandsOut, ComesBy, IsLoopOf}
+use Rattle.node_loop.specs.Left.{is_leave_of, logs_leave, told_left, LeavesAreLogged}
+
+-- by this outcome the node has left
+abbrev says_left : Result Came TaskFault → Bool
+says_left (Ok Left) = true
+says_left _ = false
+
+-- a reply says so
+abbrev tells_left : Told → Bool
+tells_left told = says_left told.outcome
+
+-- one of these replies does
+abbrev some_left : List Told → Bool
+some_left replies = list_any tells_left replies
+
+-- where none of those behind does, one of those before does
+before : (told more : List Told) → some_left more ≡ false → some_left (told ++ more) ≡ true → some_left told ≡ true
+before told more silent t = go (some_left told) (some_left more) silent (sym (list_any-append tells_left told more) ∙ t)
+  where
+    go : (x y : Bool) → y ≡ false → (x || y) ≡ true → x ≡ true
+    go true y e h = refl
+    go false y e h = cc
+
+-- what a beginning says, the whole does
+on_beginning : (some whole : List Told) → Begins some whole → some_left some ≡ true → some_left whole ≡ true
+on_beginning some whole h t =
+    ap (λ (l : List Told). some_left l) h.1 ∙ (list_any-append tells_left some h.0 ∙ or_left (some_left some) (some_left h.0) t)
+
+-- what is told with another outcome doesn't say so
+silent_tell : (t : Option Ticket) (outcome : Result Came TaskFault) → says_left outcome ≡ false → some_left (tell t outcome) ≡ false
+silent_tell None outcome e = refl
+silent_tell (Some t) outcome e = or_from (says_left outcome) false e refl
+
+silent_each : {A : Type 0} (f : A → List Told) → ((x : A) → some_left (f x) ≡ false) → (xs : List A) → some_left (flat_map f xs) ≡ false
+silent_each f silent [] = refl
+silent_each f silent (x ∷ xs) =
+    list_any-append tells_left (f x) (flat_map f xs)
+    ∙ or_from (some_left (f x)) (some_left (flat_map f xs)) (silent x) (silent_each f silent xs)
+
+silent_drop : (h : Held) (c : Caller) → some_left (drop_told h c) ≡ false
+silent_drop h c = go (is_dropped h c) c.holder
+  where
+    go : (dropped : Bool) (holder : Option Process) → some_left (if dropped then dead_told holder c.ticket else []) ≡ false
+    go true None = refl
+    go true (Some p) = refl
+    go false holder = refl
+
+silent_acceptance : (course : Course) (own : Option Ticket) → some_left (acceptance course own) ≡ false
+silent_acceptance AtOnce own = refl
+silent_acceptance Accepted own = silent_tell own (Ok Made) refl
+silent_acceptance Numbered own = refl
+silent_acceptance (OfHolder p) own = refl
+
+-- nor do answers
+behind_answers : (own : Option Ticket) (answers : List AnyAnswer) (k : Kept) → some_left (all_answered own answers k).replies ≡ true
+    → some_left k.replies ≡ true
+behind_answers own [] k t = t
+behind_answers own (a ∷ rest) k t =
+    before k.replies (tell (addressee own k.calls a) (Ok (Answered a))) (silent_tell (addressee own k.calls a) (Ok (Answered a)) refl)
+    (behind_answers own rest (answered own a k) t)
+
+-- nor does what is told of a step
+behind_step : (course : Course) (own : Option Ticket) (h : Held) (answers : List Answer) (k : Kept)
+    → some_left (settled course own h answers k).replies ≡ true → some_left k.replies ≡ true
+behind_step course own h answers k t =
+    before k.replies (acceptance course own) (silent_acceptance course own)
+    (behind_answers own (map answer_of answers) (awaiting course h.last_call own k)
+    (before told.replies (flat_map (drop_told h) told.calls) (silent_each (drop_told h) (silent_drop h) told.calls) t))
+  where
+    told : Kept
+    told = all_answered own (map answer_of answers) (awaiting course h.last_call own k)
+
+-- a leave stays in a log that gets an entry more
+stays : (a b : Written) (e : Entry) → b ≡ record a { entries = a.entries ++ e ∷ [] } → logs_leave a ≡ true → logs_leave b ≡ true
+stays a b e is t =
+    ap (λ (l : Written). logs_leave l) is
+    ∙ (list_any-append (λ (x : Entry). is_leave_of a.node x.event) a.entries (e ∷ []) ∙ or_left (logs_leave a) _ t)
+
+-- it stands there where the entry is one
+stands : (a b : Written) (e : Entry) → b ≡ record a { entries = a.entries ++ e ∷ [] } → is_leave_of a.node e.event ≡ true
+    → logs_leave b ≡ true
+stands a b e is t =
+    ap (λ (l : Written). logs_leave l) is
+    ∙ (list_any-append (λ (x : Entry). is_leave_of a.node x.event) a.entries (e ∷ [])
+    ∙ or_right (logs_leave a) _ (or_left (is_leave_of a.node e.event) false t))
+
+-- the log is the node's own, and has its leave where a reply says that it has left
+record Logs (b : Looping) : Type 0 where
+  named : b.log.node ≡ b.core.name
+  leave : some_left b.desk.replies ≡ true → logs_leave b.log ≡ true
+
+module _ (k : Cause) (a b : Looping) (h : Logs a) where
+  still_named : (answers : List Answer) → b.log ≡ record a.log { entries = a.log.entries ++ entry_of k a answers ∷ [] }
+      → b.core.name ≡ a.core.name → b.log.node ≡ b.core.name
+  still_named answers log name = ap (λ (l : Written). l.node) log ∙ (h.named ∙ sym name)
+
+  makes : Makes k a b → Logs b
+  makes M = record {
+    named = still_named M.turn.answers M.log M.step.name;
+    leave = λ t. stays a.log b.log (entry_of k a M.turn.answers) M.log
+        (h.leave (behind_step k.course k.own b.core M.turn.answers a.desk (ap (λ (d : Kept). some_left d.replies) (sym M.desk) ∙ t)));
+  }
+
+  rests : Rests a b → Logs b
+  rests R = subst Logs (sym R.others) (record { named = h.named ∙ sym R.core.name; leave = h.leave })
+
+  begun : Begun k (desk_of k a) a b → Logs b
+  begun B = record {
+    named = still_named B.turn.answers B.log B.step.name;
+    leave = λ t. stays a.log b.log (entry_of k a B.turn.answers) B.log
+        (h.leave (behind_step k.course k.own b.core B.turn.answers a.desk
+        (on_beginning b.desk.replies (desk_of k a b.core B.turn.answers).replies B.replies t)));
+  }
+
+  ends : (why : TurnFault) → Ends why k (desk_of k a) a b → Logs b
+  ends StampsSpent E = subst Logs (sym E.1) h
+  ends Memory E = elim E.1 [ inl R ↦ rests R | inr B ↦ begun B ]
+
+  goes : (r : Outcome) → Goes k a r b → Logs b
+  goes (Ok u) M = makes M
+  goes (Err why) E = ends why E
+
+refuses : (a b : Looping) → Logs a → (ticket : Option Ticket) (fault : TaskFault) (r : Outcome) → Refuses ticket fault a r b → Logs b
+refuses a b h ticket fault (Ok u) e = subst Logs (sym e) (record {
+  named = h.named;
+  leave = λ t. h.leave (before a.desk.replies (tell ticket (Err fault)) (silent_tell ticket (Err fault) refl) t);
+})
+refuses a b h ticket fault (Err why) e = subst Logs (sym e.1) h
+
+waits : (a b : Looping) → Logs a → (ticket : Option Ticket) (r : Outcome) → WaitsToLeave ticket a r b → Logs b
+waits a b h ticket (Ok u) e = subst Logs (sym e) (record { named = h.named; leave = h.leave })
+waits a b h ticket (Err why) e = subst Logs (sym e.1) h
+
+asks : (a b : Looping) → Logs a → (ticket : Option Ticket) (e : Event) (r : Outcome) → Asks ticket e a r b → Logs b
+asks a b h ticket e r (inl g) = goes (by_event ticket e a) a b h r g
+asks a b h ticket e r (inr x) = refuses a b h ticket _ r x.3
+
+accepts : (a b : Looping) → Logs a → (ticket : Option Ticket) (e : Event) (r : Outcome) → Accepts ticket e a r b → Logs b
+accepts a b h ticket e r x = at_contact (knows_contact a.world e) x
+  where
+    at_leave : (leaves : Bool) → MatchBool leaves (WaitsToLeave ticket a r b) (Asks ticket e a r b) → Logs b
+    at_leave true x = waits a b h ticket r x
+    at_leave false x = asks a b h ticket e r x
+
+    at_left : (left : Bool)
+        → MatchBool left (Refuses ticket TaskFault.NodeLeft a r b)
+        (MatchBool (leaves_by e) (WaitsToLeave ticket a r b) (Asks ticket e a r b)) → Logs b
+    at_left true x = refuses a b h ticket _ r x
+    at_left false x = at_leave (leaves_by e) x
+
+    at_contact : (knows : Bool)
+        → MatchBool knows
+        (MatchBool a.left (Refuses ticket TaskFault.NodeLeft a r b)
+        (MatchBool (leaves_by e) (WaitsToLeave ticket a r b) (Asks ticket e a r b)))
+        (Refuses ticket TaskFault.NoSuchNode a r b) → Logs b
+    at_contact true x = at_left a.left x
+    at_contact false x = refuses a b h ticket _ r x
+
+handles : (a b : Looping) → Logs a → (from : ℕ) (i : Item) (r : Outcome) → Handles from i a r b → Logs b
+handles a b h from (item.Letter l) r x = at_left a.left x
+  where
+    at_left : (left : Bool) → MatchBool left ((r ≡ Ok tt) × (b ≡ a)) (Goes (by_letter from l a) a r b) → Logs b
+    at_left true x = subst Logs (sym x.1) h
+    at_left false x = goes (by_letter from l a) a b h r x
+handles a b h from (item.Task t) r x = accepts a b h t.ticket t.event r x
+
+-- where a leave is tried, only its step adds a reply that says so, and that step is logged
+leaves : (a b : Looping) → Logs a → (r : Outcome) → Leaves a r b → Logs b
+leaves a b h r x = at_free (is_free_to_leave a) r x
+  where
+    own : (answers : List Answer) → is_leave_of a.log.node (entry_of (by_leave a) a answers).event ≡ true
+    own answers = and_from _ true (eq-eqb a.core.name a.log.node (sym h.named)) refl
+
+    departs : Departs a b → Logs b
+    departs D = subst Logs (sym D.behind) (record {
+      named = still_named (by_leave a) a D.stepped h D.step.turn.answers D.step.log D.step.step.name;
+      leave = λ t. stands a.log D.stepped.log (entry_of (by_leave a) a D.step.turn.answers) D.step.log (own D.step.turn.answers);
+    })
+
+    ends_so : (why : TurnFault) → Ends why (by_leave a) (λ core answers. left_by (desk_of (by_leave a) a core answers)) a b → Logs b
+    ends_so StampsSpent E = subst Logs (sym E.1) h
+    ends_so Memory E = elim E.1 [
+      | inl R ↦ rests (by_leave a) a b h R
+      | inr B ↦ record {
+        named = still_named (by_leave a) a b h B.turn.answers B.log B.step.name;
+        leave = λ t. stands a.log b.log (entry_of (by_leave a) a B.turn.answers) B.log (own B.turn.answers);
+      }
+    ]
+
+    at_free : (free : Bool) (r : Outcome)
+        → MatchBool free
+        (MatchResult r (λ _. Departs a b)
+        (λ why. Ends why (by_leave a) (λ core answers. left_by (desk_of (by_leave a) a core answers)) a b))
+        ((r ≡ Ok tt) × (b ≡ a)) → Logs b
+    at_free true (Ok u) x = departs x
+    at_free true (Err why) x = ends_so why x
+    at_free false r x = subst Logs (sym x.1) h
+
+-- one thing comes first, and then a leave that waits
+behind : (first : Looping → Outcome → Looping → Type 0) (a : Looping) (r : Outcome) (b : Looping)
+    → ((went : Outcome) (m : Looping) → first a went m → Logs m) → Then first a r b → Logs b
+behind first a r b is x = at_went x.went (is x.went x.between x.comes) x.behind
+  where
+    at_went : (went : Outcome) → Logs x.between
+        → MatchResult went (λ _. Leaves x.between r b) (λ why. (r ≡ Err why) × (b ≡ x.between)) → Logs b
+    at_went (Ok u) h l = leaves x.between b h r l
+    at_went (Err why) h l = subst Logs (sym l.1) h
+
+idles : (a b : Looping) → Logs a → (r : Outcome) → Idles a r b → Logs b
+idles a b h r x = at_retry (is_due a) x
+  where
+    now : Looping
+    now = record a { worked = can_step a; wait = a.wait - 1 }
+
+    logs_now : Logs now
+    logs_now = record { named = h.named; leave = h.leave }
+
+    at_retry : (due : Bool) → MatchBool due (Then (Goes (by_event None Retry a)) now r b) (Leaves now r b) → Logs b
+    at_retry true x =
+        behind (Goes (by_event None Retry a)) now r b (λ went m g. goes (by_event None Retry a) now m logs_now went g) x
+    at_retry false x = leaves now b logs_now r x
+
+hears : (i : Item) (a b : Looping) → Logs a → Hears i a b → Logs b
+hears (item.Letter l) a b h x = subst Logs (sym x.0) (record { named = h.named; leave = h.leave })
+hears (item.Task t) a b h x = subst Logs (sym x) h
+
+works : (a b : Looping) → Logs a → (from : ℕ) (i : Item) (r : Outcome) → Works from i a r b → Logs b
+works a b h from i r x =
+    behind (Handles from i) x.hearing r b (λ went m k. handles x.hearing m heard from i went k) x.handles
+  where
+    heard : Logs x.hearing
+    heard = hears i (record a { worked = true }) x.hearing (record { named = h.named; leave = h.leave }) x.hears
+
+turns : (a b : Looping) → Logs a → Turns a b → Logs b
+turns a b h T = elim T.turned [
+  | inl w ↦ works sent b logs_sent w.0 w.1 T.outcome w.2
+  | inr i ↦ idles sent b logs_sent T.outcome i
+]
+  where
+    sent : Looping
+    sent = record a { tray = T.tray }
+
+    logs_sent : Logs sent
+    logs_sent = record { named = h.named; leave = h.leave }
+
+hands_out : (a b : Looping) → Logs a → HandsOut a b → Logs b
+hands_out a b h H = subst Logs (sym H.rest) (record {
+  named = h.named;
+  leave = λ t. h.leave (ap (λ (l : List Told). some_left l) H.oldest ∙ or_right (tells_left H.told) (some_left b.desk.replies) t);
+})
+
+comes : (n : ℕ) (core : Held) (b : Looping) → ComesBy n core b → Logs b
+comes zero core b e = subst Logs (sym e) (record { named = refl; leave = λ t. absurd (false≢true t) })
+comes (suc n) core b x = elim x.2 [
+  | inl T ↦ turns x.0 b (comes n core x.0 x.1) T
+  | inr H ↦ hands_out x.0 b (comes n core x.0 x.1) H
+]
+
+module _ (name : ℕ) (b : Looping) (is : IsLoopOf name b) where
+  logs : Logs b
+  logs = comes is.moves (opening_core is.nodes is.cluster name) b is.comes
+
+  -- where the next reply says so
+  pub next_is_logged : (t : Ticket) (later : List Told) → b.desk.replies ≡ told_left t ∷ later → logs_leave b.log ≡ true
+  next_is_logged t later e = logs.leave (ap (λ (l : List Told). some_left l) e)
+
+pub told_leaves_are_logged : LeavesAreLogged
+told_leaves_are_logged name b is t c =
+    (logs name b is).leave (list_any_at tells_left b.desk.replies c.0 (told_left t) c.1 (ap tells_left c.2))

@@ -1,0 +1,11 @@
+-- Where a loop of a node tells that the node has left, its log says so.
+use Rattle.std.proofs.Common.{ℕ, Ok}
+use Rattle.std.proofs.Math.Logic.{∥∥₁_map}
+use Rattle.node_loop.specs.declared.item.Ticket.{Ticket}
+use Rattle.node_loop.specs.declared.replies.Effect.TheVariants.{Left}
+use Rattle.node_loop.proofs.Left.{next_is_logged}
+use Rattle.node_seats.specs.Replies.{IsToldTo, HasLeft}
+
+pub left_where_told : (name : ℕ) (ticket : Ticket) → IsToldTo name ticket (Ok Left) → HasLeft name
+left_where_told name ticket told = ∥∥₁_map told
+    (λ t. record { node = t.node; came = t.came; logged = next_is_logged name t.node t.came ticket t.later t.next })

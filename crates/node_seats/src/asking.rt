@@ -1,0 +1,74 @@
+//! What a caller asks its node for: calls, exits and leaves.
+ghost use Rattle.std.specs.Prelude.{◌≡◌, ◌++◌, ◌∷◌, [], IfOk, OnOk, IfErr, Ok};
+ghost use Rattle.node_loop.specs.Events.{knows_contact as knows};
+ghost use Rattle.node_loop.specs.declared.Event.TheVariants.{Call as Calls, Exit, Leave};
+ghost use Rattle.node_loop.specs.declared.replies.Effect.TheVariants.{Answered, Made, Left};
+ghost use Rattle.node_seats.specs.Callers.{name_of, inbox_of, slot_of, nodes_of, asked_by, ticket_of, task_for, Puts};
+ghost use Rattle.node_seats.specs.Faults.{IsAskRefused, MayAsk};
+ghost use Rattle.node_seats.specs.Replies.{IsToldTo, IsFaultTold, HasLeft};
+
+use crate::caller::Caller;
+use crate::fault::SeatFault;
+use node_loop::{Answer, Call, Effect, Event};
+use std::sync::Wait;
+use std::time::Clock;
+use term::Pid;
+
+impl Caller {
+    /// Asks for a call, and gives its answer. It is refused as `ask` is.
+    pub(crate) fn call<R: Wait + Clock>(&mut self, rt: &R, call: Call) -> Result<Answer, SeatFault>
+        ensures slot { slot_of self.new ≡ slot_of self.old }
+        ensures node { name_of self.new ≡ name_of self.old }
+        ensures inbox { inbox_of self.new ≡ inbox_of self.old }
+        ensures nodes { nodes_of self.new ≡ nodes_of self.old }
+        ensures known { IfErr result (λ fault. IsAskRefused fault (knows (nodes_of self.old) (Calls call))) }
+        ensures asked { OnOk result (asked_by self.new ≡ asked_by self.old ++ Calls call ∷ []) }
+        ensures unanswered { IfErr result (λ fault. MayAsk fault (Calls call) (asked_by self.old) (asked_by self.new)) }
+        ensures told { IfOk result (λ answer. IsToldTo (name_of self.old) (ticket_of self.old) (Ok (Answered answer))) }
+        ensures refused { IfErr result (IsFaultTold (name_of self.old) (ticket_of self.old)) }
+    {
+        match self.ask(rt, Event::Call(call))? {
+            Effect::Answered(answer) => Ok(answer),
+            // No call comes to anything else.
+            _ => Err(SeatFault::Closed),
+        }
+    }
+
+    /// Asks for the exit of a process, and waits until it was made. It is refused as `ask` is.
+    pub(crate) fn exit<R: Wait + Clock>(&mut self, rt: &R, process: &Pid) -> Result<(), SeatFault>
+        ensures slot { slot_of self.new ≡ slot_of self.old }
+        ensures node { name_of self.new ≡ name_of self.old }
+        ensures inbox { inbox_of self.new ≡ inbox_of self.old }
+        ensures nodes { nodes_of self.new ≡ nodes_of self.old }
+        ensures asked { OnOk result (asked_by self.new ≡ asked_by self.old ++ Exit process.now ∷ []) }
+        ensures unanswered { IfErr result (λ fault. MayAsk fault (Exit process.now) (asked_by self.old) (asked_by self.new)) }
+        ensures told { OnOk result (IsToldTo (name_of self.old) (ticket_of self.old) (Ok Made)) }
+        ensures refused { IfErr result (IsFaultTold (name_of self.old) (ticket_of self.old)) }
+    {
+        match self.ask(rt, Event::Exit(process.copy()))? {
+            Effect::Made => Ok(()),
+            // No exit comes to anything else.
+            _ => Err(SeatFault::Closed),
+        }
+    }
+
+    /// Asks the node to leave, and waits until it has, as its log then says. It is refused as `ask` is.
+    pub fn leave<R: Wait + Clock>(&mut self, rt: &R) -> Result<(), SeatFault>
+        ensures slot { slot_of self.new ≡ slot_of self.old }
+        ensures node { name_of self.new ≡ name_of self.old }
+        ensures inbox { inbox_of self.new ≡ inbox_of self.old }
+        ensures nodes { nodes_of self.new ≡ nodes_of self.old }
+        ensures put { OnOk result (Puts (task_for self.old Leave) self.old self.new) }
+        ensures asked { OnOk result (asked_by self.new ≡ asked_by self.old ++ Leave ∷ []) }
+        ensures unanswered { IfErr result (λ fault. MayAsk fault Leave (asked_by self.old) (asked_by self.new)) }
+        ensures told { OnOk result (IsToldTo (name_of self.old) (ticket_of self.old) (Ok Left)) }
+        ensures left { OnOk result (HasLeft (name_of self.old)) }
+        ensures refused { IfErr result (IsFaultTold (name_of self.old) (ticket_of self.old)) }
+    {
+        match self.ask(rt, Event::Leave)? {
+            Effect::Left => Ok(()),
+            // No leave comes to anything else.
+            _ => Err(SeatFault::Closed),
+        }
+    }
+}
