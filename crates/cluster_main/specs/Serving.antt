@@ -23,7 +23,7 @@ abbrev pub Serves : ServeOptions → Option (List ℕ) → Option (List ℕ) →
 Serves o old new NotListening = Keeps old new
 Serves o old new NotAnnounced = AppendsPart old new (listening_line (string_bytes o.listen))
 Serves o old new (Ran r) = (between : Option (List ℕ)) × Appends old between (listening_line (string_bytes o.listen))
-    × ServesCluster o.cluster o.lone between new r
+    × ServesCluster o.cluster o.lone o.consoles between new r
 
 -- what is told on standard error: something only where nothing listens
 abbrev pub TellsWhy : Option (List ℕ) → Option (List ℕ) → Served → Type 0

@@ -6,6 +6,7 @@ use Rattle.command_lines.specs.declared.Reply.TheVariants as reply
 use Rattle.node_seats.specs.declared.Transcript.{Transcript}
 use Rattle.command_lines.specs.declared.Event.{Event}
 use Rattle.command_lines.specs.declared.Event.TheVariants as event
+use Rattle.node_seats.specs.declared.Effect.TheVariants.{Made, Left}
 use Rattle.node_seats.specs.declared.fault.SeatFault.{SeatFault}
 use Rattle.node_seats.specs.Seats.{Sitting, Answered, Unanswered, Done}
 use Rattle.console.specs.declared.orders.Order.{Order}
@@ -23,8 +24,8 @@ asked_in Leave = event.Leave
 abbrev pub SeatAnswers : Sitting → Order → Result Reply SeatFault → Sitting → Type 0
 SeatAnswers s (Call c) (Ok r) t = Answered c r s t
 SeatAnswers s (Whereis x) (Ok r) t = Answered (call.Whereis x) r s t
-SeatAnswers s (Exit p) (Ok r) t = (r ≡ reply.Ok) × Done (event.Exit p) s t
-SeatAnswers s Leave (Ok r) t = (r ≡ reply.Ok) × Done event.Leave s t
+SeatAnswers s (Exit p) (Ok r) t = (r ≡ reply.Ok) × Done (event.Exit p) Made s t
+SeatAnswers s Leave (Ok r) t = (r ≡ reply.Ok) × Done event.Leave Left s t
 SeatAnswers s o (Err f) t = Unanswered f (asked_in o) s t
 
 -- this is the transcript of the seat

@@ -1,5 +1,6 @@
 //! The first line of a console.
-ghost use Rattle.std.specs.Prelude.{◌≡◌, ℕ, List, map, string_bytes, IfOk, MatchResult};
+ghost use Rattle.std.specs.Prelude.{◌≡◌, ℕ, List, true, map, string_bytes, IfOk, IfSome, MatchResult};
+ghost use Rattle.term.specs.NodeSets.{set_of};
 ghost use Rattle.std.specs.Io.Buffered.{reader_remaining};
 ghost use Rattle.text_lines.specs.Lines.{IsKept};
 ghost use Rattle.text_lines.specs.Writing.{Writes};
@@ -18,7 +19,8 @@ use text_lines::{Line, MOST_LINES, StreamFault, WriteFault, first_words, read_li
 
 /// To which of these nodes words attach a console.
 fn read_words(words: &[&str], nodes: &NodeSet) -> Result<NodeName, GreetFault>
-    ensures { WordsAttach nodes.now (map (λ word. word.now) words.now) result }
+    ensures attach { WordsAttach nodes.now (map (λ word. word.now) words.now) result }
+    ensures known { IfOk result (λ node. set_of nodes.now node ≡ true) }
 {
     let [word, text] = words else {
         return Err(GreetFault::NotAttached);
@@ -36,7 +38,8 @@ fn read_words(words: &[&str], nodes: &NodeSet) -> Result<NodeName, GreetFault>
 
 /// To which of these nodes a line attaches a console.
 fn read_greeting(line: &Line, nodes: &NodeSet) -> Result<NodeName, GreetFault>
-    ensures { (bytes : List ℕ) → IsKept bytes line.now → LineAttaches nodes.now bytes result }
+    ensures attaches { (bytes : List ℕ) → IsKept bytes line.now → LineAttaches nodes.now bytes result }
+    ensures known { IfOk result (λ node. set_of nodes.now node ≡ true) }
 {
     let text = text_of(line)?;
     read_words(&first_words(text), nodes)
@@ -74,11 +77,12 @@ pub fn greet<R: Read, W: Write>(
     writer: &mut W,
     nodes: &NodeSet,
 ) -> Result<Option<NodeName>, StreamFault>
-    ensures { MatchResult result
+    ensures greets { MatchResult result
         (Greets nodes.now (reader_remaining R.remaining reader.old) (reader_remaining R.remaining reader.new)
         (W.contents writer.old) (W.contents writer.new))
         (GreetStops nodes.now (reader_remaining R.remaining reader.old) (reader_remaining R.remaining reader.new)
         (W.contents writer.old) (W.contents writer.new)) }
+    ensures known { IfOk result (λ found. IfSome found (λ node. set_of nodes.now node ≡ true)) }
 {
     let mut left = MOST_LINES;
     let Some(line) = read_line(Vec::new(alloc), reader, writer, &mut left)? else {

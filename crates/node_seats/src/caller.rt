@@ -118,11 +118,7 @@ impl Caller {
     /// the cluster is refused at once, also where the node has left. What came of it, and what the node refuses, its loop told this
     /// caller for this event; where no reply comes any more, the event may have been asked for. Its number is above those of all that
     /// the caller put before, since numbers never fall, and rise behind each event that is put.
-    pub fn ask<R: Wait + Clock>(
-        &mut self,
-        rt: &R,
-        event: Event,
-    ) -> Result<Effect, SeatFault>
+    pub fn ask<R: Wait + Clock>(&mut self, rt: &R, event: Event) -> Result<Effect, SeatFault>
         ensures slot { slot_of self.new ≡ slot_of self.old }
         ensures node { name_of self.new ≡ name_of self.old }
         ensures nodes { nodes_of self.new ≡ nodes_of self.old }
@@ -145,11 +141,7 @@ impl Caller {
     }
 
     /// Asks the node for an event, whose contact is of the cluster.
-    fn ask_node<R: Wait + Clock>(
-        &mut self,
-        rt: &R,
-        event: Event,
-    ) -> Result<Effect, SeatFault>
+    fn ask_node<R: Wait + Clock>(&mut self, rt: &R, event: Event) -> Result<Effect, SeatFault>
         ensures slot { slot_of self.new ≡ slot_of self.old }
         ensures node { name_of self.new ≡ name_of self.old }
         ensures nodes { nodes_of self.new ≡ nodes_of self.old }
@@ -262,11 +254,7 @@ impl Caller {
     }
 
     /// Waits for what comes of a ticket.
-    fn outcome<R: Wait + Clock>(
-        &mut self,
-        rt: &R,
-        ticket: Ticket,
-    ) -> Result<Effect, SeatFault>
+    fn outcome<R: Wait + Clock>(&mut self, rt: &R, ticket: Ticket) -> Result<Effect, SeatFault>
         ensures slot { slot_of self.new ≡ slot_of self.old }
         ensures node { name_of self.new ≡ name_of self.old }
         ensures nodes { nodes_of self.new ≡ nodes_of self.old }

@@ -1,61 +1,16 @@
--- What a console leaves behind that was served at a new seat.
-use Rattle.std.proofs.Common.{ℕ, Bool, List, [], ◌≡◌, false, refl, sym, subst, Option, Result, Ok, Err, MatchResult, inl, inr}
+-- What a console leaves behind that was served.
+use Rattle.std.proofs.Common.{ℕ, List, ◌≡◌, refl, sym, subst, Option, Result, Ok, Err, MatchResult, inl, inr}
 use Rattle.node_threads.specs.declared.Transcript.{Transcript}
+use Rattle.node_threads.specs.declared.SeatFault.{SeatFault}
 use Rattle.node_threads.specs.Seats.{Sitting}
-use Rattle.console.specs.Consoles.{AnswersAll, Serves, Stops}
+use Rattle.console.specs.Consoles.{Serves, Stops}
 use Rattle.console.specs.Seats.{SeatAnswers, IsTranscript}
 use Rattle.text_lines.specs.declared.faults.StreamFault.{StreamFault}
-use Rattle.text_lines.specs.declared.faults.StreamFault.TheVariants.{Read, Write, TooManyLines, Memory}
-use Rattle.server.specs.Attending.{IsSeated}
-use Rattle.server.specs.Served.{IsServed}
-
-module _ (s t : Sitting) (transcript : Transcript) (empty : s.entries ≡ []) (unasked : s.asked ≡ []) (kept : IsTranscript t transcript) where
-  -- lines were answered
-  left_of : (lines texts : List (List ℕ)) (quits : Bool) → AnswersAll SeatAnswers lines s texts t quits → IsServed transcript
-  left_of lines texts quits answered = ∣ record {
-    new = s;
-    left = t;
-    lines = lines;
-    texts = texts;
-    quits = quits;
-    empty = empty;
-    unasked = unasked;
-    answered = answered;
-    kept = kept;
-  } ∣₁
-
-  module _ (input rest old new : Option (List ℕ)) where
-    pub left_where_served : Serves SeatAnswers input rest old new s t → IsServed transcript
-    left_where_served S = left_of S.taken S.texts S.quits S.answered
-
-    pub left_where_stopped : (f : StreamFault) → Stops SeatAnswers input rest old new s t f → IsServed transcript
-    left_where_stopped Read S = left_of S.0.taken S.0.texts false S.0.answered
-    left_where_stopped TooManyLines S = left_of S.0.taken S.0.texts false S.0.answered
-    left_where_stopped Write S = left_of S.1.taken S.1.texts S.0 S.1.answered
-    left_where_stopped Memory S = left_of S.1.taken S.1.texts S.0 S.1.answered
-
-    pub seated_where_served : Serves SeatAnswers input rest old new s t → IsSeated s.node input rest old new transcript
-    seated_where_served S = record {
-      seat = s;
-      left = t;
-      at = refl;
-      empty = empty;
-      unasked = unasked;
-      talks = inl S;
-      kept = kept;
-    }
-
-    pub seated_where_stopped : (f : StreamFault) → Stops SeatAnswers input rest old new s t f
-        → IsSeated s.node input rest old new transcript
-    seated_where_stopped f S = record {
-      seat = s;
-      left = t;
-      at = refl;
-      empty = empty;
-      unasked = unasked;
-      talks = inr (f, S);
-      kept = kept;
-    }
+use Rattle.server.specs.Attending.{Place, Talks, IsSeated, IsUnseated, Attends, Sits}
+use Rattle.server.specs.declared.served.Start.{Start}
+use Rattle.server.specs.declared.served.Left.{Left}
+use Rattle.server.specs.declared.served.Left.TheVariants.{Served, Unserved}
+use Rattle.server.specs.Served.{LeavesBehind}
 
 -- what serving a console at a seat comes to
 abbrev pub Ends : Option (List ℕ) → Option (List ℕ) → Option (List ℕ) → Option (List ℕ) → Sitting
@@ -64,18 +19,32 @@ Ends input rest old new s r = MatchResult r
     (λ transcript. (t : Sitting) × IsTranscript t transcript × Serves SeatAnswers input rest old new s t)
     (λ ended. (t : Sitting) × IsTranscript t ended.1 × Stops SeatAnswers input rest old new s t ended.0)
 
-module _ (input rest old new : Option (List ℕ)) (s : Sitting) (x : Transcript) (empty : s.entries ≡ []) (unasked : s.asked ≡ []) where
-  pub left : (r : Result Transcript (StreamFault × Transcript)) → MatchResult r (λ transcript. x ≡ transcript) (λ faulty. x ≡ faulty.1)
-      → Ends input rest old new s r → IsServed x
-  left (Ok transcript) is e =
-      left_where_served s e.0 x empty unasked (subst (λ (y : Transcript). IsTranscript e.0 y) (sym is) e.1) input rest old new e.2
-  left (Err faulty) is e =
-      left_where_stopped s e.0 x empty unasked (subst (λ (y : Transcript). IsTranscript e.0 y) (sym is) e.1) input rest old new faulty.0 e.2
-
-  pub seated : (r : Result Transcript (StreamFault × Transcript))
+module _ (input rest old new : Option (List ℕ)) (s : Sitting) (x : Transcript) where
+  pub talked : (r : Result Transcript (StreamFault × Transcript))
       → MatchResult r (λ transcript. x ≡ transcript) (λ faulty. x ≡ faulty.1)
-      → Ends input rest old new s r → IsSeated s.node input rest old new x
-  seated (Ok transcript) is e =
-      seated_where_served s e.0 x empty unasked (subst (λ (y : Transcript). IsTranscript e.0 y) (sym is) e.1) input rest old new e.2
-  seated (Err faulty) is e =
-      seated_where_stopped s e.0 x empty unasked (subst (λ (y : Transcript). IsTranscript e.0 y) (sym is) e.1) input rest old new faulty.0 e.2
+      → Ends input rest old new s r → (t : Sitting) × IsTranscript t x × Talks input rest old new s t
+  talked (Ok transcript) is e = (e.0, subst (λ (y : Transcript). IsTranscript e.0 y) (sym is) e.1, inl e.2)
+  talked (Err faulty) is e = (e.0, subst (λ (y : Transcript). IsTranscript e.0 y) (sym is) e.1, inr (faulty.0, e.2))
+
+-- what is left of a console that was attended is what one leaves behind that began so
+module _ (s : Start) (input rest old new : Option (List ℕ)) where
+  unserved : (node : ℕ) (unread written : Option (List ℕ)) (place back : Place) → Sits node unread rest written new place (Unserved back)
+      → back ≡ place
+  unserved node unread written (Ok free) back sits = absurd sits
+  unserved node unread written (Err fault) back sits = sits.0
+
+  pub leaves : (l : Left) → Attends s.nodes input rest old new s.place l → LeavesBehind s l
+  leaves (Served transcript) a = record { input = input; rest = rest; old = old; new = new; attends = a }
+  leaves (Unserved back) (inl a) = unserved a.node a.unread a.written s.place back a.sits
+  leaves (Unserved back) (inr a) = cc a.back
+
+-- a console that was attached, by what is known of its place
+module _ (node : ℕ) (input rest old new : Option (List ℕ)) (p : Place) where
+  pub sits_served : (free : List Sitting) (x : Transcript) → p ≡ Ok free → IsSeated node input rest old new free x
+      → Sits node input rest old new p (Served x)
+  sits_served free x is seated = subst (λ (q : Place). Sits node input rest old new q (Served x)) (sym is) seated
+
+  pub sits_unserved : (fault : SeatFault) → p ≡ Err fault → IsUnseated input rest old new fault
+      → Sits node input rest old new p (Unserved (Err fault))
+  sits_unserved fault is unseated =
+      subst (λ (q : Place). Sits node input rest old new q (Unserved (Err fault))) (sym is) (refl, unseated)

@@ -1,2 +1,5 @@
 mod Gathering
 mod Leaving
+mod Doors
+mod Joining
+mod Closing

@@ -4,4 +4,5 @@ pub mod Faults
 pub mod Attending
 pub mod Ending
 pub mod Served
+pub mod Taking
 pub mod Serving

@@ -1,23 +1,52 @@
--- What a console leaves behind.
-use Rattle.std.specs.Prelude.{ℕ, Bool, ◌≡◌, List, []}
+-- What consoles begin with, and what they leave behind.
+use Rattle.std.specs.Prelude.{ℕ, ◌≡◌, ◌≤◌, ◌+◌, List, [], ◌∷◌, Option, Ok, Err, length}
 use Rattle.node_threads.specs.declared.Transcript.{Transcript}
-use Rattle.node_threads.specs.Seats.{Sitting}
-use Rattle.console.specs.Consoles.{AnswersAll}
-use Rattle.console.specs.Seats.{SeatAnswers, IsTranscript}
+use Rattle.node_threads.specs.Clusters.{Crewed, next_seats}
+use Rattle.server.specs.declared.served.Start.{Start}
+use Rattle.server.specs.declared.served.Left.{Left}
+use Rattle.server.specs.declared.served.Left.TheVariants as left
+use Rattle.server.specs.Attending.{Place, Attends}
 
--- lines of a console were answered at a seat, in their order, and each order once; what each was answered stands in the
--- transcript, which was empty before, and nothing was asked there before
-pub record IsLeft (transcript : Transcript) : Type 0 where
-  pub new : Sitting
-  pub left : Sitting
-  pub lines : List (List ℕ)
-  pub texts : List (List ℕ)
-  pub quits : Bool
-  pub empty : new.entries ≡ []
-  pub unasked : new.asked ≡ []
-  pub answered : AnswersAll SeatAnswers lines new texts left quits
-  pub kept : IsTranscript left transcript
+-- some console of a cluster of these nodes got such a seat and left this transcript of it
+pub record IsAttended (nodes : List ℕ) (place : Place) (transcript : Transcript) : Type 0 where
+  pub input : Option (List ℕ)
+  pub rest : Option (List ℕ)
+  pub old : Option (List ℕ)
+  pub new : Option (List ℕ)
+  pub attends : Attends nodes input rest old new place (left.Served transcript)
 
--- some console left it
-abbrev pub IsServed : Transcript → Type 0
-IsServed transcript = ∥ IsLeft transcript ∥₁
+-- what a console leaves behind that began so: a transcript, or its seat, where it asked for nothing
+abbrev pub LeavesBehind : Start → Left → Type 0
+LeavesBehind s (left.Served transcript) = IsAttended s.nodes s.place transcript
+LeavesBehind s (left.Unserved place) = place ≡ s.place
+
+-- so do all of these, in their order
+abbrev pub AllLeave : List Start → List Left → Type 0
+AllLeave [] [] = Unit {0}
+AllLeave (s ∷ ss) (l ∷ ls) = LeavesBehind s l × AllLeave ss ls
+AllLeave _ _ = ⊥
+
+-- the transcripts among these
+abbrev pub transcripts_in : List Left → List Transcript
+transcripts_in [] = []
+transcripts_in (left.Served transcript ∷ ls) = transcript ∷ transcripts_in ls
+transcripts_in (left.Unserved place ∷ ls) = transcripts_in ls
+
+-- a cluster gave out a seat, the next one, or it had none to give
+abbrev pub Seats : Crewed → Place → Crewed → Type 0
+Seats c (Ok free) d = (free ≡ next_seats c) × (d ≡ record c { seats = c.seats + 1 })
+Seats c (Err fault) d = d ≡ c
+
+-- it did so for each of these consoles, one after another, which are served for these nodes
+abbrev pub SeatsAll : List ℕ → Crewed → List Start → Crewed → Type 0
+SeatsAll nodes c [] d = d ≡ c
+SeatsAll nodes c (s ∷ ss) d = (s.nodes ≡ nodes) × (m : Crewed) × Seats c s.place m × SeatsAll nodes m ss d
+
+-- so many consoles at most were taken, each with a seat of this cluster, and these are the transcripts that they left, each once
+pub record IsServed (nodes : List ℕ) (consoles : ℕ) (c d : Crewed) (transcripts : List Transcript) : Type 0 where
+  pub starts : List Start
+  pub lefts : List Left
+  pub few : length starts ≤ consoles
+  pub seated : SeatsAll nodes c starts d
+  pub left : AllLeave starts lefts
+  pub are : transcripts ≡ transcripts_in lefts

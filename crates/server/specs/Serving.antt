@@ -1,12 +1,16 @@
 -- What serving a cluster comes to.
-use Rattle.std.specs.Prelude.{ℕ, Bool, false, ◌≡◌, is_ok, IfErr, All, List, Option, Result, Ok, Err}
+use Rattle.std.specs.Prelude.{ℕ, Bool, false, ◌≡◌, is_ok, IfErr, List, ◌++◌, Option, Result, Ok, Err}
 use Rattle.std.specs.Global.{Global}
 use Rattle.std.specs.Io.KnownBytes.{Appends, Keeps}
 use Rattle.registry_model.specs.Table.{Table}
+use Rattle.term.specs.NodeSets.{set_of}
 use Rattle.node_threads.specs.declared.Transcript.{Transcript}
 use Rattle.node_threads.specs.declared.Closed.{Closed}
 use Rattle.node_threads.specs.declared.CloseFault.{CloseFault}
-use Rattle.node_threads.specs.Closing.{is_torn, CloseIs}
+use Rattle.node_threads.specs.Consistent.{is_torn}
+use Rattle.node_threads.specs.Wires.{IsCrew}
+use Rattle.node_threads.specs.Clusters.{Crewed}
+use Rattle.node_threads.specs.Closing.{CloseIs}
 use Rattle.text_lines.specs.Writing.{AppendsPart}
 use Rattle.server.specs.declared.faults.ServeFault.{ServeFault}
 use Rattle.server.specs.declared.faults.ServeFault.TheVariants.{Accept, Write, Memory}
@@ -17,19 +21,43 @@ use Rattle.server.specs.Served.{IsServed}
 abbrev pub Ending : Type 0
 Ending = Result (Closed Table Global) CloseFault
 
--- a cluster of these nodes came to it, with transcripts that its consoles left behind; its run isn't torn
-pub record EndsWith (cluster lone : List ℕ) (ending : Ending) : Type 0 where
-  pub transcripts : List Transcript
-  pub served : All IsServed transcripts
-  pub closes : CloseIs (λ table. table) cluster lone transcripts ending
+-- so this cluster closed, with these transcripts; its run isn't torn
+pub record Ends (c : Crewed) (transcripts : List Transcript) (ending : Ending) : Type 0 where
+  pub closes : CloseIs (λ table. table) c.cluster c.lone c.crew transcripts ending
   pub whole : IfErr ending (λ fault. is_torn fault ≡ false)
+
+-- the writer got the line that tells so, all of it, or a part where it failed; or memory was refused for the line
+abbrev pub Tells : Crewed → List Transcript → Option (List ℕ) → Option (List ℕ) → Result Bool ServeFault → Type 0
+Tells c ts old new (Ok good) = (ending : Ending) × Ends c ts ending × (good ≡ is_ok ending) × Appends old new (ending_line ending)
+Tells c ts old new (Err Write) = (ending : Ending) × Ends c ts ending × AppendsPart old new (ending_line ending)
+Tells c ts old new (Err _) = Keeps old new
+
+-- it got nothing
+abbrev pub Fails : Option (List ℕ) → Option (List ℕ) → Result Bool ServeFault → Type 0
+Fails old new (Ok good) = ⊥
+Fails old new (Err Write) = ⊥
+Fails old new (Err _) = Keeps old new
+
+-- A cluster of these nodes served so many consoles at most, for just these nodes, each with the next of its seats, from the first on. It
+-- closed so, with all the transcripts that they left
+pub record EndsWith (cluster lone : List ℕ) (consoles : ℕ) (ending : Ending) : Type 0 where
+  pub nodes : List ℕ
+  pub all : (n : ℕ) → set_of nodes n ≡ set_of (cluster ++ lone) n
+  pub first : Crewed
+  pub crew : IsCrew cluster lone first.crew
+  pub unused : first.seats ≡ 0
+  pub last : Crewed
+  pub transcripts : List Transcript
+  pub served : IsServed nodes consoles first last transcripts
+  pub of : (last.cluster ≡ cluster) × (last.lone ≡ lone) × (last.crew ≡ first.crew)
+  pub ends : Ends last transcripts ending
 
 -- the writer got the line that tells what the cluster came to: all of it, or a part where it failed. After another fault it
 -- got nothing. The result is true where the run of the threads was one of the world's
-abbrev pub ServesCluster : List ℕ → List ℕ → Option (List ℕ) → Option (List ℕ) → Result Bool ServeFault → Type 0
-ServesCluster cluster lone old new (Ok good) =
-    (ending : Ending) × EndsWith cluster lone ending × (good ≡ is_ok ending) × Appends old new (ending_line ending)
-ServesCluster cluster lone old new (Err Write) =
-    (ending : Ending) × EndsWith cluster lone ending × AppendsPart old new (ending_line ending)
-ServesCluster cluster lone old new (Err Accept) = Keeps old new
-ServesCluster cluster lone old new (Err Memory) = Keeps old new
+abbrev pub ServesCluster : List ℕ → List ℕ → ℕ → Option (List ℕ) → Option (List ℕ) → Result Bool ServeFault → Type 0
+ServesCluster cluster lone consoles old new (Ok good) =
+    (ending : Ending) × EndsWith cluster lone consoles ending × (good ≡ is_ok ending) × Appends old new (ending_line ending)
+ServesCluster cluster lone consoles old new (Err Write) =
+    (ending : Ending) × EndsWith cluster lone consoles ending × AppendsPart old new (ending_line ending)
+ServesCluster cluster lone consoles old new (Err Accept) = Keeps old new
+ServesCluster cluster lone consoles old new (Err Memory) = Keeps old new

@@ -1,10 +1,11 @@
 //! One console: its greeting, its seat and its lines.
-ghost use Rattle.std.specs.Prelude.{◌≡◌, [], option_map, MatchResult};
+ghost use Rattle.std.specs.Prelude.{◌≡◌, true, is_some, IfOk, MatchResult};
 ghost use Rattle.std.specs.Io.Buffered.{reader_remaining};
-ghost use Rattle.server.specs.Attending.{Attends, IsSeated, Sits};
+ghost use Rattle.server.specs.Attending.{Attends, Reaches, Sits, Talks};
+ghost use Rattle.console.specs.Seats.{IsTranscript};
+ghost use Rattle.node_threads.specs.Seats.{Sitting, first_at};
 
-use crate::desk::Asker;
-use crate::served::Served;
+use crate::served::{Left, Place};
 use console::{ConsoleFault, greet, refuse_seat, serve};
 use node_threads::{Seat, Transcript};
 use std::alloc::Global;
@@ -30,53 +31,56 @@ fn serve_at<H: Wait + Clock, R: Read, W: Write>(
     reader: &mut BufReader<R, Global>,
     writer: &mut W,
     seat: Seat,
-) -> Served
-    requires new { seat.entries ≡ [] }
-    requires unasked { seat.asked ≡ [] }
-    ensures { IsSeated seat.node (reader_remaining R.remaining reader.old) (reader_remaining R.remaining reader.new)
-        (W.contents writer.old) (W.contents writer.new) result.transcript }
+) -> Transcript
+    ensures { (left : Sitting) × IsTranscript left result
+        × Talks (reader_remaining R.remaining reader.old) (reader_remaining R.remaining reader.new)
+        (W.contents writer.old) (W.contents writer.new) seat left }
 {
-    let transcript = transcript_of(serve(rt, alloc, reader, writer, seat));
-    Served { transcript }
+    transcript_of(serve(rt, alloc, reader, writer, seat))
 }
 
-/// Gets a console a seat at its node, and serves it there; or tells it why it gets none.
+/// Serves a console at the node that it named, or tells it why it gets no seat there.
 fn attend_at<H: Wait + Clock, R: Read, W: Write>(
     rt: &H,
     alloc: Global,
     reader: &mut BufReader<R, Global>,
     writer: &mut W,
     node: &NodeName,
-    asker: Asker,
-) -> Option<Served>
+    place: Place,
+) -> Left
+    requires { IfOk place (λ free. is_some (first_at node.now free) ≡ true) }
     ensures { Sits node.now (reader_remaining R.remaining reader.old) (reader_remaining R.remaining reader.new)
-        (W.contents writer.old) (W.contents writer.new) (option_map (λ left. left.transcript) result) }
+        (W.contents writer.old) (W.contents writer.new) place result }
 {
-    match asker.ask(rt, alloc, node) {
-        Ok(seat) => Some(serve_at(rt, alloc, reader, writer, seat)),
+    match place {
+        Ok(free) => match free.at(alloc, node) {
+            Ok(seat) => Left::Served(serve_at(rt, alloc, reader, writer, seat)),
+            Err(free) => Left::Unserved(Ok(free)),
+        },
         Err(fault) => {
             // The console ends, whether it hears this or not.
             let _ = refuse_seat(writer, &fault);
-            None
+            Left::Unserved(Err(fault))
         }
     }
 }
 
-/// Greets a console, gets it a seat at the node that it names, and serves it there: what is left of it, if it got a seat.
+/// Greets a console, and serves it at the node that it names: what is left of it. Its seat can be at each of these nodes.
 pub(crate) fn attend<H: Wait + Clock, R: Read, W: Write>(
     rt: &H,
     alloc: Global,
     reader: &mut BufReader<R, Global>,
     writer: &mut W,
     nodes: &NodeSet,
-    asker: Asker,
-) -> Option<Served>
+    place: Place,
+) -> Left
+    requires { Reaches nodes.now place }
     ensures { Attends nodes.now (reader_remaining R.remaining reader.old) (reader_remaining R.remaining reader.new)
-        (W.contents writer.old) (W.contents writer.new) (option_map (λ left. left.transcript) result) }
+        (W.contents writer.old) (W.contents writer.new) place result }
 {
     match greet(alloc, reader, writer, nodes) {
-        Ok(Some(node)) => attend_at(rt, alloc, reader, writer, &node, asker),
-        Ok(None) => None,
-        Err(_) => None,
+        Ok(Some(node)) => attend_at(rt, alloc, reader, writer, &node, place),
+        Ok(None) => Left::Unserved(place),
+        Err(_) => Left::Unserved(place),
     }
 }

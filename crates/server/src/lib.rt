@@ -2,7 +2,6 @@
 #![tactic(auto)]
 
 mod attending;
-mod desk;
 mod ending;
 mod faults;
 mod served;

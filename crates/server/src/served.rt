@@ -1,12 +1,35 @@
-//! What a console leaves behind.
-ghost use Rattle.server.specs.Served.{IsServed};
+//! What consoles begin with, and what they leave behind.
 
-use node_threads::Transcript;
-use std::alloc::{AllocError, Global};
+use node_threads::{FreeSeat, SeatFault, Transcript};
+use std::snapshot::Snapshot;
+use std::thread::Promise;
+use term::NodeSet;
 
-/// The transcript of a console's seat.
+/// The seat that a console has, or why it has none.
+pub(crate) type Place = Result<FreeSeat, SeatFault>;
+
+/// What a console begins with: the nodes to which it may be attached, and its seat.
 #[derive(Drop)]
-pub(crate) struct Served {
-    pub(crate) transcript: Transcript,
-    pub(crate) ghost answered: { IsServed transcript },
+pub(crate) struct Start {
+    pub(crate) nodes: NodeSet,
+    pub(crate) place: Place,
+}
+
+/// What a console leaves behind.
+#[derive(Drop)]
+pub(crate) enum Left {
+    /// The transcript of its seat.
+    Served(Transcript),
+    /// Its seat, from which nothing was asked, or why it had none.
+    Unserved(Place),
+}
+
+/// That a console left behind what one does that began so.
+#[derive(Drop)]
+pub(crate) struct LeftBehind(pub(crate) Snapshot<Start>);
+
+impl Promise<Left> for LeftBehind {
+    ghost use Rattle.server.specs.Served.{LeavesBehind};
+
+    ghost kept_by = { λ promise left. LeavesBehind promise.0.value left };
 }

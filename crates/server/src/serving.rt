@@ -1,18 +1,14 @@
 //! Serving a cluster, from its start to the line that tells how it closed.
-ghost use Rattle.std.specs.Prelude.{◌≡◌, ◌+◌, ◌≤◌, ◌||◌, ℕ, None, All, IfOk, length};
+ghost use Rattle.std.specs.Prelude.{◌≡◌, ◌+◌, ◌≤◌, ◌||◌, ℕ, None, MatchResult, length};
 ghost use Rattle.term.specs.NodeSets.{most_nodes, set_of};
 ghost use Rattle.node_threads.specs.Openings.{start_refused};
-ghost use Rattle.server.specs.Serving.{ServesCluster};
-ghost use Rattle.server.specs.Served.{IsServed};
+ghost use Rattle.server.specs.Serving.{Tells, Fails, ServesCluster};
 
-use crate::desk::open_desk;
 use crate::ending::ending_line;
 use crate::faults::{ServeFault, TakeFault};
-use crate::served::Served;
-use crate::taking::Door;
-use name_table::IndexTable;
+use crate::taking::{Door, ServedCluster};
 use node_threads::{Cluster, OpenGate, Transcript};
-use std::alloc::{AllocError, Global};
+use std::alloc::Global;
 use std::io::Write;
 use std::net::TcpListener;
 use std::sync::Wait;
@@ -20,9 +16,6 @@ use std::thread::Threads;
 use std::time::Clock;
 use term::{NodeName, NodeSet};
 use text_lines::tell;
-
-/// A cluster that is served: its tables hash, and no turn of its nodes is held back.
-type ServedCluster = Cluster<OpenGate, IndexTable<Global>>;
 
 /// How often a node's thread, or a seat, that finds nothing to do yields at most before it sleeps. That mostly takes longer than a
 /// registration, so a node is awake when its next letter comes.
@@ -50,46 +43,6 @@ fn set_of_all(cluster: &[NodeName], lone: &[NodeName]) -> NodeSet
     set
 }
 
-/// The transcripts of these consoles.
-fn transcripts_of(alloc: Global, consoles: Vec<Served>) -> Result<Vec<Transcript>, AllocError>
-    ensures { IfOk result (λ transcripts. All IsServed transcripts.items) }
-{
-    let mut transcripts = Vec::new(alloc);
-    for console in consoles {
-        let Served { transcript, .. } = console;
-        transcripts.push(transcript)?;
-    }
-    Ok(transcripts)
-}
-
-/// Serves consoles of a cluster until the last has ended: their transcripts.
-fn serve_consoles<R>(
-    rt: &R,
-    alloc: Global,
-    listener: TcpListener,
-    nodes: NodeSet,
-    consoles: u32,
-    cluster: &mut ServedCluster,
-) -> Result<Vec<Transcript>, TakeFault>
-where
-    R: Threads + Wait + Clock + Drop + Copy + Send + Sync + 'static,
-    ensures nodes { (cluster.new.cluster ≡ cluster.old.cluster) × (cluster.new.lone ≡ cluster.old.lone) }
-    ensures served { IfOk result (λ transcripts. All IsServed transcripts.items) }
-{
-    let (asker, desk) = open_desk(alloc)?;
-    let door = Door {
-        rt: *rt,
-        alloc,
-        listener,
-        nodes,
-        asker,
-    };
-    let taker = door.open(consoles)?;
-    desk.serve(rt, cluster);
-    let served = taker.join(rt)?;
-    Ok(transcripts_of(alloc, served)?)
-}
-
 /// Closes a cluster with what serving its consoles came to, and tells what it closed with. After a fault nothing is told.
 fn close<R, W>(
     rt: &R,
@@ -101,8 +54,9 @@ fn close<R, W>(
 where
     R: Threads,
     W: Write,
-    requires { IfOk served (λ transcripts. All IsServed transcripts.items) }
-    ensures { ServesCluster cluster.cluster cluster.lone (W.contents writer.old) (W.contents writer.new) result }
+    ensures { MatchResult served
+        (λ transcripts. Tells cluster transcripts.items (W.contents writer.old) (W.contents writer.new) result)
+        (λ _. Fails (W.contents writer.old) (W.contents writer.new) result) }
 {
     match served {
         Ok(transcripts) => {
@@ -120,9 +74,10 @@ where
 }
 
 /// Runs a cluster of threads and serves consoles: those of `cluster` are joined with each other, and each of `lone` stands for
-/// itself. It takes `consoles` connections, each served in a thread of its own. When the last console has ended the cluster
-/// is closed, and one line is written that tells what it closed with: `closed` with the number of events, and then the result
-/// is true; or `error` with the fault, and then it is false. What a console meets changes nothing for the others.
+/// itself. It takes `consoles` connections, each served in a thread of its own, at a seat that the cluster gives it. When the last
+/// console has ended the cluster is closed with the transcripts of all, and one line is written that tells what it closed with:
+/// `closed` with the number of events, and then the result is true; or `error` with the fault, and then it is false. What a console
+/// meets changes nothing for the others.
 ///
 /// After a fault no further console is taken and no line is written; the cluster is closed all the same, behind the consoles
 /// that were taken.
@@ -139,12 +94,17 @@ where
     R: Threads + Wait + Clock + Drop + Copy + Send + Sync + 'static,
     W: Write,
     requires { start_refused cluster.now lone.now ≡ None }
-    ensures { ServesCluster cluster.now lone.now (W.contents writer.old) (W.contents writer.new) result }
+    ensures { ServesCluster cluster.now lone.now consoles (W.contents writer.old) (W.contents writer.new) result }
 {
     let Ok(mut running) = Cluster::start(rt, alloc, cluster, lone, OpenGate, YIELDS) else {
         return Err(ServeFault::Memory);
     };
-    let nodes = set_of_all(cluster, lone);
-    let served = serve_consoles(rt, alloc, listener, nodes, consoles, &mut running);
+    let door = Door {
+        rt: *rt,
+        alloc,
+        listener,
+        nodes: set_of_all(cluster, lone),
+    };
+    let served = door.serve(consoles, &mut running);
     close(rt, alloc, running, served, writer)
 }

@@ -1,47 +1,52 @@
 //! Taking consoles from a listener, each into a thread of its own.
 ghost use denote.Param.Send.{IsSend, IsSync};
+ghost use Rattle.std.specs.Prelude.{◌≡◌, ◌++◌, ◌∷◌, [], true, IfOk, OnOk};
+ghost use Rattle.server.specs.Attending.{Reaches};
+ghost use Rattle.server.specs.Served.{LeavesBehind, transcripts_in, IsServed};
+ghost use Rattle.server.specs.Taking.{starts_of, ReachesAll, Takes, AllLeft};
 
 use crate::attending::attend;
-use crate::desk::Asker;
 use crate::faults::TakeFault;
-use crate::served::Served;
+use crate::served::{Left, LeftBehind, Place, Start};
+use name_table::IndexTable;
+use node_threads::{Cluster, OpenGate, Transcript};
 use std::alloc::{AllocError, Global};
 use std::io::{BufReader, ErrorKind};
 use std::net::{TcpListener, TcpStream};
+use std::snapshot::Snapshot;
 use std::sync::Wait;
 use std::thread;
-use std::thread::{JoinHandle, Threads};
+use std::thread::{PromisedHandle, Threads};
 use std::time::Clock;
 use term::NodeSet;
 
+/// A cluster that is served: its tables hash, and no turn of its nodes is held back.
+pub(crate) type ServedCluster = Cluster<OpenGate, IndexTable<Global>>;
+
 /// The thread of a console, which gives what the console leaves behind.
-type ConsoleThread = JoinHandle<Option<Served>>;
+type ConsoleThread = PromisedHandle<Left, LeftBehind>;
 
-/// The thread that takes consoles, and gives what all of them leave behind.
-pub(crate) type Taker = JoinHandle<Result<Vec<Served>, TakeFault>>;
-
-/// Where consoles are taken from, and what each of them needs.
+/// Where consoles are taken from, and to which nodes they may be attached.
 #[derive(Drop)]
 pub(crate) struct Door<R: Drop> {
     pub(crate) rt: R,
     pub(crate) alloc: Global,
     pub(crate) listener: TcpListener,
     pub(crate) nodes: NodeSet,
-    pub(crate) asker: Asker,
 }
 
 /// Serves the console at the other end of a connection. Each answer is sent at once, also where lines were sent ahead and the answer
 /// before isn't acknowledged yet; a connection that can't be told so is served all the same.
-fn attend_stream<H: Wait + Clock>(
-    rt: &H,
-    alloc: Global,
-    stream: TcpStream,
-    nodes: &NodeSet,
-    asker: Asker,
-) -> Option<Served> {
+fn attend_stream<H: Wait + Clock>(rt: &H, alloc: Global, stream: TcpStream, start: Start) -> Left
+    requires { Reaches start.nodes start.place }
+    ensures { LeavesBehind start result }
+{
+    let Start { nodes, place } = start;
     let _ = stream.set_nodelay(true);
-    let mut reader = BufReader::new(alloc, &stream).ok()?;
-    attend(rt, alloc, &mut reader, &mut &stream, nodes, asker)
+    match BufReader::new(alloc, &stream) {
+        Ok(mut reader) => attend(rt, alloc, &mut reader, &mut &stream, &nodes, place),
+        Err(_) => Left::Unserved(place),
+    }
 }
 
 /// Takes a connection, unless the one that came was given up before.
@@ -53,66 +58,119 @@ fn accept(listener: &TcpListener) -> Result<Option<TcpStream>, TakeFault> {
     }
 }
 
-impl<R: Threads + Wait + Clock + Drop + Copy + Send + Sync + 'static> Door<R> {
-    /// Starts the thread of a console.
-    fn start_console(&self, stream: TcpStream) -> Result<ConsoleThread, AllocError> {
-        let asker = self.asker.another()?;
-        let (rt, alloc, nodes) = (self.rt, self.alloc, self.nodes.copy());
-        let handle = thread::spawn(&self.rt, move || {
-            attend_stream(&rt, alloc, stream, &nodes, asker)
-        })?;
-        Ok(handle)
-    }
+/// Starts the thread of a console.
+fn start_console<R>(
+    rt: &R,
+    alloc: Global,
+    stream: TcpStream,
+    start: Start,
+) -> Result<ConsoleThread, AllocError>
+where
+    R: Threads + Wait + Clock + Drop + Copy + Send + 'static,
+    requires { Reaches start.nodes start.place }
+    ensures { IfOk result (λ thread. thread.promise.0.value ≡ start) }
+{
+    let promise = LeftBehind(Snapshot::of(&start));
+    let own = *rt;
+    let handle = thread::spawn_with(
+        rt,
+        promise,
+        move || -> Left
+            requires sends { IsSend R.row }
+            requires reaches { Reaches start.nodes start.place }
+            ensures { LeavesBehind start result }
+        { attend_stream(&own, alloc, stream, start) },
+    )?;
+    Ok(handle)
+}
 
-    /// Takes one console more.
-    fn take_one(&self, threads: &mut Vec<ConsoleThread>) -> Result<(), TakeFault> {
+impl<R: Threads + Wait + Clock + Drop + Copy + Send + 'static> Door<R> {
+    /// Takes one console more, with a new seat of the cluster.
+    fn take_one(
+        &self,
+        cluster: &mut ServedCluster,
+        threads: &mut Vec<ConsoleThread>,
+    ) -> Result<(), TakeFault>
+        requires { ReachesAll self.now.nodes cluster.old }
+        ensures { OnOk result (Takes self.now.nodes 1 cluster.old (starts_of threads.old.items) cluster.new (starts_of threads.new.items)) }
+    {
         threads.reserve(1)?;
         if let Some(stream) = accept(&self.listener)? {
-            threads.push_reserved(self.start_console(stream)?);
+            let place = cluster.free_seat();
+            let nodes = self.nodes.copy();
+            threads.push_reserved(start_console(
+                &self.rt,
+                self.alloc,
+                stream,
+                Start { nodes, place },
+            )?);
         }
         Ok(())
     }
 
     /// Takes so many consoles.
-    fn take_all(&self, consoles: u32, threads: &mut Vec<ConsoleThread>) -> Result<(), TakeFault> {
+    fn take_all(
+        &self,
+        consoles: u32,
+        cluster: &mut ServedCluster,
+        threads: &mut Vec<ConsoleThread>,
+    ) -> Result<(), TakeFault>
+        requires { ReachesAll self.now.nodes cluster.old }
+        ensures { OnOk result (Takes self.now.nodes consoles cluster.old (starts_of threads.old.items) cluster.new (starts_of threads.new.items)) }
+    {
         for _ in 0..consoles {
-            self.take_one(threads)?;
+            self.take_one(cluster, threads)?;
         }
         Ok(())
     }
 
-    /// Takes so many consoles, or fewer after a fault, and waits until all have ended: what they leave behind.
-    fn run(self, consoles: u32) -> Result<Vec<Served>, TakeFault> {
-        let mut threads = Vec::new(self.alloc);
-        let taken = self.take_all(consoles, &mut threads);
-        let Door { rt, alloc, .. } = self;
-        let served = join_all(&rt, alloc, threads);
+    /// Takes so many consoles, or fewer after a fault, and waits until all have ended: their transcripts.
+    pub(crate) fn serve(
+        self,
+        consoles: u32,
+        cluster: &mut ServedCluster,
+    ) -> Result<Vec<Transcript>, TakeFault>
+        requires { ReachesAll self.nodes cluster.old }
+        ensures { IfOk result (λ transcripts. IsServed self.nodes consoles cluster.old cluster.new transcripts.items) }
+    {
+        let Door { rt, alloc, .. } = &self;
+        let mut threads = Vec::new(*alloc);
+        let taken = self.take_all(consoles, cluster, &mut threads);
+        let transcripts = join_all(rt, *alloc, threads);
         taken?;
-        Ok(served?)
-    }
-
-    /// Takes so many consoles in a thread of its own, which gives what they leave behind when all have ended.
-    pub(crate) fn open(self, consoles: u32) -> Result<Taker, AllocError> {
-        let rt = self.rt;
-        Ok(thread::spawn(&rt, move || self.run(consoles))?)
+        Ok(transcripts?)
     }
 }
 
-/// Waits until these consoles have ended.
+/// Keeps the transcript that a console left, if it left one. Whether there was memory for it.
+fn keep(left: Left, transcripts: &mut Vec<Transcript>) -> bool
+    ensures { result ≡ true → transcripts.new.items ≡ transcripts.old.items ++ transcripts_in (left ∷ []) }
+{
+    match left {
+        Left::Served(transcript) => transcripts.push(transcript).is_ok(),
+        Left::Unserved(_) => true,
+    }
+}
+
+/// Waits until these consoles have ended: their transcripts.
 fn join_all<R: Threads>(
     rt: &R,
     alloc: Global,
     threads: Vec<ConsoleThread>,
-) -> Result<Vec<Served>, AllocError> {
-    let mut served = Vec::new(alloc);
-    let mut whole = Ok(());
+) -> Result<Vec<Transcript>, AllocError>
+    ensures { IfOk result (λ transcripts. AllLeft (starts_of threads.items) transcripts.items) }
+{
+    let mut transcripts = Vec::new(alloc);
+    let mut whole = true;
     for thread in threads {
-        if let Some(one) = thread.join(rt)
-            && served.push(one).is_err()
-        {
-            whole = Err(AllocError);
+        let left = thread.join(rt);
+        if !keep(left, &mut transcripts) {
+            whole = false;
         }
     }
-    whole?;
-    Ok(served)
+    if whole {
+        Ok(transcripts)
+    } else {
+        Err(AllocError)
+    }
 }

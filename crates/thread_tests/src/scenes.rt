@@ -3,14 +3,16 @@
 use leaves::Ending;
 use meeting::{Flags, Meeting};
 use name_table::ListTable;
-use node_threads::{Call, CloseFault, Closed, Cluster, Reply, Seat, SeatFault, Transcript};
+use node_threads::{
+    Call, CloseFault, Closed, Cluster, FreeSeat, Reply, Seat, SeatFault, Transcript,
+};
 use std::alloc::Global;
 use std::sync::{Arc, Wait};
 use std::test::Fail;
 use std::thread::Threads;
 use std::time::Clock;
 use stubborn::Stubborn;
-use term::{NodeSet, parse_node, parse_nodes};
+use term::{NodeName, NodeSet, parse_node, parse_nodes};
 use transaction::NameCall;
 use world_history::{HistoryEntry, KeptEntry};
 
@@ -266,6 +268,50 @@ const ALL_SEATS: &str = "\
 a,a,a,a,a,a,a,a,a,a,a,a,a,a,a,a,a,a,a,a,a,a,a,a,a,a,a,a,a,a,a,a,\
 a,a,a,a,a,a,a,a,a,a,a,a,a,a,a,a,a,a,a,a,a,a,a,a,a,a,a,a,a,a,a,a";
 
+/// Whether a free seat is given back by a stranger, and is the first seat at this node then, and answered there.
+fn is_first_at<R: Wait + Clock>(
+    rt: &R,
+    alloc: Global,
+    free: FreeSeat,
+    stranger: &NodeName,
+    node: &NodeName,
+) -> bool {
+    let Err(free) = free.at(alloc, stranger) else {
+        return false;
+    };
+    let Ok(mut seat) = free.at(alloc, node) else {
+        return false;
+    };
+    seat.number() == 0 && seat.node() == node && spawns(rt, &mut seat)
+}
+
+/// Chooses the second of two nodes for a free seat.
+fn chooses<R>(rt: &R, alloc: Global) -> bool
+where
+    R: Threads + Wait + Clock + Drop + Copy + Send + Sync + 'static,
+{
+    let (Ok(nodes), Ok(b), Ok(c)) = (parse_nodes("a,b"), parse_node("b"), parse_node("c")) else {
+        return false;
+    };
+    let Some(flags) = held(alloc, NodeSet::empty(), 0) else {
+        return false;
+    };
+    let Some(mut cluster) = start(rt, alloc, &nodes, &flags) else {
+        return false;
+    };
+    let fine = match cluster.free_seat() {
+        Ok(free) => is_first_at(rt, alloc, free, &c, &b),
+        Err(_) => false,
+    };
+    let closed = cluster.close(rt, &[]);
+    fine && closed.is_ok_and(|closed| closed.events == 1)
+}
+
+#[test]
+fn a_free_seat_is_where_it_is_chosen_to_be(rt: HostRuntime) {
+    assert!(rt; chooses(&rt, rt.alloc()));
+}
+
 /// Makes all seats of a cluster of the node `a`, and closes it. Whether no further seat was made, nor one at another node, and the seats
 /// were closed.
 fn spends<R>(rt: &R, alloc: Global) -> bool
@@ -284,13 +330,14 @@ where
     let mut seats = Vec::new(alloc);
     let made = sit(&mut cluster, ALL_SEATS, &mut seats);
     let spent = matches!(cluster.seat(&a), Err(SeatFault::SeatsSpent));
+    let free_spent = matches!(cluster.free_seat(), Err(SeatFault::SeatsSpent));
     let strange = matches!(cluster.seat(&b), Err(SeatFault::NoSuchNode));
     let closed = cluster.close(rt, &[]);
     let last = match seats.last_mut() {
         Some(seat) => seat.number() == 63 && seat.call(rt, Call::Spawn) == Err(SeatFault::Closed),
         None => false,
     };
-    made && spent && strange && last && closed.is_ok_and(|closed| closed.events == 0)
+    made && spent && free_spent && strange && last && closed.is_ok_and(|closed| closed.events == 0)
 }
 
 #[test]

@@ -8,12 +8,12 @@ use Rattle.node_threads.proofs.cluster.Cluster.leave.Goals as goal
 
 pub returns-clause-stranger : goal.returns-clause-stranger
 returns-clause-stranger g c = λ e. absurd (cc (sym (crew_known c.args.node.now c.as_slice.result.now c.self.inside.running.items (record {
-      cluster = c.self.inside.cluster.items;
-      lone = c.self.inside.lone.items;
-      world = nodes_at c.self.inside.shared.hub.value;
-      crew = c.self.inside.running.items;
-      seats = c.self.inside.seats;
-    }) c.args.self.now
+  cluster = c.self.inside.cluster.items;
+  lone = c.self.inside.lone.items;
+  world = nodes_at c.self.inside.shared.hub.value;
+  crew = c.self.inside.running.items;
+  seats = c.self.inside.seats;
+}) c.args.self.now
     c.place_of.result c.place_of.ensures c.as_slice.ensures.value c.self.invariant.1 c.self.view_is
     c.in-Some.place c.in-Some.is) ∙ e))
 
@@ -22,12 +22,12 @@ returns-clause-left g c = on_ok c.leave.result (LeftAsAsked c.index_mut.result.n
     (λ left. record {
       inbox = c.index_mut.result.now.inbox;
       at = inbox_is c.args.node.now (record {
-      cluster = c.self.inside.cluster.items;
-      lone = c.self.inside.lone.items;
-      world = nodes_at c.self.inside.shared.hub.value;
-      crew = c.self.inside.running.items;
-      seats = c.self.inside.seats;
-    }) c.args.self.now c.in-Some.place
+        cluster = c.self.inside.cluster.items;
+        lone = c.self.inside.lone.items;
+        world = nodes_at c.self.inside.shared.hub.value;
+        crew = c.self.inside.running.items;
+        seats = c.self.inside.seats;
+      }) c.args.self.now c.in-Some.place
           (sym (c.place_of.ensures ∙ ap (position (λ w. name_of w == c.args.node.now)) c.as_slice.ensures.value) ∙ c.in-Some.is) c.self.view_is c.index_mut.result.now
           c.index_mut.ensures.value;
       left = left;
