@@ -1,0 +1,5 @@
+use Rattle.shared_table.proofs.Keeping.{begins}
+use Rattle.shared_table.proofs.publisher.Publisher.new.Goals as goal
+
+pub new-requires-clause-rule : goal.new-requires-clause-rule
+new-requires-clause-rule c = begins c.new-first.result c.new-first.ensures

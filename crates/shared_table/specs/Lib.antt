@@ -1,0 +1,4 @@
+pub mod Editions
+pub mod Readers
+pub mod Publishing
+pub mod Rule

@@ -1,0 +1,18 @@
+//! A node's table beside its node: one thread publishes it, edition after edition, and others look names up in it without a lock.
+//!
+//! A `Publisher` notes what each step of the node does to its table, and publishes what it noted all at once. A `TableReader` reads the
+//! edition that was published last; it never waits, neither for the publisher nor for other readers.
+#![tactic(auto)]
+
+mod edit;
+mod kept;
+mod publisher;
+mod reader;
+mod rule;
+mod shown;
+
+pub use edit::{Edit, Update};
+pub use kept::KeptPublisher;
+pub use publisher::Publisher;
+pub use reader::{Lookup, ReaderFactory, TableReader};
+pub use shown::{Edition, Shown};
