@@ -1,6 +1,5 @@
 //! What readers are shown.
-ghost use Rattle.std.specs.Prelude.{◌≡◌, IfOk, MatchResult};
-ghost use Rattle.shared_table.specs.declared.shown.Edition.{Edition as AnyEdition};
+ghost use Rattle.std.specs.Prelude.{◌≡◌, MatchResult};
 ghost use Rattle.shared_table.specs.Editions.{opening, edition_of, updated};
 
 use crate::edit::{Edit, Update};
@@ -30,7 +29,7 @@ pub struct Edition {
 
 impl Shown {
     /// What a node shows before its first step. It takes no memory.
-    pub fn new(alloc: Global) -> Self
+    pub(crate) fn new(alloc: Global) -> Self
         ensures { edition_of result ≡ opening }
     {
         Shown {
@@ -41,15 +40,8 @@ impl Shown {
         }
     }
 
-    /// Whether the node has left.
-    pub fn has_left(&self) -> bool
-        ensures { result ≡ (edition_of self.now).left }
-    {
-        self.left
-    }
-
     /// Makes an update. Where memory is refused nothing changes.
-    pub fn take_in(&mut self, update: &Update) -> Result<(), AllocError>
+    fn take_in(&mut self, update: &Update) -> Result<(), AllocError>
         ensures { MatchResult result (λ _. edition_of self.new ≡ updated (edition_of self.old) update.now) (λ _. self.new ≡ self.old) }
     {
         match &update.edit {
@@ -63,19 +55,6 @@ impl Shown {
         }
         self.length = update.length;
         Ok(())
-    }
-
-    /// The update that makes all this of any edition.
-    pub fn whole(&self) -> Result<Update, AllocError>
-        ensures length { IfOk result (λ u. u.length ≡ (edition_of self.now).length) }
-        ensures all { IfOk result (λ u. (e : AnyEdition) → updated e u ≡ edition_of self.now) }
-    {
-        let table = self.table.copy(self.alloc)?;
-        let edit = Edit::Whole(table, self.left);
-        Ok(Update {
-            length: self.length,
-            edit,
-        })
     }
 }
 
