@@ -1,10 +1,11 @@
 -- Consoles that are taken one after another at the seats of a cluster.
 use Rattle.std.proofs.Common.{ℕ, Bool, true, false, ◌==◌, ◌≡◌, ◌≤◌, ◌+◌, Option, Some, None, List, [], ◌∷◌, ◌++◌, map, cond, refl, sym, ap, subst, ◌∙◌, arith, append_assoc, append-nil, length-append}
-use Rattle.std.specs.Prelude.{◌||◌, is_some, option_map, Ok, Err, IfOk, OnOk, OnErr}
+use Rattle.std.specs.Prelude.{◌||◌, is_some, option_map, Ok, Err, IfOk, IfErr, OnOk, OnErr}
 use Rattle.term.specs.NodeSets.{set_of}
 use Rattle.node_threads.specs.Seats.{Sitting, new_seat, first_at}
 use Rattle.node_threads.proofs.Choosing.{find_mapped}
 use Rattle.node_threads.specs.Wires.{Wired, name_of, inboxes, inbox_to, IsCrew}
+use Rattle.node_threads.specs.Faults.{IsSeatRefused}
 use Rattle.node_threads.specs.Clusters.{Crewed, next_seats}
 use Rattle.server.specs.Attending.{Place, Reaches}
 use Rattle.server.specs.declared.served.Start.{Start}
@@ -13,14 +14,14 @@ use Rattle.server.specs.Taking.{ReachesAll, Takes}
 
 -- a seat that a cluster gave out, or didn't
 pub seats_by : (c d : Crewed) (p : Place) → IfOk p (λ free. free ≡ next_seats c) → OnOk p (d ≡ record c { seats = c.seats + 1 })
-    → OnErr p (d ≡ c) → Seats c p d
-seats_by c d (Ok free) ok made unmade = (ok, made)
-seats_by c d (Err fault) ok made unmade = unmade
+    → OnErr p (d ≡ c) → IfErr p (λ fault. IsSeatRefused fault true c.seats) → Seats c p d
+seats_by c d (Ok free) ok made unmade refused = (ok, made)
+seats_by c d (Err fault) ok made unmade refused = (unmade, refused)
 
 -- a seat changes nothing of its cluster but how many were made
 seat_keeps : (c d : Crewed) (p : Place) → Seats c p d → d ≡ record c { seats = d.seats }
 seat_keeps c d (Ok free) s = s.1 ∙ (λ j. record c { seats = (sym s.1 j).seats })
-seat_keeps c d (Err fault) s = s ∙ (λ j. record c { seats = (sym s j).seats })
+seat_keeps c d (Err fault) s = s.0 ∙ (λ j. record c { seats = (sym s.0 j).seats })
 
 pub seats_keep : (nodes : List ℕ) (c d : Crewed) (ss : List Start) → SeatsAll nodes c ss d → d ≡ record c { seats = d.seats }
 seats_keep nodes c d [] same = same ∙ (λ j. record c { seats = (sym same j).seats })

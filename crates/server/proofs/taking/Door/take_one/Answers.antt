@@ -7,4 +7,4 @@ pub start_console-requires-after_bounds : goal.start_console-requires-after_boun
 start_console-requires-after_bounds g c = λ κs within. subst (λ (ns : List ℕ). Reaches ns c.free_seat-place.result) (sym c.copy-nodes.ensures)
     (seat_reaches c.args.self.now.nodes c.args.cluster.now c.free_seat-place.new.self c.free_seat-place.result
     (seats_by c.args.cluster.now c.free_seat-place.new.self c.free_seat-place.result c.free_seat-place.ensures.ok c.free_seat-place.ensures.made
-    c.free_seat-place.ensures.unmade) c.requires)
+    c.free_seat-place.ensures.unmade c.free_seat-place.ensures.refused) c.requires)
