@@ -26,10 +26,10 @@ struct SeatDesk<'a, H: Wait + Clock> {
 }
 
 /// Looks a name up from a seat.
-fn look_up<H: Wait + Clock>(rt: &H, seat: &mut Seat, name: &Name) -> Result<Reply, SeatFault>
+fn look_up(seat: &mut Seat, name: &Name) -> Result<Reply, SeatFault>
     ensures { SeatAnswers seat.old (Whereis name.now) result seat.new }
 {
-    match seat.whereis(rt, name)? {
+    match seat.whereis(name)? {
         Some(owner) => Ok(Reply::Pid(owner)),
         None => Ok(Reply::Undefined),
     }
@@ -51,7 +51,7 @@ impl<'a, H: Wait + Clock> Attendant for SeatDesk<'a, H> {
     fn ask(&mut self, order: Order) -> Result<Reply, SeatFault> {
         match order {
             Order::Call(call) => self.seat.call(self.rt, call),
-            Order::Whereis(name) => look_up(self.rt, &mut self.seat, &name),
+            Order::Whereis(name) => look_up(&mut self.seat, &name),
             Order::Exit(process) => {
                 self.seat.exit(self.rt, &process)?;
                 Ok(Reply::Ok)

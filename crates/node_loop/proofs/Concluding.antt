@@ -12,7 +12,9 @@ use Rattle.node_loop.specs.declared.fault.TurnFault.{TurnFault}
 use Rattle.node_loop.specs.declared.fault.TurnFault.TheVariants.{StampsSpent, Memory}
 use Rattle.node_loop.specs.declared.waiting.Course.{Course}
 use Rattle.node_loop.specs.Desks.{Kept, Begins, settled, left_by}
+use Rattle.node_loop.specs.declared.edit.Owed.{Owed}
 use Rattle.node_loop.specs.Held.{Looping, Written, with_letters}
+use Rattle.node_loop.specs.Owing.{KeepsOwing}
 use Rattle.node_loop.specs.Steps.{Cause, stamp_of, entry_of, desk_of, Makes, Begun, IsSpent, Ends, Concludes}
 use Rattle.node_loop.proofs.Logs.{answered_last}
 use Rattle.node_loop.proofs.Letters.{puts_at}
@@ -22,7 +24,7 @@ use Rattle.node_loop.proofs.Telling.{begins_on, begins_as, left_begins}
 abbrev pub begun_entry : Cause → Looping → Entry
 begun_entry k a = entry_of k a []
 
-module _ (k : Cause) (a : Looping) (core : Held) (log : Written) (s : ℕ) (own : Option Ticket) (course : Course) (turn : Turn) (b : Looping) where
+module _ (k : Cause) (a : Looping) (core : Held) (log : Written) (owed : Owed) (s : ℕ) (own : Option Ticket) (course : Course) (turn : Turn) (b : Looping) where
   abbrev logged_by : Written
   logged_by = record a.log { entries = a.log.entries ++ entry_of k a turn.answers ∷ [] }
 
@@ -37,17 +39,26 @@ module _ (k : Cause) (a : Looping) (core : Held) (log : Written) (s : ℕ) (own 
   desk_path : own ≡ k.own → course ≡ k.course → b.core ≡ core → settled course own core turn.answers a.desk ≡ desk_of k a b.core turn.answers
   desk_path o q e = λ j. settled (q j) (o j) (sym e j) turn.answers a.desk
 
-  module _ {E : Type 0} (step : Steps k.event a.core core turn) (l : log ≡ record a.log { entries = a.log.entries ++ begun_entry k a ∷ [] }) (e : s ≡ stamp_of k a) (o : own ≡ k.own) (q : course ≡ k.course) where
+  -- whatever it is then, what it owes its readers is noted
+  abbrev OwesSo : Type 0
+  OwesSo = Steps k.event a.core b.core turn → b.log ≡ logged_by → b.world ≡ a.world → b.left ≡ a.left → b.owed ≡ owed → KeepsOwing a b
+
+  stepped_to : b.core ≡ core → Steps k.event a.core core turn → Steps k.event a.core b.core turn
+  stepped_to same step = subst (λ (h : Held). Steps k.event a.core h turn) (sym same) step
+
+  module _ {E : Type 0} (step : Steps k.event a.core core turn) (l : log ≡ record a.log { entries = a.log.entries ++ begun_entry k a ∷ [] }) (e : s ≡ stamp_of k a) (o : own ≡ k.own) (q : course ≡ k.course) (owes : OwesSo) where
     -- so the step is made
-    pub makes : s < 2 ^ 64 → (u : Unit {0}) → Concludes {E = E} s own course turn (record a { core = core; log = log }) (Ok u) b → Makes k a b
+    pub makes : s < 2 ^ 64 → (u : Unit {0}) → Concludes {E = E} s own course turn (record a { core = core; log = log; owed = owed }) (Ok u) b
+        → Makes k a b
     makes fits u c = record {
       fits = subst (λ (n : ℕ). n < 2 ^ 64) e fits;
       turn = turn;
-      step = subst (λ (h : Held). Steps k.event a.core h turn) (sym c.core) step;
+      step = stepped_to c.core step;
       log = log_path l c.log;
       stamp = c.stamp ∙ e;
       tray = c.told.1 ∙ ap (λ (n : ℕ). with_letters n turn.letters a.tray) e;
       desk = c.told.0 ∙ desk_path o q c.core;
+      owing = owes (stepped_to c.core step) (log_path l c.log) c.world c.left c.owed;
       world = c.world;
       wait = c.wait;
       left = c.left;
@@ -55,13 +66,14 @@ module _ (k : Cause) (a : Looping) (core : Held) (log : Written) (s : ℕ) (own 
     }
 
     -- or the thread ends within it
-    pub begins : (why : E) → Concludes s own course turn (record a { core = core; log = log }) (Err why) b → Begun k (desk_of k a) a b
+    pub begins : (why : E) → Concludes s own course turn (record a { core = core; log = log; owed = owed }) (Err why) b → Begun k (desk_of k a) a b
     begins why c = record {
       turn = turn;
-      step = subst (λ (h : Held). Steps k.event a.core h turn) (sym c.core) step;
+      step = stepped_to c.core step;
       log = log_path l c.log;
       tray = puts_at s (stamp_of k a) turn.letters a.tray b.tray e c.told.1;
       replies = begins_as _ _ _ _ refl (ap (λ (d : Kept). d.replies) (desk_path o q c.core)) c.told.0;
+      owing = owes (stepped_to c.core step) (log_path l c.log) c.world c.left c.owed;
     }
 
 -- the core's step, of what its event is
@@ -84,10 +96,10 @@ pub unspent : (k : Cause) (a : Looping) (s : ℕ) → s ≡ stamp_of k a → s <
 unspent k a s e l spent = omega (arith, e, l, spent)
 
 -- the step of a leave was made, and there was no memory to tell all who are to be told
-pub ends_left : (k : Cause) (a m b : Looping) → Makes k a m → b ≡ record m { left = true; desk = b.desk }
-    → Begins b.desk.replies (left_by m.desk).replies
+pub ends_left : (k : Cause) (a m b : Looping) → Makes k a m → b ≡ record m { left = true; desk = b.desk; owed = b.owed }
+    → KeepsOwing a b → Begins b.desk.replies (left_by m.desk).replies
     → Ends Memory k (λ core answers. left_by (desk_of k a core answers)) a b
-ends_left k a m b M is told = (
+ends_left k a m b M is owing told = (
   unspent k a (stamp_of k a) refl M.fits,
   inr (record {
     turn = M.turn;
@@ -101,6 +113,7 @@ ends_left k a m b M is told = (
     };
     replies = begins_as _ _ _ _ refl (ap (λ (d : Kept). (left_by d).replies)
         (M.desk ∙ ap (λ (h : Held). desk_of k a h M.turn.answers) (sym core))) told;
+    owing = owing;
   }),
 )
   where
@@ -121,6 +134,7 @@ ends_leaving Memory k a b h = (
       log = begun.log;
       tray = begun.tray;
       replies = begins_on _ _ _ begun.replies (left_begins (desk_of k a b.core begun.turn.answers));
+      owing = begun.owing;
     })
   ],
 )

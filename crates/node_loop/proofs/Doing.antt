@@ -60,6 +60,14 @@ asks nodes (SetLock p id asked retries) known = tt
 asks nodes (DelLock p id asked) known = tt
 asks nodes (JoinBy m) known = known
 
+-- the step of an event of its own is the protocol's
+pub own_turn : (h core : Held) (turn : Turn) (e : Event) → Steps (node_event e) h core turn → knows_contact h.world e ≡ true
+    → turn_by unnumbered core turn ≡ event (bound_of h.world) h.name (set_of h.world) (own_event_of e) (begun (node_of h))
+own_turn h core turn (Call c) S known = S.turn unnumbered (asks h.world c known)
+own_turn h core turn Retry S known = S.turn unnumbered
+own_turn h core turn (Exit p) S known = S.turn unnumbered
+own_turn h core turn Leave S known = S.turn unnumbered
+
 -- a step that a core made, and its entry, as the protocol has them
 abbrev pub made : Held → Turn → SeenEntry → Made
 made core turn entry = record { entry = entry; after = node_of core; sends = map send_of turn.letters }
@@ -109,13 +117,6 @@ module _ (o : Opening) (h : Held) (I : IsNodeOf o h) where
         → IsTurnOf (made core turn entry) (event o.bound h.name (in_world o) e (begun (node_of h)))
     event_is e same = is_turn unnumbered _ (same ∙ λ j. event (sym I.bound j) h.name (sym I.inside j) e (begun (node_of h)))
 
-    own_turn : (e : Event) → Steps (node_event e) h core turn → knows_contact h.world e ≡ true
-        → IsTurnOf (made core turn entry) (event o.bound h.name (in_world o) (own_event_of e) (begun (node_of h)))
-    own_turn (Call c) S known = event_is (own_event_of (Call c)) (S.turn unnumbered (asks h.world c known))
-    own_turn Retry S known = event_is AnyEvent.Retry (S.turn unnumbered)
-    own_turn (Exit p) S known = event_is (own_event_of (Exit p)) (S.turn unnumbered)
-    own_turn Leave S known = event_is AnyEvent.Leave (S.turn unnumbered)
-
     accepts : (e : Event) → Steps (node_event e) h core turn → first_cause (causes h.name (node_of h) (own_event_of e)) ≡ None
     accepts (Call c) S = S.accepted
     accepts Retry S = S.accepted
@@ -125,7 +126,7 @@ module _ (o : Opening) (h : Held) (I : IsNodeOf o h) where
     -- an event of its own
     pub own_does : (letters : ℕ → List StampedLetter) (e : Event) → Steps (node_event e) h core turn → knows_contact h.world e ≡ true
         → DoesIfFit (IsSaid (in_world o)) o letters (node_of h) (made core turn entry) (AnyWorldEvent.At h.name (own_event_of e))
-    own_does letters e S known = ((accepts e S, own_turn e S known), says_fit (S.within (hears e known)))
+    own_does letters e S known = ((accepts e S, event_is (own_event_of e) (own_turn h core turn e S known)), says_fit (S.within (hears e known)))
 
     -- the letter that is the oldest from its sender
     pub letter_does : (letters : ℕ → List StampedLetter) (f n : ℕ) (l : Letter) (rest : List StampedLetter)

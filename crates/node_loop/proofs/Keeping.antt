@@ -31,7 +31,7 @@ use Rattle.node_loop.specs.declared.fault.TurnFault.TheVariants.{StampsSpent, Me
 use Rattle.node_loop.specs.Desks.{Kept, left_by}
 use Rattle.node_loop.specs.Held.{Looping, has_retry, has_leave, is_due, is_free_to_leave, can_step}
 use Rattle.node_loop.specs.Steps.{Cause, Outcome, by_event, by_letter, stamp_of, entry_of, desk_of, Makes, Ends, Goes}
-use Rattle.node_loop.specs.Items.{Refuses, WaitsToLeave, Asks, Accepts, Handles, by_leave, leaver, Departs, Leaves, Then, Hears, Works, Idles}
+use Rattle.node_loop.specs.Items.{with_leave, Refuses, WaitsToLeave, Asks, Accepts, Handles, by_leave, leaver, Departs, Leaves, Then, Waits, behind_item, Hears, Works, Idles}
 use Rattle.node_loop.specs.Turned.{Took, Missed, Turned}
 use Rattle.node_loop.specs.Said.{IsSaid}
 use Rattle.node_loop.specs.Dealings.{Dealt, letter_in, letters_in}
@@ -110,7 +110,7 @@ module _ (o : Opening) (d : Dealt) where
 
   module _ (unread : ℕ → List StampedLetter) (a b : Looping) (S : Stands o unread a d) (run : a.left ≡ false) where
     -- a step is made
-    makes : (k : Cause) → Fits unread a k → Makes k a b → (c : Looping) → c ≡ record b { left = c.left; desk = c.desk }
+    makes : (k : Cause) → Fits unread a k → Makes k a b → (c : Looping) → c ≡ record b { left = c.left; desk = c.desk; owed = c.owed }
         → (c.left ≡ false → is_leave (event_of k.logged) ≡ false) → IsSound o c d
     makes k F M c is stays =
         subst (λ (u : ℕ → List StampedLetter). Stands o u c d) F.read
@@ -138,11 +138,11 @@ module _ (o : Opening) (d : Dealt) where
 
   -- what changes the desk alone
   refuses : (a b : Looping) → IsSound o a d → (ticket : Option Ticket) (fault : TaskFault) (r : Outcome) → Refuses ticket fault a r b → Comes r b
-  refuses a b S ticket fault (Ok u) e = subst (λ (x : Looping). IsSound o x d) (sym e) (besides o (λ f. []) a d S _ a.wait a.worked)
+  refuses a b S ticket fault (Ok u) e = subst (λ (x : Looping). IsSound o x d) (sym e) (besides o (λ f. []) a d S _ a.wait a.worked a.owed)
   refuses a b S ticket fault (Err why) e = unchanged a b S e.1
 
   waits : (a b : Looping) → IsSound o a d → (ticket : Option Ticket) (r : Outcome) → WaitsToLeave ticket a r b → Comes r b
-  waits a b S ticket (Ok u) e = subst (λ (x : Looping). IsSound o x d) (sym e) (besides o (λ f. []) a d S _ a.wait a.worked)
+  waits a b S ticket (Ok u) e = subst (λ (x : Looping). IsSound o x d) (sym e) (besides o (λ f. []) a d S _ a.wait a.worked a.owed)
   waits a b S ticket (Err why) e = unchanged a b S e.1
 
   one_outcome : (r : Outcome) (why : TurnFault) → r ≡ Err why → r ≡ Ok tt → ⊥
@@ -225,7 +225,7 @@ module _ (o : Opening) (d : Dealt) where
           (λ why. Ends why (by_leave a) (λ core answers. left_by (desk_of (by_leave a) a core answers)) a b))
           ((r ≡ Ok tt) × (b ≡ a)) → Comes r b
       at_free true q (Ok u) h =
-          makes (λ f. []) a h.stepped S (free_runs a q) (by_leave a) fits h.step b (h.behind ∙ λ j. record h.stepped { left = sym left j; desk = sym desk j })
+          makes (λ f. []) a h.stepped S (free_runs a q) (by_leave a) fits h.step b (h.behind ∙ λ j. record h.stepped { left = sym left j; desk = sym desk j; owed = sym owed j })
           (λ run. absurd (true≢false (sym left ∙ run)))
         where
           left : b.left ≡ true
@@ -233,38 +233,51 @@ module _ (o : Opening) (d : Dealt) where
 
           desk : b.desk ≡ left_by h.stepped.desk
           desk = ap (λ (l : Looping). l.desk) h.behind
+
+          owed : b.owed ≡ with_leave h.stepped
+          owed = ap (λ (l : Looping). l.owed) h.behind
       at_free true q (Err why) h = ends (λ f. []) a b S (free_runs a q) why (by_leave a) _ fits h
       at_free false q r h = still a b r S h
 
-  -- one thing comes first, and then a leave that waits
-  behind : (first : Looping → Outcome → Looping → Type 0) (a : Looping) (r : Outcome) (b : Looping)
-      → ((went : Outcome) (m : Looping) → first a went m → Comes went m) → Then first a r b → Comes r b
-  behind first a r b is h = at_went h.went (is h.went h.between h.comes) h.behind
+  -- one thing comes first, and the other behind it
+  behind : (first second : Looping → Outcome → Looping → Type 0) (a : Looping) (r : Outcome) (b : Looping)
+      → ((went : Outcome) (m : Looping) → first a went m → Comes went m) → ((m : Looping) → IsSound o m d → second m r b → Comes r b)
+      → Then first second a r b → Comes r b
+  behind first second a r b is next h = at_went h.went (is h.went h.between h.comes) h.behind
     where
       at_went : (went : Outcome) → Comes went h.between
-          → MatchResult went (λ _. Leaves h.between r b) (λ why. (r ≡ Err why) × (b ≡ h.between)) → Comes r b
-      at_went (Ok u) S l = leaves h.between b S r l
+          → MatchResult went (λ _. second h.between r b) (λ why. (r ≡ Err why) × (b ≡ h.between)) → Comes r b
+      at_went (Ok u) S l = next h.between S l
       at_went (Err why) E l =
           subst (λ (x : Outcome). Comes x b) (sym l.0) (subst (λ (x : Looping). EndsSound o x d) (sym l.1) E)
 
-  idles : (a b : Looping) → IsSound o a d → (r : Outcome) → Idles a r b → Comes r b
-  idles a b S r h = at_retry (is_due a) refl h
+  passes : (a b : Looping) → IsSound o a d → (r : Outcome) → Waits a r b → Comes r b
+  passes a b S r h = at_retry (is_due a) refl h
     where
       now : Looping
-      now = record a { worked = can_step a; wait = a.wait - 1 }
+      now = record a { wait = a.wait - 1 }
 
       S_now : IsSound o now d
-      S_now = besides o (λ f. []) a d S a.desk (a.wait - 1) (can_step a)
+      S_now = besides o (λ f. []) a d S a.desk (a.wait - 1) a.worked a.owed
 
       at_retry : (due : Bool) → is_due a ≡ due
-          → MatchBool due (Then (Goes (by_event None Retry a)) now r b) (Leaves now r b) → Comes r b
+          → MatchBool due (Then (Goes (by_event None Retry a)) Leaves now r b) (Leaves now r b) → Comes r b
       at_retry true q h =
-          behind (Goes (by_event None Retry a)) now r b
-          (λ went m g. goes (λ f. []) now m S_now (due_runs a q) (by_event None Retry now) (by_own now S_now None Retry refl) refl went g) h
+          behind (Goes (by_event None Retry a)) Leaves now r b
+          (λ went m g. goes (λ f. []) now m S_now (due_runs a q) (by_event None Retry now) (by_own now S_now None Retry refl) refl went g)
+          (λ m k l. leaves m b k r l) h
       at_retry false q h = leaves now b S_now r h
 
+  idles : (a b : Looping) → IsSound o a d → (r : Outcome) → Idles a r b → Comes r b
+  idles a b S r h =
+      passes (record a { worked = can_step a }) b (besides o (λ f. []) a d S a.desk a.wait (can_step a) a.owed) r h
+
+  behind_it : (i : Item) (a b : Looping) → IsSound o a d → (r : Outcome) → behind_item i a r b → Comes r b
+  behind_it (item.Letter l) a b S r h = leaves a b S r h
+  behind_it (item.Task t) a b S r h = passes a b S r h
+
   hears : (i : Item) (u : ℕ → List StampedLetter) (a b : Looping) → Stands o u a d → Hears i a b → Stands o u b d
-  hears (item.Letter l) u a b S h = subst (λ (x : Looping). Stands o u x d) (sym h.0) (besides o u a d S a.desk b.wait a.worked)
+  hears (item.Letter l) u a b S h = subst (λ (x : Looping). Stands o u x d) (sym h.0) (besides o u a d S a.desk b.wait a.worked a.owed)
   hears (item.Task t) u a b S h = subst (λ (x : Looping). Stands o u x d) (sym h) S
 
   works : (a b : Looping) (from : ℕ) (i : Item) → in_world o from ≡ true → Stands o (letters_from from i) a d → (r : Outcome)
@@ -272,8 +285,9 @@ module _ (o : Opening) (d : Dealt) where
   works a b from i known S r h =
       let heard : Stands o (letters_from from i) h.hearing d =
       hears i (letters_from from i) (record a { worked = true }) h.hearing
-      (besides o (letters_from from i) a d S a.desk a.wait true) h.hears in
-      behind (Handles from i) h.hearing r b (λ went m k. handles h.hearing m from i known heard went k) h.handles
+      (besides o (letters_from from i) a d S a.desk a.wait true a.owed) h.hears in
+      behind (Handles from i) (behind_item i) h.hearing r b (λ went m k. handles h.hearing m from i known heard went k)
+      (λ m k l. behind_it i m b k r l) h.handles
 
 module _ {S : Type 0} (posts : S → ℕ → Item → S → Type 0) (refused : S → ℕ → Item → LinkFault → Type 0) (takes : S → ℕ → Item → S → Type 0) (misses : S → Type 0) (held : ℕ → Type 0) where
   pub keeps : (a : Looping) (s : S) (r : Outcome) (b : Looping) (t : S) → Turned posts refused takes misses held a s r b t

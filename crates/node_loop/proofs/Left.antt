@@ -1,35 +1,29 @@
 -- Where the owner of a leave is told that the node has left, the node's log has its leave: a loop's moves keep it so.
 use Rattle.std.proofs.Common.{◌≡◌, ℕ, zero, suc, Bool, true, false, Option, Some, None, Ok, Err, List, [], ◌∷◌, ◌++◌, map, flat_map, refl, sym, ap, subst, ◌∙◌, inl, inr, eq-eqb}
-use Rattle.std.specs.Prelude.{Result, MatchBool, MatchResult, if◌then◌else◌, ◌||◌, ◌-◌}
+use Rattle.std.specs.Prelude.{Result, if◌then◌else◌, ◌||◌}
 use Rattle.std.specs.List.{list_any}
 use Rattle.std.proofs.lemmas.Bool.{and_from, or_from, or_left, or_right, false≢true}
 use Rattle.std.proofs.lemmas.List.Folds.{list_any-append, list_any_at}
 use Rattle.registry_model.specs.Process.{Process}
 use Rattle.protocol_model.specs.Event.{Answer as AnyAnswer}
 use Rattle.node_log.specs.declared.Answer.{Answer}
-use Rattle.node_log.specs.declared.Event.{Event}
-use Rattle.node_log.specs.declared.Event.TheVariants.{Retry}
 use Rattle.node_log.specs.Entries.{Entry}
-use Rattle.node_log.specs.Events.{is_leave as leaves_by, knows_contact}
 use Rattle.node_log.specs.NodeEventsSeen.{answer_of}
 use Rattle.node_log.specs.NodeCoreHeld.{Held}
 use Rattle.node_log.specs.Openings.{opening_core}
-use Rattle.node_loop.specs.declared.item.Item.{Item}
-use Rattle.node_loop.specs.declared.item.Item.TheVariants as item
 use Rattle.node_loop.specs.declared.item.Ticket.{Ticket}
 use Rattle.node_loop.specs.declared.replies.TaskFault.{TaskFault}
-use Rattle.node_loop.specs.declared.fault.TurnFault.{TurnFault}
-use Rattle.node_loop.specs.declared.fault.TurnFault.TheVariants.{StampsSpent, Memory}
 use Rattle.node_loop.specs.declared.waiting.Caller.{Caller}
 use Rattle.node_loop.specs.declared.waiting.Course.{Course}
 use Rattle.node_loop.specs.declared.waiting.Course.TheVariants.{AtOnce, Accepted, Numbered, OfHolder}
 use Rattle.node_loop.specs.Told.{Came, Answered, Made, Left, Told, tell}
 use Rattle.node_loop.specs.Waiting.{is_dropped}
 use Rattle.node_loop.specs.Desks.{Kept, Begins, addressee, answered, all_answered, dead_told, drop_told, acceptance, awaiting, settled, left_by}
-use Rattle.node_loop.specs.Held.{Looping, Written, is_due, is_free_to_leave, can_step}
-use Rattle.node_loop.specs.Steps.{Cause, Outcome, by_event, by_letter, entry_of, desk_of, Makes, Rests, Begun, Ends, Goes}
-use Rattle.node_loop.specs.Items.{Refuses, WaitsToLeave, Asks, Accepts, Handles, by_leave, Departs, Leaves, Then, Hears, Works, Idles}
-use Rattle.node_loop.specs.Coming.{Turns, HandsOut, ComesBy, IsLoopOf}
+use Rattle.node_loop.specs.Held.{Looping, Written}
+use Rattle.node_loop.specs.Steps.{Cause, entry_of, desk_of, Makes, Rests, Begun}
+use Rattle.node_loop.specs.Items.{by_leave, Departs}
+use Rattle.node_loop.specs.Coming.{HandsOut, HandsOver, ComesBy, IsLoopOf}
+use Rattle.node_loop.proofs.Moving.{IsKept, turns}
 use Rattle.node_loop.specs.Left.{is_leave_of, logs_leave, told_left, LeavesAreLogged}
 
 -- by this outcome the node has left
@@ -133,9 +127,6 @@ module _ (k : Cause) (a b : Looping) (h : Logs a) where
         (h.leave (behind_step k.course k.own b.core M.turn.answers a.desk (ap (λ (d : Kept). some_left d.replies) (sym M.desk) ∙ t)));
   }
 
-  rests : Rests a b → Logs b
-  rests R = subst Logs (sym R.others) (record { named = h.named ∙ sym R.core.name; leave = h.leave })
-
   begun : Begun k (desk_of k a) a b → Logs b
   begun B = record {
     named = still_named B.turn.answers B.log B.step.name;
@@ -144,136 +135,39 @@ module _ (k : Cause) (a b : Looping) (h : Logs a) where
         (on_beginning b.desk.replies (desk_of k a b.core B.turn.answers).replies B.replies t)));
   }
 
-  ends : (why : TurnFault) → Ends why k (desk_of k a) a b → Logs b
-  ends StampsSpent E = subst Logs (sym E.1) h
-  ends Memory E = elim E.1 [ inl R ↦ rests R | inr B ↦ begun B ]
+rests : (a b : Looping) → Logs a → Rests a b → Logs b
+rests a b h R = subst Logs (sym R.others) (record { named = h.named ∙ sym R.core.name; leave = h.leave })
 
-  goes : (r : Outcome) → Goes k a r b → Logs b
-  goes (Ok u) M = makes M
-  goes (Err why) E = ends why E
+-- the entry of a leave is the node's own
+own : (a : Looping) → Logs a → (answers : List Answer) → is_leave_of a.log.node (entry_of (by_leave a) a answers).event ≡ true
+own a h answers = and_from _ true (eq-eqb a.core.name a.log.node (sym h.named)) refl
 
-refuses : (a b : Looping) → Logs a → (ticket : Option Ticket) (fault : TaskFault) (r : Outcome) → Refuses ticket fault a r b → Logs b
-refuses a b h ticket fault (Ok u) e = subst Logs (sym e) (record {
-  named = h.named;
-  leave = λ t. h.leave (before a.desk.replies (tell ticket (Err fault)) (silent_tell ticket (Err fault) refl) t);
+departs : (a b : Looping) → Logs a → Departs a b → Logs b
+departs a b h D = subst Logs (sym D.behind) (record {
+  named = still_named (by_leave a) a D.stepped h D.step.turn.answers D.step.log D.step.step.name;
+  leave = λ t. stands a.log D.stepped.log (entry_of (by_leave a) a D.step.turn.answers) D.step.log (own a h D.step.turn.answers);
 })
-refuses a b h ticket fault (Err why) e = subst Logs (sym e.1) h
 
-waits : (a b : Looping) → Logs a → (ticket : Option Ticket) (r : Outcome) → WaitsToLeave ticket a r b → Logs b
-waits a b h ticket (Ok u) e = subst Logs (sym e) (record { named = h.named; leave = h.leave })
-waits a b h ticket (Err why) e = subst Logs (sym e.1) h
+departing : (a b : Looping) → Logs a → Begun (by_leave a) (λ core answers. left_by (desk_of (by_leave a) a core answers)) a b → Logs b
+departing a b h B = record {
+  named = still_named (by_leave a) a b h B.turn.answers B.log B.step.name;
+  leave = λ t. stands a.log b.log (entry_of (by_leave a) a B.turn.answers) B.log (own a h B.turn.answers);
+}
 
-asks : (a b : Looping) → Logs a → (ticket : Option Ticket) (e : Event) (r : Outcome) → Asks ticket e a r b → Logs b
-asks a b h ticket e r (inl g) = goes (by_event ticket e a) a b h r g
-asks a b h ticket e r (inr x) = refuses a b h ticket _ r x.3
-
-accepts : (a b : Looping) → Logs a → (ticket : Option Ticket) (e : Event) (r : Outcome) → Accepts ticket e a r b → Logs b
-accepts a b h ticket e r x = at_contact (knows_contact a.world e) x
-  where
-    at_leave : (leaves : Bool) → MatchBool leaves (WaitsToLeave ticket a r b) (Asks ticket e a r b) → Logs b
-    at_leave true x = waits a b h ticket r x
-    at_leave false x = asks a b h ticket e r x
-
-    at_left : (left : Bool)
-        → MatchBool left (Refuses ticket TaskFault.NodeLeft a r b)
-        (MatchBool (leaves_by e) (WaitsToLeave ticket a r b) (Asks ticket e a r b)) → Logs b
-    at_left true x = refuses a b h ticket _ r x
-    at_left false x = at_leave (leaves_by e) x
-
-    at_contact : (knows : Bool)
-        → MatchBool knows
-        (MatchBool a.left (Refuses ticket TaskFault.NodeLeft a r b)
-        (MatchBool (leaves_by e) (WaitsToLeave ticket a r b) (Asks ticket e a r b)))
-        (Refuses ticket TaskFault.NoSuchNode a r b) → Logs b
-    at_contact true x = at_left a.left x
-    at_contact false x = refuses a b h ticket _ r x
-
-handles : (a b : Looping) → Logs a → (from : ℕ) (i : Item) (r : Outcome) → Handles from i a r b → Logs b
-handles a b h from (item.Letter l) r x = at_left a.left x
-  where
-    at_left : (left : Bool) → MatchBool left ((r ≡ Ok tt) × (b ≡ a)) (Goes (by_letter from l a) a r b) → Logs b
-    at_left true x = subst Logs (sym x.1) h
-    at_left false x = goes (by_letter from l a) a b h r x
-handles a b h from (item.Task t) r x = accepts a b h t.ticket t.event r x
-
--- where a leave is tried, only its step adds a reply that says so, and that step is logged
-leaves : (a b : Looping) → Logs a → (r : Outcome) → Leaves a r b → Logs b
-leaves a b h r x = at_free (is_free_to_leave a) r x
-  where
-    own : (answers : List Answer) → is_leave_of a.log.node (entry_of (by_leave a) a answers).event ≡ true
-    own answers = and_from _ true (eq-eqb a.core.name a.log.node (sym h.named)) refl
-
-    departs : Departs a b → Logs b
-    departs D = subst Logs (sym D.behind) (record {
-      named = still_named (by_leave a) a D.stepped h D.step.turn.answers D.step.log D.step.step.name;
-      leave = λ t. stands a.log D.stepped.log (entry_of (by_leave a) a D.step.turn.answers) D.step.log (own D.step.turn.answers);
-    })
-
-    ends_so : (why : TurnFault) → Ends why (by_leave a) (λ core answers. left_by (desk_of (by_leave a) a core answers)) a b → Logs b
-    ends_so StampsSpent E = subst Logs (sym E.1) h
-    ends_so Memory E = elim E.1 [
-      | inl R ↦ rests (by_leave a) a b h R
-      | inr B ↦ record {
-        named = still_named (by_leave a) a b h B.turn.answers B.log B.step.name;
-        leave = λ t. stands a.log b.log (entry_of (by_leave a) a B.turn.answers) B.log (own B.turn.answers);
-      }
-    ]
-
-    at_free : (free : Bool) (r : Outcome)
-        → MatchBool free
-        (MatchResult r (λ _. Departs a b)
-        (λ why. Ends why (by_leave a) (λ core answers. left_by (desk_of (by_leave a) a core answers)) a b))
-        ((r ≡ Ok tt) × (b ≡ a)) → Logs b
-    at_free true (Ok u) x = departs x
-    at_free true (Err why) x = ends_so why x
-    at_free false r x = subst Logs (sym x.1) h
-
--- one thing comes first, and then a leave that waits
-behind : (first : Looping → Outcome → Looping → Type 0) (a : Looping) (r : Outcome) (b : Looping)
-    → ((went : Outcome) (m : Looping) → first a went m → Logs m) → Then first a r b → Logs b
-behind first a r b is x = at_went x.went (is x.went x.between x.comes) x.behind
-  where
-    at_went : (went : Outcome) → Logs x.between
-        → MatchResult went (λ _. Leaves x.between r b) (λ why. (r ≡ Err why) × (b ≡ x.between)) → Logs b
-    at_went (Ok u) h l = leaves x.between b h r l
-    at_went (Err why) h l = subst Logs (sym l.1) h
-
-idles : (a b : Looping) → Logs a → (r : Outcome) → Idles a r b → Logs b
-idles a b h r x = at_retry (is_due a) x
-  where
-    now : Looping
-    now = record a { worked = can_step a; wait = a.wait - 1 }
-
-    logs_now : Logs now
-    logs_now = record { named = h.named; leave = h.leave }
-
-    at_retry : (due : Bool) → MatchBool due (Then (Goes (by_event None Retry a)) now r b) (Leaves now r b) → Logs b
-    at_retry true x =
-        behind (Goes (by_event None Retry a)) now r b (λ went m g. goes (by_event None Retry a) now m logs_now went g) x
-    at_retry false x = leaves now b logs_now r x
-
-hears : (i : Item) (a b : Looping) → Logs a → Hears i a b → Logs b
-hears (item.Letter l) a b h x = subst Logs (sym x.0) (record { named = h.named; leave = h.leave })
-hears (item.Task t) a b h x = subst Logs (sym x) h
-
-works : (a b : Looping) → Logs a → (from : ℕ) (i : Item) (r : Outcome) → Works from i a r b → Logs b
-works a b h from i r x =
-    behind (Handles from i) x.hearing r b (λ went m k. handles x.hearing m heard from i went k) x.handles
-  where
-    heard : Logs x.hearing
-    heard = hears i (record a { worked = true }) x.hearing (record { named = h.named; leave = h.leave }) x.hears
-
-turns : (a b : Looping) → Logs a → Turns a b → Logs b
-turns a b h T = elim T.turned [
-  | inl w ↦ works sent b logs_sent w.0 w.1 T.outcome w.2
-  | inr i ↦ idles sent b logs_sent T.outcome i
-]
-  where
-    sent : Looping
-    sent = record a { tray = T.tray }
-
-    logs_sent : Logs sent
-    logs_sent = record { named = h.named; leave = h.leave }
+kept : IsKept Logs
+kept = record {
+  besides = λ a tray wait worked h. record { named = h.named; leave = h.leave };
+  refuses = λ a ticket fault h. record {
+    named = h.named;
+    leave = λ t. h.leave (before a.desk.replies (tell ticket (Err fault)) (silent_tell ticket (Err fault) refl) t);
+  };
+  waits = λ a ticket h. record { named = h.named; leave = h.leave };
+  makes = makes;
+  rests = rests;
+  begun = begun;
+  departs = departs;
+  departing = departing;
+}
 
 hands_out : (a b : Looping) → Logs a → HandsOut a b → Logs b
 hands_out a b h H = subst Logs (sym H.rest) (record {
@@ -281,11 +175,15 @@ hands_out a b h H = subst Logs (sym H.rest) (record {
   leave = λ t. h.leave (ap (λ (l : List Told). some_left l) H.oldest ∙ or_right (tells_left H.told) (some_left b.desk.replies) t);
 })
 
+hands_over : (a b : Looping) → Logs a → HandsOver a b → Logs b
+hands_over a b h e = subst Logs (sym e) (record { named = h.named; leave = h.leave })
+
 comes : (n : ℕ) (core : Held) (b : Looping) → ComesBy n core b → Logs b
 comes zero core b e = subst Logs (sym e) (record { named = refl; leave = λ t. absurd (false≢true t) })
 comes (suc n) core b x = elim x.2 [
-  | inl T ↦ turns x.0 b (comes n core x.0 x.1) T
-  | inr H ↦ hands_out x.0 b (comes n core x.0 x.1) H
+  | inl T ↦ turns Logs kept x.0 b (comes n core x.0 x.1) T
+  | inr (inl H) ↦ hands_out x.0 b (comes n core x.0 x.1) H
+  | inr (inr O) ↦ hands_over x.0 b (comes n core x.0 x.1) O
 ]
 
 module _ (name : ℕ) (b : Looping) (is : IsLoopOf name b) where

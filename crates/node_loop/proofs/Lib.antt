@@ -4,12 +4,15 @@ pub mod Letters
 pub mod Faults
 pub mod Concluding
 pub mod Turning
+pub mod Moving
 pub mod Left
 pub mod Trays
 pub mod Dealing
 pub mod Links
 pub mod Saying
 pub mod Doing
+pub mod Owing
+pub mod Updates
 pub mod Standing
 pub mod Keeping
 pub mod Beginning

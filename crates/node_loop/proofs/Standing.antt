@@ -20,6 +20,7 @@ use Rattle.node_log.specs.Events.{event_of}
 use Rattle.node_log.specs.Seen.{seen_entry}
 use Rattle.tray.specs.Held.{Waiting}
 use Rattle.node_loop.specs.declared.item.Item.{Item}
+use Rattle.node_loop.specs.declared.edit.Owed.{Owed}
 use Rattle.node_loop.specs.Desks.{Kept}
 use Rattle.node_loop.specs.Held.{Looping, Written, with_letters}
 use Rattle.node_loop.specs.Steps.{Cause, stamp_of, entry_of}
@@ -54,8 +55,9 @@ logged_more course es fs m e same one more =
 
 module _ (o : Opening) (unread : ℕ → List StampedLetter) (a : Looping) (d : Dealt) (S : Stands o unread a d) where
   -- what the protocol doesn't see of it may be otherwise
-  pub besides : (desk : Kept) (wait : ℕ) (worked : Bool) → Stands o unread (record a { desk = desk; wait = wait; worked = worked }) d
-  besides desk wait worked = record {
+  pub besides : (desk : Kept) (wait : ℕ) (worked : Bool) (owed : Owed)
+      → Stands o unread (record a { desk = desk; wait = wait; worked = worked; owed = owed }) d
+  besides desk wait worked owed = record {
     of = S.of;
     named = S.named;
     world = S.world;

@@ -7,6 +7,7 @@ use Rattle.node_loop.specs.declared.item.Item.{Item}
 use Rattle.node_loop.specs.Told.{Told}
 use Rattle.node_loop.specs.Desks.{empty_desk}
 use Rattle.node_loop.specs.Held.{Looping}
+use Rattle.node_loop.specs.Owing.{nothing_owed}
 use Rattle.node_loop.specs.Steps.{Outcome}
 use Rattle.node_loop.specs.Items.{Works, Idles}
 
@@ -20,6 +21,7 @@ begun core = record {
   desk = empty_desk;
   wait = 0;
   stamp = 0;
+  owed = nothing_owed;
   left = false;
   worked = false;
 }
@@ -37,12 +39,16 @@ pub record HandsOut (a b : Looping) : Type 0 where
   pub oldest : a.desk.replies ≡ told ∷ b.desk.replies
   pub rest : b ≡ record a { desk = record a.desk { replies = b.desk.replies } }
 
--- so many turns, and replies handed out, lead from the beginning to b
+-- what is owed to readers is handed over, or noted otherwise
+abbrev pub HandsOver : Looping → Looping → Type 0
+HandsOver a b = b ≡ record a { owed = b.owed }
+
+-- so many turns, replies handed out, and what is owed handed over lead from the beginning to b
 abbrev pub ComesBy : ℕ → Held → Looping → Type 0
 ComesBy zero core b = b ≡ begun core
-ComesBy (suc n) core b = (a : Looping) × ComesBy n core a × (Turns a b ⊎ HandsOut a b)
+ComesBy (suc n) core b = (a : Looping) × ComesBy n core a × (Turns a b ⊎ HandsOut a b ⊎ HandsOver a b)
 
--- it is the loop of this node: it came by turns, and by replies handed out, from the core that such a node opens with in some cluster
+-- it is the loop of this node: it came by turns, and by what it handed out, from the core that such a node opens with in some cluster
 pub record IsLoopOf (name : ℕ) (b : Looping) : Type 0 where
   pub nodes : List ℕ
   pub cluster : List ℕ

@@ -11,6 +11,7 @@ use Rattle.tray.specs.Held.{Waiting, with_letter}
 use Rattle.node_log.specs.Entries.{Entry, Logged}
 use Rattle.node_loop.specs.declared.item.Item.{Item}
 use Rattle.node_loop.specs.declared.item.Item.TheVariants.{Letter as LetterItem}
+use Rattle.node_loop.specs.declared.edit.Owed.{Owed}
 use Rattle.node_loop.specs.Desks.{Kept, first_leave}
 
 -- what the log of a node says, whatever room it has
@@ -27,8 +28,9 @@ pub record Looping : Type 0 where
   pub log : Written
   pub tray : List (Waiting Item)
   pub desk : Kept
-  pub wait : ℕ  -- for how many empty turns a refused round gives way to rivals
+  pub wait : ℕ  -- for how many turns that read no letter a refused round gives way to rivals
   pub stamp : ℕ  -- of the last step
+  pub owed : Owed  -- what readers are still to be shown
   pub left : Bool
   pub worked : Bool  -- the last turn took an item or tried a step
 
@@ -40,7 +42,7 @@ has_retry l = not l.left && can_retry (node_of l.core)
 abbrev pub is_due : Looping → Bool
 is_due l = has_retry l && (l.wait == 0)
 
--- it gives way for so many empty turns at most
+-- it gives way for so many turns that read no letter at most
 abbrev pub most_turns : ℕ
 most_turns = 1024
 

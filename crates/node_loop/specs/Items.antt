@@ -1,5 +1,5 @@
 -- What a node's loop does with an item, or where it finds none.
-use Rattle.std.specs.Prelude.{ℕ, true, false, ◌≡◌, ◌≤◌, ◌-◌, ◌⊎◌, Option, None, Ok, Err, MatchResult, List, [], ◌∷◌, ◌++◌, MatchBool}
+use Rattle.std.specs.Prelude.{ℕ, Bool, true, false, ◌≡◌, ◌≤◌, ◌-◌, ◌⊎◌, Option, None, Ok, Err, MatchResult, List, [], ◌∷◌, ◌++◌, length, MatchBool}
 use Rattle.node_log.specs.declared.StepFault.{StepFault}
 use Rattle.node_log.specs.NodeEventsSeen.{fault_of, is_memory}
 use Rattle.node_log.specs.NodeCoreSteps.{refusal_of}
@@ -14,6 +14,10 @@ use Rattle.node_loop.specs.declared.replies.TaskFault.{TaskFault}
 use Rattle.node_loop.specs.declared.replies.TaskFault.TheVariants.{NoSuchNode, NodeLeft, Step}
 use Rattle.node_loop.specs.declared.fault.TurnFault.TheVariants.{Memory}
 use Rattle.node_loop.specs.Told.{tell}
+use Rattle.node_loop.specs.declared.edit.Edit.TheVariants as edit
+use Rattle.node_loop.specs.declared.edit.Note.TheVariants.{One}
+use Rattle.node_loop.specs.declared.edit.Owed.{Owed}
+use Rattle.node_loop.specs.Owing.{with_note}
 use Rattle.node_loop.specs.Desks.{left_by}
 use Rattle.node_loop.specs.Held.{Looping, is_due, most_turns, is_free_to_leave, can_step}
 use Rattle.node_loop.specs.Steps.{Cause, by_event, by_letter, desk_of, Makes, Outcome, Ends, Goes}
@@ -62,11 +66,16 @@ leaver (t ∷ ts) = t
 abbrev pub by_leave : Looping → Cause
 by_leave a = by_event (leaver a.desk.leaves) Leave a
 
+-- readers are to be shown that the node has left
+abbrev pub with_leave : Looping → Owed
+with_leave a = with_note (One edit.Leave) (length a.log.entries) a.owed
+
 -- the step of a leave is made, and the node has left
 pub record Departs (a b : Looping) : Type 0 where
   pub stepped : Looping
   pub step : Makes (by_leave a) a stepped
-  pub behind : b ≡ record stepped { left = true; desk = left_by stepped.desk }
+  pub owed : stepped.owed ≡ a.owed
+  pub behind : b ≡ record stepped { left = true; desk = left_by stepped.desk; owed = with_leave stepped }
 
 -- a leave that waits is accepted as soon as it can be
 abbrev pub Leaves : Looping → Outcome → Looping → Type 0
@@ -76,26 +85,41 @@ Leaves a r b =
     (λ why. Ends why (by_leave a) (λ core answers. left_by (desk_of (by_leave a) a core answers)) a b))
     ((r ≡ Ok tt) × (b ≡ a))
 
--- this comes first, and then a leave that waits
-pub record Then (first : Looping → Outcome → Looping → Type 0) (a : Looping) (r : Outcome) (b : Looping) : Type 0 where
+-- this comes first, and that behind it
+pub record Then (first second : Looping → Outcome → Looping → Type 0) (a : Looping) (r : Outcome) (b : Looping) : Type 0 where
   pub between : Looping
   pub went : Outcome
   pub comes : first a went between
-  pub behind : MatchResult went (λ _. Leaves between r b) (λ why. (r ≡ Err why) × (b ≡ between))
+  pub behind : MatchResult went (λ _. second between r b) (λ why. (r ≡ Err why) × (b ≡ between))
+
+-- A turn of the wait is over: a refused round is tried again where it was due, and then a leave that waits. Where it wasn't, it is so after as
+-- many such turns as it waits
+abbrev pub Waits : Looping → Outcome → Looping → Type 0
+Waits a r b =
+    let now : Looping = record a { wait = a.wait - 1 } in
+    MatchBool (is_due a) (Then (Goes (by_event None Retry a)) Leaves now r b) (Leaves now r b)
 
 -- by a letter a refused round may get another time to wait, and by a task it doesn't
 abbrev pub Hears : Item → Looping → Looping → Type 0
 Hears (item.Letter l) a b = (b ≡ record a { wait = b.wait }) × (b.wait ≤ most_turns)
 Hears (item.Task t) a b = b ≡ a
 
+-- it is a task
+abbrev pub is_task : Item → Bool
+is_task (item.Letter l) = false
+is_task (item.Task t) = true
+
+-- a turn that takes a task counts as one of the wait, so that no number of them holds a refused round up; one that reads a letter doesn't
+abbrev pub behind_item : Item → Looping → Outcome → Looping → Type 0
+behind_item (item.Letter l) = Leaves
+behind_item (item.Task t) = Waits
+
 -- an item was taken
 pub record Works (from : ℕ) (i : Item) (a : Looping) (r : Outcome) (b : Looping) : Type 0 where
   pub hearing : Looping
   pub hears : Hears i (record a { worked = true }) hearing
-  pub handles : Then (Handles from i) hearing r b
+  pub handles : Then (Handles from i) (behind_item i) hearing r b
 
--- None was found: a refused round is tried again where it is due. Where it isn't, it is so after as many empty turns as it waits
+-- none was found: the turn is one of the wait
 abbrev pub Idles : Looping → Outcome → Looping → Type 0
-Idles a r b =
-    let now : Looping = record a { worked = can_step a; wait = a.wait - 1 } in
-    MatchBool (is_due a) (Then (Goes (by_event None Retry a)) now r b) (Leaves now r b)
+Idles a r b = Waits (record a { worked = can_step a }) r b

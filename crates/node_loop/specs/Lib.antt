@@ -8,7 +8,9 @@ pub use Rattle.node_log.specs.Openings
 pub mod Told
 pub mod Waiting
 pub mod Desks
+pub mod Editions
 pub mod Held
+pub mod Owing
 pub mod Steps
 pub mod Items
 pub mod Turned

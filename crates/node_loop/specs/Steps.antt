@@ -25,6 +25,7 @@ use Rattle.node_loop.specs.declared.waiting.Course.TheVariants.{AtOnce}
 use Rattle.node_loop.specs.Waiting.{course_of}
 use Rattle.node_loop.specs.Desks.{Kept, Begins, settled}
 use Rattle.node_loop.specs.Held.{Looping, with_letters, PutsSome}
+use Rattle.node_loop.specs.Owing.{KeepsOwing}
 
 -- What a step is made for: the event, as the core and the log have it, whose it is, how it is answered, and the stamp of
 -- the letter that is read, or 0
@@ -71,8 +72,8 @@ entry_of k a answers = record {
 abbrev pub desk_of : Cause → Looping → Held → List Answer → Kept
 desk_of k a core answers = settled k.course k.own core answers a.desk
 
--- The core's step is made: its entry is last in the log, its letters are last in the tray, and its answers are told. Its stamp is one
--- that there is
+-- The core's step is made: its entry is last in the log, its letters are last in the tray, its answers are told, and what it changes is owed
+-- to readers. Its stamp is one that there is
 pub record Makes (k : Cause) (a b : Looping) : Type 0 where
   pub fits : stamp_of k a < 2 ^ 64
   pub turn : Turn
@@ -81,6 +82,7 @@ pub record Makes (k : Cause) (a b : Looping) : Type 0 where
   pub stamp : b.stamp ≡ stamp_of k a
   pub tray : b.tray ≡ with_letters (stamp_of k a) turn.letters a.tray
   pub desk : b.desk ≡ desk_of k a b.core turn.answers
+  pub owing : KeepsOwing a b
   pub wait : b.wait ≡ a.wait
   pub world : b.world ≡ a.world
   pub left : b.left ≡ a.left
@@ -91,14 +93,15 @@ pub record Rests (a b : Looping) : Type 0 where
   pub core : IsAsBefore a.core b.core
   pub others : b ≡ record a { core = b.core }
 
--- The core's step is made and stands in the log. The first of its letters, if not all, are last in the tray, and the first of those
--- are told who are to be
+-- The core's step is made and stands in the log, and what it changes is owed to readers. The first of its letters, if not all, are last
+-- in the tray, and the first of those are told who are to be
 pub record Begun (k : Cause) (due : Held → List Answer → Kept) (a b : Looping) : Type 0 where
   pub turn : Turn
   pub step : Steps k.event a.core b.core turn
   pub log : b.log ≡ record a.log { entries = a.log.entries ++ entry_of k a turn.answers ∷ [] }
   pub tray : PutsSome (stamp_of k a) turn.letters a.tray b.tray
   pub replies : Begins b.desk.replies (due b.core turn.answers).replies
+  pub owing : KeepsOwing a b
 
 -- no stamp is left for a step: that would be above the greatest `u64`
 abbrev pub IsSpent : Cause → Looping → Type 0
@@ -121,7 +124,7 @@ Goes k a (Err why) b = Ends why k (desk_of k a) a b
 
 -- so, or the core refuses the event and nothing changes
 abbrev pub Tries : Option Ticket → Event → Looping → Tried → Looping → Type 0
-Tries own e a Made b = Makes (by_event own e a) a b
+Tries own e a Made b = Makes (by_event own e a) a b × (b.owed ≡ a.owed)
 Tries own e a (Refused fault) b =
     (b ≡ a) × (is_memory fault ≡ false) × (refusal_of (node_event e) a.core ≡ fault_of fault)
 Tries own e a (Ended why) b = Ends why (by_event own e a) (desk_of (by_event own e a) a) a b
@@ -132,6 +135,7 @@ pub record Concludes {E : Type 0} (given : ℕ) (own : Option Ticket) (course : 
   pub world : b.world ≡ a.world
   pub log : b.log ≡ record a.log { entries = answered turn.answers a.log.entries }
   pub stamp : b.stamp ≡ given
+  pub owed : b.owed ≡ a.owed
   pub wait : b.wait ≡ a.wait
   pub left : b.left ≡ a.left
   pub worked : b.worked ≡ a.worked

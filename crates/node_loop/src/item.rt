@@ -1,4 +1,7 @@
 //! What lies in a node's inbox.
+ghost use Rattle.std.specs.Prelude.{◌≡◌};
+ghost use Rattle.node_loop.specs.Items.{is_task};
+
 use node_log::{Event, Letter};
 
 /// A letter with the stamp of the step that sent it.
@@ -35,4 +38,13 @@ pub enum Item {
     Letter(Stamped),
     /// An event for the node itself.
     Task(Task),
+}
+
+impl Item {
+    /// Whether it is an event for the node itself.
+    pub(crate) fn is_task(&self) -> bool
+        ensures { result ≡ is_task self.now }
+    {
+        matches!(self, Item::Task(_))
+    }
 }

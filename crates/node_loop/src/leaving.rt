@@ -1,6 +1,7 @@
 //! How a node leaves.
 ghost use Rattle.node_loop.specs.Items.{Leaves};
 
+use crate::edit::{Edit, Note};
 use crate::fault::TurnFault;
 use crate::node_loop::NodeLoop;
 use crate::stepping::Tried;
@@ -21,6 +22,7 @@ impl<N: Names<Memory = Global>> NodeLoop<N> {
         match self.attempt(ticket, Event::Leave) {
             Tried::Made => {
                 self.left = true;
+                self.owed.add(Note::One(Edit::Leave), self.log.len() as u64);
                 self.desk.leave()?;
                 Ok(())
             }

@@ -3,6 +3,7 @@
 
 mod courtesy;
 mod desk;
+mod edit;
 mod fault;
 mod gate;
 mod item;
@@ -16,6 +17,7 @@ mod stepping;
 mod tries;
 mod waiting;
 
+pub use edit::{Edit, Edition, Update};
 pub use fault::TurnFault;
 pub use gate::{Gate, OpenGate};
 pub use item::{Item, Stamped, Task, Ticket};

@@ -1,14 +1,17 @@
 //! A node's loop.
-ghost use Rattle.std.specs.Prelude.{◌≡◌, ◌∷◌, [], false, map, IfOk, MatchOption};
+ghost use Rattle.std.specs.Prelude.{◌≡◌, ◌∷◌, [], false, map, IfOk, OnErr, MatchOption};
 ghost use Rattle.tray.specs.Held.{none_for};
 ghost use Rattle.node_loop.specs.Told.{told_by};
 ghost use Rattle.node_loop.specs.Desks.{empty_desk};
 ghost use Rattle.node_loop.specs.Held.{owes, written};
 ghost use Rattle.node_loop.specs.Sound.{BeginsSound, KeepsSound, LeavesSound};
 ghost use Rattle.node_loop.specs.Turned.{Turned};
+ghost use Rattle.node_loop.specs.declared.edit.Note.TheVariants.{Whole};
+ghost use Rattle.node_loop.specs.Owing.{nothing_owed, shown_by, KeepsOwing, TakesUpdate};
 
 use crate::courtesy::Courtesy;
 use crate::desk::Desk;
+use crate::edit::{Edit, Note, Owed, Update};
 use crate::fault::TurnFault;
 use crate::gate::{Gate, Permit};
 use crate::item::Item;
@@ -19,6 +22,7 @@ use name_table::Names;
 use node_log::{Log, NodeCore, NodeEnd};
 use std::alloc::{AllocError, Global};
 use std::marker::Model;
+use std::mem;
 use term::{NodeName, NodeSet};
 use tray::Tray;
 
@@ -34,6 +38,8 @@ pub struct NodeLoop<N: Names> {
     pub(crate) courtesy: Courtesy,
     /// The stamp of the last step; 0 before the first.
     pub(crate) stamp: u64,
+    /// What its readers are still to be shown.
+    pub(crate) owed: Owed,
     pub(crate) left: bool,
     pub(crate) worked: bool,
 }
@@ -51,6 +57,7 @@ impl<N: Names> Model for NodeLoop<N> {
       desk = l.desk;
       wait = l.courtesy;
       stamp = l.stamp;
+      owed = l.owed;
       left = l.left;
       worked = l.worked;
     } };
@@ -67,6 +74,7 @@ impl<N: Names<Memory = Global>> NodeLoop<N> {
           desk = empty_desk;
           wait = 0;
           stamp = 0;
+          owed = nothing_owed;
           left = false;
           worked = false;
         }) }
@@ -85,20 +93,24 @@ impl<N: Names<Memory = Global>> NodeLoop<N> {
             desk: Desk::new(alloc),
             courtesy,
             stamp: 0,
+            owed: Owed {
+                note: Note::Nothing,
+                length: 0,
+            },
             left: false,
             worked: false,
         })
     }
 
-    /// One turn: it asks the gate, sends what waits, takes one item from the inbox, and makes its step; where it finds none,
-    /// the node tries its refused rounds again, unless it gives way to rivals still. A leave that waits is tried behind that.
+    /// One turn: it asks the gate, sends what waits, takes one item from the inbox, and makes its step; where that is no letter, or it finds
+    /// none, the node tries its refused rounds again, unless it gives way to rivals still. A leave that waits is tried behind that.
     /// It fails where the thread is to end: no stamp is left, or memory was refused as often as it is asked for. Then the log still has
     /// the steps that were made, and no other, and each reply is as it is to be. A step that isn't made leaves the node as it was. Of
     /// one that is made the last letters and replies may be missing then: so the loop isn't to be used any more, but for its replies and
     /// its end.
     ///
     /// A loop whose log, core and links tell of the same steps stays so; where the thread ends its log and its core still do, and what
-    /// it sent is a beginning of what they send.
+    /// it sent is a beginning of what they send. What it owes its readers is noted, whatever it comes to.
     pub fn turn<E: Post<Item> + Inbox<Item>, G: Gate>(
         &mut self,
         end: &mut E,
@@ -106,6 +118,7 @@ impl<N: Names<Memory = Global>> NodeLoop<N> {
     ) -> Result<(), TurnFault>
         ensures turned { Turned E.posts E.refuses E.takes E.misses (G.held gate.now) self.old (E.state end.old) result self.new (E.state end.new) }
         ensures sound { KeepsSound E.posts E.takes self.old (E.state end.old) result self.new (E.state end.new) }
+        ensures owing { KeepsOwing self.old self.new }
     {
         let permit = Permit::ask(gate, self.core.name().copy());
         self.go(end, permit)
@@ -144,6 +157,41 @@ impl<N: Names<Memory = Global>> NodeLoop<N> {
         ensures oldest { MatchOption result ((self.old.desk.replies ≡ []) × (self.new.desk.replies ≡ [])) (λ reply. self.old.desk.replies ≡ told_by reply ∷ self.new.desk.replies) }
     {
         self.desk.next_reply()
+    }
+
+    /// How long its log was behind the last step that changed what it shows its readers: its table, and whether it has left.
+    pub fn shown_length(&self) -> u64
+        ensures { result ≡ self.now.owed.length }
+    {
+        self.owed.length
+    }
+
+    /// By this readers are shown all that is owed to them, which isn't any more then; or nothing is owed. It takes memory where the
+    /// whole table is owed; where that is refused nothing changes.
+    pub fn next_update(&mut self, alloc: Global) -> Result<Option<Update>, AllocError>
+        ensures ok { IfOk result (λ update. TakesUpdate update self.old self.new) }
+        ensures err { OnErr result (self.new ≡ self.old) }
+    {
+        let edit = match mem::replace(&mut self.owed.note, Note::Nothing) {
+            Note::Nothing => return Ok(None),
+            Note::One(edit) => edit,
+            Note::Whole => match self.core.table().pairs(alloc) {
+                Ok(pairs) => Edit::Whole(pairs, self.left),
+                Err(fault) => {
+                    self.owed.note = Note::Whole;
+                    return Err(fault);
+                }
+            },
+        };
+        let length = self.owed.length;
+        Ok(Some(Update { length, edit }))
+    }
+
+    /// What readers were to be shown can't be: the whole table is owed to them.
+    pub fn owe_whole(&mut self)
+        ensures { self.new ≡ record self.old { owed = record self.old.owed { note = Whole } } }
+    {
+        self.owed.note = Note::Whole;
     }
 
     /// Whether the last turn took an item or tried a step.

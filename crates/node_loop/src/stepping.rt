@@ -3,10 +3,12 @@ ghost use Rattle.std.specs.Prelude.{◌≡◌, ◌-◌, true, None, OnOk, OnErr,
 ghost use Rattle.std.specs.Option.{option_map};
 ghost use Rattle.node_log.specs.NodeCoreCauses.{event_by};
 ghost use Rattle.node_log.specs.NodeCoreSteps.{Steps, IsAsBefore, refusal_of};
+ghost use Rattle.node_log.specs.Events.{knows_contact};
 ghost use Rattle.node_loop.specs.Held.{written, can_step, has_retry, is_due, has_leave, is_free_to_leave};
 ghost use Rattle.node_loop.specs.Steps.{Concludes, Tries};
-ghost use Rattle.node_loop.specs.Items.{Refuses, Reads, Accepts, Handles, Hears, Idles, Works};
+ghost use Rattle.node_loop.specs.Items.{Refuses, Reads, Accepts, Handles, Hears, Waits, Idles, Works};
 
+use crate::edit::note_of;
 use crate::fault::TurnFault;
 use crate::item::{Item, Stamped, Task, Ticket};
 use crate::node_loop::NodeLoop;
@@ -131,8 +133,9 @@ impl<N: Names<Memory = Global>> NodeLoop<N> {
         put_all(&mut self.tray, stamp, letters)
     }
 
-    /// Tries the step of an event, of this ticket or of nobody.
+    /// Tries the step of an event, of this ticket or of nobody. The contact of a join is of the world.
     pub(crate) fn attempt(&mut self, own: Option<Ticket>, event: Event) -> Tried
+        requires { knows_contact self.old.world event ≡ true }
         ensures { Tries own event self.old result self.new }
     {
         let Some(stamp) = next_stamp(self.stamp, 0) else {
@@ -168,11 +171,13 @@ impl<N: Names<Memory = Global>> NodeLoop<N> {
         let Some(stamp) = next_stamp(self.stamp, sent) else {
             return Err(TurnFault::StampsSpent);
         };
+        let note = note_of(&self.core, &from, &letter);
         let cause = Cause::FromPeer(&from, &letter);
         let Ok(turn) = step(&mut self.core, &mut self.log, cause) else {
             return Err(TurnFault::Memory);
         };
         self.log.put_delivery(stamp, &from);
+        self.owed.add(note, self.log.len() as u64);
         self.conclude(stamp, None, Course::AtOnce, turn)?;
         Ok(())
     }
@@ -226,22 +231,20 @@ impl<N: Names<Memory = Global>> NodeLoop<N> {
         }
     }
 
-    /// An item was taken: it is handled, and then a leave that waits.
+    /// An item was taken: it is handled. Where it is a task the turn is one of the wait of a refused round, and else a leave that waits
+    /// is tried.
     pub(crate) fn work(&mut self, from: NodeName, item: Item) -> Result<(), TurnFault>
         ensures { Works from item self.old result self.new }
     {
         self.worked = true;
         self.hear(&from, &item);
+        let is_task = item.is_task();
         self.handle(from, item)?;
-        self.leave_if_free()
-    }
-
-    /// The turn found no item. It tries a step, or it doesn't.
-    fn miss(&mut self, worked: bool)
-        ensures { self.new ≡ record self.old { worked = worked; wait = self.old.wait - 1 } }
-    {
-        self.worked = worked;
-        self.courtesy.pass_turn();
+        if is_task {
+            self.pass_turn()
+        } else {
+            self.leave_if_free()
+        }
     }
 
     /// Whether it has a step to try, if it takes none.
@@ -251,13 +254,19 @@ impl<N: Names<Memory = Global>> NodeLoop<N> {
         self.is_due() || self.is_free_to_leave()
     }
 
-    /// None was taken: refused rounds are tried again, unless they give way to rivals still, and then a leave that waits.
-    pub(crate) fn idle(&mut self) -> Result<(), TurnFault>
-        ensures { Idles self.old result self.new }
+    /// A turn of the wait is over.
+    fn miss(&mut self)
+        ensures { self.new ≡ record self.old { wait = self.old.wait - 1 } }
+    {
+        self.courtesy.pass_turn();
+    }
+
+    /// A turn of the wait is over: a refused round is tried again, unless it gives way to rivals still, and then a leave that waits.
+    fn pass_turn(&mut self) -> Result<(), TurnFault>
+        ensures { Waits self.old result self.new }
     {
         let is_due = self.is_due();
-        let worked = self.can_step();
-        self.miss(worked);
+        self.miss();
         if !is_due {
             return self.leave_if_free();
         }
@@ -266,5 +275,13 @@ impl<N: Names<Memory = Global>> NodeLoop<N> {
             Tried::Made => self.leave_if_free(),
             Tried::Refused(_) => Ok(()),
         }
+    }
+
+    /// None was taken.
+    pub(crate) fn idle(&mut self) -> Result<(), TurnFault>
+        ensures { Idles self.old result self.new }
+    {
+        self.worked = self.can_step();
+        self.pass_turn()
     }
 }

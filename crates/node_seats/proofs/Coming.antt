@@ -1,5 +1,5 @@
 -- A loop whose oldest reply is handed out came by turns still.
-use Rattle.std.proofs.Common.{ℕ, ◌≡◌, ◌∷◌, suc, inr}
+use Rattle.std.proofs.Common.{ℕ, ◌≡◌, ◌∷◌, suc, inl, inr}
 use Rattle.node_loop.specs.Told.{Told}
 use Rattle.node_loop.specs.Held.{Looping}
 use Rattle.node_loop.specs.Coming.{IsLoopOf}
@@ -10,5 +10,5 @@ handed_out name a b told came oldest rest = record {
   nodes = came.nodes;
   cluster = came.cluster;
   moves = suc came.moves;
-  comes = (a, came.comes, inr (record { told = told; oldest = oldest; rest = rest }));
+  comes = (a, came.comes, inr (inl (record { told = told; oldest = oldest; rest = rest })));
 }

@@ -25,14 +25,14 @@ replies_more me (x ∷ es) e = ap (λ (l : List LockReply). lock_reply_in me x.e
 
 module _ (me : Process) (s t : Sitting) (id : LockId) (nodes : Nodes) (answer : Answer) where
   -- a lock call of the holder was answered
-  pub set_more : (retries : Retries) (granted : Bool) → t ≡ with_entry (Calls (SetLock me id nodes retries)) (Some answer) s
+  pub set_more : (retries : Retries) (granted : Bool) → t ≡ record (with_entry (Calls (SetLock me id nodes retries)) (Some answer) s) { seen = t.seen }
       → grants (reply_of answer.reply) ≡ granted → lock_replies me t.entries ≡ lock_replies me s.entries ++ Set id granted ∷ []
   set_more retries granted is says = ap (λ (u : Sitting). lock_replies me u.entries) is
       ∙ replies_more me s.entries (record { event = At s.node (Calls (SetLock me id nodes retries)); answer = Some answer })
       ∙ ap (λ (b : Bool). lock_replies me s.entries ++ (if b then Set id (grants (reply_of answer.reply)) ∷ [] else [])) (is_process-same me)
       ∙ ap (λ (b : Bool). lock_replies me s.entries ++ Set id b ∷ []) says
 
-  pub deleted_more : t ≡ with_entry (Calls (DelLock me id nodes)) (Some answer) s
+  pub deleted_more : t ≡ record (with_entry (Calls (DelLock me id nodes)) (Some answer) s) { seen = t.seen }
       → lock_replies me t.entries ≡ lock_replies me s.entries ++ Deleted id ∷ []
   deleted_more is = ap (λ (u : Sitting). lock_replies me u.entries) is
       ∙ replies_more me s.entries (record { event = At s.node (Calls (DelLock me id nodes)); answer = Some answer })

@@ -6,6 +6,6 @@ use Rattle.node_loop.specs.declared.replies.Effect.TheVariants.{Left}
 use Rattle.node_loop.proofs.Left.{next_is_logged}
 use Rattle.node_seats.specs.Replies.{IsToldTo, HasLeft}
 
-pub left_where_told : (name : ℕ) (ticket : Ticket) → IsToldTo name ticket (Ok Left) → HasLeft name
-left_where_told name ticket told = ∥∥₁_map told
+pub left_where_told : (name : ℕ) (ticket : Ticket) (length : ℕ) → IsToldTo name ticket (Ok Left) length → HasLeft name
+left_where_told name ticket length told = ∥∥₁_map told
     (λ t. record { node = t.node; came = t.came; logged = next_is_logged name t.node t.came ticket t.later t.next })

@@ -3,3 +3,4 @@ pub mod Choosing
 mod Coming
 mod Leaving
 mod Sittings
+pub mod Telling

@@ -11,28 +11,31 @@ use Rattle.node_seats.specs.declared.caller.Caller.{Caller}
 use Rattle.node_seats.specs.declared.fault.SeatFault.{SeatFault}
 use Rattle.node_seats.specs.declared.fault.SeatFault.TheVariants.{NoSuchNode, NodeLeft, Closed, SeatsSpent, Step, Memory}
 use Rattle.node_seats.specs.Addresses.{Inbox}
-use Rattle.node_seats.specs.Callers.{inbox_of, slot_of, nodes_of, asked_by, name_of, ticket_of, told_as}
+use Rattle.shared_table.specs.Readers.{Seen}
+use Rattle.node_seats.specs.Callers.{inbox_of, slot_of, nodes_of, asked_by, name_of, ticket_of, seen_of, told_of, told_as, Learns}
 use Rattle.node_seats.specs.Replies.{IsToldTo}
 use Rattle.node_seats.specs.Seats.{Sitting, sitting, IsAnswered, with_entry}
 
-abbrev sits : ℕ → Inbox → List ℕ → List Event → List SeatEntry → Sitting
-sits seat inbox nodes asked es = record { seat = seat; node = inbox.node; room = inbox.room; nodes = nodes; asked = asked; entries = es }
+abbrev sits : ℕ → Inbox → List ℕ → List Event → Seen → List SeatEntry → Sitting
+sits seat inbox nodes asked seen es = record { seat = seat; node = inbox.node; room = inbox.room; nodes = nodes; asked = asked; seen = seen; entries = es }
 
 -- what its caller is told, the seat is answered
 module _ (c : Caller) (es : List SeatEntry) (s : Sitting) (is : sitting c es ≡ s) where
-  pub answered_so : (outcome : Result Effect TaskFault) → IsToldTo (name_of c) (ticket_of c) outcome → IsAnswered s outcome
-  answered_so outcome told = subst (λ (x : Sitting). IsAnswered x outcome) is (record { number = c.next; told = told })
+  pub answered_so : (d : Caller) (fs : List SeatEntry) (outcome : Result Effect TaskFault)
+      → IsToldTo (name_of c) (ticket_of c) outcome (told_of d) → Learns (seen_of c) (seen_of d) → IsAnswered s outcome (sitting d fs)
+  answered_so d fs outcome told learns =
+      subst (λ (x : Sitting). IsAnswered x outcome (sitting d fs)) is (record { number = c.next; told = told; learns = learns })
 
   -- it asked for an event, and has an entry more
   pub grown : (d : Caller) (fs : List SeatEntry) (e : Event) (w : WorldEvent) (answer : Option Answer) → slot_of d ≡ slot_of c
       → inbox_of d ≡ inbox_of c → nodes_of d ≡ nodes_of c → asked_by d ≡ asked_by c ++ e ∷ [] → w ≡ At (name_of c) e
-      → fs ≡ es ++ record { event = w; answer = answer } ∷ [] → sitting d fs ≡ with_entry e answer s
-  grown d fs e w answer slot inbox nodes asked at more = subst (λ (x : Sitting). sitting d fs ≡ with_entry e answer x) is
-      (ap (λ (i : ℕ). sits i (inbox_of d) (nodes_of d) (asked_by d) fs) slot
-      ∙ ap (λ (i : Inbox). sits (slot_of c) i (nodes_of d) (asked_by d) fs) inbox
-      ∙ ap (λ (ns : List ℕ). sits (slot_of c) (inbox_of c) ns (asked_by d) fs) nodes
-      ∙ ap (λ (l : List Event). sits (slot_of c) (inbox_of c) (nodes_of c) l fs) asked
-      ∙ ap (λ (l : List SeatEntry). sits (slot_of c) (inbox_of c) (nodes_of c) (asked_by c ++ e ∷ []) l)
+      → fs ≡ es ++ record { event = w; answer = answer } ∷ [] → sitting d fs ≡ record (with_entry e answer s) { seen = seen_of d }
+  grown d fs e w answer slot inbox nodes asked at more = subst (λ (x : Sitting). sitting d fs ≡ record (with_entry e answer x) { seen = seen_of d }) is
+      (ap (λ (i : ℕ). sits i (inbox_of d) (nodes_of d) (asked_by d) (seen_of d) fs) slot
+      ∙ ap (λ (i : Inbox). sits (slot_of c) i (nodes_of d) (asked_by d) (seen_of d) fs) inbox
+      ∙ ap (λ (ns : List ℕ). sits (slot_of c) (inbox_of c) ns (asked_by d) (seen_of d) fs) nodes
+      ∙ ap (λ (l : List Event). sits (slot_of c) (inbox_of c) (nodes_of c) l (seen_of d) fs) asked
+      ∙ ap (λ (l : List SeatEntry). sits (slot_of c) (inbox_of c) (nodes_of c) (asked_by c ++ e ∷ []) (seen_of d) l)
       (more ∙ ap (λ (v : WorldEvent). es ++ record { event = v; answer = answer } ∷ []) at))
 
 -- an answer is told as it was

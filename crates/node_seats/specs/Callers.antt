@@ -1,5 +1,5 @@
 -- What contracts see of a caller, and of the hub that it shares.
-use Rattle.std.specs.Prelude.{ℕ, ◌+◌, ◌≡◌, ◌⊎◌, Option, Some, None, Result, Ok, Err, List, [], ◌∷◌}
+use Rattle.std.specs.Prelude.{ℕ, ◌+◌, ◌≡◌, ◌≤◌, ◌⊎◌, Option, Some, None, Result, Ok, Err, List, [], ◌∷◌}
 use Rattle.std.specs.List.{flat_map}
 use Rattle.node_loop.specs.declared.Event.{Event}
 use Rattle.node_loop.specs.declared.item.Ticket.{Ticket}
@@ -9,6 +9,7 @@ use Rattle.node_seats.specs.declared.caller.Caller.{Caller}
 use Rattle.node_seats.specs.declared.fault.SeatFault.{SeatFault}
 use Rattle.node_seats.specs.declared.fault.SeatFault.TheVariants.{NoSuchNode, Closed, Step}
 use Rattle.node_seats.specs.declared.hub.Hub.{Hub}
+use Rattle.shared_table.specs.Readers.{Seen}
 use Rattle.node_seats.specs.Lines.{with_parcel}
 use Rattle.node_seats.specs.Addresses.{Inbox}
 
@@ -31,6 +32,23 @@ nodes_at h = h.nodes
 -- the nodes of its cluster
 abbrev pub nodes_of : Caller → List ℕ
 nodes_of c = nodes_at c.hub.value
+
+-- what it has seen of its node's table, and how much of the node's log it was told of
+abbrev pub seen_of : Caller → Seen
+seen_of c = c.reader
+
+-- up to which length of the node's log
+abbrev pub told_of : Caller → ℕ
+told_of c = c.reader.told
+
+-- nothing was read yet, and nothing told
+abbrev pub unseen : Seen
+unseen = record { editions = []; told = 0 }
+
+-- it may be told of more, and reads nothing
+pub record Learns (s t : Seen) : Type 0 where
+  pub editions : t.editions ≡ s.editions
+  pub rises : s.told ≤ t.told
 
 -- the event that an item asks for, if it is a task
 abbrev pub event_in : Item → List Event

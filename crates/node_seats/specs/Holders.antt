@@ -41,9 +41,9 @@ lock_replies me (e ∷ es) = lock_reply_in me e.event e.answer ++ lock_replies m
 -- a lock call was answered: its node's loop told the seat so, and it stands last in the transcript
 pub record Grants (call : Call) (granted : Bool) (s t : Sitting) : Type 0 where
   pub answer : Answer
-  pub told : IsAnswered s (Ok (IsAnswer answer))
+  pub told : IsAnswered s (Ok (IsAnswer answer)) t
   pub says : grants (reply_of answer.reply) ≡ granted
-  pub kept : t ≡ with_entry (Calls call) (Some answer) s
+  pub kept : t ≡ record (with_entry (Calls call) (Some answer) s) { seen = t.seen }
 
 -- what a `set_lock` comes to
 abbrev pub SetsLock : Call → Result Bool SeatFault → Sitting → Sitting → Type 0

@@ -1,5 +1,5 @@
 -- Who told a caller what.
-use Rattle.std.specs.Prelude.{ℕ, true, ◌≡◌, Result, Err, List, ◌∷◌}
+use Rattle.std.specs.Prelude.{ℕ, true, ◌≡◌, ◌≤◌, Result, Err, List, ◌∷◌}
 use Rattle.node_loop.specs.declared.item.Ticket.{Ticket}
 use Rattle.node_loop.specs.declared.replies.Effect.{Effect}
 use Rattle.node_loop.specs.declared.replies.TaskFault.{TaskFault}
@@ -12,25 +12,26 @@ use Rattle.node_loop.specs.Left.{logs_leave}
 use Rattle.node_seats.specs.declared.fault.SeatFault.{SeatFault}
 use Rattle.node_seats.specs.declared.fault.SeatFault.TheVariants.{Step}
 
--- the loop of a node came to where it tells this reply next
-pub record TellsNext (name : ℕ) (reply : TaskReply) : Type 0 where
+-- the loop of a node came to where it tells this reply next, and what it shows its readers changed behind no step beyond that length
+pub record TellsNext (name : ℕ) (reply : TaskReply) (length : ℕ) : Type 0 where
   pub node : Looping
   pub came : IsLoopOf name node
   pub later : List Told
   pub next : node.desk.replies ≡ told_by reply ∷ later
+  pub within : node.owed.length ≤ length
 
--- the loop of this node told this reply
-abbrev pub IsTold : ℕ → TaskReply → Type 0
-IsTold name reply = ∥ TellsNext name reply ∥₁
+-- the loop of this node told this reply, behind steps that changed what it shows up to that length of its log
+abbrev pub IsTold : ℕ → TaskReply → ℕ → Type 0
+IsTold name reply length = ∥ TellsNext name reply length ∥₁
 
 -- it told the owner of this ticket so
-abbrev pub IsToldTo : ℕ → Ticket → Result Effect TaskFault → Type 0
-IsToldTo name ticket outcome = IsTold name (record { ticket = ticket; outcome = outcome })
+abbrev pub IsToldTo : ℕ → Ticket → Result Effect TaskFault → ℕ → Type 0
+IsToldTo name ticket outcome length = IsTold name (record { ticket = ticket; outcome = outcome }) length
 
 -- and it told each refusal by the node
-abbrev pub IsFaultTold : ℕ → Ticket → SeatFault → Type 0
-IsFaultTold name ticket (Step fault) = IsToldTo name ticket (Err (of_task.Step fault))
-IsFaultTold name ticket _ = Unit {0}
+abbrev pub IsFaultTold : ℕ → Ticket → SeatFault → ℕ → Type 0
+IsFaultTold name ticket (Step fault) length = IsToldTo name ticket (Err (of_task.Step fault)) length
+IsFaultTold name ticket _ length = Unit {0}
 
 -- a loop of this node came to where its log has that the node left
 pub record LogsLeave (name : ℕ) : Type 0 where
@@ -38,6 +39,6 @@ pub record LogsLeave (name : ℕ) : Type 0 where
   pub came : IsLoopOf name node
   pub logged : logs_leave node.log ≡ true
 
--- this node has left
+-- a loop of this node has logged its leave
 abbrev pub HasLeft : ℕ → Type 0
 HasLeft name = ∥ LogsLeave name ∥₁

@@ -7,7 +7,7 @@ use Rattle.node_loop.specs.declared.Call.{Call}
 use Rattle.node_loop.specs.declared.Reply.{Reply}
 use Rattle.node_loop.specs.declared.Reply.TheVariants.{Pid, Undefined}
 use Rattle.node_loop.specs.NodeEventsSeen.{reply_of}
-use Rattle.registry_model.specs.Process.{Process}
+use Rattle.registry_model.specs.Process.{Process, Text}
 use Rattle.node_loop.specs.declared.Event.{Event}
 use Rattle.node_loop.specs.declared.Event.TheVariants as event
 use Rattle.node_loop.specs.declared.WorldEvent.TheVariants.{At}
@@ -18,22 +18,33 @@ use Rattle.node_loop.specs.declared.replies.Effect.TheVariants.{Answered as IsAn
 use Rattle.node_seats.specs.declared.caller.Caller.{Caller}
 use Rattle.node_seats.specs.declared.parcel.Parcel.{Parcel}
 use Rattle.node_seats.specs.declared.fault.SeatFault.{SeatFault}
-use Rattle.node_seats.specs.declared.fault.SeatFault.TheVariants.{Step}
+use Rattle.node_seats.specs.declared.fault.SeatFault.TheVariants.{NodeLeft, Closed, Step}
 use Rattle.node_loop.specs.declared.replies.TaskFault.{TaskFault}
 use Rattle.node_loop.specs.declared.replies.TaskFault.TheVariants as task
 use Rattle.node_seats.specs.Addresses.{Inbox}
-use Rattle.node_seats.specs.Callers.{name_of, slot_of, nodes_of, asked_by}
+use Rattle.shared_table.specs.declared.reader.Lookup.TheVariants.{Owner, Left as IsLeft}
+use Rattle.shared_table.specs.Rule.{StartsWith}
+use Rattle.shared_table.specs.Readers.{Seen, Finds}
+use Rattle.node_seats.specs.Callers.{name_of, slot_of, nodes_of, asked_by, seen_of, unseen, Learns}
 use Rattle.node_seats.specs.Faults.{MayAsk}
 use Rattle.node_seats.specs.Replies.{IsToldTo}
 
--- a seat: its number, its node, the inbox of that, the nodes of its cluster, the events that it has asked its node for, and its transcript,
--- the oldest of each first
+-- what comes of a look-up in a node's table
+abbrev pub Looked : Result (Option Process) SeatFault → ℕ → Text → Seen → Seen → Type 0
+Looked (Ok owner) node x s t = Finds (Owner owner) node x s t
+Looked (Err NodeLeft) node x s t = Finds IsLeft node x s t
+Looked (Err Closed) node x s t = StartsWith t.editions s.editions × (t.told ≡ s.told)
+Looked (Err fault) node x s t = ⊥
+
+-- a seat: its number, its node, the inbox of that, the nodes of its cluster, the events that it has asked its node for, what it has seen of
+-- its node's table, and its transcript, the oldest of each first
 pub record Sitting : Type 0 where
   pub seat : ℕ
   pub node : ℕ
   pub room : Room (Parcel Item)
   pub nodes : List ℕ
   pub asked : List Event
+  pub seen : Seen
   pub entries : List SeatEntry
 
 -- the seat of a caller, with this transcript
@@ -44,6 +55,7 @@ sitting c es = record {
   room = c.line.room;
   nodes = nodes_of c;
   asked = asked_by c;
+  seen = seen_of c;
   entries = es;
 }
 
@@ -55,6 +67,7 @@ new_seat number nodes inbox = record {
   room = inbox.room;
   nodes = nodes;
   asked = [];
+  seen = unseen;
   entries = [];
 }
 
@@ -69,36 +82,44 @@ with_entry e answer s = record s {
   entries = s.entries ++ record { event = At s.node e; answer = answer } ∷ [];
 }
 
--- the loop of the seat's node told the seat so, for something that it asked
-pub record IsAnswered (s : Sitting) (outcome : Result Effect TaskFault) : Type 0 where
+-- The loop of the seat's node told the seat so, for something that it asked. What the node then showed its readers is behind no more of its
+-- log than the seat t was told of
+pub record IsAnswered (s : Sitting) (outcome : Result Effect TaskFault) (t : Sitting) : Type 0 where
   pub number : ℕ
-  pub told : IsToldTo s.node (record { seat = s.seat; number = number }) outcome
+  pub told : IsToldTo s.node (record { seat = s.seat; number = number }) outcome t.seen.told
+  pub learns : Learns s.seen t.seen
 
 -- a refusal by the node is its loop's
-abbrev pub IsToldFault : Sitting → SeatFault → Type 0
-IsToldFault s (Step fault) = IsAnswered s (Err (task.Step fault))
-IsToldFault s _ = Unit {0}
+abbrev pub IsToldFault : Sitting → SeatFault → Sitting → Type 0
+IsToldFault s (Step fault) t = IsAnswered s (Err (task.Step fault)) t
+IsToldFault s _ t = Learns s.seen t.seen
 
 -- an event comes to this fault: the node was asked for it once at most, and the transcript is as it was
 pub record Unanswered (fault : SeatFault) (e : Event) (s t : Sitting) : Type 0 where
   pub asked : MayAsk fault e s.asked t.asked
-  pub kept : t ≡ record s { asked = t.asked }
-  pub told : IsToldFault s fault
+  pub kept : t ≡ record s { asked = t.asked; seen = t.seen }
+  pub told : IsToldFault s fault t
 
 -- an event that has no answer is done: its node's loop told the seat that it came to this, and it stands last in the transcript
 pub record Done (e : Event) (effect : Effect) (s t : Sitting) : Type 0 where
-  pub told : IsAnswered s (Ok effect)
-  pub kept : t ≡ with_entry e None s
+  pub told : IsAnswered s (Ok effect) t
+  pub kept : t ≡ record (with_entry e None s) { seen = t.seen }
 
 -- the call got this reply: its node's loop told the seat an answer that says so, and the call stands last in the transcript with that;
 -- nothing else changed
 pub record Answered (call : Call) (reply : Reply) (s t : Sitting) : Type 0 where
   pub answer : Answer
-  pub told : IsAnswered s (Ok (IsAnswer answer))
+  pub told : IsAnswered s (Ok (IsAnswer answer)) t
   pub says : reply_of answer.reply ≡ reply_of reply
-  pub kept : t ≡ with_entry (event.Call call) (Some answer) s
+  pub kept : t ≡ record (with_entry (event.Call call) (Some answer) s) { seen = t.seen }
 
 -- what a look-up of one name is answered
 abbrev pub owner_reply : Option Process → Reply
 owner_reply (Some p) = Pid p
 owner_reply None = Undefined
+
+-- What a look-up beside the node comes to: nothing is asked, and the transcript stays. It is the look-up in a table that the seat's node has
+-- shown, behind no less of its log than the seat was told of or has read; the node has left where it has shown that
+pub record LooksUp (name : Text) (result : Result (Option Process) SeatFault) (s t : Sitting) : Type 0 where
+  pub kept : t ≡ record s { seen = t.seen }
+  pub finds : Looked result s.node name s.seen t.seen

@@ -3,7 +3,7 @@ ghost use Rattle.std.specs.Prelude.{◌≡◌, ◌++◌, ◌∷◌, [], IfOk, On
 ghost use Rattle.node_loop.specs.Events.{knows_contact as knows};
 ghost use Rattle.node_loop.specs.declared.Event.TheVariants.{Call as Calls, Exit, Leave};
 ghost use Rattle.node_loop.specs.declared.replies.Effect.TheVariants.{Answered, Made, Left};
-ghost use Rattle.node_seats.specs.Callers.{name_of, inbox_of, slot_of, nodes_of, asked_by, ticket_of, task_for, Puts};
+ghost use Rattle.node_seats.specs.Callers.{name_of, inbox_of, slot_of, nodes_of, asked_by, seen_of, told_of, ticket_of, task_for, Puts, Learns};
 ghost use Rattle.node_seats.specs.Faults.{IsAskRefused, MayAsk};
 ghost use Rattle.node_seats.specs.Replies.{IsToldTo, IsFaultTold, HasLeft};
 
@@ -24,8 +24,9 @@ impl Caller {
         ensures known { IfErr result (λ fault. IsAskRefused fault (knows (nodes_of self.old) (Calls call))) }
         ensures asked { OnOk result (asked_by self.new ≡ asked_by self.old ++ Calls call ∷ []) }
         ensures unanswered { IfErr result (λ fault. MayAsk fault (Calls call) (asked_by self.old) (asked_by self.new)) }
-        ensures told { IfOk result (λ answer. IsToldTo (name_of self.old) (ticket_of self.old) (Ok (Answered answer))) }
-        ensures refused { IfErr result (IsFaultTold (name_of self.old) (ticket_of self.old)) }
+        ensures told { IfOk result (λ answer. IsToldTo (name_of self.old) (ticket_of self.old) (Ok (Answered answer)) (told_of self.new)) }
+        ensures refused { IfErr result (λ fault. IsFaultTold (name_of self.old) (ticket_of self.old) fault (told_of self.new)) }
+        ensures learns { Learns (seen_of self.old) (seen_of self.new) }
     {
         match self.ask(rt, Event::Call(call))? {
             Effect::Answered(answer) => Ok(answer),
@@ -42,8 +43,9 @@ impl Caller {
         ensures nodes { nodes_of self.new ≡ nodes_of self.old }
         ensures asked { OnOk result (asked_by self.new ≡ asked_by self.old ++ Exit process.now ∷ []) }
         ensures unanswered { IfErr result (λ fault. MayAsk fault (Exit process.now) (asked_by self.old) (asked_by self.new)) }
-        ensures told { OnOk result (IsToldTo (name_of self.old) (ticket_of self.old) (Ok Made)) }
-        ensures refused { IfErr result (IsFaultTold (name_of self.old) (ticket_of self.old)) }
+        ensures told { OnOk result (IsToldTo (name_of self.old) (ticket_of self.old) (Ok Made) (told_of self.new)) }
+        ensures refused { IfErr result (λ fault. IsFaultTold (name_of self.old) (ticket_of self.old) fault (told_of self.new)) }
+        ensures learns { Learns (seen_of self.old) (seen_of self.new) }
     {
         match self.ask(rt, Event::Exit(process.copy()))? {
             Effect::Made => Ok(()),
@@ -61,9 +63,10 @@ impl Caller {
         ensures put { OnOk result (Puts (task_for self.old Leave) self.old self.new) }
         ensures asked { OnOk result (asked_by self.new ≡ asked_by self.old ++ Leave ∷ []) }
         ensures unanswered { IfErr result (λ fault. MayAsk fault Leave (asked_by self.old) (asked_by self.new)) }
-        ensures told { OnOk result (IsToldTo (name_of self.old) (ticket_of self.old) (Ok Left)) }
+        ensures told { OnOk result (IsToldTo (name_of self.old) (ticket_of self.old) (Ok Left) (told_of self.new)) }
         ensures left { OnOk result (HasLeft (name_of self.old)) }
-        ensures refused { IfErr result (IsFaultTold (name_of self.old) (ticket_of self.old)) }
+        ensures refused { IfErr result (λ fault. IsFaultTold (name_of self.old) (ticket_of self.old) fault (told_of self.new)) }
+        ensures learns { Learns (seen_of self.old) (seen_of self.new) }
     {
         match self.ask(rt, Event::Leave)? {
             Effect::Left => Ok(()),

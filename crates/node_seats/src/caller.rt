@@ -2,10 +2,11 @@
 ghost use Rattle.std.specs.Prelude.{◌≡◌, ◌<◌, ◌≤◌, ◌+◌, ◌++◌, ◌∷◌, ◌⊎◌, [], true, false, IfOk, OnOk, OnErr, IfErr, IfSome, Ok, Err};
 ghost use Rattle.node_loop.specs.Events.{knows_contact as knows};
 ghost use Rattle.node_seats.specs.Addresses.{inbox_at};
-ghost use Rattle.node_seats.specs.Callers.{name_of, inbox_of, slot_of, nodes_of, nodes_at, asked_by, ticket_of, task_for, told_as, Numbers, Puts, Offers, IsEnd, MayPut};
+ghost use Rattle.node_seats.specs.Callers.{name_of, inbox_of, slot_of, nodes_of, nodes_at, asked_by, seen_of, told_of, unseen, ticket_of, task_for, told_as, Numbers, Puts, Offers, IsEnd, MayPut, Learns};
 ghost use Rattle.node_seats.specs.declared.fault.SeatFault.TheVariants.{NoSuchNode};
 ghost use Rattle.node_seats.specs.Faults.{IsAskRefused, MayAsk};
 ghost use Rattle.node_seats.specs.Replies.{IsToldTo, IsFaultTold};
+ghost use Rattle.node_seats.specs.Seats.{Looked};
 
 use crate::address::Address;
 use crate::bell::Rest;
@@ -13,14 +14,16 @@ use crate::fault::SeatFault;
 use crate::hub::Hub;
 use crate::line::Line;
 use crate::standing::Standing;
-use node_loop::{Effect, Event, Item, Task, Ticket};
+use node_loop::{Effect, Event, Item, Task, TaskFault, Ticket};
+use shared_table::{Lookup, TableReader};
 use std::alloc::{AllocError, Global};
 use std::sync::{Arc, Wait};
 use std::time::Clock;
-use term::NodeName;
+use term::{Name, NodeName, Pid};
 
-/// Asks the thread of one node, one event after another, and waits for each reply. Contracts see the node, the slot of its replies,
-/// the nodes of the cluster, and the events that it has put into the node's inbox.
+/// Asks the thread of one node, one event after another, and waits for each reply; and looks names up in the node's table. Contracts see
+/// the node, the slot of its replies, the nodes of the cluster, the events that it has put into the node's inbox, and what it has seen of
+/// the table.
 #[derive(Drop)]
 pub struct Caller {
     /// The slot of its replies.
@@ -31,6 +34,7 @@ pub struct Caller {
     next: u64,
     hub: Arc<Hub, Global>,
     standing: Arc<Standing, Global>,
+    reader: TableReader,
     rest: Rest,
 }
 
@@ -59,6 +63,7 @@ impl Caller {
         ensures node { IfOk result (λ caller. name_of caller ≡ address.old.node) }
         ensures nodes { IfOk result (λ caller. nodes_of caller ≡ nodes_at hub.now.value) }
         ensures unasked { IfOk result (λ caller. asked_by caller ≡ []) }
+        ensures unread { IfOk result (λ caller. seen_of caller ≡ unseen) }
         ensures address { OnOk result (address.new ≡ record address.old { lines = address.old.lines + 1 }) }
         ensures same { address.new.node ≡ address.old.node }
         ensures inbox { IfOk result (λ caller. inbox_of caller ≡ inbox_at address.old) }
@@ -67,6 +72,7 @@ impl Caller {
         let rest = hub.rest(slot, yields)?;
         let hub = Arc::try_clone(hub)?;
         let standing = Arc::try_clone(standing)?;
+        let reader = standing.reader()?;
         let line = address.line()?;
         Ok(Caller {
             slot,
@@ -75,6 +81,7 @@ impl Caller {
             next: 0,
             hub,
             standing,
+            reader,
             rest,
         })
     }
@@ -92,6 +99,7 @@ impl Caller {
         ensures node { IfOk result (λ caller. name_of caller ≡ address.old.node) }
         ensures nodes { IfOk result (λ caller. nodes_of caller ≡ nodes_at hub.now.value) }
         ensures unasked { IfOk result (λ caller. asked_by caller ≡ []) }
+        ensures unread { IfOk result (λ caller. seen_of caller ≡ unseen) }
         ensures address { OnOk result (address.new ≡ record address.old { lines = address.old.lines + 1 }) }
         ensures same { address.new.node ≡ address.old.node }
         ensures inbox { IfOk result (λ caller. inbox_of caller ≡ inbox_at address.old) }
@@ -131,8 +139,9 @@ impl Caller {
         ensures numbered { OnOk result (Numbers self.old self.new) }
         ensures kept { OnErr result ((self.new.line ≡ self.old.line) ⊎ Numbers self.old self.new) }
         ensures rises { self.old.next ≤ self.new.next }
-        ensures told { IfOk result (λ effect. IsToldTo (name_of self.old) (ticket_of self.old) (Ok effect)) }
-        ensures refused { IfErr result (IsFaultTold (name_of self.old) (ticket_of self.old)) }
+        ensures told { IfOk result (λ effect. IsToldTo (name_of self.old) (ticket_of self.old) (Ok effect) (told_of self.new)) }
+        ensures refused { IfErr result (λ fault. IsFaultTold (name_of self.old) (ticket_of self.old) fault (told_of self.new)) }
+        ensures learns { Learns (seen_of self.old) (seen_of self.new) }
     {
         if !event.knows_contact(self.hub.nodes()) {
             return Err(SeatFault::NoSuchNode);
@@ -151,8 +160,9 @@ impl Caller {
         ensures numbered { OnOk result (Numbers self.old self.new) }
         ensures kept { OnErr result ((self.new.line ≡ self.old.line) ⊎ Numbers self.old self.new) }
         ensures rises { self.old.next ≤ self.new.next }
-        ensures told { IfOk result (λ effect. IsToldTo (name_of self.old) (ticket_of self.old) (Ok effect)) }
-        ensures refused { IfErr result (IsFaultTold (name_of self.old) (ticket_of self.old)) }
+        ensures told { IfOk result (λ effect. IsToldTo (name_of self.old) (ticket_of self.old) (Ok effect) (told_of self.new)) }
+        ensures refused { IfErr result (λ fault. IsFaultTold (name_of self.old) (ticket_of self.old) fault (told_of self.new)) }
+        ensures learns { Learns (seen_of self.old) (seen_of self.new) }
     {
         let number = self.next;
         let Some(next) = number.checked_add(1) else {
@@ -171,9 +181,29 @@ impl Caller {
         self.outcome(rt, ticket)
     }
 
-    /// Asks all threads of the cluster to end, and wakes this node's and all callers.
+    /// Looks a name up in the table that the node's thread published last. It asks the node for nothing, and waits for nobody. `NodeLeft`:
+    /// the node has left. `Closed`: the cluster was closed.
+    pub(crate) fn look_up(&mut self, name: &Name) -> Result<Option<Pid>, SeatFault>
+        ensures slot { slot_of self.new ≡ slot_of self.old }
+        ensures node { name_of self.new ≡ name_of self.old }
+        ensures nodes { nodes_of self.new ≡ nodes_of self.old }
+        ensures line { self.new.line ≡ self.old.line }
+        ensures finds { Looked result (name_of self.old) name.now (seen_of self.old) (seen_of self.new) }
+    {
+        if self.hub.is_over() {
+            return Err(SeatFault::Closed);
+        }
+        match self.reader.whereis(&self.node, name) {
+            Lookup::Owner(owner) => Ok(owner),
+            Lookup::Left => Err(SeatFault::NodeLeft),
+            // No thread tells of what it hasn't published, so no table is behind what was told.
+            Lookup::Behind | Lookup::Gone => Err(SeatFault::Closed),
+        }
+    }
+
+    /// Asks all threads of the cluster to end, and wakes this node's and all callers. Nobody reads a table any more.
     pub fn stop(&self) {
-        self.hub.close();
+        self.hub.end();
         self.line.ring();
     }
 
@@ -203,6 +233,7 @@ impl Caller {
         ensures inbox { inbox_of self.new ≡ inbox_of self.old }
         ensures offers { IfOk result (λ back. Offers item back self.old self.new) }
         ensures ended { IfErr result (λ fault. IsEnd fault × (self.new.line ≡ self.old.line)) }
+        ensures seen { seen_of self.new ≡ seen_of self.old }
     {
         match self.line.send(rt, item) {
             Ok(()) => Ok(None),
@@ -222,6 +253,7 @@ impl Caller {
         ensures inbox { inbox_of self.new ≡ inbox_of self.old }
         ensures put { OnOk result (Puts item self.old self.new) }
         ensures ended { IfErr result (λ fault. IsEnd fault × (self.new.line ≡ self.old.line)) }
+        ensures seen { seen_of self.new ≡ seen_of self.old }
     {
         self.rest.worked();
         let mut waiting = item;
@@ -235,17 +267,36 @@ impl Caller {
         unreachable!()
     }
 
-    /// What came of a ticket, if that is known. Replies to others, which this caller has given up, are dropped.
-    fn find<R: Wait>(&self, rt: &R, ticket: Ticket) -> Result<Option<Effect>, SeatFault>
-        ensures told { IfOk result (λ found. IfSome found (λ effect. IsToldTo (name_of self.now) ticket (Ok effect))) }
-        ensures refused { IfErr result (IsFaultTold (name_of self.now) ticket) }
+    /// Takes a reply up, if one lies there: what it says of a ticket. A reply to another, which this caller has given up, is dropped. The
+    /// node's readers were shown all that it had shown then, and so the table is read from there on.
+    fn take_up<R: Wait>(&mut self, rt: &R, ticket: Ticket) -> Option<Result<Effect, TaskFault>>
+        ensures slot { slot_of self.new ≡ slot_of self.old }
+        ensures node { name_of self.new ≡ name_of self.old }
+        ensures nodes { nodes_of self.new ≡ nodes_of self.old }
+        ensures line { self.new.line ≡ self.old.line }
+        ensures next { self.new.next ≡ self.old.next }
+        ensures told { IfSome result (λ outcome. IsToldTo (name_of self.old) ticket outcome (told_of self.new)) }
+        ensures learns { Learns (seen_of self.old) (seen_of self.new) }
+    {
+        let reply = self.hub.take(rt, self.slot)?;
+        self.reader.learn(reply.length());
+        reply.outcome(&self.node, ticket)
+    }
+
+    /// What came of a ticket, if that is known.
+    fn find<R: Wait>(&mut self, rt: &R, ticket: Ticket) -> Result<Option<Effect>, SeatFault>
+        ensures slot { slot_of self.new ≡ slot_of self.old }
+        ensures node { name_of self.new ≡ name_of self.old }
+        ensures nodes { nodes_of self.new ≡ nodes_of self.old }
+        ensures line { self.new.line ≡ self.old.line }
+        ensures next { self.new.next ≡ self.old.next }
+        ensures told { IfOk result (λ found. IfSome found (λ effect. IsToldTo (name_of self.old) ticket (Ok effect) (told_of self.new))) }
+        ensures refused { IfErr result (λ fault. IsFaultTold (name_of self.old) ticket fault (told_of self.new)) }
+        ensures learns { Learns (seen_of self.old) (seen_of self.new) }
     {
         // This comes first: a reply that was laid down before the thread ended is then found.
         let end = self.end();
-        let outcome = match self.hub.take(rt, self.slot) {
-            Some(reply) => reply.outcome(&self.node, ticket),
-            None => None,
-        };
+        let outcome = self.take_up(rt, ticket);
         match (outcome, end) {
             (Some(outcome), _) => Ok(Some(outcome?)),
             (None, Some(fault)) => Err(fault),
@@ -260,8 +311,9 @@ impl Caller {
         ensures nodes { nodes_of self.new ≡ nodes_of self.old }
         ensures line { self.new.line ≡ self.old.line }
         ensures next { self.new.next ≡ self.old.next }
-        ensures told { IfOk result (λ effect. IsToldTo (name_of self.old) ticket (Ok effect)) }
-        ensures refused { IfErr result (IsFaultTold (name_of self.old) ticket) }
+        ensures told { IfOk result (λ effect. IsToldTo (name_of self.old) ticket (Ok effect) (told_of self.new)) }
+        ensures refused { IfErr result (λ fault. IsFaultTold (name_of self.old) ticket fault (told_of self.new)) }
+        ensures learns { Learns (seen_of self.old) (seen_of self.new) }
     {
         self.rest.worked();
         for _ in rt.forever() {

@@ -3,6 +3,8 @@ ghost use Rattle.std.specs.Prelude.{◌≡◌, [], true, false};
 ghost use Rattle.node_loop.specs.Held.{written};
 ghost use Rattle.node_loop.specs.Coming.{IsLoopOf};
 ghost use Rattle.node_loop.specs.Sound.{LeavesSound};
+ghost use Rattle.node_loop.specs.Owing.{shown_by};
+ghost use Rattle.shared_table.specs.Publishing.{current};
 
 use crate::bell::Rest;
 use crate::hub::Hub;
@@ -10,6 +12,7 @@ use crate::laid::Laid;
 use crate::standing::Standing;
 use name_table::Names;
 use node_loop::{NodeEnd, NodeLoop};
+use shared_table::Publisher;
 use std::alloc::Global;
 use std::marker::Model;
 use std::sync::{Arc, Wait};
@@ -49,14 +52,22 @@ impl Host {
         self.hub.is_closing()
     }
 
-    /// Call it behind each turn of the node: lays its replies down for their callers, and tells them where it has left.
-    pub fn hand_out<N: Names<Memory = Global>, R: Wait>(&self, rt: &R, node: &mut NodeLoop<N>)
-        requires { IsLoopOf node.old.log.node node.old }
+    /// Call it behind each turn of the node, where its readers are shown all: lays its replies down for their callers, each with how long
+    /// a log is behind what they are shown, and tells them where it has left.
+    pub fn hand_out<N: Names<Memory = Global>, R: Wait>(
+        &self,
+        rt: &R,
+        node: &mut NodeLoop<N>,
+        publisher: &Publisher,
+    )
+        requires came { IsLoopOf node.old.log.node node.old }
+        requires shown { current publisher.now ≡ shown_by node.old }
         ensures came { IsLoopOf node.old.log.node node.new }
         ensures all { node.new ≡ record node.old { desk = record node.old.desk { replies = [] } } }
     {
+        let length = publisher.length();
         for _ in rt.forever() {
-            let Some(reply) = Laid::next(node) else {
+            let Some(reply) = Laid::next(node, length) else {
                 break;
             };
             self.hub.lay(rt, reply);
@@ -66,21 +77,39 @@ impl Host {
         }
     }
 
-    /// Rests where the last turn of the node did nothing, shortly where it has something to try again. It may return for no reason.
-    pub fn rest<N: Names<Memory = Global>, R: Wait + Clock>(&mut self, rt: &R, node: &NodeLoop<N>)
+    /// Rests where the last turn of the node did nothing, shortly where it has something to try again, or readers weren't shown all. It
+    /// may return for no reason.
+    pub fn rest<N: Names<Memory = Global>, R: Wait + Clock>(
+        &mut self,
+        rt: &R,
+        node: &NodeLoop<N>,
+        shown: bool,
+    )
         ensures { self.new ≡ self.old }
     {
         if node.worked() {
             self.rest.worked();
         } else {
-            self.rest.rest(rt, node.owes());
+            self.rest.rest(rt, !shown || node.owes());
+        }
+    }
+
+    /// Waits until the cluster is over, so that the node's table is read until then.
+    pub fn stay<R: Wait + Clock>(&mut self, rt: &R)
+        ensures { self.new ≡ self.old }
+    {
+        for _ in rt.forever() {
+            if self.hub.is_over() {
+                return;
+            }
+            self.rest.rest(rt, false);
         }
     }
 
     /// Call it behind the last turn: tells the callers that no reply comes any more, and gives what the thread gives back. It ended
     /// alone where the node hasn't left and the thread wasn't asked to end. Then the cluster is over, and all threads are asked to
     /// end: what other nodes ask of this one is never answered.
-    pub fn end<N: Names<Memory = Global>>(self, node: NodeLoop<N>) -> NodeEnd<N>
+    pub fn end<N: Names<Memory = Global>>(&self, node: NodeLoop<N>) -> NodeEnd<N>
         ensures log { written result.log ≡ node.log }
         ensures table { N.contents result.table ≡ node.core.table }
         ensures ended_alone { node.left ≡ true → result.ended_alone ≡ false }

@@ -14,6 +14,9 @@ pub const MOST_SEATS: u32 = 64;
 /// How many slots for replies there are: one for each seat, and behind those one for the cluster's own calls at each node.
 const SLOTS: u32 = 72;
 
+/// How many readers a node's table has: one for each seat, which may be at any node, and one for the cluster's own calls.
+pub const MOST_READERS: usize = 65;
+
 /// Where the reply to one caller is laid. A caller has one call at a time, so one reply has room; and to lay one takes no memory,
 /// so none is ever lost.
 #[derive(Drop)]
@@ -22,11 +25,13 @@ struct Slot {
     bell: Bell,
 }
 
-/// The nodes of a cluster, the slots of all callers, and whether it is being closed.
+/// The nodes of a cluster, the slots of all callers, whether its threads are asked to end, and whether it is over, so that nobody reads a
+/// table any more.
 #[derive(Drop)]
 pub struct Hub {
     nodes: NodeSet,
     closing: AtomicBool,
+    over: AtomicBool,
     slots: Vec<Slot>,
     ghost all: { vec_len slots ≡ 72 },
 }
@@ -60,6 +65,7 @@ impl Hub {
         Ok(Hub {
             nodes: nodes.copy(),
             closing: AtomicBool::new(false),
+            over: AtomicBool::new(false),
             slots,
         })
     }
@@ -96,6 +102,17 @@ impl Hub {
         for slot in &self.slots {
             slot.bell.ring();
         }
+    }
+
+    /// The cluster is over: it asks all threads to end, and nobody reads a table any more. Ring the threads' bells then.
+    pub(crate) fn end(&self) {
+        self.over.store(true, Ordering::SeqCst);
+        self.close();
+    }
+
+    /// Whether the cluster is over.
+    pub(crate) fn is_over(&self) -> bool {
+        self.over.load(Ordering::SeqCst)
     }
 
     /// Asks all threads to end, and tells the callers. Ring the threads' bells then.

@@ -1,5 +1,5 @@
 //! Replies on their way from a node's thread to a caller.
-ghost use Rattle.std.specs.Prelude.{◌≡◌, [], IfSome, MatchOption};
+ghost use Rattle.std.specs.Prelude.{◌≡◌, ◌≤◌, [], IfSome, MatchOption};
 ghost use Rattle.node_loop.specs.Coming.{IsLoopOf};
 ghost use Rattle.node_seats.specs.Replies.{IsTold, IsToldTo};
 
@@ -8,25 +8,36 @@ use node_loop::{Effect, NodeLoop, TaskFault, TaskReply, Ticket};
 use std::alloc::Global;
 use term::NodeName;
 
-/// A reply that the loop of a node told.
+/// A reply that the loop of a node told, behind what its readers were shown.
 #[derive(Drop)]
 pub(crate) struct Laid {
     node: NodeName,
     reply: TaskReply,
-    ghost told: { IsTold node reply },
+    /// The length of the node's log up to which its readers were shown all then.
+    length: u64,
+    ghost told: { IsTold node reply length },
 }
 
 impl Laid {
-    /// The oldest reply of a node's loop, which is taken off its list.
-    pub(crate) fn next<N: Names<Memory = Global>>(node: &mut NodeLoop<N>) -> Option<Self>
-        requires { IsLoopOf node.old.log.node node.old }
+    /// The oldest reply of a node's loop, which is taken off its list. Readers were shown all that the node shows, of a log of this length
+    /// or less.
+    pub(crate) fn next<N: Names<Memory = Global>>(
+        node: &mut NodeLoop<N>,
+        length: u64,
+    ) -> Option<Self>
+        requires came { IsLoopOf node.old.log.node node.old }
+        requires shown { node.old.owed.length ≤ length }
         ensures came { IsLoopOf node.old.log.node node.new }
         ensures rest { node.new ≡ record node.old { desk = record node.old.desk { replies = node.new.desk.replies } } }
         ensures none { MatchOption result (node.new.desk.replies ≡ []) (λ _. Unit {0}) }
     {
         let name = node.node().copy();
         let reply = node.next_reply()?;
-        Some(Laid { node: name, reply })
+        Some(Laid {
+            node: name,
+            reply,
+            length,
+        })
     }
 
     /// The number of the slot where it is to be laid.
@@ -36,17 +47,25 @@ impl Laid {
         self.reply.ticket.seat
     }
 
+    /// The length of the node's log up to which its readers were shown all before it was laid.
+    pub(crate) fn length(&self) -> u64
+        ensures { result ≡ self.now.length }
+    {
+        self.length
+    }
+
     /// What it says, where this node told it to the owner of this ticket. Any other is one to a call that was given up.
     pub(crate) fn outcome(
         self,
         node: &NodeName,
         ticket: Ticket,
     ) -> Option<Result<Effect, TaskFault>>
-        ensures { IfSome result (λ outcome. IsToldTo node.now ticket outcome) }
+        ensures { IfSome result (λ outcome. IsToldTo node.now ticket outcome self.length) }
     {
         let Laid {
             node: teller,
             reply,
+            ..
         } = self;
         if teller != *node
             || reply.ticket.seat != ticket.seat

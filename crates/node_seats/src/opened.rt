@@ -12,6 +12,7 @@ use crate::parcel::Parcel;
 use crate::standing::Standing;
 use link::Mailbox;
 use node_loop::Item;
+use shared_table::ReaderFactory;
 use std::alloc::{AllocError, Global};
 use std::sync::Arc;
 use term::NodeName;
@@ -29,14 +30,15 @@ pub struct Opened {
     pub host: Host,
 }
 
-/// Opens a node, the one at this place among its cluster's. Its thread, and its cluster's caller, yield so often at most before they
-/// sleep.
+/// Opens a node, the one at this place among its cluster's, whose table is read by these. Its thread, and its cluster's caller, yield so
+/// often at most before they sleep.
 pub fn open_node(
     alloc: Global,
     hub: &Arc<Hub, Global>,
     node: NodeName,
     place: u32,
     yields: u32,
+    readers: ReaderFactory,
 ) -> Result<Opened, AllocError>
     requires { place < 8 }
     ensures address { IfOk result (λ opened. opened.address ≡ record { node = node; lines = 1; room = mailbox_room opened.mailbox }) }
@@ -49,7 +51,7 @@ pub fn open_node(
     ensures host { IfOk result (λ opened. opened.host ≡ yields) }
 {
     // What is large comes last: the check follows each way out with all that was made before it.
-    let standing = Arc::new(alloc, Standing::new())?;
+    let standing = Arc::new(alloc, Standing::new(readers))?;
     let own = Arc::try_clone(hub)?;
     let Entrance {
         mut address,

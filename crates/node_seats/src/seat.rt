@@ -3,9 +3,8 @@ ghost use Rattle.std.specs.Prelude.{◌≡◌, [], OnOk, IfOk, IfErr};
 ghost use Rattle.node_loop.specs.Events.{knows_contact as knows};
 ghost use Rattle.node_loop.specs.declared.Event.TheVariants.{Exit, Leave, Call as Calls};
 ghost use Rattle.node_loop.specs.declared.WorldEvent.TheVariants.{At};
-ghost use Rattle.node_loop.specs.declared.Call.TheVariants.{Whereis};
 ghost use Rattle.node_loop.specs.declared.replies.Effect.TheVariants.{Made, Left};
-ghost use Rattle.node_seats.specs.Seats.{sitting, Answered, Unanswered, Done, owner_reply};
+ghost use Rattle.node_seats.specs.Seats.{sitting, Answered, Unanswered, Done, LooksUp};
 ghost use Rattle.node_seats.specs.Replies.{HasLeft};
 ghost use Rattle.node_seats.specs.Faults.{IsAskRefused};
 
@@ -20,7 +19,8 @@ use std::time::Clock;
 use term::{Name, NodeName, Pid};
 
 /// One caller's place at a node, with the transcript of what it was answered. It may go to another thread. Contracts see its
-/// number, its node and the inbox of that, the nodes of its cluster, the events that it has asked the node for, and its transcript.
+/// number, its node and the inbox of that, the nodes of its cluster, the events that it has asked the node for, what it has seen of the
+/// node's table, and its transcript.
 #[derive(Drop)]
 pub struct Seat {
     caller: Caller,
@@ -85,27 +85,14 @@ impl Seat {
         Ok(reply)
     }
 
-    /// Looks a name up in the node's table: a call as any other, which stands in the transcript.
-    pub fn whereis<R: Wait + Clock>(
-        &mut self,
-        rt: &R,
-        name: &Name,
-    ) -> Result<Option<Pid>, SeatFault>
-        ensures ok { IfOk result (λ owner. Answered (Whereis name.now) (owner_reply owner) self.old self.new) }
-        ensures err { IfErr result (λ fault. Unanswered fault (Calls (Whereis name.now)) self.old self.new) }
+    /// Looks a name up in the node's table, beside the node: it asks it for nothing, waits for no lock and no thread, and stands in no
+    /// transcript. The table is the node's after some of its steps: after all whose replies this seat was given, and after no fewer than
+    /// any that it read before. `NodeLeft`: the node has left. `Closed`: the cluster was closed. Where the node's thread ended for another
+    /// cause, its last table is read still.
+    pub fn whereis(&mut self, name: &Name) -> Result<Option<Pid>, SeatFault>
+        ensures { LooksUp name.now result self.old self.new }
     {
-        let event = self.event(Event::Call(Call::Whereis(name.copy())));
-        self.entries.reserve(1)?;
-        let answer = self.caller.call(rt, Call::Whereis(name.copy()))?;
-        let owner = match &answer.reply {
-            Reply::Pid(owner) => Some(owner.copy()),
-            Reply::Undefined => None,
-            // No node answers a look-up otherwise.
-            _ => return Err(SeatFault::Closed),
-        };
-        let answer = Some(answer);
-        self.entries.push_reserved(SeatEntry { event, answer });
-        Ok(owner)
+        self.caller.look_up(name)
     }
 
     /// A process of the node dies. It waits until that is so, and the exit then stands last in the transcript. It is refused as

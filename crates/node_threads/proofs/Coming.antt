@@ -3,7 +3,8 @@ use Rattle.std.proofs.Common.{ℕ, ◌≡◌, ◌⊎◌, inl, inr, suc, List, ap
 use Rattle.link.specs.declared.faults.LinkFault.{LinkFault}
 use Rattle.node_loop.specs.declared.item.Item.{Item}
 use Rattle.node_loop.specs.Held.{Looping}
-use Rattle.node_loop.specs.Turned.{Took, Missed, Turned}
+use Rattle.node_loop.specs.Turned.{Turned}
+use Rattle.node_loop.proofs.Moving.{turn_of}
 use Rattle.node_loop.specs.Steps.{Outcome}
 use Rattle.node_loop.specs.Items.{Works, Idles}
 use Rattle.node_loop.specs.Coming.{begun, Turns, IsLoopOf}
@@ -12,24 +13,13 @@ use Rattle.node_loop.specs.Openings.{opening_core}
 
 -- a turn more
 module _ {S : Type 0} (posts : S → ℕ → Item → S → Type 0) (refused : S → ℕ → Item → LinkFault → Type 0) (takes : S → ℕ → Item → S → Type 0) (misses : S → Type 0) (held : ℕ → Type 0) where
-  turn_of : (a : Looping) (s : S) (r : Outcome) (b : Looping) (t : S) → Turned posts refused takes misses held a s r b t → Turns a b
-  turn_of a s r b t h = record { tray = h.tray; outcome = r; turned = at_end h.turned }
-    where
-      mid : Looping
-      mid = record a { tray = h.tray }
-
-      at_end : Took posts refused takes misses mid h.between r b t ⊎ Missed posts refused takes misses mid h.between r b t
-          → ((from : ℕ) × (i : Item) × Works from i mid r b) ⊎ Idles mid r b
-      at_end (inl took) = inl (took.from, took.item, took.works)
-      at_end (inr missed) = inr missed.idles
-
   pub comes_by_turn : (name : ℕ) (a : Looping) (s : S) (r : Outcome) (b : Looping) (t : S)
       → Turned posts refused takes misses held a s r b t → IsLoopOf name a → IsLoopOf name b
   comes_by_turn name a s r b t h came = record {
     nodes = came.nodes;
     cluster = came.cluster;
     moves = suc came.moves;
-    comes = (a, came.comes, inl (turn_of a s r b t h));
+    comes = (a, came.comes, inl (turn_of posts refused takes misses held a s r b t h));
   }
 
 -- it begins with the core that its node opens with

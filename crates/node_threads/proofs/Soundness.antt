@@ -6,7 +6,6 @@ use Rattle.link.specs.declared.mailbox.Mailbox.{Mailbox}
 use Rattle.link.specs.Mailboxes.{taken, mailbox_room}
 use Rattle.node_loop.specs.declared.item.Item.{Item}
 use Rattle.node_loop.specs.Coming.{IsLoopOf}
-use Rattle.node_loop.specs.Desks.{Kept}
 use Rattle.node_loop.specs.Held.{Looping, written}
 use Rattle.node_loop.specs.Steps.{Outcome}
 use Rattle.node_loop.specs.Dealings.{Dealt}
@@ -20,17 +19,17 @@ use Rattle.node_threads.specs.Givers.{receivers, found_in}
 use Rattle.node_threads.specs.Wires.{unused}
 use Rattle.node_threads.specs.Ends.{are_inside, leads_inside, fixed}
 use Rattle.node_threads.specs.Dealings.{sent_to, taken_from, dealt_of, dealt_by}
-use Rattle.node_threads.specs.Soundness.{IsSoundAt, StaysSound, LastsSound}
+use Rattle.node_threads.specs.Soundness.{IsSoundAt, StaysSound, LastsSound, IsBesides}
 use Rattle.node_threads.specs.Ended.{IsEndOf}
 use Rattle.node_threads.proofs.Lines.{receivers_unused}
 
--- replies that are handed out change nothing of it
-sound_without : (o : Opening) (b c : Looping) (d : Dealt) (k : Kept) → c ≡ record b { desk = k } → IsSound o b d → IsSound o c d
-sound_without o b c d k is S =
-    subst (λ (l : Looping). IsSound o l d) (sym is) (besides o (λ f. []) b d S k b.wait b.worked)
+-- what is shown and handed out changes nothing of it
+sound_besides : (o : Opening) (b c : Looping) (d : Dealt) → IsBesides b c → IsSound o b d → IsSound o c d
+sound_besides o b c d is S =
+    subst (λ (l : Looping). IsSound o l d) (sym is) (besides o (λ f. []) b d S c.desk b.wait b.worked c.owed)
 
-ended_without : (o : Opening) (b c : Looping) (d : Dealt) (k : Kept) → c ≡ record b { desk = k } → EndsSound o b d → EndsSound o c d
-ended_without o b c d k is E = subst (λ (l : Looping). EndsSound o l d) (sym is) (record {
+ended_besides : (o : Opening) (b c : Looping) (d : Dealt) → IsBesides b c → EndsSound o b d → EndsSound o c d
+ended_besides o b c d is E = subst (λ (l : Looping). EndsSound o l d) (sym is) (record {
   of = E.of;
   named = E.named;
   course = E.course;
@@ -39,15 +38,15 @@ ended_without o b c d k is E = subst (λ (l : Looping). EndsSound o l d) (sym is
   vouches = E.vouches;
 })
 
--- a turn, behind which replies are handed out
-module _ (a : Looping) (s : Traffic) (b : Looping) (t : Traffic) (c : Looping) (k : Kept) (is : c ≡ record b { desk = k }) where
+-- a turn, behind which it is shown what it did, and replies are handed out
+module _ (a : Looping) (s : Traffic) (b : Looping) (t : Traffic) (c : Looping) (is : IsBesides b c) where
   pub sound_on : (r : Outcome) → StaysSound a s r b t → is_ok r ≡ true → (o : Opening) → IsSoundAt o a s → IsSoundAt o c t
-  sound_on (Ok u) stays goes o here = ((stays o here).0, sound_without o b c (dealt_of t) k is (stays o here).1)
+  sound_on (Ok u) stays goes o here = ((stays o here).0, sound_besides o b c (dealt_of t) is (stays o here).1)
   sound_on (Err why) stays goes o here = cc
 
   pub sound_to_end : (r : Outcome) → StaysSound a s r b t → is_ok r ≡ false → LastsSound a s c t
   sound_to_end (Ok u) stays ends o here = cc
-  sound_to_end (Err why) stays ends o here = inr (ended_without o b c (dealt_of t) k is (stays o here).1)
+  sound_to_end (Err why) stays ends o here = inr (ended_besides o b c (dealt_of t) is (stays o here).1)
 
 -- behind turns
 pub ends_on : (a : Looping) (s : Traffic) (b : Looping) (t : Traffic) → ((o : Opening) → IsSoundAt o a s → IsSoundAt o b t) → LastsSound a s b t

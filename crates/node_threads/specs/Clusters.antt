@@ -4,7 +4,7 @@ use Rattle.node_loop.specs.declared.Event.TheVariants.{Leave}
 use Rattle.node_loop.specs.declared.replies.Effect.TheVariants.{Left}
 use Rattle.node_seats.specs.declared.caller.Caller.{Caller}
 use Rattle.node_seats.specs.Addresses.{Inbox}
-use Rattle.node_seats.specs.Callers.{inbox_of, ticket_of, task_for, Puts}
+use Rattle.node_seats.specs.Callers.{inbox_of, ticket_of, told_of, task_for, Puts}
 use Rattle.node_seats.specs.Replies.{IsToldTo, HasLeft}
 use Rattle.node_seats.specs.Seats.{Sitting, new_seat}
 use Rattle.node_threads.specs.Wires.{Wired, inboxes, inbox_to}
@@ -30,7 +30,7 @@ pub record LeftAsAsked (inbox : Inbox) : Type 0 where
   pub behind : Caller
   pub of : inbox_of caller ≡ inbox
   pub put : Puts (task_for caller Leave) caller behind
-  pub told : IsToldTo inbox.node (ticket_of caller) (Ok Left)
+  pub told : IsToldTo inbox.node (ticket_of caller) (Ok Left) (told_of behind)
   pub left : HasLeft inbox.node
 
 -- so at this node of the cluster

@@ -8,6 +8,10 @@ use Rattle.node_threads.specs.declared.ruled_end.Traffic.{Traffic}
 use Rattle.node_threads.specs.Ends.{leads_inside}
 use Rattle.node_threads.specs.Dealings.{dealt_of}
 
+-- the same, but for the replies that were handed out, and what its readers are still to be shown
+abbrev pub IsBesides : Looping → Looping → Type 0
+IsBesides a b = b ≡ record a { desk = b.desk; owed = b.owed }
+
 -- its lines lead inside the world, and it is sound with what they and its inbox dealt in
 abbrev pub IsSoundAt : Opening → Looping → Traffic → Type 0
 IsSoundAt o a s = (leads_inside o s ≡ true) × IsSound o a (dealt_of s)

@@ -1,5 +1,5 @@
 //! Nodes whose threads are yet to start.
-ghost use Rattle.std.specs.Prelude.{◌≡◌, true};
+ghost use Rattle.std.specs.Prelude.{◌≡◌, [], true, IfOk};
 ghost use Rattle.term.specs.NodeSets.{set_of};
 
 use crate::running::{Running, Work};
@@ -7,7 +7,10 @@ use crate::shared::Shared;
 use link::Mailbox;
 use name_table::Names;
 use node_loop::{Gate, Item, NodeLoop, Opening};
-use node_seats::{Address, Caller, Host, Line, Opened, Parcel, open_node};
+use node_seats::{
+    Address, Caller, Host, KeptPublisher, Line, MOST_READERS, Opened, Parcel, Publisher,
+    ReaderFactory, open_node,
+};
 use std::alloc::{AllocError, Global};
 use std::marker::Model;
 use std::sync::{Arc, Wait};
@@ -18,24 +21,26 @@ use term::NodeName;
 /// A node whose thread is yet to start: where it is reached, and what its thread is to work with. Contracts see its inbox, how many
 /// lines lead there, the core that it opens with, and its own lines.
 #[derive(Drop)]
-pub(crate) struct Berth<G: Gate + Drop, N: Names> {
+pub(crate) struct Berth<G: Gate + Drop, N: Names, R: Wait + Drop> {
     address: Address<Item>,
     /// Asks the node in the name of the cluster.
     caller: Caller,
     mailbox: Mailbox<Parcel<Item>>,
     host: Host,
+    /// Of the node's table.
+    publisher: KeptPublisher<R>,
     /// To all nodes.
     lines: Vec<Line<Item>>,
     gate: Arc<G, Global>,
     node: NodeLoop<N>,
 }
 
-impl<G: Gate + Drop, N: Names> Model for Berth<G, N> {
+impl<G: Gate + Drop, N: Names, R: Wait + Drop> Model for Berth<G, N, R> {
     ghost use Rattle.std.specs.Prelude.{◌≡◌};
     ghost use Rattle.node_seats.specs.Callers.{inbox_of};
     ghost use Rattle.node_seats.specs.Addresses.{inbox_at};
     ghost use Rattle.node_threads.specs.Berths.{Berthed};
-    ghost use Rattle.node_threads.specs.Starts.{IsAtStart};
+    ghost use Rattle.node_threads.specs.Starts.{IsAtStart, Publishes};
 
     ghost Value = { Berthed };
 
@@ -44,10 +49,24 @@ impl<G: Gate + Drop, N: Names> Model for Berth<G, N> {
       made = b.address.lines;
     } };
 
-    ghost invariant = { λ b. IsAtStart (inbox_at b.address) b.node b.lines.items b.mailbox × (inbox_of b.caller ≡ inbox_at b.address) };
+    ghost invariant = { λ b. IsAtStart (inbox_at b.address) b.node b.lines.items b.mailbox × (inbox_of b.caller ≡ inbox_at b.address)
+        × Publishes b.node b.publisher.publisher };
 }
 
-impl<G: Gate + Drop, N: Names<Memory = Global>> Berth<G, N> {
+/// The publisher of the table of a node, which is empty still, and by what it is read.
+fn publish<R: Wait + Drop + Copy>(
+    rt: &R,
+    alloc: Global,
+    node: &NodeName,
+) -> Result<(KeptPublisher<R>, ReaderFactory), AllocError>
+    ensures { IfOk result (λ made. made.0.publisher ≡ record { node = node.now; editions = []; waiting = []; length = 0 }) }
+{
+    let kept = KeptPublisher::new(*rt, Publisher::new(alloc, node, MOST_READERS)?);
+    let readers = kept.publisher.readers()?;
+    Ok((kept, readers))
+}
+
+impl<G: Gate + Drop, N: Names<Memory = Global>, R: Wait + Drop + Copy> Berth<G, N, R> {
     ghost use Rattle.std.specs.Prelude.{◌≡◌, ◌<◌, true, map, IfOk, OnOk};
     ghost use Rattle.node_threads.specs.Wires.{name_of, unused};
     ghost use Rattle.node_threads.specs.Berths.{next_line, one_more, IsOpened};
@@ -55,6 +74,7 @@ impl<G: Gate + Drop, N: Names<Memory = Global>> Berth<G, N> {
     /// Opens a node, the one at this place among the cluster's, and makes what its thread is to work with, but for the
     /// lines.
     pub(crate) fn open(
+        rt: &R,
         alloc: Global,
         shared: &Shared<G>,
         opening: &Opening,
@@ -68,18 +88,27 @@ impl<G: Gate + Drop, N: Names<Memory = Global>> Berth<G, N> {
     {
         // What is large comes last: the check follows each way out with all that was made before it.
         let gate = Arc::try_clone(&shared.gate)?;
+        let (publisher, readers) = publish(rt, alloc, node)?;
         let Opened {
             address,
             caller,
             mailbox,
             host,
-        } = open_node(alloc, &shared.hub, node.copy(), place, shared.yields)?;
+        } = open_node(
+            alloc,
+            &shared.hub,
+            node.copy(),
+            place,
+            shared.yields,
+            readers,
+        )?;
         let node = NodeLoop::new(alloc, opening.core(alloc, node))?;
         Ok(Berth {
             address,
             caller,
             mailbox,
             host,
+            publisher,
             lines: Vec::new(alloc),
             gate,
             node,
@@ -103,11 +132,11 @@ impl<G: Gate + Drop, N: Names<Memory = Global>> Berth<G, N> {
     }
 
     /// Starts the thread.
-    pub(crate) fn launch<R>(self, rt: &R) -> Result<Running<N>, AllocError>
+    pub(crate) fn launch(self, rt: &R) -> Result<Running<N>, AllocError>
     where
         G: Send + Sync + 'static,
         N: Send + 'static,
-        R: Threads + Wait + Clock + Drop + Copy + Send + 'static,
+        R: Threads + Clock + Send + 'static,
         ensures { IfOk result (λ running. running ≡ self.wired) }
     {
         let Berth {
@@ -115,6 +144,7 @@ impl<G: Gate + Drop, N: Names<Memory = Global>> Berth<G, N> {
             caller,
             mailbox,
             host,
+            publisher,
             lines,
             gate,
             node,
@@ -125,6 +155,7 @@ impl<G: Gate + Drop, N: Names<Memory = Global>> Berth<G, N> {
             mailbox,
             gate,
             host,
+            publisher,
         };
         Running::start(rt, address, caller, work)
     }

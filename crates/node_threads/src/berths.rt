@@ -12,15 +12,17 @@ use name_table::Names;
 use node_loop::{Gate, Item, Opening};
 use node_seats::Line;
 use std::alloc::{AllocError, Global};
+use std::sync::Wait;
 use term::NodeName;
 
 /// Opens the inboxes of these nodes, behind those that were opened before.
-fn open_all<G: Gate + Drop, N: Names<Memory = Global>>(
+fn open_all<G: Gate + Drop, N: Names<Memory = Global>, R: Wait + Drop + Copy>(
+    rt: &R,
     alloc: Global,
     shared: &Shared<G>,
     opening: &Opening,
     nodes: &[NodeName],
-    berths: &mut Vec<Berth<G, N>>,
+    berths: &mut Vec<Berth<G, N, R>>,
 ) -> Result<(), AllocError>
     requires known { All (λ c. set_of opening.now.nodes c ≡ true) nodes.now }
     requires few { vec_len berths.old + length nodes.now ≤ 8 }
@@ -30,15 +32,15 @@ fn open_all<G: Gate + Drop, N: Names<Memory = Global>>(
 {
     for node in nodes {
         let place = berths.len() as u32;
-        berths.push(Berth::open(alloc, shared, opening, node, place)?)?;
+        berths.push(Berth::open(rt, alloc, shared, opening, node, place)?)?;
     }
     Ok(())
 }
 
 /// A line to each of these nodes.
-fn lines_to<G: Gate + Drop, N: Names<Memory = Global>>(
+fn lines_to<G: Gate + Drop, N: Names<Memory = Global>, R: Wait + Drop + Copy>(
     alloc: Global,
-    berths: &mut [Berth<G, N>],
+    berths: &mut [Berth<G, N, R>],
 ) -> Result<Vec<Line<Item>>, AllocError>
     ensures more { OnOk result (berths.new ≡ map one_more berths.old) }
     ensures lines { IfOk result (λ lines. lines.items ≡ map next_line berths.old) }
@@ -51,9 +53,9 @@ fn lines_to<G: Gate + Drop, N: Names<Memory = Global>>(
 }
 
 /// Connects all these nodes with one another, and each with itself. The lines of each have the number of its place.
-fn connect<G: Gate + Drop, N: Names<Memory = Global>>(
+fn connect<G: Gate + Drop, N: Names<Memory = Global>, R: Wait + Drop + Copy>(
     alloc: Global,
-    berths: &mut [Berth<G, N>],
+    berths: &mut [Berth<G, N, R>],
 ) -> Result<(), AllocError>
     requires { All (λ b. b.made ≡ 1) berths.old }
     ensures wired { OnOk result (AreWired (wired_of berths.new)) }
@@ -67,20 +69,21 @@ fn connect<G: Gate + Drop, N: Names<Memory = Global>>(
 }
 
 /// The berths of all nodes of a world that opens so, connected with one another.
-pub(crate) fn berths_of<G: Gate + Drop, N: Names<Memory = Global>>(
+pub(crate) fn berths_of<G: Gate + Drop, N: Names<Memory = Global>, R: Wait + Drop + Copy>(
+    rt: &R,
     alloc: Global,
     shared: &Shared<G>,
     opening: &Opening,
     cluster: &[NodeName],
     lone: &[NodeName],
-) -> Result<Vec<Berth<G, N>>, AllocError>
+) -> Result<Vec<Berth<G, N, R>>, AllocError>
     requires lists { start_refused cluster.now lone.now ≡ None }
     requires opens { IsOpening cluster.now lone.now opening.now }
     ensures { IfOk result (λ berths. IsCrew cluster.now lone.now (wired_of berths.items)) }
 {
     let mut berths = Vec::new(alloc);
-    open_all(alloc, shared, opening, cluster, &mut berths)?;
-    open_all(alloc, shared, opening, lone, &mut berths)?;
+    open_all(rt, alloc, shared, opening, cluster, &mut berths)?;
+    open_all(rt, alloc, shared, opening, lone, &mut berths)?;
     connect(alloc, berths.as_mut_slice())?;
     Ok(berths)
 }

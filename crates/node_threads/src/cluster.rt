@@ -134,7 +134,7 @@ where
         let shared = Shared::new(alloc, opening.nodes(), gate, yields)?;
         let joined = copied(alloc, cluster)?;
         let others = copied(alloc, lone)?;
-        let berths = berths_of(alloc, &shared, opening, cluster, lone)?;
+        let berths = berths_of(rt, alloc, &shared, opening, cluster, lone)?;
         let running = launch_all(rt, alloc, berths)?;
         Ok(Cluster {
             alloc,

@@ -59,7 +59,7 @@ impl<N: Names<Memory = Global>> Gathered<N> {
 /// Starts the threads of these nodes, one after another, up to the first that can't be started.
 fn launch_each<G, N, R>(
     rt: &R,
-    berths: Vec<Berth<G, N>>,
+    berths: Vec<Berth<G, N, R>>,
     running: &mut Vec<Running<N>>,
 ) -> Result<(), AllocError>
 where
@@ -79,7 +79,7 @@ where
 pub(crate) fn launch_all<G, N, R>(
     rt: &R,
     alloc: Global,
-    berths: Vec<Berth<G, N>>,
+    berths: Vec<Berth<G, N, R>>,
 ) -> Result<Vec<Running<N>>, AllocError>
 where
     G: Gate + Drop + Send + Sync + 'static,

@@ -12,7 +12,7 @@
 //!     if let Reply::Pid(process) = first.call(rt, Call::Spawn)? {
 //!         first.call(rt, Call::Register(name.copy(), process))?;
 //!     }
-//!     last.whereis(rt, name)?;
+//!     last.whereis(name)?;
 //!     Ok([first.into_transcript(), last.into_transcript()])
 //! }
 //!

@@ -3,9 +3,10 @@ ghost use denote.Param.Send.{IsSend, IsSync};
 ghost use Rattle.std.specs.Prelude.{◌≡◌, IfOk, OnOk};
 ghost use Rattle.node_loop.specs.Coming.{IsLoopOf};
 ghost use Rattle.node_seats.specs.Addresses.{inbox_at};
-ghost use Rattle.node_threads.specs.Starts.{IsAtStart};
+ghost use Rattle.node_loop.specs.Owing.{KeepsOwing};
+ghost use Rattle.node_threads.specs.Starts.{IsAtStart, Publishes};
 ghost use Rattle.node_threads.specs.Ends.{fixed};
-ghost use Rattle.node_threads.specs.Soundness.{StaysSound, LastsSound};
+ghost use Rattle.node_threads.specs.Soundness.{StaysSound, LastsSound, IsBesides};
 ghost use Rattle.node_threads.specs.Ended.{IsEndOf};
 
 use crate::intake::Intake;
@@ -13,7 +14,7 @@ use crate::ruled_end::RuledEnd;
 use link::Mailbox;
 use name_table::Names;
 use node_loop::{Gate, Item, NodeEnd, NodeLoop, TurnFault};
-use node_seats::{Address, Caller, Host, Hub, Line, Parcel, SeatFault};
+use node_seats::{Address, Caller, Host, Hub, KeptPublisher, Line, Parcel, SeatFault};
 use std::alloc::{AllocError, Global};
 use std::marker::Model;
 use std::snapshot::Snapshot;
@@ -76,12 +77,14 @@ impl<N: Names> Model for Running<N> {
 
 /// What a node's thread works with.
 #[derive(Drop)]
-pub(crate) struct Work<G: Gate + Drop, N: Names> {
+pub(crate) struct Work<G: Gate + Drop, N: Names, R: Wait + Drop> {
     pub(crate) node: NodeLoop<N>,
     pub(crate) lines: Vec<Line<Item>>,
     pub(crate) mailbox: Mailbox<Parcel<Item>>,
     pub(crate) gate: Arc<G, Global>,
     pub(crate) host: Host,
+    /// Of the node's table.
+    pub(crate) publisher: KeptPublisher<R>,
 }
 
 /// What a node whose thread has ended left behind, its lines, and its inbox.
@@ -101,45 +104,73 @@ fn turn<G: Gate, N: Names<Memory = Global>, R: Wait + Drop>(
     ensures node { node.new.log.node ≡ node.old.log.node }
     ensures came { IsLoopOf node.old.log.node node.old → IsLoopOf node.old.log.node node.new }
     ensures sound { StaysSound node.old end.old result node.new end.new }
+    ensures owing { KeepsOwing node.old node.new }
     ensures same { fixed end.new ≡ fixed end.old }
 {
     node.turn(end, gate)
 }
 
-/// The node takes one turn after another, until it is asked to end or can't go on. Replies are handed out behind each turn, and
-/// where one did nothing the thread rests.
+/// Shows the node's readers what its last turn did, and hands its replies out then: whether they are shown all. As long as they aren't,
+/// replies wait, so that nobody is told of more than is shown.
+fn show<N: Names<Memory = Global>, R: Wait + Drop>(
+    rt: &R,
+    node: &mut NodeLoop<N>,
+    host: &Host,
+    publisher: KeptPublisher<R>,
+) -> (KeptPublisher<R>, bool)
+    requires came { IsLoopOf node.old.log.node node.old }
+    requires publishes { Publishes node.old publisher.publisher }
+    ensures came { IsLoopOf node.old.log.node node.new }
+    ensures publishes { Publishes node.new result.0.publisher }
+    ensures kept { IsBesides node.old node.new }
+{
+    let (publisher, shown) = publisher.show(node);
+    if shown {
+        host.hand_out(rt, node, &publisher.publisher);
+    }
+    (publisher, shown)
+}
+
+/// The node takes one turn after another, until it is asked to end or can't go on. Behind each its readers are shown what it did, and its
+/// replies are handed out; where one did nothing the thread rests.
 fn turns<G: Gate, N: Names<Memory = Global>, R: Wait + Clock + Drop>(
     rt: &R,
     node: &mut NodeLoop<N>,
     end: &mut RuledEnd<R>,
     gate: &G,
     host: &mut Host,
-)
-    requires { IsLoopOf node.old.log.node node.old }
+    publisher: KeptPublisher<R>,
+) -> KeptPublisher<R>
+    requires came { IsLoopOf node.old.log.node node.old }
+    requires publishes { Publishes node.old publisher.publisher }
     ensures node { node.new.log.node ≡ node.old.log.node }
     ensures came { IsLoopOf node.old.log.node node.new }
     ensures sound { LastsSound node.old end.old node.new end.new }
     ensures same { fixed end.new ≡ fixed end.old }
 {
+    let mut publisher = publisher;
     for _ in rt.forever() {
         if host.is_closing() {
-            return;
+            return publisher;
         }
         let outcome = turn(node, end, gate);
-        host.hand_out(rt, node);
+        let (next, shown) = show(rt, node, host, publisher);
+        publisher = next;
         if outcome.is_err() {
-            return;
+            return publisher;
         }
-        host.rest(rt, node);
+        host.rest(rt, node, shown);
     }
+    publisher
 }
 
-/// A node's thread, from its first turn to its end.
+/// A node's thread, from its first turn to its end. The table is read until the cluster is over, however the thread ended.
 fn run<G: Gate + Drop, N: Names<Memory = Global>, R: Wait + Clock + Drop + Copy>(
     rt: &R,
-    work: Work<G, N>,
+    work: Work<G, N, R>,
 ) -> Ended<N>
-    requires { IsLoopOf work.node.log.node work.node }
+    requires came { IsLoopOf work.node.log.node work.node }
+    requires publishes { Publishes work.node work.publisher.publisher }
     ensures { IsEndOf N.contents work.node work.lines.items work.mailbox result }
 {
     let Work {
@@ -148,11 +179,14 @@ fn run<G: Gate + Drop, N: Names<Memory = Global>, R: Wait + Clock + Drop + Copy>
         mailbox,
         gate,
         mut host,
+        publisher,
     } = work;
     let mut end = RuledEnd::new(*rt, node.node().copy(), lines, mailbox);
-    turns(rt, &mut node, &mut end, &*gate, &mut host);
+    let publisher = turns(rt, &mut node, &mut end, &*gate, &mut host, publisher);
     let (lines, mailbox) = end.into_parts();
     let end = host.end(node);
+    host.stay(rt);
+    drop(publisher);
     Ended {
         end,
         lines,
@@ -163,13 +197,14 @@ fn run<G: Gate + Drop, N: Names<Memory = Global>, R: Wait + Clock + Drop + Copy>
 /// Starts the thread of a node, which works with this.
 fn spawn<G, N, R>(
     rt: &R,
-    work: Work<G, N>,
+    work: Work<G, N, R>,
 ) -> Result<PromisedHandle<Ended<N>, EndOf<N>>, AllocError>
 where
     G: Gate + Drop + Send + Sync + 'static,
     N: Names<Memory = Global> + Send + 'static,
     R: Threads + Wait + Clock + Drop + Copy + Send + 'static,
-    requires { IsLoopOf work.node.log.node work.node }
+    requires came { IsLoopOf work.node.log.node work.node }
+    requires publishes { Publishes work.node work.publisher.publisher }
     ensures node { IfOk result (λ handle. handle.promise.0.value ≡ work.node) }
     ensures lines { IfOk result (λ handle. handle.promise.1.value ≡ work.lines) }
     ensures mailbox { IfOk result (λ handle. handle.promise.2.value ≡ work.mailbox) }
@@ -186,6 +221,7 @@ where
         move || -> Ended<N>
             requires sends { IsSend G.row × IsSend N.row × IsSend R.row × IsSync G.row }
             requires came { IsLoopOf work.node.log.node work.node }
+            requires publishes { Publishes work.node work.publisher.publisher }
             ensures { IsEndOf N.contents work.node work.lines.items work.mailbox result }
         { run(&own, work) },
     )?;
@@ -194,7 +230,7 @@ where
 
 impl<N: Names<Memory = Global> + Send + 'static> Running<N> {
     ghost use Rattle.std.specs.Prelude.{◌<◌, []};
-    ghost use Rattle.node_seats.specs.Callers.{inbox_of, slot_of, nodes_of, nodes_at, asked_by};
+    ghost use Rattle.node_seats.specs.Callers.{inbox_of, slot_of, nodes_of, nodes_at, asked_by, seen_of, unseen};
     ghost use Rattle.node_threads.specs.Wires.{name_of};
     ghost use Rattle.node_threads.specs.Ended.{Returns};
     ghost use Rattle.node_threads.specs.Clusters.{LeftAsAsked};
@@ -204,13 +240,14 @@ impl<N: Names<Memory = Global> + Send + 'static> Running<N> {
         rt: &R,
         address: Address<Item>,
         caller: Caller,
-        work: Work<G, N>,
+        work: Work<G, N, R>,
     ) -> Result<Self, AllocError>
     where
         G: Gate + Drop + Send + Sync + 'static,
         R: Threads + Wait + Clock + Drop + Copy + Send + 'static,
         requires start { IsAtStart (inbox_at address) work.node work.lines.items work.mailbox }
         requires asks { inbox_of caller ≡ inbox_at address }
+        requires publishes { Publishes work.node work.publisher.publisher }
         ensures { IfOk result (λ running. running ≡ record { inbox = inbox_at address; core = work.node.core; lines = work.lines.items }) }
     {
         let handle = spawn(rt, work)?;
@@ -240,6 +277,7 @@ impl<N: Names<Memory = Global> + Send + 'static> Running<N> {
         ensures asks { IfOk result (λ caller. inbox_of caller ≡ self.old.inbox) }
         ensures nodes { IfOk result (λ caller. nodes_of caller ≡ nodes_at hub.now.value) }
         ensures unasked { IfOk result (λ caller. asked_by caller ≡ []) }
+        ensures unread { IfOk result (λ caller. seen_of caller ≡ unseen) }
         ensures node { self.new ≡ self.old }
     {
         self.caller.another(hub, &mut self.address, slot, yields)

@@ -62,7 +62,7 @@ fn a_console_names_a_process(rt: HostRuntime) -> Result<(), Fail> {
     assert_eq!(rt; heard?.as_slice(), b"ok\na.1\nyes\na.1\nok\n".as_slice());
     // The last letter, which gives the grant back, may stay undelivered.
     let text = written.as_slice();
-    assert!(rt; text == b"closed 7\n".as_slice() || text == b"closed 8\n".as_slice());
+    assert!(rt; text == b"closed 6\n".as_slice() || text == b"closed 7\n".as_slice());
     Ok(())
 }
 

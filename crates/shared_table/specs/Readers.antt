@@ -4,10 +4,11 @@ use Rattle.registry_model.specs.Process.{Text}
 use Rattle.registry_model.specs.Table.{get}
 use Rattle.left_right.specs.Sides.{view}
 use Rattle.left_right.specs.declared.reader.Reader.{Reader}
-use Rattle.shared_table.specs.declared.shown.Edition.{Edition}
+use Rattle.node_loop.specs.declared.edit.Edition.{Edition}
+use Rattle.shared_table.specs.declared.reader.Entry.{Entry}
 use Rattle.shared_table.specs.declared.reader.Lookup.{Lookup}
 use Rattle.shared_table.specs.declared.reader.Lookup.TheVariants.{Owner, Left, Behind, Gone}
-use Rattle.shared_table.specs.Editions.{latest}
+use Rattle.shared_table.specs.Editions.{latest, IsShown}
 use Rattle.shared_table.specs.Rule.{StartsWith}
 
 pub record Seen : Type 0 where
@@ -18,15 +19,28 @@ abbrev pub seen_by : {T P A : Type 0} → Option (Reader T (List Edition) P A) �
 seen_by None = []
 seen_by (Some r) = view r.place
 
--- the latest edition was read: it is none before those that were seen, and of no shorter log than was told
-abbrev pub Reads : Seen → Seen → Type 0
-Reads old new =
-    StartsWith new.editions old.editions × (old.told ≤ new.told) × (new.told ≡ (latest new.editions).length)
+-- the edition that was read last, of this node's table
+abbrev pub last_read : ℕ → Seen → Edition
+last_read node s = latest node s.editions
 
--- what a look-up of the name x comes to
-abbrev pub Finds : Lookup → Text → Seen → Seen → Type 0
-Finds (Owner owner) x old new =
-    Reads old new × ((latest new.editions).left ≡ false) × (owner ≡ get x (latest new.editions).table)
-Finds Left x old new = Reads old new × ((latest new.editions).left ≡ true)
-Finds Behind x old new = StartsWith new.editions old.editions × (new.told ≡ old.told)
-Finds Gone x old new = new ≡ old
+-- an entry finds the name x in this edition, which its node has shown
+pub record IsFound (entry : Entry) (x : Text) (e : Edition) : Type 0 where
+  pub owner : entry.owner ≡ get x e.table
+  pub length : entry.length ≡ e.length
+  pub left : entry.left ≡ e.left
+  pub shown : IsShown e
+
+-- The latest edition was read: none before those that were seen, and of no shorter a log than was told. The node has shown it
+pub record Reads (node : ℕ) (old new : Seen) : Type 0 where
+  pub later : StartsWith new.editions old.editions
+  pub rises : old.told ≤ new.told
+  pub told : new.told ≡ (last_read node new).length
+  pub shown : IsShown (last_read node new)
+
+-- what a look-up of the name x in the table of this node comes to
+abbrev pub Finds : Lookup → ℕ → Text → Seen → Seen → Type 0
+Finds (Owner owner) node x old new =
+    Reads node old new × ((last_read node new).left ≡ false) × (owner ≡ get x (last_read node new).table)
+Finds Left node x old new = Reads node old new × ((last_read node new).left ≡ true)
+Finds Behind node x old new = StartsWith new.editions old.editions × (new.told ≡ old.told)
+Finds Gone node x old new = new ≡ old

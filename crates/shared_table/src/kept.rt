@@ -1,9 +1,13 @@
 //! A publisher that a thread may own.
-ghost use Rattle.std.specs.Prelude.{◌≡◌, MatchResult};
-ghost use Rattle.shared_table.specs.Publishing.{published};
+ghost use Rattle.std.specs.Prelude.{◌≡◌, true};
+ghost use Rattle.node_loop.specs.Owing.{shown_by, Owes};
+ghost use Rattle.node_loop.specs.Coming.{IsLoopOf, HandsOver};
+ghost use Rattle.shared_table.specs.Publishing.{current, next_edition};
 
 use crate::publisher::Publisher;
-use std::alloc::AllocError;
+use name_table::Names;
+use node_loop::NodeLoop;
+use std::alloc::Global;
 use std::sync::Wait;
 
 /// A publisher with the handle by which it waits. It may be dropped, so it may go into a thread and come back from it; behind its drop
@@ -29,12 +33,21 @@ impl<R: Wait + Drop> KeptPublisher<R> {
         KeptPublisher { publisher, rt }
     }
 
-    /// Publishes what waits, as `Publisher::publish` does.
-    pub fn publish(self) -> (Self, Result<(), AllocError>)
-        ensures { MatchResult result.1 (λ _. result.0.publisher ≡ published self.publisher) (λ _. result.0.publisher ≡ self.publisher) }
+    /// Shows a node's readers all that its loop owes them, and says whether it did: where memory is refused, they see what they saw, and
+    /// the loop, or what waits, owes it still. It waits as `Publisher::publish` does.
+    pub fn show<N: Names<Memory = Global>>(self, node: &mut NodeLoop<N>) -> (Self, bool)
+        requires came { IsLoopOf node.old.log.node node.old }
+        requires owes { Owes node.old (next_edition self.publisher) }
+        ensures owes { Owes node.new (next_edition result.0.publisher) }
+        ensures shown { result.1 ≡ true → current result.0.publisher ≡ shown_by node.new }
+        ensures node { HandsOver node.old node.new }
+        ensures named { result.0.publisher.node ≡ self.publisher.node }
     {
-        let Self { publisher, rt } = self;
+        let Self { mut publisher, rt } = self;
+        if publisher.note(node).is_err() {
+            return (KeptPublisher { publisher, rt }, false);
+        }
         let (publisher, done) = publisher.publish(&rt);
-        (KeptPublisher { publisher, rt }, done)
+        (KeptPublisher { publisher, rt }, done.is_ok())
     }
 }

@@ -4,15 +4,14 @@
 //! edition that was published last; it never waits, neither for the publisher nor for other readers.
 #![tactic(auto)]
 
-mod edit;
 mod kept;
 mod publisher;
 mod reader;
 mod rule;
 mod shown;
 
-pub use edit::{Edit, Update};
 pub use kept::KeptPublisher;
+pub use node_loop::{Edit, Edition, Update};
 pub use publisher::Publisher;
 pub use reader::{Lookup, ReaderFactory, TableReader};
-pub use shown::{Edition, Shown};
+pub use shown::Shown;

@@ -1,10 +1,9 @@
 //! Who looks names up in a node's table.
-ghost use Rattle.std.specs.Prelude.{◌≡◌, [], max, IfOk, IfErr};
-ghost use Rattle.registry_model.specs.Table.{get};
+ghost use Rattle.std.specs.Prelude.{◌≡◌, [], true, max, IfOk, IfSome, IfNone};
 ghost use Rattle.left_right.specs.Sides.{view};
 ghost use Rattle.shared_table.specs.Editions.{latest};
 ghost use Rattle.shared_table.specs.Rule.{StartsWith};
-ghost use Rattle.shared_table.specs.Readers.{Finds};
+ghost use Rattle.shared_table.specs.Readers.{Finds, IsFound};
 
 use crate::rule::{Editions, Enters, Published};
 use crate::shown::Shown;
@@ -12,7 +11,7 @@ use left_right::reader::{Factory, Reader};
 use name_table::Names;
 use std::alloc::{AllocError, Global};
 use std::marker::Model;
-use term::{Name, Pid};
+use term::{Name, NodeName, Pid};
 
 /// A reader that keeps the rule of the table.
 type RuledReader = Reader<Shown, Editions, Published>;
@@ -30,14 +29,14 @@ pub enum Lookup {
     Owner(Option<Pid>),
     /// The node has left.
     Left,
-    /// The table is older than what the reader was told of.
+    /// The table is older than what the reader was told of. A publisher that tells only of what it has published never lets it come to that.
     Behind,
     /// Nothing is published any more.
     Gone,
 }
 
-/// One reader of a node's table. Contracts see the editions that it has seen, and the length of the node's log that it was told of
-/// or has read.
+/// One reader of a node's table. Contracts see the editions that it has seen, and the length of the node's log that it was told of or has
+/// read.
 #[derive(Drop)]
 pub struct TableReader {
     reader: Option<RuledReader>,
@@ -52,35 +51,34 @@ impl Model for TableReader {
     ghost view = { λ r. record { editions = seen_by r.reader; told = r.told } };
 }
 
-/// What one entry finds: who owns the name, how long the node's log was, and whether the node had left.
+/// What one entry finds: whether the table is the node's own, who owns the name, how long the node's log was, and whether the node had
+/// left.
 #[derive(Drop)]
 struct Entry {
+    own: bool,
     owner: Option<Pid>,
     length: u64,
     left: bool,
-    reader: RuledReader,
 }
 
-/// Enters, looks a name up, and leaves.
-fn enter(reader: RuledReader, name: &Name) -> Result<Entry, RuledReader>
-    ensures later { IfOk result (λ e. StartsWith (view e.reader.place) (view reader.place)) }
-    ensures owner { IfOk result (λ e. e.owner ≡ get name.now (latest (view e.reader.place)).table) }
-    ensures length { IfOk result (λ e. e.length ≡ (latest (view e.reader.place)).length) }
-    ensures left { IfOk result (λ e. e.left ≡ (latest (view e.reader.place)).left) }
-    ensures gone { IfErr result (λ back. view back.place ≡ view reader.place) }
+/// Enters, looks a name up, and leaves. It finds nothing where nothing is published any more.
+fn enter(node: &NodeName, reader: RuledReader, name: &Name) -> (RuledReader, Option<Entry>)
+    ensures later { IfSome result.1 (λ e. StartsWith (view result.0.place) (view reader.place)) }
+    ensures found { IfSome result.1 (λ e. e.own ≡ true → IsFound e name.now (latest node.now (view result.0.place))) }
+    ensures gone { IfNone result.1 (view result.0.place ≡ view reader.place) }
 {
-    let reading = reader.enter_as::<Enters>()?;
+    let reading = match reader.enter_as::<Enters>() {
+        Ok(reading) => reading,
+        Err(reader) => return (reader, None),
+    };
     let shown = reading.get();
-    let owner = shown.table.get(name);
-    let length = shown.length;
-    let left = shown.left;
-    let reader = reading.leave();
-    Ok(Entry {
-        owner,
-        length,
-        left,
-        reader,
-    })
+    let entry = Entry {
+        own: shown.node == *node,
+        owner: shown.table.get(name),
+        length: shown.length,
+        left: shown.left,
+    };
+    (reading.leave(), Some(entry))
 }
 
 impl ReaderFactory {
@@ -104,30 +102,27 @@ impl TableReader {
     }
 
     /// Looks a name up in the table of the node as it was after a number of its steps: no fewer than the reader was told of, and than
-    /// it has seen before. It waits for nobody.
-    pub fn whereis(&mut self, name: &Name) -> Lookup
-        ensures { Finds result name.now self.old self.new }
+    /// it has seen before. The node is the one whose reader it is. It waits for nobody.
+    pub fn whereis(&mut self, node: &NodeName, name: &Name) -> Lookup
+        ensures { Finds result node.now name.now self.old self.new }
     {
         let Some(reader) = self.reader.take() else {
             return Lookup::Gone;
         };
-        match enter(reader, name) {
-            Ok(entry) => {
-                self.reader = Some(entry.reader);
-                if entry.length < self.told {
-                    return Lookup::Behind;
-                }
-                self.told = entry.length;
-                if entry.left {
-                    Lookup::Left
-                } else {
-                    Lookup::Owner(entry.owner)
-                }
-            }
-            Err(reader) => {
-                self.reader = Some(reader);
-                Lookup::Gone
-            }
+        let (reader, entry) = enter(node, reader, name);
+        self.reader = Some(reader);
+        let Some(entry) = entry else {
+            return Lookup::Gone;
+        };
+        // A reader is at the table of one node, and asked of no other; what all readers keep doesn't say so.
+        if !entry.own || entry.length < self.told {
+            return Lookup::Behind;
+        }
+        self.told = entry.length;
+        if entry.left {
+            Lookup::Left
+        } else {
+            Lookup::Owner(entry.owner)
         }
     }
 }

@@ -1,7 +1,8 @@
 //! The rule of the shared table.
 
-use crate::shown::{Edition, Shown};
+use crate::shown::Shown;
 use crossbeam_utils::rule::{Outcome, Protocol};
+use node_loop::Edition;
 use std::collections::LinkedList;
 
 /// What was published, as the publisher or a reader knows it: the oldest edition first. No value of it is made.

@@ -1,38 +1,43 @@
 //! What readers are shown.
-ghost use Rattle.std.specs.Prelude.{◌≡◌, MatchResult};
-ghost use Rattle.shared_table.specs.Editions.{opening, edition_of, updated};
+ghost use Rattle.std.specs.Prelude.{◌≡◌, [], IfOk, MatchResult};
+ghost use Rattle.registry_model.specs.Table.{put_all};
+ghost use Rattle.node_loop.specs.Editions.{opening, updated};
+ghost use Rattle.shared_table.specs.Editions.{edition_of};
 
-use crate::edit::{Edit, Update};
 use left_right::Absorb;
-use name_table::{IndexTable, Names, Pair};
+use name_table::{Change, IndexTable, Names, Pair};
+use node_loop::{Edit, Edition, Update};
 use std::alloc::{AllocError, Global};
-use std::collections::LinkedList;
+use term::NodeName;
 
 /// A copy of a node's table, the length of the node's log then, and whether the node had left.
 #[derive(Drop)]
 pub struct Shown {
+    pub(crate) node: NodeName,
     pub(crate) table: IndexTable<Global>,
     pub(crate) alloc: Global,
     pub(crate) length: u64,
     pub(crate) left: bool,
 }
 
-/// What contracts see of that. No value of it is made.
-pub struct Edition {
-    /// The table.
-    pub table: LinkedList<Pair>,
-    /// The length of the log.
-    pub length: u64,
-    /// Whether the node had left.
-    pub left: bool,
+/// The table of these pairs, put one behind the other.
+fn table_of(alloc: Global, pairs: &[Pair]) -> Result<IndexTable<Global>, AllocError>
+    ensures { IfOk result (λ table. table ≡ put_all pairs.now []) }
+{
+    let mut table = IndexTable::empty(alloc);
+    for pair in pairs {
+        table.write(Change::Put(pair.name.copy(), pair.owner.copy()))?;
+    }
+    Ok(table)
 }
 
 impl Shown {
     /// What a node shows before its first step. It takes no memory.
-    pub(crate) fn new(alloc: Global) -> Self
-        ensures { edition_of result ≡ opening }
+    pub(crate) fn new(alloc: Global, node: &NodeName) -> Self
+        ensures { edition_of result ≡ opening node.now }
     {
         Shown {
+            node: node.copy(),
             table: IndexTable::empty(alloc),
             alloc,
             length: 0,
@@ -47,8 +52,8 @@ impl Shown {
         match &update.edit {
             Edit::Write(change) => self.table.write(change.copy())?,
             Edit::Departure(node) => self.table.drop_node(node),
-            Edit::Whole(table, left) => {
-                self.table = table.copy(self.alloc)?;
+            Edit::Whole(pairs, left) => {
+                self.table = table_of(self.alloc, pairs.as_slice())?;
                 self.left = *left;
             }
             Edit::Leave => self.left = true,
@@ -70,21 +75,9 @@ impl Absorb<Update> for Shown {
     }
 
     fn absorb_second(&mut self, update: Update, _other: &Self) -> Result<(), Update> {
-        let Update { length, edit } = update;
-        match edit {
-            Edit::Whole(table, left) => {
-                self.table = table;
-                self.left = left;
-                self.length = length;
-                Ok(())
-            }
-            edit => {
-                let update = Update { length, edit };
-                match self.take_in(&update) {
-                    Ok(()) => Ok(()),
-                    Err(_) => Err(update),
-                }
-            }
+        match self.take_in(&update) {
+            Ok(()) => Ok(()),
+            Err(_) => Err(update),
         }
     }
 }

@@ -4,7 +4,7 @@ use leaves::Ending;
 use meeting::{Flags, Meeting};
 use name_table::ListTable;
 use node_threads::{
-    Call, CloseFault, Closed, Cluster, FreeSeat, Reply, Seat, SeatFault, Transcript,
+    Call, CloseFault, Closed, Cluster, FreeSeat, Gate, Reply, Seat, SeatFault, Transcript,
 };
 use std::alloc::Global;
 use std::sync::{Arc, Wait};
@@ -16,6 +16,7 @@ use term::{NodeName, NodeSet, parse_node, parse_nodes};
 use transaction::NameCall;
 use world_history::{HistoryEntry, KeptEntry};
 
+mod beside;
 mod crowds;
 mod holders;
 mod leaves;
@@ -121,7 +122,11 @@ where
 }
 
 /// Makes a seat at each of these nodes, parted by commas. Whether it could.
-fn sit(cluster: &mut Small, nodes: &str, seats: &mut Vec<Seat>) -> bool {
+fn sit<G: Gate + Drop + Send + Sync + 'static>(
+    cluster: &mut Cluster<G, ListTable<Global>>,
+    nodes: &str,
+    seats: &mut Vec<Seat>,
+) -> bool {
     for word in nodes.split(',') {
         let Ok(node) = parse_node(word) else {
             return false;
@@ -182,7 +187,12 @@ where
 #[test]
 fn a_node_answers_and_its_run_is_replayed(rt: HostRuntime) {
     // The last letter, which gives the grant back, may stay undelivered.
-    assert!(rt; matches!(plays(&rt, rt.alloc(), "a", "a", Scene::First), Some(7..=8)));
+    assert!(rt; matches!(plays(&rt, rt.alloc(), "a", "a", Scene::First), Some(6..=7)));
+}
+
+#[test]
+fn seats_read_beside_their_nodes(rt: HostRuntime) {
+    assert!(rt; beside::plays(&rt, rt.alloc()));
 }
 
 #[test]

@@ -57,7 +57,7 @@ fn quits<H: Wait + Clock>(rt: &H, alloc: Global, cluster: &mut Small) -> Option<
     let ended = attend(rt, alloc, cluster, lines, &mut written);
     let is_due = matches!(ended, Some(Ended { fault: None, .. }))
         && written.as_slice() == b"a.1\nyes\na.1\nnames x\nerror bad_line\nok\n".as_slice();
-    transcript_of(ended, is_due, 4)
+    transcript_of(ended, is_due, 3)
 }
 
 /// The transcript of a console whose reader fails.
@@ -120,7 +120,7 @@ fn transcripts_are_handed_back(rt: HostRuntime) -> Result<(), Fail> {
         Err(_fault) => 0,
     };
     assert!(rt; played.is_some());
-    // Eight calls, and the five letters of the registration, of which the last may stay undelivered.
-    assert!(rt; matches!(events, 12 | 13));
+    // Seven calls, and the five letters of the registration, of which the last may stay undelivered.
+    assert!(rt; matches!(events, 11 | 12));
     Ok(())
 }

@@ -88,7 +88,7 @@ fn rival<R: Wait + Clock>(rt: &R, seat: &mut Seat) {
     };
     let process = process_of(seat, 1);
     if spawns(rt, seat) && takes_turns(rt, seat, &process, &name) {
-        let _ = seat.whereis(rt, &name);
+        let _ = seat.call(rt, Call::Whereis(name));
     }
 }
 

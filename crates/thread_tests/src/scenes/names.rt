@@ -17,8 +17,8 @@ pub(super) fn name_process<R: Wait + Clock>(
 }
 
 /// Whether a look-up finds this owner of a name.
-fn finds<R: Wait + Clock>(rt: &R, seat: &mut Seat, name: &Name, owner: &Pid) -> bool {
-    match seat.whereis(rt, name) {
+fn finds(seat: &mut Seat, name: &Name, owner: &Pid) -> bool {
+    match seat.whereis(name) {
         Ok(Some(found)) => found == *owner,
         _ => false,
     }
@@ -30,7 +30,7 @@ pub(super) fn first<R: Wait + Clock>(rt: &R, seats: &mut [Seat]) -> bool {
         return false;
     };
     match seats.first_mut() {
-        Some(seat) => name_process(rt, seat, &process, &name) && finds(rt, seat, &name, &process),
+        Some(seat) => name_process(rt, seat, &process, &name) && finds(seat, &name, &process),
         None => false,
     }
 }
@@ -58,8 +58,8 @@ pub(super) fn both<R: Wait + Clock>(rt: &R, seats: &mut [Seat]) -> bool {
         return false;
     };
     let named = name_process(rt, one, &ours, &x) && name_process(rt, two, &theirs, &y);
-    let found = finds(rt, one, &x, &ours) && finds(rt, one, &y, &theirs);
-    let found_there = finds(rt, two, &x, &ours) && finds(rt, two, &y, &theirs);
+    let found = finds(one, &x, &ours) && finds(one, &y, &theirs);
+    let found_there = finds(two, &x, &ours) && finds(two, &y, &theirs);
     let told = tells(rt, two, &x, &y);
     let refused = one.call(rt, Call::Join(stranger)) == Err(SeatFault::NoSuchNode);
     named && found && found_there && told && refused && one.number() == 0 && two.number() == 1

@@ -7,12 +7,16 @@ use std::thread::Threads;
 use std::time::Clock;
 use term::{NodeName, parse_name, parse_node, parse_pid};
 
-/// Spawns the first process of `a`, and registers `bad` for it. Whether that was answered so.
+/// Spawns the first process of `a`, and registers `bad` for it. Whether that was answered so, and the name is read where it was registered,
+/// also behind the end of the node's thread.
 fn names_bad<R: Wait + Clock>(rt: &R, seat: &mut Seat, answer: Result<Reply, SeatFault>) -> bool {
     let (Ok(process), Ok(bad)) = (parse_pid("a.1"), parse_name("bad")) else {
         return false;
     };
-    seat.call(rt, Call::Spawn).is_ok() && seat.call(rt, Call::Register(bad, process)) == answer
+    let spawned = seat.call(rt, Call::Spawn).is_ok();
+    let answered = seat.call(rt, Call::Register(bad.copy(), process.copy())) == answer;
+    let owner = if answer.is_ok() { Some(process) } else { None };
+    spawned && answered && seat.whereis(&bad) == Ok(owner)
 }
 
 /// Registers `bad` at a node of a cluster. Whether that was answered so.

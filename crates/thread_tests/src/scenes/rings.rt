@@ -1,5 +1,5 @@
 //! How threads that sleep are woken.
-use node_threads::Seat;
+use node_threads::{Call, Reply, Seat};
 use std::sync::Wait;
 use std::time::{Clock, Duration, Instant};
 use term::{Name, parse_name};
@@ -27,11 +27,11 @@ fn linger<R: Clock>(rt: &R) {
     }
 }
 
-/// Looks a name up again and again. The node sleeps before each call, and the seat before each reply. Whether nobody has the name.
+/// Asks the node for a name again and again. It sleeps before each call, and the seat before each reply. Whether nobody has the name.
 fn finds_nobody<R: Wait + Clock>(rt: &R, seat: &mut Seat, name: &Name) -> bool {
     for _ in 0..LOOK_UPS {
         linger(rt);
-        if seat.whereis(rt, name) != Ok(None) {
+        if seat.call(rt, Call::Whereis(name.copy())) != Ok(Reply::Undefined) {
             return false;
         }
     }

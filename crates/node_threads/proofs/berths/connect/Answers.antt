@@ -1,8 +1,11 @@
 use Rattle.std.proofs.Common.{ℕ, ◌≡◌, ◌<◌, length, get_or, refl, ap, subst, arith}
 use Rattle.std.proofs.lemmas.List.{get_or_default, length-map}
 use Rattle.node_threads.specs.Berths.{Berthed, one_more}
-use Rattle.node_threads.proofs.Connecting.{AreConnected, lines_unused, one_connected, all_wired}
+use Rattle.node_threads.proofs.Connecting.{AreConnected, none_connected, lines_unused, one_connected, all_wired}
 use Rattle.node_threads.proofs.berths.connect.Goals as goal
+
+pub loop-place-init : goal.loop-place-init
+loop-place-init g c = record { connected = none_connected c.args.berths.now c.requires; ends = refl }
 
 pub connect-requires-after_bounds : goal.connect-requires-after_bounds
 connect-requires-after_bounds g c = λ κs within. lines_unused c.args.berths.now c.loop-place.berths c.loop-place.place

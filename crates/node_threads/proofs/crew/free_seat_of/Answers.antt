@@ -19,7 +19,7 @@ loop-one-preserved g c =
           (new_sitting c.in_ok-caller.field-0 c.args.slot (nodes_at c.args.shared.now.hub.value) one.inbox c.in_ok-caller.ensures.slot
           (c.in_ok-caller.ensures.asks
           ∙ ap (λ (ws : List Wired). (get_or ws c.loop-one.one-index c.one-item.result).inbox) c.loop-one.invariant.same)
-          c.in_ok-caller.ensures.nodes c.in_ok-caller.ensures.unasked)
+          c.in_ok-caller.ensures.nodes c.in_ok-caller.ensures.unasked c.in_ok-caller.ensures.unread)
           ∙ sym (ap (map (new_seat c.args.slot (nodes_at c.args.shared.now.hub.value)))
           (map_more (λ (w : Wired). w.inbox) c.args.running.now c.loop-one.one-index c.one-item.result c.loop-one-test.true)
           ∙ map_push (new_seat c.args.slot (nodes_at c.args.shared.now.hub.value)) (inboxes first) one.inbox);

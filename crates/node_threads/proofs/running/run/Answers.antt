@@ -5,8 +5,8 @@ use Rattle.node_threads.proofs.Soundness.{gives_back}
 use Rattle.node_threads.proofs.running.run.Goals as goal
 
 pub returns : goal.returns
-returns g c = gives_back g.N.Names.contents c.args.work.node c.args.work.lines.items c.args.work.mailbox c.new-end.result c.turns.new.node
-    c.turns.new.end (record { end = c.end-end.result; lines = c.into_parts-lines.result.0; mailbox = c.into_parts-lines.result.1 })
+returns g c = gives_back g.N.Names.contents c.args.work.node c.args.work.lines.items c.args.work.mailbox c.new-end.result c.turns-publisher.new.node
+    c.turns-publisher.new.end (record { end = c.end-end.result; lines = c.into_parts-lines.result.0; mailbox = c.into_parts-lines.result.1 })
     (c.new-end.ensures
     ∙ ap (λ (n : ℕ). record {
       node = n;
@@ -14,6 +14,6 @@ returns g c = gives_back g.N.Names.contents c.args.work.node c.args.work.lines.i
       lines = c.args.work.lines.items;
       taken = found_in n (receivers c.args.work.lines.items) (taken c.args.work.mailbox);
     }) (c.copy.ensures ∙ c.node.ensures))
-    c.turns.ensures.came c.turns.ensures.node c.turns.ensures.sound c.turns.ensures.same c.end-end.ensures.log c.end-end.ensures.table
+    c.turns-publisher.ensures.came c.turns-publisher.ensures.node c.turns-publisher.ensures.sound c.turns-publisher.ensures.same c.end-end.ensures.log c.end-end.ensures.table
     c.end-end.ensures.ended_alone c.end-end.ensures.sound c.into_parts-lines.ensures.lines c.into_parts-lines.ensures.taken
     c.into_parts-lines.ensures.room

@@ -1,14 +1,16 @@
+use Rattle.std.proofs.Common.{refl}
 use Rattle.node_loop.proofs.Links.{turn_keeps}
 use Rattle.node_threads.specs.Ends.{leads_inside, fixed}
 use Rattle.node_threads.specs.Dealings.{dealt_of}
 use Rattle.node_threads.specs.Traffics.{Posts, Refuses, Takes}
+use Rattle.node_loop.proofs.Moving.{turn_of}
 use Rattle.node_threads.proofs.Coming.{comes_by_turn}
 use Rattle.node_threads.proofs.Dealing.{deals, fixed_by_post, fixed_by_taking}
 use Rattle.node_threads.proofs.Turns.{turned}
 use Rattle.node_threads.proofs.running.turn.Goals as goal
 
 pub returns-clause-node : goal.returns-clause-node
-returns-clause-node g c = turned Posts Refuses Takes (λ s. Unit {0}) _ _ _ _ _ _ c.turn.ensures.turned
+returns-clause-node g c = turned _ _ _ refl (turn_of Posts Refuses Takes (λ s. Unit {0}) _ _ _ _ _ _ c.turn.ensures.turned)
 
 pub returns-clause-came : goal.returns-clause-came
 returns-clause-came g c = comes_by_turn Posts Refuses Takes (λ s. Unit {0}) _ _ _ _ _ _ _ c.turn.ensures.turned

@@ -1,9 +1,25 @@
-use Rattle.std.proofs.Common.{not, ap, ◌∙◌}
-use Rattle.node_threads.proofs.Soundness.{ends_behind, sound_to_end}
+use Rattle.std.proofs.Common.{ℕ, not, ap, subst, ◌∙◌}
+use Rattle.node_loop.specs.Coming.{IsLoopOf}
+use Rattle.node_threads.proofs.Soundness.{ends_on, ends_behind, sound_on, sound_to_end}
 use Rattle.node_threads.proofs.running.turns.Goals as goal
 
+pub returns-then-is_closing-clause-sound : goal.returns-then-is_closing-clause-sound
+returns-then-is_closing-clause-sound g c = ends_on c.args.node.now c.args.end.now c.loop.node c.loop.end c.loop.invariant.4
+
+pub loop-preserved : goal.loop-preserved
+loop-preserved g c = (
+  tt,
+  tt,
+  ap (λ l. l.log.node) c.show-next.ensures.kept ∙ (c.turn-outcome.ensures.node ∙ c.loop.invariant.2),
+  subst (λ (n : ℕ). IsLoopOf n c.show-next.new.node) (c.turn-outcome.ensures.node ∙ c.loop.invariant.2) c.show-next.ensures.came,
+  λ o here. sound_on c.loop.node c.loop.end c.turn-outcome.new.node c.turn-outcome.new.end c.show-next.new.node c.show-next.ensures.kept
+      c.turn-outcome.result c.turn-outcome.ensures.sound (c.is_err.ensures.negation ∙ ap not c.if-is_err.false) o (c.loop.invariant.4 o here),
+  c.turn-outcome.ensures.same ∙ c.loop.invariant.5,
+  c.show-next.ensures.publishes,
+)
+
 pub returns-then-is_err-clause-sound : goal.returns-then-is_err-clause-sound
-returns-then-is_err-clause-sound g c = ends_behind c.args.node.now c.args.end.now c.loop.node c.loop.end c.hand_out.new.node c.turn-outcome.new.end
+returns-then-is_err-clause-sound g c = ends_behind c.args.node.now c.args.end.now c.loop.node c.loop.end c.show-next.new.node c.turn-outcome.new.end
     c.loop.invariant.4
-    (sound_to_end c.loop.node c.loop.end c.turn-outcome.new.node c.turn-outcome.new.end c.hand_out.new.node _ c.hand_out.ensures.all
+    (sound_to_end c.loop.node c.loop.end c.turn-outcome.new.node c.turn-outcome.new.end c.show-next.new.node c.show-next.ensures.kept
     c.turn-outcome.result c.turn-outcome.ensures.sound (c.is_err.ensures.negation ∙ ap not c.if-is_err.true))

@@ -14,6 +14,7 @@ returns-clause-sound g c =
       desk = c.self.inside.desk;
       wait = c.self.inside.courtesy;
       stamp = c.self.inside.stamp;
+      owed = c.self.inside.owed;
       left = c.self.inside.left;
       worked = c.self.inside.worked;
     } in

@@ -4,5 +4,5 @@ use Rattle.node_seats.proofs.laid.Laid.next.Goals as goal
 
 pub returns-clause-came : goal.returns-clause-came
 returns-clause-came g c =
-    handed_out c.args.node.now.log.node c.args.node.now c.next_reply.new.self (told_by c.in_ok-reply.reply) c.requires
+    handed_out c.args.node.now.log.node c.args.node.now c.next_reply.new.self (told_by c.in_ok-reply.reply) c.requires.came
     c.in_ok-reply.ensures.oldest c.next_reply.ensures.rest

@@ -11,8 +11,9 @@ use Rattle.node_seats.proofs.seat.Seat.call.Goals as goal
 pub returns-clause-ok : goal.returns-clause-ok
 returns-clause-ok g c = record {
   answer = c.in_ok-answer.answer;
-  told = answered_so c.self.inside.caller c.self.inside.entries.items c.args.self.now c.self.view_is (Ok (IsAnswer c.in_ok-answer.answer))
-      c.in_ok-answer.ensures.told;
+  told = answered_so c.self.inside.caller c.self.inside.entries.items c.args.self.now c.self.view_is c.call.new.self
+      c.push_reserved.new.self.items (Ok (IsAnswer c.in_ok-answer.answer))
+      c.in_ok-answer.ensures.told c.in_ok-answer.ensures.learns;
   says = sym c.in_ok-reply.ensures.copy;
   kept = grown c.self.inside.caller c.self.inside.entries.items c.args.self.now c.self.view_is c.call.new.self
       c.push_reserved.new.self.items (Calls c.args.call) c.event-event.result (Some c.in_ok-answer.answer)

@@ -9,8 +9,9 @@ use Rattle.node_seats.proofs.seat.Seat.exit.Goals as goal
 
 pub returns-clause-ok : goal.returns-clause-ok
 returns-clause-ok g c = record {
-  told = answered_so c.self.inside.caller c.self.inside.entries.items c.args.self.now c.self.view_is (Ok Made)
-      c.in_ok-exit.ensures.told;
+  told = answered_so c.self.inside.caller c.self.inside.entries.items c.args.self.now c.self.view_is c.exit.new.self
+      c.push_reserved.new.self.items (Ok Made)
+      c.in_ok-exit.ensures.told c.in_ok-exit.ensures.learns;
   kept = grown c.self.inside.caller c.self.inside.entries.items c.args.self.now c.self.view_is c.exit.new.self
       c.push_reserved.new.self.items (Exit c.args.process.now) c.event-event.result None c.in_ok-exit.ensures.slot
       c.in_ok-exit.ensures.inbox c.in_ok-exit.ensures.nodes c.in_ok-exit.ensures.asked

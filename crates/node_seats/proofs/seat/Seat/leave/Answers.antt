@@ -8,8 +8,9 @@ use Rattle.node_seats.proofs.seat.Seat.leave.Goals as goal
 
 pub returns-clause-ok : goal.returns-clause-ok
 returns-clause-ok g c = record {
-  told = answered_so c.self.inside.caller c.self.inside.entries.items c.args.self.now c.self.view_is (Ok Left)
-      c.in_ok-leave.ensures.told;
+  told = answered_so c.self.inside.caller c.self.inside.entries.items c.args.self.now c.self.view_is c.leave.new.self
+      c.push_reserved.new.self.items (Ok Left)
+      c.in_ok-leave.ensures.told c.in_ok-leave.ensures.learns;
   kept = grown c.self.inside.caller c.self.inside.entries.items c.args.self.now c.self.view_is c.leave.new.self
       c.push_reserved.new.self.items Leave c.event-event.result None c.in_ok-leave.ensures.slot c.in_ok-leave.ensures.inbox
       c.in_ok-leave.ensures.nodes c.in_ok-leave.ensures.asked

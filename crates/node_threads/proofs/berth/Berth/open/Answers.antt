@@ -7,6 +7,7 @@ use Rattle.node_loop.specs.Sound.{BeginsSound}
 use Rattle.node_seats.specs.Addresses.{Reached}
 use Rattle.node_threads.specs.Wires.{unused}
 use Rattle.node_threads.proofs.Coming.{comes_first}
+use Rattle.node_threads.proofs.Starting.{publishes_first}
 use Rattle.node_threads.proofs.berth.Berth.open.Goals as goal
 
 pub invariant_of-result : goal.invariant_of-result
@@ -27,4 +28,6 @@ invariant_of-result g c =
         fresh = ap (map unused) c.new-2.ensures.items ∙ sym c.new-2.ensures.items;
       },
       c.in_ok-address.ensures.inbox,
+      publishes_first c.args.opening.now.nodes c.args.opening.now.cluster c.in_ok-node.node c.in_ok-publisher.publisher.publisher c.args.node.now
+          c.core.result c.in_ok-node.ensures.new c.core.ensures.opens c.core.ensures.name c.in_ok-publisher.ensures,
     )

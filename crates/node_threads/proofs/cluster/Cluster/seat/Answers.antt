@@ -58,6 +58,7 @@ returns-clause-ok g c = seat_is c.args.node.now (record {
 }) c.args.self.now c.in-Some.place
     (sym (c.place_of.ensures ∙ ap (position (λ w. name_of w == c.args.node.now)) c.as_slice.ensures.value) ∙ c.in-Some.is) c.self.view_is c.index_mut.result.now
     c.index_mut.ensures.value c.in_ok-caller.caller c.in_ok-caller.ensures.slot c.in_ok-caller.ensures.asks c.in_ok-caller.ensures.nodes c.in_ok-caller.ensures.unasked
+    c.in_ok-caller.ensures.unread
     ∙ ap Some (sym c.new.ensures)
 
 pub invariant_of-self-2 : goal.invariant_of-self-2

@@ -6,4 +6,4 @@ use Rattle.shared_table.proofs.publisher.Publisher.append.Goals as goal
 pub invariant_of-self-2 : goal.invariant_of-self-2
 invariant_of-self-2 c =
     let up : c.self.inside.length < c.args.update.length = subst (λ (p : Progress). p.length < c.args.update.length) (sym c.self.view_is) c.requires in
-    rw (c.in_ok-append.ensures.desk, c.in_ok-append.ensures.pending) (c.self.invariant.0, climbs_snoc _ _ _ c.args.update c.self.invariant.1 up)
+    rw (c.in_ok-append.ensures.desk, c.in_ok-append.ensures.pending) (c.self.invariant.0, c.self.invariant.1, climbs_snoc _ _ _ c.args.update c.self.invariant.2 up)

@@ -1,0 +1,53 @@
+-- What a node shows its readers, and how its steps edit that.
+use Rattle.std.specs.Prelude.{ℕ, Bool, true, false, ◌==◌, ◌≡◌, []}
+use Rattle.registry_model.specs.Table.{Table, changed, without, put_all}
+use Rattle.name_table.specs.Changes.{change_of}
+use Rattle.node_log.specs.declared.CoreEvent.TheVariants.{FromPeer}
+use Rattle.node_log.specs.declared.Letter.{Letter}
+use Rattle.node_log.specs.NodeCoreHeld.{Held}
+use Rattle.node_log.specs.NodeCoreMade.{Made as Turn}
+use Rattle.node_log.specs.NodeCoreSteps.{Steps}
+use Rattle.node_loop.specs.declared.edit.Edit.{Edit}
+use Rattle.node_loop.specs.declared.edit.Edit.TheVariants.{Write, Departure, Whole, Leave}
+use Rattle.node_loop.specs.declared.edit.Update.{Update}
+use Rattle.node_loop.specs.declared.edit.Edition.{Edition}
+use Rattle.node_loop.specs.declared.edit.Note.{Note}
+use Rattle.node_loop.specs.declared.edit.Note.TheVariants as note
+
+-- before a node's first step
+abbrev pub opening : ℕ → Edition
+opening node = record { node = node; table = []; length = 0; left = false }
+
+-- the table behind an edit
+abbrev pub rewritten : Edit → Table → Table
+rewritten (Write change) t = changed (change_of change) t
+rewritten (Departure node) t = without (λ d. d == node) t
+rewritten (Whole pairs left) t = put_all pairs.items []
+rewritten Leave t = t
+
+-- whether the node has left behind an edit
+abbrev pub departed : Edit → Bool → Bool
+departed (Whole pairs left) was = left
+departed Leave was = true
+departed _ was = was
+
+abbrev pub edited : Edit → Edition → Edition
+edited edit e = record e { table = rewritten edit e.table; left = departed edit e.left }
+
+abbrev pub updated : Edition → Update → Edition
+updated e u = record (edited u.edit e) { length = u.length }
+
+-- what a note says of the edition behind a step: the same, or edited so; or only that it is of the same node
+abbrev pub Does : Note → Edition → Edition → Type 0
+Does note.Nothing e f = f ≡ e
+Does (note.One edit) e f = f ≡ edited edit e
+Does note.Whole e f = f.node ≡ e.node
+
+-- with this table
+abbrev pub showing : Table → Edition → Edition
+showing t e = record e { table = t }
+
+-- whatever the node comes to behind this letter, the note says what that does to its table
+abbrev pub NotedBy : Note → ℕ → Letter → Held → Type 0
+NotedBy note from letter h = (e : Edition) (k : Held) (made : Turn) → Steps (FromPeer from letter) h k made
+    → Does note (showing h.table e) (showing k.table e)
