@@ -43,11 +43,9 @@ abbrev pub SeatsAll : List ℕ → Crewed → List Start → Crewed → Type 0
 SeatsAll nodes c [] d = d ≡ c
 SeatsAll nodes c (s ∷ ss) d = (s.nodes ≡ nodes) × (m : Crewed) × Seats c s.place m × SeatsAll nodes m ss d
 
--- so many consoles at most were taken, each with a seat of this cluster, and these are the transcripts that they left, each once
-pub record IsServed (nodes : List ℕ) (consoles : ℕ) (c d : Crewed) (transcripts : List Transcript) : Type 0 where
+-- so many consoles at most were taken, each with a seat of this cluster, and this is what they left behind, each in its turn
+pub record IsServed (nodes : List ℕ) (consoles : ℕ) (c d : Crewed) (lefts : List Left) : Type 0 where
   pub starts : List Start
-  pub lefts : List Left
   pub few : length starts ≤ consoles
   pub seated : SeatsAll nodes c starts d
   pub left : AllLeave starts lefts
-  pub are : transcripts ≡ transcripts_in lefts

@@ -14,8 +14,9 @@ use Rattle.node_threads.specs.Closing.{CloseIs}
 use Rattle.text_lines.specs.Writing.{AppendsPart}
 use Rattle.server.specs.declared.faults.ServeFault.{ServeFault}
 use Rattle.server.specs.declared.faults.ServeFault.TheVariants.{Accept, Write, Memory}
+use Rattle.server.specs.declared.served.Left.{Left}
 use Rattle.server.specs.Ending.{ending_line}
-use Rattle.server.specs.Served.{IsServed}
+use Rattle.server.specs.Served.{IsServed, transcripts_in}
 
 -- what closing a cluster comes to
 abbrev pub Ending : Type 0
@@ -39,7 +40,7 @@ Fails old new (Err Write) = ⊥
 Fails old new (Err _) = Keeps old new
 
 -- A cluster of these nodes served so many consoles at most, for just these nodes, each with the next of its seats, from the first on. It
--- closed so, with all the transcripts that they left
+-- closed so, with the transcripts among what they left
 pub record EndsWith (cluster lone : List ℕ) (consoles : ℕ) (ending : Ending) : Type 0 where
   pub nodes : List ℕ
   pub all : (n : ℕ) → set_of nodes n ≡ set_of (cluster ++ lone) n
@@ -47,10 +48,10 @@ pub record EndsWith (cluster lone : List ℕ) (consoles : ℕ) (ending : Ending)
   pub crew : IsCrew cluster lone first.crew
   pub unused : first.seats ≡ 0
   pub last : Crewed
-  pub transcripts : List Transcript
-  pub served : IsServed nodes consoles first last transcripts
+  pub lefts : List Left
+  pub served : IsServed nodes consoles first last lefts
   pub of : (last.cluster ≡ cluster) × (last.lone ≡ lone) × (last.crew ≡ first.crew)
-  pub ends : Ends last transcripts ending
+  pub ends : Ends last (transcripts_in lefts) ending
 
 -- the writer got the line that tells what the cluster came to: all of it, or a part where it failed. After another fault it
 -- got nothing. The result is true where the run of the threads was one of the world's

@@ -2,13 +2,12 @@
 use Rattle.std.specs.Prelude.{ℕ, true, ◌≡◌, ◌≤◌, is_some, List, ◌++◌, map, length}
 use Rattle.std.specs.declared.thread.PromisedHandle.{PromisedHandle}
 use Rattle.term.specs.NodeSets.{set_of}
-use Rattle.node_threads.specs.declared.Transcript.{Transcript}
 use Rattle.node_threads.specs.Clusters.{Crewed}
 use Rattle.node_threads.specs.Wires.{inbox_to}
 use Rattle.server.specs.declared.served.Start.{Start}
 use Rattle.server.specs.declared.served.Left.{Left}
 use Rattle.server.specs.declared.served.LeftBehind.{LeftBehind}
-use Rattle.server.specs.Served.{AllLeave, SeatsAll, transcripts_in}
+use Rattle.server.specs.Served.{SeatsAll}
 
 -- with what the consoles of these threads began
 abbrev pub starts_of : List (PromisedHandle Left LeftBehind) → List Start
@@ -24,9 +23,3 @@ pub record Takes (nodes : List ℕ) (many : ℕ) (c : Crewed) (before : List Sta
   pub behind : after ≡ before ++ taken
   pub few : length taken ≤ many
   pub seated : SeatsAll nodes c taken d
-
--- these are the transcripts that consoles left which began so
-pub record AllLeft (starts : List Start) (transcripts : List Transcript) : Type 0 where
-  pub lefts : List Left
-  pub left : AllLeave starts lefts
-  pub are : transcripts ≡ transcripts_in lefts

@@ -2,10 +2,12 @@
 ghost use Rattle.std.specs.Prelude.{◌≡◌, ◌+◌, ◌≤◌, ◌||◌, ℕ, None, MatchResult, length};
 ghost use Rattle.term.specs.NodeSets.{most_nodes, set_of};
 ghost use Rattle.node_threads.specs.Openings.{start_refused};
+ghost use Rattle.server.specs.Served.{transcripts_in};
 ghost use Rattle.server.specs.Serving.{Tells, Fails, ServesCluster};
 
 use crate::ending::ending_line;
 use crate::faults::{ServeFault, TakeFault};
+use crate::served::{Left, transcripts_of};
 use crate::taking::{Door, ServedCluster};
 use node_threads::{Cluster, OpenGate, Transcript};
 use std::alloc::Global;
@@ -43,30 +45,50 @@ fn set_of_all(cluster: &[NodeName], lone: &[NodeName]) -> NodeSet
     set
 }
 
-/// Closes a cluster with what serving its consoles came to, and tells what it closed with. After a fault nothing is told.
+/// Closes a cluster with these transcripts, and tells what it closed with.
+fn close_with<R, W>(
+    rt: &R,
+    alloc: Global,
+    cluster: ServedCluster,
+    transcripts: &[Transcript],
+    writer: &mut W,
+) -> Result<bool, ServeFault>
+where
+    R: Threads,
+    W: Write,
+    ensures { Tells cluster transcripts.now (W.contents writer.old) (W.contents writer.new) result }
+{
+    let ending = cluster.close(rt, transcripts);
+    let line = ending_line(alloc, &ending)?;
+    tell(writer, line.as_bytes())?;
+    Ok(ending.is_ok())
+}
+
+/// Closes a cluster with what its consoles left behind, and tells what it closed with. After a fault nothing is told.
 fn close<R, W>(
     rt: &R,
     alloc: Global,
     cluster: ServedCluster,
-    served: Result<Vec<Transcript>, TakeFault>,
+    served: Result<Vec<Left>, TakeFault>,
     writer: &mut W,
 ) -> Result<bool, ServeFault>
 where
     R: Threads,
     W: Write,
     ensures { MatchResult served
-        (λ transcripts. Tells cluster transcripts.items (W.contents writer.old) (W.contents writer.new) result)
+        (λ lefts. Tells cluster (transcripts_in lefts.items) (W.contents writer.old) (W.contents writer.new) result)
         (λ _. Fails (W.contents writer.old) (W.contents writer.new) result) }
 {
+    // A cluster that is let go must be closed, also after a fault: its threads end here.
     match served {
-        Ok(transcripts) => {
-            let ending = cluster.close(rt, transcripts.as_slice());
-            let line = ending_line(alloc, &ending)?;
-            tell(writer, line.as_bytes())?;
-            Ok(ending.is_ok())
-        }
+        Ok(lefts) => match transcripts_of(alloc, lefts) {
+            Ok(transcripts) => close_with(rt, alloc, cluster, transcripts.as_slice(), writer),
+            Err(_) => {
+                let _ = cluster.close(rt, &[]);
+                Err(ServeFault::Memory)
+            }
+        },
         Err(fault) => {
-            // A cluster that is let go must be closed: its threads end here.
             let _ = cluster.close(rt, &[]);
             Err(ServeFault::from(fault))
         }

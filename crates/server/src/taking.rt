@@ -1,15 +1,15 @@
 //! Taking consoles from a listener, each into a thread of its own.
 ghost use denote.Param.Send.{IsSend, IsSync};
-ghost use Rattle.std.specs.Prelude.{◌≡◌, ◌++◌, ◌∷◌, [], true, IfOk, OnOk};
+ghost use Rattle.std.specs.Prelude.{◌≡◌, IfOk, OnOk};
 ghost use Rattle.server.specs.Attending.{Reaches};
-ghost use Rattle.server.specs.Served.{LeavesBehind, transcripts_in, IsServed};
-ghost use Rattle.server.specs.Taking.{starts_of, ReachesAll, Takes, AllLeft};
+ghost use Rattle.server.specs.Served.{LeavesBehind, AllLeave, IsServed};
+ghost use Rattle.server.specs.Taking.{starts_of, ReachesAll, Takes};
 
 use crate::attending::attend;
 use crate::faults::TakeFault;
 use crate::served::{Left, LeftBehind, Place, Start};
 use name_table::IndexTable;
-use node_threads::{Cluster, OpenGate, Transcript};
+use node_threads::{Cluster, OpenGate};
 use std::alloc::{AllocError, Global};
 use std::io::{BufReader, ErrorKind};
 use std::net::{TcpListener, TcpStream};
@@ -124,53 +124,39 @@ impl<R: Threads + Wait + Clock + Drop + Copy + Send + 'static> Door<R> {
         Ok(())
     }
 
-    /// Takes so many consoles, or fewer after a fault, and waits until all have ended: their transcripts.
+    /// Takes so many consoles, or fewer after a fault, and waits until all have ended: what each left behind.
     pub(crate) fn serve(
         self,
         consoles: u32,
         cluster: &mut ServedCluster,
-    ) -> Result<Vec<Transcript>, TakeFault>
+    ) -> Result<Vec<Left>, TakeFault>
         requires { ReachesAll self.nodes cluster.old }
-        ensures { IfOk result (λ transcripts. IsServed self.nodes consoles cluster.old cluster.new transcripts.items) }
+        ensures { IfOk result (λ lefts. IsServed self.nodes consoles cluster.old cluster.new lefts.items) }
     {
         let Door { rt, alloc, .. } = &self;
         let mut threads = Vec::new(*alloc);
         let taken = self.take_all(consoles, cluster, &mut threads);
-        let transcripts = join_all(rt, *alloc, threads);
+        let lefts = join_all(rt, *alloc, threads);
         taken?;
-        Ok(transcripts?)
+        Ok(lefts?)
     }
 }
 
-/// Keeps the transcript that a console left, if it left one. Whether there was memory for it.
-fn keep(left: Left, transcripts: &mut Vec<Transcript>) -> bool
-    ensures { result ≡ true → transcripts.new.items ≡ transcripts.old.items ++ transcripts_in (left ∷ []) }
-{
-    match left {
-        Left::Served(transcript) => transcripts.push(transcript).is_ok(),
-        Left::Unserved(_) => true,
-    }
-}
-
-/// Waits until these consoles have ended: their transcripts.
+/// Waits until these consoles have ended: what each left behind, in their order.
 fn join_all<R: Threads>(
     rt: &R,
     alloc: Global,
     threads: Vec<ConsoleThread>,
-) -> Result<Vec<Transcript>, AllocError>
-    ensures { IfOk result (λ transcripts. AllLeft (starts_of threads.items) transcripts.items) }
+) -> Result<Vec<Left>, AllocError>
+    ensures { IfOk result (λ lefts. AllLeave (starts_of threads.items) lefts.items) }
 {
-    let mut transcripts = Vec::new(alloc);
+    let mut lefts = Vec::new(alloc);
     let mut whole = true;
     for thread in threads {
         let left = thread.join(rt);
-        if !keep(left, &mut transcripts) {
+        if lefts.push(left).is_err() {
             whole = false;
         }
     }
-    if whole {
-        Ok(transcripts)
-    } else {
-        Err(AllocError)
-    }
+    if whole { Ok(lefts) } else { Err(AllocError) }
 }
