@@ -1,6 +1,7 @@
 //! Measures a served cluster from its consoles, beside bare pairs in the same run: an echo server over loopback, and two
 //! threads over plain channels. The first argument is the program. Behind it a number says for how many seconds eight consoles
 //! call, and words choose parts; all are measured where there is none.
+mod busy;
 mod cluster;
 mod figures;
 mod gone;
@@ -21,7 +22,7 @@ use std::time::{Duration, Instant};
 const RIVALRY: Duration = Duration::from_secs(5);
 
 /// The words for the parts, in the order in which they are measured.
-const PARTS: [&str; 8] = ["table", "ahead", "loops", "rivals", "gone", "standby", "idle", "load"];
+const PARTS: [&str; 9] = ["table", "ahead", "loops", "rivals", "busy", "gone", "standby", "idle", "load"];
 
 /// What is to be measured.
 struct Wishes {
@@ -76,6 +77,7 @@ fn measure(part: &str, wishes: &Wishes, trips: &Trips) -> Result<()> {
         "ahead" => table::ahead(program, trips),
         "loops" => table::beside_loops(program, trips),
         "rivals" => [2, 4, 8].into_iter().try_for_each(|count| rivals(program, count)),
+        "busy" => busy::registrations(program),
         "gone" => [2, 4, 8].into_iter().try_for_each(|nodes| gone::exit_to_gone(program, nodes, trips)),
         "standby" => {
             [2, 8].into_iter().try_for_each(|nodes| standby::wait_and_take_over(program, nodes))?;

@@ -16,8 +16,8 @@ const CALLS_BESIDE_LOOPS: u32 = 200;
 struct Costs {
     look_up: Duration,
     register: Duration,
-    /// What a registration takes beyond a look-up of the same run: both go through the same socket and the same seat, so what is
-    /// left is what the nodes do.
+    /// What a registration takes beyond a look-up of the same run: both go through the same socket, so what is left is what the seat and
+    /// the nodes do. The look-up goes beside the node.
     beyond: Duration,
     /// How many events a registration makes.
     events: f64,
@@ -43,11 +43,10 @@ fn costs_of_run(program: &str, nodes: usize, calls: u32) -> Result<Costs> {
     Ok(Costs { look_up, register, beyond: register.saturating_sub(look_up), events, bytes })
 }
 
-/// How many events a registration made, where a run had so many in all: each look-up is one, and the spawn is one.
+/// How many events a registration made, where a run had so many in all: the spawn is one, and no look-up is one.
 fn events_of_each(all: u64, calls: u32) -> f64 {
-    let before = 1 + made_by(calls);
     let registrations = 2 * made_by(calls);
-    (all as f64 - f64::from(before)) / f64::from(registrations)
+    (all as f64 - 1.0) / f64::from(registrations)
 }
 
 /// What one run of so many nodes costs where the console sends its lines ahead: nothing waits for a socket between two calls, so

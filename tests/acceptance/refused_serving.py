@@ -40,7 +40,8 @@ ANSWERS = {
 # What the program prints last, by its status. No run is torn, and no console a stranger, whatever was refused.
 ENDINGS = {0: rb"closed \d+\n", 1: rb"(?:error left_in_hold [a-h]\n|error memory\n)?"}
 
-# The options of `serve`, and the lines with their answers, each behind the number of its console.
+# The options of `serve`, and the lines with their answers, each behind the number of its console. A look-up finds what its own console was
+# told of: where memory is refused, a node shows its table later.
 TALKS = {
     "one node": (
         "--nodes a --consoles 1",
@@ -71,6 +72,7 @@ TALKS = {
         2 attach b: ok
         1 spawn: a.1
         1 register x a.1: yes
+        2 names: names x
         2 whereis x: a.1
         2 spawn: b.1
         2 register y b.1: yes
@@ -99,6 +101,7 @@ TALKS = {
         2 register y b.1: yes
         2 join a: joined
         2 names: names x y
+        1 names: names x y
         1 whereis y: b.1
         2 set_lock b.1 r p a,b 0: true
         2 del_lock b.1 r p a,b: true
