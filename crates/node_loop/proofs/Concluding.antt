@@ -15,7 +15,7 @@ use Rattle.node_loop.specs.Desks.{Kept, Begins, settled, left_by}
 use Rattle.node_loop.specs.declared.edit.Owed.{Owed}
 use Rattle.node_loop.specs.Held.{Looping, Written, with_letters}
 use Rattle.node_loop.specs.Owing.{KeepsOwing}
-use Rattle.node_loop.specs.Steps.{Cause, stamp_of, entry_of, desk_of, Makes, Begun, IsSpent, Ends, Concludes}
+use Rattle.node_loop.specs.Steps.{Cause, stamp_of, entry_of, desk_of, IsNoted, Makes, Begun, IsSpent, Ends, Concludes}
 use Rattle.node_loop.proofs.Logs.{answered_last}
 use Rattle.node_loop.proofs.Letters.{puts_at}
 use Rattle.node_loop.proofs.Telling.{begins_on, begins_as, left_begins}
@@ -41,7 +41,8 @@ module _ (k : Cause) (a : Looping) (core : Held) (log : Written) (owed : Owed) (
 
   -- whatever it is then, what it owes its readers is noted
   abbrev OwesSo : Type 0
-  OwesSo = Steps k.event a.core b.core turn → b.log ≡ logged_by → b.world ≡ a.world → b.left ≡ a.left → b.owed ≡ owed → KeepsOwing a b
+  OwesSo = Steps k.event a.core b.core turn → b.log ≡ logged_by → b.world ≡ a.world → b.left ≡ a.left → b.owed ≡ owed
+      → IsNoted k a b × KeepsOwing a b
 
   stepped_to : b.core ≡ core → Steps k.event a.core core turn → Steps k.event a.core b.core turn
   stepped_to same step = subst (λ (h : Held). Steps k.event a.core h turn) (sym same) step
@@ -58,7 +59,8 @@ module _ (k : Cause) (a : Looping) (core : Held) (log : Written) (owed : Owed) (
       stamp = c.stamp ∙ e;
       tray = c.told.1 ∙ ap (λ (n : ℕ). with_letters n turn.letters a.tray) e;
       desk = c.told.0 ∙ desk_path o q c.core;
-      owing = owes (stepped_to c.core step) (log_path l c.log) c.world c.left c.owed;
+      noted = (owes (stepped_to c.core step) (log_path l c.log) c.world c.left c.owed).0;
+      owing = (owes (stepped_to c.core step) (log_path l c.log) c.world c.left c.owed).1;
       world = c.world;
       wait = c.wait;
       left = c.left;
@@ -73,7 +75,8 @@ module _ (k : Cause) (a : Looping) (core : Held) (log : Written) (owed : Owed) (
       log = log_path l c.log;
       tray = puts_at s (stamp_of k a) turn.letters a.tray b.tray e c.told.1;
       replies = begins_as _ _ _ _ refl (ap (λ (d : Kept). d.replies) (desk_path o q c.core)) c.told.0;
-      owing = owes (stepped_to c.core step) (log_path l c.log) c.world c.left c.owed;
+      noted = (owes (stepped_to c.core step) (log_path l c.log) c.world c.left c.owed).0;
+      owing = (owes (stepped_to c.core step) (log_path l c.log) c.world c.left c.owed).1;
     }
 
 -- the core's step, of what its event is
@@ -97,7 +100,7 @@ unspent k a s e l spent = omega (arith, e, l, spent)
 
 -- the step of a leave was made, and there was no memory to tell all who are to be told
 pub ends_left : (k : Cause) (a m b : Looping) → Makes k a m → b ≡ record m { left = true; desk = b.desk; owed = b.owed }
-    → KeepsOwing a b → Begins b.desk.replies (left_by m.desk).replies
+    → IsNoted k a b × KeepsOwing a b → Begins b.desk.replies (left_by m.desk).replies
     → Ends Memory k (λ core answers. left_by (desk_of k a core answers)) a b
 ends_left k a m b M is owing told = (
   unspent k a (stamp_of k a) refl M.fits,
@@ -113,7 +116,8 @@ ends_left k a m b M is owing told = (
     };
     replies = begins_as _ _ _ _ refl (ap (λ (d : Kept). (left_by d).replies)
         (M.desk ∙ ap (λ (h : Held). desk_of k a h M.turn.answers) (sym core))) told;
-    owing = owing;
+    noted = owing.0;
+    owing = owing.1;
   }),
 )
   where
@@ -134,6 +138,7 @@ ends_leaving Memory k a b h = (
       log = begun.log;
       tray = begun.tray;
       replies = begins_on _ _ _ begun.replies (left_begins (desk_of k a b.core begun.turn.answers));
+      noted = begun.noted;
       owing = begun.owing;
     })
   ],

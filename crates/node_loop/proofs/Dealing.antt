@@ -15,7 +15,8 @@ use Rattle.term.specs.NodeSets.{set_of}
 use Rattle.tray.specs.Held.{Waiting}
 use Rattle.tray.specs.Draining.{Sends, DrainedAll}
 use Rattle.node_loop.specs.declared.item.Item.{Item}
-use Rattle.node_loop.specs.Dealings.{Dealt, with_sent, letter_in, letters_in, took, put, receivers, waiting_for, Deals}
+use Rattle.node_loop.specs.declared.item.Item.TheVariants.{Letter, Task}
+use Rattle.node_loop.specs.Dealings.{Dealt, with_sent, with_taken, letter_in, letters_in, took, put, receivers, waiting_for, Deals}
 
 -- each of these nodes stands there once
 abbrev AreOnce : List ℕ → Type 0
@@ -142,10 +143,23 @@ module _ {S : Type 0} (posts : S → ℕ → Item → S → Type 0) (refuses : S
   -- an item was taken: its letter, if it is one, is behind those from its sender
   pub took_more : (s : S) (from : ℕ) (i : Item) (t : S) → inside s ≡ true → takes s from i t
       → took (dealt t) ≡ (λ f. took (dealt s) f ++ letters_from from i f)
-  took_more s from i t here h = fun_ext (λ f. ap (λ (x : Dealt). took x f) (D.gives s from i t here h).2 ∙ by_test from
-      (λ g b. letters_in (if b then (dealt s).taken from ++ i ∷ [] else (dealt s).taken g) ≡ took (dealt s) g ++ (if b then letter_in i else []))
-      (flat_map-append letter_in ((dealt s).taken from) (i ∷ []) ∙ ap (λ (ls : List StampedLetter). took (dealt s) from ++ ls) (append-nil (letter_in i)))
-      (λ g ne. sym (append-nil (took (dealt s) g))) f)
+  took_more s from i t here h = fun_ext (λ f. ap (λ (x : Dealt). took x f) (D.gives s from i t here h).2 ∙ of_item i f)
+    where
+      of_item : (i : Item) (f : ℕ) → took (with_taken from i (dealt s)) f ≡ took (dealt s) f ++ letters_from from i f
+      of_item (Letter l) f = by_test from
+          (λ g b. letters_in (if b then (dealt s).taken from ++ Letter l ∷ [] else (dealt s).taken g)
+          ≡ took (dealt s) g ++ (if b then letter_in (Letter l) else []))
+          (flat_map-append letter_in ((dealt s).taken from) (Letter l ∷ []))
+          (λ g ne. sym (append-nil (took (dealt s) g))) f
+      of_item (Task k) f = at_node (f == from)
+        where
+          at_node : (b : Bool) → took (dealt s) f ≡ took (dealt s) f ++ (if b then [] else [])
+          at_node true = sym (append-nil (took (dealt s) f))
+          at_node false = sym (append-nil (took (dealt s) f))
 
   pub put_still : (s : S) (from : ℕ) (i : Item) (t : S) → inside s ≡ true → takes s from i t → put (dealt t) ≡ put (dealt s)
-  put_still s from i t here h = ap (λ (x : Dealt). put x) (D.gives s from i t here h).2
+  put_still s from i t here h = ap (λ (x : Dealt). put x) (D.gives s from i t here h).2 ∙ of_item i
+    where
+      of_item : (i : Item) → put (with_taken from i (dealt s)) ≡ put (dealt s)
+      of_item (Letter l) = refl
+      of_item (Task k) = refl

@@ -1,5 +1,5 @@
 -- What a step of a node changes is owed to its readers.
-use Rattle.std.proofs.Common.{◌≡◌, ◌<◌, ◌≤◌, ◌+◌, ◌==◌, ◌&&◌, ℕ, Bool, true, false, not, Option, Vec, Global, List, [], ◌∷◌, ◌++◌, length, refl, sym, ap, subst, ◌∙◌, arith}
+use Rattle.std.proofs.Common.{◌≡◌, ◌<◌, ◌≤◌, ◌+◌, ◌==◌, ◌&&◌, ℕ, Bool, true, false, not, Option, Vec, Global, List, [], ◌∷◌, ◌++◌, length, refl, sym, ap, subst, ◌∙◌, inl, inr, arith}
 use Rattle.std.specs.Prelude.{if◌then◌else◌}
 use Rattle.std.proofs.lemmas.List.{length-append}
 use Rattle.registry_model.specs.Table.{Table, changed, without}
@@ -31,12 +31,12 @@ use Rattle.node_loop.specs.declared.edit.Edition.{Edition}
 use Rattle.node_loop.specs.declared.edit.Note.{Note}
 use Rattle.node_loop.specs.declared.edit.Note.TheVariants.{Nothing, One, Whole}
 use Rattle.node_loop.specs.declared.edit.Owed.{Owed}
-use Rattle.node_loop.specs.Editions.{edited, Does, showing, NotedBy}
+use Rattle.node_loop.specs.Editions.{edited, Does, showing, suits, NotedBy, Notes}
 use Rattle.node_loop.specs.Owing.{first_note, with_note, shown_by, LeadsTo, Owes, KeepsOwing}
 use Rattle.node_loop.specs.Held.{Looping, Written}
 use Rattle.node_loop.specs.declared.item.Ticket.{Ticket}
 use Rattle.node_loop.specs.declared.item.Stamped.{Stamped}
-use Rattle.node_loop.specs.Steps.{Cause, by_event, by_letter, entry_of, Makes, Rests}
+use Rattle.node_loop.specs.Steps.{Cause, by_event, by_letter, entry_of, IsNoted, Makes, Rests}
 use Rattle.node_loop.specs.Coming.{Turns}
 use Rattle.node_loop.specs.Items.{by_leave, with_leave}
 use Rattle.node_loop.proofs.Doing.{own_turn}
@@ -130,69 +130,102 @@ entry_more : (k : Cause) (a b : Looping) (answers : List Answer) → b.log ≡ r
 entry_more k a b answers log =
     ap (λ (l : Written). length l.entries) log ∙ length-append a.log.entries (entry_of k a answers ∷ [])
 
+-- nothing is noted for it
+notes_nothing : (e : Event) (h : Held) → Notes (node_event e) Nothing h
+notes_nothing (event.Call c) h = refl
+notes_nothing event.Retry h = refl
+notes_nothing (event.Exit p) h = refl
+notes_nothing event.Leave h = inl refl
+
 -- a step by an event of its own leaves what it shows
 pub owing_by_event : (ticket : Option Ticket) (e : Event) (a b : Looping) (turn : Turn) → knows_contact a.world e ≡ true
     → Steps (node_event e) a.core b.core turn
     → b.log ≡ record a.log { entries = a.log.entries ++ entry_of (by_event ticket e a) a turn.answers ∷ [] }
-    → b.world ≡ a.world → b.left ≡ a.left → b.owed ≡ a.owed → KeepsOwing a b
-owing_by_event ticket e a b turn known step log world left owed x O = noted Nothing a b (record {
-  world = world;
-  core_world = step.world;
-  entries = entry_more (by_event ticket e a) a b turn.answers log;
-  owed = owed;
-  does = λ j. record {
-    node = (log j).node;
-    table = behind_event a.core b.core turn e (subst (λ (w : List ℕ). knows_contact w e ≡ true) O.world known) step j;
-    length = a.owed.length;
-    left = left j;
-  };
-}) x O
+    → b.world ≡ a.world → b.left ≡ a.left → b.owed ≡ a.owed → IsNoted (by_event ticket e a) a b × KeepsOwing a b
+owing_by_event ticket e a b turn known step log world left owed = (
+  record { note = Nothing; noted = notes_nothing e a.core; owed = owed },
+  λ x O. noted Nothing a b (record {
+    world = world;
+    core_world = step.world;
+    entries = entry_more (by_event ticket e a) a b turn.answers log;
+    owed = owed;
+    does = λ j. record {
+      node = (log j).node;
+      table = behind_event a.core b.core turn e (subst (λ (w : List ℕ). knows_contact w e ≡ true) O.world known) step j;
+      length = a.owed.length;
+      left = left j;
+    };
+  }) x O,
+)
 
 -- a step by a letter is owed as it was noted
 pub owing_by_letter : (note : Note) (from : ℕ) (l : Stamped) (a b : Looping) (turn : Turn) → NotedBy note from l.letter a.core
     → Steps (FromPeer from l.letter) a.core b.core turn
     → b.log ≡ record a.log { entries = a.log.entries ++ entry_of (by_letter from l a) a turn.answers ∷ [] }
-    → b.world ≡ a.world → b.left ≡ a.left → b.owed ≡ with_note note (length a.log.entries + 1) a.owed → KeepsOwing a b
-owing_by_letter note from l a b turn by step log world left owed = noted note a b (record {
-  world = world;
-  core_world = step.world;
-  entries = entry_more (by_letter from l a) a b turn.answers log;
-  owed = owed;
-  does = subst (λ (x : Edition). Does note (shown_by a) x)
-      (λ j. record { node = sym (ap (λ (w : Written). w.node) log) j; table = b.core.table; length = a.owed.length; left = sym left j })
-      (by (shown_by a) b.core turn step);
-})
+    → b.world ≡ a.world → b.left ≡ a.left → b.owed ≡ with_note note (length a.log.entries + 1) a.owed
+    → IsNoted (by_letter from l a) a b × KeepsOwing a b
+owing_by_letter note from l a b turn by step log world left owed = (
+  record {
+    note = note;
+    noted = by;
+    owed = owed ∙ ap (λ (n : ℕ). with_note note n a.owed) (sym (entry_more (by_letter from l a) a b turn.answers log));
+  },
+  noted note a b (record {
+    world = world;
+    core_world = step.world;
+    entries = entry_more (by_letter from l a) a b turn.answers log;
+    owed = owed;
+    does = subst (λ (x : Edition). Does note (shown_by a) x)
+        (λ j. record { node = sym (ap (λ (w : Written). w.node) log) j; table = b.core.table; length = a.owed.length; left = sym left j })
+        (by.does (shown_by a) b.core turn step);
+  }),
+)
 
 -- so is a leave
 pub owing_by_leave : (a m b : Looping) → Makes (by_leave a) a m → m.owed ≡ a.owed
-    → b ≡ record m { left = true; desk = b.desk; owed = with_leave m } → KeepsOwing a b
-owing_by_leave a m b M owed is x O = noted (One edit.Leave) a b (record {
-  world = ap (λ (l : Looping). l.world) is ∙ M.world;
-  core_world = ap (λ (l : Looping). l.core.world) is ∙ M.step.world;
-  entries = entry_more (by_leave a) a b M.turn.answers log;
-  owed = ap (λ (l : Looping). l.owed) is
-      ∙ λ j. with_note (One edit.Leave) (entry_more (by_leave a) a m M.turn.answers M.log j) (owed j);
-  does = λ j. record {
-    node = (log j).node;
-    table = (ap (λ (l : Looping). l.core.table) is ∙ behind_event a.core m.core M.turn event.Leave refl M.step) j;
-    length = a.owed.length;
-    left = ap (λ (l : Looping). l.left) is j;
-  };
-}) x O
+    → b ≡ record m { left = true; desk = b.desk; owed = with_leave m } → IsNoted (by_leave a) a b × KeepsOwing a b
+owing_by_leave a m b M owed is = (
+  record {
+    note = One edit.Leave;
+    noted = inr refl;
+    owed = ap (λ (l : Looping). l.owed) is
+        ∙ λ j. with_note (One edit.Leave) (sym (ap (λ (l : Looping). length l.log.entries) is) j) (owed j);
+  },
+  noted (One edit.Leave) a b (record {
+    world = ap (λ (l : Looping). l.world) is ∙ M.world;
+    core_world = ap (λ (l : Looping). l.core.world) is ∙ M.step.world;
+    entries = entry_more (by_leave a) a b M.turn.answers log;
+    owed = ap (λ (l : Looping). l.owed) is
+        ∙ λ j. with_note (One edit.Leave) (entry_more (by_leave a) a m M.turn.answers M.log j) (owed j);
+    does = λ j. record {
+      node = (log j).node;
+      table = (ap (λ (l : Looping). l.core.table) is ∙ behind_event a.core m.core M.turn event.Leave refl M.step) j;
+      length = a.owed.length;
+      left = ap (λ (l : Looping). l.left) is j;
+    };
+  }),
+)
   where
     log : b.log ≡ record a.log { entries = a.log.entries ++ entry_of (by_leave a) a M.turn.answers ∷ [] }
     log = ap (λ (l : Looping). l.log) is ∙ M.log
 
 -- a letter that leaves the table, or whose writing is known
 module _ (f : ℕ) (h : Held) where
-  noted_as : (note : Note) (l : Letter) → IsSaidBy h.world h.name f l
+  -- it is another node of the world
+  abbrev known : Bool
+  known = set_of h.world f && not (f == h.name)
+
+  noted_as : (note : Note) (l : Letter) → suits note l known ≡ true → IsSaidBy h.world h.name f l
       → ((e : Edition) → Does note (showing h.table e) (showing (behind f (letter_of l) (node_of h)).table e)) → NotedBy note f l h
-  noted_as note l said does e k made step =
-      subst (λ (t : Table). Does note (showing h.table e) (showing t e)) (sym (behind_letter_read h k made f l step said)) (does e)
+  noted_as note l fits said does = record {
+    fits = fits;
+    does = λ e k made step. subst (λ (t : Table). Does note (showing h.table e) (showing t e))
+        (sym (behind_letter_read h k made f l step said)) (does e);
+  }
 
   -- a letter of a node that is told to have left is dropped
   pub dropped : (c : Change) → set_of h.told f ≡ true → NotedBy Nothing f (Apply c) h
-  dropped c told = noted_as Nothing (Apply c) tt (λ e. λ j. showing (at (set_of h.told f) told j) e)
+  dropped c told = noted_as Nothing (Apply c) refl tt (λ e. λ j. showing (at (set_of h.told f) told j) e)
     where
       at : (b : Bool) → b ≡ true
           → (if b && true then (node_of h).replica else behind_letter f (letter_of (Apply c)) (node_of h).current (node_of h).replica).table ≡ h.table
@@ -201,7 +234,7 @@ module _ (f : ℕ) (h : Held) where
 
   pub written : (c w : Change) → set_of h.told f ≡ false → change_of w ≡ unless_told (set_of h.told) (change_of c)
       → NotedBy (One (edit.Write w)) f (Apply c) h
-  written c w told is = noted_as (One (edit.Write w)) (Apply c) tt
+  written c w told is = noted_as (One (edit.Write w)) (Apply c) refl tt
       (λ e. λ j. showing ((at (set_of h.told f) told ∙ ap (λ x. changed x h.table) (sym is)) j) e)
     where
       at : (b : Bool) → b ≡ false
@@ -211,7 +244,7 @@ module _ (f : ℕ) (h : Held) where
       at false q = refl
 
   pub gone : set_of h.world f ≡ true → (f == h.name) ≡ false → NotedBy (One (edit.Departure f)) f Down h
-  gone known other = noted_as (One (edit.Departure f)) Down (known, other) (λ e. λ j. showing (at (set_of h.told f) j) e)
+  gone inside other = noted_as (One (edit.Departure f)) Down refl (inside, other) (λ e. λ j. showing (at (set_of h.told f) j) e)
     where
       at : (b : Bool)
           → (if b && false then (node_of h).replica else behind_letter f AnyLetter.Down (node_of h).current (node_of h).replica).table
@@ -222,7 +255,7 @@ module _ (f : ℕ) (h : Held) where
   -- what writes nothing leaves the table, whether it is read or dropped
   still : (l : Letter) → IsSaidBy h.world h.name f l
       → behind_letter f (letter_of l) (node_of h).current (node_of h).replica ≡ (node_of h).replica → NotedBy Nothing f l h
-  still l said same = noted_as Nothing l said (λ e. λ j. showing (at (set_of h.told f && not (is_down (letter_of l))) j).table e)
+  still l said same = noted_as Nothing l refl said (λ e. λ j. showing (at (set_of h.told f && not (is_down (letter_of l))) j).table e)
     where
       at : (b : Bool)
           → (if b then (node_of h).replica else behind_letter f (letter_of l) (node_of h).current (node_of h).replica) ≡ (node_of h).replica
@@ -230,7 +263,7 @@ module _ (f : ℕ) (h : Held) where
       at false = same
 
   pub asked : (pairs : Vec Pair Global) → set_of h.world f ≡ true → NotedBy Nothing f (JoinAsk pairs) h
-  asked pairs known = still (JoinAsk pairs) known refl
+  asked pairs inside = still (JoinAsk pairs) inside refl
 
   -- so does any letter but those that say of names or members
   pub quiet : (l : Letter) → ((c : Change) → l ≡ Apply c → ⊥) → ((pairs : _) → l ≡ JoinAsk pairs → ⊥)
@@ -257,11 +290,11 @@ kept e = record {
   makes = λ k a b O M. M.owing e O;
   rests = rests;
   begun = λ k a b O B. B.owing e O;
-  departs = λ a b O D. owing_by_leave a D.stepped b D.step D.owed (D.behind ∙ λ j. record D.stepped {
+  departs = λ a b O D. (owing_by_leave a D.stepped b D.step D.owed (D.behind ∙ λ j. record D.stepped {
     left = true;
     desk = sym (ap (λ (l : Looping). l.desk) D.behind) j;
     owed = with_leave D.stepped;
-  }) e O;
+  })).1 e O;
   departing = λ a b O B. B.owing e O;
 }
   where

@@ -39,9 +39,9 @@ pub record HandsOut (a b : Looping) : Type 0 where
   pub oldest : a.desk.replies ≡ told ∷ b.desk.replies
   pub rest : b ≡ record a { desk = record a.desk { replies = b.desk.replies } }
 
--- what is owed to readers is handed over, or noted otherwise
+-- what is owed to readers is handed over, or noted otherwise: behind the same step
 abbrev pub HandsOver : Looping → Looping → Type 0
-HandsOver a b = b ≡ record a { owed = b.owed }
+HandsOver a b = b ≡ record a { owed = record a.owed { note = b.owed.note } }
 
 -- so many turns, replies handed out, and what is owed handed over lead from the beginning to b
 abbrev pub ComesBy : ℕ → Held → Looping → Type 0

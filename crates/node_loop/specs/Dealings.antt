@@ -10,7 +10,7 @@ use Rattle.node_loop.specs.declared.item.Item.TheVariants.{Letter, Task}
 
 pub record Dealt : Type 0 where
   pub sent : ℕ → List Item  -- to each node, the oldest first
-  pub taken : ℕ → List Item  -- from each node, the oldest first
+  pub taken : ℕ → List Item  -- the letters from each node, the oldest first
 
 -- nothing was sent or taken yet
 abbrev pub nothing_dealt : Dealt
@@ -20,9 +20,10 @@ nothing_dealt = record { sent = λ t. []; taken = λ f. [] }
 abbrev pub with_sent : ℕ → Item → Dealt → Dealt
 with_sent to i d = record d { sent = at d.sent to (d.sent to ++ i ∷ []) }
 
--- an item more was taken from this node
+-- a letter more was taken from this node; a task is the node's own, and nothing that nodes deal in
 abbrev pub with_taken : ℕ → Item → Dealt → Dealt
-with_taken from i d = record d { taken = at d.taken from (d.taken from ++ i ∷ []) }
+with_taken from (Letter l) d = record d { taken = at d.taken from (d.taken from ++ Letter l ∷ []) }
+with_taken from (Task t) d = d
 
 -- the letter of an item, if it is one, as the protocol has it
 abbrev pub letter_in : Item → List StampedLetter
@@ -51,7 +52,7 @@ waiting_for t (w ∷ ws) = if w.receiver == t then w.letters else waiting_for t 
 
 module _ {S : Type 0} (posts : S → ℕ → Item → S → Type 0) (takes : S → ℕ → Item → S → Type 0) where
   -- Links that lead inside a world, as `inside` tells, do so behind each step, and deal as `dealt` says: each sending is behind the
-  -- others to its node, each taking behind the others from its node, and nothing is taken from a stranger
+  -- others to its node, each letter that is taken behind the others from its node, and nothing is taken from a stranger
   pub record Deals (o : Opening) (inside : S → Bool) (dealt : S → Dealt) : Type 0 where
     pub sends : (s : S) (to : ℕ) (i : Item) (t : S) → inside s ≡ true → posts s to i t
         → (inside t ≡ true) × (dealt t ≡ with_sent to i (dealt s))

@@ -1,9 +1,12 @@
 -- What a node shows its readers, and how its steps edit that.
-use Rattle.std.specs.Prelude.{ℕ, Bool, true, false, ◌==◌, ◌≡◌, []}
+use Rattle.std.specs.Prelude.{ℕ, Bool, true, false, not, ◌==◌, ◌&&◌, ◌≡◌, ◌⊎◌, []}
 use Rattle.registry_model.specs.Table.{Table, changed, without, put_all}
 use Rattle.name_table.specs.Changes.{change_of}
-use Rattle.node_log.specs.declared.CoreEvent.TheVariants.{FromPeer}
+use Rattle.term.specs.NodeSets.{set_of}
+use Rattle.node_log.specs.declared.CoreEvent.{Event as NodeEvent}
+use Rattle.node_log.specs.declared.CoreEvent.TheVariants as event
 use Rattle.node_log.specs.declared.Letter.{Letter}
+use Rattle.node_log.specs.declared.Letter.TheVariants.{Apply, JoinAsk, Admit, Welcome, Down}
 use Rattle.node_log.specs.NodeCoreHeld.{Held}
 use Rattle.node_log.specs.NodeCoreMade.{Made as Turn}
 use Rattle.node_log.specs.NodeCoreSteps.{Steps}
@@ -47,7 +50,26 @@ Does note.Whole e f = f.node ≡ e.node
 abbrev pub showing : Table → Edition → Edition
 showing t e = record e { table = t }
 
+-- How a letter may be noted: a change as one write, that another node of the world has left as its departure, and as the whole table what
+-- a join hands over, or a stranger tells; or, like any other, as nothing
+abbrev pub suits : Note → Letter → Bool → Bool
+suits note.Nothing letter known = true
+suits (note.One (Write c)) (Apply change) known = true
+suits (note.One (Departure node)) Down known = true
+suits note.Whole (JoinAsk pairs) known = not known
+suits note.Whole (Admit admission) known = true
+suits note.Whole (Welcome welcome) known = true
+suits note.Whole Down known = not known
+suits n letter known = false
+
 -- whatever the node comes to behind this letter, the note says what that does to its table
-abbrev pub NotedBy : Note → ℕ → Letter → Held → Type 0
-NotedBy note from letter h = (e : Edition) (k : Held) (made : Turn) → Steps (FromPeer from letter) h k made
-    → Does note (showing h.table e) (showing k.table e)
+pub record NotedBy (note : Note) (from : ℕ) (letter : Letter) (h : Held) : Type 0 where
+  pub fits : suits note letter (set_of h.world from && not (from == h.name)) ≡ true
+  pub does : (e : Edition) (k : Held) (made : Turn) → Steps (event.FromPeer from letter) h k made → Does note (showing h.table e) (showing k.table e)
+
+-- a step is noted so: a letter by what it does to the table, and as nothing what the node does of its own, which leaves the table; but a
+-- leave may be noted as that
+abbrev pub Notes : NodeEvent → Note → Held → Type 0
+Notes (event.FromPeer from letter) n h = NotedBy n from letter h
+Notes event.Leave n h = (n ≡ note.Nothing) ⊎ (n ≡ note.One Leave)
+Notes _ n h = n ≡ note.Nothing

@@ -1,5 +1,5 @@
 -- The steps of a node's loop.
-use Rattle.std.specs.Prelude.{ℕ, false, ◌≡◌, ◌<◌, ◌+◌, ◌-◌, ◌^◌, ◌⊎◌, max, Option, None, Result, Ok, Err, List, [], ◌∷◌, ◌++◌, MatchResult}
+use Rattle.std.specs.Prelude.{ℕ, false, ◌≡◌, ◌<◌, ◌+◌, ◌-◌, ◌^◌, ◌⊎◌, max, Option, None, Result, Ok, Err, List, [], ◌∷◌, ◌++◌, length, MatchResult}
 use Rattle.std.specs.Option.{option_map}
 use Rattle.node_log.specs.declared.Answer.{Answer}
 use Rattle.node_log.specs.declared.CoreEvent.{Event as NodeEvent}
@@ -25,7 +25,9 @@ use Rattle.node_loop.specs.declared.waiting.Course.TheVariants.{AtOnce}
 use Rattle.node_loop.specs.Waiting.{course_of}
 use Rattle.node_loop.specs.Desks.{Kept, Begins, settled}
 use Rattle.node_loop.specs.Held.{Looping, with_letters, PutsSome}
-use Rattle.node_loop.specs.Owing.{KeepsOwing}
+use Rattle.node_loop.specs.declared.edit.Note.{Note}
+use Rattle.node_loop.specs.Editions.{Notes}
+use Rattle.node_loop.specs.Owing.{with_note, KeepsOwing}
 
 -- What a step is made for: the event, as the core and the log have it, whose it is, how it is answered, and the stamp of
 -- the letter that is read, or 0
@@ -72,6 +74,12 @@ entry_of k a answers = record {
 abbrev pub desk_of : Cause → Looping → Held → List Answer → Kept
 desk_of k a core answers = settled k.course k.own core answers a.desk
 
+-- what a step changes of what the node shows is noted, and owed as the last of so many steps besides what was owed
+pub record IsNoted (k : Cause) (a b : Looping) : Type 0 where
+  pub note : Note
+  pub noted : Notes k.event note a.core
+  pub owed : b.owed ≡ with_note note (length b.log.entries) a.owed
+
 -- The core's step is made: its entry is last in the log, its letters are last in the tray, its answers are told, and what it changes is owed
 -- to readers. Its stamp is one that there is
 pub record Makes (k : Cause) (a b : Looping) : Type 0 where
@@ -82,6 +90,7 @@ pub record Makes (k : Cause) (a b : Looping) : Type 0 where
   pub stamp : b.stamp ≡ stamp_of k a
   pub tray : b.tray ≡ with_letters (stamp_of k a) turn.letters a.tray
   pub desk : b.desk ≡ desk_of k a b.core turn.answers
+  pub noted : IsNoted k a b
   pub owing : KeepsOwing a b
   pub wait : b.wait ≡ a.wait
   pub world : b.world ≡ a.world
@@ -101,6 +110,7 @@ pub record Begun (k : Cause) (due : Held → List Answer → Kept) (a b : Loopin
   pub log : b.log ≡ record a.log { entries = a.log.entries ++ entry_of k a turn.answers ∷ [] }
   pub tray : PutsSome (stamp_of k a) turn.letters a.tray b.tray
   pub replies : Begins b.desk.replies (due b.core turn.answers).replies
+  pub noted : IsNoted k a b
   pub owing : KeepsOwing a b
 
 -- no stamp is left for a step: that would be above the greatest `u64`

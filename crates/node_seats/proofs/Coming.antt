@@ -1,8 +1,8 @@
 -- A loop whose oldest reply is handed out came by turns still.
 use Rattle.std.proofs.Common.{ℕ, ◌≡◌, ◌∷◌, suc, inl, inr}
-use Rattle.node_loop.specs.Told.{Told}
-use Rattle.node_loop.specs.Held.{Looping}
-use Rattle.node_loop.specs.Coming.{IsLoopOf}
+use Rattle.shared_table.specs.Told.{Told}
+use Rattle.shared_table.specs.Held.{Looping}
+use Rattle.shared_table.specs.Coming.{IsLoopOf}
 
 pub handed_out : (name : ℕ) (a b : Looping) (told : Told) → IsLoopOf name a → a.desk.replies ≡ told ∷ b.desk.replies
     → b ≡ record a { desk = record a.desk { replies = b.desk.replies } } → IsLoopOf name b

@@ -7,12 +7,12 @@ use Rattle.transaction.specs.declared.nodes.Nodes.{Nodes}
 use Rattle.transaction.specs.declared.nodes.Retries.{Retries}
 use Rattle.transaction.specs.declared.reply.LockReply.{LockReply}
 use Rattle.transaction.specs.declared.reply.LockReply.TheVariants.{Set, Deleted}
-use Rattle.node_loop.specs.declared.Answer.{Answer}
-use Rattle.node_loop.specs.declared.Call.TheVariants.{SetLock, DelLock}
-use Rattle.node_loop.specs.NodeEventsSeen.{reply_of}
-use Rattle.node_loop.specs.declared.Event.TheVariants.{Call as Calls}
-use Rattle.node_loop.specs.declared.WorldEvent.TheVariants.{At}
-use Rattle.node_loop.specs.declared.SeatEntry.{SeatEntry}
+use Rattle.shared_table.specs.declared.Answer.{Answer}
+use Rattle.shared_table.specs.declared.Call.TheVariants.{SetLock, DelLock}
+use Rattle.shared_table.specs.NodeEventsSeen.{reply_of}
+use Rattle.shared_table.specs.declared.Event.TheVariants.{Call as Calls}
+use Rattle.shared_table.specs.declared.WorldEvent.TheVariants.{At}
+use Rattle.shared_table.specs.declared.SeatEntry.{SeatEntry}
 use Rattle.node_seats.specs.Seats.{Sitting, with_entry}
 use Rattle.node_seats.specs.Holders.{grants, lock_reply_in, lock_replies}
 

@@ -1,9 +1,9 @@
 -- Where a loop of a node tells that the node has left, its log says so.
 use Rattle.std.proofs.Common.{ℕ, Ok}
 use Rattle.std.proofs.Math.Logic.{∥∥₁_map}
-use Rattle.node_loop.specs.declared.item.Ticket.{Ticket}
-use Rattle.node_loop.specs.declared.replies.Effect.TheVariants.{Left}
-use Rattle.node_loop.proofs.Left.{next_is_logged}
+use Rattle.shared_table.specs.declared.Ticket.{Ticket}
+use Rattle.shared_table.specs.declared.Effect.TheVariants.{Left}
+use Rattle.shared_table.proofs.Left.{next_is_logged}
 use Rattle.node_seats.specs.Replies.{IsToldTo, HasLeft}
 
 pub left_where_told : (name : ℕ) (ticket : Ticket) (length : ℕ) → IsToldTo name ticket (Ok Left) length → HasLeft name

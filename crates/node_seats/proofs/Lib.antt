@@ -1,3 +1,4 @@
+pub use Rattle.shared_table.proofs.Showing
 pub mod Holders
 pub mod Choosing
 mod Coming

@@ -1,12 +1,12 @@
 -- What a caller's question makes of its seat.
 use Rattle.std.proofs.Common.{ℕ, ◌≡◌, ◌∙◌, Option, Result, Ok, Err, List, [], ◌∷◌, ◌++◌, IfOk, sym, ap, subst}
-use Rattle.node_loop.specs.declared.Answer.{Answer}
-use Rattle.node_loop.specs.declared.Event.{Event}
-use Rattle.node_loop.specs.declared.WorldEvent.{WorldEvent}
-use Rattle.node_loop.specs.declared.WorldEvent.TheVariants.{At}
-use Rattle.node_loop.specs.declared.SeatEntry.{SeatEntry}
-use Rattle.node_loop.specs.declared.replies.Effect.{Effect}
-use Rattle.node_loop.specs.declared.replies.TaskFault.{TaskFault}
+use Rattle.shared_table.specs.declared.Answer.{Answer}
+use Rattle.shared_table.specs.declared.Event.{Event}
+use Rattle.shared_table.specs.declared.WorldEvent.{WorldEvent}
+use Rattle.shared_table.specs.declared.WorldEvent.TheVariants.{At}
+use Rattle.shared_table.specs.declared.SeatEntry.{SeatEntry}
+use Rattle.shared_table.specs.declared.Effect.{Effect}
+use Rattle.shared_table.specs.declared.TaskFault.{TaskFault}
 use Rattle.node_seats.specs.declared.caller.Caller.{Caller}
 use Rattle.node_seats.specs.declared.fault.SeatFault.{SeatFault}
 use Rattle.node_seats.specs.declared.fault.SeatFault.TheVariants.{NoSuchNode, NodeLeft, Closed, SeatsSpent, Step, Memory}

@@ -1,9 +1,9 @@
 -- What a caller is told, where its reader learns of more.
 use Rattle.std.proofs.Common.{ℕ, ◌≤◌, Option, Some, None, Result, IfSome, arith}
 use Rattle.std.proofs.Math.Logic.{∥∥₁_map}
-use Rattle.node_loop.specs.declared.item.Ticket.{Ticket}
-use Rattle.node_loop.specs.declared.replies.Effect.{Effect}
-use Rattle.node_loop.specs.declared.replies.TaskFault.{TaskFault}
+use Rattle.shared_table.specs.declared.Ticket.{Ticket}
+use Rattle.shared_table.specs.declared.Effect.{Effect}
+use Rattle.shared_table.specs.declared.TaskFault.{TaskFault}
 use Rattle.node_seats.specs.Replies.{IsToldTo}
 
 told_on : (name : ℕ) (ticket : Ticket) (outcome : Result Effect TaskFault) (n m : ℕ) → n ≤ m → IsToldTo name ticket outcome n

@@ -1,7 +1,7 @@
 -- Where an inbox is reached.
 use Rattle.std.specs.Prelude.{ℕ}
 use Rattle.link.specs.Mailboxes.{Room}
-use Rattle.node_loop.specs.declared.item.Item.{Item}
+use Rattle.shared_table.specs.declared.Item.{Item}
 use Rattle.node_seats.specs.declared.parcel.Parcel.{Parcel}
 
 -- whose inbox it is, how many lines to it were made, and the inbox itself

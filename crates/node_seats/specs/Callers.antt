@@ -1,10 +1,10 @@
 -- What contracts see of a caller, and of the hub that it shares.
 use Rattle.std.specs.Prelude.{ℕ, ◌+◌, ◌≡◌, ◌≤◌, ◌⊎◌, Option, Some, None, Result, Ok, Err, List, [], ◌∷◌}
 use Rattle.std.specs.List.{flat_map}
-use Rattle.node_loop.specs.declared.Event.{Event}
-use Rattle.node_loop.specs.declared.item.Ticket.{Ticket}
-use Rattle.node_loop.specs.declared.item.Item.{Item}
-use Rattle.node_loop.specs.declared.item.Item.TheVariants.{Letter, Task}
+use Rattle.shared_table.specs.declared.Event.{Event}
+use Rattle.shared_table.specs.declared.Ticket.{Ticket}
+use Rattle.shared_table.specs.declared.Item.{Item}
+use Rattle.shared_table.specs.declared.Item.TheVariants.{Letter, Task}
 use Rattle.node_seats.specs.declared.caller.Caller.{Caller}
 use Rattle.node_seats.specs.declared.fault.SeatFault.{SeatFault}
 use Rattle.node_seats.specs.declared.fault.SeatFault.TheVariants.{NoSuchNode, Closed, Step}

@@ -1,8 +1,8 @@
 -- Why a seat isn't made, or what it asks isn't done.
 use Rattle.std.specs.Prelude.{ℕ, Bool, true, false, ◌≡◌, ◌<◌, ◌⊎◌, List, [], ◌∷◌, ◌++◌}
-use Rattle.node_loop.specs.declared.Event.{Event}
-use Rattle.node_loop.specs.declared.replies.TaskFault.{TaskFault}
-use Rattle.node_loop.specs.declared.replies.TaskFault.TheVariants as of_task
+use Rattle.shared_table.specs.declared.Event.{Event}
+use Rattle.shared_table.specs.declared.TaskFault.{TaskFault}
+use Rattle.shared_table.specs.declared.TaskFault.TheVariants as of_task
 use Rattle.node_seats.specs.declared.fault.SeatFault.{SeatFault}
 use Rattle.node_seats.specs.declared.fault.SeatFault.TheVariants.{NoSuchNode, NodeLeft, SeatsSpent, Step, Memory}
 

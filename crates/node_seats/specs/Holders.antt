@@ -2,15 +2,15 @@
 use Rattle.std.specs.Prelude.{Bool, true, false, ◌≡◌, Option, Some, None, List, [], ◌∷◌, ◌++◌, Result, Ok, Err, if◌then◌else◌}
 use Rattle.registry_model.specs.Process.{Process, is_process}
 use Rattle.registry_model.specs.Call.{Reply as AnyReply, True}
-use Rattle.node_loop.specs.declared.Answer.{Answer}
-use Rattle.node_loop.specs.declared.Call.{Call}
-use Rattle.node_loop.specs.declared.Call.TheVariants.{SetLock, DelLock}
-use Rattle.node_loop.specs.NodeEventsSeen.{reply_of}
-use Rattle.node_loop.specs.declared.Event.TheVariants.{Call as Calls}
-use Rattle.node_loop.specs.declared.WorldEvent.{WorldEvent}
-use Rattle.node_loop.specs.declared.WorldEvent.TheVariants.{At}
-use Rattle.node_loop.specs.declared.SeatEntry.{SeatEntry}
-use Rattle.node_loop.specs.declared.replies.Effect.TheVariants.{Answered as IsAnswer}
+use Rattle.shared_table.specs.declared.Answer.{Answer}
+use Rattle.shared_table.specs.declared.Call.{Call}
+use Rattle.shared_table.specs.declared.Call.TheVariants.{SetLock, DelLock}
+use Rattle.shared_table.specs.NodeEventsSeen.{reply_of}
+use Rattle.shared_table.specs.declared.Event.TheVariants.{Call as Calls}
+use Rattle.shared_table.specs.declared.WorldEvent.{WorldEvent}
+use Rattle.shared_table.specs.declared.WorldEvent.TheVariants.{At}
+use Rattle.shared_table.specs.declared.SeatEntry.{SeatEntry}
+use Rattle.shared_table.specs.declared.Effect.TheVariants.{Answered as IsAnswer}
 use Rattle.transaction.specs.declared.reply.LockReply.{LockReply}
 use Rattle.transaction.specs.declared.reply.LockReply.TheVariants.{Set, Deleted}
 use Rattle.node_seats.specs.declared.holder.HolderSeat.{HolderSeat}

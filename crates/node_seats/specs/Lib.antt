@@ -1,3 +1,4 @@
+pub use Rattle.shared_table.specs.Publishing
 pub mod Lines
 pub mod Addresses
 pub mod Faults

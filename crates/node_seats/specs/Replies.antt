@@ -1,14 +1,14 @@
 -- Who told a caller what.
 use Rattle.std.specs.Prelude.{ℕ, true, ◌≡◌, ◌≤◌, Result, Err, List, ◌∷◌}
-use Rattle.node_loop.specs.declared.item.Ticket.{Ticket}
-use Rattle.node_loop.specs.declared.replies.Effect.{Effect}
-use Rattle.node_loop.specs.declared.replies.TaskFault.{TaskFault}
-use Rattle.node_loop.specs.declared.replies.TaskFault.TheVariants as of_task
-use Rattle.node_loop.specs.declared.replies.TaskReply.{TaskReply}
-use Rattle.node_loop.specs.Told.{Told, told_by}
-use Rattle.node_loop.specs.Held.{Looping}
-use Rattle.node_loop.specs.Coming.{IsLoopOf}
-use Rattle.node_loop.specs.Left.{logs_leave}
+use Rattle.shared_table.specs.declared.Ticket.{Ticket}
+use Rattle.shared_table.specs.declared.Effect.{Effect}
+use Rattle.shared_table.specs.declared.TaskFault.{TaskFault}
+use Rattle.shared_table.specs.declared.TaskFault.TheVariants as of_task
+use Rattle.shared_table.specs.declared.TaskReply.{TaskReply}
+use Rattle.shared_table.specs.Told.{Told, told_by}
+use Rattle.shared_table.specs.Held.{Looping}
+use Rattle.shared_table.specs.Coming.{IsLoopOf}
+use Rattle.shared_table.specs.Left.{logs_leave}
 use Rattle.node_seats.specs.declared.fault.SeatFault.{SeatFault}
 use Rattle.node_seats.specs.declared.fault.SeatFault.TheVariants.{Step}
 

@@ -2,25 +2,25 @@
 use Rattle.std.specs.Prelude.{ℕ, ◌≡◌, ◌==◌, Option, Some, None, Result, Ok, Err, List, [], ◌∷◌, ◌++◌}
 use Rattle.std.specs.List.{find}
 use Rattle.link.specs.Mailboxes.{Room}
-use Rattle.node_loop.specs.declared.Answer.{Answer}
-use Rattle.node_loop.specs.declared.Call.{Call}
-use Rattle.node_loop.specs.declared.Reply.{Reply}
-use Rattle.node_loop.specs.declared.Reply.TheVariants.{Pid, Undefined}
-use Rattle.node_loop.specs.NodeEventsSeen.{reply_of}
+use Rattle.shared_table.specs.declared.Answer.{Answer}
+use Rattle.shared_table.specs.declared.Call.{Call}
+use Rattle.shared_table.specs.declared.Reply.{Reply}
+use Rattle.shared_table.specs.declared.Reply.TheVariants.{Pid, Undefined}
+use Rattle.shared_table.specs.NodeEventsSeen.{reply_of}
 use Rattle.registry_model.specs.Process.{Process, Text}
-use Rattle.node_loop.specs.declared.Event.{Event}
-use Rattle.node_loop.specs.declared.Event.TheVariants as event
-use Rattle.node_loop.specs.declared.WorldEvent.TheVariants.{At}
-use Rattle.node_loop.specs.declared.SeatEntry.{SeatEntry}
-use Rattle.node_loop.specs.declared.item.Item.{Item}
-use Rattle.node_loop.specs.declared.replies.Effect.{Effect}
-use Rattle.node_loop.specs.declared.replies.Effect.TheVariants.{Answered as IsAnswer}
+use Rattle.shared_table.specs.declared.Event.{Event}
+use Rattle.shared_table.specs.declared.Event.TheVariants as event
+use Rattle.shared_table.specs.declared.WorldEvent.TheVariants.{At}
+use Rattle.shared_table.specs.declared.SeatEntry.{SeatEntry}
+use Rattle.shared_table.specs.declared.Item.{Item}
+use Rattle.shared_table.specs.declared.Effect.{Effect}
+use Rattle.shared_table.specs.declared.Effect.TheVariants.{Answered as IsAnswer}
 use Rattle.node_seats.specs.declared.caller.Caller.{Caller}
 use Rattle.node_seats.specs.declared.parcel.Parcel.{Parcel}
 use Rattle.node_seats.specs.declared.fault.SeatFault.{SeatFault}
 use Rattle.node_seats.specs.declared.fault.SeatFault.TheVariants.{NodeLeft, Closed, Step}
-use Rattle.node_loop.specs.declared.replies.TaskFault.{TaskFault}
-use Rattle.node_loop.specs.declared.replies.TaskFault.TheVariants as task
+use Rattle.shared_table.specs.declared.TaskFault.{TaskFault}
+use Rattle.shared_table.specs.declared.TaskFault.TheVariants as task
 use Rattle.node_seats.specs.Addresses.{Inbox}
 use Rattle.shared_table.specs.declared.reader.Lookup.TheVariants.{Owner, Left as IsLeft}
 use Rattle.shared_table.specs.Rule.{StartsWith}

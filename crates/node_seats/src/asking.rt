@@ -1,15 +1,15 @@
 //! What a caller asks its node for: calls, exits and leaves.
 ghost use Rattle.std.specs.Prelude.{◌≡◌, ◌++◌, ◌∷◌, [], IfOk, OnOk, IfErr, Ok};
-ghost use Rattle.node_loop.specs.Events.{knows_contact as knows};
-ghost use Rattle.node_loop.specs.declared.Event.TheVariants.{Call as Calls, Exit, Leave};
-ghost use Rattle.node_loop.specs.declared.replies.Effect.TheVariants.{Answered, Made, Left};
+ghost use Rattle.shared_table.specs.Events.{knows_contact as knows};
+ghost use Rattle.shared_table.specs.declared.Event.TheVariants.{Call as Calls, Exit, Leave};
+ghost use Rattle.shared_table.specs.declared.Effect.TheVariants.{Answered, Made, Left};
 ghost use Rattle.node_seats.specs.Callers.{name_of, inbox_of, slot_of, nodes_of, asked_by, seen_of, told_of, ticket_of, task_for, Puts, Learns};
 ghost use Rattle.node_seats.specs.Faults.{IsAskRefused, MayAsk};
 ghost use Rattle.node_seats.specs.Replies.{IsToldTo, IsFaultTold, HasLeft};
 
 use crate::caller::Caller;
 use crate::fault::SeatFault;
-use node_loop::{Answer, Call, Effect, Event};
+use shared_table::{Answer, Call, Effect, Event};
 use std::sync::Wait;
 use std::time::Clock;
 use term::Pid;

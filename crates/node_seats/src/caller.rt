@@ -1,6 +1,6 @@
 //! How a thread asks a node's thread.
 ghost use Rattle.std.specs.Prelude.{◌≡◌, ◌<◌, ◌≤◌, ◌+◌, ◌++◌, ◌∷◌, ◌⊎◌, [], true, false, IfOk, OnOk, OnErr, IfErr, IfSome, Ok, Err};
-ghost use Rattle.node_loop.specs.Events.{knows_contact as knows};
+ghost use Rattle.shared_table.specs.Events.{knows_contact as knows};
 ghost use Rattle.node_seats.specs.Addresses.{inbox_at};
 ghost use Rattle.node_seats.specs.Callers.{name_of, inbox_of, slot_of, nodes_of, nodes_at, asked_by, seen_of, told_of, unseen, ticket_of, task_for, told_as, Numbers, Puts, Offers, IsEnd, MayPut, Learns};
 ghost use Rattle.node_seats.specs.declared.fault.SeatFault.TheVariants.{NoSuchNode};
@@ -14,8 +14,7 @@ use crate::fault::SeatFault;
 use crate::hub::Hub;
 use crate::line::Line;
 use crate::standing::Standing;
-use node_loop::{Effect, Event, Item, Task, TaskFault, Ticket};
-use shared_table::{Lookup, TableReader};
+use shared_table::{Effect, Event, Item, Lookup, TableReader, Task, TaskFault, Ticket};
 use std::alloc::{AllocError, Global};
 use std::sync::{Arc, Wait};
 use std::time::Clock;

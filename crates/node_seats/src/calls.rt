@@ -1,7 +1,7 @@
 //! Copies of calls: a transcript keeps one of each call that was answered.
 ghost use Rattle.std.specs.Prelude.{◌≡◌, IfOk};
 
-use node_loop::Call;
+use shared_table::Call;
 use std::alloc::AllocError;
 
 /// The same call. Only a lock call that names its nodes takes memory.

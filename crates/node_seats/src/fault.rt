@@ -2,7 +2,7 @@
 ghost use Rattle.std.specs.Prelude.{◌≡◌};
 ghost use Rattle.node_seats.specs.Faults.{fault_by};
 
-use node_loop::{StepFault, TaskFault};
+use shared_table::{StepFault, TaskFault};
 use std::alloc::AllocError;
 use thiserror::Error;
 

@@ -1,11 +1,11 @@
 //! Seats of lock holders, over a seat at a node.
 ghost use Rattle.std.specs.Prelude.{◌≡◌};
-ghost use Rattle.node_loop.specs.NodeEventsSeen.{reply_of};
+ghost use Rattle.shared_table.specs.NodeEventsSeen.{reply_of};
 ghost use Rattle.node_seats.specs.Holders.{grants};
 
 use crate::fault::SeatFault;
 use crate::seat::Seat;
-use node_loop::{Call, Reply};
+use shared_table::{Call, Reply};
 use std::sync::Wait;
 use std::time::Clock;
 use term::{LockId, Pid};
@@ -42,7 +42,7 @@ impl<'a, R: Wait + Clock> HolderSeat<'a, R> {
 
 impl<'a, R: Wait + Clock> LockSeat for HolderSeat<'a, R> {
     ghost use Rattle.transaction.specs.Counts.{set_replies, deletion_replies};
-    ghost use Rattle.node_loop.specs.declared.Call.TheVariants.{SetLock, DelLock};
+    ghost use Rattle.shared_table.specs.declared.Call.TheVariants.{SetLock, DelLock};
     ghost use Rattle.node_seats.specs.Holders.{holder_of, replies_of, Grows, SetsLock, DeletesLock};
 
     type Fault = SeatFault;

@@ -1,9 +1,9 @@
 //! What a node's thread has of the node's seats.
 ghost use Rattle.std.specs.Prelude.{◌≡◌, [], true, false};
-ghost use Rattle.node_loop.specs.Held.{written};
-ghost use Rattle.node_loop.specs.Coming.{IsLoopOf};
-ghost use Rattle.node_loop.specs.Sound.{LeavesSound};
-ghost use Rattle.node_loop.specs.Owing.{shown_by};
+ghost use Rattle.shared_table.specs.Held.{written};
+ghost use Rattle.shared_table.specs.Coming.{IsLoopOf};
+ghost use Rattle.shared_table.specs.Sound.{LeavesSound};
+ghost use Rattle.shared_table.specs.Owing.{shown_by};
 ghost use Rattle.shared_table.specs.Publishing.{current};
 
 use crate::bell::Rest;
@@ -11,8 +11,7 @@ use crate::hub::Hub;
 use crate::laid::Laid;
 use crate::standing::Standing;
 use name_table::Names;
-use node_loop::{NodeEnd, NodeLoop};
-use shared_table::Publisher;
+use shared_table::{NodeEnd, NodeLoop, Publisher};
 use std::alloc::Global;
 use std::marker::Model;
 use std::sync::{Arc, Wait};

@@ -1,10 +1,10 @@
 //! Replies on their way from a node's thread to a caller.
 ghost use Rattle.std.specs.Prelude.{◌≡◌, ◌≤◌, [], IfSome, MatchOption};
-ghost use Rattle.node_loop.specs.Coming.{IsLoopOf};
+ghost use Rattle.shared_table.specs.Coming.{IsLoopOf};
 ghost use Rattle.node_seats.specs.Replies.{IsTold, IsToldTo};
 
 use name_table::Names;
-use node_loop::{Effect, NodeLoop, TaskFault, TaskReply, Ticket};
+use shared_table::{Effect, NodeLoop, TaskFault, TaskReply, Ticket};
 use std::alloc::Global;
 use term::NodeName;
 

@@ -29,8 +29,10 @@ pub use holder::HolderSeat;
 pub use host::Host;
 pub use hub::{Hub, MOST_READERS, MOST_SEATS};
 pub use line::Line;
-pub use node_loop::{Call, Effect, NameList, Nodes, Reply, Retries, StepFault, Transcript};
 pub use opened::{Opened, open_node};
 pub use parcel::Parcel;
 pub use seat::Seat;
-pub use shared_table::{KeptPublisher, Publisher, ReaderFactory};
+pub use shared_table::{
+    Call, Effect, KeptPublisher, NameList, Nodes, Publisher, ReaderFactory, Reply, Retries,
+    StepFault, Transcript,
+};

@@ -1,9 +1,9 @@
 //! Seats: from each, one caller calls one node.
 ghost use Rattle.std.specs.Prelude.{◌≡◌, [], OnOk, IfOk, IfErr};
-ghost use Rattle.node_loop.specs.Events.{knows_contact as knows};
-ghost use Rattle.node_loop.specs.declared.Event.TheVariants.{Exit, Leave, Call as Calls};
-ghost use Rattle.node_loop.specs.declared.WorldEvent.TheVariants.{At};
-ghost use Rattle.node_loop.specs.declared.replies.Effect.TheVariants.{Made, Left};
+ghost use Rattle.shared_table.specs.Events.{knows_contact as knows};
+ghost use Rattle.shared_table.specs.declared.Event.TheVariants.{Exit, Leave, Call as Calls};
+ghost use Rattle.shared_table.specs.declared.WorldEvent.TheVariants.{At};
+ghost use Rattle.shared_table.specs.declared.Effect.TheVariants.{Made, Left};
 ghost use Rattle.node_seats.specs.Seats.{sitting, Answered, Unanswered, Done, LooksUp};
 ghost use Rattle.node_seats.specs.Replies.{HasLeft};
 ghost use Rattle.node_seats.specs.Faults.{IsAskRefused};
@@ -11,7 +11,7 @@ ghost use Rattle.node_seats.specs.Faults.{IsAskRefused};
 use crate::caller::Caller;
 use crate::calls::copied_call;
 use crate::fault::SeatFault;
-use node_loop::{Call, Event, Reply, SeatEntry, Transcript, WorldEvent};
+use shared_table::{Call, Event, Reply, SeatEntry, Transcript, WorldEvent};
 use std::alloc::Global;
 use std::marker::Model;
 use std::sync::Wait;

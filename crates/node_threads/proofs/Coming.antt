@@ -1,13 +1,12 @@
 -- How a node's loop comes to be as it is: by turns, from the core that it opened with.
-use Rattle.std.proofs.Common.{ℕ, ◌≡◌, ◌⊎◌, inl, inr, suc, List, ap, ◌∙◌}
+use Rattle.std.proofs.Common.{ℕ, ◌≡◌, inl, suc, List, ap, ◌∙◌}
 use Rattle.link.specs.declared.faults.LinkFault.{LinkFault}
 use Rattle.node_loop.specs.declared.item.Item.{Item}
 use Rattle.node_loop.specs.Held.{Looping}
 use Rattle.node_loop.specs.Turned.{Turned}
 use Rattle.node_loop.proofs.Moving.{turn_of}
 use Rattle.node_loop.specs.Steps.{Outcome}
-use Rattle.node_loop.specs.Items.{Works, Idles}
-use Rattle.node_loop.specs.Coming.{begun, Turns, IsLoopOf}
+use Rattle.node_loop.specs.Coming.{begun, IsLoopOf}
 use Rattle.node_loop.specs.NodeCoreHeld.{Held}
 use Rattle.node_loop.specs.Openings.{opening_core}
 

@@ -59,9 +59,9 @@ place_is row a i once here = at (place a row) refl
     at (Some k) e = ap (λ (n : ℕ). Some n) (alone row k i a once (place_here row a k e) here)
 
 -- what a node that has this place dealt in; a stranger, which has none, dealt in nothing
-abbrev dealt_at : List (List (Sent Item)) → List Drawn → ℕ → Option ℕ → Dealt
-dealt_at rows drawn a None = nothing_dealt
-dealt_at rows drawn a (Some i) = dealt_by a (get_or rows i []) (get_or (map (λ d. d.taken) drawn) i [])
+abbrev dealt_at : List (List (Sent Item)) → List Drawn → Option ℕ → Dealt
+dealt_at rows drawn None = nothing_dealt
+dealt_at rows drawn (Some i) = dealt_by (get_or rows i []) (get_or (map (λ d. d.taken) drawn) i [])
 
 -- the table that a node opens with
 abbrev opening_table : Opening → ℕ → Table
@@ -94,7 +94,7 @@ module _ {N M : Type 0} (contents : N → Table) (cluster lone : List ℕ) (ws :
   tables a = table_at o seen a (place a row)
 
   abbrev dealt : ℕ → Dealt
-  dealt a = dealt_at rows drawn a (place a row)
+  dealt a = dealt_at rows drawn (place a row)
 
   -- the thread of node a, which has place i: how it was started, and what it gave back
   record Thread (i a : ℕ) : Type 0 where
@@ -218,15 +218,15 @@ module _ {N M : Type 0} (contents : N → Table) (cluster lone : List ℕ) (ws :
           ∙ list_all-from_AllPass (set_of row) row (λ k d l. set_of-at row k (get_or row k d) (slice_get-get_or row k d l))
 
   -- what its place says that it dealt in is what its lines and its inbox say
-  deals : (i a : ℕ) (T : Thread i a) → dealt_by a T.lines T.box.taken ≡ dealt_at rows drawn a (Some i)
-  deals i a T = ap (λ (ls : List (Sent Item)). dealt_by a ls T.box.taken) (sym (get_or_from_slice_get rows i T.lines [] T.lines_at))
-      ∙ ap (dealt_by a (get_or rows i []))
+  deals : (i a : ℕ) (T : Thread i a) → dealt_by T.lines T.box.taken ≡ dealt_at rows drawn (Some i)
+  deals i a T = ap (λ (ls : List (Sent Item)). dealt_by ls T.box.taken) (sym (get_or_from_slice_get rows i T.lines [] T.lines_at))
+      ∙ ap (dealt_by (get_or rows i []))
       (sym (get_or_from_slice_get (map (λ (d : Drawn). d.taken) drawn) i T.box.taken []
       (mapped_at (λ (d : Drawn). d.taken) drawn i T.box T.box_at)))
 
   -- its log and its table tell of it
-  tells : (i a : ℕ) (T : Thread i a) → Tells o (logs a) (table_at o seen a (Some i)) (dealt_at rows drawn a (Some i))
-  tells i a T = told log table (ap (λ (n : ℕ). dealt_by n T.lines T.box.taken) T.name ∙ deals i a T)
+  tells : (i a : ℕ) (T : Thread i a) → Tells o (logs a) (table_at o seen a (Some i)) (dealt_at rows drawn (Some i))
+  tells i a T = told log table (deals i a T)
       (T.returns.tells o T.opens.of T.opens.node (inside i a T))
     where
       there : slice_get seen i ≡ Some (seen_end contents T.end)
@@ -247,7 +247,7 @@ module _ {N M : Type 0} (contents : N → Table) (cluster lone : List ℕ) (ws :
   tell : (a : ℕ) → in_world o a ≡ true → Tells o (logs a) (tables a) (dealt a)
   tell a known =
       let p : (i : ℕ) × (place a row ≡ Some i) = placed a known in
-      subst (λ (q : Option ℕ). Tells o (logs a) (table_at o seen a q) (dealt_at rows drawn a q)) (sym p.1)
+      subst (λ (q : Option ℕ). Tells o (logs a) (table_at o seen a q) (dealt_at rows drawn q)) (sym p.1)
       (tells p.0 a (thread p.0 a (place_here row a p.0 p.1)))
 
   all_tell : AllTell o logs tables dealt
@@ -260,10 +260,10 @@ module _ {N M : Type 0} (contents : N → Table) (cluster lone : List ℕ) (ws :
 
   -- what one took from another begins what that put on its way
   pair : (i f j t : ℕ) (F : Thread i f) (T : Thread j t)
-      → Begins (took (dealt_at rows drawn t (Some j)) f) (put (dealt_at rows drawn f (Some i)) t)
+      → Begins (took (dealt_at rows drawn (Some j)) f) (put (dealt_at rows drawn (Some i)) t)
   pair i f j t F T =
-      subst (λ (d : Dealt). Begins (took d f) (put (dealt_at rows drawn f (Some i)) t)) (deals j t T)
-      (subst (λ (d : Dealt). Begins (took (dealt_by t T.lines T.box.taken) f) (put d t)) (deals i f F)
+      subst (λ (d : Dealt). Begins (took d f) (put (dealt_at rows drawn (Some i)) t)) (deals j t T)
+      (subst (λ (d : Dealt). Begins (took (dealt_by T.lines T.box.taken) f) (put d t)) (deals i f F)
       (begins row once f t i j F.here T.here F.lines T.lines (leads i f F) (leads j t T) line.0 line.1
       (ap (λ (l : Sent Item). l.number) line.2) T.box.taken both))
     where
@@ -289,8 +289,8 @@ module _ {N M : Type 0} (contents : N → Table) (cluster lone : List ℕ) (ws :
   pairs f t f_known t_known =
       let p : (i : ℕ) × (place f row ≡ Some i) = placed f f_known in
       let q : (j : ℕ) × (place t row ≡ Some j) = placed t t_known in
-      subst (λ (x : Option ℕ). Begins (took (dealt t) f) (put (dealt_at rows drawn f x) t)) (sym p.1)
-      (subst (λ (y : Option ℕ). Begins (took (dealt_at rows drawn t y) f) (put (dealt_at rows drawn f (Some p.0)) t)) (sym q.1)
+      subst (λ (x : Option ℕ). Begins (took (dealt t) f) (put (dealt_at rows drawn x) t)) (sym p.1)
+      (subst (λ (y : Option ℕ). Begins (took (dealt_at rows drawn y) f) (put (dealt_at rows drawn (Some p.0)) t)) (sym q.1)
       (pair p.0 f q.0 t (thread p.0 f (place_here row f p.0 p.1)) (thread q.0 t (place_here row t q.0 q.1))))
 
   -- the table of each end is that of its node

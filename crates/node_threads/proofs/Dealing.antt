@@ -17,7 +17,7 @@ use Rattle.node_loop.specs.Dealings.{with_sent, with_taken, nothing_dealt, Deals
 use Rattle.node_seats.specs.Lines.{Sent, with_parcel, with_parcel_to}
 use Rattle.replay.proofs.Listed.{is_some-place}
 use Rattle.node_threads.specs.declared.ruled_end.Traffic.{Traffic}
-use Rattle.node_threads.specs.Givers.{receivers, node_under, given_by}
+use Rattle.node_threads.specs.Givers.{receivers, node_under}
 use Rattle.node_threads.specs.Traffics.{Posts, Takes}
 use Rattle.node_threads.specs.Wires.{unused}
 use Rattle.node_threads.specs.Ends.{are_inside, leads_inside, fixed}
@@ -66,7 +66,7 @@ module _ (to : ℕ) (i : Item) where
 -- a sending is behind the others to its node
 sends_one : (s : Traffic) (to : ℕ) (i : Item) (t : Traffic) → Posts s to i t → dealt_of t ≡ with_sent to i (dealt_of s)
 sends_one s to i t h = ap dealt_of h.1
-    ∙ ap (λ (f : ℕ → List Item). record { sent = f; taken = λ x. taken_from x s.taken }) (fun_ext (sent_more to i s.lines known))
+    ∙ ap (λ (f : ℕ → List Item). record { sent = f; taken = λ x. taken_from x s.letters }) (fun_ext (sent_more to i s.lines known))
   where
     known : set_of (receivers s.lines) to ≡ true
     known = sym (ap is_some (place_mapped (λ (l : Sent Item). l.receiver) to s.lines) ∙ is_some-place (receivers s.lines) to) ∙ h.0
@@ -79,8 +79,9 @@ taken_more from i pairs x = flat_map-append (λ y. if x == y.0 then y.1 ∷ [] e
     refl (λ y ne. append-nil (taken_from y pairs)) x
 
 takes_one : (s : Traffic) (from : ℕ) (i : Item) (t : Traffic) → Takes s from i t → dealt_of t ≡ with_taken from i (dealt_of s)
-takes_one s from i t h = ap dealt_of h.2
-    ∙ ap (λ (f : ℕ → List Item). record { sent = λ x. sent_to x s.lines; taken = f }) (fun_ext (taken_more from i s.taken))
+takes_one s from (Letter l) t h = ap dealt_of h.1.2
+    ∙ ap (λ (f : ℕ → List Item). record { sent = λ x. sent_to x s.lines; taken = f }) (fun_ext (taken_more from (Letter l) s.letters))
+takes_one s from (Task k) t h = ap dealt_of h.2.1
 
 -- who has a number is one of the nodes
 under_known : (number : ℕ) (nodes : List ℕ) (from : ℕ) → node_under number nodes ≡ Some from → set_of nodes from ≡ true
@@ -101,13 +102,18 @@ each_of p (n ∷ ns) all c known = at (cases_eq n c) (λ k. each_of p ns (both (
     at (inr ne) rest = rest (ap (λ (b : Bool). b || set_of ns c) (sym (ne_eqb n c ne)) ∙ known)
 
 module _ (o : Opening) where
-  -- an item is from the node itself, or from one of the others
-  given_inside : (node : ℕ) (nodes : List ℕ) → are_inside o node nodes ≡ true → (number : ℕ) (i : Item) (from : ℕ)
-      → given_by node nodes number i ≡ Some from → in_world o from ≡ true
-  given_inside node nodes here number (Letter l) from e =
-      each_of (in_world o) nodes (both (in_world o node) (list_all (in_world o) nodes) here).1 from (under_known number nodes from e)
-  given_inside node nodes here number (Task t) from e =
-      ap (in_world o) (sym (cc e)) ∙ (both (in_world o node) (list_all (in_world o) nodes) here).0
+  -- a letter is from one of the nodes, and a task from the node itself; the lines lead where they led
+  gives : (s : Traffic) (from : ℕ) (i : Item) (t : Traffic) → leads_inside o s ≡ true → Takes s from i t
+      → (leads_inside o t ≡ true) × (in_world o from ≡ true)
+  gives s from (Letter l) t here h = (
+    ap (leads_inside o) h.1.2 ∙ here,
+    each_of (in_world o) (receivers s.lines) (both (in_world o s.node) (list_all (in_world o) (receivers s.lines)) here).1 from
+        (under_known h.1.0 (receivers s.lines) from h.1.1),
+  )
+  gives s from (Task k) t here h = (
+    ap (leads_inside o) h.2.1 ∙ here,
+    ap (in_world o) h.0 ∙ (both (in_world o s.node) (list_all (in_world o) (receivers s.lines)) here).0,
+  )
 
   -- the end of a node deals as its lines and its inbox say
   pub deals : Deals Posts Takes o (leads_inside o) dealt_of
@@ -117,8 +123,8 @@ module _ (o : Opening) where
       sends_one s to i t h,
     );
     gives = λ s from i t here h. (
-      ap (leads_inside o) h.2 ∙ here,
-      given_inside s.node (receivers s.lines) here h.0 i from h.1,
+      (gives s from i t here h).0,
+      (gives s from i t here h).1,
       takes_one s from i t h,
     );
   }
@@ -126,10 +132,11 @@ module _ (o : Opening) where
 -- what is fixed stays so
 pub fixed_by_post : (s : Traffic) (to : ℕ) (i : Item) (t : Traffic) → Posts s to i t → fixed t ≡ fixed s
 fixed_by_post s to i t h = ap fixed h.1
-    ∙ ap (λ (ls : List (Sent Item)). record { node = s.node; first = s.first; lines = ls; taken = [] }) (unused_kept to i s.lines)
+    ∙ ap (λ (ls : List (Sent Item)). record { node = s.node; first = s.first; lines = ls; letters = []; tasks = []; waiting = [] }) (unused_kept to i s.lines)
 
 pub fixed_by_taking : (s : Traffic) (from : ℕ) (i : Item) (t : Traffic) → Takes s from i t → fixed t ≡ fixed s
-fixed_by_taking s from i t h = ap fixed h.2
+fixed_by_taking s from (Letter l) t h = ap fixed h.1.2
+fixed_by_taking s from (Task k) t h = ap fixed h.2.1
 
 -- on lines on which nothing was put nothing was sent
 nothing_sent : (to : ℕ) (lines : List (Sent Item)) → sent_to to (map unused lines) ≡ []
@@ -140,6 +147,6 @@ nothing_sent to (line ∷ lines) = go (line.receiver == to) (nothing_sent to lin
     go true rest = refl
     go false rest = rest
 
-pub deals_nothing : (node : ℕ) (lines : List (Sent Item)) → map unused lines ≡ lines → dealt_by node lines [] ≡ nothing_dealt
-deals_nothing node lines new = ap (λ (f : ℕ → List Item). record { sent = f; taken = λ x. [] })
+pub deals_nothing : (lines : List (Sent Item)) → map unused lines ≡ lines → dealt_by lines [] ≡ nothing_dealt
+deals_nothing lines new = ap (λ (f : ℕ → List Item). record { sent = f; taken = λ x. [] })
     (fun_ext (λ to. ap (sent_to to) (sym new) ∙ nothing_sent to lines))

@@ -1,38 +1,85 @@
--- What is found in an inbox.
-use Rattle.std.proofs.Common.{ℕ, ◌≡◌, Option, Some, None, List, [], ◌∷◌, ◌++◌, ap, subst, ◌∙◌, append-nil}
+-- What looks into an inbox find.
+use Rattle.std.proofs.Common.{ℕ, ◌≡◌, Option, Some, None, List, [], ◌∷◌, ◌++◌, sym, ap, subst, ◌∙◌, append-nil}
 use Rattle.std.proofs.lemmas.Grind.{flat_map-append}
 use Rattle.node_loop.specs.declared.item.Item.{Item}
+use Rattle.node_loop.specs.declared.item.Item.TheVariants.{Letter, Task as TaskItem}
+use Rattle.node_loop.specs.declared.item.Stamped.{Stamped}
+use Rattle.node_loop.specs.declared.item.Task.{Task}
 use Rattle.node_seats.specs.declared.parcel.Parcel.{Parcel}
 use Rattle.link.specs.declared.mailbox.Mailbox.{Mailbox}
 use Rattle.node_seats.specs.Lines.{Sent}
+use Rattle.node_threads.specs.declared.ruled_end.Found.TheVariants.{Heard, Other}
 use Rattle.node_threads.specs.declared.ruled_end.Traffic.{Traffic}
-use Rattle.node_threads.specs.Givers.{receivers, giver_of, given, found_in}
-use Rattle.node_threads.specs.Traffics.{Takes}
+use Rattle.node_threads.specs.Givers.{receivers, node_under, letter_by, letters_of, task_in, tasks_of}
+use Rattle.node_threads.specs.Traffics.{Looks}
 
--- a parcel more
-module _ (node : ℕ) (nodes : List ℕ) (ps : List (Parcel Item)) (p : Parcel Item) where
-  one_more : (from : Option ℕ) → giver_of node nodes p ≡ from
-      → found_in node nodes (ps ++ p ∷ []) ≡ found_in node nodes ps ++ given from p.item
-  one_more from e = flat_map-append (λ q. given (giver_of node nodes q) q.item) ps (p ∷ [])
-      ∙ ap (λ (l : List (ℕ × Item)). found_in node nodes ps ++ l)
-      (append-nil (given (giver_of node nodes p) p.item) ∙ ap (λ (f : Option ℕ). given f p.item) e)
+-- an end, by what came off its inbox
+abbrev pub end_at : ℕ → Mailbox (Parcel Item) → List (Sent Item) → List (Parcel Item) → List Task → Traffic
+end_at node first lines ps waiting = record {
+  node = node;
+  first = first;
+  lines = lines;
+  letters = letters_of (receivers lines) ps;
+  tasks = tasks_of ps;
+  waiting = waiting;
+}
 
-  pub found_more : (from : ℕ) → giver_of node nodes p ≡ Some from
-      → found_in node nodes (ps ++ p ∷ []) ≡ found_in node nodes ps ++ (from, p.item) ∷ []
-  found_more from e = one_more (Some from) e
+-- a parcel more came off it
+module _ (node : ℕ) (first : Mailbox (Parcel Item)) (lines : List (Sent Item)) (ps more : List (Parcel Item)) (waiting now : List Task) (s : Traffic) (is : end_at node first lines ps waiting ≡ s) (p : Parcel Item) (grown : more ≡ ps ++ p ∷ []) where
+  letters_more : letters_of (receivers lines) more ≡ letters_of (receivers lines) ps ++ letter_by p.item (node_under p.number (receivers lines))
+  letters_more = ap (letters_of (receivers lines)) grown
+      ∙ flat_map-append (λ q. letter_by q.item (node_under q.number (receivers lines))) ps (p ∷ [])
+      ∙ ap (λ (l : List (ℕ × Item)). letters_of (receivers lines) ps ++ l) (append-nil (letter_by p.item (node_under p.number (receivers lines))))
 
-  pub found_none : giver_of node nodes p ≡ None → found_in node nodes (ps ++ p ∷ []) ≡ found_in node nodes ps
-  found_none e = one_more None e ∙ append-nil (found_in node nodes ps)
+  tasks_more : tasks_of more ≡ tasks_of ps ++ task_in p.item
+  tasks_more = ap tasks_of grown ∙ flat_map-append (λ q. task_in q.item) ps (p ∷ []) ∙ ap (λ (l : List Task). tasks_of ps ++ l) (append-nil (task_in p.item))
 
--- an end takes what is found
-pub takes_found : (node : ℕ) (first : Mailbox (Parcel Item)) (lines : List (Sent Item)) (ps more : List (Parcel Item)) (p : Parcel Item) (from : ℕ) (s : Traffic)
-    → record { node = node; first = first; lines = lines; taken = found_in node (receivers lines) ps } ≡ s
-    → giver_of node (receivers lines) p ≡ Some from → more ≡ ps ++ p ∷ []
-    → Takes s from p.item (record { node = node; first = first; lines = lines; taken = found_in node (receivers lines) more })
-takes_found node first lines ps more p from s is e grown =
-    subst (λ (x : Traffic). Takes x from p.item (record { node = node; first = first; lines = lines; taken = found_in node (receivers lines) more })) is (
+  pub looks_task : (k : Task) → p.item ≡ TaskItem k → now ≡ waiting ++ k ∷ [] → Looks Other s (end_at node first lines more now)
+  looks_task k e held = subst (λ (x : Traffic). Looks Other x (end_at node first lines more now)) is (
+    k ∷ [],
+    λ j. record {
+      node = node;
+      first = first;
+      lines = lines;
+      letters = (letters_more ∙ ap (λ (i : Item). letters_of (receivers lines) ps ++ letter_by i (node_under p.number (receivers lines))) e
+          ∙ append-nil (letters_of (receivers lines) ps)) j;
+      tasks = (tasks_more ∙ ap (λ (i : Item). tasks_of ps ++ task_in i) e) j;
+      waiting = held j;
+    },
+  )
+
+  -- a letter that a node sent, or nobody that is one
+  module _ (l : Stamped) (e : p.item ≡ Letter l) (held : now ≡ waiting) where
+    by_line : (from : Option ℕ) → node_under p.number (receivers lines) ≡ from
+        → letters_of (receivers lines) more ≡ letters_of (receivers lines) ps ++ letter_by (Letter l) from
+    by_line from under = letters_more ∙ λ j. letters_of (receivers lines) ps ++ letter_by (e j) (under j)
+
+    no_task : tasks_of more ≡ tasks_of ps ++ []
+    no_task = tasks_more ∙ ap (λ (i : Item). tasks_of ps ++ task_in i) e
+
+    pub looks_letter : (from : ℕ) → node_under p.number (receivers lines) ≡ Some from → Looks (Heard from l) s (end_at node first lines more now)
+    looks_letter from under = subst (λ (x : Traffic). Looks (Heard from l) x (end_at node first lines more now)) is (
       p.number,
-      e,
-      ap (λ (ts : List (ℕ × Item)). record { node = node; first = first; lines = lines; taken = ts })
-          (ap (found_in node (receivers lines)) grown ∙ found_more node (receivers lines) ps p from e),
+      under,
+      λ j. record {
+        node = node;
+        first = first;
+        lines = lines;
+        letters = by_line (Some from) under j;
+        tasks = (no_task ∙ append-nil (tasks_of ps)) j;
+        waiting = held j;
+      },
+    )
+
+    pub looks_stranger : node_under p.number (receivers lines) ≡ None → Looks Other s (end_at node first lines more now)
+    looks_stranger under = subst (λ (x : Traffic). Looks Other x (end_at node first lines more now)) is (
+      [],
+      λ j. record {
+        node = node;
+        first = first;
+        lines = lines;
+        letters = (by_line None under ∙ append-nil (letters_of (receivers lines) ps)) j;
+        tasks = no_task j;
+        waiting = (held ∙ sym (append-nil waiting)) j;
+      },
     )

@@ -17,7 +17,7 @@ use Rattle.node_loop.specs.Dealings.{letter_in, letters_in}
 use Rattle.node_seats.specs.declared.parcel.Parcel.{Parcel}
 use Rattle.node_seats.specs.Lines.{Sent}
 use Rattle.replay.proofs.Merging.{alone}
-use Rattle.node_threads.specs.Givers.{receivers, node_under, given_by, giver_of, given, found_in}
+use Rattle.node_threads.specs.Givers.{receivers, node_under, letter_by, letters_of}
 use Rattle.node_threads.specs.Dealings.{put_on, sent_to, taken_from}
 
 -- what a map has at a place
@@ -39,8 +39,8 @@ items ps = map (λ p. p.item) ps
 abbrev under : ℕ → List (Parcel Item) → List (Parcel Item)
 under n ps = of (λ p. p.number) n ps
 
--- node f has one place in the row, and node t takes from it
-module _ (row : List ℕ) (once : repeats row ≡ false) (t f i : ℕ) (here : slice_get row i ≡ Some f) where
+-- node f has one place in the row
+module _ (row : List ℕ) (once : repeats row ≡ false) (f i : ℕ) (here : slice_get row i ≡ Some f) where
   -- the number above its place is its own
   own_number : (n : ℕ) → n ≡ i + 1 → node_under n row ≡ Some f
   own_number n e = ap (λ (b : Bool). if b then None else slice_get row (n - 1)) (ne_eqb n 0 (λ z. omega arith))
@@ -58,40 +58,38 @@ module _ (row : List ℕ) (once : repeats row ≡ false) (t f i : ℕ) (here : s
       at false e found =
           omega (arith, eqb-false n 0 e, alone row (n - 1) i f once (found ∙ ap (λ (c : ℕ). Some c) (sym same)) here)
 
-  -- an item is taken from the node with the letter that it is, where it came under the node's number; a task has none
-  item_taken : (n : ℕ) (x : Item) → letters_in (taken_from f (given (given_by t row n x) x)) ≡ (if n == i + 1 then letter_in x else [])
-  item_taken n (Task k) = task (f == t) (n == i + 1)
+  -- the letter that an item is was taken from the node, where it came under the node's number; a task has none
+  item_taken : (n : ℕ) (x : Item) → letters_in (taken_from f (letter_by x (node_under n row))) ≡ (if n == i + 1 then letter_in x else [])
+  item_taken n (Task k) = none (n == i + 1)
     where
-      task : (b c : Bool) → letters_in ((if b then Task k ∷ [] else []) ++ []) ≡ (if c then letter_in (Task k) else [])
-      task true true = refl
-      task true false = refl
-      task false true = refl
-      task false false = refl
+      none : (c : Bool) → letters_in [] ≡ (if c then letter_in (Task k) else [])
+      none true = refl
+      none false = refl
   item_taken n (Letter l) = letter (n == i + 1) refl
     where
-      other : (g : Option ℕ) → node_under n row ≡ g → (n ≡ i + 1 → ⊥) → letters_in (taken_from f (given g (Letter l))) ≡ []
+      other : (g : Option ℕ) → node_under n row ≡ g → (n ≡ i + 1 → ⊥) → letters_in (taken_from f (letter_by (Letter l) g)) ≡ []
       other None is ne = refl
       other (Some g) is ne = ap (λ (b : Bool). letters_in ((if b then Letter l ∷ [] else []) ++ []))
           (ne_eqb f g (λ same. ne (only_number n g is same)))
 
       letter : (c : Bool) → (n == i + 1) ≡ c
-          → letters_in (taken_from f (given (node_under n row) (Letter l))) ≡ (if c then letter_in (Letter l) else [])
-      letter true e = ap (λ (g : Option ℕ). letters_in (taken_from f (given g (Letter l)))) (own_number n (eqb-true n (i + 1) e))
+          → letters_in (taken_from f (letter_by (Letter l) (node_under n row))) ≡ (if c then letter_in (Letter l) else [])
+      letter true e = ap (λ (g : Option ℕ). letters_in (taken_from f (letter_by (Letter l) g))) (own_number n (eqb-true n (i + 1) e))
           ∙ ap (λ (b : Bool). letters_in ((if b then Letter l ∷ [] else []) ++ [])) (eq-eqb f f refl)
       letter false e = other (node_under n row) refl (eqb-false n (i + 1) e)
 
   -- so the letters that were taken from the node are those of the parcels under its number
-  letters_taken : (ps : List (Parcel Item)) → letters_in (taken_from f (found_in t row ps)) ≡ letters_in (items (under (i + 1) ps))
+  letters_taken : (ps : List (Parcel Item)) → letters_in (taken_from f (letters_of row ps)) ≡ letters_in (items (under (i + 1) ps))
   letters_taken [] = refl
   letters_taken (p ∷ ps) =
-      ap letters_in (flat_map-append (λ (x : ℕ × Item). if f == x.0 then x.1 ∷ [] else []) first (found_in t row ps))
-      ∙ flat_map-append letter_in (taken_from f first) (taken_from f (found_in t row ps))
-      ∙ ap (λ (ls : List StampedLetter). ls ++ letters_in (taken_from f (found_in t row ps))) (item_taken p.number p.item)
+      ap letters_in (flat_map-append (λ (x : ℕ × Item). if f == x.0 then x.1 ∷ [] else []) first (letters_of row ps))
+      ∙ flat_map-append letter_in (taken_from f first) (taken_from f (letters_of row ps))
+      ∙ ap (λ (ls : List StampedLetter). ls ++ letters_in (taken_from f (letters_of row ps))) (item_taken p.number p.item)
       ∙ ap (λ (ls : List StampedLetter). (if p.number == i + 1 then letter_in p.item else []) ++ ls) (letters_taken ps)
       ∙ chosen (p.number == i + 1)
     where
       first : List (ℕ × Item)
-      first = given (giver_of t row p) p.item
+      first = letter_by p.item (node_under p.number row)
 
       chosen : (b : Bool) → (if b then letter_in p.item else []) ++ letters_in (items (under (i + 1) ps))
           ≡ letters_in (items (if b then p ∷ under (i + 1) ps else under (i + 1) ps))
@@ -128,13 +126,13 @@ module _ (row : List ℕ) (once : repeats row ≡ false) (f t i j : ℕ) (f_here
       to = sym (mapped_at (λ (l : Sent Item). l.receiver) lines j line here)
           ∙ (ap (λ (ns : List ℕ). slice_get ns j) leads ∙ t_here)
 
-  taken : letters_in (taken_from f (found_in t (receivers own) ps)) ≡ letters_in (items (under line.number ps))
-  taken = ap (λ (ns : List ℕ). letters_in (taken_from f (found_in t ns ps))) others
-      ∙ letters_taken row once t f i f_here ps
+  taken : letters_in (taken_from f (letters_of (receivers own) ps)) ≡ letters_in (items (under line.number ps))
+  taken = ap (λ (ns : List ℕ). letters_in (taken_from f (letters_of ns ps))) others
+      ∙ letters_taken row once f i f_here ps
       ∙ ap (λ (n : ℕ). letters_in (items (under n ps))) (sym number)
 
   pub begins : Begins (under line.number ps) line.parcels
-      → Begins (letters_in (taken_from f (found_in t (receivers own) ps))) (letters_in (sent_to t lines))
+      → Begins (letters_in (taken_from f (letters_of (receivers own) ps))) (letters_in (sent_to t lines))
   begins b = (
     letters_in (items b.0),
     ap letters_in sent

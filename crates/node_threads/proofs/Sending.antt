@@ -7,12 +7,14 @@ use Rattle.link.specs.declared.faults.Unsent.{Unsent}
 use Rattle.link.specs.declared.faults.LinkFault.TheVariants.{Full}
 use Rattle.link.specs.declared.mailbox.Mailbox.{Mailbox}
 use Rattle.node_loop.specs.declared.item.Item.{Item}
+use Rattle.node_loop.specs.declared.item.Task.{Task}
 use Rattle.node_seats.specs.declared.parcel.Parcel.{Parcel}
 use Rattle.node_seats.specs.Lines.{Sent, place, with_parcel, with_parcel_to}
 use Rattle.node_threads.specs.declared.ruled_end.Traffic.{Traffic}
-use Rattle.node_threads.specs.Givers.{receivers, found_in}
+use Rattle.node_threads.specs.Givers.{receivers, letters_of, tasks_of}
 use Rattle.node_threads.specs.Traffics.{Posts, Refuses}
 use Rattle.node_threads.proofs.Lines.{receivers_kept}
+use Rattle.node_threads.proofs.Givers.{end_at}
 
 -- the first line to a node is written with an item more
 written : (to : ℕ) (item : Item) (lines : List (Sent Item)) (k : ℕ) (line : Sent Item) → line ≡ get_or lines k line → k < length lines
@@ -29,15 +31,25 @@ written to item (x ∷ xs) (suc k) line read lt leads before =
     ∙ sym (ap (λ (b : Bool). if b then with_parcel item x ∷ xs else x ∷ with_parcel_to to item xs) (before 0 (omega arith)))
 
 -- the line at the place of a node, which is written back behind it
-module _ (node to : ℕ) (first : Mailbox (Parcel Item)) (lines : List (Sent Item)) (parcels : List (Parcel Item)) (item : Item) (k : ℕ) (line new : Sent Item) (found : place to lines ≡ Some k) (read : line ≡ get_or lines k line) where
+module _ (node to : ℕ) (first : Mailbox (Parcel Item)) (lines : List (Sent Item)) (parcels : List (Parcel Item)) (waiting : List Task) (item : Item) (k : ℕ) (line new : Sent Item) (found : place to lines ≡ Some k) (read : line ≡ get_or lines k line) where
   abbrev with : List (Sent Item) → Traffic
-  with ls = record { node = node; first = first; lines = ls; taken = found_in node (receivers ls) parcels }
+  with ls = end_at node first ls parcels waiting
 
   there : (k < length lines) × ((get_or lines k line).receiver == to ≡ true) × ((n : ℕ) → n < k → ((get_or lines n line).receiver == to) ≡ false)
   there = position-Some (λ l. l.receiver == to) lines k line found
 
   posts : new ≡ with_parcel item line → Posts (with lines) to item (with (set lines k new))
-  posts is = (ap is_some found, λ j. record { node = node; first = first; lines = more j; taken = found_in node (kept j) parcels })
+  posts is = (
+    ap is_some found,
+    λ j. record {
+      node = node;
+      first = first;
+      lines = more j;
+      letters = letters_of (kept j) parcels;
+      tasks = tasks_of parcels;
+      waiting = waiting;
+    },
+  )
     where
       more : set lines k new ≡ with_parcel_to to item lines
       more = ap (set lines k) is

@@ -1,5 +1,5 @@
 -- A node's loop over its end stays sound, turn by turn, and its thread gives back what tells of it.
-use Rattle.std.proofs.Common.{ℕ, true, false, ◌≡◌, inl, inr, List, [], map, Ok, Err, is_ok, sym, ap, subst, ◌∙◌}
+use Rattle.std.proofs.Common.{true, false, ◌≡◌, inl, inr, List, [], map, Ok, Err, is_ok, sym, ap, subst, ◌∙◌}
 use Rattle.registry_model.specs.Table.{Table}
 use Rattle.protocol_model.specs.World.{Opening}
 use Rattle.link.specs.declared.mailbox.Mailbox.{Mailbox}
@@ -15,7 +15,7 @@ use Rattle.node_seats.specs.declared.parcel.Parcel.{Parcel}
 use Rattle.node_seats.specs.Lines.{Sent}
 use Rattle.node_threads.specs.declared.ruled_end.Traffic.{Traffic}
 use Rattle.node_threads.specs.declared.running.Ended.{Ended}
-use Rattle.node_threads.specs.Givers.{receivers, found_in}
+use Rattle.node_threads.specs.Givers.{receivers, letters_of, tasks_of}
 use Rattle.node_threads.specs.Wires.{unused}
 use Rattle.node_threads.specs.Ends.{are_inside, leads_inside, fixed}
 use Rattle.node_threads.specs.Dealings.{sent_to, taken_from, dealt_of, dealt_by}
@@ -58,10 +58,17 @@ ends_behind a s b t c u stays ends o here = ends o (stays o here)
 
 -- What a thread gives back: it began with the loop a and an end that stood as s, and behind its last turn they were b and t
 module _ {N M : Type 0} (contents : N → Table) (a : Looping) (lines : List (Sent Item)) (mailbox : Mailbox (Parcel Item)) (s : Traffic) (b : Looping) (t : Traffic) (e : Ended N M)
-    (first : s ≡ record { node = a.log.node; first = mailbox; lines = lines; taken = found_in a.log.node (receivers lines) (taken mailbox) })
+    (first : s ≡ record {
+      node = a.log.node;
+      first = mailbox;
+      lines = lines;
+      letters = letters_of (receivers lines) (taken mailbox);
+      tasks = tasks_of (taken mailbox);
+      waiting = [];
+    })
     (came : IsLoopOf a.log.node b) (node : b.log.node ≡ a.log.node) (sound : LastsSound a s b t) (same : fixed t ≡ fixed s)
     (log : written e.end.log ≡ b.log) (table : contents e.end.table ≡ b.core.table) (left : b.left ≡ true → e.end.ended_alone ≡ false) (leaves : LeavesSound b (written e.end.log) (contents e.end.table))
-    (row : e.lines.items ≡ t.lines) (took : found_in t.node (receivers t.lines) (taken e.mailbox) ≡ t.taken) (room : mailbox_room e.mailbox ≡ mailbox_room t.first) where
+    (row : e.lines.items ≡ t.lines) (took : letters_of (receivers t.lines) (taken e.mailbox) ≡ t.letters) (room : mailbox_room e.mailbox ≡ mailbox_room t.first) where
   t_node : t.node ≡ a.log.node
   t_node = ap (λ (x : Traffic). x.node) same ∙ ap (λ (x : Traffic). x.node) first
 
@@ -75,11 +82,10 @@ module _ {N M : Type 0} (contents : N → Table) (a : Looping) (lines : List (Se
   t_row : receivers t.lines ≡ receivers lines
   t_row = sym (receivers_unused t.lines) ∙ ap receivers t_lines ∙ receivers_unused lines
 
-  dealt : dealt_of t ≡ dealt_by a.log.node e.lines.items (taken e.mailbox)
+  dealt : dealt_of t ≡ dealt_by e.lines.items (taken e.mailbox)
   dealt = λ j. record {
     sent = λ x. sent_to x (sym row j);
-    taken = λ f. taken_from f ((sym took ∙ ap (λ (n : ℕ). found_in n (receivers t.lines) (taken e.mailbox)) t_node
-        ∙ ap (λ (ls : List (Sent Item)). found_in a.log.node (receivers ls) (taken e.mailbox)) (sym row)) j);
+    taken = λ f. taken_from f ((sym took ∙ ap (λ (ls : List (Sent Item)). letters_of (receivers ls) (taken e.mailbox)) (sym row)) j);
   }
 
   pub gives_back : IsEndOf contents a lines mailbox e
@@ -98,7 +104,7 @@ module _ {N M : Type 0} (contents : N → Table) (a : Looping) (lines : List (Se
         (leaves o (dealt_of t) (sound o (here o inside begun)));
   }
     where
-      here : (o : Opening) → are_inside o a.log.node (receivers lines) ≡ true → IsSound o a (dealt_by a.log.node lines (taken mailbox))
+      here : (o : Opening) → are_inside o a.log.node (receivers lines) ≡ true → IsSound o a (dealt_by lines (taken mailbox))
           → IsSoundAt o a s
       here o inside begun = (
         ap (leads_inside o) first ∙ inside,

@@ -5,7 +5,7 @@ use Rattle.term.specs.NodeSets.{set_of}
 use Rattle.node_loop.specs.NodeCoreHeld.{Held, fresh}
 use Rattle.node_loop.specs.Openings.{opening_core}
 use Rattle.node_loop.specs.Coming.{begun}
-use Rattle.shared_table.specs.Publishing.{Progress}
+use Rattle.node_seats.specs.Publishing.{Progress}
 use Rattle.registry_model.specs.Table.{Table}
 use Rattle.link.specs.declared.mailbox.Mailbox.{Mailbox}
 use Rattle.link.specs.Mailboxes.{taken}
@@ -55,8 +55,8 @@ at_start inbox a b lines rows m n p q r S =
 
 -- a node that was at its start gives back what tells of it, in each world in which its core is that of its opening
 module _ {N M : Type 0} (contents : N → Table) (inbox : Inbox) (a : Looping) (lines : List (Sent Item)) (mailbox : Mailbox (Parcel Item)) (S : IsAtStart inbox a lines mailbox) (e : Ended N M) (E : IsEndOf contents a lines mailbox e) where
-  begins_with : dealt_by a.log.node lines (taken mailbox) ≡ dealt_by a.log.node lines []
-  begins_with = ap (dealt_by a.log.node lines) S.empty
+  begins_with : dealt_by lines (taken mailbox) ≡ dealt_by lines []
+  begins_with = ap (dealt_by lines) S.empty
 
   pub returns_so : (w : Wired) (d : Drawn) → record { inbox = inbox; core = a.core; lines = lines } ≡ w
       → d ≡ record { inbox = inbox; taken = taken e.mailbox } → Returns contents w e.end e.lines.items d
@@ -65,9 +65,8 @@ module _ {N M : Type 0} (contents : N → Table) (inbox : Inbox) (a : Looping) (
     kept = E.kept ∙ S.fresh;
     inbox = ap (λ (x : Drawn). x.inbox) drawn;
     tells = λ o of opens inside.
-        subst (λ (p : List (Parcel Item)). Tells o (written e.end.log) (contents e.end.table) (dealt_by inbox.node e.lines.items p))
+        subst (λ (p : List (Parcel Item)). Tells o (written e.end.log) (contents e.end.table) (dealt_by e.lines.items p))
         (sym (ap (λ (x : Drawn). x.taken) drawn))
-        (subst (λ (n : ℕ). Tells o (written e.end.log) (contents e.end.table) (dealt_by n e.lines.items (taken e.mailbox))) S.node
         (E.tells o (ap (λ (n : ℕ). are_inside o n (receivers lines)) S.node ∙ inside)
-        (subst (λ (x : Dealt). IsSound o a x) (sym (begins_with ∙ deals_nothing a.log.node lines S.fresh)) (S.sound o of opens))));
+        (subst (λ (x : Dealt). IsSound o a x) (sym (begins_with ∙ deals_nothing lines S.fresh)) (S.sound o of opens)));
   })

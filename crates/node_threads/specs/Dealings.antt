@@ -6,7 +6,7 @@ use Rattle.node_loop.specs.Dealings.{Dealt}
 use Rattle.node_seats.specs.declared.parcel.Parcel.{Parcel}
 use Rattle.node_seats.specs.Lines.{Sent}
 use Rattle.node_threads.specs.declared.ruled_end.Traffic.{Traffic}
-use Rattle.node_threads.specs.Givers.{receivers, found_in}
+use Rattle.node_threads.specs.Givers.{receivers, letters_of}
 
 -- what was put on a line
 abbrev pub put_on : Sent Item → List Item
@@ -22,11 +22,11 @@ abbrev pub taken_from : ℕ → List (ℕ × Item) → List Item
 taken_from from pairs = flat_map (λ x. if from == x.0 then x.1 ∷ [] else []) pairs
 
 abbrev pub dealt_of : Traffic → Dealt
-dealt_of s = record { sent = λ t. sent_to t s.lines; taken = λ f. taken_from f s.taken }
+dealt_of s = record { sent = λ t. sent_to t s.lines; taken = λ f. taken_from f s.letters }
 
--- the same of this node, with these lines, and an inbox from which these parcels were taken
-abbrev pub dealt_by : ℕ → List (Sent Item) → List (Parcel Item) → Dealt
-dealt_by node lines parcels = record {
+-- the same with these lines, and an inbox off which these parcels came
+abbrev pub dealt_by : List (Sent Item) → List (Parcel Item) → Dealt
+dealt_by lines parcels = record {
   sent = λ t. sent_to t lines;
-  taken = λ f. taken_from f (found_in node (receivers lines) parcels);
+  taken = λ f. taken_from f (letters_of (receivers lines) parcels);
 }

@@ -40,8 +40,8 @@ module _ {N M : Type 0} (contents : N → Table) where
     pub kept : map unused e.lines.items ≡ map unused lines
     pub room : mailbox_room e.mailbox ≡ mailbox_room mailbox
     pub tells : (o : Opening) → are_inside o a.log.node (receivers lines) ≡ true
-        → IsSound o a (dealt_by a.log.node lines (taken mailbox))
-        → Tells o (written e.end.log) (contents e.end.table) (dealt_by a.log.node e.lines.items (taken e.mailbox))
+        → IsSound o a (dealt_by lines (taken mailbox))
+        → Tells o (written e.end.log) (contents e.end.table) (dealt_by e.lines.items (taken e.mailbox))
 
   -- so the thread of a node, which started so
   pub record Returns (w : Wired) (end : NodeEnd N M) (lines : List (Sent Item)) (d : Drawn) : Type 0 where
@@ -50,7 +50,7 @@ module _ {N M : Type 0} (contents : N → Table) where
     pub inbox : d.inbox ≡ w.inbox
     pub tells : (o : Opening) → IsNodeOf o w.core → node_of w.core ≡ opened o w.core
         → are_inside o (name_of w) (receivers w.lines) ≡ true
-        → Tells o (written end.log) (contents end.table) (dealt_by (name_of w) lines d.taken)
+        → Tells o (written end.log) (contents end.table) (dealt_by lines d.taken)
 
   -- so all of these, in their order
   pub record AllReturn (ws : List Wired) (ends : List (NodeEnd N M)) (rows : List (List (Sent Item))) (drawn : List Drawn) : Type 0 where

@@ -16,4 +16,4 @@ leads_inside o s = are_inside o s.node (receivers s.lines)
 
 -- what no step changes: whose end it is, its inbox as it was at first, and its lines as they were before anything was put on them
 abbrev pub fixed : Traffic → Traffic
-fixed s = record s { lines = map unused s.lines; taken = [] }
+fixed s = record s { lines = map unused s.lines; letters = []; tasks = []; waiting = [] }

@@ -1,8 +1,9 @@
--- Who gave what lies in an inbox.
+-- What comes off an inbox.
 use Rattle.std.specs.Prelude.{ℕ, ◌-◌, ◌==◌, Option, Some, None, List, [], ◌∷◌, map, if◌then◌else◌}
 use Rattle.std.specs.List.{flat_map, slice_get}
 use Rattle.node_loop.specs.declared.item.Item.{Item}
-use Rattle.node_loop.specs.declared.item.Item.TheVariants.{Letter, Task}
+use Rattle.node_loop.specs.declared.item.Item.TheVariants.{Letter, Task as TaskItem}
+use Rattle.node_loop.specs.declared.item.Task.{Task}
 use Rattle.node_seats.specs.declared.parcel.Parcel.{Parcel}
 use Rattle.node_seats.specs.Lines.{Sent}
 
@@ -14,19 +15,21 @@ receivers lines = map (λ line. line.receiver) lines
 abbrev pub node_under : ℕ → List ℕ → Option ℕ
 node_under number nodes = if number == 0 then None else slice_get nodes (number - 1)
 
--- the node that an item is from, which came to this node under this number
-abbrev pub given_by : ℕ → List ℕ → ℕ → Item → Option ℕ
-given_by node nodes number (Letter l) = node_under number nodes
-given_by node nodes number (Task t) = Some node
+-- the letter of an item, with the node whose line it came by, if it is one of a node
+abbrev pub letter_by : Item → Option ℕ → List (ℕ × Item)
+letter_by (TaskItem t) from = []
+letter_by (Letter l) None = []
+letter_by (Letter l) (Some from) = (from, Letter l) ∷ []
 
-abbrev pub giver_of : ℕ → List ℕ → Parcel Item → Option ℕ
-giver_of node nodes p = given_by node nodes p.number p.item
+-- the letters of nodes, of all that came off an inbox
+abbrev pub letters_of : List ℕ → List (Parcel Item) → List (ℕ × Item)
+letters_of nodes parcels = flat_map (λ p. letter_by p.item (node_under p.number nodes)) parcels
 
--- an item with the node that it is from, if it is from one
-abbrev pub given : Option ℕ → Item → List (ℕ × Item)
-given None i = []
-given (Some from) i = (from, i) ∷ []
+-- an item is a task, or none
+abbrev pub task_in : Item → List Task
+task_in (Letter l) = []
+task_in (TaskItem t) = t ∷ []
 
--- what is found in an inbox, of all that was taken from it
-abbrev pub found_in : ℕ → List ℕ → List (Parcel Item) → List (ℕ × Item)
-found_in node nodes parcels = flat_map (λ p. given (giver_of node nodes p) p.item) parcels
+-- the tasks, whoever asked for them
+abbrev pub tasks_of : List (Parcel Item) → List Task
+tasks_of parcels = flat_map (λ p. task_in p.item) parcels

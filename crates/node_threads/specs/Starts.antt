@@ -6,7 +6,7 @@ use Rattle.node_loop.specs.declared.item.Item.{Item}
 use Rattle.node_loop.specs.Held.{Looping}
 use Rattle.node_loop.specs.Coming.{IsLoopOf}
 use Rattle.node_loop.specs.Owing.{Owes}
-use Rattle.shared_table.specs.Publishing.{Progress, next_edition}
+use Rattle.node_seats.specs.Publishing.{Progress, next_edition}
 use Rattle.node_loop.specs.Sound.{BeginsSound}
 use Rattle.node_seats.specs.declared.parcel.Parcel.{Parcel}
 use Rattle.node_seats.specs.Lines.{Sent}

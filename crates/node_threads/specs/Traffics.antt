@@ -1,11 +1,16 @@
 -- The steps of a node's end of the lines between threads.
-use Rattle.std.specs.Prelude.{ℕ, Bool, true, false, ◌≡◌, Some, [], ◌∷◌, ◌++◌}
+use Rattle.std.specs.Prelude.{ℕ, Bool, true, false, ◌≡◌, Some, List, [], ◌∷◌, ◌++◌}
 use Rattle.link.specs.declared.faults.LinkFault.{LinkFault}
 use Rattle.link.specs.declared.faults.LinkFault.TheVariants.{NoSuchNode, Full}
 use Rattle.node_loop.specs.declared.item.Item.{Item}
+use Rattle.node_loop.specs.declared.item.Item.TheVariants.{Letter, Task as TaskItem}
+use Rattle.node_loop.specs.declared.item.Stamped.{Stamped}
+use Rattle.node_loop.specs.declared.item.Task.{Task}
 use Rattle.node_seats.specs.Lines.{has, with_parcel_to}
 use Rattle.node_threads.specs.declared.ruled_end.Traffic.{Traffic}
-use Rattle.node_threads.specs.Givers.{receivers, given_by}
+use Rattle.node_threads.specs.declared.ruled_end.Found.{Found}
+use Rattle.node_threads.specs.declared.ruled_end.Found.TheVariants.{Heard, Other, Nothing}
+use Rattle.node_threads.specs.Givers.{receivers, node_under}
 
 -- why an item is handed back: no line leads to the node, or its inbox is full or its thread has ended
 abbrev pub IsUnsent : LinkFault → Bool → Type 0
@@ -21,10 +26,30 @@ Posts s to item t = (has to s.lines ≡ true) × (t ≡ record s { lines = with_
 abbrev pub Refuses : Traffic → ℕ → Item → LinkFault → Type 0
 Refuses s to item fault = IsUnsent fault (has to s.lines)
 
--- this item was taken more, from the node whose number it came under, or from the node itself; nothing else changed
+-- these tasks came off the inbox, and wait behind the others
+abbrev pub with_tasks : List Task → Traffic → Traffic
+with_tasks more s = record s { tasks = s.tasks ++ more; waiting = s.waiting ++ more }
+
+-- this letter came off the inbox, from the node whose number it came under
+abbrev pub Hears : ℕ → Stamped → Traffic → Traffic → Type 0
+Hears from l s t = (number : ℕ) × (node_under number (receivers s.lines) ≡ Some from)
+    × (t ≡ record s { letters = s.letters ++ (from, Letter l) ∷ [] })
+
+-- the task that waited longest does so no more
+abbrev pub Serves : Task → Traffic → Traffic → Type 0
+Serves k s t = (s.waiting ≡ k ∷ t.waiting) × (t ≡ record s { waiting = t.waiting })
+
+-- A letter is taken, or the task that waits longest, which is the node's own. Tasks that stood in the inbox before that wait; nothing else
+-- changed
 abbrev pub Takes : Traffic → ℕ → Item → Traffic → Type 0
-Takes s from item t = (number : ℕ) × (given_by s.node (receivers s.lines) number item ≡ Some from)
-    × (t ≡ record s { taken = s.taken ++ (from, item) ∷ [] })
+Takes s from (Letter l) t = (more : List Task) × Hears from l (with_tasks more s) t
+Takes s from (TaskItem k) t = (from ≡ s.node) × (more : List Task) × Serves k (with_tasks more s) t
+
+-- what one look into the inbox finds: a letter; a task, which waits then, or a letter that is no node's; or nothing
+abbrev pub Looks : Found → Traffic → Traffic → Type 0
+Looks (Heard from l) s t = Hears from l s t
+Looks Other s t = (more : List Task) × (t ≡ with_tasks more s)
+Looks Nothing s t = t ≡ s
 
 -- a taking never fails
 abbrev pub Fails : Traffic → LinkFault → Type 0

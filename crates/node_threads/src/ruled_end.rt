@@ -1,25 +1,34 @@
 //! A node's end of the lines between threads.
 ghost use Rattle.std.specs.Prelude.{◌≡◌};
 ghost use Rattle.node_seats.specs.Lines.{place};
-ghost use Rattle.node_threads.specs.Givers.{receivers, node_under, giver_of};
+ghost use Rattle.node_threads.specs.Givers.{receivers, node_under};
 
-use link::{Inbox, LinkFault, Mailbox, Post, Station, Unsent};
-use node_loop::Item;
+use link::{INBOX_ROOM, Inbox, LinkFault, Mailbox, Post, Station, Unsent};
+use node_loop::{Item, Stamped, Task};
 use node_seats::{Line, Parcel};
-use std::collections::LinkedList;
+use std::alloc::Global;
+use std::collections::{LinkedList, VecDeque};
 use std::marker::Model;
 use std::snapshot::Snapshot;
 use std::sync::Wait;
 use term::NodeName;
 
+/// How many letters are taken in a row while a task waits.
+const MOST_LETTERS: u32 = 64;
+
 /// A node's own inbox, and its lines into the inboxes of all nodes. Of each node there is one, in the order of the numbers that the
-/// lines of the nodes have at an inbox: from 1 on. Contracts see its traffic.
+/// lines of the nodes have at an inbox: from 1 on. Letters come before tasks, up to a number of them, so that the rounds of a node go on
+/// however many ask it for something. Contracts see its traffic.
 #[derive(Drop)]
 pub struct RuledEnd<R: Wait + Drop> {
     rt: R,
     node: NodeName,
     lines: Vec<Line<Item>>,
     mailbox: Mailbox<Parcel<Item>>,
+    /// The tasks that stood before a letter, the oldest first.
+    waiting: VecDeque<Task>,
+    /// How many letters were taken since the last task was.
+    in_a_row: u32,
     /// The inbox as it was at first.
     first: Snapshot<Mailbox<Parcel<Item>>>,
 }
@@ -27,7 +36,7 @@ pub struct RuledEnd<R: Wait + Drop> {
 impl<R: Wait + Drop> Model for RuledEnd<R> {
     ghost use Rattle.std.specs.Prelude.{◌≡◌};
     ghost use Rattle.link.specs.Mailboxes.{taken, mailbox_room};
-    ghost use Rattle.node_threads.specs.Givers.{receivers, found_in};
+    ghost use Rattle.node_threads.specs.Givers.{receivers, letters_of, tasks_of};
     ghost use Rattle.node_threads.specs.declared.ruled_end.Traffic.{Traffic};
 
     ghost Value = { Traffic };
@@ -36,18 +45,35 @@ impl<R: Wait + Drop> Model for RuledEnd<R> {
       node = e.node;
       first = e.first.value;
       lines = e.lines.items;
-      taken = found_in e.node (receivers e.lines.items) (taken e.mailbox);
+      letters = letters_of (receivers e.lines.items) (taken e.mailbox);
+      tasks = tasks_of (taken e.mailbox);
+      waiting = e.waiting.items;
     } };
 
     ghost invariant = { λ e. mailbox_room e.mailbox ≡ mailbox_room e.first.value };
 }
 
-/// What the sends and takings of an end change: its lines, and from whom it took what. No value of it is made.
+/// What the sends and takings of an end change: its lines, what came off its inbox, and which of the tasks among that wait. No value
+/// of it is made.
 pub struct Traffic {
     node: NodeName,
     first: Mailbox<Parcel<Item>>,
     lines: LinkedList<Line<Item>>,
-    taken: LinkedList<(NodeName, Item)>,
+    /// The letters of nodes, each with its sender.
+    letters: LinkedList<(NodeName, Item)>,
+    tasks: LinkedList<Task>,
+    waiting: LinkedList<Task>,
+}
+
+/// What one look into an inbox finds.
+#[derive(Drop)]
+enum Found {
+    /// A letter from this node.
+    Heard(NodeName, Stamped),
+    /// A task, which waits now, or a letter under a number that no node has.
+    Other,
+    /// Nothing, or there is no memory for a task to wait.
+    Nothing,
 }
 
 /// The place of the line to a node.
@@ -69,12 +95,16 @@ fn node_under(lines: &[Line<Item>], number: u64) -> Option<NodeName>
 }
 
 impl<R: Wait + Drop> RuledEnd<R> {
+    ghost use Rattle.std.specs.Prelude.{[], MatchOption, List};
     ghost use Rattle.link.specs.Mailboxes.{taken, mailbox_room};
-    ghost use Rattle.node_threads.specs.Givers.{found_in};
+    ghost use Rattle.node_loop.specs.declared.item.Task.{Task as AnyTask};
+    ghost use Rattle.node_threads.specs.Givers.{letters_of, tasks_of};
+    ghost use Rattle.node_threads.specs.Traffics.{with_tasks, Hears, Serves, Looks};
 
     /// The end of this node.
     pub(crate) fn new(
         rt: R,
+        alloc: Global,
         node: NodeName,
         lines: Vec<Line<Item>>,
         mailbox: Mailbox<Parcel<Item>>,
@@ -83,7 +113,9 @@ impl<R: Wait + Drop> RuledEnd<R> {
           node = node;
           first = mailbox;
           lines = lines.items;
-          taken = found_in node (receivers lines.items) (taken mailbox);
+          letters = letters_of (receivers lines.items) (taken mailbox);
+          tasks = tasks_of (taken mailbox);
+          waiting = [];
         } }
     {
         let first = Snapshot::of(&mailbox);
@@ -92,29 +124,69 @@ impl<R: Wait + Drop> RuledEnd<R> {
             node,
             lines,
             mailbox,
+            waiting: VecDeque::new(alloc),
+            in_a_row: 0,
             first,
         }
     }
 
-    /// Its lines and its inbox.
+    /// Its lines and its inbox. Tasks that wait are dropped.
     pub(crate) fn into_parts(self) -> (Vec<Line<Item>>, Mailbox<Parcel<Item>>)
         ensures lines { result.0.items ≡ self.lines }
-        ensures taken { found_in self.node (receivers self.lines) (taken result.1) ≡ self.taken }
+        ensures letters { letters_of (receivers self.lines) (taken result.1) ≡ self.letters }
         ensures room { mailbox_room result.1 ≡ mailbox_room self.first }
     {
         let RuledEnd { lines, mailbox, .. } = self;
         (lines, mailbox)
     }
 
-    /// From whom a parcel is: a task is the node's own, whoever asked for it. A letter is a node's alone, so a seat sends none in
-    /// the name of a node.
-    fn giver(&self, parcel: &Parcel<Item>) -> Option<NodeName>
-        ensures { result ≡ giver_of self.now.node (receivers self.now.lines) parcel.now }
+    /// Looks what is next in the inbox. There is room for a task to wait before it is taken off.
+    fn look(&mut self) -> Found
+        ensures { Looks result self.old self.new }
     {
-        match parcel.item {
-            Item::Letter(_) => node_under(self.lines.as_slice(), parcel.number),
-            Item::Task(_) => Some(self.node.copy()),
+        if self.waiting.reserve(1).is_err() {
+            return Found::Nothing;
         }
+        let Some(Parcel { number, item }) = self.mailbox.take(&self.rt) else {
+            return Found::Nothing;
+        };
+        match item {
+            Item::Task(task) => {
+                self.waiting.push_back_reserved(task);
+                Found::Other
+            }
+            // A letter is a node's alone, so a seat sends none in the name of a node.
+            Item::Letter(stamped) => match node_under(self.lines.as_slice(), number) {
+                Some(from) => Found::Heard(from, stamped),
+                None => Found::Other,
+            },
+        }
+    }
+
+    /// The oldest letter that is found, unless it is a task's turn; tasks before it wait.
+    fn next_letter(&mut self) -> Option<(NodeName, Stamped)>
+        ensures { (more : List AnyTask) × MatchOption result (self.new ≡ with_tasks more self.old)
+            (λ x. Hears x.0 x.1 (with_tasks more self.old) self.new) }
+    {
+        if !self.waiting.is_empty() && self.in_a_row >= MOST_LETTERS {
+            return None;
+        }
+        for _ in 0..INBOX_ROOM {
+            match self.look() {
+                Found::Heard(from, stamped) => return Some((from, stamped)),
+                Found::Other => {}
+                Found::Nothing => return None,
+            }
+        }
+        None
+    }
+
+    /// The task that waits longest.
+    fn next_task(&mut self) -> Option<Task>
+        ensures { MatchOption result ((self.new ≡ self.old) × (self.old.waiting ≡ [])) (λ task. Serves task self.old self.new) }
+    {
+        self.in_a_row = 0;
+        self.waiting.pop_front()
     }
 }
 
@@ -152,12 +224,12 @@ impl<R: Wait + Drop> Inbox<Item> for RuledEnd<R> {
     ghost fails = { Fails };
 
     fn take(&mut self) -> Result<Option<(NodeName, Item)>, LinkFault> {
-        let Some(parcel) = self.mailbox.take(&self.rt) else {
-            return Ok(None);
-        };
-        // A letter under a number that no node has is passed over.
-        match self.giver(&parcel) {
-            Some(from) => Ok(Some((from, parcel.item))),
+        if let Some((from, stamped)) = self.next_letter() {
+            self.in_a_row = self.in_a_row.saturating_add(1);
+            return Ok(Some((from, Item::Letter(stamped))));
+        }
+        match self.next_task() {
+            Some(task) => Ok(Some((self.node.copy(), Item::Task(task)))),
             None => Ok(None),
         }
     }

@@ -181,7 +181,8 @@ fn run<G: Gate + Drop, N: Names<Memory = Global>, R: Wait + Clock + Drop + Copy>
         mut host,
         publisher,
     } = work;
-    let mut end = RuledEnd::new(*rt, node.node().copy(), lines, mailbox);
+    let alloc = *lines.allocator();
+    let mut end = RuledEnd::new(*rt, alloc, node.node().copy(), lines, mailbox);
     let publisher = turns(rt, &mut node, &mut end, &*gate, &mut host, publisher);
     let (lines, mailbox) = end.into_parts();
     let end = host.end(node);

@@ -11,7 +11,11 @@ mod rule;
 mod shown;
 
 pub use kept::KeptPublisher;
-pub use node_loop::{Edit, Edition, Update};
+pub use node_loop::{
+    Answer, Call, Edit, Edition, Effect, Event, Item, NameList, NodeEnd, NodeLoop, Nodes, Reply,
+    Retries, SeatEntry, StepFault, Task, TaskFault, TaskReply, Ticket, Transcript, Update,
+    WorldEvent,
+};
 pub use publisher::Publisher;
 pub use reader::{Lookup, ReaderFactory, TableReader};
 pub use shown::Shown;

@@ -19,7 +19,7 @@ use term::NodeName;
 /// The writer of a node's table.
 type TableWriter = Writer<Shown, Update, Editions, Published>;
 
-/// Publishes a node's table. It can't be dropped: `close` ends it, or a `KeptPublisher` does. Contracts see the editions that were
+/// Publishes a node's table. It can't be dropped: `close` ends it, or a `KeptPublisher` does. Contracts see the node, the editions that were
 /// published, the updates that wait, and the length of the node's log behind the last of these.
 pub struct Publisher {
     alloc: Global,

@@ -17,9 +17,14 @@ use term::{Name, NodeName, Pid};
 type RuledReader = Reader<Shown, Editions, Published>;
 
 /// Hands out readers of one node's table. Threads may share it.
-#[derive(Drop)]
 pub struct ReaderFactory {
     pub(crate) from: Factory<Shown, Editions, Published>,
+}
+
+impl Drop for ReaderFactory {
+    fn drop(self) {
+        let Self { from: _ } = self;
+    }
 }
 
 /// What comes of a look-up.
@@ -29,7 +34,8 @@ pub enum Lookup {
     Owner(Option<Pid>),
     /// The node has left.
     Left,
-    /// The table is older than what the reader was told of. A publisher that tells only of what it has published never lets it come to that.
+    /// The table is older than what the reader was told of, or another node's. A publisher that tells only of what it has published, and
+    /// readers that are asked of their own node, never let it come to that.
     Behind,
     /// Nothing is published any more.
     Gone,
@@ -37,10 +43,15 @@ pub enum Lookup {
 
 /// One reader of a node's table. Contracts see the editions that it has seen, and the length of the node's log that it was told of or has
 /// read.
-#[derive(Drop)]
 pub struct TableReader {
     reader: Option<RuledReader>,
     told: u64,
+}
+
+impl Drop for TableReader {
+    fn drop(self) {
+        let Self { reader: _, told: _ } = self;
+    }
 }
 
 impl Model for TableReader {

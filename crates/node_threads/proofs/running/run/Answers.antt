@@ -1,6 +1,6 @@
-use Rattle.std.proofs.Common.{ℕ, ap, ◌∙◌}
+use Rattle.std.proofs.Common.{ℕ, [], ap, ◌∙◌}
 use Rattle.link.specs.Mailboxes.{taken}
-use Rattle.node_threads.specs.Givers.{receivers, found_in}
+use Rattle.node_threads.specs.Givers.{receivers, letters_of, tasks_of}
 use Rattle.node_threads.proofs.Soundness.{gives_back}
 use Rattle.node_threads.proofs.running.run.Goals as goal
 
@@ -12,8 +12,10 @@ returns g c = gives_back g.N.Names.contents c.args.work.node c.args.work.lines.i
       node = n;
       first = c.args.work.mailbox;
       lines = c.args.work.lines.items;
-      taken = found_in n (receivers c.args.work.lines.items) (taken c.args.work.mailbox);
+      letters = letters_of (receivers c.args.work.lines.items) (taken c.args.work.mailbox);
+      tasks = tasks_of (taken c.args.work.mailbox);
+      waiting = [];
     }) (c.copy.ensures ∙ c.node.ensures))
     c.turns-publisher.ensures.came c.turns-publisher.ensures.node c.turns-publisher.ensures.sound c.turns-publisher.ensures.same c.end-end.ensures.log c.end-end.ensures.table
-    c.end-end.ensures.ended_alone c.end-end.ensures.sound c.into_parts-lines.ensures.lines c.into_parts-lines.ensures.taken
+    c.end-end.ensures.ended_alone c.end-end.ensures.sound c.into_parts-lines.ensures.lines c.into_parts-lines.ensures.letters
     c.into_parts-lines.ensures.room

@@ -1,7 +1,7 @@
 use Rattle.std.proofs.Common.{ℕ, ◌≡◌, sym, ap, subst}
 use Rattle.node_loop.specs.Held.{Looping}
 use Rattle.node_loop.specs.Coming.{IsLoopOf}
-use Rattle.shared_table.proofs.Showing.{comes_on}
+use Rattle.node_seats.proofs.Showing.{comes_on}
 use Rattle.node_threads.proofs.running.show.Goals.{then-shown, else-shown}
 use Rattle.node_threads.proofs.running.show.Goals as goal
 

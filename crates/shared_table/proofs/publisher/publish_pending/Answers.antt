@@ -1,5 +1,4 @@
 use Rattle.std.proofs.Common.{drop}
-use Rattle.left_right.specs.Sides.{view}
 use Rattle.shared_table.specs.Publishing.{seen_at}
 use Rattle.shared_table.proofs.Keeping.{publishes_all, either_way, match_both, sound_behind, sound_same, published_behind, published_same}
 use Rattle.shared_table.proofs.publisher.publish_pending.Goals as goal

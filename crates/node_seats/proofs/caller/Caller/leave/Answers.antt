@@ -1,6 +1,6 @@
 use Rattle.std.proofs.Common.{sym, subst}
 use Rattle.std.specs.Prelude.{Result, Ok, OnOk}
-use Rattle.node_loop.specs.declared.replies.Effect.{Effect}
+use Rattle.shared_table.specs.declared.Effect.{Effect}
 use Rattle.node_seats.specs.declared.fault.SeatFault.{SeatFault}
 use Rattle.node_seats.specs.Callers.{ticket_of, told_of}
 use Rattle.node_seats.specs.Replies.{IsToldTo, HasLeft}

@@ -2,9 +2,9 @@ use Rattle.std.proofs.Common.{◌≡◌, ◌∙◌, refl, sym, ap, subst}
 use Rattle.term.specs.declared.lock_id.LockId.{LockId}
 use Rattle.registry_model.specs.Process.{Process}
 use Rattle.transaction.specs.declared.nodes.Nodes.{Nodes}
-use Rattle.node_loop.specs.declared.Call.{Call}
-use Rattle.node_loop.specs.declared.Call.TheVariants.{SetLock}
-use Rattle.node_loop.specs.NodeEventsSeen.{reply_of}
+use Rattle.shared_table.specs.declared.Call.{Call}
+use Rattle.shared_table.specs.declared.Call.TheVariants.{SetLock}
+use Rattle.shared_table.specs.NodeEventsSeen.{reply_of}
 use Rattle.node_seats.specs.Seats.{Answered}
 use Rattle.node_seats.specs.Holders.{grants}
 use Rattle.node_seats.proofs.Holders.{set_more}

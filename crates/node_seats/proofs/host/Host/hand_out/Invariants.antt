@@ -1,5 +1,5 @@
 use Rattle.std.proofs.Common.{◌≡◌}
-use Rattle.node_loop.specs.Coming.{IsLoopOf}
+use Rattle.shared_table.specs.Coming.{IsLoopOf}
 use Rattle.node_seats.proofs.host.Host.hand_out.Given as goal
 
 abbrev pub invariant-loop : goal.invariant-loop

@@ -1,4 +1,4 @@
-use Rattle.node_loop.specs.Told.{told_by}
+use Rattle.shared_table.specs.Told.{told_by}
 use Rattle.node_seats.proofs.Coming.{handed_out}
 use Rattle.node_seats.proofs.laid.Laid.next.Goals as goal
 

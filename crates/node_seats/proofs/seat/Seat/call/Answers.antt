@@ -1,9 +1,9 @@
 use Rattle.std.proofs.Common.{◌∙◌, Some, Ok, List, [], ◌∷◌, ◌++◌, sym, ap}
-use Rattle.node_loop.specs.declared.Call.{Call}
-use Rattle.node_loop.specs.declared.Event.TheVariants.{Call as Calls}
-use Rattle.node_loop.specs.declared.WorldEvent.TheVariants.{At}
-use Rattle.node_loop.specs.declared.SeatEntry.{SeatEntry}
-use Rattle.node_loop.specs.declared.replies.Effect.TheVariants.{Answered as IsAnswer}
+use Rattle.shared_table.specs.declared.Call.{Call}
+use Rattle.shared_table.specs.declared.Event.TheVariants.{Call as Calls}
+use Rattle.shared_table.specs.declared.WorldEvent.TheVariants.{At}
+use Rattle.shared_table.specs.declared.SeatEntry.{SeatEntry}
+use Rattle.shared_table.specs.declared.Effect.TheVariants.{Answered as IsAnswer}
 use Rattle.node_seats.specs.Seats.{Sitting}
 use Rattle.node_seats.proofs.Sittings.{answered_so, grown}
 use Rattle.node_seats.proofs.seat.Seat.call.Goals as goal

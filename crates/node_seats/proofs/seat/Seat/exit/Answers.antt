@@ -1,9 +1,9 @@
 use Rattle.std.proofs.Common.{ℕ, ◌∙◌, None, Ok, List, [], ◌∷◌, ◌++◌, ap}
 use Rattle.registry_model.specs.Process.{Process}
-use Rattle.node_loop.specs.declared.Event.TheVariants.{Exit}
-use Rattle.node_loop.specs.declared.WorldEvent.TheVariants.{At}
-use Rattle.node_loop.specs.declared.SeatEntry.{SeatEntry}
-use Rattle.node_loop.specs.declared.replies.Effect.TheVariants.{Made}
+use Rattle.shared_table.specs.declared.Event.TheVariants.{Exit}
+use Rattle.shared_table.specs.declared.WorldEvent.TheVariants.{At}
+use Rattle.shared_table.specs.declared.SeatEntry.{SeatEntry}
+use Rattle.shared_table.specs.declared.Effect.TheVariants.{Made}
 use Rattle.node_seats.proofs.Sittings.{answered_so, grown}
 use Rattle.node_seats.proofs.seat.Seat.exit.Goals as goal
 

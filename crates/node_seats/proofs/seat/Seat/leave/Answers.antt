@@ -1,8 +1,8 @@
 use Rattle.std.proofs.Common.{ℕ, ◌∙◌, None, Ok, List, [], ◌∷◌, ◌++◌, ap}
-use Rattle.node_loop.specs.declared.Event.TheVariants.{Leave}
-use Rattle.node_loop.specs.declared.WorldEvent.TheVariants.{At}
-use Rattle.node_loop.specs.declared.SeatEntry.{SeatEntry}
-use Rattle.node_loop.specs.declared.replies.Effect.TheVariants.{Left}
+use Rattle.shared_table.specs.declared.Event.TheVariants.{Leave}
+use Rattle.shared_table.specs.declared.WorldEvent.TheVariants.{At}
+use Rattle.shared_table.specs.declared.SeatEntry.{SeatEntry}
+use Rattle.shared_table.specs.declared.Effect.TheVariants.{Left}
 use Rattle.node_seats.proofs.Sittings.{answered_so, grown}
 use Rattle.node_seats.proofs.seat.Seat.leave.Goals as goal
 

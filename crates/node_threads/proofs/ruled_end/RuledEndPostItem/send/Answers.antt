@@ -6,6 +6,6 @@ use Rattle.node_threads.proofs.ruled_end.RuledEndPostItem.send.Goals as goal
 
 pub returns : goal.returns
 returns g c = posts_or_not c.self.inside.node c.args.to.now c.self.inside.first.value c.self.inside.lines.items (taken c.self.inside.mailbox)
-    c.args.letter c.in-Some.place c.index_mut.result.now c.send.new.self
+    c.self.inside.waiting.items c.args.letter c.in-Some.place c.index_mut.result.now c.send.new.self
     (ap (place c.args.to.now) (sym c.as_slice.ensures.value) ∙ sym c.place_of.ensures ∙ c.in-Some.is) c.index_mut.ensures.value
     c.args.self.now c.self.view_is c.send.result c.send.ensures.ok c.send.ensures.unchanged c.send.ensures.err

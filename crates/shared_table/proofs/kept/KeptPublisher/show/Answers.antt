@@ -1,4 +1,4 @@
-use Rattle.std.proofs.Common.{◌≡◌, ℕ, not, sym, ap, subst, ◌∙◌}
+use Rattle.std.proofs.Common.{ℕ, not, sym, ap, subst, ◌∙◌}
 use Rattle.node_loop.specs.declared.edit.Edition.{Edition}
 use Rattle.node_loop.specs.Held.{Looping}
 use Rattle.node_loop.specs.Coming.{IsLoopOf}

@@ -1,9 +1,8 @@
-use Rattle.std.proofs.Common.{◌≡◌, ◌<◌, Some, Option, arith, sym, ap, subst, ◌∙◌}
+use Rattle.std.proofs.Common.{◌≡◌, Some, Option, arith, subst}
 use Rattle.node_loop.specs.declared.edit.Update.{Update}
 use Rattle.node_loop.specs.Owing.{TakesUpdate}
 use Rattle.shared_table.specs.Publishing.{Progress, next_edition}
 use Rattle.shared_table.proofs.Keeping.{length_behind}
-use Rattle.shared_table.proofs.Showing.{next_more, all_shown, whole_owed}
 use Rattle.shared_table.proofs.publisher.Publisher.note.Goals as goal
 
 pub append-requires : goal.append-requires
