@@ -1,4 +1,5 @@
-//! What a node's registrations lose beside consoles that keep the node busy: each spawns a process and lets it exit, again and again.
+//! What a node's registrations lose beside consoles that are busy at it: each spawns a process and lets it exit, again and again, or looks
+//! a name up.
 use crate::cluster::{Console, Served, NODES};
 use crate::figures::micros;
 use std::io::Result;
@@ -48,12 +49,27 @@ fn spawn_and_exit(served: &Served, is_over: &AtomicBool) -> Result<u64> {
     Ok(made)
 }
 
-/// The registrations beside so many consoles, and how many calls those made a second.
-fn beside(program: &str, busy: usize) -> Result<(Registrations, f64)> {
-    let served = Served::start(program, COUNT, busy + 1)?;
+/// Looks a name up, again and again, until this is over.
+fn look_up(served: &Served, is_over: &AtomicBool) -> Result<u64> {
+    let mut console = Console::attach(served, NODES[0])?;
+    let mut made = 0;
+    while !is_over.load(Ordering::Relaxed) {
+        console.ask("whereis x")?;
+        made += 1;
+    }
+    console.quit()?;
+    Ok(made)
+}
+
+/// What a console does until this is over; it gives the number of its calls.
+type Work = fn(&Served, &AtomicBool) -> Result<u64>;
+
+/// The registrations beside so many consoles that do this work, and how many calls those made a second.
+fn beside(program: &str, count: usize, work: Work) -> Result<(Registrations, f64)> {
+    let served = Served::start(program, COUNT, count + 1)?;
     let is_over = AtomicBool::new(false);
     let (registrations, calls) = std::thread::scope(|scope| {
-        let others: Vec<_> = (0..busy).map(|_| scope.spawn(|| spawn_and_exit(&served, &is_over))).collect();
+        let others: Vec<_> = (0..count).map(|_| scope.spawn(|| work(&served, &is_over))).collect();
         let registrations = register(&served);
         is_over.store(true, Ordering::Relaxed);
         let calls = others.into_iter().map(|other| other.join().expect("a console panicked")).sum::<Result<u64>>();
@@ -63,15 +79,18 @@ fn beside(program: &str, busy: usize) -> Result<(Registrations, f64)> {
     Ok((registrations?, calls? as f64 / TIME.as_secs_f64()))
 }
 
-/// Tells what registrations come to alone, and beside eight and forty busy consoles.
+/// Tells what registrations come to alone, and beside eight and forty busy consoles of both kinds.
 pub fn registrations(program: &str) -> Result<()> {
-    for busy in [0, 8, 40] {
-        let (found, calls) = beside(program, busy)?;
-        println!(
-            "busy {busy}: {:.0} registrations a second, the worst {:.1} ms, beside {calls:.0} other calls a second",
-            found.a_second,
-            micros(found.worst) / 1000.0,
-        );
+    let kinds: [(&str, &[usize], Work); 2] = [("busy", &[0, 8, 40], spawn_and_exit), ("readers", &[8, 40], look_up)];
+    for (kind, counts, work) in kinds {
+        for count in counts {
+            let (found, calls) = beside(program, *count, work)?;
+            println!(
+                "{kind} {count}: {:.0} registrations a second, the worst {:.1} ms, beside {calls:.0} other calls a second",
+                found.a_second,
+                micros(found.worst) / 1000.0,
+            );
+        }
     }
     Ok(())
 }
