@@ -1,27 +1,16 @@
 -- The tests of std's sets, as those of the protocol's watch.
-use Rattle.std.proofs.Common.{ℕ, Bool, true, false, ◌==◌, ◌≡◌, List, [], ◌∷◌, ◌++◌, refl, sym, ap, ◌∙◌, inl, inr, arith, length, ◌<◌, ◌≤◌, is_gt, nat_cmp, BTreeSet}
-use Rattle.std.specs.Prelude.{◌||◌, cond, nat_eq, nat_lt, if◌then◌else◌}
+use Rattle.std.proofs.Common.{ℕ, Bool, true, false, ◌==◌, ◌≡◌, List, [], ◌∷◌, refl, sym, ap, ◌∙◌, inl, inr, arith, length, ◌<◌, ◌≤◌, is_gt, nat_cmp, BTreeSet, Ordering}
+use Rattle.std.specs.Prelude.{◌||◌, cond, nat_lt}
 use Rattle.std.specs.List.{list_any, AllZip}
 use Rattle.std.specs.BTreeMap.{is_at}
-use Rattle.std.specs.BTreeSet.{contains}
-use Rattle.std.proofs.lemmas.Bool.{cases_eq, cases_lt, cases_order, eq-eqb, ne_eqb, lt-ltb, le-ltb}
+use Rattle.std.specs.BTreeSet.{contains, insert_key}
+use Rattle.std.specs.Ordering.{is_eq, match_ordering}
+use Rattle.std.specs.Set.{remove_key}
+use Rattle.std.specs.declared.cmp.Ordering.TheVariants.{Less, Equal, Greater}
+use Rattle.std.proofs.lemmas.Bool.{cases_lt, ne_eqb, le-ltb}
 use Rattle.std.proofs.lemmas.List.{map-id}
 use Rattle.std.proofs.lemmas.Slice.Zip.{AllZip-map}
-
--- a number equals another as the other equals it
-turned : (q k : ℕ) → nat_eq q k ≡ (k == q)
-turned q k = elim (cases_eq q k) [
-  | inl i ↦ eq-eqb q k i ∙ sym (eq-eqb k q (sym i))
-  | inr ne ↦ ne_eqb q k ne ∙ sym (ne_eqb k q (λ i. ne (sym i)))
-]
-
-at_is : (q k : ℕ) → is_at (nat_cmp q) k ≡ (k == q)
-at_is q k = elim (cases_order q k) [
-  | inl i ↦ rw (le-ltb q k (omega arith), eq-eqb q k i, eq-eqb k q (sym i)) refl
-  | inr (inl l) ↦ rw (lt-ltb q k l, ne_eqb k q (λ i. absurd (omega arith))) refl
-  | inr (inr g) ↦ rw (le-ltb q k (omega arith))
-      (rw (ne_eqb q k (λ i. absurd (omega arith)), ne_eqb k q (λ i. absurd (omega arith))) refl)
-]
+use Rattle.spans.proofs.Keys.{any-at, at_is, at_self}
 
 -- who isn't greater is less, or the same
 pub not_greater : (s r : ℕ) → is_gt (nat_cmp s r) ≡ false → s ≤ r
@@ -32,15 +21,6 @@ not_greater s r h = elim (cases_lt r s) [
   where
     go : nat_lt s r ≡ false → (s == r) ≡ false → ⊥
     go a b = let k = rw (a, b) at h in cc
-
--- a number is in a set
-pub any-turned : (ks : List ℕ) (q : ℕ) → list_any (nat_eq q) ks ≡ list_any (λ d. d == q) ks
-any-turned [] q = refl
-any-turned (k ∷ ks) q = rw (turned q k, any-turned ks q) refl
-
-pub any-at : (ks : List ℕ) (q : ℕ) → list_any (is_at (nat_cmp q)) ks ≡ list_any (λ d. d == q) ks
-any-at [] q = refl
-any-at (k ∷ ks) q = rw (at_is q k, any-at ks q) refl
 
 -- what an insertion leaves in a set
 pub any-inserted : (old new : BTreeSet ℕ) (k : ℕ) →
@@ -53,10 +33,24 @@ any-inserted old new k h q =
     go true = refl
     go false = any-at old.keys q
 
--- a number that isn't in a set comes last
-pub appended : (ks : List ℕ) (q : ℕ) → list_any (λ d. d == q) ks ≡ false →
-    (if list_any (nat_eq q) ks then ks else ks ++ q ∷ []) ≡ ks ++ q ∷ []
-appended ks q h = rw (any-turned ks q ∙ h) refl
+-- a number that wasn't in a set is put there and taken again
+pub taken_again : (ks : List ℕ) (q : ℕ) → list_any (is_at (nat_cmp q)) ks ≡ false →
+    remove_key (is_at (nat_cmp q)) (insert_key nat_cmp ks q) ≡ ks
+taken_again [] q h = ap (λ (b : Bool). cond b [] (q ∷ [])) (at_self q)
+taken_again (k ∷ ks) q h = go (nat_cmp q k) refl (taken_again ks q)
+  where
+    absent : (o : Ordering) → nat_cmp q k ≡ o → (is_eq o || list_any (is_at (nat_cmp q)) ks) ≡ false
+    absent o e = sym (ap (λ (p : Ordering). is_eq p || list_any (is_at (nat_cmp q)) ks) e) ∙ h
+
+    go : (o : Ordering) → nat_cmp q k ≡ o →
+        (list_any (is_at (nat_cmp q)) ks ≡ false → remove_key (is_at (nat_cmp q)) (insert_key nat_cmp ks q) ≡ ks) →
+        remove_key (is_at (nat_cmp q)) (match_ordering o (q ∷ k ∷ ks) (k ∷ ks) (k ∷ insert_key nat_cmp ks q)) ≡ k ∷ ks
+    go Less e again = ap (λ (b : Bool). cond b (k ∷ ks) (q ∷ remove_key (is_at (nat_cmp q)) (k ∷ ks))) (at_self q)
+    go Equal e again = absurd (cc (absent Equal e))
+    go Greater e again =
+        ap (λ (o : Ordering). cond (is_eq o) (insert_key nat_cmp ks q)
+        (k ∷ remove_key (is_at (nat_cmp q)) (insert_key nat_cmp ks q))) e
+        ∙ ap (λ (xs : List ℕ). k ∷ xs) (again (absent Greater e))
 
 -- in an empty list is no number
 pub any-empty : (ks : List ℕ) (q : ℕ) → (0 < length ks → ⊥) → list_any (λ d. d == q) ks ≡ true → ⊥

@@ -37,6 +37,14 @@ pub record IsNoted (h k : Held) (s : ℕ) : Type 0 where
   pub node : k.node ≡ h.node
   pub suspects : (q : ℕ) → is_suspect k q ≡ ((q == s) || is_suspect h q)
 
+-- who isn't dead is no suspect
+pub unsuspected : (h : Held) (s : ℕ) → AreDead h → is_dead h.watch s ≡ false → is_suspect h s ≡ false
+unsuspected h s are alive = go (is_suspect h s) refl
+  where
+    go : (b : Bool) → is_suspect h s ≡ b → b ≡ false
+    go true e = absurd (cc (are s e, alive))
+    go false e = refl
+
 -- it is so after an insertion
 pub inserted : (h k : Held) (s : ℕ) (old new : BTreeSet ℕ) → h.suspects ≡ old.keys → k.suspects ≡ new.keys →
     k.node ≡ h.node →

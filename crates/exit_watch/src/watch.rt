@@ -10,8 +10,8 @@ ghost use Rattle.exit_watch.specs.Held.{watch_from, process_of, serial_left, wit
 ghost use Rattle.exit_watch.specs.declared.faults.WatchFault.TheVariants.{SerialsSpent, Memory};
 
 use crate::faults::WatchFault;
-use indexmap::IndexSet;
 use name_table::Names;
+use spans::Dead;
 use std::alloc::{AllocError, Global};
 use std::collections::BTreeSet;
 use std::marker::Model;
@@ -24,7 +24,7 @@ pub struct Watch {
     /// The greatest serial given; 0 before the first.
     last_serial: u32,
     /// The serials of the dead, in the order of their deaths. One may be dead before it is given.
-    dead: IndexSet<u32>,
+    dead: Dead,
     /// The dead that may own a name. Whoever isn't among them owns none, so nobody else is looked at.
     suspects: BTreeSet<u32>,
 }
@@ -36,13 +36,13 @@ impl Model for Watch {
 
     ghost view = { λ w. record {
       node = w.node;
-      watch = record { last_serial = w.last_serial; dead = w.dead.keys };
+      watch = record { last_serial = w.last_serial; dead = w.dead };
       suspects = w.suspects.keys;
     } };
 
     ghost invariant = { λ w. AreDead (record {
       node = w.node;
-      watch = record { last_serial = w.last_serial; dead = w.dead.keys };
+      watch = record { last_serial = w.last_serial; dead = w.dead };
       suspects = w.suspects.keys;
     }) };
 }
@@ -63,7 +63,7 @@ impl Watch {
         Watch {
             node,
             last_serial,
-            dead: IndexSet::new(alloc),
+            dead: Dead::new(alloc),
             suspects: BTreeSet::new(alloc),
         }
     }
@@ -82,7 +82,7 @@ impl Watch {
     fn is_dead(&self, serial: u32) -> bool
         ensures { result ≡ is_dead self.now.watch serial }
     {
-        self.dead.contains(&serial)
+        self.dead.contains(serial)
     }
 
     /// Whether the process lives here. A serial that wasn't given yet counts as live, unless it is dead already.
@@ -187,9 +187,12 @@ impl Watch {
         ensures suspected { KeepsSuspects self.old self.new }
         ensures unchanged { OnErr result (self.new ≡ self.old) }
     {
-        self.dead.reserve(1)?;
         self.suspects.insert(serial)?;
-        self.dead.insert(serial)?;
+        // It was no suspect before, so where its death can't be noted it is none again.
+        if let Err(refused) = self.dead.insert(serial) {
+            self.suspects.remove(&serial);
+            return Err(refused);
+        }
         Ok(())
     }
 
@@ -237,7 +240,7 @@ impl Watch {
         Ok(Watch {
             node: self.node.copy(),
             last_serial: self.last_serial,
-            dead: self.dead.clone()?,
+            dead: self.dead.copy()?,
             suspects: self.suspects.clone()?,
         })
     }

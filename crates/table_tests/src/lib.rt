@@ -1,6 +1,8 @@
-//! Tests of tables of names, of the watch over the processes that own them, and of joins of tables.
+//! Tests of tables of names, of the watch over the processes that own them, of spans of the dead, and of joins of tables.
 #![tactic(auto)]
 
+#[cfg(test)]
+mod deaths;
 #[cfg(test)]
 mod joins;
 #[cfg(test)]

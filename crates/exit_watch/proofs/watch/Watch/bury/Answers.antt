@@ -1,42 +1,71 @@
-use Rattle.std.proofs.Common.{ℕ, List, [], ◌∷◌, ◌++◌, ◌≡◌, ◌==◌, ◌∙◌, refl, sym, ap, subst}
-use Rattle.std.specs.List.{list_any}
+use Rattle.std.proofs.Common.{ℕ, List, [], ◌∷◌, ◌++◌, ◌≡◌, ◌∙◌, nat_cmp, refl, sym, ap, subst}
+use Rattle.std.specs.BTreeMap.{is_at}
+use Rattle.std.specs.Set.{remove_key}
 use Rattle.std.proofs.Math.Path.{ap₂}
 use Rattle.protocol_model.specs.Watch.{Watch, with_dead}
-use Rattle.exit_watch.specs.Held.{Held, AreDead}
-use Rattle.exit_watch.proofs.Sets.{appended}
-use Rattle.exit_watch.proofs.Suspects.{IsNoted, inserted, died-keeps, died-dead}
+use Rattle.exit_watch.specs.Held.{Held, AreDead, KeepsSuspects, is_suspect}
+use Rattle.spans.proofs.Keys.{any-at}
+use Rattle.exit_watch.proofs.Sets.{taken_again}
+use Rattle.exit_watch.proofs.Suspects.{IsNoted, inserted, unsuspected, died-keeps, died-dead}
 use Rattle.exit_watch.proofs.watch.Watch.bury.Goals as goal
+use Rattle.exit_watch.proofs.watch.Watch.bury.Goals.{In_default, After-remove}
 
-abbrev later : goal.In_ok-insert-2 → Held
+abbrev later : In_default → Held
 later c = record {
   node = c.self.inside.node;
-  watch = record { last_serial = c.self.inside.last_serial; dead = c.insert-2.new.self.keys };
+  watch = record { last_serial = c.self.inside.last_serial; dead = c.insert-2.new.self };
   suspects = c.insert.new.self.keys;
 }
 
-noted : (c : goal.In_ok-insert-2) → IsNoted c.args.self.now (later c) c.args.serial
+noted : (c : In_default) → IsNoted c.args.self.now (later c) c.args.serial
 noted c =
     inserted c.args.self.now (later c) c.args.serial c.self.inside.suspects c.insert.new.self
     (ap (λ (v : Held). v.suspects) (sym c.self.view_is)) refl (ap (λ (v : Held). v.node) c.self.view_is)
     c.in_ok-insert.ensures.updates.0
 
-watched : (c : goal.In_ok-insert-2) → (later c).watch ≡ with_dead c.args.serial c.args.self.now.watch
+watched : (c : In_default) → (later c).watch ≡ with_dead c.args.serial c.args.self.now.watch
 watched c =
-    let s = c.args.serial in
-    let room = c.in_ok-reserve.ensures.keys ∙ ap (λ (v : Held). v.watch.dead) c.self.view_is in
-    let last = ap (λ (v : Held). v.watch.last_serial) c.self.view_is in
-    let dead = c.in_ok-insert-2.ensures.keys
-    ∙ appended c.reserve.new.self.keys s (ap (λ (ks : List ℕ). list_any (λ d. d == s) ks) room ∙ c.requires)
-    ∙ ap (λ (ks : List ℕ). ks ++ s ∷ []) room in
-    ap₂ (λ (l : ℕ) (ds : List ℕ). let w : Watch = record { last_serial = l; dead = ds } in w) last dead
+    ap₂ (λ (l : ℕ) (ds : List ℕ). let w : Watch = record { last_serial = l; dead = ds } in w)
+    (ap (λ (v : Held). v.watch.last_serial) c.self.view_is)
+    (c.in_default.ensures.ok ∙ ap (λ (v : Held). v.watch.dead ++ c.args.serial ∷ []) c.self.view_is)
 
-pub invariant_of-self-2 : goal.invariant_of-self-2
-invariant_of-self-2 c =
+-- where the death can't be noted
+abbrev left : After-remove → Held
+left c = record {
+  node = c.self.inside.node;
+  watch = record { last_serial = c.self.inside.last_serial; dead = c.insert-2.new.self };
+  suspects = c.remove.new.self.keys;
+}
+
+undone : (c : After-remove) → left c ≡ c.args.self.now
+undone c =
+    let s = c.args.serial in
+    let ks = c.self.inside.suspects.keys in
+    let none = any-at ks s ∙ ap (λ (v : Held). is_suspect v s) c.self.view_is
+    ∙ unsuspected c.args.self.now s (subst AreDead c.self.view_is c.self.invariant) c.requires in
+    let suspects = c.remove.ensures.keys ∙ ap (remove_key (is_at (nat_cmp s))) c.in_ok-insert.ensures.keys
+    ∙ taken_again ks s none in
+    let held : List ℕ → List ℕ → Held = λ ds ss. record {
+      node = c.self.inside.node;
+      watch = record { last_serial = c.self.inside.last_serial; dead = ds };
+      suspects = ss;
+    } in
+    ap₂ held c.in-Err.ensures.err suspects ∙ c.self.view_is
+
+pub invariant_of-self-in-Err : goal.invariant_of-self-in-Err
+invariant_of-self-in-Err c = subst AreDead (c.self.view_is ∙ sym (undone c)) c.self.invariant
+
+pub returns-in-Err-clause-suspected : goal.returns-in-Err-clause-suspected
+returns-in-Err-clause-suspected c =
+    subst (λ (h : Held). KeepsSuspects c.args.self.now h) (sym (undone c)) (λ t suspected. suspected)
+
+pub returns-in-Err-clause-unchanged : goal.returns-in-Err-clause-unchanged
+returns-in-Err-clause-unchanged c = undone c
+
+pub invariant_of-self-in_default : goal.invariant_of-self-in_default
+invariant_of-self-in_default c =
     died-dead c.args.self.now (later c) c.args.serial (noted c) (watched c)
     (subst AreDead c.self.view_is c.self.invariant)
-
-pub returns-clause-ok : goal.returns-clause-ok
-returns-clause-ok c = watched c
 
 pub returns-clause-suspected : goal.returns-clause-suspected
 returns-clause-suspected c = died-keeps c.args.self.now (later c) c.args.serial (noted c) (watched c)

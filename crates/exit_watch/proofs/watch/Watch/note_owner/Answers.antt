@@ -18,7 +18,7 @@ right false b e = refl
 abbrev later : goal.In_ok-insert → Held
 later c = record {
   node = c.self.inside.node;
-  watch = record { last_serial = c.self.inside.last_serial; dead = c.self.inside.dead.keys };
+  watch = record { last_serial = c.self.inside.last_serial; dead = c.self.inside.dead };
   suspects = c.insert.new.self.keys;
 }
 

@@ -1,0 +1,3 @@
+pub mod Keys
+mod Joining
+mod Counting
