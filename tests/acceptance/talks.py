@@ -2,6 +2,7 @@
 
 import os
 import re
+from contextlib import suppress
 from dataclasses import dataclass
 from functools import partial
 from threading import Thread
@@ -139,8 +140,24 @@ def a_million_lines(program):
         served.expect_closed(most=0)
 
 
+def one_too_many(program):
+    """Who comes behind the last console is told by the system that nobody listens, and doesn't wait until that console has ended."""
+    with Served(program, ["--nodes", "a", "--consoles", "1"]) as served:
+        console = Console(served)
+        console.say(b"attach a\n")
+        listen_to([console], lambda: console.heard == b"ok\n", program.seconds)
+        expect_same("the answer", b"ok\n", console.heard)
+        with suppress(ConnectionRefusedError):
+            late = Console(served)
+            if not listen_to([late], lambda: late.has_ended, program.seconds) or late.heard:
+                raise Failure(f"a console too many: expected its end, got {state_of(late)}")
+        console.say(b"quit\n")
+        served.expect_closed(most=0)
+
+
 def tests(program, root):
     folder = f"{root}/tests/consoles"
     for name in sorted(os.listdir(folder)):
         yield Test(f"consoles/{name}", partial(play, program, f"{folder}/{name}"))
     yield Test("consoles/a_million_lines", partial(a_million_lines, program))
+    yield Test("consoles/one_too_many", partial(one_too_many, program))

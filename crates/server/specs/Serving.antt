@@ -24,7 +24,7 @@ Ending = Result (Closed Table Global) CloseFault
 
 -- so this cluster closed, with these transcripts; its run isn't torn
 pub record Ends (c : Crewed) (transcripts : List Transcript) (ending : Ending) : Type 0 where
-  pub closes : CloseIs (λ table. table) c.cluster c.lone c.crew transcripts ending
+  pub closes : CloseIs c.cluster c.lone c.crew transcripts ending
   pub whole : IfErr ending (λ fault. is_torn fault ≡ false)
 
 -- the writer got the line that tells so, all of it, or a part where it failed; or memory was refused for the line

@@ -124,7 +124,8 @@ impl<R: Threads + Wait + Clock + Drop + Copy + Send + 'static> Door<R> {
         Ok(())
     }
 
-    /// Takes so many consoles, or fewer after a fault, and waits until all have ended: what each left behind.
+    /// Takes so many consoles, or fewer after a fault, and waits until all have ended: what each left behind. The listener is let go before
+    /// that, so whoever comes too late is told by the system, and waits for nothing.
     pub(crate) fn serve(
         self,
         consoles: u32,
@@ -133,10 +134,16 @@ impl<R: Threads + Wait + Clock + Drop + Copy + Send + 'static> Door<R> {
         requires { ReachesAll self.nodes cluster.old }
         ensures { IfOk result (λ lefts. IsServed self.nodes consoles cluster.old cluster.new lefts.items) }
     {
-        let Door { rt, alloc, .. } = &self;
-        let mut threads = Vec::new(*alloc);
+        let mut threads = Vec::new(self.alloc);
         let taken = self.take_all(consoles, cluster, &mut threads);
-        let lefts = join_all(rt, *alloc, threads);
+        let Door {
+            rt,
+            alloc,
+            listener,
+            ..
+        } = self;
+        drop(listener);
+        let lefts = join_all(&rt, alloc, threads);
         taken?;
         Ok(lefts?)
     }
