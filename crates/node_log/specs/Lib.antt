@@ -7,5 +7,6 @@ pub use Rattle.world_events.specs.NodeCoreSteps
 pub use Rattle.world_events.specs.NodeEventsSeen
 pub use Rattle.world_events.specs.Openings
 pub mod Entries
+pub mod Forgotten
 pub mod Logs
 pub mod Seen

@@ -6,6 +6,7 @@ ghost use Rattle.node_log.specs.Entries.{IsPlaceOf};
 ghost use Rattle.node_log.specs.Logs.{entry_of, answered};
 
 use crate::entry::{Asked, KeptEntry, KeptEvent, LoggedEntry, LoggedEvent};
+use crate::record::Record;
 use std::alloc::{AllocError, Global};
 use std::marker::Model;
 use term::{NodeName, NodeSet};
@@ -218,5 +219,37 @@ impl Log {
         ensures others { self.new.entries ≡ take (length self.old.entries - 1) self.old.entries }
     {
         self.entries.pop();
+    }
+}
+
+impl Record for Log {
+    ghost logged = { λ l. l };
+
+    fn new(alloc: Global, node: NodeName, world: &NodeSet) -> Self {
+        Log::new(alloc, node, world)
+    }
+
+    fn node(&self) -> &NodeName {
+        Log::node(self)
+    }
+
+    fn count(&self) -> u64 {
+        self.len() as u64
+    }
+
+    fn reserve(&mut self) -> Result<(), AllocError> {
+        Log::reserve(self)
+    }
+
+    fn put(&mut self, stamp: u64, seat: Option<u32>, event: WorldEvent) {
+        Log::put(self, stamp, seat, event);
+    }
+
+    fn put_delivery(&mut self, stamp: u64, sender: &NodeName) {
+        Log::put_delivery(self, stamp, sender);
+    }
+
+    fn answer(&mut self, answers: Vec<Answer>) {
+        Log::answer(self, answers);
     }
 }

@@ -5,9 +5,9 @@ use term::NodeName;
 
 /// What the thread of a node gives back when it ends.
 #[derive(Debug, Drop)]
-pub struct NodeEnd<N: Names> {
-    /// The log of its steps. It says whose it is.
-    pub log: Log,
+pub struct NodeEnd<N: Names, L = Log> {
+    /// The log of its steps, or another record of them. It says whose it is.
+    pub log: L,
     /// The table of the node, as its last step left it.
     pub table: N,
     /// Whether the thread ended without an accepted leave and without being asked to.

@@ -6,10 +6,10 @@ use crate::fault::TurnFault;
 use crate::node_loop::NodeLoop;
 use crate::stepping::Tried;
 use name_table::Names;
-use node_log::Event;
+use node_log::{Event, Record};
 use std::alloc::Global;
 
-impl<N: Names<Memory = Global>> NodeLoop<N> {
+impl<N: Names<Memory = Global>, L: Record> NodeLoop<N, L> {
     /// The first leave that waits is accepted, where one does and the node doesn't hold the global lock. All others who wait
     /// are told that the node has left.
     pub(crate) fn leave_if_free(&mut self) -> Result<(), TurnFault>
@@ -22,7 +22,7 @@ impl<N: Names<Memory = Global>> NodeLoop<N> {
         match self.attempt(ticket, Event::Leave) {
             Tried::Made => {
                 self.left = true;
-                self.owed.add(Note::One(Edit::Leave), self.log.len() as u64);
+                self.owed.add(Note::One(Edit::Leave), self.log.count());
                 self.desk.leave()?;
                 Ok(())
             }

@@ -19,20 +19,20 @@ use crate::replies::TaskReply;
 use crate::ring::Ring;
 use link::{Inbox, Post};
 use name_table::Names;
-use node_log::{Log, NodeCore, NodeEnd};
+use node_log::{Log, NodeCore, NodeEnd, Record};
 use std::alloc::{AllocError, Global};
 use std::marker::Model;
 use std::mem;
 use term::{NodeName, NodeSet};
 use tray::Tray;
 
-/// What a node's thread works on: the node's core, the log of its steps, the letters that it has to send, those who wait, and
-/// the replies.
+/// What a node's thread works on: the node's core, the record of its steps, which is a log unless it says otherwise, the letters that it has
+/// to send, those who wait, and the replies.
 #[derive(Drop)]
-pub struct NodeLoop<N: Names> {
+pub struct NodeLoop<N: Names, L: Record = Log> {
     pub(crate) core: NodeCore<N>,
     pub(crate) world: NodeSet,
-    pub(crate) log: Log,
+    pub(crate) log: L,
     pub(crate) tray: Tray<Item>,
     pub(crate) desk: Desk,
     pub(crate) courtesy: Courtesy,
@@ -44,7 +44,7 @@ pub struct NodeLoop<N: Names> {
     pub(crate) worked: bool,
 }
 
-impl<N: Names> Model for NodeLoop<N> {
+impl<N: Names, L: Record> Model for NodeLoop<N, L> {
     ghost use Rattle.node_loop.specs.Held.{Looping, written};
 
     ghost Value = { Looping };
@@ -52,7 +52,7 @@ impl<N: Names> Model for NodeLoop<N> {
     ghost view = { λ l. record {
       core = l.core;
       world = l.world;
-      log = written l.log;
+      log = written (L.logged l.log);
       tray = l.tray;
       desk = l.desk;
       wait = l.courtesy;
@@ -63,7 +63,7 @@ impl<N: Names> Model for NodeLoop<N> {
     } };
 }
 
-impl<N: Names<Memory = Global>> NodeLoop<N> {
+impl<N: Names<Memory = Global>, L: Record> NodeLoop<N, L> {
     /// The loop of a node that hasn't taken a step in it: nothing is logged, nothing is to be sent, nobody waits.
     pub fn new(alloc: Global, core: NodeCore<N>) -> Result<Self, AllocError>
         ensures new { IfOk result (λ new. new ≡ record {
@@ -81,7 +81,7 @@ impl<N: Names<Memory = Global>> NodeLoop<N> {
         ensures sound { IfOk result (BeginsSound core) }
     {
         let world = core.world().copy();
-        let log = Log::new(alloc, core.name().copy(), &world);
+        let log = L::new(alloc, core.name().copy(), &world);
         let tray = Tray::new(alloc, &world)?;
         let own = world.position(core.name()).unwrap_or(0);
         let courtesy = Courtesy::new(Ring::new(world.len(), own));
@@ -216,11 +216,11 @@ impl<N: Names<Memory = Global>> NodeLoop<N> {
     }
 
     /// What the node's thread gives back, and whether it ended without a leave and without being asked to.
-    pub fn into_end(self, ended_alone: bool) -> NodeEnd<N>
-        ensures log { written result.log ≡ self.log }
+    pub fn into_end(self, ended_alone: bool) -> NodeEnd<N, L>
+        ensures log { written (L.logged result.log) ≡ self.log }
         ensures table { N.contents result.table ≡ self.core.table }
         ensures ended_alone { result.ended_alone ≡ ended_alone }
-        ensures sound { LeavesSound self (written result.log) (N.contents result.table) }
+        ensures sound { LeavesSound self (written (L.logged result.log)) (N.contents result.table) }
     {
         let NodeLoop { core, log, .. } = self;
         NodeEnd {

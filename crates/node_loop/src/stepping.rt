@@ -17,7 +17,7 @@ use crate::replies::TaskFault;
 use crate::tries::TRIES;
 use crate::waiting::Course;
 use name_table::Names;
-use node_log::{Cause, Event, Log, NodeCore, StepFault, Turn, WorldEvent};
+use node_log::{Cause, Event, NodeCore, Record, StepFault, Turn, WorldEvent};
 use std::alloc::{AllocError, Global};
 use term::NodeName;
 
@@ -44,16 +44,16 @@ fn seat_of(own: Option<Ticket>) -> Option<u32>
 
 /// Tries a step that the core doesn't refuse. There is room for it in the log before it is made, so that it can be logged. Where
 /// memory is refused the core is as before, as the protocol sees it.
-fn try_step<N: Names<Memory = Global>>(
+fn try_step<N: Names<Memory = Global>, L: Record>(
     core: &mut NodeCore<N>,
-    log: &mut Log,
+    log: &mut L,
     cause: Cause<'_>,
 ) -> Result<Turn, AllocError>
     requires { refusal_of (event_by cause) core.old ≡ None }
     ensures made { IfOk result (λ turn. Steps (event_by cause.entry) core.old core.new turn) }
     ensures as_before { OnErr result (IsAsBefore core.old core.new) }
-    ensures log { written log.new ≡ written log.old }
-    ensures room { OnOk result (log.new.has_room ≡ true) }
+    ensures log { written (L.logged log.new) ≡ written (L.logged log.old) }
+    ensures room { OnOk result ((L.logged log.new).has_room ≡ true) }
 {
     log.reserve()?;
     let spare = core.new_turn();
@@ -61,16 +61,16 @@ fn try_step<N: Names<Memory = Global>>(
 }
 
 /// The same, as often as a step is tried.
-fn step<N: Names<Memory = Global>>(
+fn step<N: Names<Memory = Global>, L: Record>(
     core: &mut NodeCore<N>,
-    log: &mut Log,
+    log: &mut L,
     cause: Cause<'_>,
 ) -> Result<Turn, AllocError>
     requires { refusal_of (event_by cause) core.old ≡ None }
     ensures made { IfOk result (λ turn. Steps (event_by cause.entry) core.old core.new turn) }
     ensures as_before { OnErr result (IsAsBefore core.old core.new) }
-    ensures log { written log.new ≡ written log.old }
-    ensures room { OnOk result (log.new.has_room ≡ true) }
+    ensures log { written (L.logged log.new) ≡ written (L.logged log.old) }
+    ensures room { OnOk result ((L.logged log.new).has_room ≡ true) }
 {
     for _ in 0..TRIES {
         if let Ok(turn) = try_step(core, log, cause) {
@@ -80,7 +80,7 @@ fn step<N: Names<Memory = Global>>(
     Err(AllocError)
 }
 
-impl<N: Names<Memory = Global>> NodeLoop<N> {
+impl<N: Names<Memory = Global>, L: Record> NodeLoop<N, L> {
     /// Whether a refused round waits to be tried again.
     pub(crate) fn has_retry(&self) -> bool
         ensures { result ≡ has_retry self.now }
@@ -177,7 +177,7 @@ impl<N: Names<Memory = Global>> NodeLoop<N> {
             return Err(TurnFault::Memory);
         };
         self.log.put_delivery(stamp, &from);
-        self.owed.add(note, self.log.len() as u64);
+        self.owed.add(note, self.log.count());
         self.conclude(stamp, None, Course::AtOnce, turn)?;
         Ok(())
     }

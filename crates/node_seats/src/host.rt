@@ -11,7 +11,7 @@ use crate::hub::Hub;
 use crate::laid::Laid;
 use crate::standing::Standing;
 use name_table::Names;
-use shared_table::{NodeEnd, NodeLoop, Publisher};
+use shared_table::{NodeEnd, NodeLoop, Publisher, Record};
 use std::alloc::Global;
 use std::marker::Model;
 use std::sync::{Arc, Wait};
@@ -53,10 +53,10 @@ impl Host {
 
     /// Call it behind each turn of the node, where its readers are shown all: lays its replies down for their callers, each with how long
     /// a log is behind what they are shown, and tells them where it has left.
-    pub fn hand_out<N: Names<Memory = Global>, R: Wait>(
+    pub fn hand_out<N: Names<Memory = Global>, L: Record, R: Wait>(
         &self,
         rt: &R,
-        node: &mut NodeLoop<N>,
+        node: &mut NodeLoop<N, L>,
         publisher: &Publisher,
     )
         requires came { IsLoopOf node.old.log.node node.old }
@@ -78,10 +78,10 @@ impl Host {
 
     /// Rests where the last turn of the node did nothing, shortly where it has something to try again, or readers weren't shown all. It
     /// may return for no reason.
-    pub fn rest<N: Names<Memory = Global>, R: Wait + Clock>(
+    pub fn rest<N: Names<Memory = Global>, L: Record, R: Wait + Clock>(
         &mut self,
         rt: &R,
-        node: &NodeLoop<N>,
+        node: &NodeLoop<N, L>,
         shown: bool,
     )
         ensures { self.new ≡ self.old }
@@ -108,11 +108,11 @@ impl Host {
     /// Call it behind the last turn: tells the callers that no reply comes any more, and gives what the thread gives back. It ended
     /// alone where the node hasn't left and the thread wasn't asked to end. Then the cluster is over, and all threads are asked to
     /// end: what other nodes ask of this one is never answered.
-    pub fn end<N: Names<Memory = Global>>(&self, node: NodeLoop<N>) -> NodeEnd<N>
-        ensures log { written result.log ≡ node.log }
+    pub fn end<N: Names<Memory = Global>, L: Record>(&self, node: NodeLoop<N, L>) -> NodeEnd<N, L>
+        ensures log { written (L.logged result.log) ≡ node.log }
         ensures table { N.contents result.table ≡ node.core.table }
         ensures ended_alone { node.left ≡ true → result.ended_alone ≡ false }
-        ensures sound { LeavesSound node (written result.log) (N.contents result.table) }
+        ensures sound { LeavesSound node (written (L.logged result.log)) (N.contents result.table) }
     {
         let ended_alone = !node.has_left() && !self.hub.is_closing();
         self.standing.end();

@@ -4,7 +4,7 @@ ghost use Rattle.shared_table.specs.Coming.{IsLoopOf};
 ghost use Rattle.node_seats.specs.Replies.{IsTold, IsToldTo};
 
 use name_table::Names;
-use shared_table::{Effect, NodeLoop, TaskFault, TaskReply, Ticket};
+use shared_table::{Effect, NodeLoop, Record, TaskFault, TaskReply, Ticket};
 use std::alloc::Global;
 use term::NodeName;
 
@@ -21,8 +21,8 @@ pub(crate) struct Laid {
 impl Laid {
     /// The oldest reply of a node's loop, which is taken off its list. Readers were shown all that the node shows, of a log of this length
     /// or less.
-    pub(crate) fn next<N: Names<Memory = Global>>(
-        node: &mut NodeLoop<N>,
+    pub(crate) fn next<N: Names<Memory = Global>, L: Record>(
+        node: &mut NodeLoop<N, L>,
         length: u64,
     ) -> Option<Self>
         requires came { IsLoopOf node.old.log.node node.old }

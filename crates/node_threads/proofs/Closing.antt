@@ -1,68 +1,68 @@
 -- What closing a cluster comes to, by what a replay says.
 use Rattle.std.proofs.Common.{ℕ, Bool, true, false, ◌≡◌, List, ◌++◌, map, refl, subst, inl}
 use Rattle.std.specs.Prelude.{Result, Ok, Err, IfOk, IfErr}
-use Rattle.registry_model.specs.Table.{Table}
-use Rattle.node_loop.specs.declared.NodeEnd.{NodeEnd}
 use Rattle.node_loop.specs.declared.Transcript.{Transcript}
 use Rattle.replay.specs.declared.closed.Closed.{Closed}
 use Rattle.replay.specs.declared.faults.CloseFault.{CloseFault}
 use Rattle.replay.specs.Consistent.{AreConsistent, is_torn}
-use Rattle.replay.specs.Ends.{end_of as seen_end}
+use Rattle.replay.specs.Ends.{End}
 use Rattle.replay.specs.Replaying.{Replayed, IsFault}
 use Rattle.node_seats.specs.Lines.{Sent}
 use Rattle.node_loop.specs.declared.item.Item.{Item}
 use Rattle.node_threads.specs.Wires.{Wired}
 use Rattle.node_threads.specs.Drawing.{Drawn, AllCompared}
-use Rattle.node_threads.specs.Ended.{end_of, AllReturn}
+use Rattle.node_threads.specs.Ended.{owner, AllReturn}
 use Rattle.node_threads.specs.Closing.{Replays, CloseIs}
 use Rattle.node_threads.proofs.Gathering.{left_all}
 
-module _ {N M : Type 0} (contents : N → Table) (cluster lone : List ℕ) (crew : List Wired) (ts : List Transcript) where
-  replays : (ends : List (NodeEnd N M)) (result : Result (Closed N M) CloseFault)
-      → IfOk result (λ closed. Replayed cluster lone (map (seen_end contents) ends) ts closed.events closed.world)
-      → IfErr result (λ fault. IsFault cluster lone (map (seen_end contents) ends) ts fault)
-      → Replays contents cluster lone crew ts ends result
+module _ {N M : Type 0} (cluster lone : List ℕ) (crew : List Wired) (ts : List Transcript) where
+  replays : (ends : List End) (result : Result (Closed N M) CloseFault)
+      → IfOk result (λ closed. Replayed cluster lone ends ts closed.events closed.world)
+      → IfErr result (λ fault. IsFault cluster lone ends ts fault)
+      → Replays cluster lone crew ts ends result
   replays ends (Ok closed) ok err = ok
   replays ends (Err fault) ok err = err
 
-  module _ (ends : List (NodeEnd N M)) (consistent : AreConsistent cluster lone (map (seen_end contents) ends)) (joined others : List ℕ) (lent : List (NodeEnd N M)) (a : joined ≡ cluster) (b : others ≡ lone) (same : lent ≡ ends) (result : Result (Closed N M) CloseFault) where
+  module _ (ends : List End) (consistent : AreConsistent cluster lone ends) (joined others : List ℕ) (lent : List End) (a : joined ≡ cluster) (b : others ≡ lone) (same : lent ≡ ends) (result : Result (Closed N M) CloseFault) where
     -- what a replay was lent
-    abbrev As : (List ℕ → List ℕ → List (NodeEnd N M) → Type 0) → Type 0
+    abbrev As : (List ℕ → List ℕ → List End → Type 0) → Type 0
     As F = F joined others lent → F cluster lone ends
 
-    as_lent : (F : List ℕ → List ℕ → List (NodeEnd N M) → Type 0) → As F
-    as_lent F h = subst (λ (x : List ℕ × List ℕ × List (NodeEnd N M)). F x.0 x.1 x.2) (λ j. (a j, b j, same j)) h
+    as_lent : (F : List ℕ → List ℕ → List End → Type 0) → As F
+    as_lent F h = subst (λ (x : List ℕ × List ℕ × List End). F x.0 x.1 x.2) (λ j. (a j, b j, same j)) h
 
-    pub closes : (lines : List (List (Sent Item))) (drawn : List Drawn) → AllReturn contents crew ends lines drawn → AllCompared lines drawn
-        → map end_of ends ≡ cluster ++ lone
-        → IfOk result (λ closed. Replayed joined others (map (seen_end contents) lent) ts closed.events closed.world)
-        → IfErr result (λ fault. IsFault joined others (map (seen_end contents) lent) ts fault)
-        → CloseIs contents cluster lone crew ts result
+    pub closes : (lines : List (List (Sent Item))) (drawn : List Drawn) → AllReturn crew ends lines drawn → AllCompared lines drawn
+        → map owner ends ≡ cluster ++ lone
+        → IfOk result (λ closed. Replayed joined others lent ts closed.events closed.world)
+        → IfErr result (λ fault. IsFault joined others lent ts fault)
+        → CloseIs cluster lone crew ts result
     closes lines drawn returned compared names ok err = inl (record {
       ends = ends;
-      lines = lines;
-      drawn = drawn;
-      returned = returned;
-      compared = compared;
-      names = names;
-      left = left_all contents crew ends lines drawn returned;
-      consistent = consistent;
+      back = record {
+        lines = lines;
+        drawn = drawn;
+        returned = returned;
+        compared = compared;
+        names = names;
+        left = left_all crew ends lines drawn returned;
+        consistent = consistent;
+      };
       replays = replays ends result
-          (as_lent (λ js os es. IfOk result (λ closed. Replayed js os (map (seen_end contents) es) ts closed.events closed.world)) ok)
-          (as_lent (λ js os es. IfErr result (λ fault. IsFault js os (map (seen_end contents) es) ts fault)) err);
+          (as_lent (λ js os es. IfOk result (λ closed. Replayed js os es ts closed.events closed.world)) ok)
+          (as_lent (λ js os es. IfErr result (λ fault. IsFault js os es ts fault)) err);
     })
 
     -- it is whole
-    pub never_torn : IfErr result (λ fault. is_torn fault ≡ true → AreConsistent joined others (map (seen_end contents) lent) → ⊥)
+    pub never_torn : IfErr result (λ fault. is_torn fault ≡ true → AreConsistent joined others lent → ⊥)
         → IfErr result (λ fault. is_torn fault ≡ false)
-    never_torn h = at result (as_lent (λ js os es. IfErr result (λ fault. is_torn fault ≡ true → AreConsistent js os (map (seen_end contents) es) → ⊥)) h)
+    never_torn h = at result (as_lent (λ js os es. IfErr result (λ fault. is_torn fault ≡ true → AreConsistent js os es → ⊥)) h)
       where
         not_true : (t : Bool) → (t ≡ true → ⊥) → t ≡ false
         not_true true never = absurd (never refl)
         not_true false never = refl
 
         at : (r : Result (Closed N M) CloseFault)
-            → IfErr r (λ fault. is_torn fault ≡ true → AreConsistent cluster lone (map (seen_end contents) ends) → ⊥)
+            → IfErr r (λ fault. is_torn fault ≡ true → AreConsistent cluster lone ends → ⊥)
             → IfErr r (λ fault. is_torn fault ≡ false)
         at (Ok closed) never = tt
         at (Err fault) never = not_true (is_torn fault) (λ e. never e consistent)

@@ -4,12 +4,11 @@ use Rattle.std.specs.Prelude.{All}
 use Rattle.std.specs.declared.alloc.Global.{Global}
 use Rattle.std.proofs.lemmas.Bool.{cases_eq}
 use Rattle.std.proofs.lemmas.List.{get_or_append_left, get_or_at, get_or_push, get_or-map, length-append, length_push, length-map, same_lists}
-use Rattle.registry_model.specs.Table.{Table}
 use Rattle.link.specs.Mailboxes.{Room}
-use Rattle.node_loop.specs.declared.NodeEnd.{NodeEnd}
 use Rattle.node_loop.specs.declared.item.Item.{Item}
 use Rattle.node_seats.specs.declared.parcel.Parcel.{Parcel}
 use Rattle.node_seats.specs.Lines.{Sent}
+use Rattle.replay.specs.Ends.{End}
 use Rattle.node_seats.specs.Addresses.{Inbox}
 use Rattle.node_threads.specs.Wires.{Wired, inboxes, IsCrew}
 use Rattle.node_threads.specs.Drawing.{Drawn, Compares, CompareAll, AllCompared}
@@ -57,7 +56,7 @@ module _ (row done rest : List (Sent Item)) (line : Sent Item) (drawn : List Dra
       stands = ap (λ (ls : List (Sent Item)). get_or ls (length done) line) (sym parts) ∙ get_or_at done line rest line (length done) refl
 
 -- what threads give back leads so
-module _ {N M : Type 0} (contents : N → Table) (cluster lone : List ℕ) (ws : List Wired) (crew : IsCrew cluster lone ws) (ends : List (NodeEnd N M)) (rows : List (List (Sent Item))) (drawn : List Drawn) (A : AllReturn contents ws ends rows drawn) where
+module _ (cluster lone : List ℕ) (ws : List Wired) (crew : IsCrew cluster lone ws) (ends : List End) (rows : List (List (Sent Item))) (drawn : List Drawn) (A : AllReturn ws ends rows drawn) where
   -- the inboxes are those of the nodes
   drawn_from : map (λ x. x.inbox) drawn ≡ inboxes ws
   drawn_from = same_lists (map (λ (x : Drawn). x.inbox) drawn) (inboxes ws)
@@ -66,7 +65,7 @@ module _ {N M : Type 0} (contents : N → Table) (cluster lone : List ℕ) (ws :
     where
       at : (k : ℕ) (d : Inbox) → k < length ws → get_or (map (λ (x : Drawn). x.inbox) drawn) k d ≡ get_or (inboxes ws) k d
       at k d lt = get_or-map (λ (x : Drawn). x.inbox) drawn k (record { inbox = d; taken = [] }) d (omega (arith, lt, A.as_many_drawn))
-          ∙ (returned contents ws ends rows drawn A k lt (item_at ws k lt) [] (record { inbox = d; taken = [] })).inbox
+          ∙ (returned ws ends rows drawn A k lt (item_at ws k lt) [] (record { inbox = d; taken = [] })).inbox
           ∙ sym (get_or-map (λ (w : Wired). w.inbox) ws k (item_at ws k lt) d lt)
 
   rooms_drawn : map (λ x. x.inbox.room) drawn ≡ map (λ b. b.room) (inboxes ws)
@@ -81,7 +80,7 @@ module _ {N M : Type 0} (contents : N → Table) (cluster lone : List ℕ) (ws :
   rooms_of k r lt =
       let w = item_at ws k lt in
       sym (rooms_unused (get_or rows k r))
-      ∙ ap rooms ((returned contents ws ends rows drawn A k lt w r (item_at drawn k (omega (arith, lt, A.as_many_drawn)))).kept ∙ crew.wired k w lt)
+      ∙ ap rooms ((returned ws ends rows drawn A k lt w r (item_at drawn k (omega (arith, lt, A.as_many_drawn)))).kept ∙ crew.wired k w lt)
       ∙ rooms_new (k + 1) (inboxes ws) ∙ sym rooms_drawn
 
   -- so as they are held

@@ -15,7 +15,6 @@ use Rattle.term.proofs.NodePlaces.{place-Some}
 use Rattle.link.specs.Held.{place}
 use Rattle.link.specs.Rule.{Begins}
 use Rattle.node_loop.specs.Openings.{repeats, opening_with}
-use Rattle.node_loop.specs.declared.NodeEnd.{NodeEnd}
 use Rattle.node_loop.specs.declared.item.Item.{Item}
 use Rattle.node_loop.specs.Held.{Written, written}
 use Rattle.node_loop.specs.Dealings.{Dealt, nothing_dealt, took, put}
@@ -23,7 +22,7 @@ use Rattle.node_loop.specs.Sound.{Tells}
 use Rattle.node_loop.specs.Telling.{AllTell}
 use Rattle.node_loop.proofs.Consistency.{threads_are_consistent}
 use Rattle.node_seats.specs.Lines.{Sent}
-use Rattle.replay.specs.Ends.{End, logs_of, end_of as seen_end}
+use Rattle.replay.specs.Ends.{End, logs_of}
 use Rattle.replay.specs.Steps.{log_of}
 use Rattle.replay.specs.Replaying.{AreAll}
 use Rattle.replay.specs.Consistent.{AreConsistent}
@@ -35,7 +34,7 @@ use Rattle.node_threads.specs.Wires.{Wired, name_of, inboxes, line_to, unused, O
 use Rattle.node_threads.specs.Ends.{are_inside}
 use Rattle.node_threads.specs.Dealings.{dealt_by}
 use Rattle.node_threads.specs.Drawing.{Drawn, Compares, AllCompared}
-use Rattle.node_threads.specs.Ended.{end_of, Returns, AllReturn}
+use Rattle.node_threads.specs.Ended.{owner, Returns, AllReturn}
 use Rattle.node_threads.proofs.Pairs.{mapped_at, made_of, begins}
 
 -- a list has something at each of its places
@@ -77,21 +76,18 @@ told : {p : Opening} {l m : Written} {t u : Table} {d e : Dealt} → l ≡ m →
 told {p} {l} {m} {t} {u} {d} {e} log table dealt h =
     subst (λ (x : Written). Tells p x u e) log (subst (λ (x : Table). Tells p l x e) table (subst (λ (x : Dealt). Tells p l t x) dealt h))
 
-module _ {N M : Type 0} (contents : N → Table) (cluster lone : List ℕ) (ws : List Wired) (ends : List (NodeEnd N M)) (rows : List (List (Sent Item))) (drawn : List Drawn) (crew : IsCrew cluster lone ws) (returned : AllReturn contents ws ends rows drawn) (compared : AllCompared rows drawn) (once : repeats (cluster ++ lone) ≡ false) where
+module _ (cluster lone : List ℕ) (ws : List Wired) (ends : List End) (rows : List (List (Sent Item))) (drawn : List Drawn) (crew : IsCrew cluster lone ws) (returned : AllReturn ws ends rows drawn) (compared : AllCompared rows drawn) (once : repeats (cluster ++ lone) ≡ false) where
   abbrev row : List ℕ
   row = cluster ++ lone
 
   abbrev o : Opening
   o = opening_with (cluster ++ lone) cluster
 
-  abbrev seen : List End
-  seen = map (seen_end contents) ends
-
   abbrev logs : ℕ → Written
-  logs a = record { node = a; entries = log_of a (logs_of seen) }
+  logs a = record { node = a; entries = log_of a (logs_of ends) }
 
   abbrev tables : ℕ → Table
-  tables a = table_at o seen a (place a row)
+  tables a = table_at o ends a (place a row)
 
   abbrev dealt : ℕ → Dealt
   dealt a = dealt_at rows drawn (place a row)
@@ -99,7 +95,7 @@ module _ {N M : Type 0} (contents : N → Table) (cluster lone : List ℕ) (ws :
   -- the thread of node a, which has place i: how it was started, and what it gave back
   record Thread (i a : ℕ) : Type 0 where
     wired : Wired
-    end : NodeEnd N M
+    end : End
     lines : List (Sent Item)
     box : Drawn
     here : slice_get row i ≡ Some a
@@ -109,15 +105,15 @@ module _ {N M : Type 0} (contents : N → Table) (cluster lone : List ℕ) (ws :
     lines_at : slice_get rows i ≡ Some lines
     box_at : slice_get drawn i ≡ Some box
     opens : Opens cluster lone wired
-    returns : Returns contents wired end lines box
+    returns : Returns wired end lines box
 
-  returns_at : (i : ℕ) (w : Wired) (e : NodeEnd N M) (ls : List (Sent Item)) (d : Drawn) → slice_get ws i ≡ Some w
-      → slice_get ends i ≡ Some e → slice_get rows i ≡ Some ls → slice_get drawn i ≡ Some d → Returns contents w e ls d
+  returns_at : (i : ℕ) (w : Wired) (e : End) (ls : List (Sent Item)) (d : Drawn) → slice_get ws i ≡ Some w
+      → slice_get ends i ≡ Some e → slice_get rows i ≡ Some ls → slice_get drawn i ≡ Some d → Returns w e ls d
   returns_at i w e ls d w_at e_at ls_at d_at =
-      subst (λ (x : Wired). Returns contents x e ls d) (get_or_from_slice_get ws i w w w_at)
-      (subst (λ (x : NodeEnd N M). Returns contents (get_or ws i w) x ls d) (get_or_from_slice_get ends i e e e_at)
-      (subst (λ (x : List (Sent Item)). Returns contents (get_or ws i w) (get_or ends i e) x d) (get_or_from_slice_get rows i ls ls ls_at)
-      (subst (λ (x : Drawn). Returns contents (get_or ws i w) (get_or ends i e) (get_or rows i ls) x) (get_or_from_slice_get drawn i d d d_at)
+      subst (λ (x : Wired). Returns x e ls d) (get_or_from_slice_get ws i w w w_at)
+      (subst (λ (x : End). Returns (get_or ws i w) x ls d) (get_or_from_slice_get ends i e e e_at)
+      (subst (λ (x : List (Sent Item)). Returns (get_or ws i w) (get_or ends i e) x d) (get_or_from_slice_get rows i ls ls ls_at)
+      (subst (λ (x : Drawn). Returns (get_or ws i w) (get_or ends i e) (get_or rows i ls) x) (get_or_from_slice_get drawn i d d d_at)
       (returned.each i w e ls d (slice_get_within ws i w w_at)))))
 
   thread : (i a : ℕ) → slice_get row i ≡ Some a → Thread i a
@@ -125,7 +121,7 @@ module _ {N M : Type 0} (contents : N → Table) (cluster lone : List ℕ) (ws :
       let w : (x : Wired) × (slice_get ws i ≡ Some x) × (name_of x ≡ a) =
       made_of name_of ws i a (ap (λ (ns : List ℕ). slice_get ns i) crew.names ∙ here) in
       let l : i < length ws = slice_get_within ws i w.0 w.1 in
-      let e : (x : NodeEnd N M) × (slice_get ends i ≡ Some x) =
+      let e : (x : End) × (slice_get ends i ≡ Some x) =
       standing ends i (subst (λ (n : ℕ). i < n) (sym returned.as_many_ends) l) in
       let ls : (x : List (Sent Item)) × (slice_get rows i ≡ Some x) =
       standing rows i (subst (λ (n : ℕ). i < n) (sym returned.as_many_rows) l) in
@@ -147,30 +143,30 @@ module _ {N M : Type 0} (contents : N → Table) (cluster lone : List ℕ) (ws :
       }
 
   -- its end has its log
-  whose : (i a : ℕ) (T : Thread i a) → end_of T.end ≡ a
+  whose : (i a : ℕ) (T : Thread i a) → owner T.end ≡ a
   whose i a T = T.returns.left.node ∙ T.name
 
   -- so the ends are those of the row, in its order
-  pub ends_names : map end_of ends ≡ row
-  ends_names = ext_get_or 0 (map end_of ends) row as_many (λ k l. each k (subst (λ (n : ℕ). k < n) as_many l))
+  pub ends_names : map owner ends ≡ row
+  ends_names = ext_get_or 0 (map owner ends) row as_many (λ k l. each k (subst (λ (n : ℕ). k < n) as_many l))
     where
-      as_many : length (map end_of ends) ≡ length row
-      as_many = length-map ends end_of ∙ returned.as_many_ends ∙ sym (length-map ws name_of) ∙ ap length crew.names
+      as_many : length (map owner ends) ≡ length row
+      as_many = length-map ends owner ∙ returned.as_many_ends ∙ sym (length-map ws name_of) ∙ ap length crew.names
 
-      each : (k : ℕ) → k < length row → get_or (map end_of ends) k 0 ≡ get_or row k 0
+      each : (k : ℕ) → k < length row → get_or (map owner ends) k 0 ≡ get_or row k 0
       each k l =
           let T : Thread k (get_or row k 0) = thread k (get_or row k 0) (slice_get-get_or row k 0 l) in
-          get_or_from_slice_get (map end_of ends) k (end_of T.end) 0 (mapped_at end_of ends k T.end T.end_at) ∙ whose k (get_or row k 0) T
+          get_or_from_slice_get (map owner ends) k (owner T.end) 0 (mapped_at owner ends k T.end T.end_at) ∙ whose k (get_or row k 0) T
 
-  names : map (λ l. l.node) (logs_of seen) ≡ row
-  names = map-map (λ l. l.node) (λ (e : End). e.log) seen ∙ map-map (λ (e : End). e.log.node) (seen_end contents) ends ∙ ends_names
+  names : map (λ l. l.node) (logs_of ends) ≡ row
+  names = map-map (λ l. l.node) (λ (e : End). e.log) ends ∙ ends_names
 
   -- a stranger has no log
-  silent : (a : ℕ) → in_world o a ≡ false → log_of a (logs_of seen) ≡ []
-  silent a strange = elim (found a (logs_of seen)) [
+  silent : (a : ℕ) → in_world o a ≡ false → log_of a (logs_of ends) ≡ []
+  silent a strange = elim (found a (logs_of ends)) [
     | inl none ↦ none
     | inr S ↦ absurd (true≢false (sym (set_of-at row S.place a (ap (λ (ns : List ℕ). slice_get ns S.place) (sym names)
-        ∙ mapped_at (λ l. l.node) (logs_of seen) S.place S.log S.here ∙ ap (λ (c : ℕ). Some c) S.whose))
+        ∙ mapped_at (λ l. l.node) (logs_of ends) S.place S.log S.here ∙ ap (λ (c : ℕ). Some c) S.whose))
         ∙ sym (ap (λ (s : Nodes). s a) (world_is row cluster)) ∙ strange))
   ]
 
@@ -225,29 +221,26 @@ module _ {N M : Type 0} (contents : N → Table) (cluster lone : List ℕ) (ws :
       (mapped_at (λ (d : Drawn). d.taken) drawn i T.box T.box_at)))
 
   -- its log and its table tell of it
-  tells : (i a : ℕ) (T : Thread i a) → Tells o (logs a) (table_at o seen a (Some i)) (dealt_at rows drawn (Some i))
+  tells : (i a : ℕ) (T : Thread i a) → Tells o (logs a) (table_at o ends a (Some i)) (dealt_at rows drawn (Some i))
   tells i a T = told log table (deals i a T)
       (T.returns.tells o T.opens.of T.opens.node (inside i a T))
     where
-      there : slice_get seen i ≡ Some (seen_end contents T.end)
-      there = mapped_at (seen_end contents) ends i T.end T.end_at
-
-      entries : log_of a (logs_of seen) ≡ T.end.log.entries
-      entries = ap (λ (n : ℕ). log_of n (logs_of seen)) (sym (whose i a T))
-          ∙ log_is (logs_of seen) (ap repeats names ∙ once) i T.end.log
-          (mapped_at (λ (e : End). e.log) seen i (seen_end contents T.end) there)
+      entries : log_of a (logs_of ends) ≡ T.end.log.entries
+      entries = ap (λ (n : ℕ). log_of n (logs_of ends)) (sym (whose i a T))
+          ∙ log_is (logs_of ends) (ap repeats names ∙ once) i T.end.log
+          (mapped_at (λ (e : End). e.log) ends i T.end T.end_at)
 
       log : written T.end.log ≡ logs a
       log = λ j. record { node = whose i a T j; entries = sym entries j }
 
-      table : contents T.end.table ≡ table_at o seen a (Some i)
-      table = sym (get_or_from_slice_get (map (λ (e : End). e.table) seen) i (contents T.end.table) (opening_table o a)
-          (mapped_at (λ (e : End). e.table) seen i (seen_end contents T.end) there))
+      table : T.end.table ≡ table_at o ends a (Some i)
+      table = sym (get_or_from_slice_get (map (λ (e : End). e.table) ends) i T.end.table (opening_table o a)
+          (mapped_at (λ (e : End). e.table) ends i T.end T.end_at))
 
   tell : (a : ℕ) → in_world o a ≡ true → Tells o (logs a) (tables a) (dealt a)
   tell a known =
       let p : (i : ℕ) × (place a row ≡ Some i) = placed a known in
-      subst (λ (q : Option ℕ). Tells o (logs a) (table_at o seen a q) (dealt_at rows drawn q)) (sym p.1)
+      subst (λ (q : Option ℕ). Tells o (logs a) (table_at o ends a q) (dealt_at rows drawn q)) (sym p.1)
       (tells p.0 a (thread p.0 a (place_here row a p.0 p.1)))
 
   all_tell : AllTell o logs tables dealt
@@ -255,7 +248,7 @@ module _ {N M : Type 0} (contents : N → Table) (cluster lone : List ℕ) (ws :
     nodes = λ a. refl;
     tell = tell;
     silent = silent;
-    bare = λ a strange. ap (table_at o seen a) (unplaced a strange);
+    bare = λ a strange. ap (table_at o ends a) (unplaced a strange);
   }
 
   -- what one took from another begins what that put on its way
@@ -294,16 +287,16 @@ module _ {N M : Type 0} (contents : N → Table) (cluster lone : List ℕ) (ws :
       (pair p.0 f q.0 t (thread p.0 f (place_here row f p.0 p.1)) (thread q.0 t (place_here row t q.0 q.1))))
 
   -- the table of each end is that of its node
-  theirs : AreAll (λ e. e.table ≡ tables e.log.node) seen
-  theirs k x l here = sym (ap (table_at o seen x.log.node) (place_is row x.log.node k once stands)
-      ∙ get_or_from_slice_get (map (λ (e : End). e.table) seen) k x.table (opening_table o x.log.node)
-      (mapped_at (λ (e : End). e.table) seen k x here))
+  theirs : AreAll (λ e. e.table ≡ tables e.log.node) ends
+  theirs k x l here = sym (ap (table_at o ends x.log.node) (place_is row x.log.node k once stands)
+      ∙ get_or_from_slice_get (map (λ (e : End). e.table) ends) k x.table (opening_table o x.log.node)
+      (mapped_at (λ (e : End). e.table) ends k x here))
     where
       stands : slice_get row k ≡ Some x.log.node
       stands = ap (λ (ns : List ℕ). slice_get ns k) (sym names)
-          ∙ mapped_at (λ l. l.node) (logs_of seen) k x.log (mapped_at (λ (e : End). e.log) seen k x here)
+          ∙ mapped_at (λ l. l.node) (logs_of ends) k x.log (mapped_at (λ (e : End). e.log) ends k x here)
 
-  pub consistent : AreConsistent cluster lone (map (seen_end contents) ends)
+  pub consistent : AreConsistent cluster lone ends
   consistent = record {
     tables = tables;
     theirs = theirs;

@@ -3,13 +3,12 @@ use Rattle.std.proofs.Common.{ℕ, zero, suc, ◌+◌, ◌≡◌, ◌<◌, ◌�
 use Rattle.std.specs.Prelude.{All}
 use Rattle.std.proofs.lemmas.Bool.{cases_eq}
 use Rattle.std.proofs.lemmas.List.{get_or_append_left, get_or_push, length_push}
-use Rattle.registry_model.specs.Table.{Table}
-use Rattle.node_loop.specs.declared.NodeEnd.{NodeEnd}
 use Rattle.node_loop.specs.declared.item.Item.{Item}
 use Rattle.node_seats.specs.Lines.{Sent}
+use Rattle.replay.specs.Ends.{End}
 use Rattle.node_threads.specs.Wires.{Wired, name_of}
 use Rattle.node_threads.specs.Drawing.{Drawn}
-use Rattle.node_threads.specs.Ended.{end_of, IsLeftBy, Returns, AllReturn}
+use Rattle.node_threads.specs.Ended.{owner, IsLeftBy, Returns, AllReturn}
 
 -- the element at a place
 pub item_at : {X : Type 0} (xs : List X) (k : ℕ) → k < length xs → X
@@ -17,59 +16,58 @@ item_at [] k lt = absurd (omega (arith, lt))
 item_at (x ∷ xs) zero lt = x
 item_at (x ∷ xs) (suc k) lt = item_at xs k (omega (arith, lt))
 
-module _ {N M : Type 0} (contents : N → Table) where
-  -- one thread more gave this back
-  module _ (ws : List Wired) (ends : List (NodeEnd N M)) (rows : List (List (Sent Item))) (drawn : List Drawn) (A : AllReturn contents ws ends rows drawn)
-      (w : Wired) (end : NodeEnd N M) (row : List (Sent Item)) (d : Drawn) (R : Returns contents w end row d) where
-    pushed : AllReturn contents (ws ++ w ∷ []) (ends ++ end ∷ []) (rows ++ row ∷ []) (drawn ++ d ∷ [])
-    pushed = record {
-      as_many_ends = length_push ends end ∙ ap (λ (n : ℕ). n + 1) A.as_many_ends ∙ sym (length_push ws w);
-      as_many_rows = length_push rows row ∙ ap (λ (n : ℕ). n + 1) A.as_many_rows ∙ sym (length_push ws w);
-      as_many_drawn = length_push drawn d ∙ ap (λ (n : ℕ). n + 1) A.as_many_drawn ∙ sym (length_push ws w);
-      each = λ i v e r c lt. at i v e r c lt (cases_eq i (length ws));
-    }
-      where
-        at : (i : ℕ) (v : Wired) (e : NodeEnd N M) (r : List (Sent Item)) (c : Drawn) → i < length (ws ++ w ∷ [])
-            → (i ≡ length ws) ⊎ (i ≡ length ws → ⊥)
-            → Returns contents (get_or (ws ++ w ∷ []) i v) (get_or (ends ++ end ∷ []) i e) (get_or (rows ++ row ∷ []) i r) (get_or (drawn ++ d ∷ []) i c)
-        at i v e r c lt (inl is) =
-            subst (λ (x : Wired × NodeEnd N M × List (Sent Item) × Drawn). Returns contents x.0 x.1 x.2 x.3)
-            (λ j. (
-              sym (get_or_push ws w v i (sym is)) j,
-              sym (get_or_push ends end e i (A.as_many_ends ∙ sym is)) j,
-              sym (get_or_push rows row r i (A.as_many_rows ∙ sym is)) j,
-              sym (get_or_push drawn d c i (A.as_many_drawn ∙ sym is)) j,
-            )) R
-        at i v e r c lt (inr ne) =
-            subst (λ (x : Wired × NodeEnd N M × List (Sent Item) × Drawn). Returns contents x.0 x.1 x.2 x.3)
-            (λ j. (
-              sym (get_or_append_left ws (w ∷ []) v i below) j,
-              sym (get_or_append_left ends (end ∷ []) e i (omega (arith, below, A.as_many_ends))) j,
-              sym (get_or_append_left rows (row ∷ []) r i (omega (arith, below, A.as_many_rows))) j,
-              sym (get_or_append_left drawn (d ∷ []) c i (omega (arith, below, A.as_many_drawn))) j,
-            )) (A.each i v e r c below)
-          where
-            below : i < length ws
-            below = omega (arith, lt, ne, length_push ws w)
+-- one thread more gave this back
+module _ (ws : List Wired) (ends : List End) (rows : List (List (Sent Item))) (drawn : List Drawn) (A : AllReturn ws ends rows drawn)
+    (w : Wired) (end : End) (row : List (Sent Item)) (d : Drawn) (R : Returns w end row d) where
+  pushed : AllReturn (ws ++ w ∷ []) (ends ++ end ∷ []) (rows ++ row ∷ []) (drawn ++ d ∷ [])
+  pushed = record {
+    as_many_ends = length_push ends end ∙ ap (λ (n : ℕ). n + 1) A.as_many_ends ∙ sym (length_push ws w);
+    as_many_rows = length_push rows row ∙ ap (λ (n : ℕ). n + 1) A.as_many_rows ∙ sym (length_push ws w);
+    as_many_drawn = length_push drawn d ∙ ap (λ (n : ℕ). n + 1) A.as_many_drawn ∙ sym (length_push ws w);
+    each = λ i v e r c lt. at i v e r c lt (cases_eq i (length ws));
+  }
+    where
+      at : (i : ℕ) (v : Wired) (e : End) (r : List (Sent Item)) (c : Drawn) → i < length (ws ++ w ∷ [])
+          → (i ≡ length ws) ⊎ (i ≡ length ws → ⊥)
+          → Returns (get_or (ws ++ w ∷ []) i v) (get_or (ends ++ end ∷ []) i e) (get_or (rows ++ row ∷ []) i r) (get_or (drawn ++ d ∷ []) i c)
+      at i v e r c lt (inl is) =
+          subst (λ (x : Wired × End × List (Sent Item) × Drawn). Returns x.0 x.1 x.2 x.3)
+          (λ j. (
+            sym (get_or_push ws w v i (sym is)) j,
+            sym (get_or_push ends end e i (A.as_many_ends ∙ sym is)) j,
+            sym (get_or_push rows row r i (A.as_many_rows ∙ sym is)) j,
+            sym (get_or_push drawn d c i (A.as_many_drawn ∙ sym is)) j,
+          )) R
+      at i v e r c lt (inr ne) =
+          subst (λ (x : Wired × End × List (Sent Item) × Drawn). Returns x.0 x.1 x.2 x.3)
+          (λ j. (
+            sym (get_or_append_left ws (w ∷ []) v i below) j,
+            sym (get_or_append_left ends (end ∷ []) e i (omega (arith, below, A.as_many_ends))) j,
+            sym (get_or_append_left rows (row ∷ []) r i (omega (arith, below, A.as_many_rows))) j,
+            sym (get_or_append_left drawn (d ∷ []) c i (omega (arith, below, A.as_many_drawn))) j,
+          )) (A.each i v e r c below)
+        where
+          below : i < length ws
+          below = omega (arith, lt, ne, length_push ws w)
 
-    pub one_more_returned : (more_ends : List (NodeEnd N M)) (more_rows : List (List (Sent Item))) (more_drawn : List Drawn)
-        → more_ends ≡ ends ++ end ∷ [] → more_rows ≡ rows ++ row ∷ [] → more_drawn ≡ drawn ++ d ∷ []
-        → AllReturn contents (ws ++ w ∷ []) more_ends more_rows more_drawn
-    one_more_returned more_ends more_rows more_drawn p q r =
-        subst (λ (x : List (NodeEnd N M) × List (List (Sent Item)) × List Drawn). AllReturn contents (ws ++ w ∷ []) x.0 x.1 x.2)
-        (λ j. (sym p j, sym q j, sym r j)) pushed
+  pub one_more_returned : (more_ends : List End) (more_rows : List (List (Sent Item))) (more_drawn : List Drawn)
+      → more_ends ≡ ends ++ end ∷ [] → more_rows ≡ rows ++ row ∷ [] → more_drawn ≡ drawn ++ d ∷ []
+      → AllReturn (ws ++ w ∷ []) more_ends more_rows more_drawn
+  one_more_returned more_ends more_rows more_drawn p q r =
+      subst (λ (x : List End × List (List (Sent Item)) × List Drawn). AllReturn (ws ++ w ∷ []) x.0 x.1 x.2)
+      (λ j. (sym p j, sym q j, sym r j)) pushed
 
 -- of each node the end is what its loop left behind
-module _ {N M : Type 0} (contents : N → Table) (ws : List Wired) (ends : List (NodeEnd N M)) (rows : List (List (Sent Item))) (drawn : List Drawn) (A : AllReturn contents ws ends rows drawn) where
+module _ (ws : List Wired) (ends : List End) (rows : List (List (Sent Item))) (drawn : List Drawn) (A : AllReturn ws ends rows drawn) where
   pub returned : (k : ℕ) (lt : k < length ws) (w : Wired) (r : List (Sent Item)) (d : Drawn)
-      → Returns contents (get_or ws k w) (get_or ends k (item_at ends k (omega (arith, lt, A.as_many_ends)))) (get_or rows k r) (get_or drawn k d)
+      → Returns (get_or ws k w) (get_or ends k (item_at ends k (omega (arith, lt, A.as_many_ends)))) (get_or rows k r) (get_or drawn k d)
   returned k lt w r d = A.each k w (item_at ends k (omega (arith, lt, A.as_many_ends))) r d lt
 
-  left_at : (k : ℕ) (w : Wired) (e : NodeEnd N M) → k < length ws → IsLeftBy contents (name_of (get_or ws k w)) (get_or ends k e)
+  left_at : (k : ℕ) (w : Wired) (e : End) → k < length ws → IsLeftBy (name_of (get_or ws k w)) (get_or ends k e)
   left_at k w e lt = (A.each k w e [] (item_at drawn k (omega (arith, lt, A.as_many_drawn))) lt).left
 
-  pub left_all : All (λ e. IsLeftBy contents (end_of e) e) ends
+  pub left_all : All (λ e. IsLeftBy (owner e) e) ends
   left_all k e lt =
       let here : k < length ws = omega (arith, lt, A.as_many_ends) in
-      let left : IsLeftBy contents (name_of (get_or ws k (item_at ws k here))) (get_or ends k e) = left_at k (item_at ws k here) e here in
-      subst (λ (n : ℕ). IsLeftBy contents n (get_or ends k e)) (sym left.node) left
+      let left : IsLeftBy (name_of (get_or ws k (item_at ws k here))) (get_or ends k e) = left_at k (item_at ws k here) e here in
+      subst (λ (n : ℕ). IsLeftBy n (get_or ends k e)) (sym left.node) left

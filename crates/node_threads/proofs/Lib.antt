@@ -16,4 +16,5 @@ mod Gathering
 mod Comparing
 mod Pairs
 mod Consistency
+mod Telling
 pub mod Closing

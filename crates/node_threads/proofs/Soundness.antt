@@ -1,6 +1,5 @@
 -- A node's loop over its end stays sound, turn by turn, and its thread gives back what tells of it.
 use Rattle.std.proofs.Common.{true, false, ◌≡◌, inl, inr, List, [], map, Ok, Err, is_ok, sym, ap, subst, ◌∙◌}
-use Rattle.registry_model.specs.Table.{Table}
 use Rattle.protocol_model.specs.World.{Opening}
 use Rattle.link.specs.declared.mailbox.Mailbox.{Mailbox}
 use Rattle.link.specs.Mailboxes.{taken, mailbox_room}
@@ -13,8 +12,8 @@ use Rattle.node_loop.specs.Sound.{IsSound, EndsSound, Tells, LeavesSound}
 use Rattle.node_loop.proofs.Standing.{besides}
 use Rattle.node_seats.specs.declared.parcel.Parcel.{Parcel}
 use Rattle.node_seats.specs.Lines.{Sent}
+use Rattle.replay.specs.Ends.{End}
 use Rattle.node_threads.specs.declared.ruled_end.Traffic.{Traffic}
-use Rattle.node_threads.specs.declared.running.Ended.{Ended}
 use Rattle.node_threads.specs.Givers.{receivers, letters_of, tasks_of}
 use Rattle.node_threads.specs.Wires.{unused}
 use Rattle.node_threads.specs.Ends.{are_inside, leads_inside, fixed}
@@ -57,7 +56,7 @@ pub ends_behind : (a : Looping) (s : Traffic) (b : Looping) (t : Traffic) (c : L
 ends_behind a s b t c u stays ends o here = ends o (stays o here)
 
 -- What a thread gives back: it began with the loop a and an end that stood as s, and behind its last turn they were b and t
-module _ {N M : Type 0} (contents : N → Table) (a : Looping) (lines : List (Sent Item)) (mailbox : Mailbox (Parcel Item)) (s : Traffic) (b : Looping) (t : Traffic) (e : Ended N M)
+module _ (a : Looping) (lines : List (Sent Item)) (mailbox : Mailbox (Parcel Item)) (s : Traffic) (b : Looping) (t : Traffic) (e : End) (rows : List (Sent Item)) (box : Mailbox (Parcel Item))
     (first : s ≡ record {
       node = a.log.node;
       first = mailbox;
@@ -67,8 +66,8 @@ module _ {N M : Type 0} (contents : N → Table) (a : Looping) (lines : List (Se
       waiting = [];
     })
     (came : IsLoopOf a.log.node b) (node : b.log.node ≡ a.log.node) (sound : LastsSound a s b t) (same : fixed t ≡ fixed s)
-    (log : written e.end.log ≡ b.log) (table : contents e.end.table ≡ b.core.table) (left : b.left ≡ true → e.end.ended_alone ≡ false) (leaves : LeavesSound b (written e.end.log) (contents e.end.table))
-    (row : e.lines.items ≡ t.lines) (took : letters_of (receivers t.lines) (taken e.mailbox) ≡ t.letters) (room : mailbox_room e.mailbox ≡ mailbox_room t.first) where
+    (log : written e.log ≡ b.log) (table : e.table ≡ b.core.table) (left : b.left ≡ true → e.ended_alone ≡ false) (leaves : LeavesSound b (written e.log) e.table)
+    (row : rows ≡ t.lines) (took : letters_of (receivers t.lines) (taken box) ≡ t.letters) (room : mailbox_room box ≡ mailbox_room t.first) where
   t_node : t.node ≡ a.log.node
   t_node = ap (λ (x : Traffic). x.node) same ∙ ap (λ (x : Traffic). x.node) first
 
@@ -82,13 +81,13 @@ module _ {N M : Type 0} (contents : N → Table) (a : Looping) (lines : List (Se
   t_row : receivers t.lines ≡ receivers lines
   t_row = sym (receivers_unused t.lines) ∙ ap receivers t_lines ∙ receivers_unused lines
 
-  dealt : dealt_of t ≡ dealt_by e.lines.items (taken e.mailbox)
+  dealt : dealt_of t ≡ dealt_by rows (taken box)
   dealt = λ j. record {
     sent = λ x. sent_to x (sym row j);
-    taken = λ f. taken_from f ((sym took ∙ ap (λ (ls : List (Sent Item)). letters_of (receivers ls) (taken e.mailbox)) (sym row)) j);
+    taken = λ f. taken_from f ((sym took ∙ ap (λ (ls : List (Sent Item)). letters_of (receivers ls) (taken box)) (sym row)) j);
   }
 
-  pub gives_back : IsEndOf contents a lines mailbox e
+  pub gives_back : IsEndOf a lines mailbox e rows box
   gives_back = record {
     left = record {
       loop = b;
@@ -100,7 +99,7 @@ module _ {N M : Type 0} (contents : N → Table) (a : Looping) (lines : List (Se
     };
     kept = ap (map unused) row ∙ t_lines;
     room = room ∙ ap mailbox_room t_first;
-    tells = λ o inside begun. subst (Tells o (written e.end.log) (contents e.end.table)) dealt
+    tells = λ o inside begun. subst (Tells o (written e.log) e.table) dealt
         (leaves o (dealt_of t) (sound o (here o inside begun)));
   }
     where

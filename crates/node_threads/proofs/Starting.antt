@@ -6,7 +6,6 @@ use Rattle.node_loop.specs.NodeCoreHeld.{Held, fresh}
 use Rattle.node_loop.specs.Openings.{opening_core}
 use Rattle.node_loop.specs.Coming.{begun}
 use Rattle.node_seats.specs.Publishing.{Progress}
-use Rattle.registry_model.specs.Table.{Table}
 use Rattle.link.specs.declared.mailbox.Mailbox.{Mailbox}
 use Rattle.link.specs.Mailboxes.{taken}
 use Rattle.node_loop.specs.declared.item.Item.{Item}
@@ -15,7 +14,7 @@ use Rattle.node_loop.specs.Dealings.{Dealt}
 use Rattle.node_loop.specs.Sound.{IsSound, Tells}
 use Rattle.node_seats.specs.declared.parcel.Parcel.{Parcel}
 use Rattle.node_seats.specs.Lines.{Sent}
-use Rattle.node_threads.specs.declared.running.Ended.{Ended}
+use Rattle.replay.specs.Ends.{End}
 use Rattle.node_threads.specs.Givers.{receivers}
 use Rattle.node_seats.specs.Addresses.{Inbox}
 use Rattle.node_threads.specs.Wires.{Wired}
@@ -54,18 +53,18 @@ at_start inbox a b lines rows m n p q r S =
     subst (λ (x : Looping × List (Sent Item) × Mailbox (Parcel Item)). IsAtStart inbox x.0 x.1 x.2) (λ j. (sym p j, sym q j, sym r j)) S
 
 -- a node that was at its start gives back what tells of it, in each world in which its core is that of its opening
-module _ {N M : Type 0} (contents : N → Table) (inbox : Inbox) (a : Looping) (lines : List (Sent Item)) (mailbox : Mailbox (Parcel Item)) (S : IsAtStart inbox a lines mailbox) (e : Ended N M) (E : IsEndOf contents a lines mailbox e) where
+module _ (inbox : Inbox) (a : Looping) (lines : List (Sent Item)) (mailbox : Mailbox (Parcel Item)) (S : IsAtStart inbox a lines mailbox) (e : End) (rows : List (Sent Item)) (box : Mailbox (Parcel Item)) (E : IsEndOf a lines mailbox e rows box) where
   begins_with : dealt_by lines (taken mailbox) ≡ dealt_by lines []
   begins_with = ap (dealt_by lines) S.empty
 
   pub returns_so : (w : Wired) (d : Drawn) → record { inbox = inbox; core = a.core; lines = lines } ≡ w
-      → d ≡ record { inbox = inbox; taken = taken e.mailbox } → Returns contents w e.end e.lines.items d
-  returns_so w d is drawn = subst (λ (x : Wired). Returns contents x e.end e.lines.items d) is (record {
-    left = subst (λ (n : ℕ). IsLeftBy contents n e.end) S.node E.left;
+      → d ≡ record { inbox = inbox; taken = taken box } → Returns w e rows d
+  returns_so w d is drawn = subst (λ (x : Wired). Returns x e rows d) is (record {
+    left = subst (λ (n : ℕ). IsLeftBy n e) S.node E.left;
     kept = E.kept ∙ S.fresh;
     inbox = ap (λ (x : Drawn). x.inbox) drawn;
     tells = λ o of opens inside.
-        subst (λ (p : List (Parcel Item)). Tells o (written e.end.log) (contents e.end.table) (dealt_by e.lines.items p))
+        subst (λ (p : List (Parcel Item)). Tells o (written e.log) e.table (dealt_by rows p))
         (sym (ap (λ (x : Drawn). x.taken) drawn))
         (E.tells o (ap (λ (n : ℕ). are_inside o n (receivers lines)) S.node ∙ inside)
         (subst (λ (x : Dealt). IsSound o a x) (sym (begins_with ∙ deals_nothing lines S.fresh)) (S.sound o of opens)));

@@ -1,18 +1,16 @@
 -- What threads give back.
 use Rattle.std.specs.Prelude.{ℕ, true, false, ◌≡◌, ◌<◌, List, map, length, slice_index_or}
-use Rattle.registry_model.specs.Table.{Table}
 use Rattle.protocol_model.specs.World.{Opening}
 use Rattle.link.specs.declared.mailbox.Mailbox.{Mailbox}
 use Rattle.link.specs.Mailboxes.{taken, mailbox_room}
 use Rattle.node_loop.specs.NodeCoreSeen.{node_of}
-use Rattle.node_loop.specs.declared.NodeEnd.{NodeEnd}
 use Rattle.node_loop.specs.declared.item.Item.{Item}
 use Rattle.node_loop.specs.Held.{Looping, written}
 use Rattle.node_loop.specs.Coming.{IsLoopOf}
 use Rattle.node_loop.specs.Sound.{IsNodeOf, opened, IsSound, Tells}
 use Rattle.node_seats.specs.declared.parcel.Parcel.{Parcel}
 use Rattle.node_seats.specs.Lines.{Sent}
-use Rattle.node_threads.specs.declared.running.Ended.{Ended}
+use Rattle.replay.specs.Ends.{End}
 use Rattle.node_threads.specs.Givers.{receivers}
 use Rattle.node_threads.specs.Wires.{Wired, name_of, unused}
 use Rattle.node_threads.specs.Ends.{are_inside}
@@ -20,42 +18,41 @@ use Rattle.node_threads.specs.Dealings.{dealt_by}
 use Rattle.node_threads.specs.Drawing.{Drawn}
 
 -- whose end it is
-abbrev pub end_of : {N M : Type 0} → NodeEnd N M → ℕ
-end_of e = e.log.node
+abbrev pub owner : End → ℕ
+owner e = e.log.node
 
 -- the end is what the loop of this node left behind: its log, and its table
-pub record IsLeftBy {N M : Type 0} (contents : N → Table) (name : ℕ) (e : NodeEnd N M) : Type 0 where
+pub record IsLeftBy (name : ℕ) (e : End) : Type 0 where
   pub loop : Looping
   pub came : IsLoopOf name loop
-  pub node : end_of e ≡ name
+  pub node : owner e ≡ name
   pub log : written e.log ≡ loop.log
-  pub table : contents e.table ≡ loop.core.table
+  pub table : e.table ≡ loop.core.table
   pub left : loop.left ≡ true → e.ended_alone ≡ false
 
-module _ {N M : Type 0} (contents : N → Table) where
-  -- The thread of this loop, with these lines and this end of an inbox, gives back what the loop left behind, and both. The lines and
-  -- the inbox are those that it began with; and in each world in which it began sound, its log and its table tell of its node
-  pub record IsEndOf (a : Looping) (lines : List (Sent Item)) (mailbox : Mailbox (Parcel Item)) (e : Ended N M) : Type 0 where
-    pub left : IsLeftBy contents a.log.node e.end
-    pub kept : map unused e.lines.items ≡ map unused lines
-    pub room : mailbox_room e.mailbox ≡ mailbox_room mailbox
-    pub tells : (o : Opening) → are_inside o a.log.node (receivers lines) ≡ true
-        → IsSound o a (dealt_by lines (taken mailbox))
-        → Tells o (written e.end.log) (contents e.end.table) (dealt_by e.lines.items (taken e.mailbox))
+-- The thread of this loop, with these lines and this end of an inbox, gives back what the loop left behind, and both. The lines and
+-- the inbox are those that it began with; and in each world in which it began sound, its log and its table tell of its node
+pub record IsEndOf (a : Looping) (lines : List (Sent Item)) (mailbox : Mailbox (Parcel Item)) (e : End) (rows : List (Sent Item)) (box : Mailbox (Parcel Item)) : Type 0 where
+  pub left : IsLeftBy a.log.node e
+  pub kept : map unused rows ≡ map unused lines
+  pub room : mailbox_room box ≡ mailbox_room mailbox
+  pub tells : (o : Opening) → are_inside o a.log.node (receivers lines) ≡ true
+      → IsSound o a (dealt_by lines (taken mailbox))
+      → Tells o (written e.log) e.table (dealt_by rows (taken box))
 
-  -- so the thread of a node, which started so
-  pub record Returns (w : Wired) (end : NodeEnd N M) (lines : List (Sent Item)) (d : Drawn) : Type 0 where
-    pub left : IsLeftBy contents (name_of w) end
-    pub kept : map unused lines ≡ w.lines
-    pub inbox : d.inbox ≡ w.inbox
-    pub tells : (o : Opening) → IsNodeOf o w.core → node_of w.core ≡ opened o w.core
-        → are_inside o (name_of w) (receivers w.lines) ≡ true
-        → Tells o (written end.log) (contents end.table) (dealt_by lines d.taken)
+-- so the thread of a node, which started so
+pub record Returns (w : Wired) (end : End) (lines : List (Sent Item)) (d : Drawn) : Type 0 where
+  pub left : IsLeftBy (name_of w) end
+  pub kept : map unused lines ≡ w.lines
+  pub inbox : d.inbox ≡ w.inbox
+  pub tells : (o : Opening) → IsNodeOf o w.core → node_of w.core ≡ opened o w.core
+      → are_inside o (name_of w) (receivers w.lines) ≡ true
+      → Tells o (written end.log) end.table (dealt_by lines d.taken)
 
-  -- so all of these, in their order
-  pub record AllReturn (ws : List Wired) (ends : List (NodeEnd N M)) (rows : List (List (Sent Item))) (drawn : List Drawn) : Type 0 where
-    pub as_many_ends : length ends ≡ length ws
-    pub as_many_rows : length rows ≡ length ws
-    pub as_many_drawn : length drawn ≡ length ws
-    pub each : (i : ℕ) (w : Wired) (e : NodeEnd N M) (r : List (Sent Item)) (d : Drawn) → i < length ws
-        → Returns (slice_index_or ws i w) (slice_index_or ends i e) (slice_index_or rows i r) (slice_index_or drawn i d)
+-- so all of these, in their order
+pub record AllReturn (ws : List Wired) (ends : List End) (rows : List (List (Sent Item))) (drawn : List Drawn) : Type 0 where
+  pub as_many_ends : length ends ≡ length ws
+  pub as_many_rows : length rows ≡ length ws
+  pub as_many_drawn : length drawn ≡ length ws
+  pub each : (i : ℕ) (w : Wired) (e : End) (r : List (Sent Item)) (d : Drawn) → i < length ws
+      → Returns (slice_index_or ws i w) (slice_index_or ends i e) (slice_index_or rows i r) (slice_index_or drawn i d)

@@ -16,4 +16,5 @@ pub mod Starts
 pub mod Drawing
 pub mod Ended
 pub mod Closing
+pub mod Ending
 pub mod Clusters

@@ -6,7 +6,7 @@ use crate::running::{Running, Work};
 use crate::shared::Shared;
 use link::Mailbox;
 use name_table::Names;
-use node_loop::{Gate, Item, NodeLoop, Opening};
+use node_loop::{Gate, Item, NodeLoop, Opening, Record};
 use node_seats::{
     Address, Caller, Host, KeptPublisher, Line, MOST_READERS, Opened, Parcel, Publisher,
     ReaderFactory, open_node,
@@ -21,7 +21,7 @@ use term::NodeName;
 /// A node whose thread is yet to start: where it is reached, and what its thread is to work with. Contracts see its inbox, how many
 /// lines lead there, the core that it opens with, and its own lines.
 #[derive(Drop)]
-pub(crate) struct Berth<G: Gate + Drop, N: Names, R: Wait + Drop> {
+pub(crate) struct Berth<G: Gate + Drop, N: Names, L: Record, R: Wait + Drop> {
     address: Address<Item>,
     /// Asks the node in the name of the cluster.
     caller: Caller,
@@ -32,10 +32,10 @@ pub(crate) struct Berth<G: Gate + Drop, N: Names, R: Wait + Drop> {
     /// To all nodes.
     lines: Vec<Line<Item>>,
     gate: Arc<G, Global>,
-    node: NodeLoop<N>,
+    node: NodeLoop<N, L>,
 }
 
-impl<G: Gate + Drop, N: Names, R: Wait + Drop> Model for Berth<G, N, R> {
+impl<G: Gate + Drop, N: Names, L: Record, R: Wait + Drop> Model for Berth<G, N, L, R> {
     ghost use Rattle.std.specs.Prelude.{◌≡◌};
     ghost use Rattle.node_seats.specs.Callers.{inbox_of};
     ghost use Rattle.node_seats.specs.Addresses.{inbox_at};
@@ -66,7 +66,13 @@ fn publish<R: Wait + Drop + Copy>(
     Ok((kept, readers))
 }
 
-impl<G: Gate + Drop, N: Names<Memory = Global>, R: Wait + Drop + Copy> Berth<G, N, R> {
+impl<G, N, L, R> Berth<G, N, L, R>
+where
+    G: Gate + Drop,
+    N: Names<Memory = Global>,
+    L: Record,
+    R: Wait + Drop + Copy,
+{
     ghost use Rattle.std.specs.Prelude.{◌≡◌, ◌<◌, true, map, IfOk, OnOk};
     ghost use Rattle.node_threads.specs.Wires.{name_of, unused};
     ghost use Rattle.node_threads.specs.Berths.{next_line, one_more, IsOpened};
@@ -132,10 +138,11 @@ impl<G: Gate + Drop, N: Names<Memory = Global>, R: Wait + Drop + Copy> Berth<G, 
     }
 
     /// Starts the thread.
-    pub(crate) fn launch(self, rt: &R) -> Result<Running<N>, AllocError>
+    pub(crate) fn launch(self, rt: &R) -> Result<Running<N, L>, AllocError>
     where
         G: Send + Sync + 'static,
         N: Send + 'static,
+        L: Send + 'static,
         R: Threads + Clock + Send + 'static,
         ensures { IfOk result (λ running. running ≡ self.wired) }
     {

@@ -9,21 +9,26 @@ ghost use Rattle.node_threads.specs.Berths.{wired_of, next_line, one_more, opene
 use crate::berth::Berth;
 use crate::shared::Shared;
 use name_table::Names;
-use node_loop::{Gate, Item, Opening};
+use node_loop::{Gate, Item, Opening, Record};
 use node_seats::Line;
 use std::alloc::{AllocError, Global};
 use std::sync::Wait;
 use term::NodeName;
 
 /// Opens the inboxes of these nodes, behind those that were opened before.
-fn open_all<G: Gate + Drop, N: Names<Memory = Global>, R: Wait + Drop + Copy>(
+fn open_all<G, N, L, R>(
     rt: &R,
     alloc: Global,
     shared: &Shared<G>,
     opening: &Opening,
     nodes: &[NodeName],
-    berths: &mut Vec<Berth<G, N, R>>,
+    berths: &mut Vec<Berth<G, N, L, R>>,
 ) -> Result<(), AllocError>
+where
+    G: Gate + Drop,
+    N: Names<Memory = Global>,
+    L: Record,
+    R: Wait + Drop + Copy,
     requires known { All (λ c. set_of opening.now.nodes c ≡ true) nodes.now }
     requires few { vec_len berths.old + length nodes.now ≤ 8 }
     requires opened { All (IsOpened opening.now) berths.old.items }
@@ -38,10 +43,15 @@ fn open_all<G: Gate + Drop, N: Names<Memory = Global>, R: Wait + Drop + Copy>(
 }
 
 /// A line to each of these nodes.
-fn lines_to<G: Gate + Drop, N: Names<Memory = Global>, R: Wait + Drop + Copy>(
+fn lines_to<G, N, L, R>(
     alloc: Global,
-    berths: &mut [Berth<G, N, R>],
+    berths: &mut [Berth<G, N, L, R>],
 ) -> Result<Vec<Line<Item>>, AllocError>
+where
+    G: Gate + Drop,
+    N: Names<Memory = Global>,
+    L: Record,
+    R: Wait + Drop + Copy,
     ensures more { OnOk result (berths.new ≡ map one_more berths.old) }
     ensures lines { IfOk result (λ lines. lines.items ≡ map next_line berths.old) }
 {
@@ -53,10 +63,12 @@ fn lines_to<G: Gate + Drop, N: Names<Memory = Global>, R: Wait + Drop + Copy>(
 }
 
 /// Connects all these nodes with one another, and each with itself. The lines of each have the number of its place.
-fn connect<G: Gate + Drop, N: Names<Memory = Global>, R: Wait + Drop + Copy>(
-    alloc: Global,
-    berths: &mut [Berth<G, N, R>],
-) -> Result<(), AllocError>
+fn connect<G, N, L, R>(alloc: Global, berths: &mut [Berth<G, N, L, R>]) -> Result<(), AllocError>
+where
+    G: Gate + Drop,
+    N: Names<Memory = Global>,
+    L: Record,
+    R: Wait + Drop + Copy,
     requires { All (λ b. b.made ≡ 1) berths.old }
     ensures wired { OnOk result (AreWired (wired_of berths.new)) }
     ensures opened { OnOk result (map opened_of berths.new ≡ map opened_of berths.old) }
@@ -69,14 +81,19 @@ fn connect<G: Gate + Drop, N: Names<Memory = Global>, R: Wait + Drop + Copy>(
 }
 
 /// The berths of all nodes of a world that opens so, connected with one another.
-pub(crate) fn berths_of<G: Gate + Drop, N: Names<Memory = Global>, R: Wait + Drop + Copy>(
+pub(crate) fn berths_of<G, N, L, R>(
     rt: &R,
     alloc: Global,
     shared: &Shared<G>,
     opening: &Opening,
     cluster: &[NodeName],
     lone: &[NodeName],
-) -> Result<Vec<Berth<G, N, R>>, AllocError>
+) -> Result<Vec<Berth<G, N, L, R>>, AllocError>
+where
+    G: Gate + Drop,
+    N: Names<Memory = Global>,
+    L: Record,
+    R: Wait + Drop + Copy,
     requires lists { start_refused cluster.now lone.now ≡ None }
     requires opens { IsOpening cluster.now lone.now opening.now }
     ensures { IfOk result (λ berths. IsCrew cluster.now lone.now (wired_of berths.items)) }

@@ -8,14 +8,16 @@ ghost use Rattle.node_seats.specs.Faults.{IsSeatRefused};
 ghost use Rattle.node_seats.specs.Seats.{first_at};
 ghost use Rattle.replay.specs.Consistent.{is_torn};
 ghost use Rattle.node_threads.specs.Closing.{CloseIs};
+ghost use Rattle.node_threads.specs.Ending.{EndIs};
 
 use crate::berths::berths_of;
 use crate::crew::{Gathered, end_all, free_seat_of, launch_all};
+use crate::ending::{EndFault, EndedCluster, tell_of};
 use crate::intake::compare_all;
 use crate::running::Running;
 use crate::shared::Shared;
 use name_table::Names;
-use node_loop::{Gate, Opening, StartFault, Transcript};
+use node_loop::{Gate, Log, Opening, Record, StartFault, Transcript};
 use node_seats::{FreeSeat, MOST_SEATS, Seat, SeatFault};
 use replay::{CloseFault, Closed, replay};
 use std::alloc::{AllocError, Global};
@@ -25,19 +27,19 @@ use std::thread::Threads;
 use std::time::Clock;
 use term::NodeName;
 
-/// Owns the threads of all nodes. It can't be dropped: `close` ends it. Contracts see its nodes, what their threads began with, and
-/// how many seats were made.
-pub struct Cluster<G: Gate + Drop, N: Names> {
+/// Owns the threads of all nodes. It can't be dropped: `close` ends it, or `end`. Contracts see its nodes, what their threads began with, and
+/// how many seats were made. Its nodes keep logs of their steps, unless it says that they write to another record.
+pub struct Cluster<G: Gate + Drop, N: Names, L: Record = Log> {
     alloc: Global,
     shared: Shared<G>,
     cluster: Vec<NodeName>,
     lone: Vec<NodeName>,
-    running: Vec<Running<N>>,
+    running: Vec<Running<N, L>>,
     /// How many seats were made.
     seats: u32,
 }
 
-impl<G: Gate + Drop, N: Names> Model for Cluster<G, N> {
+impl<G: Gate + Drop, N: Names, L: Record> Model for Cluster<G, N, L> {
     ghost use Rattle.std.specs.Prelude.{ℕ, ◌≡◌, ◌≤◌, ◌++◌, None};
     ghost use Rattle.term.specs.NodeSets.{set_of};
     ghost use Rattle.node_seats.specs.Callers.{nodes_at};
@@ -68,8 +70,8 @@ fn copied(alloc: Global, nodes: &[NodeName]) -> Result<Vec<NodeName>, AllocError
 }
 
 /// The place of a node among those that run.
-fn place_of<N: Names<Memory = Global> + Send + 'static>(
-    running: &[Running<N>],
+fn place_of<N: Names<Memory = Global> + Send + 'static, L: Record + Send + 'static>(
+    running: &[Running<N, L>],
     node: &NodeName,
 ) -> Option<usize>
     ensures { result ≡ position (λ one. one.inbox.node == node.now) running.now }
@@ -77,10 +79,11 @@ fn place_of<N: Names<Memory = Global> + Send + 'static>(
     running.iter().position(|one| one.node() == node)
 }
 
-impl<G, N> Cluster<G, N>
+impl<G, N, L> Cluster<G, N, L>
 where
     G: Gate + Drop + Send + Sync + 'static,
     N: Names<Memory = Global> + Send + 'static,
+    L: Record + Send + 'static,
 {
     ghost use Rattle.node_threads.specs.Clusters.{nodes_in, next_seats, LeftAt};
     ghost use Rattle.node_threads.specs.Wires.{IsCrew};
@@ -195,6 +198,41 @@ where
         self.running[place].leave(rt)
     }
 
+    /// Asks all threads to end, waits until they have, and tells of what they left behind without a replay, so that their steps needn't
+    /// have been kept. Where it answers `Ok` the run of the threads was one of the world's: it has so many steps, and these tables behind
+    /// them. `LeftInHold`: the thread of that node ended without a leave and without being asked to. Calls that still wait at a seat are
+    /// answered `Closed`. What seats were answered isn't compared, as `close` does it with their transcripts.
+    pub fn end<R: Threads>(self, rt: &R) -> Result<EndedCluster<N>, EndFault>
+        ensures { EndIs N.contents self.cluster self.lone self.crew result }
+    {
+        let Cluster {
+            alloc,
+            shared: _shared,
+            cluster: _cluster,
+            lone: _lone,
+            running,
+            seats: _seats,
+        } = self;
+        let Some(
+            Gathered {
+                ends,
+                rows,
+                mut intakes,
+            },
+        ) = end_all(rt, alloc, running)
+        else {
+            return Err(EndFault::Memory);
+        };
+        compare_all(intakes.as_mut_slice(), rows);
+        tell_of(alloc, ends)
+    }
+}
+
+impl<G, N> Cluster<G, N>
+where
+    G: Gate + Drop + Send + Sync + 'static,
+    N: Names<Memory = Global> + Send + 'static,
+{
     /// Asks all threads to end, waits until they have, and replays what they left behind on a world, with these transcripts of
     /// seats. Where it answers `Ok` the run of the threads was one of the world's. It is never `Torn`: what the threads of a cluster leave
     /// behind is consistent. Calls that still wait at a seat are answered `Closed`.
@@ -203,7 +241,7 @@ where
         rt: &R,
         transcripts: &[Transcript],
     ) -> Result<Closed<N>, CloseFault>
-        ensures is { CloseIs N.contents self.cluster self.lone self.crew transcripts.now result }
+        ensures is { CloseIs self.cluster self.lone self.crew transcripts.now result }
         ensures whole { IfErr result (λ fault. is_torn fault ≡ false) }
     {
         let Cluster {

@@ -4,6 +4,7 @@ ghost use Rattle.node_seats.specs.Callers.{nodes_at};
 ghost use Rattle.node_seats.specs.Seats.{new_seat};
 ghost use Rattle.node_threads.specs.Wires.{inboxes};
 ghost use Rattle.node_threads.specs.Berths.{wired_of};
+ghost use Rattle.replay.specs.Ends.{end_by};
 ghost use Rattle.node_threads.specs.Ended.{AllReturn};
 
 use crate::berth::Berth;
@@ -11,7 +12,7 @@ use crate::intake::Intake;
 use crate::running::{Returned, Running};
 use crate::shared::Shared;
 use name_table::Names;
-use node_loop::{Gate, Item, NodeEnd};
+use node_loop::{Gate, Item, NodeEnd, Record};
 use node_seats::{FreeSeat, Line};
 use std::alloc::{AllocError, Global};
 use std::sync::Wait;
@@ -20,14 +21,14 @@ use std::time::Clock;
 
 /// What all threads gave back, in the order of their nodes.
 #[derive(Drop)]
-pub(crate) struct Gathered<N: Names> {
-    pub(crate) ends: Vec<NodeEnd<N>>,
+pub(crate) struct Gathered<N: Names, L: Record> {
+    pub(crate) ends: Vec<NodeEnd<N, L>>,
     /// The lines of each node.
     pub(crate) rows: Vec<Vec<Line<Item>>>,
     pub(crate) intakes: Vec<Intake>,
 }
 
-impl<N: Names<Memory = Global>> Gathered<N> {
+impl<N: Names<Memory = Global>, L: Record> Gathered<N, L> {
     /// Nothing was given back yet. It takes no memory.
     fn new(alloc: Global) -> Self
         ensures ends { result.ends.items ≡ [] }
@@ -42,7 +43,7 @@ impl<N: Names<Memory = Global>> Gathered<N> {
     }
 
     /// One thread more gave this back. Whether there was memory for it: it isn't kept where one of the lists couldn't grow.
-    fn add(&mut self, returned: Returned<N>) -> bool
+    fn add(&mut self, returned: Returned<N, L>) -> bool
         ensures ends { result ≡ true → self.new.ends.items ≡ self.old.ends.items ++ returned.end ∷ [] }
         ensures rows { result ≡ true → self.new.rows.items ≡ self.old.rows.items ++ returned.lines ∷ [] }
         ensures intakes { result ≡ true → self.new.intakes.items ≡ self.old.intakes.items ++ returned.intake ∷ [] }
@@ -57,14 +58,15 @@ impl<N: Names<Memory = Global>> Gathered<N> {
 }
 
 /// Starts the threads of these nodes, one after another, up to the first that can't be started.
-fn launch_each<G, N, R>(
+fn launch_each<G, N, L, R>(
     rt: &R,
-    berths: Vec<Berth<G, N, R>>,
-    running: &mut Vec<Running<N>>,
+    berths: Vec<Berth<G, N, L, R>>,
+    running: &mut Vec<Running<N, L>>,
 ) -> Result<(), AllocError>
 where
     G: Gate + Drop + Send + Sync + 'static,
     N: Names<Memory = Global> + Send + 'static,
+    L: Record + Send + 'static,
     R: Threads + Wait + Clock + Drop + Copy + Send + 'static,
     ensures { OnOk result (running.new.items ≡ running.old.items ++ wired_of berths.items) }
 {
@@ -76,14 +78,15 @@ where
 }
 
 /// Starts the threads of these nodes. Where one can't be started, those that were are ended again.
-pub(crate) fn launch_all<G, N, R>(
+pub(crate) fn launch_all<G, N, L, R>(
     rt: &R,
     alloc: Global,
-    berths: Vec<Berth<G, N, R>>,
-) -> Result<Vec<Running<N>>, AllocError>
+    berths: Vec<Berth<G, N, L, R>>,
+) -> Result<Vec<Running<N, L>>, AllocError>
 where
     G: Gate + Drop + Send + Sync + 'static,
     N: Names<Memory = Global> + Send + 'static,
+    L: Record + Send + 'static,
     R: Threads + Wait + Clock + Drop + Copy + Send + 'static,
     ensures { IfOk result (λ running. running.items ≡ wired_of berths.items) }
 {
@@ -98,15 +101,16 @@ where
 }
 
 /// A seat that may become one at each of these nodes, and finds its replies in this slot.
-pub(crate) fn free_seat_of<G, N>(
+pub(crate) fn free_seat_of<G, N, L>(
     alloc: Global,
-    running: &mut [Running<N>],
+    running: &mut [Running<N, L>],
     shared: &Shared<G>,
     slot: u32,
 ) -> Result<FreeSeat, AllocError>
 where
     G: Gate + Drop + Send + Sync + 'static,
     N: Names<Memory = Global> + Send + 'static,
+    L: Record + Send + 'static,
     requires { slot < 72 }
     ensures same { running.new ≡ running.old }
     ensures seats { IfOk result (λ free. free ≡ map (new_seat slot (nodes_at shared.now.hub.value)) (inboxes running.old)) }
@@ -119,11 +123,16 @@ where
 }
 
 /// Asks these threads to end, and waits until all have. Gives what they gave back, where there is memory for it.
-pub(crate) fn end_all<N, R>(rt: &R, alloc: Global, running: Vec<Running<N>>) -> Option<Gathered<N>>
+pub(crate) fn end_all<N, L, R>(
+    rt: &R,
+    alloc: Global,
+    running: Vec<Running<N, L>>,
+) -> Option<Gathered<N, L>>
 where
     N: Names<Memory = Global> + Send + 'static,
+    L: Record + Send + 'static,
     R: Threads,
-    ensures { IfSome result (λ all. AllReturn N.contents running.items all.ends.items (map (λ row. row.items) all.rows.items) all.intakes.items) }
+    ensures { IfSome result (λ all. AllReturn running.items (map (end_by N.contents L.logged) all.ends.items) (map (λ row. row.items) all.rows.items) all.intakes.items) }
 {
     for one in &running {
         one.stop();

@@ -28,13 +28,15 @@ mod berth;
 mod berths;
 mod cluster;
 mod crew;
+mod ending;
 mod intake;
 mod ruled_end;
 mod running;
 mod shared;
 
 pub use cluster::Cluster;
-pub use node_loop::{Gate, OpenGate, StartFault};
+pub use ending::{EndFault, EndedCluster};
+pub use node_loop::{ForgottenLog, Gate, Log, OpenGate, Record, StartFault};
 pub use node_seats::{
     Call, FreeSeat, HolderSeat, Line, NameList, Nodes, Parcel, Reply, Retries, Seat, SeatFault,
     StepFault, Transcript,

@@ -1,10 +1,12 @@
 //! A node's end of the lines between threads.
 ghost use Rattle.std.specs.Prelude.{◌≡◌};
+ghost use Rattle.std.specs.List.{position};
 ghost use Rattle.node_seats.specs.Lines.{place};
 ghost use Rattle.node_threads.specs.Givers.{receivers, node_under};
+ghost use Rattle.node_threads.specs.Traffics.{asks_nodes};
 
 use link::{INBOX_ROOM, Inbox, LinkFault, Mailbox, Post, Station, Unsent};
-use node_loop::{Item, Stamped, Task};
+use node_loop::{Call, Event, Item, Stamped, Task};
 use node_seats::{Line, Parcel};
 use std::alloc::Global;
 use std::collections::{LinkedList, VecDeque};
@@ -17,8 +19,8 @@ use term::NodeName;
 const MOST_LETTERS: u32 = 64;
 
 /// A node's own inbox, and its lines into the inboxes of all nodes. Of each node there is one, in the order of the numbers that the
-/// lines of the nodes have at an inbox: from 1 on. Letters come before tasks, up to a number of them, so that the rounds of a node go on
-/// however many ask it for something. Contracts see its traffic.
+/// lines of the nodes have at an inbox: from 1 on. Letters come before tasks, up to a number of them, and tasks for which nodes are asked
+/// before others, every other time: so the rounds of a node begin and go on however many ask it for something. Contracts see its traffic.
 #[derive(Drop)]
 pub struct RuledEnd<R: Wait + Drop> {
     rt: R,
@@ -29,6 +31,8 @@ pub struct RuledEnd<R: Wait + Drop> {
     waiting: VecDeque<Task>,
     /// How many letters were taken since the last task was.
     in_a_row: u32,
+    /// Whether the last task was taken before one that waited longer.
+    has_passed: bool,
     /// The inbox as it was at first.
     first: Snapshot<Mailbox<Parcel<Item>>>,
 }
@@ -94,12 +98,30 @@ fn node_under(lines: &[Line<Item>], number: u64) -> Option<NodeName>
     Some(line.receiver().copy())
 }
 
+/// Whether it is a call for which other nodes are asked, and so takes longer than what a node does alone.
+fn asks_nodes(task: &Task) -> bool
+    ensures { result ≡ asks_nodes task.now }
+{
+    match &task.event {
+        Event::Call(Call::Spawn | Call::Whereis(_) | Call::RegisteredNames) => false,
+        Event::Call(_) => true,
+        Event::Retry | Event::Exit(_) | Event::Leave => false,
+    }
+}
+
+/// The place of the one that waits longest of those for which other nodes are asked.
+fn first_asking(waiting: &VecDeque<Task>) -> Option<usize>
+    ensures { result ≡ position asks_nodes waiting.now.items }
+{
+    waiting.iter().position(|task| asks_nodes(task))
+}
+
 impl<R: Wait + Drop> RuledEnd<R> {
-    ghost use Rattle.std.specs.Prelude.{[], MatchOption, List};
+    ghost use Rattle.std.specs.Prelude.{◌<◌, [], length, MatchOption, List};
     ghost use Rattle.link.specs.Mailboxes.{taken, mailbox_room};
     ghost use Rattle.node_loop.specs.declared.item.Task.{Task as AnyTask};
     ghost use Rattle.node_threads.specs.Givers.{letters_of, tasks_of};
-    ghost use Rattle.node_threads.specs.Traffics.{with_tasks, Hears, Serves, Looks};
+    ghost use Rattle.node_threads.specs.Traffics.{with_tasks, Hears, Serves, IsNext, Looks};
 
     /// The end of this node.
     pub(crate) fn new(
@@ -126,6 +148,7 @@ impl<R: Wait + Drop> RuledEnd<R> {
             mailbox,
             waiting: VecDeque::new(alloc),
             in_a_row: 0,
+            has_passed: false,
             first,
         }
     }
@@ -181,12 +204,25 @@ impl<R: Wait + Drop> RuledEnd<R> {
         None
     }
 
-    /// The task that waits longest.
+    /// The place of the task that comes next, if one waits.
+    fn next_place(&self) -> usize
+        ensures next { IsNext result self.now.waiting }
+        ensures bound { 0 < length self.now.waiting → result < length self.now.waiting }
+    {
+        if self.has_passed {
+            return 0;
+        }
+        first_asking(&self.waiting).unwrap_or(0)
+    }
+
+    /// The task that comes next.
     fn next_task(&mut self) -> Option<Task>
         ensures { MatchOption result ((self.new ≡ self.old) × (self.old.waiting ≡ [])) (λ task. Serves task self.old self.new) }
     {
+        let place = self.next_place();
+        self.has_passed = place > 0;
         self.in_a_row = 0;
-        self.waiting.pop_front()
+        self.waiting.remove(place)
     }
 }
 
@@ -215,11 +251,11 @@ impl<R: Wait + Drop> Post<Item> for RuledEnd<R> {
 }
 
 impl<R: Wait + Drop> Inbox<Item> for RuledEnd<R> {
-    ghost use Rattle.node_threads.specs.Traffics.{Takes, Fails};
+    ghost use Rattle.node_threads.specs.Traffics.{Takes, Misses, Fails};
 
     ghost takes = { Takes };
 
-    ghost misses = { λ s. Unit {0} };
+    ghost misses = { Misses };
 
     ghost fails = { Fails };
 

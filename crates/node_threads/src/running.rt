@@ -8,12 +8,13 @@ ghost use Rattle.node_threads.specs.Starts.{IsAtStart, Publishes};
 ghost use Rattle.node_threads.specs.Ends.{fixed};
 ghost use Rattle.node_threads.specs.Soundness.{StaysSound, LastsSound, IsBesides};
 ghost use Rattle.node_threads.specs.Ended.{IsEndOf};
+ghost use Rattle.replay.specs.Ends.{end_by};
 
 use crate::intake::Intake;
 use crate::ruled_end::RuledEnd;
 use link::Mailbox;
 use name_table::Names;
-use node_loop::{Gate, Item, NodeEnd, NodeLoop, TurnFault};
+use node_loop::{Gate, Item, NodeEnd, NodeLoop, Record, TurnFault};
 use node_seats::{Address, Caller, Host, Hub, KeptPublisher, Line, Parcel, SeatFault};
 use std::alloc::{AllocError, Global};
 use std::marker::Model;
@@ -26,37 +27,39 @@ use term::NodeName;
 
 /// What a thread gives back: what its node left behind, its lines, and its end of its inbox.
 #[derive(Drop)]
-pub(crate) struct Ended<N: Names> {
-    pub(crate) end: NodeEnd<N>,
+pub(crate) struct Ended<N: Names, L: Record> {
+    pub(crate) end: NodeEnd<N, L>,
     pub(crate) lines: Vec<Line<Item>>,
     pub(crate) mailbox: Mailbox<Parcel<Item>>,
 }
 
 /// That what a thread gives back came by turns from this loop, with these lines and this end of an inbox.
 #[derive(Drop)]
-pub(crate) struct EndOf<N: Names>(
-    Snapshot<NodeLoop<N>>,
+pub(crate) struct EndOf<N: Names, L: Record>(
+    Snapshot<NodeLoop<N, L>>,
     Snapshot<Vec<Line<Item>>>,
     Snapshot<Mailbox<Parcel<Item>>>,
 );
 
-impl<N: Names> Promise<Ended<N>> for EndOf<N> {
+impl<N: Names, L: Record> Promise<Ended<N, L>> for EndOf<N, L> {
     ghost use Rattle.node_threads.specs.Ended.{IsEndOf};
+    ghost use Rattle.replay.specs.Ends.{end_by};
 
-    ghost kept_by = { λ promise ended. IsEndOf N.contents promise.0.value promise.1.value.items promise.2.value ended };
+    ghost kept_by = { λ promise ended. IsEndOf promise.0.value promise.1.value.items promise.2.value
+        (end_by N.contents L.logged ended.end) ended.lines.items ended.mailbox };
 }
 
 /// A node whose thread runs: where it is reached, how it stands, and the thread. Contracts see its inbox, the core with which it
 /// opened, and its lines as they were then.
 #[derive(Drop)]
-pub(crate) struct Running<N: Names> {
+pub(crate) struct Running<N: Names, L: Record> {
     address: Address<Item>,
     /// Asks it in the name of the cluster.
     caller: Caller,
-    handle: PromisedHandle<Ended<N>, EndOf<N>>,
+    handle: PromisedHandle<Ended<N, L>, EndOf<N, L>>,
 }
 
-impl<N: Names> Model for Running<N> {
+impl<N: Names, L: Record> Model for Running<N, L> {
     ghost use Rattle.std.specs.Prelude.{◌≡◌};
     ghost use Rattle.node_seats.specs.Callers.{inbox_of};
     ghost use Rattle.node_seats.specs.Addresses.{inbox_at};
@@ -77,8 +80,8 @@ impl<N: Names> Model for Running<N> {
 
 /// What a node's thread works with.
 #[derive(Drop)]
-pub(crate) struct Work<G: Gate + Drop, N: Names, R: Wait + Drop> {
-    pub(crate) node: NodeLoop<N>,
+pub(crate) struct Work<G: Gate + Drop, N: Names, L: Record, R: Wait + Drop> {
+    pub(crate) node: NodeLoop<N, L>,
     pub(crate) lines: Vec<Line<Item>>,
     pub(crate) mailbox: Mailbox<Parcel<Item>>,
     pub(crate) gate: Arc<G, Global>,
@@ -89,15 +92,15 @@ pub(crate) struct Work<G: Gate + Drop, N: Names, R: Wait + Drop> {
 
 /// What a node whose thread has ended left behind, its lines, and its inbox.
 #[derive(Drop)]
-pub(crate) struct Returned<N: Names> {
-    pub(crate) end: NodeEnd<N>,
+pub(crate) struct Returned<N: Names, L: Record> {
+    pub(crate) end: NodeEnd<N, L>,
     pub(crate) lines: Vec<Line<Item>>,
     pub(crate) intake: Intake,
 }
 
 /// One turn of a node is its own, and it keeps its end.
-fn turn<G: Gate, N: Names<Memory = Global>, R: Wait + Drop>(
-    node: &mut NodeLoop<N>,
+fn turn<G: Gate, N: Names<Memory = Global>, L: Record, R: Wait + Drop>(
+    node: &mut NodeLoop<N, L>,
     end: &mut RuledEnd<R>,
     gate: &G,
 ) -> Result<(), TurnFault>
@@ -112,9 +115,9 @@ fn turn<G: Gate, N: Names<Memory = Global>, R: Wait + Drop>(
 
 /// Shows the node's readers what its last turn did, and hands its replies out then: whether they are shown all. As long as they aren't,
 /// replies wait, so that nobody is told of more than is shown.
-fn show<N: Names<Memory = Global>, R: Wait + Drop>(
+fn show<N: Names<Memory = Global>, L: Record, R: Wait + Drop>(
     rt: &R,
-    node: &mut NodeLoop<N>,
+    node: &mut NodeLoop<N, L>,
     host: &Host,
     publisher: KeptPublisher<R>,
 ) -> (KeptPublisher<R>, bool)
@@ -133,9 +136,9 @@ fn show<N: Names<Memory = Global>, R: Wait + Drop>(
 
 /// The node takes one turn after another, until it is asked to end or can't go on. Behind each its readers are shown what it did, and its
 /// replies are handed out; where one did nothing the thread rests.
-fn turns<G: Gate, N: Names<Memory = Global>, R: Wait + Clock + Drop>(
+fn turns<G: Gate, N: Names<Memory = Global>, L: Record, R: Wait + Clock + Drop>(
     rt: &R,
-    node: &mut NodeLoop<N>,
+    node: &mut NodeLoop<N, L>,
     end: &mut RuledEnd<R>,
     gate: &G,
     host: &mut Host,
@@ -165,13 +168,13 @@ fn turns<G: Gate, N: Names<Memory = Global>, R: Wait + Clock + Drop>(
 }
 
 /// A node's thread, from its first turn to its end. The table is read until the cluster is over, however the thread ended.
-fn run<G: Gate + Drop, N: Names<Memory = Global>, R: Wait + Clock + Drop + Copy>(
+fn run<G: Gate + Drop, N: Names<Memory = Global>, L: Record, R: Wait + Clock + Drop + Copy>(
     rt: &R,
-    work: Work<G, N, R>,
-) -> Ended<N>
+    work: Work<G, N, L, R>,
+) -> Ended<N, L>
     requires came { IsLoopOf work.node.log.node work.node }
     requires publishes { Publishes work.node work.publisher.publisher }
-    ensures { IsEndOf N.contents work.node work.lines.items work.mailbox result }
+    ensures { IsEndOf work.node work.lines.items work.mailbox (end_by N.contents L.logged result.end) result.lines.items result.mailbox }
 {
     let Work {
         mut node,
@@ -196,13 +199,14 @@ fn run<G: Gate + Drop, N: Names<Memory = Global>, R: Wait + Clock + Drop + Copy>
 }
 
 /// Starts the thread of a node, which works with this.
-fn spawn<G, N, R>(
+fn spawn<G, N, L, R>(
     rt: &R,
-    work: Work<G, N, R>,
-) -> Result<PromisedHandle<Ended<N>, EndOf<N>>, AllocError>
+    work: Work<G, N, L, R>,
+) -> Result<PromisedHandle<Ended<N, L>, EndOf<N, L>>, AllocError>
 where
     G: Gate + Drop + Send + Sync + 'static,
     N: Names<Memory = Global> + Send + 'static,
+    L: Record + Send + 'static,
     R: Threads + Wait + Clock + Drop + Copy + Send + 'static,
     requires came { IsLoopOf work.node.log.node work.node }
     requires publishes { Publishes work.node work.publisher.publisher }
@@ -219,17 +223,17 @@ where
     let handle = thread::spawn_with(
         rt,
         promise,
-        move || -> Ended<N>
-            requires sends { IsSend G.row × IsSend N.row × IsSend R.row × IsSync G.row }
+        move || -> Ended<N, L>
+            requires sends { IsSend G.row × IsSend N.row × IsSend L.row × IsSend R.row × IsSync G.row }
             requires came { IsLoopOf work.node.log.node work.node }
             requires publishes { Publishes work.node work.publisher.publisher }
-            ensures { IsEndOf N.contents work.node work.lines.items work.mailbox result }
+            ensures { IsEndOf work.node work.lines.items work.mailbox (end_by N.contents L.logged result.end) result.lines.items result.mailbox }
         { run(&own, work) },
     )?;
     Ok(handle)
 }
 
-impl<N: Names<Memory = Global> + Send + 'static> Running<N> {
+impl<N: Names<Memory = Global> + Send + 'static, L: Record + Send + 'static> Running<N, L> {
     ghost use Rattle.std.specs.Prelude.{◌<◌, []};
     ghost use Rattle.node_seats.specs.Callers.{inbox_of, slot_of, nodes_of, nodes_at, asked_by, seen_of, unseen};
     ghost use Rattle.node_threads.specs.Wires.{name_of};
@@ -241,7 +245,7 @@ impl<N: Names<Memory = Global> + Send + 'static> Running<N> {
         rt: &R,
         address: Address<Item>,
         caller: Caller,
-        work: Work<G, N, R>,
+        work: Work<G, N, L, R>,
     ) -> Result<Self, AllocError>
     where
         G: Gate + Drop + Send + Sync + 'static,
@@ -298,8 +302,8 @@ impl<N: Names<Memory = Global> + Send + 'static> Running<N> {
     }
 
     /// Waits until its thread has ended, and gives what it gave back.
-    pub(crate) fn join<R: Threads>(self, rt: &R) -> Returned<N>
-        ensures { Returns N.contents self result.end result.lines.items result.intake }
+    pub(crate) fn join<R: Threads>(self, rt: &R) -> Returned<N, L>
+        ensures { Returns self (end_by N.contents L.logged result.end) result.lines.items result.intake }
     {
         let Running {
             address,

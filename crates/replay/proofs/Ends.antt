@@ -6,11 +6,12 @@ use Rattle.std.specs.Option.{option_map}
 use Rattle.std.specs.Prelude.{Option, nat_lt, if◌then◌else◌}
 use Rattle.registry_model.specs.Table.{Table}
 use Rattle.node_log.specs.declared.node_end.NodeEnd.{NodeEnd}
+use Rattle.node_log.specs.Entries.{Logged}
 use Rattle.replay.specs.Ends.{End, end_of, is_lesser}
 use Rattle.replay.specs.Least.{IsChosen}
 
-module _ {N M : Type 0} (contents : N → Table) (ends : List (NodeEnd N M)) (k : ℕ) where
-  pub end_at : (e : NodeEnd N M) → k < length ends → e ≡ get_or ends k e
+module _ {N M : Type 0} (contents : N → Table) (ends : List (NodeEnd N Logged M)) (k : ℕ) where
+  pub end_at : (e : NodeEnd N Logged M) → k < length ends → e ≡ get_or ends k e
       → slice_get (map (end_of contents) ends) k ≡ Some (end_of contents e)
   end_at e l is = slice_get-map (end_of contents) ends k
       ∙ ap (option_map (end_of contents)) (slice_get_read ends (length ends) k e refl l is)
@@ -36,8 +37,8 @@ module _ {N M : Type 0} (contents : N → Table) (ends : List (NodeEnd N M)) (k 
 pub ended_alone : (b : Bool) → b ≡ true → b ≡ false → ⊥
 ended_alone b e f = cc
 
-pub same_node : {N M : Type 0} (e f : NodeEnd N M) → e ≡ f → e.log.node ≡ f.log.node
-same_node {N} {M} e f is = ap (λ (x : NodeEnd N M). x.log.node) is
+pub same_node : {N M : Type 0} (e f : NodeEnd N Logged M) → e ≡ f → e.log.node ≡ f.log.node
+same_node {N} {M} e f is = ap (λ (x : NodeEnd N Logged M). x.log.node) is
 
-pub same_length : {N M : Type 0} (e f : NodeEnd N M) → e ≡ f → length e.log.entries ≡ length f.log.entries
-same_length {N} {M} e f is = ap (λ (x : NodeEnd N M). length x.log.entries) is
+pub same_length : {N M : Type 0} (e f : NodeEnd N Logged M) → e ≡ f → length e.log.entries ≡ length f.log.entries
+same_length {N} {M} e f is = ap (λ (x : NodeEnd N Logged M). length x.log.entries) is

@@ -169,8 +169,8 @@ module _ (logs : List Logged) (once : repeats (map (λ (l : Logged). l.node) log
       stuck_next fault k L (subst (λ (x : Reader). StopsReader fault x mid) (sym (same_item k L r h)) stop)
 
 -- the nodes of the logs are those of the ends
-pub nodes_are : {N M : Type 0} (contents : N → Table) (ends : List (NodeEnd N M))
-    → map (λ (l : Logged). l.node) (logs_of (map (end_of contents) ends)) ≡ map (λ (e : NodeEnd N M). e.log.node) ends
+pub nodes_are : {N M : Type 0} (contents : N → Table) (ends : List (NodeEnd N Logged M))
+    → map (λ (l : Logged). l.node) (logs_of (map (end_of contents) ends)) ≡ map (λ (e : NodeEnd N Logged M). e.log.node) ends
 nodes_are contents [] = refl
 nodes_are contents (e ∷ es) = ap (λ (ns : List ℕ). e.log.node ∷ ns) (nodes_are contents es)
 

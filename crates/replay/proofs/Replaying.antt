@@ -120,13 +120,13 @@ pub opened_run : (h : Held) → AgreesAfter [] h → LocksAfter (opening_of h) [
 opened_run h A E = record { takes = tt; agrees = A; locks = E; leaves_nothing = nothing_left [] h A }
 
 -- the node of an end is one of the world
-pub of_world : {N M : Type 0} (cluster lone : List ℕ) (es : List (NodeEnd N M)) (old new : Held) (events : ℕ) (logs : List Logged)
+pub of_world : {N M : Type 0} (cluster lone : List ℕ) (es : List (NodeEnd N Logged M)) (old new : Held) (events : ℕ) (logs : List Logged)
     → Opens cluster lone old → RunsThrough logs events old new
-    → ((c : ℕ) → set_of (map (λ (e : NodeEnd N M). e.log.node) es) c ≡ set_of (cluster ++ lone) c)
-    → All (λ (e : NodeEnd N M). set_of new.nodes e.log.node ≡ true) es
+    → ((c : ℕ) → set_of (map (λ (e : NodeEnd N Logged M). e.log.node) es) c ≡ set_of (cluster ++ lone) c)
+    → All (λ (e : NodeEnd N Logged M). set_of new.nodes e.log.node ≡ true) es
 of_world {N} {M} cluster lone es old new events logs O R each k d l =
     (still_opens cluster lone old new O R.kept).nodes (get_or es k d).log.node
     ∙ sym (each (get_or es k d).log.node)
-    ∙ set_of-at (map (λ (e : NodeEnd N M). e.log.node) es) k (get_or es k d).log.node
-    (slice_get-map (λ (e : NodeEnd N M). e.log.node) es k
-    ∙ ap (option_map (λ (e : NodeEnd N M). e.log.node)) (slice_get-get_or es k d l))
+    ∙ set_of-at (map (λ (e : NodeEnd N Logged M). e.log.node) es) k (get_or es k d).log.node
+    (slice_get-map (λ (e : NodeEnd N Logged M). e.log.node) es k
+    ∙ ap (option_map (λ (e : NodeEnd N Logged M). e.log.node)) (slice_get-get_or es k d l))

@@ -11,9 +11,13 @@ pub record End : Type 0 where
   pub table : Table
   pub ended_alone : Bool
 
--- the end, where this says what names a table has
-abbrev pub end_of : {N M : Type 0} → (N → Table) → NodeEnd N M → End
-end_of contents e = record { log = e.log; table = contents e.table; ended_alone = e.ended_alone }
+-- the end, where these say what names a table has and what steps a record has
+abbrev pub end_by : {N L M : Type 0} → (N → Table) → (L → Logged) → NodeEnd N L M → End
+end_by contents logged e = record { log = logged e.log; table = contents e.table; ended_alone = e.ended_alone }
+
+-- the end of a node that kept a log
+abbrev pub end_of : {N M : Type 0} → (N → Table) → NodeEnd N Logged M → End
+end_of contents e = end_by contents (λ log. log) e
 
 abbrev pub logs_of : List End → List Logged
 logs_of ends = map (λ e. e.log) ends

@@ -1,3 +1,5 @@
+pub use Rattle.node_log.specs.Entries
+pub use Rattle.node_log.specs.Seen
 pub mod Steps
 pub mod Reading
 pub mod Merging

@@ -6,7 +6,7 @@ ghost use Rattle.shared_table.specs.Publishing.{current, next_edition};
 
 use crate::publisher::Publisher;
 use name_table::Names;
-use node_loop::NodeLoop;
+use node_loop::{NodeLoop, Record};
 use std::alloc::Global;
 use std::sync::Wait;
 
@@ -35,7 +35,10 @@ impl<R: Wait + Drop> KeptPublisher<R> {
 
     /// Shows a node's readers all that its loop owes them, and says whether it did: where memory is refused, they see what they saw, and
     /// the loop, or what waits, owes it still. It waits as `Publisher::publish` does.
-    pub fn show<N: Names<Memory = Global>>(self, node: &mut NodeLoop<N>) -> (Self, bool)
+    pub fn show<N: Names<Memory = Global>, L: Record>(
+        self,
+        node: &mut NodeLoop<N, L>,
+    ) -> (Self, bool)
         requires came { IsLoopOf node.old.log.node node.old }
         requires owes { Owes node.old (next_edition self.publisher) }
         ensures owes { Owes node.new (next_edition result.0.publisher) }

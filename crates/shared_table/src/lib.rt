@@ -12,8 +12,8 @@ mod shown;
 
 pub use kept::KeptPublisher;
 pub use node_loop::{
-    Answer, Call, Edit, Edition, Effect, Event, Item, NameList, NodeEnd, NodeLoop, Nodes, Reply,
-    Retries, SeatEntry, StepFault, Task, TaskFault, TaskReply, Ticket, Transcript, Update,
+    Answer, Call, Edit, Edition, Effect, Event, Item, NameList, NodeEnd, NodeLoop, Nodes, Record,
+    Reply, Retries, SeatEntry, StepFault, Task, TaskFault, TaskReply, Ticket, Transcript, Update,
     WorldEvent,
 };
 pub use publisher::Publisher;

@@ -10,7 +10,7 @@ use crate::rule::{Editions, Published, Publishes};
 use crate::shown::Shown;
 use left_right::writer::Writer;
 use name_table::Names;
-use node_loop::{NodeLoop, Update};
+use node_loop::{NodeLoop, Record, Update};
 use std::alloc::{AllocError, Global};
 use std::marker::Model;
 use std::sync::Wait;
@@ -128,9 +128,9 @@ impl Publisher {
     }
 
     /// Notes what a node's loop owes its readers. Where memory is refused, it owes it still.
-    pub fn note<N: Names<Memory = Global>>(
+    pub fn note<N: Names<Memory = Global>, L: Record>(
         &mut self,
-        node: &mut NodeLoop<N>,
+        node: &mut NodeLoop<N, L>,
     ) -> Result<(), AllocError>
         requires { Owes node.old (next_edition self.old) }
         ensures ok { OnOk result (next_edition self.new ≡ shown_by node.new) }

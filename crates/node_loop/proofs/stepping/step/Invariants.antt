@@ -6,5 +6,5 @@ use Rattle.node_loop.proofs.stepping.step.Given as goal
 abbrev pub invariant-loop : goal.invariant-loop
 invariant-loop g l = record {
   core : IsAsBefore l.fn.core l.core;
-  log : written l.log ≡ written l.fn.log;
+  log : written (g.L.Record.logged l.log) ≡ written (g.L.Record.logged l.fn.log);
 }

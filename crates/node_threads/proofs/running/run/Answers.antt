@@ -1,12 +1,13 @@
 use Rattle.std.proofs.Common.{ℕ, [], ap, ◌∙◌}
 use Rattle.link.specs.Mailboxes.{taken}
+use Rattle.replay.specs.Ends.{end_by}
 use Rattle.node_threads.specs.Givers.{receivers, letters_of, tasks_of}
 use Rattle.node_threads.proofs.Soundness.{gives_back}
 use Rattle.node_threads.proofs.running.run.Goals as goal
 
 pub returns : goal.returns
-returns g c = gives_back g.N.Names.contents c.args.work.node c.args.work.lines.items c.args.work.mailbox c.new-end.result c.turns-publisher.new.node
-    c.turns-publisher.new.end (record { end = c.end-end.result; lines = c.into_parts-lines.result.0; mailbox = c.into_parts-lines.result.1 })
+returns g c = gives_back c.args.work.node c.args.work.lines.items c.args.work.mailbox c.new-end.result c.turns-publisher.new.node
+    c.turns-publisher.new.end (end_by g.N.Names.contents g.L.Record.logged c.end-end.result) c.into_parts-lines.result.0.items c.into_parts-lines.result.1
     (c.new-end.ensures
     ∙ ap (λ (n : ℕ). record {
       node = n;

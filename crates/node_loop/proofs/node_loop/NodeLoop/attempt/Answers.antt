@@ -13,7 +13,7 @@ returns-in-Ok-conclude g c =
     let a : Looping = record {
       core = c.self.inside.core;
       world = c.self.inside.world;
-      log = written c.self.inside.log;
+      log = written (g.L.Record.logged c.self.inside.log);
       tray = c.self.inside.tray;
       desk = c.self.inside.desk;
       wait = c.self.inside.courtesy;
@@ -23,7 +23,7 @@ returns-in-Ok-conclude g c =
       worked = c.self.inside.worked;
     } in
     subst (λ (x : Looping). Makes (by_event c.args.own c.args.event x) x c.conclude.new.self × (c.conclude.new.self.owed ≡ x.owed)) c.self.view_is (
-      makes (by_event c.args.own c.args.event a) a c.step.new.core (written c.put.new.self) c.self.inside.owed c.in-Some.stamp c.args.own
+      makes (by_event c.args.own c.args.event a) a c.step.new.core (written (g.L.Record.logged c.put.new.self)) c.self.inside.owed c.in-Some.stamp c.args.own
           c.of-course.result c.in-Ok.turn c.conclude.new.self
           (stepped _ _ _ _ _ c.cause-cause.ensures c.in-Ok.ensures.made)
           (begun _ _ _ _ _ _ _ _ _ c.step.ensures.log c.put.ensures.node c.put.ensures.entries c.in-Some.ensures.0
@@ -39,7 +39,7 @@ returns-in-Err g c =
     let a : Looping = record {
       core = c.self.inside.core;
       world = c.self.inside.world;
-      log = written c.self.inside.log;
+      log = written (g.L.Record.logged c.self.inside.log);
       tray = c.self.inside.tray;
       desk = c.self.inside.desk;
       wait = c.self.inside.courtesy;
@@ -50,7 +50,7 @@ returns-in-Err g c =
     } in
     subst (λ (x : Looping). Ends Memory (by_event c.args.own c.args.event x) (desk_of (by_event c.args.own c.args.event x) x) x c.conclude.new.self) c.self.view_is (
       unspent (by_event c.args.own c.args.event a) a c.in-Some.stamp c.in-Some.ensures.0 c.in-Some.ensures.1,
-      inr (begins (by_event c.args.own c.args.event a) a c.step.new.core (written c.put.new.self) c.self.inside.owed c.in-Some.stamp c.args.own
+      inr (begins (by_event c.args.own c.args.event a) a c.step.new.core (written (g.L.Record.logged c.put.new.self)) c.self.inside.owed c.in-Some.stamp c.args.own
           c.of-course.result c.in-Ok.turn c.conclude.new.self
           (stepped _ _ _ _ _ c.cause-cause.ensures c.in-Ok.ensures.made)
           (begun _ _ _ _ _ _ _ _ _ c.step.ensures.log c.put.ensures.node c.put.ensures.entries c.in-Some.ensures.0

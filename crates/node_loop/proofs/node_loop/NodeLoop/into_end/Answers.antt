@@ -9,7 +9,7 @@ returns-clause-sound g c =
     let a : Looping = record {
       core = c.self.inside.core;
       world = c.self.inside.world;
-      log = written c.self.inside.log;
+      log = written (g.L.Record.logged c.self.inside.log);
       tray = c.self.inside.tray;
       desk = c.self.inside.desk;
       wait = c.self.inside.courtesy;
@@ -18,5 +18,5 @@ returns-clause-sound g c =
       left = c.self.inside.left;
       worked = c.self.inside.worked;
     } in
-    subst (λ (x : Looping). LeavesSound x (written c.self.inside.log) (g.N.Names.contents c.into_table.result)) c.self.view_is
-    (leaves_sound a (written c.self.inside.log) (g.N.Names.contents c.into_table.result) refl c.into_table.ensures)
+    subst (λ (x : Looping). LeavesSound x (written (g.L.Record.logged c.self.inside.log)) (g.N.Names.contents c.into_table.result)) c.self.view_is
+    (leaves_sound a (written (g.L.Record.logged c.self.inside.log)) (g.N.Names.contents c.into_table.result) refl c.into_table.ensures)

@@ -37,7 +37,7 @@ returns-in_err-leave-in-Made g c =
     ∙ ap (λ (l : Looping). leaver l.desk.leaves) c.self.view_is)))
     c.in-Made.ensures.0 in
     let noted : c.add.new.self ≡ with_leave c.attempt.new.self =
-    c.add.ensures ∙ λ j. with_note (One edit.Leave) ((c.len.ensures ∙ ap (λ (l : Looping). length l.log.entries) c.self-2.view_is) j) (c.self-2.view_is j).owed in
+    c.add.ensures ∙ λ j. with_note (One edit.Leave) ((c.count.ensures ∙ ap (λ (l : Looping). length l.log.entries) c.self-2.view_is) j) (c.self-2.view_is j).owed in
     rw (p.1, p.2)
     (at_true _ _ (is_free_to_leave c.args.self.now) (sym c.is_free_to_leave.ensures ∙ c.if-not-is_free_to_leave.false)
     (ends_left (by_leave c.args.self.now) c.args.self.now c.attempt.new.self _ made

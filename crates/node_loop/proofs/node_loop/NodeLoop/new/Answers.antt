@@ -1,7 +1,6 @@
 use Rattle.std.proofs.Common.{◌≡◌, ℕ, List, [], refl, ap, subst, ◌∙◌, map}
 use Rattle.std.specs.List.Sorted.{IsStrictlyIncreasing}
 use Rattle.tray.specs.Held.{none_for}
-use Rattle.node_loop.specs.Held.{written}
 use Rattle.node_loop.proofs.Beginning.{begins_sound}
 use Rattle.node_loop.proofs.node_loop.NodeLoop.new.Goals as goal
 
@@ -9,5 +8,5 @@ pub returns-clause-sound : goal.returns-clause-sound
 returns-clause-sound g c =
     let same : c.copy-world.result ≡ c.args.core.world = c.copy-world.ensures ∙ c.world.ensures.world in
     begins_sound c.args.core _ (subst IsStrictlyIncreasing same c.len.ensures.set.rising) refl same
-    (ap written c.new-log.ensures ∙ λ j. record { node = (c.copy.ensures ∙ c.name.ensures.name) j; entries = [] })
+    (λ j. record { node = (c.new-log.ensures.node ∙ c.copy.ensures ∙ c.name.ensures.name) j; entries = c.new-log.ensures.entries j })
     (c.in_ok-tray.ensures ∙ ap (λ (l : List ℕ). map none_for l) same)

@@ -16,7 +16,7 @@ returns g c =
     let a : Looping = record {
       core = c.self.inside.core;
       world = c.self.inside.world;
-      log = written c.self.inside.log;
+      log = written (g.L.Record.logged c.self.inside.log);
       tray = c.self.inside.tray;
       desk = c.self.inside.desk;
       wait = c.self.inside.courtesy;
@@ -25,13 +25,13 @@ returns g c =
       left = c.self.inside.left;
       worked = c.self.inside.worked;
     } in
-    let noted : c.add.new.self ≡ with_note c.note_of-note.result (length c.self.inside.log.entries + 1) c.self.inside.owed =
+    let noted : c.add.new.self ≡ with_note c.note_of-note.result (length (g.L.Record.logged c.self.inside.log).entries + 1) c.self.inside.owed =
     c.add.ensures ∙ ap (λ (n : ℕ). with_note c.note_of-note.result n c.self.inside.owed)
-    (one_more c.len.result c.self.inside.log.entries c.step.new.log.entries c.put_delivery.new.self.entries _ c.len.ensures
+    (one_more c.count.result (g.L.Record.logged c.self.inside.log).entries (g.L.Record.logged c.step.new.log).entries (g.L.Record.logged c.put_delivery.new.self).entries _ c.count.ensures
     c.put_delivery.ensures.entries (ap (λ (w : Written). w.entries) c.step.ensures.log)) in
     subst (λ (x : Looping). Reads c.args.from c.args.stamped x (Ok tt) c.conclude.new.self) c.self.view_is
     (at_false _ _ c.self.inside.left c.if-self.false
-    (makes (by_letter c.args.from c.args.stamped a) a c.step.new.core (written c.put_delivery.new.self) c.add.new.self c.in-Some.stamp None
+    (makes (by_letter c.args.from c.args.stamped a) a c.step.new.core (written (g.L.Record.logged c.put_delivery.new.self)) c.add.new.self c.in-Some.stamp None
     AtOnce c.in-Ok.turn c.conclude.new.self c.in-Ok.ensures.made
     (begun _ _ _ _ _ _ _ _ _ c.step.ensures.log c.put_delivery.ensures.node c.put_delivery.ensures.entries
     c.in-Some.ensures.0 refl
@@ -44,7 +44,7 @@ returns-in_err-conclude g c =
     let a : Looping = record {
       core = c.self.inside.core;
       world = c.self.inside.world;
-      log = written c.self.inside.log;
+      log = written (g.L.Record.logged c.self.inside.log);
       tray = c.self.inside.tray;
       desk = c.self.inside.desk;
       wait = c.self.inside.courtesy;
@@ -53,16 +53,16 @@ returns-in_err-conclude g c =
       left = c.self.inside.left;
       worked = c.self.inside.worked;
     } in
-    let noted : c.add.new.self ≡ with_note c.note_of-note.result (length c.self.inside.log.entries + 1) c.self.inside.owed =
+    let noted : c.add.new.self ≡ with_note c.note_of-note.result (length (g.L.Record.logged c.self.inside.log).entries + 1) c.self.inside.owed =
     c.add.ensures ∙ ap (λ (n : ℕ). with_note c.note_of-note.result n c.self.inside.owed)
-    (one_more c.len.result c.self.inside.log.entries c.step.new.log.entries c.put_delivery.new.self.entries _ c.len.ensures
+    (one_more c.count.result (g.L.Record.logged c.self.inside.log).entries (g.L.Record.logged c.step.new.log).entries (g.L.Record.logged c.put_delivery.new.self).entries _ c.count.ensures
     c.put_delivery.ensures.entries (ap (λ (w : Written). w.entries) c.step.ensures.log)) in
     let p = err_from_is_err_and c.from_residual.result c.from_residual.ensures.1 in
     rw (p.1, p.2)
     (subst (λ (x : Looping). Reads c.args.from c.args.stamped x (Err Memory) c.conclude.new.self) c.self.view_is
     (at_false _ _ c.self.inside.left c.if-self.false (
       unspent (by_letter c.args.from c.args.stamped a) a c.in-Some.stamp c.in-Some.ensures.0 c.in-Some.ensures.1,
-      inr (begins (by_letter c.args.from c.args.stamped a) a c.step.new.core (written c.put_delivery.new.self) c.add.new.self c.in-Some.stamp None
+      inr (begins (by_letter c.args.from c.args.stamped a) a c.step.new.core (written (g.L.Record.logged c.put_delivery.new.self)) c.add.new.self c.in-Some.stamp None
           AtOnce c.in-Ok.turn c.conclude.new.self c.in-Ok.ensures.made
           (begun _ _ _ _ _ _ _ _ _ c.step.ensures.log c.put_delivery.ensures.node c.put_delivery.ensures.entries
           c.in-Some.ensures.0 refl

@@ -1,0 +1,4 @@
+mod Inserting
+mod Entering
+pub mod Gathering
+pub mod Playing

@@ -1,0 +1,69 @@
+//! A cluster that is ended without a replay.
+use name_table::{ListTable, Names};
+use node_threads::{
+    Call, Cluster, EndFault, EndedCluster, ForgottenLog, OpenGate, Reply, SeatFault,
+};
+use std::alloc::Global;
+use std::sync::Wait;
+use std::thread::Threads;
+use std::time::Clock;
+use term::{Name, NodeName, Pid, parse_name, parse_node, parse_pid};
+
+/// A cluster whose tables are lists, and which keeps no step.
+type Forgetful = Cluster<OpenGate, ListTable<Global>, ForgottenLog>;
+
+/// Spawns a process at a node, which is to be this one, and registers a name for it.
+fn registers<R: Wait + Clock>(
+    rt: &R,
+    cluster: &mut Forgetful,
+    process: &Pid,
+    name: &Name,
+) -> Result<bool, SeatFault> {
+    let mut seat = cluster.seat(&process.node)?;
+    let spawned = seat.call(rt, Call::Spawn)?;
+    let named = seat.call(rt, Call::Register(name.copy(), process.copy()))?;
+    Ok(spawned == Reply::Pid(process.copy()) && named == Reply::Yes)
+}
+
+/// Whether each of two tables says that the process has the name, and the run had steps.
+fn is_told(ended: &EndedCluster<ListTable<Global>>, process: &Pid, name: &Name) -> bool {
+    let mut all = ended.events >= 4 && ended.tables.len() == 2;
+    for entry in &ended.tables {
+        all = all && entry.1.get(name) == Some(process.copy());
+    }
+    all
+}
+
+/// Two nodes, at one of which a name is registered: what the cluster came to has it at both.
+fn is_ended<R: Threads + Wait + Clock + Drop + Copy + Send + 'static>(
+    rt: &R,
+    alloc: Global,
+    nodes: &[NodeName],
+    process: &Pid,
+    name: &Name,
+) -> bool {
+    let Ok(mut cluster) = Forgetful::start(rt, alloc, nodes, &[], OpenGate, 500) else {
+        return false;
+    };
+    let registered = registers(rt, &mut cluster, process, name);
+    let ended = cluster.end(rt);
+    match ended {
+        Ok(ended) => registered == Ok(true) && is_told(&ended, process, name),
+        Err(EndFault::Memory | EndFault::LeftInHold(_)) => false,
+    }
+}
+
+#[test]
+fn tells_of_steps_and_tables(rt: HostRuntime) {
+    match (
+        parse_node("a"),
+        parse_node("b"),
+        parse_pid("a.1"),
+        parse_name("x"),
+    ) {
+        (Ok(a), Ok(b), Ok(process), Ok(name)) => {
+            assert!(rt; is_ended(&rt, rt.alloc(), &[a, b], &process, &name));
+        }
+        _ => assert!(rt; false),
+    }
+}
