@@ -1,1 +1,2 @@
+pub use Rattle.closings.specs.Merging
 pub mod Laws

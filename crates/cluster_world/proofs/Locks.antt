@@ -17,6 +17,10 @@ use Rattle.cluster_world.specs.Playing.{events_of}
 use Rattle.cluster_world.specs.Agreeing.{AgreesAfter, Agrees}
 use Rattle.cluster_world.specs.Locks.{LocksAfter, LocksBehind, NeverBothHold, HasLock, is_left, is_kept}
 
+-- clients' locks are so behind every list of events
+pub locks_behind_all : (o : Opening) (es : List AnyWorldEvent) → LocksAfter o es (run o (opening_world o) es)
+locks_behind_all o es = client_locks o es
+
 -- where the headline stands behind events, locks are so behind them
 pub locks_after : (es : List AnyWorldEvent) (h : Held) → AgreesAfter es h → LocksAfter (opening_of h) es (seen h)
 locks_after es h A = subst (λ (w : World). LocksAfter (opening_of h) es w) (sym A.is_run) (client_locks (opening_of h) es)

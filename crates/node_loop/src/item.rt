@@ -18,6 +18,8 @@ pub struct Stamped {
 pub struct Ticket {
     /// The number of the seat.
     pub seat: u32,
+    /// The number of the slot where replies to the seat are laid, as long as it isn't given back.
+    pub slot: u32,
     /// The number of what it asked, at that seat.
     pub number: u64,
 }

@@ -8,16 +8,17 @@ use Rattle.shared_table.specs.declared.SeatEntry.{SeatEntry}
 use Rattle.shared_table.specs.declared.Effect.{Effect}
 use Rattle.shared_table.specs.declared.TaskFault.{TaskFault}
 use Rattle.node_seats.specs.declared.caller.Caller.{Caller}
+use Rattle.node_seats.specs.declared.place.Place.{Place}
 use Rattle.node_seats.specs.declared.fault.SeatFault.{SeatFault}
 use Rattle.node_seats.specs.declared.fault.SeatFault.TheVariants.{NoSuchNode, NodeLeft, Closed, SeatsSpent, Step, Memory}
 use Rattle.node_seats.specs.Addresses.{Inbox}
 use Rattle.shared_table.specs.Readers.{Seen}
-use Rattle.node_seats.specs.Callers.{inbox_of, slot_of, nodes_of, asked_by, name_of, ticket_of, seen_of, told_of, told_as, Learns}
+use Rattle.node_seats.specs.Callers.{inbox_of, place_of, nodes_of, asked_by, name_of, ticket_of, seen_of, told_of, told_as, Learns}
 use Rattle.node_seats.specs.Replies.{IsToldTo}
 use Rattle.node_seats.specs.Seats.{Sitting, sitting, IsAnswered, with_entry}
 
-abbrev sits : ℕ → Inbox → List ℕ → List Event → Seen → List SeatEntry → Sitting
-sits seat inbox nodes asked seen es = record { seat = seat; node = inbox.node; room = inbox.room; nodes = nodes; asked = asked; seen = seen; entries = es }
+abbrev sits : Place → Inbox → List ℕ → List Event → Seen → List SeatEntry → Sitting
+sits place inbox nodes asked seen es = record { seat = place.seat; slot = place.slot; node = inbox.node; room = inbox.room; nodes = nodes; asked = asked; seen = seen; entries = es }
 
 -- what its caller is told, the seat is answered
 module _ (c : Caller) (es : List SeatEntry) (s : Sitting) (is : sitting c es ≡ s) where
@@ -27,15 +28,15 @@ module _ (c : Caller) (es : List SeatEntry) (s : Sitting) (is : sitting c es ≡
       subst (λ (x : Sitting). IsAnswered x outcome (sitting d fs)) is (record { number = c.next; told = told; learns = learns })
 
   -- it asked for an event, and has an entry more
-  pub grown : (d : Caller) (fs : List SeatEntry) (e : Event) (w : WorldEvent) (answer : Option Answer) → slot_of d ≡ slot_of c
+  pub grown : (d : Caller) (fs : List SeatEntry) (e : Event) (w : WorldEvent) (answer : Option Answer) → place_of d ≡ place_of c
       → inbox_of d ≡ inbox_of c → nodes_of d ≡ nodes_of c → asked_by d ≡ asked_by c ++ e ∷ [] → w ≡ At (name_of c) e
       → fs ≡ es ++ record { event = w; answer = answer } ∷ [] → sitting d fs ≡ record (with_entry e answer s) { seen = seen_of d }
-  grown d fs e w answer slot inbox nodes asked at more = subst (λ (x : Sitting). sitting d fs ≡ record (with_entry e answer x) { seen = seen_of d }) is
-      (ap (λ (i : ℕ). sits i (inbox_of d) (nodes_of d) (asked_by d) (seen_of d) fs) slot
-      ∙ ap (λ (i : Inbox). sits (slot_of c) i (nodes_of d) (asked_by d) (seen_of d) fs) inbox
-      ∙ ap (λ (ns : List ℕ). sits (slot_of c) (inbox_of c) ns (asked_by d) (seen_of d) fs) nodes
-      ∙ ap (λ (l : List Event). sits (slot_of c) (inbox_of c) (nodes_of c) l (seen_of d) fs) asked
-      ∙ ap (λ (l : List SeatEntry). sits (slot_of c) (inbox_of c) (nodes_of c) (asked_by c ++ e ∷ []) (seen_of d) l)
+  grown d fs e w answer place inbox nodes asked at more = subst (λ (x : Sitting). sitting d fs ≡ record (with_entry e answer x) { seen = seen_of d }) is
+      (ap (λ (i : Place). sits i (inbox_of d) (nodes_of d) (asked_by d) (seen_of d) fs) place
+      ∙ ap (λ (i : Inbox). sits (place_of c) i (nodes_of d) (asked_by d) (seen_of d) fs) inbox
+      ∙ ap (λ (ns : List ℕ). sits (place_of c) (inbox_of c) ns (asked_by d) (seen_of d) fs) nodes
+      ∙ ap (λ (l : List Event). sits (place_of c) (inbox_of c) (nodes_of c) l (seen_of d) fs) asked
+      ∙ ap (λ (l : List SeatEntry). sits (place_of c) (inbox_of c) (nodes_of c) (asked_by c ++ e ∷ []) (seen_of d) l)
       (more ∙ ap (λ (v : WorldEvent). es ++ record { event = v; answer = answer } ∷ []) at))
 
 -- an answer is told as it was

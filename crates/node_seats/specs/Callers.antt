@@ -1,5 +1,5 @@
 -- What contracts see of a caller, and of the hub that it shares.
-use Rattle.std.specs.Prelude.{ℕ, ◌+◌, ◌≡◌, ◌≤◌, ◌⊎◌, Option, Some, None, Result, Ok, Err, List, [], ◌∷◌}
+use Rattle.std.specs.Prelude.{ℕ, ◌+◌, ◌-◌, ◌^◌, ◌≡◌, ◌≤◌, ◌⊎◌, Option, Some, None, Result, Ok, Err, List, [], ◌∷◌}
 use Rattle.std.specs.List.{flat_map}
 use Rattle.shared_table.specs.declared.Event.{Event}
 use Rattle.shared_table.specs.declared.Ticket.{Ticket}
@@ -9,6 +9,7 @@ use Rattle.node_seats.specs.declared.caller.Caller.{Caller}
 use Rattle.node_seats.specs.declared.fault.SeatFault.{SeatFault}
 use Rattle.node_seats.specs.declared.fault.SeatFault.TheVariants.{NoSuchNode, Closed, Step}
 use Rattle.node_seats.specs.declared.hub.Hub.{Hub}
+use Rattle.node_seats.specs.declared.place.Place.{Place}
 use Rattle.shared_table.specs.Readers.{Seen}
 use Rattle.node_seats.specs.Lines.{with_parcel}
 use Rattle.node_seats.specs.Addresses.{Inbox}
@@ -21,9 +22,17 @@ name_of c = c.node
 abbrev pub inbox_of : Caller → Inbox
 inbox_of c = record { node = c.node; room = c.line.room }
 
--- the slot of its replies
-abbrev pub slot_of : Caller → ℕ
-slot_of c = c.slot
+-- which seat's it is, and the slot of its replies
+abbrev pub place_of : Caller → Place
+place_of c = c.place
+
+-- how many numbers seats have
+abbrev pub seat_numbers : ℕ
+seat_numbers = 2 ^ 32 - 8
+
+-- the place of a cluster's own caller at the node with this index
+abbrev pub own_place : ℕ → Place
+own_place index = record { seat = seat_numbers + index; slot = 64 + index }
 
 -- the nodes of a hub's cluster
 abbrev pub nodes_at : Hub → List ℕ
@@ -61,7 +70,7 @@ asked_by c = flat_map (λ p. event_in p.item) c.line.parcels
 
 -- the ticket of the next event that it asks for
 abbrev pub ticket_of : Caller → Ticket
-ticket_of c = record { seat = c.slot; number = c.next }
+ticket_of c = record { seat = c.place.seat; slot = c.place.slot; number = c.next }
 
 -- the task by which it asks for an event
 abbrev pub task_for : Caller → Event → Item

@@ -1,5 +1,5 @@
 -- Why a seat isn't made, or what it asks isn't done.
-use Rattle.std.specs.Prelude.{ℕ, Bool, true, false, ◌≡◌, ◌<◌, ◌⊎◌, List, [], ◌∷◌, ◌++◌}
+use Rattle.std.specs.Prelude.{Bool, true, false, ◌≡◌, ◌⊎◌, List, [], ◌∷◌, ◌++◌}
 use Rattle.shared_table.specs.declared.Event.{Event}
 use Rattle.shared_table.specs.declared.TaskFault.{TaskFault}
 use Rattle.shared_table.specs.declared.TaskFault.TheVariants as of_task
@@ -24,13 +24,9 @@ MayAsk NoSuchNode e before after = after ≡ before
 MayAsk (Step fault) e before after = after ≡ before ++ e ∷ []
 MayAsk _ e before after = (after ≡ before) ⊎ (after ≡ before ++ e ∷ [])
 
--- how many seats a cluster makes
-abbrev pub most_seats : ℕ
-most_seats = 64
-
--- why a seat isn't made: whether the cluster has the node, and how many seats it made before
-abbrev pub IsSeatRefused : SeatFault → Bool → ℕ → Type 0
-IsSeatRefused NoSuchNode known made = known ≡ false
-IsSeatRefused SeatsSpent known made = (known ≡ true) × (made ≡ most_seats)
-IsSeatRefused Memory known made = (known ≡ true) × (made < most_seats)
-IsSeatRefused _ known made = ⊥
+-- why a seat isn't made: whether the cluster has the node, and whether it can make no further seat
+abbrev pub IsSeatRefused : SeatFault → Bool → Bool → Type 0
+IsSeatRefused NoSuchNode known spent = known ≡ false
+IsSeatRefused SeatsSpent known spent = (known ≡ true) × (spent ≡ true)
+IsSeatRefused Memory known spent = (known ≡ true) × (spent ≡ false)
+IsSeatRefused _ known spent = ⊥

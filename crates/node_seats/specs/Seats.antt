@@ -17,6 +17,7 @@ use Rattle.shared_table.specs.declared.Effect.{Effect}
 use Rattle.shared_table.specs.declared.Effect.TheVariants.{Answered as IsAnswer}
 use Rattle.node_seats.specs.declared.caller.Caller.{Caller}
 use Rattle.node_seats.specs.declared.parcel.Parcel.{Parcel}
+use Rattle.node_seats.specs.declared.place.Place.{Place}
 use Rattle.node_seats.specs.declared.fault.SeatFault.{SeatFault}
 use Rattle.node_seats.specs.declared.fault.SeatFault.TheVariants.{NodeLeft, Closed, Step}
 use Rattle.shared_table.specs.declared.TaskFault.{TaskFault}
@@ -25,7 +26,7 @@ use Rattle.node_seats.specs.Addresses.{Inbox}
 use Rattle.shared_table.specs.declared.reader.Lookup.TheVariants.{Owner, Left as IsLeft}
 use Rattle.shared_table.specs.Rule.{StartsWith}
 use Rattle.shared_table.specs.Readers.{Seen, Finds}
-use Rattle.node_seats.specs.Callers.{name_of, slot_of, nodes_of, asked_by, seen_of, unseen, Learns}
+use Rattle.node_seats.specs.Callers.{name_of, place_of, nodes_of, asked_by, seen_of, unseen, Learns}
 use Rattle.node_seats.specs.Faults.{MayAsk}
 use Rattle.node_seats.specs.Replies.{IsToldTo}
 
@@ -36,10 +37,11 @@ Looked (Err NodeLeft) node x s t = Finds IsLeft node x s t
 Looked (Err Closed) node x s t = StartsWith t.editions s.editions × (t.told ≡ s.told)
 Looked (Err fault) node x s t = ⊥
 
--- a seat: its number, its node, the inbox of that, the nodes of its cluster, the events that it has asked its node for, what it has seen of
--- its node's table, and its transcript, the oldest of each first
+-- a seat: its number, the slot of its replies, its node, the inbox of that, the nodes of its cluster, the events that it has asked its node
+-- for, what it has seen of its node's table, and its transcript, the oldest of each first
 pub record Sitting : Type 0 where
   pub seat : ℕ
+  pub slot : ℕ
   pub node : ℕ
   pub room : Room (Parcel Item)
   pub nodes : List ℕ
@@ -50,7 +52,8 @@ pub record Sitting : Type 0 where
 -- the seat of a caller, with this transcript
 abbrev pub sitting : Caller → List SeatEntry → Sitting
 sitting c es = record {
-  seat = slot_of c;
+  seat = (place_of c).seat;
+  slot = (place_of c).slot;
   node = name_of c;
   room = c.line.room;
   nodes = nodes_of c;
@@ -59,10 +62,11 @@ sitting c es = record {
   entries = es;
 }
 
--- the seat with this number at the node of this inbox, in a cluster of these nodes, where nothing was asked yet
-abbrev pub new_seat : ℕ → List ℕ → Inbox → Sitting
-new_seat number nodes inbox = record {
-  seat = number;
+-- the seat of this place at the node of this inbox, in a cluster of these nodes, where nothing was asked yet
+abbrev pub new_seat : Place → List ℕ → Inbox → Sitting
+new_seat place nodes inbox = record {
+  seat = place.seat;
+  slot = place.slot;
   node = inbox.node;
   room = inbox.room;
   nodes = nodes;
@@ -86,7 +90,7 @@ with_entry e answer s = record s {
 -- log than the seat t was told of
 pub record IsAnswered (s : Sitting) (outcome : Result Effect TaskFault) (t : Sitting) : Type 0 where
   pub number : ℕ
-  pub told : IsToldTo s.node (record { seat = s.seat; number = number }) outcome t.seen.told
+  pub told : IsToldTo s.node (record { seat = s.seat; slot = s.slot; number = number }) outcome t.seen.told
   pub learns : Learns s.seen t.seen
 
 -- a refusal by the node is its loop's

@@ -3,7 +3,7 @@ ghost use Rattle.std.specs.Prelude.{◌≡◌, ◌++◌, ◌∷◌, [], IfOk, On
 ghost use Rattle.shared_table.specs.Events.{knows_contact as knows};
 ghost use Rattle.shared_table.specs.declared.Event.TheVariants.{Call as Calls, Exit, Leave};
 ghost use Rattle.shared_table.specs.declared.Effect.TheVariants.{Answered, Made, Left};
-ghost use Rattle.node_seats.specs.Callers.{name_of, inbox_of, slot_of, nodes_of, asked_by, seen_of, told_of, ticket_of, task_for, Puts, Learns};
+ghost use Rattle.node_seats.specs.Callers.{name_of, inbox_of, place_of, nodes_of, asked_by, seen_of, told_of, ticket_of, task_for, Puts, Learns};
 ghost use Rattle.node_seats.specs.Faults.{IsAskRefused, MayAsk};
 ghost use Rattle.node_seats.specs.Replies.{IsToldTo, IsFaultTold, HasLeft};
 
@@ -17,7 +17,7 @@ use term::Pid;
 impl Caller {
     /// Asks for a call, and gives its answer. It is refused as `ask` is.
     pub(crate) fn call<R: Wait + Clock>(&mut self, rt: &R, call: Call) -> Result<Answer, SeatFault>
-        ensures slot { slot_of self.new ≡ slot_of self.old }
+        ensures place { place_of self.new ≡ place_of self.old }
         ensures node { name_of self.new ≡ name_of self.old }
         ensures inbox { inbox_of self.new ≡ inbox_of self.old }
         ensures nodes { nodes_of self.new ≡ nodes_of self.old }
@@ -37,7 +37,7 @@ impl Caller {
 
     /// Asks for the exit of a process, and waits until it was made. It is refused as `ask` is.
     pub(crate) fn exit<R: Wait + Clock>(&mut self, rt: &R, process: &Pid) -> Result<(), SeatFault>
-        ensures slot { slot_of self.new ≡ slot_of self.old }
+        ensures place { place_of self.new ≡ place_of self.old }
         ensures node { name_of self.new ≡ name_of self.old }
         ensures inbox { inbox_of self.new ≡ inbox_of self.old }
         ensures nodes { nodes_of self.new ≡ nodes_of self.old }
@@ -56,7 +56,7 @@ impl Caller {
 
     /// Asks the node to leave, and waits until it has, as its log then says. It is refused as `ask` is.
     pub fn leave<R: Wait + Clock>(&mut self, rt: &R) -> Result<(), SeatFault>
-        ensures slot { slot_of self.new ≡ slot_of self.old }
+        ensures place { place_of self.new ≡ place_of self.old }
         ensures node { name_of self.new ≡ name_of self.old }
         ensures inbox { inbox_of self.new ≡ inbox_of self.old }
         ensures nodes { nodes_of self.new ≡ nodes_of self.old }

@@ -2,7 +2,7 @@
 ghost use Rattle.std.specs.Prelude.{◌≡◌, ◌<◌, ◌≤◌, ◌+◌, ◌++◌, ◌∷◌, ◌⊎◌, [], true, false, IfOk, OnOk, OnErr, IfErr, IfSome, Ok, Err};
 ghost use Rattle.shared_table.specs.Events.{knows_contact as knows};
 ghost use Rattle.node_seats.specs.Addresses.{inbox_at};
-ghost use Rattle.node_seats.specs.Callers.{name_of, inbox_of, slot_of, nodes_of, nodes_at, asked_by, seen_of, told_of, unseen, ticket_of, task_for, told_as, Numbers, Puts, Offers, IsEnd, MayPut, Learns};
+ghost use Rattle.node_seats.specs.Callers.{name_of, inbox_of, place_of, nodes_of, nodes_at, asked_by, seen_of, told_of, unseen, ticket_of, task_for, told_as, Numbers, Puts, Offers, IsEnd, MayPut, Learns};
 ghost use Rattle.node_seats.specs.declared.fault.SeatFault.TheVariants.{NoSuchNode};
 ghost use Rattle.node_seats.specs.Faults.{IsAskRefused, MayAsk};
 ghost use Rattle.node_seats.specs.Replies.{IsToldTo, IsFaultTold};
@@ -13,6 +13,7 @@ use crate::bell::Rest;
 use crate::fault::SeatFault;
 use crate::hub::Hub;
 use crate::line::Line;
+use crate::place::Place;
 use crate::standing::Standing;
 use shared_table::{Effect, Event, Item, Lookup, TableReader, Task, TaskFault, Ticket};
 use std::alloc::{AllocError, Global};
@@ -21,12 +22,12 @@ use std::time::Clock;
 use term::{Name, NodeName, Pid};
 
 /// Asks the thread of one node, one event after another, and waits for each reply; and looks names up in the node's table. Contracts see
-/// the node, the slot of its replies, the nodes of the cluster, the events that it has put into the node's inbox, and what it has seen of
+/// the node, its place among the seats, the nodes of the cluster, the events that it has put into the node's inbox, and what it has seen of
 /// the table.
 #[derive(Drop)]
 pub struct Caller {
-    /// The slot of its replies.
-    slot: u32,
+    /// Which seat's it is, or which of the cluster's own, and the slot of its replies.
+    place: Place,
     node: NodeName,
     line: Line<Item>,
     /// The number of its next event.
@@ -49,16 +50,16 @@ fn known_outcome(outcome: Result<Effect, SeatFault>) -> Result<Effect, SeatFault
 }
 
 impl Caller {
-    /// One that asks the node of this address, which stands so, and finds its replies in this slot.
+    /// One that asks the node of this address, which stands so, and finds its replies in the slot of this place.
     pub(crate) fn new(
         hub: &Arc<Hub, Global>,
         standing: &Arc<Standing, Global>,
         address: &mut Address<Item>,
-        slot: u32,
+        place: Place,
         yields: u32,
     ) -> Result<Self, AllocError>
-        requires { slot < 72 }
-        ensures slot { IfOk result (λ caller. slot_of caller ≡ slot) }
+        requires { place.slot < 72 }
+        ensures place { IfOk result (λ caller. place_of caller ≡ place) }
         ensures node { IfOk result (λ caller. name_of caller ≡ address.old.node) }
         ensures nodes { IfOk result (λ caller. nodes_of caller ≡ nodes_at hub.now.value) }
         ensures unasked { IfOk result (λ caller. asked_by caller ≡ []) }
@@ -68,13 +69,13 @@ impl Caller {
         ensures inbox { IfOk result (λ caller. inbox_of caller ≡ inbox_at address.old) }
         ensures room { address.new.room ≡ address.old.room }
     {
-        let rest = hub.rest(slot, yields)?;
+        let rest = hub.rest(place.slot, yields)?;
         let hub = Arc::try_clone(hub)?;
         let standing = Arc::try_clone(standing)?;
         let reader = standing.reader()?;
         let line = address.line()?;
         Ok(Caller {
-            slot,
+            place,
             node: line.receiver().copy(),
             line,
             next: 0,
@@ -85,16 +86,16 @@ impl Caller {
         })
     }
 
-    /// One more that asks the same node, and finds its replies in this slot of this hub.
+    /// One more that asks the same node, and finds its replies in this place's slot of this hub.
     pub fn another(
         &self,
         hub: &Arc<Hub, Global>,
         address: &mut Address<Item>,
-        slot: u32,
+        place: Place,
         yields: u32,
     ) -> Result<Self, AllocError>
-        requires { slot < 72 }
-        ensures slot { IfOk result (λ caller. slot_of caller ≡ slot) }
+        requires { place.slot < 72 }
+        ensures place { IfOk result (λ caller. place_of caller ≡ place) }
         ensures node { IfOk result (λ caller. name_of caller ≡ address.old.node) }
         ensures nodes { IfOk result (λ caller. nodes_of caller ≡ nodes_at hub.now.value) }
         ensures unasked { IfOk result (λ caller. asked_by caller ≡ []) }
@@ -104,7 +105,7 @@ impl Caller {
         ensures inbox { IfOk result (λ caller. inbox_of caller ≡ inbox_at address.old) }
         ensures room { address.new.room ≡ address.old.room }
     {
-        Caller::new(hub, &self.standing, address, slot, yields)
+        Caller::new(hub, &self.standing, address, place, yields)
     }
 
     /// The node that it asks.
@@ -114,11 +115,11 @@ impl Caller {
         &self.node
     }
 
-    /// The slot of its replies.
-    pub(crate) fn slot(&self) -> u32
-        ensures { result ≡ slot_of self.now }
+    /// Which seat's it is, and the slot of its replies.
+    pub(crate) fn place(&self) -> Place
+        ensures { result ≡ place_of self.now }
     {
-        self.slot
+        self.place
     }
 
     /// Asks for an event, once, waits until the node has taken it, or refused it, and gives what came of it. A contact that isn't of
@@ -126,7 +127,7 @@ impl Caller {
     /// caller for this event; where no reply comes any more, the event may have been asked for. Its number is above those of all that
     /// the caller put before, since numbers never fall, and rise behind each event that is put.
     pub fn ask<R: Wait + Clock>(&mut self, rt: &R, event: Event) -> Result<Effect, SeatFault>
-        ensures slot { slot_of self.new ≡ slot_of self.old }
+        ensures place { place_of self.new ≡ place_of self.old }
         ensures node { name_of self.new ≡ name_of self.old }
         ensures nodes { nodes_of self.new ≡ nodes_of self.old }
         ensures stranger { knows (nodes_of self.old) event ≡ false → result ≡ Err NoSuchNode }
@@ -150,7 +151,7 @@ impl Caller {
 
     /// Asks the node for an event, whose contact is of the cluster.
     fn ask_node<R: Wait + Clock>(&mut self, rt: &R, event: Event) -> Result<Effect, SeatFault>
-        ensures slot { slot_of self.new ≡ slot_of self.old }
+        ensures place { place_of self.new ≡ place_of self.old }
         ensures node { name_of self.new ≡ name_of self.old }
         ensures nodes { nodes_of self.new ≡ nodes_of self.old }
         ensures asked { OnOk result (Puts (task_for self.old event) self.old self.new) }
@@ -168,10 +169,8 @@ impl Caller {
             return Err(SeatFault::Closed);
         };
         self.next = next;
-        let ticket = Ticket {
-            seat: self.slot,
-            number,
-        };
+        let Place { seat, slot } = self.place;
+        let ticket = Ticket { seat, slot, number };
         let task = Task {
             ticket: Some(ticket),
             event,
@@ -183,7 +182,7 @@ impl Caller {
     /// Looks a name up in the table that the node's thread published last. It asks the node for nothing, and waits for nobody. `NodeLeft`:
     /// the node has left. `Closed`: the cluster was closed.
     pub(crate) fn look_up(&mut self, name: &Name) -> Result<Option<Pid>, SeatFault>
-        ensures slot { slot_of self.new ≡ slot_of self.old }
+        ensures place { place_of self.new ≡ place_of self.old }
         ensures node { name_of self.new ≡ name_of self.old }
         ensures nodes { nodes_of self.new ≡ nodes_of self.old }
         ensures line { self.new.line ≡ self.old.line }
@@ -225,7 +224,7 @@ impl Caller {
 
     /// Sends an item, or hands it back where there is no room for it yet.
     fn offer<R: Wait>(&mut self, rt: &R, item: Item) -> Result<Option<Item>, SeatFault>
-        ensures slot { slot_of self.new ≡ slot_of self.old }
+        ensures place { place_of self.new ≡ place_of self.old }
         ensures node { name_of self.new ≡ name_of self.old }
         ensures nodes { nodes_of self.new ≡ nodes_of self.old }
         ensures next { self.new.next ≡ self.old.next }
@@ -245,7 +244,7 @@ impl Caller {
 
     /// Sends an item as soon as there is room for it.
     fn send<R: Wait + Clock>(&mut self, rt: &R, item: Item) -> Result<(), SeatFault>
-        ensures slot { slot_of self.new ≡ slot_of self.old }
+        ensures place { place_of self.new ≡ place_of self.old }
         ensures node { name_of self.new ≡ name_of self.old }
         ensures nodes { nodes_of self.new ≡ nodes_of self.old }
         ensures next { self.new.next ≡ self.old.next }
@@ -269,7 +268,7 @@ impl Caller {
     /// Takes a reply up, if one lies there: what it says of a ticket. A reply to another, which this caller has given up, is dropped. The
     /// node's readers were shown all that it had shown then, and so the table is read from there on.
     fn take_up<R: Wait>(&mut self, rt: &R, ticket: Ticket) -> Option<Result<Effect, TaskFault>>
-        ensures slot { slot_of self.new ≡ slot_of self.old }
+        ensures place { place_of self.new ≡ place_of self.old }
         ensures node { name_of self.new ≡ name_of self.old }
         ensures nodes { nodes_of self.new ≡ nodes_of self.old }
         ensures line { self.new.line ≡ self.old.line }
@@ -277,14 +276,14 @@ impl Caller {
         ensures told { IfSome result (λ outcome. IsToldTo (name_of self.old) ticket outcome (told_of self.new)) }
         ensures learns { Learns (seen_of self.old) (seen_of self.new) }
     {
-        let reply = self.hub.take(rt, self.slot)?;
+        let reply = self.hub.take(rt, self.place.slot)?;
         self.reader.learn(reply.length());
         reply.outcome(&self.node, ticket)
     }
 
     /// What came of a ticket, if that is known.
     fn find<R: Wait>(&mut self, rt: &R, ticket: Ticket) -> Result<Option<Effect>, SeatFault>
-        ensures slot { slot_of self.new ≡ slot_of self.old }
+        ensures place { place_of self.new ≡ place_of self.old }
         ensures node { name_of self.new ≡ name_of self.old }
         ensures nodes { nodes_of self.new ≡ nodes_of self.old }
         ensures line { self.new.line ≡ self.old.line }
@@ -305,7 +304,7 @@ impl Caller {
 
     /// Waits for what comes of a ticket.
     fn outcome<R: Wait + Clock>(&mut self, rt: &R, ticket: Ticket) -> Result<Effect, SeatFault>
-        ensures slot { slot_of self.new ≡ slot_of self.old }
+        ensures place { place_of self.new ≡ place_of self.old }
         ensures node { name_of self.new ≡ name_of self.old }
         ensures nodes { nodes_of self.new ≡ nodes_of self.old }
         ensures line { self.new.line ≡ self.old.line }

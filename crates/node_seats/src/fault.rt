@@ -19,7 +19,7 @@ pub enum SeatFault {
     /// the seat's calls are spent.
     #[error("closed")]
     Closed,
-    /// The cluster has made all its seats, which are 64.
+    /// The cluster has 64 seats that weren't given back, or no number for one more.
     #[error("seats_spent")]
     SeatsSpent,
     /// The node refused the event.

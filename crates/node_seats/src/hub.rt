@@ -8,17 +8,16 @@ use std::sync::atomic::{AtomicBool, Ordering};
 use std::sync::{Mutex, Wait};
 use term::NodeSet;
 
-/// How many seats a cluster makes.
-pub const MOST_SEATS: u32 = 64;
-
-/// How many slots for replies there are: one for each seat, and behind those one for the cluster's own calls at each node.
+/// How many slots for replies there are: one for each seat that there is at once, and behind those one for the cluster's own calls at each
+/// node.
 const SLOTS: u32 = 72;
 
-/// How many readers a node's table has: one for each seat, which may be at any node, and one for the cluster's own calls.
+/// How many readers a node's table has: one for each seat that there is at once, which may be at any node, and one for the cluster's own
+/// calls.
 pub const MOST_READERS: usize = 65;
 
 /// Where the reply to one caller is laid. A caller has one call at a time, so one reply has room; and to lay one takes no memory,
-/// so none is ever lost.
+/// so none is ever lost. Seats have a slot one after another, and the number of each is above those before it.
 #[derive(Drop)]
 struct Slot {
     reply: Mutex<Option<Laid>>,
@@ -44,10 +43,23 @@ impl Slot {
         Ok(Slot { reply, bell })
     }
 
+    /// Puts a reply there, unless it comes too late. Whether it did.
+    fn put<R: Wait>(&self, rt: &R, reply: Laid) -> bool {
+        let mut lying = self.reply.lock(rt);
+        if let Some(other) = lying.as_ref()
+            && reply.comes_late(other)
+        {
+            return false;
+        }
+        *lying = Some(reply);
+        true
+    }
+
     /// Lays a reply down, and wakes the caller.
     fn lay<R: Wait>(&self, rt: &R, reply: Laid) {
-        *self.reply.lock(rt) = Some(reply);
-        self.bell.ring();
+        if self.put(rt, reply) {
+            self.bell.ring();
+        }
     }
 }
 
@@ -84,7 +96,8 @@ impl Hub {
         self.slots[slot as usize].bell.rest(yields)
     }
 
-    /// Lays a reply down for its caller, and wakes it. A reply that still lies there is one to a call that its caller has given up.
+    /// Lays a reply down for its caller, and wakes it. A reply that still lies there is one to a call that its caller has given up, unless
+    /// it is one to a later seat with that slot: then this one comes too late, and is dropped.
     pub(crate) fn lay<R: Wait>(&self, rt: &R, reply: Laid) {
         if let Some(slot) = self.slots.get(reply.slot() as usize) {
             slot.lay(rt, reply);

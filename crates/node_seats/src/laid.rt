@@ -1,7 +1,7 @@
 //! Replies on their way from a node's thread to a caller.
 ghost use Rattle.std.specs.Prelude.{◌≡◌, ◌≤◌, [], IfSome, MatchOption};
 ghost use Rattle.shared_table.specs.Coming.{IsLoopOf};
-ghost use Rattle.node_seats.specs.Replies.{IsTold, IsToldTo};
+ghost use Rattle.node_seats.specs.Replies.{IsTold, IsToldTo, is_late};
 
 use name_table::Names;
 use shared_table::{Effect, NodeLoop, Record, TaskFault, TaskReply, Ticket};
@@ -42,9 +42,16 @@ impl Laid {
 
     /// The number of the slot where it is to be laid.
     pub(crate) fn slot(&self) -> u32
-        ensures { result ≡ self.now.reply.ticket.seat }
+        ensures { result ≡ self.now.reply.ticket.slot }
     {
-        self.reply.ticket.seat
+        self.reply.ticket.slot
+    }
+
+    /// Whether it is to an earlier seat than the reply that lies in their slot: that seat has been given back, and this one comes too late.
+    pub(crate) fn comes_late(&self, lying: &Laid) -> bool
+        ensures { result ≡ is_late self.now.reply lying.now.reply }
+    {
+        self.reply.ticket.seat < lying.reply.ticket.seat
     }
 
     /// The length of the node's log up to which its readers were shown all before it was laid.
@@ -67,10 +74,7 @@ impl Laid {
             reply,
             ..
         } = self;
-        if teller != *node
-            || reply.ticket.seat != ticket.seat
-            || reply.ticket.number != ticket.number
-        {
+        if teller != *node || reply.ticket != ticket {
             return None;
         }
         Some(reply.outcome)

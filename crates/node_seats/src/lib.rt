@@ -18,6 +18,7 @@ mod laid;
 mod line;
 mod opened;
 mod parcel;
+mod place;
 mod seat;
 mod standing;
 
@@ -27,10 +28,11 @@ pub use fault::SeatFault;
 pub use free_seat::FreeSeat;
 pub use holder::HolderSeat;
 pub use host::Host;
-pub use hub::{Hub, MOST_READERS, MOST_SEATS};
+pub use hub::{Hub, MOST_READERS};
 pub use line::Line;
 pub use opened::{Opened, open_node};
 pub use parcel::Parcel;
+pub use place::{MOST_SEATS, Place, SEAT_NUMBERS};
 pub use seat::Seat;
 pub use shared_table::{
     Call, Effect, KeptPublisher, NameList, Nodes, Publisher, ReaderFactory, Reply, Retries,

@@ -2,13 +2,14 @@
 ghost use Rattle.std.specs.Prelude.{◌≡◌, ◌<◌, ◌+◌, [], IfOk};
 ghost use Rattle.link.specs.Mailboxes.{taken, mailbox_room};
 ghost use Rattle.node_seats.specs.Addresses.{inbox_at};
-ghost use Rattle.node_seats.specs.Callers.{name_of, inbox_of, slot_of, nodes_of, nodes_at, asked_by};
+ghost use Rattle.node_seats.specs.Callers.{name_of, inbox_of, place_of, own_place, nodes_of, nodes_at, asked_by};
 
 use crate::address::{Address, Entrance, open_inbox};
 use crate::caller::Caller;
 use crate::host::Host;
-use crate::hub::{Hub, MOST_SEATS};
+use crate::hub::Hub;
 use crate::parcel::Parcel;
+use crate::place::Place;
 use crate::standing::Standing;
 use link::Mailbox;
 use shared_table::{Item, ReaderFactory};
@@ -29,19 +30,19 @@ pub struct Opened {
     pub host: Host,
 }
 
-/// Opens a node, the one at this place among its cluster's, whose table is read by these. Its thread, and its cluster's caller, yield so
+/// Opens a node, the one with this index among its cluster's, whose table is read by these. Its thread, and its cluster's caller, yield so
 /// often at most before they sleep.
 pub fn open_node(
     alloc: Global,
     hub: &Arc<Hub, Global>,
     node: NodeName,
-    place: u32,
+    index: u32,
     yields: u32,
     readers: ReaderFactory,
 ) -> Result<Opened, AllocError>
-    requires { place < 8 }
+    requires { index < 8 }
     ensures address { IfOk result (λ opened. opened.address ≡ record { node = node; lines = 1; room = mailbox_room opened.mailbox }) }
-    ensures slot { IfOk result (λ opened. slot_of opened.caller ≡ 64 + place) }
+    ensures place { IfOk result (λ opened. place_of opened.caller ≡ own_place index) }
     ensures node { IfOk result (λ opened. name_of opened.caller ≡ node) }
     ensures inbox { IfOk result (λ opened. inbox_of opened.caller ≡ inbox_at opened.address) }
     ensures nodes { IfOk result (λ opened. nodes_of opened.caller ≡ nodes_at hub.now.value) }
@@ -57,7 +58,7 @@ pub fn open_node(
         mailbox,
         rest,
     } = open_inbox(alloc, node, yields)?;
-    let caller = Caller::new(hub, &standing, &mut address, MOST_SEATS + place, yields)?;
+    let caller = Caller::new(hub, &standing, &mut address, Place::own(index), yields)?;
     let host = Host::new(own, standing, rest);
     Ok(Opened {
         address,

@@ -19,7 +19,7 @@ use std::time::Clock;
 use term::{Name, NodeName, Pid};
 
 /// One caller's place at a node, with the transcript of what it was answered. It may go to another thread. Contracts see its
-/// number, its node and the inbox of that, the nodes of its cluster, the events that it has asked the node for, what it has seen of the
+/// number and its slot, its node and the inbox of that, the nodes of its cluster, the events that it has asked the node for, what it has seen of the
 /// node's table, and its transcript.
 #[derive(Drop)]
 pub struct Seat {
@@ -50,7 +50,14 @@ impl Seat {
     pub fn number(&self) -> u32
         ensures { result ≡ self.now.seat }
     {
-        self.caller.slot()
+        self.caller.place().seat
+    }
+
+    /// The slot of its replies, which no other seat has until this one is given back.
+    pub fn slot(&self) -> u32
+        ensures { result ≡ self.now.slot }
+    {
+        self.caller.place().slot
     }
 
     /// Its node.
@@ -132,7 +139,7 @@ impl Seat {
     {
         let Seat { caller, entries } = self;
         Transcript {
-            seat: caller.slot(),
+            seat: caller.place().seat,
             node: caller.node().copy(),
             entries,
         }

@@ -1,5 +1,5 @@
 -- What closing a cluster comes to, by what a replay says.
-use Rattle.std.proofs.Common.{ℕ, Bool, true, false, ◌≡◌, List, ◌++◌, map, refl, subst, inl}
+use Rattle.std.proofs.Common.{ℕ, Bool, true, false, ◌≡◌, List, refl, subst, inl}
 use Rattle.std.specs.Prelude.{Result, Ok, Err, IfOk, IfErr}
 use Rattle.node_loop.specs.declared.Transcript.{Transcript}
 use Rattle.replay.specs.declared.closed.Closed.{Closed}
@@ -7,13 +7,8 @@ use Rattle.replay.specs.declared.faults.CloseFault.{CloseFault}
 use Rattle.replay.specs.Consistent.{AreConsistent, is_torn}
 use Rattle.replay.specs.Ends.{End}
 use Rattle.replay.specs.Replaying.{Replayed, IsFault}
-use Rattle.node_seats.specs.Lines.{Sent}
-use Rattle.node_loop.specs.declared.item.Item.{Item}
 use Rattle.node_threads.specs.Wires.{Wired}
-use Rattle.node_threads.specs.Drawing.{Drawn, AllCompared}
-use Rattle.node_threads.specs.Ended.{owner, AllReturn}
-use Rattle.node_threads.specs.Closing.{Replays, CloseIs}
-use Rattle.node_threads.proofs.Gathering.{left_all}
+use Rattle.node_threads.specs.Closing.{GivesBack, Replays, CloseIs}
 
 module _ {N M : Type 0} (cluster lone : List ℕ) (crew : List Wired) (ts : List Transcript) where
   replays : (ends : List End) (result : Result (Closed N M) CloseFault)
@@ -23,7 +18,7 @@ module _ {N M : Type 0} (cluster lone : List ℕ) (crew : List Wired) (ts : List
   replays ends (Ok closed) ok err = ok
   replays ends (Err fault) ok err = err
 
-  module _ (ends : List End) (consistent : AreConsistent cluster lone ends) (joined others : List ℕ) (lent : List End) (a : joined ≡ cluster) (b : others ≡ lone) (same : lent ≡ ends) (result : Result (Closed N M) CloseFault) where
+  module _ (ends : List End) (back : GivesBack cluster lone crew ends) (joined others : List ℕ) (lent : List End) (a : joined ≡ cluster) (b : others ≡ lone) (same : lent ≡ ends) (result : Result (Closed N M) CloseFault) where
     -- what a replay was lent
     abbrev As : (List ℕ → List ℕ → List End → Type 0) → Type 0
     As F = F joined others lent → F cluster lone ends
@@ -31,22 +26,12 @@ module _ {N M : Type 0} (cluster lone : List ℕ) (crew : List Wired) (ts : List
     as_lent : (F : List ℕ → List ℕ → List End → Type 0) → As F
     as_lent F h = subst (λ (x : List ℕ × List ℕ × List End). F x.0 x.1 x.2) (λ j. (a j, b j, same j)) h
 
-    pub closes : (lines : List (List (Sent Item))) (drawn : List Drawn) → AllReturn crew ends lines drawn → AllCompared lines drawn
-        → map owner ends ≡ cluster ++ lone
-        → IfOk result (λ closed. Replayed joined others lent ts closed.events closed.world)
+    pub closes : IfOk result (λ closed. Replayed joined others lent ts closed.events closed.world)
         → IfErr result (λ fault. IsFault joined others lent ts fault)
         → CloseIs cluster lone crew ts result
-    closes lines drawn returned compared names ok err = inl (record {
+    closes ok err = inl (record {
       ends = ends;
-      back = record {
-        lines = lines;
-        drawn = drawn;
-        returned = returned;
-        compared = compared;
-        names = names;
-        left = left_all crew ends lines drawn returned;
-        consistent = consistent;
-      };
+      back = back;
       replays = replays ends result
           (as_lent (λ js os es. IfOk result (λ closed. Replayed js os es ts closed.events closed.world)) ok)
           (as_lent (λ js os es. IfErr result (λ fault. IsFault js os es ts fault)) err);
@@ -65,4 +50,4 @@ module _ {N M : Type 0} (cluster lone : List ℕ) (crew : List Wired) (ts : List
             → IfErr r (λ fault. is_torn fault ≡ true → AreConsistent cluster lone ends → ⊥)
             → IfErr r (λ fault. is_torn fault ≡ false)
         at (Ok closed) never = tt
-        at (Err fault) never = not_true (is_torn fault) (λ e. never e consistent)
+        at (Err fault) never = not_true (is_torn fault) (λ e. never e back.consistent)

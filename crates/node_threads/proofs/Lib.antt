@@ -11,6 +11,7 @@ pub mod Opening
 mod Soundness
 mod Starting
 mod Connecting
+mod Seats
 pub mod Rows
 mod Gathering
 mod Comparing

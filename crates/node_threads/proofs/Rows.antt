@@ -8,11 +8,13 @@ use Rattle.term.proofs.NodePlaces.{place-Some}
 use Rattle.link.specs.Held.{place}
 use Rattle.replay.proofs.Listed.{known_place, no_place}
 use Rattle.node_seats.specs.declared.caller.Caller.{Caller}
+use Rattle.node_seats.specs.declared.place.Place.{Place}
 use Rattle.node_seats.specs.Addresses.{Inbox}
-use Rattle.node_seats.specs.Callers.{slot_of, inbox_of, nodes_of, asked_by, seen_of, unseen}
+use Rattle.node_seats.specs.Callers.{place_of, inbox_of, nodes_of, asked_by, seen_of, unseen}
 use Rattle.node_seats.specs.Seats.{sitting, new_seat, first_at}
 use Rattle.node_seats.proofs.Choosing.{find_mapped, first_becomes}
 use Rattle.node_threads.specs.Clusters.{Crewed, nodes_in, next_seats}
+use Rattle.node_threads.specs.Seating.{next_place}
 use Rattle.node_threads.specs.Wires.{Wired, name_of, inboxes, inbox_to, IsCrew}
 use Rattle.node_threads.proofs.Places.{place_mapped}
 
@@ -44,10 +46,11 @@ crew_kept cluster lone ws i m n read is crew =
     subst (IsCrew cluster lone) (sym (ap (set ws i) (is ∙ read) ∙ set-get_or ws i m)) crew
 
 -- the seat that a caller becomes which asked for nothing and read nothing yet
-pub new_sitting : (caller : Caller) (number : ℕ) (nodes : List ℕ) (inbox : Inbox) → slot_of caller ≡ number → inbox_of caller ≡ inbox
-    → nodes_of caller ≡ nodes → asked_by caller ≡ [] → seen_of caller ≡ unseen → sitting caller [] ≡ new_seat number nodes inbox
-new_sitting caller number nodes inbox slot into world asked seen = λ j. record {
-  seat = slot j;
+pub new_sitting : (caller : Caller) (place : Place) (nodes : List ℕ) (inbox : Inbox) → place_of caller ≡ place → inbox_of caller ≡ inbox
+    → nodes_of caller ≡ nodes → asked_by caller ≡ [] → seen_of caller ≡ unseen → sitting caller [] ≡ new_seat place nodes inbox
+new_sitting caller place nodes inbox at into world asked seen = λ j. record {
+  seat = (at j).seat;
+  slot = (at j).slot;
   node = (into j).node;
   room = (into j).room;
   nodes = world j;
@@ -66,12 +69,12 @@ module _ (n : ℕ) (inside crew : Crewed) (i : ℕ) (at : position (λ w. name_o
   inbox_is = ap (λ (k : Crewed). inbox_to n k.crew) (sym view) ∙ there
 
   -- what its caller becomes is the next seat there
-  pub seat_is : (caller : Caller) → slot_of caller ≡ inside.seats → inbox_of caller ≡ m.inbox
+  pub seat_is : (caller : Caller) → place_of caller ≡ next_place inside.seating → inbox_of caller ≡ m.inbox
       → nodes_of caller ≡ inside.world → asked_by caller ≡ [] → seen_of caller ≡ unseen → first_at n (next_seats crew) ≡ Some (sitting caller [])
-  seat_is caller slot inbox nodes asked seen = ap (λ (k : Crewed). first_at n (next_seats k)) (sym view)
-      ∙ find_mapped (new_seat inside.seats inside.world) (λ s. s.node == n) (inboxes inside.crew)
-      ∙ ap (option_map (new_seat inside.seats inside.world)) there
-      ∙ ap Some (sym (new_sitting caller inside.seats inside.world m.inbox slot inbox nodes asked seen))
+  seat_is caller place inbox nodes asked seen = ap (λ (k : Crewed). first_at n (next_seats k)) (sym view)
+      ∙ find_mapped (new_seat (next_place inside.seating) inside.world) (λ s. s.node == n) (inboxes inside.crew)
+      ∙ ap (option_map (new_seat (next_place inside.seating) inside.world)) there
+      ∙ ap Some (sym (new_sitting caller (next_place inside.seating) inside.world m.inbox place inbox nodes asked seen))
 
 -- where it succeeded, so does what follows of that
 pub on_ok : {A E : Type 0} (r : Result A E) (P Q : Type 0) → (P → Q) → OnOk r P → OnOk r Q

@@ -1,7 +1,6 @@
 -- What ends are told of, one after the other, and the run that they have.
-use Rattle.std.proofs.Common.{ℕ, zero, suc, Bool, true, false, ◌≡◌, ◌==◌, ◌+◌, ◌<◌, ◌≤◌, inl, inr, Some, List, [], ◌∷◌, ◌++◌, map, length, refl, sym, ap, ◌∙◌, arith}
+use Rattle.std.proofs.Common.{ℕ, zero, suc, Bool, true, false, ◌≡◌, ◌==◌, ◌+◌, ◌<◌, ◌≤◌, inl, inr, List, [], ◌∷◌, ◌++◌, map, length, refl, sym, ap, ◌∙◌, arith}
 use Rattle.std.specs.Prelude.{if◌then◌else◌, ◌||◌, Result, Ok, Err, IfOk, IfErr}
-use Rattle.std.specs.List.{slice_get}
 use Rattle.std.proofs.Math.Bool.{or-true}
 use Rattle.std.proofs.lemmas.Bool.{cases_eq, eq-eqb, eqb-true, ne_eqb}
 use Rattle.std.proofs.lemmas.List.{map-append, length-map}
@@ -9,7 +8,11 @@ use Rattle.registry_model.specs.Table.{Table}
 use Rattle.protocol_model.specs.World.{Opening}
 use Rattle.term.specs.NodeSets.{set_of}
 use Rattle.closing_runs.specs.Laws.{steps_below, HasARun}
+use Rattle.closing_runs.specs.Merging.{events_in}
 use Rattle.closing_runs.proofs.Playing.{consistent_ends_have_a_run}
+use Rattle.replay.proofs.Agreeing.{headline_after}
+use Rattle.replay.proofs.Locks.{locks_behind_all}
+use Rattle.replay.proofs.Leftovers.{nothing_left_after}
 use Rattle.node_loop.specs.NodeCoreHeld.{bound_of}
 use Rattle.node_loop.specs.Openings.{opening_with, repeats}
 use Rattle.replay.specs.Entries.{Entry, Logged}
@@ -55,19 +58,17 @@ module _ {N M : Type 0} (contents : N → Table) where
   }
 
 -- where one of them isn't told of, that is why they aren't
-pub why : (fault : EndFault) (before rest : List End) (e : End) → IsUntold fault e → IsWhy fault (before ++ e ∷ rest)
-why (LeftInHold a) before rest e U = record {
-  place = length before;
+pub why : (fault : EndFault) (before rest : List End) (e : End) → AreWell before → IsUntold fault e → IsWhy fault (before ++ e ∷ rest)
+why (LeftInHold a) before rest e well U = record {
+  before = before;
   end = e;
-  here = at before;
+  rest = rest;
+  parts = refl;
+  well = well;
   whose = U.0;
   alone = U.1;
 }
-  where
-    at : (before : List End) → slice_get (before ++ e ∷ rest) (length before) ≡ Some e
-    at [] = refl
-    at (x ∷ before) = at before
-why Memory before rest e U = tt
+why Memory before rest e well U = tt
 
 -- the log of a node at the head of a list of logs, and of the others
 own_log : (l : Logged) (ls : List Logged) (a : ℕ) → l.node ≡ a → log_of a (l ∷ ls) ≡ l.entries
@@ -163,6 +164,11 @@ ran_out contents cluster lone ends ended C names once T =
           ∙ sym (all_below ends (bound_of (cluster ++ lone)) (ap repeats names ∙ once)
           (λ a here. below_bound (cluster ++ lone) a (sym (ap (λ (nodes : List ℕ). set_of nodes a) names) ∙ here)))
           ∙ sym run.count;
+      holds = record {
+        headline = headline_after o (events_in run.steps);
+        locks = locks_behind_all o (events_in run.steps);
+        leaves_nothing = nothing_left_after o (events_in run.steps);
+      };
     }
 
 -- what ending comes to, where the threads gave back these ends

@@ -8,13 +8,15 @@ use Rattle.node_seats.specs.Callers.{inbox_of, ticket_of, told_of, task_for, Put
 use Rattle.node_seats.specs.Replies.{IsToldTo, HasLeft}
 use Rattle.node_seats.specs.Seats.{Sitting, new_seat}
 use Rattle.node_threads.specs.Wires.{Wired, inboxes, inbox_to}
+use Rattle.node_threads.specs.declared.seating.Seating.{Seating}
+use Rattle.node_threads.specs.Seating.{next_place, with_seat, without_slot}
 
 pub record Crewed : Type 0 where
   pub cluster : List ℕ  -- the nodes that are joined at first
   pub lone : List ℕ  -- the others
   pub world : List ℕ  -- all of them, rising
   pub crew : List Wired  -- the same, as their threads started
-  pub seats : ℕ  -- how many seats were made
+  pub seating : Seating  -- which slots have a seat, and how many were made
 
 -- all its nodes
 abbrev pub nodes_in : Crewed → List ℕ
@@ -22,7 +24,15 @@ nodes_in c = c.cluster ++ c.lone
 
 -- the seats that its next one may become, one at each node
 abbrev pub next_seats : Crewed → List Sitting
-next_seats c = map (new_seat c.seats c.world) (inboxes c.crew)
+next_seats c = map (new_seat (next_place c.seating) c.world) (inboxes c.crew)
+
+-- it is made
+abbrev pub seats_more : Crewed → Crewed
+seats_more c = record c { seating = with_seat c.seating }
+
+-- a seat with this slot was given back
+abbrev pub seats_fewer : ℕ → Crewed → Crewed
+seats_fewer slot c = record c { seating = without_slot slot c.seating }
 
 -- A leave was put into this inbox. The loop of its node told the caller that put it there that the node has left, and its log has the leave
 pub record LeftAsAsked (inbox : Inbox) : Type 0 where

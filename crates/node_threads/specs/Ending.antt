@@ -1,9 +1,13 @@
 -- What ending a cluster comes to, whether its steps were kept or not.
-use Rattle.std.specs.Prelude.{ℕ, true, ◌≡◌, ◌+◌, ◌++◌, List, [], ◌∷◌, map, length, Result, Ok, Err, Some}
-use Rattle.std.specs.List.{slice_get}
+use Rattle.std.specs.Prelude.{ℕ, true, ◌≡◌, ◌+◌, ◌++◌, List, [], ◌∷◌, map, length, Result, Ok, Err}
 use Rattle.registry_model.specs.Table.{Table}
+use Rattle.protocol_model.specs.Leftovers.{NothingIsLeft}
+use Rattle.protocol_model.specs.World.{Opening}
+use Rattle.closing_runs.specs.Merging.{Step, events_in, world_behind}
 use Rattle.closing_runs.specs.Laws.{HasARun}
 use Rattle.node_loop.specs.Openings.{opening_with}
+use Rattle.replay.specs.Agreeing.{HeadlineAfter}
+use Rattle.replay.specs.Locks.{LocksAfter}
 use Rattle.replay.specs.Ends.{End, logs_of, EndedWell}
 use Rattle.replay.specs.Consistent.{seen_logs}
 use Rattle.replay.specs.Replaying.{AreAll}
@@ -19,12 +23,19 @@ abbrev pub steps_in : List End → ℕ
 steps_in [] = 0
 steps_in (e ∷ es) = length e.log.entries + steps_in es
 
--- a world that opens with these lists has a run of so many steps, those of these ends' logs, merged, and behind it the tables of the ends
+-- Behind these steps of a world that opened so the headline and the laws of clients' locks hold, and nothing is left over
+pub record HoldsBehind (o : Opening) (ss : List Step) : Type 0 where
+  pub headline : HeadlineAfter o (events_in ss) (world_behind o ss)
+  pub locks : LocksAfter o (events_in ss) (world_behind o ss)
+  pub leaves_nothing : NothingIsLeft o (events_in ss) (world_behind o ss)
+
+-- A world that opens with these lists has a run of so many steps, those of these ends' logs, merged, and behind it the tables of the ends
 pub record RanOut (cluster lone : List ℕ) (ends : List End) (events : ℕ) : Type 0 where
   pub tables : ℕ → Table
   pub theirs : AreAll (λ e. e.table ≡ tables (owner e)) ends
   pub run : HasARun (opening_with (cluster ++ lone) cluster) (seen_logs (logs_of ends)) tables
   pub count : events ≡ length run.steps
+  pub holds : HoldsBehind (opening_with (cluster ++ lone) cluster) run.steps
 
 -- all of these ended as they should
 abbrev pub AreWell : List End → Type 0
@@ -57,11 +68,13 @@ abbrev pub IsUntold : EndFault → End → Type 0
 IsUntold (LeftInHold a) e = (owner e ≡ a) × (e.ended_alone ≡ true)
 IsUntold Memory e = Unit {0}
 
--- one of these ended alone, that of this node
+-- of these the first that ended alone is this node's
 pub record EndsAlone (ends : List End) (a : ℕ) : Type 0 where
-  pub place : ℕ
+  pub before : List End
   pub end : End
-  pub here : slice_get ends place ≡ Some end
+  pub rest : List End
+  pub parts : ends ≡ before ++ end ∷ rest
+  pub well : AreWell before
   pub whose : owner end ≡ a
   pub alone : end.ended_alone ≡ true
 
@@ -78,7 +91,7 @@ module _ {N M : Type 0} (contents : N → Table) (cluster lone : List ℕ) (crew
     pub told : TellsOf contents ends ended
     pub run : RanOut cluster lone ends ended.events
 
-  -- so, or one of the threads ended alone, or memory was refused
+  -- so, or the first that ended alone is this node's, or memory was refused
   abbrev pub EndIs : Result (EndedCluster N M) EndFault → Type 0
   EndIs (Ok ended) = Ends ended
   EndIs (Err (LeftInHold a)) = (ends : List End) × GivesBack cluster lone crew ends × EndsAlone ends a

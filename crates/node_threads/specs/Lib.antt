@@ -17,4 +17,5 @@ pub mod Drawing
 pub mod Ended
 pub mod Closing
 pub mod Ending
+pub mod Seating
 pub mod Clusters

@@ -77,7 +77,7 @@ where
     ghost use Rattle.node_threads.specs.Wires.{name_of, unused};
     ghost use Rattle.node_threads.specs.Berths.{next_line, one_more, IsOpened};
 
-    /// Opens a node, the one at this place among the cluster's, and makes what its thread is to work with, but for the
+    /// Opens a node, the one with this index among the cluster's, and makes what its thread is to work with, but for the
     /// lines.
     pub(crate) fn open(
         rt: &R,
@@ -85,10 +85,10 @@ where
         shared: &Shared<G>,
         opening: &Opening,
         node: &NodeName,
-        place: u32,
+        index: u32,
     ) -> Result<Self, AllocError>
         requires known { set_of opening.now.nodes node.now ≡ true }
-        requires place { place < 8 }
+        requires index { index < 8 }
         ensures name { IfOk result (λ berth. name_of berth.wired ≡ node.now) }
         ensures opened { IfOk result (IsOpened opening.now) }
     {
@@ -104,7 +104,7 @@ where
             alloc,
             &shared.hub,
             node.copy(),
-            place,
+            index,
             shared.yields,
             readers,
         )?;

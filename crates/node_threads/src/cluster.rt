@@ -1,5 +1,5 @@
 //! Clusters: the threads of all nodes, and the seats at them.
-ghost use Rattle.std.specs.Prelude.{ℕ, ◌≡◌, ◌==◌, ◌+◌, ◌++◌, true, false, Some, None, Err, IfOk, OnOk, IfErr, OnErr};
+ghost use Rattle.std.specs.Prelude.{ℕ, ◌≡◌, ◌==◌, ◌++◌, map, true, false, Some, None, Err, IfOk, OnOk, IfErr, OnErr};
 ghost use Rattle.std.specs.List.{position};
 ghost use Rattle.term.specs.NodeSets.{set_of};
 ghost use Rattle.node_loop.specs.Openings.{start_refused, start_fault_of, IsOpening};
@@ -7,7 +7,8 @@ ghost use Rattle.node_seats.specs.declared.fault.SeatFault.TheVariants.{NoSuchNo
 ghost use Rattle.node_seats.specs.Faults.{IsSeatRefused};
 ghost use Rattle.node_seats.specs.Seats.{first_at};
 ghost use Rattle.replay.specs.Consistent.{is_torn};
-ghost use Rattle.node_threads.specs.Closing.{CloseIs};
+ghost use Rattle.replay.specs.Ends.{end_by};
+ghost use Rattle.node_threads.specs.Closing.{CloseIs, GivesBack};
 ghost use Rattle.node_threads.specs.Ending.{EndIs};
 
 use crate::berths::berths_of;
@@ -15,10 +16,11 @@ use crate::crew::{Gathered, end_all, free_seat_of, launch_all};
 use crate::ending::{EndFault, EndedCluster, tell_of};
 use crate::intake::compare_all;
 use crate::running::Running;
+use crate::seating::Seating;
 use crate::shared::Shared;
 use name_table::Names;
-use node_loop::{Gate, Log, Opening, Record, StartFault, Transcript};
-use node_seats::{FreeSeat, MOST_SEATS, Seat, SeatFault};
+use node_loop::{Gate, Log, NodeEnd, Opening, Record, StartFault, Transcript};
+use node_seats::{FreeSeat, Seat, SeatFault};
 use replay::{CloseFault, Closed, replay};
 use std::alloc::{AllocError, Global};
 use std::marker::Model;
@@ -28,19 +30,27 @@ use std::time::Clock;
 use term::NodeName;
 
 /// Owns the threads of all nodes. It can't be dropped: `close` ends it, or `end`. Contracts see its nodes, what their threads began with, and
-/// how many seats were made. Its nodes keep logs of their steps, unless it says that they write to another record.
+/// its seats. Its nodes keep logs of their steps, unless it says that they write to another record.
 pub struct Cluster<G: Gate + Drop, N: Names, L: Record = Log> {
     alloc: Global,
     shared: Shared<G>,
     cluster: Vec<NodeName>,
     lone: Vec<NodeName>,
     running: Vec<Running<N, L>>,
-    /// How many seats were made.
-    seats: u32,
+    seating: Seating,
+}
+
+/// What the threads of a cluster left behind, and its lists of nodes.
+#[derive(Drop)]
+struct LeftBehind<N: Names, L: Record> {
+    alloc: Global,
+    cluster: Vec<NodeName>,
+    lone: Vec<NodeName>,
+    ends: Vec<NodeEnd<N, L>>,
 }
 
 impl<G: Gate + Drop, N: Names, L: Record> Model for Cluster<G, N, L> {
-    ghost use Rattle.std.specs.Prelude.{ℕ, ◌≡◌, ◌≤◌, ◌++◌, None};
+    ghost use Rattle.std.specs.Prelude.{ℕ, ◌≡◌, ◌++◌, None};
     ghost use Rattle.term.specs.NodeSets.{set_of};
     ghost use Rattle.node_seats.specs.Callers.{nodes_at};
     ghost use Rattle.node_loop.specs.Openings.{start_refused};
@@ -54,11 +64,11 @@ impl<G: Gate + Drop, N: Names, L: Record> Model for Cluster<G, N, L> {
       lone = c.lone.items;
       world = nodes_at c.shared.hub.value;
       crew = c.running.items;
-      seats = c.seats;
+      seating = c.seating;
     } };
 
     ghost invariant = { λ c. (start_refused c.cluster.items c.lone.items ≡ None)
-        × IsCrew c.cluster.items c.lone.items c.running.items × (c.seats ≤ 64)
+        × IsCrew c.cluster.items c.lone.items c.running.items
         × ((n : ℕ) → set_of (nodes_at c.shared.hub.value) n ≡ set_of (c.cluster.items ++ c.lone.items) n) };
 }
 
@@ -69,8 +79,8 @@ fn copied(alloc: Global, nodes: &[NodeName]) -> Result<Vec<NodeName>, AllocError
     nodes.iter().map(|node| node.copy()).collect(alloc)
 }
 
-/// The place of a node among those that run.
-fn place_of<N: Names<Memory = Global> + Send + 'static, L: Record + Send + 'static>(
+/// The index of a node among those that run.
+fn index_of<N: Names<Memory = Global> + Send + 'static, L: Record + Send + 'static>(
     running: &[Running<N, L>],
     node: &NodeName,
 ) -> Option<usize>
@@ -85,7 +95,8 @@ where
     N: Names<Memory = Global> + Send + 'static,
     L: Record + Send + 'static,
 {
-    ghost use Rattle.node_threads.specs.Clusters.{nodes_in, next_seats, LeftAt};
+    ghost use Rattle.node_threads.specs.Clusters.{nodes_in, next_seats, seats_more, seats_fewer, LeftAt};
+    ghost use Rattle.node_threads.specs.Seating.{no_seats, are_spent};
     ghost use Rattle.node_threads.specs.Wires.{IsCrew};
 
     /// Starts a thread for each node: those of `cluster` are joined with each other, and each of `lone` stands for itself. It is
@@ -106,7 +117,7 @@ where
         ensures lone { IfOk result (λ made. made.lone ≡ lone.now) }
         ensures world { IfOk result (λ made. (n : ℕ) → set_of made.world n ≡ set_of (cluster.now ++ lone.now) n) }
         ensures crew { IfOk result (λ made. IsCrew cluster.now lone.now made.crew) }
-        ensures seats { IfOk result (λ made. made.seats ≡ 0) }
+        ensures seats { IfOk result (λ made. made.seating ≡ no_seats) }
         ensures ok { IfOk result (λ _. start_refused cluster.now lone.now ≡ None) }
         ensures err { IfErr result (λ fault. start_refused cluster.now lone.now ≡ start_fault_of fault) }
     {
@@ -132,7 +143,7 @@ where
         ensures lone { IfOk result (λ made. made.lone ≡ lone.now) }
         ensures world { IfOk result (λ made. (n : ℕ) → set_of made.world n ≡ set_of (cluster.now ++ lone.now) n) }
         ensures crew { IfOk result (λ made. IsCrew cluster.now lone.now made.crew) }
-        ensures seats { IfOk result (λ made. made.seats ≡ 0) }
+        ensures seats { IfOk result (λ made. made.seating ≡ no_seats) }
     {
         let shared = Shared::new(alloc, opening.nodes(), gate, yields)?;
         let joined = copied(alloc, cluster)?;
@@ -145,43 +156,50 @@ where
             cluster: joined,
             lone: others,
             running,
-            seats: 0,
+            seating: Seating::new(),
         })
     }
 
-    /// A new seat at a node, also at one that has left. Seats are numbered from 0 on as they are made. `NoSuchNode`: the node isn't of
-    /// the cluster. `SeatsSpent`: 64 seats were made.
+    /// A new seat at a node, also at one that has left. Seats are numbered from 0 on as they are made, and no number is used again.
+    /// `NoSuchNode`: the node isn't of the cluster. `SeatsSpent`: 64 seats were made and not given back, or no number is left.
     pub fn seat(&mut self, node: &NodeName) -> Result<Seat, SeatFault>
         ensures ok { IfOk result (λ seat. first_at node.now (next_seats self.old) ≡ Some seat) }
-        ensures made { OnOk result (self.new ≡ record self.old { seats = self.old.seats + 1 }) }
-        ensures refused { IfErr result (λ fault. IsSeatRefused fault (set_of (nodes_in self.old) node.now) (self.old.seats)) }
+        ensures made { OnOk result (self.new ≡ seats_more self.old) }
+        ensures refused { IfErr result (λ fault. IsSeatRefused fault (set_of (nodes_in self.old) node.now) (are_spent self.old.seating)) }
         ensures unmade { OnErr result (self.new ≡ self.old) }
     {
-        let Some(place) = place_of(self.running.as_slice(), node) else {
+        let Some(index) = index_of(self.running.as_slice(), node) else {
             return Err(SeatFault::NoSuchNode);
         };
-        if self.seats >= MOST_SEATS {
+        let Some(place) = self.seating.next() else {
             return Err(SeatFault::SeatsSpent);
-        }
-        let caller = self.running[place].caller(&self.shared.hub, self.seats, self.shared.yields)?;
-        self.seats += 1;
+        };
+        let caller = self.running[index].caller(&self.shared.hub, place, self.shared.yields)?;
+        self.seating.take(place);
         Ok(Seat::new(self.alloc, caller))
     }
 
-    /// A new seat whose node is yet to be chosen, by a line to each. It is numbered as others are. `SeatsSpent`: 64 seats were made.
+    /// Takes a seat of this cluster back, so that another may be made in its stead. Nobody uses it any more, and so nothing more is told
+    /// at its slot to its number.
+    pub fn give_back(&mut self, seat: Seat)
+        ensures { self.new ≡ seats_fewer seat.slot self.old }
+    {
+        self.seating.free(seat.slot());
+    }
+
+    /// A new seat whose node is yet to be chosen, by a line to each. It is numbered as others are. `SeatsSpent`: as for `seat`.
     pub fn free_seat(&mut self) -> Result<FreeSeat, SeatFault>
         ensures ok { IfOk result (λ free. free ≡ next_seats self.old) }
-        ensures made { OnOk result (self.new ≡ record self.old { seats = self.old.seats + 1 }) }
-        ensures refused { IfErr result (λ fault. IsSeatRefused fault true (self.old.seats)) }
+        ensures made { OnOk result (self.new ≡ seats_more self.old) }
+        ensures refused { IfErr result (λ fault. IsSeatRefused fault true (are_spent self.old.seating)) }
         ensures unmade { OnErr result (self.new ≡ self.old) }
     {
-        let number = self.seats;
-        if number >= MOST_SEATS {
+        let Some(place) = self.seating.next() else {
             return Err(SeatFault::SeatsSpent);
-        }
+        };
         let running = self.running.as_mut_slice();
-        let free = free_seat_of(self.alloc, running, &self.shared, number)?;
-        self.seats = number + 1;
+        let free = free_seat_of(self.alloc, running, &self.shared, place)?;
+        self.seating.take(place);
         Ok(free)
     }
 
@@ -192,26 +210,26 @@ where
         ensures stranger { set_of (nodes_in self.old) node.now ≡ false → result ≡ Err NoSuchNode }
         ensures left { OnOk result (LeftAt self.old node.now) }
     {
-        let Some(place) = place_of(self.running.as_slice(), node) else {
+        let Some(index) = index_of(self.running.as_slice(), node) else {
             return Err(SeatFault::NoSuchNode);
         };
-        self.running[place].leave(rt)
+        self.running[index].leave(rt)
     }
 
-    /// Asks all threads to end, waits until they have, and tells of what they left behind without a replay, so that their steps needn't
-    /// have been kept. Where it answers `Ok` the run of the threads was one of the world's: it has so many steps, and these tables behind
-    /// them. `LeftInHold`: the thread of that node ended without a leave and without being asked to. Calls that still wait at a seat are
-    /// answered `Closed`. What seats were answered isn't compared, as `close` does it with their transcripts.
-    pub fn end<R: Threads>(self, rt: &R) -> Result<EndedCluster<N>, EndFault>
-        ensures { EndIs N.contents self.cluster self.lone self.crew result }
+    /// Asks all threads to end, waits until they have, and holds what each took against what the others put: what they left behind.
+    fn into_ends<R: Threads>(self, rt: &R) -> Result<LeftBehind<N, L>, AllocError>
+        ensures cluster { IfOk result (λ left. left.cluster.items ≡ self.cluster) }
+        ensures lone { IfOk result (λ left. left.lone.items ≡ self.lone) }
+        ensures lists { start_refused self.cluster self.lone ≡ None }
+        ensures back { IfOk result (λ left. GivesBack self.cluster self.lone self.crew (map (end_by N.contents L.logged) left.ends.items)) }
     {
         let Cluster {
             alloc,
             shared: _shared,
-            cluster: _cluster,
-            lone: _lone,
+            cluster,
+            lone,
             running,
-            seats: _seats,
+            seating: _seating,
         } = self;
         let Some(
             Gathered {
@@ -221,9 +239,27 @@ where
             },
         ) = end_all(rt, alloc, running)
         else {
-            return Err(EndFault::Memory);
+            return Err(AllocError);
         };
         compare_all(intakes.as_mut_slice(), rows);
+        Ok(LeftBehind {
+            alloc,
+            cluster,
+            lone,
+            ends,
+        })
+    }
+
+    /// Asks all threads to end, waits until they have, and tells of what they left behind without a replay, so that their steps needn't
+    /// have been kept. Where it answers `Ok` the run of the threads was one of the world's: it has so many steps, and these tables behind
+    /// them. `LeftInHold`: the thread of that node, the first such, ended without a leave and without being asked to. Calls that still
+    /// wait at a seat are answered `Closed`. What seats were answered isn't compared, as `close` does it with their transcripts.
+    pub fn end<R: Threads>(self, rt: &R) -> Result<EndedCluster<N>, EndFault>
+        ensures { EndIs N.contents self.cluster self.lone self.crew result }
+    {
+        let Ok(LeftBehind { alloc, ends, .. }) = self.into_ends(rt) else {
+            return Err(EndFault::Memory);
+        };
         tell_of(alloc, ends)
     }
 }
@@ -244,25 +280,17 @@ where
         ensures is { CloseIs self.cluster self.lone self.crew transcripts.now result }
         ensures whole { IfErr result (λ fault. is_torn fault ≡ false) }
     {
-        let Cluster {
-            alloc,
-            shared: _shared,
-            cluster,
-            lone,
-            running,
-            seats: _seats,
-        } = self;
-        let Some(
-            Gathered {
+        let Ok(
+            LeftBehind {
+                alloc,
+                cluster,
+                lone,
                 ends,
-                rows,
-                mut intakes,
             },
-        ) = end_all(rt, alloc, running)
+        ) = self.into_ends(rt)
         else {
             return Err(CloseFault::Memory);
         };
-        compare_all(intakes.as_mut_slice(), rows);
         replay(
             alloc,
             cluster.as_slice(),

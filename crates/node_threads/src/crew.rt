@@ -13,7 +13,7 @@ use crate::running::{Returned, Running};
 use crate::shared::Shared;
 use name_table::Names;
 use node_loop::{Gate, Item, NodeEnd, Record};
-use node_seats::{FreeSeat, Line};
+use node_seats::{FreeSeat, Line, Place};
 use std::alloc::{AllocError, Global};
 use std::sync::Wait;
 use std::thread::Threads;
@@ -100,24 +100,24 @@ where
     }
 }
 
-/// A seat that may become one at each of these nodes, and finds its replies in this slot.
+/// A seat of this place that may become one at each of these nodes.
 pub(crate) fn free_seat_of<G, N, L>(
     alloc: Global,
     running: &mut [Running<N, L>],
     shared: &Shared<G>,
-    slot: u32,
+    place: Place,
 ) -> Result<FreeSeat, AllocError>
 where
     G: Gate + Drop + Send + Sync + 'static,
     N: Names<Memory = Global> + Send + 'static,
     L: Record + Send + 'static,
-    requires { slot < 72 }
+    requires { place.slot < 72 }
     ensures same { running.new ≡ running.old }
-    ensures seats { IfOk result (λ free. free ≡ map (new_seat slot (nodes_at shared.now.hub.value)) (inboxes running.old)) }
+    ensures seats { IfOk result (λ free. free ≡ map (new_seat place (nodes_at shared.now.hub.value)) (inboxes running.old)) }
 {
     let mut free = FreeSeat::new(alloc);
     for one in running.iter_mut() {
-        free.add(one.caller(&shared.hub, slot, shared.yields)?)?;
+        free.add(one.caller(&shared.hub, place, shared.yields)?)?;
     }
     Ok(free)
 }

@@ -7,6 +7,7 @@ use name_table::Names;
 use node_loop::{NodeEnd, Record};
 use std::alloc::Global;
 use term::NodeName;
+use thiserror::Error;
 
 /// What a cluster came to: its run was one of the world's.
 #[derive(Drop)]
@@ -18,11 +19,13 @@ pub struct EndedCluster<N: Names> {
 }
 
 /// Why it isn't told what a cluster came to.
-#[derive(Debug, PartialEq, Eq, Drop)]
+#[derive(Debug, PartialEq, Eq, Error, Drop)]
 pub enum EndFault {
     /// The thread of this node ended without a leave and without being asked to.
+    #[error("left_in_hold {0}")]
     LeftInHold(NodeName),
     /// Memory was refused, or there were more steps than a `u64` can tell.
+    #[error("memory")]
     Memory,
 }
 

@@ -32,6 +32,7 @@ mod ending;
 mod intake;
 mod ruled_end;
 mod running;
+mod seating;
 mod shared;
 
 pub use cluster::Cluster;

@@ -15,7 +15,7 @@ use crate::ruled_end::RuledEnd;
 use link::Mailbox;
 use name_table::Names;
 use node_loop::{Gate, Item, NodeEnd, NodeLoop, Record, TurnFault};
-use node_seats::{Address, Caller, Host, Hub, KeptPublisher, Line, Parcel, SeatFault};
+use node_seats::{Address, Caller, Host, Hub, KeptPublisher, Line, Parcel, Place, SeatFault};
 use std::alloc::{AllocError, Global};
 use std::marker::Model;
 use std::snapshot::Snapshot;
@@ -235,7 +235,7 @@ where
 
 impl<N: Names<Memory = Global> + Send + 'static, L: Record + Send + 'static> Running<N, L> {
     ghost use Rattle.std.specs.Prelude.{◌<◌, []};
-    ghost use Rattle.node_seats.specs.Callers.{inbox_of, slot_of, nodes_of, nodes_at, asked_by, seen_of, unseen};
+    ghost use Rattle.node_seats.specs.Callers.{inbox_of, place_of, nodes_of, nodes_at, asked_by, seen_of, unseen};
     ghost use Rattle.node_threads.specs.Wires.{name_of};
     ghost use Rattle.node_threads.specs.Ended.{Returns};
     ghost use Rattle.node_threads.specs.Clusters.{LeftAsAsked};
@@ -270,22 +270,22 @@ impl<N: Names<Memory = Global> + Send + 'static, L: Record + Send + 'static> Run
         self.address.node()
     }
 
-    /// A caller of it, which finds its replies in this slot of this hub.
+    /// A caller of it, which finds its replies in the slot of this place.
     pub(crate) fn caller(
         &mut self,
         hub: &Arc<Hub, Global>,
-        slot: u32,
+        place: Place,
         yields: u32,
     ) -> Result<Caller, AllocError>
-        requires { slot < 72 }
-        ensures slot { IfOk result (λ caller. slot_of caller ≡ slot) }
+        requires { place.slot < 72 }
+        ensures place { IfOk result (λ caller. place_of caller ≡ place) }
         ensures asks { IfOk result (λ caller. inbox_of caller ≡ self.old.inbox) }
         ensures nodes { IfOk result (λ caller. nodes_of caller ≡ nodes_at hub.now.value) }
         ensures unasked { IfOk result (λ caller. asked_by caller ≡ []) }
         ensures unread { IfOk result (λ caller. seen_of caller ≡ unseen) }
         ensures node { self.new ≡ self.old }
     {
-        self.caller.another(hub, &mut self.address, slot, yields)
+        self.caller.another(hub, &mut self.address, place, yields)
     }
 
     /// Asks the node to leave, in the name of the cluster, and waits until it has, as its log then says.

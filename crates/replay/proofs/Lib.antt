@@ -1,4 +1,7 @@
 pub use Rattle.cluster_world.proofs.Listed
+pub use Rattle.cluster_world.proofs.Agreeing
+pub use Rattle.cluster_world.proofs.Locks
+pub use Rattle.cluster_world.proofs.Leftovers
 pub mod Sameness
 pub mod Least
 pub mod Reading

@@ -1,3 +1,5 @@
+pub use Rattle.cluster_world.specs.Agreeing
+pub use Rattle.cluster_world.specs.Locks
 pub use Rattle.node_log.specs.Entries
 pub use Rattle.node_log.specs.Seen
 pub mod Steps

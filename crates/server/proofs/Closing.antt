@@ -4,6 +4,7 @@ use Rattle.std.specs.Prelude.{IfOk}
 use Rattle.term.specs.NodeSets.{set_of}
 use Rattle.node_threads.specs.Wires.{IsCrew}
 use Rattle.node_threads.specs.Clusters.{Crewed}
+use Rattle.node_threads.specs.Seating.{no_seats}
 use Rattle.server.specs.declared.faults.ServeFault.{ServeFault}
 use Rattle.server.specs.declared.faults.ServeFault.TheVariants.{Accept, Write, Memory}
 use Rattle.server.specs.declared.faults.TakeFault.{TakeFault}
@@ -12,7 +13,7 @@ use Rattle.server.specs.Served.{IsServed, transcripts_in}
 use Rattle.server.specs.Serving.{Ending, Ends, Tells, Fails, EndsWith, ServesCluster}
 use Rattle.server.proofs.Doors.{seats_keep}
 
-module _ (cluster lone nodes : List ℕ) (consoles : ℕ) (all : (n : ℕ) → set_of nodes n ≡ set_of (cluster ++ lone) n) (first last : Crewed) (joined : first.cluster ≡ cluster) (others : first.lone ≡ lone) (crew : IsCrew cluster lone first.crew) (unused : first.seats ≡ 0) where
+module _ (cluster lone nodes : List ℕ) (consoles : ℕ) (all : (n : ℕ) → set_of nodes n ≡ set_of (cluster ++ lone) n) (first last : Crewed) (joined : first.cluster ≡ cluster) (others : first.lone ≡ lone) (crew : IsCrew cluster lone first.crew) (unused : first.seating ≡ no_seats) where
   ends_with : (ls : List Left) → IsServed nodes consoles first last ls → (ending : Ending) → Ends last (transcripts_in ls) ending
       → EndsWith cluster lone consoles ending
   ends_with ls served ending ends = record {
@@ -28,7 +29,7 @@ module _ (cluster lone nodes : List ℕ) (consoles : ℕ) (all : (n : ℕ) → s
     ends = ends;
   }
     where
-      kept : last ≡ record first { seats = last.seats }
+      kept : last ≡ record first { seating = last.seating }
       kept = seats_keep nodes first last served.starts served.seated
 
   module _ (old new : Option (List ℕ)) where

@@ -6,27 +6,28 @@ use Rattle.node_threads.specs.Seats.{Sitting, new_seat, first_at}
 use Rattle.node_threads.proofs.Choosing.{find_mapped}
 use Rattle.node_threads.specs.Wires.{Wired, name_of, inboxes, inbox_to, IsCrew}
 use Rattle.node_threads.specs.Faults.{IsSeatRefused}
-use Rattle.node_threads.specs.Clusters.{Crewed, next_seats}
+use Rattle.node_threads.specs.Seating.{are_spent, next_place}
+use Rattle.node_threads.specs.Clusters.{Crewed, next_seats, seats_more}
 use Rattle.server.specs.Attending.{Place, Reaches}
 use Rattle.server.specs.declared.served.Start.{Start}
 use Rattle.server.specs.Served.{Seats, SeatsAll}
 use Rattle.server.specs.Taking.{ReachesAll, Takes}
 
 -- a seat that a cluster gave out, or didn't
-pub seats_by : (c d : Crewed) (p : Place) → IfOk p (λ free. free ≡ next_seats c) → OnOk p (d ≡ record c { seats = c.seats + 1 })
-    → OnErr p (d ≡ c) → IfErr p (λ fault. IsSeatRefused fault true c.seats) → Seats c p d
+pub seats_by : (c d : Crewed) (p : Place) → IfOk p (λ free. free ≡ next_seats c) → OnOk p (d ≡ seats_more c)
+    → OnErr p (d ≡ c) → IfErr p (λ fault. IsSeatRefused fault true (are_spent c.seating)) → Seats c p d
 seats_by c d (Ok free) ok made unmade refused = (ok, made)
 seats_by c d (Err fault) ok made unmade refused = (unmade, refused)
 
 -- a seat changes nothing of its cluster but how many were made
-seat_keeps : (c d : Crewed) (p : Place) → Seats c p d → d ≡ record c { seats = d.seats }
-seat_keeps c d (Ok free) s = s.1 ∙ (λ j. record c { seats = (sym s.1 j).seats })
-seat_keeps c d (Err fault) s = s.0 ∙ (λ j. record c { seats = (sym s.0 j).seats })
+seat_keeps : (c d : Crewed) (p : Place) → Seats c p d → d ≡ record c { seating = d.seating }
+seat_keeps c d (Ok free) s = s.1 ∙ (λ j. record c { seating = (sym s.1 j).seating })
+seat_keeps c d (Err fault) s = s.0 ∙ (λ j. record c { seating = (sym s.0 j).seating })
 
-pub seats_keep : (nodes : List ℕ) (c d : Crewed) (ss : List Start) → SeatsAll nodes c ss d → d ≡ record c { seats = d.seats }
-seats_keep nodes c d [] same = same ∙ (λ j. record c { seats = (sym same j).seats })
+pub seats_keep : (nodes : List ℕ) (c d : Crewed) (ss : List Start) → SeatsAll nodes c ss d → d ≡ record c { seating = d.seating }
+seats_keep nodes c d [] same = same ∙ (λ j. record c { seating = (sym same j).seating })
 seats_keep nodes c d (s ∷ ss) S = seats_keep nodes S.1 d ss S.3
-    ∙ ap (λ (m : Crewed). record m { seats = d.seats }) (seat_keeps c S.1 s.place S.2)
+    ∙ ap (λ (m : Crewed). record m { seating = d.seating }) (seat_keeps c S.1 s.place S.2)
 
 -- one behind the others
 seats_more : (nodes : List ℕ) (c m d : Crewed) (ss ts : List Start) → SeatsAll nodes c ss m → SeatsAll nodes m ts d
@@ -78,8 +79,8 @@ some_mapped f (Some a) = refl
 pub seat_reaches : (nodes : List ℕ) (c d : Crewed) (p : Place) → Seats c p d → ReachesAll nodes c → Reaches nodes p
 seat_reaches nodes c d (Ok free) s reaches = λ n known.
     ap (λ (f : List Sitting). is_some (first_at n f)) s.0
-    ∙ ap is_some (find_mapped (new_seat c.seats c.world) (λ x. x.node == n) (inboxes c.crew))
-    ∙ some_mapped (new_seat c.seats c.world) (inbox_to n c.crew) ∙ reaches n known
+    ∙ ap is_some (find_mapped (new_seat (next_place c.seating) c.world) (λ x. x.node == n) (inboxes c.crew))
+    ∙ some_mapped (new_seat (next_place c.seating) c.world) (inbox_to n c.crew) ∙ reaches n known
 seat_reaches nodes c d (Err fault) s reaches = tt
 
 -- a crew has an inbox for each of its nodes, and for no other

@@ -1,8 +1,9 @@
 -- What consoles begin with, and what they leave behind.
-use Rattle.std.specs.Prelude.{ℕ, true, ◌≡◌, ◌≤◌, ◌+◌, List, [], ◌∷◌, Option, Ok, Err, length}
+use Rattle.std.specs.Prelude.{ℕ, true, ◌≡◌, ◌≤◌, List, [], ◌∷◌, Option, Ok, Err, length}
 use Rattle.node_threads.specs.declared.Transcript.{Transcript}
 use Rattle.node_threads.specs.Faults.{IsSeatRefused}
-use Rattle.node_threads.specs.Clusters.{Crewed, next_seats}
+use Rattle.node_threads.specs.Seating.{are_spent}
+use Rattle.node_threads.specs.Clusters.{Crewed, next_seats, seats_more}
 use Rattle.server.specs.declared.served.Start.{Start}
 use Rattle.server.specs.declared.served.Left.{Left}
 use Rattle.server.specs.declared.served.Left.TheVariants as left
@@ -35,8 +36,8 @@ transcripts_in (left.Unserved place ∷ ls) = transcripts_in ls
 
 -- a cluster gave out a seat, the next one, or it had none to give, for this cause
 abbrev pub Seats : Crewed → Place → Crewed → Type 0
-Seats c (Ok free) d = (free ≡ next_seats c) × (d ≡ record c { seats = c.seats + 1 })
-Seats c (Err fault) d = (d ≡ c) × IsSeatRefused fault true c.seats
+Seats c (Ok free) d = (free ≡ next_seats c) × (d ≡ seats_more c)
+Seats c (Err fault) d = (d ≡ c) × IsSeatRefused fault true (are_spent c.seating)
 
 -- it did so for each of these consoles, one after another, which are served for these nodes
 abbrev pub SeatsAll : List ℕ → Crewed → List Start → Crewed → Type 0

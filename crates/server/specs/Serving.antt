@@ -46,7 +46,7 @@ pub record EndsWith (cluster lone : List ℕ) (consoles : ℕ) (ending : Ending)
   pub all : (n : ℕ) → set_of nodes n ≡ set_of (cluster ++ lone) n
   pub first : Crewed
   pub crew : IsCrew cluster lone first.crew
-  pub unused : first.seats ≡ 0
+  pub unused : first.seating ≡ no_seats
   pub last : Crewed
   pub lefts : List Left
   pub served : IsServed nodes consoles first last lefts

@@ -18,11 +18,13 @@ use world_history::{HistoryEntry, KeptEntry};
 
 mod beside;
 mod crowds;
+mod forgetful;
 mod holders;
 mod leaves;
 mod meeting;
 mod names;
 mod refusals;
+mod returns;
 mod rings;
 mod stubborn;
 

@@ -15,12 +15,12 @@ loop-one-preserved g c =
           ∙ set-get_or c.loop-one.running c.loop-one.one-index c.one-item.result ∙ c.loop-one.invariant.same;
       seats = c.in_ok-add.ensures.ok
           ∙ ap (λ (l : List Sitting). l ++ sitting c.in_ok-caller.field-0 [] ∷ []) c.loop-one.invariant.seats
-          ∙ ap (λ (s : Sitting). map (new_seat c.args.slot (nodes_at c.args.shared.now.hub.value)) (inboxes first) ++ s ∷ [])
-          (new_sitting c.in_ok-caller.field-0 c.args.slot (nodes_at c.args.shared.now.hub.value) one.inbox c.in_ok-caller.ensures.slot
+          ∙ ap (λ (s : Sitting). map (new_seat c.args.place (nodes_at c.args.shared.now.hub.value)) (inboxes first) ++ s ∷ [])
+          (new_sitting c.in_ok-caller.field-0 c.args.place (nodes_at c.args.shared.now.hub.value) one.inbox c.in_ok-caller.ensures.place
           (c.in_ok-caller.ensures.asks
           ∙ ap (λ (ws : List Wired). (get_or ws c.loop-one.one-index c.one-item.result).inbox) c.loop-one.invariant.same)
           c.in_ok-caller.ensures.nodes c.in_ok-caller.ensures.unasked c.in_ok-caller.ensures.unread)
-          ∙ sym (ap (map (new_seat c.args.slot (nodes_at c.args.shared.now.hub.value)))
+          ∙ sym (ap (map (new_seat c.args.place (nodes_at c.args.shared.now.hub.value)))
           (map_more (λ (w : Wired). w.inbox) c.args.running.now c.loop-one.one-index c.one-item.result c.loop-one-test.true)
-          ∙ map_push (new_seat c.args.slot (nodes_at c.args.shared.now.hub.value)) (inboxes first) one.inbox);
+          ∙ map_push (new_seat c.args.place (nodes_at c.args.shared.now.hub.value)) (inboxes first) one.inbox);
     }

@@ -7,5 +7,5 @@ use Rattle.node_threads.proofs.crew.free_seat_of.Given as goal
 abbrev pub invariant-loop-one : goal.invariant-loop-one
 invariant-loop-one g l = record {
   same : l.running ≡ l.fn.running;
-  seats : l.free ≡ map (new_seat l.slot (nodes_at l.shared.hub.value)) (inboxes (take l.one-index l.fn.running));
+  seats : l.free ≡ map (new_seat l.place (nodes_at l.shared.hub.value)) (inboxes (take l.one-index l.fn.running));
 }

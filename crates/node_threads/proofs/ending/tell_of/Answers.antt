@@ -12,7 +12,7 @@ returns-in-Err-clause-err g c = subst (IsWhy c.in-Err.fault)
     ∙ map-append (end_by g.N.Names.contents g.L.Record.logged) c.loop-end.yielded (c.in-Some.end ∷ c.next.new.self.rest.items)))
     (why c.in-Err.fault (map (end_by g.N.Names.contents g.L.Record.logged) c.loop-end.yielded)
     (map (end_by g.N.Names.contents g.L.Record.logged) c.next.new.self.rest.items)
-    (end_by g.N.Names.contents g.L.Record.logged c.in-Some.end) c.in-Err.ensures.err)
+    (end_by g.N.Names.contents g.L.Record.logged c.in-Some.end) c.loop-end.invariant.told.well c.in-Err.ensures.err)
 
 pub loop-end-preserved : goal.loop-end-preserved
 loop-end-preserved g c = record {

@@ -5,7 +5,7 @@ use Rattle.node_seats.proofs.caller.Caller.send.Given as goal
 abbrev pub invariant-loop : goal.invariant-loop
 invariant-loop g l =
     (goal.iterator-loop g).can_next l.iterator' × (goal.iterator-loop g).is_finite l.iterator'
-    × (l.self.slot ≡ l.fn.self.slot) × (l.self.node ≡ l.fn.self.node)
+    × (l.self.place ≡ l.fn.self.place) × (l.self.node ≡ l.fn.self.node)
     × (nodes_of l.self ≡ nodes_of l.fn.self)
     × (l.self.next ≡ l.fn.self.next)
     × (seen_of l.self ≡ seen_of l.fn.self)

@@ -17,7 +17,7 @@ returns-clause-ok g c = record {
   says = sym c.in_ok-reply.ensures.copy;
   kept = grown c.self.inside.caller c.self.inside.entries.items c.args.self.now c.self.view_is c.call.new.self
       c.push_reserved.new.self.items (Calls c.args.call) c.event-event.result (Some c.in_ok-answer.answer)
-      c.in_ok-answer.ensures.slot c.in_ok-answer.ensures.inbox c.in_ok-answer.ensures.nodes c.in_ok-answer.ensures.asked
+      c.in_ok-answer.ensures.place c.in_ok-answer.ensures.inbox c.in_ok-answer.ensures.nodes c.in_ok-answer.ensures.asked
       (c.event-event.ensures ∙ ap (λ (s : Sitting). At s.node (Calls c.in_ok-copied_call.field-0)) (sym c.self.view_is)
       ∙ ap (λ (k : Call). At c.self.inside.caller.node (Calls k)) c.in_ok-copied_call.ensures)
       (c.push_reserved.ensures.items

@@ -13,7 +13,7 @@ returns-clause-ok g c = record {
       c.push_reserved.new.self.items (Ok Made)
       c.in_ok-exit.ensures.told c.in_ok-exit.ensures.learns;
   kept = grown c.self.inside.caller c.self.inside.entries.items c.args.self.now c.self.view_is c.exit.new.self
-      c.push_reserved.new.self.items (Exit c.args.process.now) c.event-event.result None c.in_ok-exit.ensures.slot
+      c.push_reserved.new.self.items (Exit c.args.process.now) c.event-event.result None c.in_ok-exit.ensures.place
       c.in_ok-exit.ensures.inbox c.in_ok-exit.ensures.nodes c.in_ok-exit.ensures.asked
       (c.event-event.ensures ∙ ap (λ (n : ℕ). At n (Exit c.copy.result)) c.in_ok-exit.ensures.node
       ∙ ap (λ (p : Process). At c.self.inside.caller.node (Exit p)) c.copy.ensures)

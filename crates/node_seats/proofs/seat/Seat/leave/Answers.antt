@@ -12,7 +12,7 @@ returns-clause-ok g c = record {
       c.push_reserved.new.self.items (Ok Left)
       c.in_ok-leave.ensures.told c.in_ok-leave.ensures.learns;
   kept = grown c.self.inside.caller c.self.inside.entries.items c.args.self.now c.self.view_is c.leave.new.self
-      c.push_reserved.new.self.items Leave c.event-event.result None c.in_ok-leave.ensures.slot c.in_ok-leave.ensures.inbox
+      c.push_reserved.new.self.items Leave c.event-event.result None c.in_ok-leave.ensures.place c.in_ok-leave.ensures.inbox
       c.in_ok-leave.ensures.nodes c.in_ok-leave.ensures.asked
       (c.event-event.ensures ∙ ap (λ (n : ℕ). At n Leave) c.in_ok-leave.ensures.node)
       (c.push_reserved.ensures.items ∙ ap (λ (l : List SeatEntry). l ++ record { event = c.event-event.result; answer = None } ∷ [])

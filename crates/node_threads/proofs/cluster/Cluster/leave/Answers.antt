@@ -12,10 +12,10 @@ returns-clause-stranger g c = λ e. absurd (cc (sym (crew_known c.args.node.now 
   lone = c.self.inside.lone.items;
   world = nodes_at c.self.inside.shared.hub.value;
   crew = c.self.inside.running.items;
-  seats = c.self.inside.seats;
+  seating = c.self.inside.seating;
 }) c.args.self.now
-    c.place_of.result c.place_of.ensures c.as_slice.ensures.value c.self.invariant.1 c.self.view_is
-    c.in-Some.place c.in-Some.is) ∙ e))
+    c.index_of.result c.index_of.ensures c.as_slice.ensures.value c.self.invariant.1 c.self.view_is
+    c.in-Some.index c.in-Some.is) ∙ e))
 
 pub returns-clause-left : goal.returns-clause-left
 returns-clause-left g c = on_ok c.leave.result (LeftAsAsked c.index_mut.result.now.inbox) (LeftAt c.args.self.now c.args.node.now)
@@ -26,9 +26,9 @@ returns-clause-left g c = on_ok c.leave.result (LeftAsAsked c.index_mut.result.n
         lone = c.self.inside.lone.items;
         world = nodes_at c.self.inside.shared.hub.value;
         crew = c.self.inside.running.items;
-        seats = c.self.inside.seats;
-      }) c.args.self.now c.in-Some.place
-          (sym (c.place_of.ensures ∙ ap (position (λ w. name_of w == c.args.node.now)) c.as_slice.ensures.value) ∙ c.in-Some.is) c.self.view_is c.index_mut.result.now
+        seating = c.self.inside.seating;
+      }) c.args.self.now c.in-Some.index
+          (sym (c.index_of.ensures ∙ ap (position (λ w. name_of w == c.args.node.now)) c.as_slice.ensures.value) ∙ c.in-Some.is) c.self.view_is c.index_mut.result.now
           c.index_mut.ensures.value;
       left = left;
     }) c.leave.ensures.left

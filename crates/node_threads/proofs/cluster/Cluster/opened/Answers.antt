@@ -1,4 +1,4 @@
-use Rattle.std.proofs.Common.{◌≡◌, ◌++◌, List, ℕ, sym, ap, subst, ◌∙◌, arith}
+use Rattle.std.proofs.Common.{◌≡◌, ◌++◌, List, ℕ, sym, ap, subst, ◌∙◌}
 use Rattle.term.specs.NodeSets.{set_of}
 use Rattle.node_loop.specs.Openings.{start_refused}
 use Rattle.node_threads.specs.Wires.{Wired, IsCrew}
@@ -13,7 +13,6 @@ invariant_of-result g c =
       ap (λ (l : List ℕ). start_refused l c.in_ok-others.others.items) a
           ∙ ap (start_refused c.args.cluster.now) b ∙ c.requires.lists,
       subst (λ (x : List ℕ × List ℕ × List Wired). IsCrew x.0 x.1 x.2) (λ j. (sym a j, sym b j, sym c.in_ok-running.ensures j)) c.in_ok-berths.ensures,
-      omega arith,
       λ n. ap (λ (ns : List ℕ). set_of ns n) (c.in_ok-shared.ensures ∙ c.nodes.ensures.nodes) ∙ c.requires.opens.nodes n
           ∙ ap (λ (ns : List ℕ). set_of ns n) (sym both),
     )

@@ -25,6 +25,18 @@ fn registers<R: Wait + Clock>(
     Ok(spawned == Reply::Pid(process.copy()) && named == Reply::Yes)
 }
 
+/// Spawns three processes at a node. Whether it could.
+fn spawns_three<R: Wait + Clock>(rt: &R, cluster: &mut Forgetful, node: &NodeName) -> bool {
+    let Ok(mut seat) = cluster.seat(node) else {
+        return false;
+    };
+    let mut fine = true;
+    for _ in 0..3u32 {
+        fine &= matches!(seat.call(rt, Call::Spawn), Ok(Reply::Pid(_)));
+    }
+    fine
+}
+
 /// Whether each of two tables says that the process has the name, and the run had steps.
 fn is_told(ended: &EndedCluster<ListTable<Global>>, process: &Pid, name: &Name) -> bool {
     let mut all = ended.events >= 4 && ended.tables.len() == 2;
@@ -32,6 +44,23 @@ fn is_told(ended: &EndedCluster<ListTable<Global>>, process: &Pid, name: &Name) 
         all = all && entry.1.get(name) == Some(process.copy());
     }
     all
+}
+
+/// Spawns three processes at a node that is alone: what the cluster came to has so many steps, and the node's table.
+fn is_counted<R: Threads + Wait + Clock + Drop + Copy + Send + 'static>(
+    rt: &R,
+    alloc: Global,
+    node: &NodeName,
+) -> bool {
+    let nodes = [node.copy()];
+    let Ok(mut cluster) = Forgetful::start(rt, alloc, &nodes, &[], OpenGate, 500) else {
+        return false;
+    };
+    let spawned = spawns_three(rt, &mut cluster, node);
+    match cluster.end(rt) {
+        Ok(ended) => spawned && ended.events == 3 && ended.tables.len() == 1,
+        Err(EndFault::Memory | EndFault::LeftInHold(_)) => false,
+    }
 }
 
 /// Two nodes, at one of which a name is registered: what the cluster came to has it at both.
@@ -65,5 +94,13 @@ fn tells_of_steps_and_tables(rt: HostRuntime) {
             assert!(rt; is_ended(&rt, rt.alloc(), &[a, b], &process, &name));
         }
         _ => assert!(rt; false),
+    }
+}
+
+#[test]
+fn counts_each_step(rt: HostRuntime) {
+    match parse_node("a") {
+        Ok(node) => assert!(rt; is_counted(&rt, rt.alloc(), &node)),
+        Err(_) => assert!(rt; false),
     }
 }

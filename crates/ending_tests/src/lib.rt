@@ -1,5 +1,0 @@
-//! Tests of clusters whose nodes keep none of their steps.
-#![tactic(auto)]
-
-#[cfg(test)]
-mod forgetful;

@@ -1,0 +1,29 @@
+-- Which seats a cluster has.
+use Rattle.std.specs.Prelude.{ℕ, Bool, true, false, not, nat_lt, ◌||◌, ◌+◌, replicate, set}
+use Rattle.std.specs.List.{position_or_len}
+use Rattle.node_seats.specs.Callers.{seat_numbers}
+use Rattle.node_seats.specs.declared.place.Place.{Place}
+use Rattle.node_threads.specs.declared.seating.Seating.{Seating}
+
+abbrev pub no_seats : Seating
+no_seats = record { taken = replicate 64 false; made = 0 }
+
+-- the first slot that no seat has, or 64
+abbrev pub free_slot : Seating → ℕ
+free_slot s = position_or_len not s.taken
+
+-- no slot is free, or no number is left
+abbrev pub are_spent : Seating → Bool
+are_spent s = not (nat_lt (free_slot s) 64) || not (nat_lt s.made seat_numbers)
+
+-- where the next seat is
+abbrev pub next_place : Seating → Place
+next_place s = record { seat = s.made; slot = free_slot s }
+
+-- it is made
+abbrev pub with_seat : Seating → Seating
+with_seat s = record { taken = set s.taken (free_slot s) true; made = s.made + 1 }
+
+-- the slot is free again
+abbrev pub without_slot : ℕ → Seating → Seating
+without_slot slot s = record s { taken = set s.taken slot false }
