@@ -1,6 +1,7 @@
 """Arguments, what is told for them and where, and statuses. A text that ends with two dots tells how the output begins."""
 
 import os
+import re
 import socket
 import subprocess
 import tempfile
@@ -8,7 +9,7 @@ import time
 from dataclasses import dataclass
 from functools import partial
 
-from .outcomes import Failure, Test, expect_same, expect_status, expect_text
+from .outcomes import Failure, Test, expect_same, expect_status, expect_text, shown
 from .programs import run
 from .served import Console, Served, listen_to, wait_for
 
@@ -85,6 +86,12 @@ CALLS = [
     refuses_options("320_consoles", "--listen 127.0.0.1:0 --nodes a --consoles 320"),
     refuses_options("consoles_that_are_no_number", "--listen 127.0.0.1:0 --nodes a --consoles x"),
     refuses_options("consoles_below_zero", "--listen 127.0.0.1:0 --nodes a --consoles=-1"),
+    refuses_options("stay_alone", "--stay"),
+    refuses_options("stay_twice", "--listen 127.0.0.1:0 --nodes a --stay --stay"),
+    refuses_options("stay_with_a_value", "--listen 127.0.0.1:0 --nodes a --stay=yes"),
+    refuses_options("stay_with_a_word", "--listen 127.0.0.1:0 --nodes a --stay yes"),
+    refuses_options("65_consoles_at_once", "--listen 127.0.0.1:0 --nodes a --stay --consoles 65"),
+    refuses("stay_of_a_script", "script", "--stay"),
     refuses_lists("list_with_an_empty_name", "empty", "--nodes", "a,,b"),
     refuses_lists("empty_list", "empty", "--nodes="),
     refuses_lists("empty_lone_list", "empty", "--nodes", "a", "--lone="),
@@ -119,7 +126,7 @@ def check(program, call):
 
 def help_tells_of_each_option(program):
     told = program.run(["serve", "--help"]).stdout
-    for option in [b"--listen <ADDR>", b"--nodes <LIST>", b"--lone <LIST>", b"--consoles <N>"]:
+    for option in [b"--listen <ADDR>", b"--nodes <LIST>", b"--lone <LIST>", b"--consoles <N>", b"--stay"]:
         if option not in told:
             raise Failure(f"{option.decode()} isn't told of")
 
@@ -131,12 +138,19 @@ def address_in_use(program):
         check(program, cannot_listen("", f"127.0.0.1:{taken.getsockname()[1]}"))
 
 
-def port_zero_is_told_as_written(program):
-    words = [program.path, "serve", "--listen", "127.0.0.1:0", "--nodes", "a"]
-    with subprocess.Popen(words, stdin=subprocess.DEVNULL, stdout=subprocess.PIPE) as served:
+def port_zero_is_told_as_the_one_that_listens(program, *options):
+    """The line tells the port that the system chose: a connection is taken there."""
+    words = [program.path, "serve", "--listen", "127.0.0.1:0", "--nodes", "a", *options]
+    with subprocess.Popen(words, stdin=subprocess.DEVNULL, stdout=subprocess.PIPE, stderr=subprocess.DEVNULL) as served:
         try:
             wait_for(served.stdout, time.monotonic() + program.seconds, "line of the program")
-            expect_same("output", b"listening 127.0.0.1:0\n", served.stdout.readline())
+            line = served.stdout.readline()
+            told = re.fullmatch(rb"listening 127\.0\.0\.1:([1-9][0-9]*)\n", line)
+            if not told:
+                raise Failure(f"expected `listening 127.0.0.1:` with a port, got {shown(line)}")
+            with socket.create_connection(("127.0.0.1", int(told[1])), timeout=program.seconds) as console:
+                console.sendall(b"attach a\n")
+                expect_same("a console's answer", b"ok\n", console.recv(16))
         finally:
             served.kill()
 
@@ -230,7 +244,7 @@ def tests(program, root):
     for it in [
         help_tells_of_each_option,
         address_in_use,
-        port_zero_is_told_as_written,
+        port_zero_is_told_as_the_one_that_listens,
         sixty_four_consoles,
         last_line_that_nobody_reads,
         input_that_cannot_be_read,
@@ -239,6 +253,8 @@ def tests(program, root):
         name_that_is_no_text,
     ]:
         yield Test(f"arguments/{it.__name__}", partial(it, program))
+    staying = partial(port_zero_is_told_as_the_one_that_listens, program, "--stay")
+    yield Test("arguments/port_zero_of_a_server_that_stays", staying)
     serve = ["serve", "--listen", "127.0.0.1:0", "--nodes", "a"]
     for name, words in [("script", ["script"]), ("help", ["--help"]), ("serve", serve)]:
         yield Test(f"arguments/output_that_is_full_of_{name}", partial(output_that_is_full, program, words))

@@ -33,6 +33,7 @@ class Served:
 
     def __init__(self, program, options):
         self.seconds = program.seconds
+        self.stays = "--stay" in options
         for _ in range(MOST_PORTS):
             self.address = ("127.0.0.1", free_port())
             listen = "%s:%d" % self.address
@@ -83,9 +84,10 @@ class Served:
             raise Failure("the program had not ended in time") from None
 
     def expect_closed(self, least=0, most=None):
-        """Waits for the end: the cluster is closed, with so many events."""
+        """Waits for the end: the cluster is closed, with so many events. Only one that stays tells of its consoles on standard error."""
         output, errors = self.end()
-        expect_same("standard error", b"", errors)
+        if not self.stays:
+            expect_same("standard error", b"", errors)
         word, _, number = output.partition(b" ")
         is_closed = word == b"closed" and number.endswith(b"\n") and number[:-1].isdigit()
         if not is_closed or not least <= int(number) <= (int(number) if most is None else most):

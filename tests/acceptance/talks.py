@@ -155,9 +155,25 @@ def one_too_many(program):
         served.expect_closed(most=0)
 
 
+def seventy_in_turn(program):
+    """More consoles than there are seats, one after the other: each gives its seat back."""
+    with Served(program, ["--stay", "--nodes", "a", "--consoles", "2"]) as served:
+        for number in range(1, 71):
+            console = Console(served)
+            console.say(b"attach a\nspawn\nquit\n")
+            listen_to([console], lambda: console.has_ended, program.seconds)
+            expect_same(f"the answers of console {number}", b"ok\na.%d\nok\n" % number, console.heard)
+        console = Console(served)
+        console.say(b"attach a\nshutdown\n")
+        listen_to([console], lambda: console.has_ended, program.seconds)
+        expect_same("the answers of the last", b"ok\nok\n", console.heard)
+        served.expect_closed(least=70, most=70)
+
+
 def tests(program, root):
     folder = f"{root}/tests/consoles"
     for name in sorted(os.listdir(folder)):
         yield Test(f"consoles/{name}", partial(play, program, f"{folder}/{name}"))
     yield Test("consoles/a_million_lines", partial(a_million_lines, program))
     yield Test("consoles/one_too_many", partial(one_too_many, program))
+    yield Test("consoles/seventy_in_turn", partial(seventy_in_turn, program))

@@ -1,11 +1,11 @@
 -- What is read of the options of `serve`.
-use Rattle.std.proofs.Common.{◌≡◌, ◌∙◌, ◌==◌, ℕ, Bool, cond, true, false, refl, sym, ap, subst, List, [], ◌∷◌, drop, Option, Some, None, Result, Ok, Err, IsErrAnd, IfSome, MatchResult, codes, option_map, pos, unwrap_or, arith}
+use Rattle.std.proofs.Common.{◌≡◌, ◌∙◌, ◌==◌, ℕ, Bool, cond, true, false, refl, sym, ap, subst, List, [], ◌∷◌, drop, Option, Some, None, Result, Ok, Err, IsErrAnd, IfSome, MatchResult, codes, option_map, pos, unwrap_or, inl, inr, arith}
 use Rattle.std.specs.Str.Parse.{ParsesUnsigned, digits_value, starts_with_minus, without_leading_plus}
 use Rattle.std.proofs.lemmas.Int.{ints}
 use Rattle.clap.specs.Words.{IsSignedIn, ReadsOne, without_minus}
 use Rattle.clap.proofs.CallerReads.{signed_reads}
 use Rattle.arguments.specs.Nodes.{RefusesPlacing}
-use Rattle.arguments.specs.Reading.{CountsConsoles, RefusesValues, Tells, Values}
+use Rattle.arguments.specs.Reading.{CountsConsoles, IsFlagText, RefusesValues, Tells, Values, is_set}
 use Rattle.arguments.specs.declared.faults.ArgFault.{ArgFault}
 use Rattle.arguments.specs.declared.faults.ArgFault.TheVariants as fault
 use Rattle.arguments.specs.declared.task.ServeOptions.{ServeOptions}
@@ -32,16 +32,25 @@ no_minus t passed = go (starts_with_minus t) refl
 pub counted : (E : Type 0) (G : List ℕ → Result ℕ E → Type 0) (given one : Option (List ℕ)) (r : Option ℕ) (n : ℕ)
     → ((u : List ℕ) (x : Result ℕ E) → G u x → ParsesUnsigned 8 10 u x) → IfSome given (IsSignedIn (pos 1) (pos 64))
     → one ≡ option_map without_minus given → (one ≡ None → r ≡ None) → ((t : List ℕ) → one ≡ Some t → ReadsOne G t r)
-    → n ≡ unwrap_or r 8 → CountsConsoles given n
-counted E G None one r n only passed text none some is = is ∙ ap (λ (o : Option ℕ). unwrap_or o 8) (none text)
-counted E G (Some t) one r n only passed text none some is =
+    → (stay : Bool) (most : ℕ) → CountsConsoles stay None most → n ≡ unwrap_or r most → CountsConsoles stay given n
+counted E G None one r n only passed text none some stay most untold is = is ∙ ap (λ (o : Option ℕ). unwrap_or o most) (none text) ∙ untold
+counted E G (Some t) one r n only passed text none some stay most untold is =
     let read = some (without_minus t) text in
     let got = signed_reads E G 8 1 64 t r read only (omega arith) passed in
     let parsed = only (without_minus t) (Ok got.0) (subst (λ (x : Option ℕ). ReadsOne G (without_minus t) x) got.1 read) in
     let number : got.0 ≡ digits_value 10 (without_leading_plus t) =
     parsed.1 ∙ ap (λ (u : List ℕ). digits_value 10 (without_leading_plus u)) (no_minus t passed) in
-    let same : n ≡ got.0 = is ∙ ap (λ (o : Option ℕ). unwrap_or o 8) got.1 in
+    let same : n ≡ got.0 = is ∙ ap (λ (o : Option ℕ). unwrap_or o most) got.1 in
     (rw same got.2, rw same got.3, same ∙ number)
+
+-- whether the flag is set, by the text of its option
+pub flag_read : (given one : Option (List ℕ)) (b : Bool) → IfSome given IsFlagText → one ≡ given → (one ≡ None → b ≡ false)
+    → (one ≡ Some (codes "true") → b ≡ true) → (one ≡ Some (codes "false") → b ≡ false) → b ≡ is_set given
+flag_read None one b text same none set unset = none same
+flag_read (Some t) one b (inl e) same none set unset =
+    set (same ∙ ap Some e) ∙ ap (λ (o : Option (List ℕ)). is_set o) (sym (ap Some e))
+flag_read (Some t) one b (inr e) same none set unset =
+    unset (same ∙ ap Some e) ∙ ap (λ (o : Option (List ℕ)). is_set o) (sym (ap Some e))
 
 -- lists that are refused are values that are
 pub lists_refused : (v : Values) (list : List ℕ) (lone : Option (List ℕ)) (f : ArgFault) → v (codes "nodes") ≡ Some list → lone ≡ v (codes "lone")

@@ -1,37 +1,41 @@
 -- What clap has seen to, where it takes the words.
-use Rattle.std.proofs.Common.{◌≡◌, ◌&&◌, ◌||◌, ◌⊎◌, Bool, cond, codes, true, false, not, refl, sym, ap, subst, List, [], ◌∷◌, Option, Some, None, inl, inr, is_some, find, bytes_eq, pos, if◌then◌else◌, MatchResult, Result, Ok, Err, IfSome, option_map, option_and_then, slice_get}
+use Rattle.std.proofs.Common.{◌≡◌, ◌∙◌, ◌&&◌, ◌||◌, ◌⊎◌, Bool, cond, codes, true, false, not, refl, sym, ap, subst, List, [], ◌∷◌, Option, Some, None, inl, inr, is_some, find, bytes_eq, pos, if◌then◌else◌, MatchResult, Result, Ok, Err, IfSome, option_map, option_and_then, slice_get}
 use Rattle.std.specs.Prelude.{slice_index_or}
 use Rattle.std.specs.Option.{option_map_or}
-use Rattle.clap.specs.Facts.{explicit_source}
+use Rattle.clap.specs.Facts.{explicit_source, unwrap_or_range}
 use Rattle.clap.specs.Values.{IsSignedIn, read_as}
 use Rattle.clap.specs.ValueTests.{accepts}
 use Rattle.clap.specs.Lexer.{without_minus}
 use Rattle.clap.specs.Takes.{is_given}
 use Rattle.clap.specs.Kinds.{check_kinds, or_else, value_kinds}
-use Rattle.clap.specs.Faults.{defaults_fault, entered_fault, level_fault, settle_fault, walk_fault}
-use Rattle.clap.specs.Walk.{Row, Text, answers_to, nothing_held, row_text, rows_after, walk, walk_from, settled}
+use Rattle.clap.specs.Faults.{defaults_fault, entered_fault, level_fault, settle_fault, values_fault, walk_fault}
+use Rattle.clap.specs.Walk.{Row, Rule, Text, action_of, answers_to, nothing_held, row_text, rows_after, walk, walk_from, settled}
 use Rattle.clap.specs.Simple.{Shape, argument_words, built, entered, label_of, names_of, rows_at, subcommand_of}
 use Rattle.clap.specs.declared.builder.value_parser.ValueParser.TheVariants as vp
-use Rattle.clap.specs.declared.builder.value_parser.Reading.TheVariants.{WithoutMinus}
+use Rattle.clap.specs.declared.builder.action.ArgAction.TheVariants as action
+use Rattle.clap.specs.declared.builder.value_parser.Reading.{Reading}
+use Rattle.clap.specs.declared.builder.value_parser.Reading.TheVariants.{AsWritten, WithoutMinus}
+use Rattle.clap.specs.declared.parser.matches.ValueSource.TheVariants.{CommandLine}
 use Rattle.clap.specs.declared.error.kind.ErrorKind.{ErrorKind}
 use Rattle.clap.specs.declared.error.kind.ErrorKind.TheVariants as kind
 use Rattle.clap.proofs.ValueTestLemmas.{accepts-Accepts}
 use Rattle.std.proofs.lemmas.Slice.Eq.{bytes_eq-Decides}
 use Rattle.arguments.specs.CommandLine.{program, refusals, serve_shape}
-use Rattle.arguments.specs.Reading.{Asks, AsksIn, HasOptions, IsLooked, Refuses, RefusesIn}
+use Rattle.arguments.specs.Reading.{Asks, AsksIn, HasOptions, IsFlagText, IsLooked, Refuses, RefusesIn}
 use Rattle.arguments.specs.CommandLine.{Entered}
 use Rattle.arguments.specs.declared.faults.ArgFault.{ArgFault}
 use Rattle.arguments.specs.declared.faults.ArgFault.TheVariants as fault
 use Rattle.arguments.specs.declared.task.Task.{Task}
-use Rattle.arguments.proofs.Taken.{HasFineRules, StopsFine, find_row, level_rows, nil_both, walk_stops}
+use Rattle.arguments.proofs.Taken.{HasFineRules, IsFine, StopsFine, find_row, level_rows, nil_both, one_value, row_with, walk_stops}
 
 -- ---- the options of `serve`
 
--- a row of `serve`: it has one value, and that of the number of consoles is one of 1 to 64
+-- a row of `serve`: it has one value; that of the number of consoles is one of 1 to 64, and that of the flag says whether it is set
 record ServeRow (r : Row) : Type 0 where
   text : Text
   is : r.values ≡ text ∷ []
   number : bytes_eq r.id (codes "consoles") ≡ true → (r.reading ≡ WithoutMinus) × IsSignedIn (pos 1) (pos 64) text
+  flag : bytes_eq r.id (codes "stay") ≡ true → (r.reading ≡ AsWritten) × IsFlagText text
 
 -- `serve`, as it is built
 abbrev serve_built : Shape
@@ -46,23 +50,73 @@ number_accepted v h =
     let parts = nil_both (value_kinds false (vp.Signed (pos 1) (pos 64)) v) [] h in
     accepts-Accepts false (vp.Signed (pos 1) (pos 64)) v (is_accepted (accepts false (vp.Signed (pos 1) (pos 64)) v) kind.ValueValidation parts.0)
 
+-- an option with one value that is neither
+one_valued_fine : (P : Row → Type 0) (a : Rule) → action_of a ≡ action.Set → unwrap_or_range a.range ≡ one_value
+    → ((v : Text) → values_fault a (v ∷ []) ≡ [] → P (row_with a v)) → IsFine P a
+one_valued_fine P a set range fits = inr (inl (record { set = set; range = range; fits = fits }))
+
+plain_row : (id text : Text) (reading : Reading) → bytes_eq id (codes "consoles") ≡ false → bytes_eq id (codes "stay") ≡ false
+    → ServeRow (record { id = id; values = text ∷ []; count = None; source = Some CommandLine; reading = reading })
+plain_row id text reading one two = record {
+  text = text;
+  is = refl;
+  number = λ e. absurd (differ (sym e ∙ one));
+  flag = λ e. absurd (differ (sym e ∙ two));
+}
+  where
+    differ : true ≡ false → ⊥
+    differ e = cc
+
 serve_fine : HasFineRules ServeRow serve_built.args_override_self serve_built.rules
 serve_fine = record {
   once = refl;
   fine = (
-    inr (record { set = refl; range = refl; fits = λ v h. record { text = v; is = refl; number = λ e. cc } }),
+    one_valued_fine ServeRow _ refl refl (λ v h. plain_row _ v _ refl refl),
     (
-      inr (record { set = refl; range = refl; fits = λ v h. record { text = v; is = refl; number = λ e. cc } }),
+      one_valued_fine ServeRow _ refl refl (λ v h. plain_row _ v _ refl refl),
       (
-        inr (record { set = refl; range = refl; fits = λ v h. record { text = v; is = refl; number = λ e. cc } }),
+        one_valued_fine ServeRow _ refl refl (λ v h. plain_row _ v _ refl refl),
         (
-          inr (record { set = refl; range = refl; fits = λ v h. record { text = v; is = refl; number = λ e. (refl, number_accepted v h) } }),
-          (inl refl, tt),
+          one_valued_fine ServeRow _ refl refl (λ v h. record {
+            text = v;
+            is = refl;
+            number = λ e. (refl, number_accepted v h);
+            flag = λ e. cc;
+          }),
+          (
+            inr (inr (record {
+              set = refl;
+              range = refl;
+              text = codes "true";
+              stands = refl;
+              fits = record { text = codes "true"; is = refl; number = λ e. cc; flag = λ e. (refl, inl refl) };
+            })),
+            (inl refl, tt),
+          ),
         ),
       ),
     ),
   );
-  no_defaults = (refl, (refl, (refl, (refl, (refl, tt)))));
+  defaults = (
+    inl refl,
+    (
+      inl refl,
+      (
+        inl refl,
+        (
+          inl refl,
+          (
+            inr (
+              codes "false",
+              refl,
+              record { text = codes "false"; is = refl; number = λ e. cc; flag = λ e. (refl, inr refl) },
+            ),
+            (inl refl, tt),
+          ),
+        ),
+      ),
+    ),
+  );
   no_positional = λ i. refl;
 }
 
@@ -86,6 +140,24 @@ number_text (Some r) rows =
     let row = rows r refl in
     ap (λ how. option_map (read_as how) (slice_get r.values 0)) (row.0.number row.1).0
 
+flag_value : (o : Option Row) → ((r : Row) → o ≡ Some r → ServeRow r × (bytes_eq r.id (codes "stay") ≡ true))
+    → IfSome (option_and_then (λ (r : Row). slice_get r.values 0) o) IsFlagText
+flag_value None rows = tt
+flag_value (Some r) rows =
+    let row = rows r refl in
+    subst (λ (vs : List Text). IfSome (slice_get vs 0) IsFlagText) (sym row.0.is) (row.0.flag row.1).1
+
+flag_text : (o : Option Row) → ((r : Row) → o ≡ Some r → ServeRow r × (bytes_eq r.id (codes "stay") ≡ true))
+    → option_and_then row_text o ≡ option_and_then (λ (r : Row). slice_get r.values 0) o
+flag_text None rows = refl
+flag_text (Some r) rows =
+    let row = rows r refl in
+    ap (λ how. option_map (read_as how) (slice_get r.values 0)) (row.0.flag row.1).0 ∙ as_written (slice_get r.values 0)
+  where
+    as_written : (v : Option Text) → option_map (read_as AsWritten) v ≡ v
+    as_written None = refl
+    as_written (Some v) = refl
+
 has_both : (a b : Bool) → check_kinds false false ((true && not a) || ((true && not b) || false)) ≡ [] → (a ≡ true) × (b ≡ true)
 has_both true true h = (refl, refl)
 has_both true false h = cc
@@ -103,6 +175,8 @@ options_of words none =
       nodes = some_value (find (λ r. bytes_eq r.id (codes "nodes")) rows) (λ r e. (find_row ServeRow (codes "nodes") rows r level.0 e).0) both.1;
       consoles = number_value (find (λ r. bytes_eq r.id (codes "consoles")) rows) (λ r e. find_row ServeRow (codes "consoles") rows r level.0 e);
       digits = number_text (find (λ r. bytes_eq r.id (codes "consoles")) rows) (λ r e. find_row ServeRow (codes "consoles") rows r level.0 e);
+      flag = flag_value (find (λ r. bytes_eq r.id (codes "stay")) rows) (λ r e. find_row ServeRow (codes "stay") rows r level.0 e);
+      written = flag_text (find (λ r. bytes_eq r.id (codes "stay")) rows) (λ r e. find_row ServeRow (codes "stay") rows r level.0 e);
     }
 
 -- ---- the subcommand

@@ -1,4 +1,4 @@
--- What the walk over words has found where none of its steps fails, for a command whose options take one value each.
+-- What the walk over words has found where none of its steps fails, for a command whose options take one value each, or are flags.
 use Rattle.std.proofs.Common.{◌≡◌, ◌∙◌, ◌&&◌, ◌||◌, ◌⊎◌, ℕ, Bool, cond, codes, true, false, not, zero, suc, refl, sym, ap, subst, arith, List, [], ◌∷◌, ◌++◌, length, drop, Option, Some, None, inl, inr, is_some, find, fold, bytes_eq, chars, if◌then◌else◌, ne_eqb, append-nil}
 use Rattle.std.specs.Prelude.{⊤, encode_utf8, slice_get, unwrap_or, ◌==◌}
 use Rattle.std.specs.Option.{option_map_or}
@@ -13,7 +13,7 @@ use Rattle.clap.specs.declared.builder.action.ArgAction.{ArgAction}
 use Rattle.clap.specs.declared.builder.action.ArgAction.TheVariants as action
 use Rattle.clap.specs.declared.builder.range.ValueRange.{ValueRange}
 use Rattle.clap.specs.declared.error.kind.ErrorKind.TheVariants as kind
-use Rattle.clap.specs.declared.parser.matches.ValueSource.TheVariants.{CommandLine}
+use Rattle.clap.specs.declared.parser.matches.ValueSource.TheVariants.{CommandLine, DefaultValue}
 
 -- ---- rows and rules
 
@@ -38,15 +38,34 @@ pub record TakesOne (P : Row → Type 0) (a : Rule) : Type 0 where
   pub range : unwrap_or_range a.range ≡ one_value
   pub fits : (v : Text) → values_fault a (v ∷ []) ≡ [] → P (row_with a v)
 
--- such an option, or one that asks for help or the version
-abbrev pub IsFine : (Row → Type 0) → Rule → Type 0
-IsFine P a = (is_request (action_of a) ≡ true) ⊎ TakesOne P a
+abbrev pub no_value : ValueRange
+no_value = record { start_inclusive = 0; end_inclusive = 0 }
 
--- a command has options only, with no defaults, each of which may be used once
+-- a flag: its row has the property
+pub record IsFlag (P : Row → Type 0) (a : Rule) : Type 0 where
+  pub set : action_of a ≡ action.SetTrue
+  pub range : unwrap_or_range a.range ≡ no_value
+  pub text : Text
+  pub stands : a.missing ≡ text ∷ []
+  pub fits : P (row_with a text)
+
+-- such an option or flag, or one that asks for help or the version
+abbrev pub IsFine : (Row → Type 0) → Rule → Type 0
+IsFine P a = (is_request (action_of a) ≡ true) ⊎ (TakesOne P a ⊎ IsFlag P a)
+
+-- the row of an option that isn't used and has a default
+abbrev pub default_row : Rule → Text → Row
+default_row a v = record { id = a.id; values = v ∷ []; count = None; source = Some DefaultValue; reading = reading_by a }
+
+-- an option has no default, or one whose row has the property
+abbrev pub HasFineDefault : (Row → Type 0) → Rule → Type 0
+HasFineDefault P a = (a.defaults ≡ []) ⊎ ((v : Text) × (a.defaults ≡ v ∷ []) × P (default_row a v))
+
+-- a command has options and flags only, each of which may be used once
 pub record HasFineRules (P : Row → Type 0) (again : Bool) (c : List Rule) : Type 0 where
   pub once : again ≡ false
   pub fine : AllRules (IsFine P) c
-  pub no_defaults : AllRules (λ a. a.defaults ≡ []) c
+  pub defaults : AllRules (HasFineDefault P) c
   pub no_positional : (i : ℕ) → arg_by_index c i ≡ None
 
 rows_more : (P : Row → Type 0) (xs ys : List Row) → AllRows P xs → AllRows P ys → AllRows P (xs ++ ys)
@@ -107,23 +126,40 @@ no_repeat false again once h = refl
 no_repeat true false once h = cc
 no_repeat true true once h = cc
 
-set_rows : (P : Row → Type 0) (again : Bool) (a : Rule) (values : List Text) (rows : List Row) → again ≡ false → TakesOne P a
-    → range_kinds 1 1 (length values) ≡ [] → set_fault again a (values_or_missing a values) rows ≡ [] → AllRows P rows
-    → AllRows P (used_as action.Set a.id (reading_by a) (values_or_missing a values) rows)
-set_rows P again a [] rows once t r s all = cc
-set_rows P again a (v ∷ []) rows once t r s all =
+set_row : (P : Row → Type 0) (again : Bool) (a : Rule) (v : Text) (rows : List Row) → again ≡ false → (values_fault a (v ∷ []) ≡ [] → P (row_with a v))
+    → set_fault again a (v ∷ []) rows ≡ [] → AllRows P rows → AllRows P (with_values a.id (reading_by a) CommandLine (v ∷ []) (without a.id rows))
+set_row P again a v rows once fits s all =
     let parts = nil_both (repeat_fault again a.id rows) (values_fault a (v ∷ [])) s in
     let none = no_repeat (has_row a.id rows) again once parts.0 in
     let same : without a.id rows ≡ rows = at_new a.id (λ _. []) [] rows none ∙ append-nil rows in
     let last : with_values a.id (reading_by a) CommandLine (v ∷ []) (without a.id rows) ≡ rows ++ row_with a v ∷ [] =
     ap (with_values a.id (reading_by a) CommandLine (v ∷ [])) same
     ∙ at_new a.id (more_values CommandLine (v ∷ [])) (row_with a v ∷ []) rows none in
-    subst (AllRows P) (sym last) (rows_more P rows (row_with a v ∷ []) all (t.fits v parts.1, tt))
+    subst (AllRows P) (sym last) (rows_more P rows (row_with a v ∷ []) all (fits parts.1, tt))
+
+set_rows : (P : Row → Type 0) (again : Bool) (a : Rule) (values : List Text) (rows : List Row) → again ≡ false → TakesOne P a
+    → range_kinds 1 1 (length values) ≡ [] → set_fault again a (values_or_missing a values) rows ≡ [] → AllRows P rows
+    → AllRows P (used_as action.Set a.id (reading_by a) (values_or_missing a values) rows)
+set_rows P again a [] rows once t r s all = cc
+set_rows P again a (v ∷ []) rows once t r s all = set_row P again a v rows once (t.fits v) s all
 set_rows P again a (v ∷ w ∷ vs) rows once t r s all =
     let n = length (v ∷ w ∷ vs) in
     let some : (n == 0) ≡ false = ne_eqb n 0 (λ e. omega arith) in
     let more : (1 == n) ≡ false = ne_eqb 1 n (λ e. omega arith) in
     let bad : kind.WrongNumberOfValues ∷ [] ≡ [] = rw (some, more) at r in
+    cc
+
+flag_rows : (P : Row → Type 0) (again : Bool) (a : Rule) (values : List Text) (rows : List Row) → again ≡ false → IsFlag P a
+    → range_kinds 0 0 (length values) ≡ [] → set_fault again a (values_or_missing a values) rows ≡ [] → AllRows P rows
+    → AllRows P (used_as action.SetTrue a.id (reading_by a) (values_or_missing a values) rows)
+flag_rows P again a [] rows once t r s all =
+    let fault = subst (λ (vs : List Text). set_fault again a vs rows ≡ []) t.stands s in
+    subst (λ (vs : List Text). AllRows P (used_as action.SetTrue a.id (reading_by a) vs rows)) (sym t.stands)
+    (set_row P again a t.text rows once (λ passed. t.fits) fault all)
+flag_rows P again a (v ∷ vs) rows once t r s all =
+    let n = length (v ∷ vs) in
+    let some : (0 == n) ≡ false = ne_eqb 0 n (λ e. omega arith) in
+    let bad : kind.WrongNumberOfValues ∷ [] ≡ [] = rw some at r in
     cc
 
 use_rows : (P : Row → Type 0) (again : Bool) (a : Rule) (values : List Text) (rows : List Row) → again ≡ false → IsFine P a
@@ -132,7 +168,14 @@ use_rows P again a values rows once (inl r) h all =
     let parts = nil_both (range_kinds (unwrap_or_range a.range).start_inclusive (most_values a) (length values))
     (action_fault (action_of a) again a (values_or_missing a values) rows) h in
     absurd (request_fails (action_of a) again a (values_or_missing a values) rows r parts.1)
-use_rows P again a values rows once (inr t) h all =
+use_rows P again a values rows once (inr (inr t)) h all =
+    let parts = nil_both (range_kinds (unwrap_or_range a.range).start_inclusive (most_values a) (length values))
+    (action_fault (action_of a) again a (values_or_missing a values) rows) h in
+    let count = subst (λ (g : ValueRange). range_kinds g.start_inclusive g.end_inclusive (length values) ≡ []) t.range parts.0 in
+    let fault = subst (λ (x : ArgAction). action_fault x again a (values_or_missing a values) rows ≡ []) t.set parts.1 in
+    subst (λ (x : ArgAction). AllRows P (used_as x a.id (reading_by a) (values_or_missing a values) rows)) (sym t.set)
+    (flag_rows P again a values rows once t count fault all)
+use_rows P again a values rows once (inr (inl t)) h all =
     let parts = nil_both (range_kinds (unwrap_or_range a.range).start_inclusive (most_values a) (length values))
     (action_fault (action_of a) again a (values_or_missing a values) rows) h in
     let count = subst (λ (g : ValueRange). range_kinds g.start_inclusive g.end_inclusive (length values) ≡ []) t.range parts.0 in
@@ -299,13 +342,24 @@ walk_rows P s f names w (word ∷ rest) none all =
     let parts = nil_both (turn_fault s names w word) (walk_fault s names (walked s.rules names w word) rest) none in
     walk_rows P s f names (walked s.rules names w word) rest parts.1 (turn_rows P s f names w word parts.0 all)
 
-same_rows : (c : List Rule) (rows : List Row) → AllRules (λ a. a.defaults ≡ []) c → fold with_default rows c ≡ rows
-same_rows [] rows plain_ones = refl
-same_rows (a ∷ rest) rows plain_ones = ap (λ (rs : List Row). fold with_default rs rest) (go (has_row a.id rows)) ∙ same_rows rest rows plain_ones.1
+default_fine : (P : Row → Type 0) (a : Rule) (rows : List Row) → HasFineDefault P a → AllRows P rows → AllRows P (with_default rows a)
+default_fine P a rows fine all = go (has_row a.id rows) refl fine
   where
-    go : (b : Bool) → (if b then rows else default_rows a.id (reading_by a) a.defaults rows) ≡ rows
-    go true = refl
-    go false = ap (λ (d : List Text). default_rows a.id (reading_by a) d rows) plain_ones.0
+    go : (b : Bool) → has_row a.id rows ≡ b → HasFineDefault P a
+        → AllRows P (if b then rows else default_rows a.id (reading_by a) a.defaults rows)
+    go true is fine = all
+    go false is (inl none) = subst (λ (d : List Text). AllRows P (default_rows a.id (reading_by a) d rows)) (sym none) all
+    go false is (inr d) =
+        let last : with_values a.id (reading_by a) DefaultValue (d.0 ∷ []) rows ≡ rows ++ default_row a d.0 ∷ [] =
+        at_new a.id (more_values DefaultValue (d.0 ∷ [])) (default_row a d.0 ∷ []) rows is in
+        subst (λ (ds : List Text). AllRows P (default_rows a.id (reading_by a) ds rows)) (sym d.1)
+        (subst (AllRows P) (sym last) (rows_more P rows (default_row a d.0 ∷ []) all (d.2, tt)))
+
+defaults_fine : (P : Row → Type 0) (c : List Rule) (rows : List Row) → AllRules (HasFineDefault P) c → AllRows P rows
+    → AllRows P (fold with_default rows c)
+defaults_fine P [] rows fine all = all
+defaults_fine P (a ∷ rest) rows fine all =
+    defaults_fine P rest (with_default rows a) fine.1 (default_fine P a rows fine.0 all)
 
 -- all rows of a level that does not fail, and its last check
 pub level_rows : (P : Row → Type 0) (s : Shape) → HasFineRules P s.args_override_self s.rules → (words : List Text)
@@ -318,7 +372,7 @@ level_rows P s f words none =
     let checking = nil_both (defaults_fault (settled s.rules end).rows s.rules) _ settling.1 in
     let walked_all = walk_rows P s f [] (walk_from nothing_held) words walking.0 tt in
     let all = settle_rows P s.args_override_self s.rules f end settling.0 walked_all in
-    (subst (AllRows P) (sym (same_rows s.rules (settled s.rules end).rows f.no_defaults)) all, checking.1)
+    (defaults_fine P s.rules (settled s.rules end).rows f.defaults all, checking.1)
 
 -- ---- where the walk stops
 

@@ -74,6 +74,18 @@ lone_twice : (name : Text) → refusals (serving name (codes "--lone=d" ∷ code
 unfolding clap_on_literals
 lone_twice name = refl
 
+serve_staying : (name : Text) → refusals (serving name (codes "--stay" ∷ [])) ≡ []
+unfolding clap_on_literals
+serve_staying name = refl
+
+stay_twice : (name : Text) → refusals (serving name (codes "--stay" ∷ codes "--stay" ∷ [])) ≡ kind.ArgumentConflict ∷ []
+unfolding clap_on_literals
+stay_twice name = refl
+
+stay_with_a_value : (name : Text) → refusals (serving name (codes "--stay=yes" ∷ [])) ≡ kind.TooManyValues ∷ []
+unfolding clap_on_literals
+stay_with_a_value name = refl
+
 address : (name : Text) → value_in (subcommand_of program (serving name [])) (codes "listen") ≡ Some (codes "x:1")
 unfolding clap_on_literals
 address name = refl
@@ -89,6 +101,14 @@ no_lone name = refl
 lone : (name : Text) → value_in (subcommand_of program (serving name (codes "--lone=d" ∷ []))) (codes "lone") ≡ Some (codes "d")
 unfolding clap_on_literals
 lone name = refl
+
+stays : (name : Text) → value_in (subcommand_of program (serving name (codes "--stay" ∷ []))) (codes "stay") ≡ Some (codes "true")
+unfolding clap_on_literals
+stays name = refl
+
+ends : (name : Text) → value_in (subcommand_of program (serving name [])) (codes "stay") ≡ Some (codes "false")
+unfolding clap_on_literals
+ends name = refl
 
 pub known_words : KnownWords
 known_words = record {
@@ -107,8 +127,13 @@ known_words = record {
   too_many_consoles = too_many_consoles;
   no_consoles = no_consoles;
   lone_twice = lone_twice;
+  serve_staying = serve_staying;
+  stay_twice = stay_twice;
+  stay_with_a_value = stay_with_a_value;
   address = address;
   nodes = nodes;
   no_lone = no_lone;
   lone = lone;
+  stays = stays;
+  ends = ends;
 }

@@ -1,8 +1,8 @@
 -- The command line of the program, and what its words ask for.
-use Rattle.std.specs.Prelude.{◌≡◌, true, codes, List, [], ◌∷◌, Option, Some, None, pos, option_map, option_and_then}
+use Rattle.std.specs.Prelude.{◌≡◌, true, codes, List, [], ◌∷◌, ◌++◌, Option, Some, None, pos, option_map, option_and_then}
 use Rattle.clap.specs.Words.{App, Kinds, Row, Rule, Shape, Text, fault_of, first_of, new_app, new_rule, subcommand_of, with_subcommand}
 use Rattle.clap.specs.Simple.{new_shape}
-use Rattle.clap.specs.declared.builder.action.ArgAction.TheVariants.{Set}
+use Rattle.clap.specs.declared.builder.action.ArgAction.TheVariants.{Set, SetTrue}
 use Rattle.clap.specs.declared.builder.value_parser.ValueParser.TheVariants as parser
 use Rattle.clap.specs.declared.error.kind.ErrorKind.TheVariants as kind
 
@@ -18,13 +18,21 @@ wanted id = record (one_valued id) { required = true }
 abbrev pub consoles_rule : Rule
 consoles_rule = record (one_valued (codes "consoles")) { parser = Some (parser.Signed (pos 1) (pos 64)) }
 
--- the options of `serve`
-abbrev pub serve_rules : List Rule
-serve_rules = wanted (codes "listen") ∷ wanted (codes "nodes") ∷ one_valued (codes "lone") ∷ consoles_rule ∷ []
+-- the flag of a server that stays
+abbrev pub stay_rule : Rule
+stay_rule = record (new_rule (codes "stay")) { long = Some (codes "stay"); action = Some SetTrue }
+
+-- the options of `serve` that take a value
+abbrev pub valued_rules : List Rule
+valued_rules = wanted (codes "listen") ∷ wanted (codes "nodes") ∷ one_valued (codes "lone") ∷ consoles_rule ∷ []
+
+-- the subcommand `serve` with those options
+abbrev pub valued_serve_shape : Shape
+valued_serve_shape = record (new_shape (codes "serve")) { rules = valued_rules }
 
 -- the subcommand `serve` with its options
 abbrev pub serve_shape : Shape
-serve_shape = record (new_shape (codes "serve")) { rules = serve_rules }
+serve_shape = record valued_serve_shape { rules = valued_rules ++ stay_rule ∷ [] }
 
 -- a command with a version and two subcommands, `script`, which takes no arguments, and `serve`, of which one is wanted
 abbrev pub program : App
@@ -74,8 +82,15 @@ pub record KnownWords : Type 0 where
   pub no_consoles : (name : Text) → refusals (serving name (codes "--consoles=0" ∷ [])) ≡ kind.ValueValidation ∷ []
   pub lone_twice : (name : Text) → refusals (serving name (codes "--lone=d" ∷ codes "--lone=e" ∷ []))
       ≡ kind.ArgumentConflict ∷ []
+  pub serve_staying : (name : Text) → refusals (serving name (codes "--stay" ∷ [])) ≡ []
+  pub stay_twice : (name : Text) → refusals (serving name (codes "--stay" ∷ codes "--stay" ∷ []))
+      ≡ kind.ArgumentConflict ∷ []
+  pub stay_with_a_value : (name : Text) → refusals (serving name (codes "--stay=yes" ∷ [])) ≡ kind.TooManyValues ∷ []
   pub address : (name : Text) → value_in (subcommand_of program (serving name [])) (codes "listen") ≡ Some (codes "x:1")
   pub nodes : (name : Text) → value_in (subcommand_of program (serving name [])) (codes "nodes") ≡ Some (codes "a,b")
   pub no_lone : (name : Text) → value_in (subcommand_of program (serving name [])) (codes "lone") ≡ None
   pub lone : (name : Text) → value_in (subcommand_of program (serving name (codes "--lone=d" ∷ []))) (codes "lone")
       ≡ Some (codes "d")
+  pub stays : (name : Text) → value_in (subcommand_of program (serving name (codes "--stay" ∷ []))) (codes "stay")
+      ≡ Some (codes "true")
+  pub ends : (name : Text) → value_in (subcommand_of program (serving name [])) (codes "stay") ≡ Some (codes "false")

@@ -1,5 +1,5 @@
 -- What the words ask for, and why others are not taken.
-use Rattle.std.specs.Prelude.{◌≡◌, ◌⊎◌, ◌≤◌, ℕ, true, List, [], codes, Option, Some, None, IfSome, is_some, option_map, pos, string_bytes}
+use Rattle.std.specs.Prelude.{◌≡◌, ◌⊎◌, ◌≤◌, ℕ, Bool, true, false, bytes_eq, if◌then◌else◌, List, [], codes, Option, Some, None, IfSome, is_some, option_map, pos, string_bytes}
 use Rattle.std.specs.Str.Parse.{digits_value, without_leading_plus}
 use Rattle.clap.specs.Words.{HasKind, IsSignedIn, Row, first_of, one_of, subcommand_of, without_minus, Text as Bytes}
 use Rattle.clap.specs.Values.{kind_of}
@@ -16,10 +16,15 @@ use Rattle.arguments.specs.declared.task.Task.TheVariants.{Script, Serve}
 abbrev pub Values : Type 0
 Values = Bytes → Option Bytes
 
--- how many consoles are taken: the number that is given, from 1 to 64, and 8 where none is
-abbrev pub CountsConsoles : Option Bytes → ℕ → Type 0
-CountsConsoles None n = n ≡ 8
-CountsConsoles (Some digits) n = (1 ≤ n) × (n ≤ 64) × (n ≡ digits_value 10 (without_leading_plus digits))
+-- the value of a flag that was given, and not that of one that wasn't
+abbrev pub is_set : Option Bytes → Bool
+is_set None = false
+is_set (Some text) = bytes_eq text (codes "true")
+
+-- how many consoles are taken, or served at once where it stays: the number that is given, from 1 to 64; and where none is, 8, or 64 at once
+abbrev pub CountsConsoles : Bool → Option Bytes → ℕ → Type 0
+CountsConsoles stay None n = n ≡ (if stay then 64 else 8)
+CountsConsoles stay (Some digits) n = (1 ≤ n) × (n ≤ 64) × (n ≡ digits_value 10 (without_leading_plus digits))
 
 -- these values tell `serve` so
 pub record Tells (value : Values) (o : ServeOptions) : Type 0 where
@@ -27,7 +32,8 @@ pub record Tells (value : Values) (o : ServeOptions) : Type 0 where
   pub list : Bytes
   pub nodes : value (codes "nodes") ≡ Some list
   pub placed : PlacesNodes list (value (codes "lone")) o.cluster o.lone
-  pub count : CountsConsoles (value (codes "consoles")) o.consoles
+  pub count : CountsConsoles o.stay (value (codes "consoles")) o.consoles
+  pub stays : o.stay ≡ is_set (value (codes "stay"))
 
 -- the lists that these values give are refused for the fault
 pub record RefusesLists (value : Values) (fault : ArgFault) : Type 0 where
@@ -40,12 +46,18 @@ abbrev pub RefusesValues : Values → ArgFault → Type 0
 RefusesValues value (Words e) = kind_of e ≡ OutOfMemory
 RefusesValues value fault = RefusesLists value fault
 
--- what clap has seen to: the wanted options are there, and the number of consoles is one of 1 to 64 where it is given
+-- what a flag is read as
+abbrev pub IsFlagText : Bytes → Type 0
+IsFlagText text = (text ≡ codes "true") ⊎ (text ≡ codes "false")
+
+-- what clap has seen to: the wanted options are there, the number of consoles is one of 1 to 64 where it is given, and the flag is set or not
 pub record HasOptions (rows : List Row) : Type 0 where
   pub listen : is_some (first_of (codes "listen") rows) ≡ true
   pub nodes : is_some (first_of (codes "nodes") rows) ≡ true
   pub consoles : IfSome (first_of (codes "consoles") rows) (IsSignedIn (pos 1) (pos 64))
   pub digits : one_of (codes "consoles") rows ≡ option_map without_minus (first_of (codes "consoles") rows)
+  pub flag : IfSome (first_of (codes "stay") rows) IsFlagText
+  pub written : one_of (codes "stay") rows ≡ first_of (codes "stay") rows
 
 -- what clap has seen to: a subcommand is named, which is `script`, or `serve` with its options
 abbrev pub IsLooked : Entered → Type 0

@@ -2,7 +2,7 @@
 ghost use Rattle.std.specs.Prelude.{◌≡◌, false, None, IfOk, [], ◌∷◌};
 ghost use Rattle.clap.specs.Words.{app_of, rule_of};
 ghost use Rattle.clap.specs.declared.builder.command.Command.TheViews.{out-Command as fields_of};
-ghost use Rattle.arguments.specs.CommandLine.{program, consoles_rule, one_valued, serve_shape, wanted};
+ghost use Rattle.arguments.specs.CommandLine.{program, consoles_rule, one_valued, serve_shape, stay_rule, valued_serve_shape, wanted};
 
 use clap::{Arg, ArgAction, Command};
 use std::alloc::{AllocError, Global};
@@ -37,14 +37,25 @@ fn consoles_option<'a>(alloc: Global) -> Arg<'a>
         alloc,
         "consoles",
         "N",
-        "How many consoles are taken before the cluster closes, 1 to 64, as 16; 8 without this option",
+        "How many consoles are taken before the cluster closes, 1 to 64, as 16; 8 without this option. With --stay, how many are served at once; 64 without this option",
     )
     .value_parser(clap::value_parser!(u8).range(1..=64))
 }
 
-/// The subcommand `serve` with its options.
-fn serve_command<'a>(alloc: Global) -> Result<Command<'a>, AllocError>
-    ensures shape { IfOk result (λ command. app_of command ≡ record { top = serve_shape; subs = [] }) }
+/// The flag of a server that stays.
+fn stay_flag<'a>(alloc: Global) -> Arg<'a>
+    ensures rule { rule_of result ≡ stay_rule }
+    ensures local { result.global ≡ false }
+{
+    Arg::new(alloc, "stay")
+        .long("stay")
+        .action(ArgAction::SetTrue)
+        .help("Stays until a console says shutdown, however many consoles come")
+}
+
+/// The subcommand `serve` with those of its options that take a value.
+fn valued_serve_command<'a>(alloc: Global) -> Result<Command<'a>, AllocError>
+    ensures shape { IfOk result (λ command. app_of command ≡ record { top = valued_serve_shape; subs = [] }) }
     ensures local { IfOk result (λ command. (fields_of command).has_globals ≡ false) }
 {
     let listen = wanted_option(
@@ -71,6 +82,14 @@ fn serve_command<'a>(alloc: Global) -> Result<Command<'a>, AllocError>
         .arg(nodes)?
         .arg(lone)?
         .arg(consoles_option(alloc))
+}
+
+/// The subcommand `serve` with its options.
+fn serve_command<'a>(alloc: Global) -> Result<Command<'a>, AllocError>
+    ensures shape { IfOk result (λ command. app_of command ≡ record { top = serve_shape; subs = [] }) }
+    ensures local { IfOk result (λ command. (fields_of command).has_globals ≡ false) }
+{
+    valued_serve_command(alloc)?.arg(stay_flag(alloc))
 }
 
 /// The command line of the program.

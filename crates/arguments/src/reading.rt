@@ -1,8 +1,8 @@
 //! What the words ask for.
-ghost use Rattle.std.specs.Prelude.{◌≡◌, MatchResult, map, string_bytes};
+ghost use Rattle.std.specs.Prelude.{◌≡◌, None, MatchResult, codes, map, string_bytes};
 ghost use Rattle.clap.specs.Words.{first_of, found_of, rows_of, subcommand_rows_of};
 ghost use Rattle.arguments.specs.CommandLine.{KnownWords};
-ghost use Rattle.arguments.specs.Reading.{Asks, AsksIn, HasOptions, IsLooked, Refuses, RefusesIn, RefusesValues, Tells};
+ghost use Rattle.arguments.specs.Reading.{Asks, AsksIn, CountsConsoles, HasOptions, IsLooked, Refuses, RefusesIn, RefusesValues, Tells};
 
 use crate::command_line::command;
 use crate::faults::ArgFault;
@@ -13,6 +13,26 @@ use std::alloc::Global;
 
 /// How many consoles are taken where the words don't tell.
 const CONSOLES: u8 = 8;
+
+/// How many consoles are served at once where a server stays and the words don't tell: as many as there are seats.
+const CONSOLES_AT_ONCE: u8 = 64;
+
+/// How many consoles are taken, or served at once where it stays, where the words don't tell.
+fn untold_consoles(stay: bool) -> u8
+    ensures { CountsConsoles stay None result }
+{
+    if stay { CONSOLES_AT_ONCE } else { CONSOLES }
+}
+
+/// Reads the number of consoles, which clap has looked at before: it is one of 1 to 64 where it is given.
+fn read_consoles(matches: &ArgMatches<'_>, stay: bool) -> u8
+    requires { HasOptions (rows_of (found_of matches.now)) }
+    ensures { CountsConsoles stay (first_of (codes "consoles") (rows_of (found_of matches.now))) result }
+{
+    matches
+        .get_one::<u8>("consoles")
+        .unwrap_or(untold_consoles(stay))
+}
 
 /// Reads the options of `serve`, which clap has looked at before: those that are wanted are there, and the number of
 /// consoles is one of 1 to 64 where it is given.
@@ -25,12 +45,14 @@ fn read_options(alloc: Global, matches: &ArgMatches<'_>) -> Result<ServeOptions,
     let nodes = matches.get_str("nodes").unwrap();
     let (cluster, lone) = read_nodes(nodes, matches.get_str("lone"))?;
     let listen = String::from_str(alloc, listen)?;
-    let consoles = matches.get_one::<u8>("consoles").unwrap_or(CONSOLES);
+    let stay = matches.get_flag("stay");
+    let consoles = read_consoles(matches, stay);
     Ok(ServeOptions {
         listen,
         cluster,
         lone,
         consoles,
+        stay,
     })
 }
 

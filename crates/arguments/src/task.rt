@@ -19,6 +19,8 @@ pub struct ServeOptions {
     pub cluster: NodeSet,
     /// The nodes that stand alone at the start. None is one of the others, and all are eight at most.
     pub lone: NodeSet,
-    /// How many consoles are taken before the cluster closes, from 1 to 64.
+    /// How many consoles are taken before the cluster closes, or, where it stays, how many are served at once: from 1 to 64.
     pub consoles: u8,
+    /// Whether it stays until it is told to shut down, however many consoles come.
+    pub stay: bool,
 }

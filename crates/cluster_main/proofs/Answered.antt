@@ -44,7 +44,7 @@ taken words s told status e d = rw e d
 
 -- consoles were served
 pub served : (words : List Word) (o : ServeOptions) (came : Served) (s : Streams) (told : Told) (status : ℕ)
-    → Asks words (Serve o) → Keeps s.input s.rest → Serves o s.old s.new came → TellsWhy told.old told.new came
+    → Asks words (Serve o) → Keeps s.input s.rest → Serves o s.old s.new came → TellsWhy o.stay told.old told.new came
     → status ≡ served_status came
     → DoesFor words (refusals words) s told status
 served words o came s told status a u d y e =

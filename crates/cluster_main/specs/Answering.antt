@@ -53,14 +53,14 @@ pub record DoesNothing (s : Streams) : Type 0 where
   pub unprinted : Keeps s.old s.new
 
 -- consoles were served, with the address and the nodes that these values give; nothing is read, and on standard error nothing is
--- told once the program listens
+-- told once the program listens, but by a server that stays
 pub record ServesConsoles (value : Values) (s : Streams) (told : Told) (status : ℕ) : Type 0 where
   pub options : ServeOptions
   pub served : Served
   pub given : Tells value options
   pub unread : Keeps s.input s.rest
   pub serves : Serves options s.old s.new served
-  pub why : TellsWhy told.old told.new served
+  pub why : TellsWhy options.stay told.old told.new served
   pub status_is : status ≡ served_status served
 
 -- the lists of nodes that these values give were refused, and the word for it was told

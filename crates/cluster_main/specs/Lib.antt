@@ -1,3 +1,4 @@
+pub mod Listening
 pub mod Serving
 pub mod Refusing
 pub mod Answering

@@ -3,6 +3,7 @@
 
 mod answering;
 mod lines;
+mod listening;
 mod playing;
 mod refusing;
 mod serving;

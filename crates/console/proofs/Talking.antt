@@ -1,25 +1,50 @@
 -- A console's lines so far, and how it ends.
-use Rattle.std.proofs.Common.{ℕ, Bool, true, false, List, [], ◌∷◌, ◌++◌, ◌≡◌, ◌+◌, Option, refl, sym, ap, subst, ◌∙◌, append-nil, inl, inr, arith}
+use Rattle.std.proofs.Common.{ℕ, Bool, true, false, List, [], ◌∷◌, ◌++◌, ◌≡◌, ◌+◌, ◌<◌, Option, Some, None, refl, sym, ap, subst, ◌∙◌, append-nil, inl, inr, arith}
+use Rattle.std.specs.Prelude.{◌⊎◌, min, nat_lt, unwrap_or}
+use Rattle.std.proofs.lemmas.Bool.Decides.{nat_tests}
 use Rattle.std.specs.List.{concat}
 use Rattle.std.proofs.lemmas.List.Folds.{concat-append}
 use Rattle.std.specs.Io.KnownBytes.{Appends, Keeps}
 use Rattle.std.proofs.KnownBytes.{Appends-nil, Appends-trans, Appends-kept}
 use Rattle.text_lines.specs.declared.faults.StreamFault.{StreamFault}
 use Rattle.text_lines.specs.declared.faults.StreamFault.TheVariants.{Read, Write, TooManyLines, Memory}
-use Rattle.text_lines.specs.Lines.{LosesLines, LosesInto, LosesWithinLine, StopsAtLine, GoesPast, most_lines, count_of, count_of_all}
+use Rattle.text_lines.specs.Lines.{LosesLines, LosesInto, LosesWithinLine, HasNoLine, StopsAtLine, GoesPast, most_lines, count_of, count_of_all}
 use Rattle.text_lines.specs.Writing.{AppendsPart}
-use Rattle.text_lines.proofs.Known.{LosesLines-nil, LosesLines-trans, LosesInto-whole, LosesInto-behind, GoesPast-behind, MayEndIn-none, count_of_all-append}
+use Rattle.text_lines.proofs.Known.{LosesLines-nil, LosesLines-trans, LosesLines-more, LosesInto-whole, LosesInto-behind, MayEndIn-none, count_of_all-append}
 use Rattle.text_lines.proofs.Written.{AppendsPart-behind}
-use Rattle.console.specs.Consoles.{Answering, AnswersLine, AnswersAll, Serves, ServesSome, ServesSoFar, Stops, Tells, TellStops}
+use Rattle.console.specs.Consoles.{Answering, AnswersLine, AnswersAll, EndsBy, GoesTooFar, ServesSome, ServesSoFar, Stops, Tells, TellStops}
+use Rattle.console.specs.declared.ends.ConsoleEnd.{ConsoleEnd}
+use Rattle.console.specs.declared.ends.ConsoleEnd.TheVariants as by
 use Rattle.console.proofs.Heeding.{AnswersAll-push}
 
 -- the texts and one more
 concat-push : (texts : List (List ℕ)) (text : List ℕ) → concat (texts ++ text ∷ []) ≡ concat texts ++ text
 concat-push texts text = concat-append texts (text ∷ []) ∙ ap (λ (t : List ℕ). concat texts ++ t) (append-nil text)
 
-module _ {S : Type 0} (answers : Answering S) where
+-- a number above the lesser of two is above one of them
+above : (a b n : ℕ) → min a b < n → (a < n) ⊎ (b < n)
+above a b n h = go (nat_lt a n) refl
+  where
+    go : (t : Bool) → nat_lt a n ≡ t → (a < n) ⊎ (b < n)
+    go true e = inl (grind (arith, nat_tests))
+    go false e = inr (grind (arith, nat_tests))
+
+-- of so many lines some were read, and those behind them count for too many, or one of them does
+too_far : (a b : Option (List ℕ)) (ls : List (List ℕ)) (most left : ℕ) → LosesLines a b ls → most ≡ left + count_of_all ls
+    → GoesPast b (min left most_lines) [] → GoesTooFar a most ls
+too_far a b ls most left t e g = (
+  g.0,
+  LosesLines-more a b ls (g.0 ∷ []) t g.1,
+  omega (arith, e),
+  elim (above left most_lines (count_of_all (g.0 ∷ [])) g.3) [
+    | inl h ↦ inl (omega (arith, e, h, count_of_all-append ls (g.0 ∷ [])))
+    | inr h ↦ inr (omega (arith, h))
+  ],
+)
+
+module _ {S : Type 0} (answers : Answering S) (stays : Bool) (most : ℕ) where
   -- no line was read yet
-  pub ServesSoFar-start : (input old : Option (List ℕ)) (s : S) → ServesSoFar answers input input old old s s 1000000
+  pub ServesSoFar-start : (input old : Option (List ℕ)) (s : S) → ServesSoFar answers stays most input input old old s s most
   ServesSoFar-start input old s = record {
     taken = [];
     texts = [];
@@ -31,7 +56,7 @@ module _ {S : Type 0} (answers : Answering S) where
 
   -- what was written stays
   pub ServesSoFar-kept : (input mid old new same : Option (List ℕ)) (s t : S) (left : ℕ)
-      → ServesSoFar answers input mid old new s t left → Keeps new same → ServesSoFar answers input mid old same s t left
+      → ServesSoFar answers stays most input mid old new s t left → Keeps new same → ServesSoFar answers stays most input mid old same s t left
   ServesSoFar-kept input mid old new same s t left P k = record {
     taken = P.taken;
     texts = P.texts;
@@ -41,11 +66,11 @@ module _ {S : Type 0} (answers : Answering S) where
     wrote = Appends-kept old new same (concat P.texts) P.wrote k;
   }
 
-  module _ (input mid old new : Option (List ℕ)) (s t : S) (left : ℕ) (P : ServesSoFar answers input mid old new s t left)
+  module _ (input mid old new : Option (List ℕ)) (s t : S) (left : ℕ) (P : ServesSoFar answers stays most input mid old new s t left)
       (rest : Option (List ℕ)) where
     -- a part of the next line was read, and all answers are written, or a part of them
     module _ (part : List ℕ) where
-      abbrev so_far : LosesInto mid rest [] part → ServesSome answers Appends input rest old new s t false
+      abbrev so_far : LosesInto mid rest [] part → ServesSome answers stays Appends input rest old new s t None
       so_far l = record {
         taken = P.taken;
         part = part;
@@ -56,7 +81,7 @@ module _ {S : Type 0} (answers : Answering S) where
         wrote = P.wrote;
       }
 
-      abbrev some_so_far : LosesInto mid rest [] part → ServesSome answers AppendsPart input rest old new s t false
+      abbrev some_so_far : LosesInto mid rest [] part → ServesSome answers stays AppendsPart input rest old new s t None
       some_so_far l = record {
         taken = P.taken;
         part = part;
@@ -68,29 +93,45 @@ module _ {S : Type 0} (answers : Answering S) where
       }
 
     -- the next line isn't read
-    pub Stops-reading : (f : StreamFault) → StopsAtLine mid rest left f → Stops answers input rest old new s t f
+    pub Stops-reading : (f : StreamFault) → StopsAtLine mid rest (min left most_lines) f → Stops answers stays most input rest old new s t f
     Stops-reading Read g = (so_far g.0 (mid, LosesLines-nil mid, g.1), g.2)
     Stops-reading TooManyLines g = (
       so_far g.0 (mid, LosesLines-nil mid, g.1),
       g.2,
-      subst (λ (ls : List (List ℕ)). GoesPast input most_lines ls) (append-nil P.taken)
-          (GoesPast-behind input mid P.taken [] most_lines left P.read P.counted g.3),
+      too_far input mid P.taken most left P.read P.counted g.3,
     )
-    Stops-reading Write g = (false, some_so_far g.0 (mid, LosesLines-nil mid, g.1), g.2)
-    Stops-reading Memory g = (false, some_so_far g.0 (mid, LosesLines-nil mid, g.1), g.2)
+    Stops-reading Write g = (None, some_so_far g.0 (mid, LosesLines-nil mid, g.1), g.2)
+    Stops-reading Memory g = (None, some_so_far g.0 (mid, LosesLines-nil mid, g.1), g.2)
+
+    -- there is no further line
+    pub EndsBy-input : LosesLines mid rest [] → HasNoLine rest → EndsBy answers stays most input rest old new s t by.Input
+    EndsBy-input l none = (
+      record {
+        taken = P.taken;
+        texts = P.texts;
+        ended = None;
+        read = subst (λ (ls : List (List ℕ)). LosesLines input rest ls) (append-nil P.taken)
+            (LosesLines-trans input mid rest P.taken [] P.read l);
+        counted = omega (arith, P.counted);
+        answered = P.answered;
+        whole = λ z. none;
+        wrote = P.wrote;
+      },
+      refl,
+    )
 
     module _ (line : List ℕ) (l : LosesLines mid rest (line ∷ [])) where
       -- one line more
       lost : LosesLines input rest (P.taken ++ line ∷ [])
       lost = LosesLines-trans input mid rest P.taken (line ∷ []) P.read l
 
-      counts : (more : ℕ) → left ≡ more + count_of line → most_lines ≡ more + count_of_all (P.taken ++ line ∷ [])
+      counts : (more : ℕ) → left ≡ more + count_of line → most ≡ more + count_of_all (P.taken ++ line ∷ [])
       counts more e = omega (arith, P.counted, e, count_of_all-append P.taken (line ∷ []))
 
       -- it was answered
-      module _ (text : List ℕ) (u : S) (quits : Bool) (a : AnswersLine answers line t text u quits) where
-        all : AnswersAll answers (P.taken ++ line ∷ []) s (P.texts ++ text ∷ []) u quits
-        all = AnswersAll-push answers P.taken s P.texts t line text u quits P.answered a
+      module _ (text : List ℕ) (u : S) (ended : Option ConsoleEnd) (a : AnswersLine answers stays line t text u ended) where
+        all : AnswersAll answers stays (P.taken ++ line ∷ []) s (P.texts ++ text ∷ []) u ended
+        all = AnswersAll-push answers stays P.taken s P.texts t line text u ended P.answered a
 
         module _ (told : Option (List ℕ)) where
           wholly : Appends new told text → Appends old told (concat (P.texts ++ text ∷ []))
@@ -101,7 +142,7 @@ module _ {S : Type 0} (answers : Answering S) where
           partly w = subst (λ (x : List ℕ). AppendsPart old told x) (sym (concat-push P.texts text))
               (AppendsPart-behind old new told (concat P.texts) text P.wrote w)
 
-          abbrev cut : AppendsPart new told text → ServesSome answers AppendsPart input rest old told s u quits
+          abbrev cut : AppendsPart new told text → ServesSome answers stays AppendsPart input rest old told s u ended
           cut w = record {
             taken = P.taken ++ line ∷ [];
             part = [];
@@ -113,58 +154,61 @@ module _ {S : Type 0} (answers : Answering S) where
 
       module _ (told : Option (List ℕ)) (u : S) where
         -- it doesn't end the console
-        pub ServesSoFar-next : (more : ℕ) → left ≡ more + count_of line → (quits : Bool) → quits ≡ false
-            → Tells answers line new told t u quits → ServesSoFar answers input rest old told s u more
-        ServesSoFar-next more e true q w = absurd (differ q)
+        pub ServesSoFar-next : (more : ℕ) → left ≡ more + count_of line → (ended : Option ConsoleEnd) → ended ≡ None
+            → Tells answers stays line new told t u ended → ServesSoFar answers stays most input rest old told s u more
+        ServesSoFar-next more e (Some how) q w = absurd (differ q)
           where
-            differ : true ≡ false → ⊥
+            differ : Some how ≡ None → ⊥
             differ q = cc
-        ServesSoFar-next more e false q w = record {
+        ServesSoFar-next more e None q w = record {
           taken = P.taken ++ line ∷ [];
           texts = P.texts ++ w.0 ∷ [];
           read = lost;
           counted = counts more e;
-          answered = all w.0 u false w.1;
-          wrote = wholly w.0 u false w.1 told w.2;
+          answered = all w.0 u None w.1;
+          wrote = wholly w.0 u None w.1 told w.2;
         }
 
         -- it does
-        pub Serves-quit : (more : ℕ) → left ≡ more + count_of line → (quits : Bool) → quits ≡ true
-            → Tells answers line new told t u quits → Serves answers input rest old told s u
-        Serves-quit more e false q w = absurd (same q)
+        pub EndsBy-line : (more : ℕ) → left ≡ more + count_of line → (ended : Option ConsoleEnd) (how : ConsoleEnd) → ended ≡ Some how
+            → Tells answers stays line new told t u ended → EndsBy answers stays most input rest old told s u how
+        EndsBy-line more e None how q w = absurd (differ q)
           where
-            same : false ≡ true → ⊥
-            same q = cc
-        Serves-quit more e true q w = record {
-          taken = P.taken ++ line ∷ [];
-          texts = P.texts ++ w.0 ∷ [];
-          quits = true;
-          read = lost;
-          counted = omega (arith, counts more e);
-          answered = all w.0 u true w.1;
-          ended = λ z. absurd (other z);
-          wrote = wholly w.0 u true w.1 told w.2;
-        }
+            differ : None ≡ Some how → ⊥
+            differ q = cc
+        EndsBy-line more e (Some other) how q w = (
+          record {
+            taken = P.taken ++ line ∷ [];
+            texts = P.texts ++ w.0 ∷ [];
+            ended = Some other;
+            read = lost;
+            counted = omega (arith, counts more e);
+            answered = all w.0 u (Some other) w.1;
+            whole = λ z. absurd (some z);
+            wrote = wholly w.0 u (Some other) w.1 told w.2;
+          },
+          sym (ap (λ (o : Option ConsoleEnd). unwrap_or o by.Input) q),
+        )
           where
-            other : true ≡ false → ⊥
-            other z = cc
+            some : Some other ≡ None → ⊥
+            some z = cc
 
         -- its answer isn't written, or not wholly
-        pub Stops-telling : (f : StreamFault) → LosesWithinLine mid rest → TellStops answers line new told t u f
-            → Stops answers input rest old told s u f
+        pub Stops-telling : (f : StreamFault) → LosesWithinLine mid rest → TellStops answers stays line new told t u f
+            → Stops answers stays most input rest old told s u f
         Stops-telling f b w = elim w [
           | inl x ↦ elim x.fault_is [
-            | inl e ↦ subst (λ (g : StreamFault). Stops answers input rest old told s u g) (sym e)
-                (x.quits, cut x.text u x.quits x.answered told x.wrote, MayEndIn-none Write)
-            | inr e ↦ subst (λ (g : StreamFault). Stops answers input rest old told s u g) (sym e)
-                (x.quits, cut x.text u x.quits x.answered told x.wrote, MayEndIn-none Memory)
+            | inl e ↦ subst (λ (g : StreamFault). Stops answers stays most input rest old told s u g) (sym e)
+                (x.ended, cut x.text u x.ended x.answered told x.wrote, MayEndIn-none Write)
+            | inr e ↦ subst (λ (g : StreamFault). Stops answers stays most input rest old told s u g) (sym e)
+                (x.ended, cut x.text u x.ended x.answered told x.wrote, MayEndIn-none Memory)
           ]
-          | inr x ↦ subst (λ (g : StreamFault). Stops answers input rest old told s u g) (sym x.fault_is)
-              (subst (λ (v : S). Stops answers input rest old told s v Memory) (sym x.same)
-              (false, dropped x.wrote, b.2))
+          | inr x ↦ subst (λ (g : StreamFault). Stops answers stays most input rest old told s u g) (sym x.fault_is)
+              (subst (λ (v : S). Stops answers stays most input rest old told s v Memory) (sym x.same)
+              (None, dropped x.wrote, b.2))
         ]
           where
-            dropped : Appends new told [] → ServesSome answers AppendsPart input rest old told s t false
+            dropped : Appends new told [] → ServesSome answers stays AppendsPart input rest old told s t None
             dropped w = record {
               taken = P.taken;
               part = b.0;

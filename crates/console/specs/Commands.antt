@@ -12,7 +12,7 @@ use Rattle.text_lines.specs.Words.{words}
 use Rattle.console.specs.declared.orders.Order.{Order}
 use Rattle.console.specs.declared.orders.Order.TheVariants.{Call, Whereis, Exit, Leave}
 use Rattle.console.specs.declared.orders.Command.{Command}
-use Rattle.console.specs.declared.orders.Command.TheVariants.{Ask, Quit}
+use Rattle.console.specs.declared.orders.Command.TheVariants.{Ask, Quit, Shutdown}
 
 -- what the node is asked, as the protocol has it
 abbrev pub event_in : Order → Event
@@ -75,16 +75,29 @@ WordsAskNode (word ∷ texts) r = AsksFor (is_lock_word word) word texts r
 abbrev pub quit : List (List ℕ)
 quit = codes "quit" ∷ []
 
--- what words say, or why they are refused
-abbrev pub WordsSay : List (List ℕ) → Result Command LineFault → Type 0
-WordsSay ws (Ok Quit) = ws ≡ quit
-WordsSay ws (Ok (Ask o)) = (ws ≢ quit) × WordsAskNode ws (Ok o)
-WordsSay ws (Err f) = (ws ≢ quit) × WordsAskNode ws (Err f)
+-- the words that end a server
+abbrev pub shutdown : List (List ℕ)
+shutdown = codes "shutdown" ∷ []
 
-abbrev pub SaysUnless : Option LineFault → List ℕ → Result Command LineFault → Type 0
-SaysUnless (Some f) line r = r ≡ Err f
-SaysUnless None line r = WordsSay (words line) r
+-- these words end the server: it is one that stays
+abbrev pub ShutsDown : Bool → List (List ℕ) → Type 0
+ShutsDown stays ws = (stays ≡ true) × (ws ≡ shutdown)
+
+-- they don't
+abbrev pub StaysUp : Bool → List (List ℕ) → Type 0
+StaysUp stays ws = stays ≡ true → ws ≢ shutdown
+
+-- what words say in a console, of a server that stays or of another, or why they are refused
+abbrev pub WordsSay : Bool → List (List ℕ) → Result Command LineFault → Type 0
+WordsSay stays ws (Ok Quit) = ws ≡ quit
+WordsSay stays ws (Ok Shutdown) = ShutsDown stays ws
+WordsSay stays ws (Ok (Ask o)) = (ws ≢ quit) × StaysUp stays ws × WordsAskNode ws (Ok o)
+WordsSay stays ws (Err f) = (ws ≢ quit) × StaysUp stays ws × WordsAskNode ws (Err f)
+
+abbrev pub SaysUnless : Bool → Option LineFault → List ℕ → Result Command LineFault → Type 0
+SaysUnless stays (Some f) line r = r ≡ Err f
+SaysUnless stays None line r = WordsSay stays (words line) r
 
 -- what a line says, or why it is refused: an empty one is a bad line, too
-abbrev pub LineSays : List ℕ → Result Command LineFault → Type 0
-LineSays line r = SaysUnless (unread line) line r
+abbrev pub LineSays : Bool → List ℕ → Result Command LineFault → Type 0
+LineSays stays line r = SaysUnless stays (unread line) line r

@@ -9,8 +9,8 @@ use command_lines::Reply;
 use node_seats::SeatFault;
 use term::NodeName;
 
-/// Who answers what lines ask: a seat, or whatever stands for one.
-pub trait Attendant {
+/// Who answers what lines ask: a seat, or whatever stands for one. It is given what it waits with, of the type `H`.
+pub trait Attendant<H> {
     /// What contracts see of it.
     type State;
 
@@ -23,6 +23,6 @@ pub trait Attendant {
     fn node(&self) -> &NodeName;
 
     /// Has an order carried out, and gives the reply, or why it is refused.
-    fn ask(&mut self, order: Order) -> Result<Reply, SeatFault>
+    fn ask(&mut self, rt: &H, order: Order) -> Result<Reply, SeatFault>
         ensures { answers (Self.state self.old) order result (Self.state self.new) };
 }

@@ -4,7 +4,7 @@ ghost use Rattle.text_lines.specs.Lines.{IsKept};
 ghost use Rattle.text_lines.specs.Words.{words as words_in};
 ghost use Rattle.command_lines.specs.Commands.{asked_by, unread};
 ghost use Rattle.command_lines.specs.Grammar.{WordsAsk};
-ghost use Rattle.console.specs.Commands.{LineSays, WordsAskNode, AsksOwn, AsksAsScript, OwnAsk, begins_lock, is_lock_word as any_lock_word, quit};
+ghost use Rattle.console.specs.Commands.{LineSays, ShutsDown, StaysUp, WordsAskNode, AsksOwn, AsksAsScript, OwnAsk, begins_lock, is_lock_word as any_lock_word, quit};
 
 use crate::orders::{Command, Order};
 use command_lines::{Call, Event, LineFault, Task, WorldEvent, ran_out, read_task, text_of};
@@ -100,6 +100,16 @@ fn is_quit(words: &[&str]) -> bool
     }
 }
 
+/// Whether words shut a server down: in a console of one that stays.
+fn is_shutdown(words: &[&str], stays: bool) -> bool
+    ensures { MatchBool result (ShutsDown stays (map (λ word. word.now) words.now)) (StaysUp stays (map (λ word. word.now) words.now)) }
+{
+    match words {
+        [word] => stays && matches!(*word, "shutdown"),
+        _ => false,
+    }
+}
+
 /// What a line asks, of which these are the first words. A lock call is read as in a script, from its whole line.
 fn read_order(
     alloc: Global,
@@ -120,12 +130,13 @@ fn read_order(
     }
 }
 
-/// What a line says, or why it is refused.
+/// What a line says, in a console of a server that stays or of another, or why it is refused.
 pub(crate) fn read_command(
     alloc: Global,
     line: &Line,
+    stays: bool,
 ) -> Result<Result<Command, LineFault>, AllocError>
-    ensures { IfOk result (λ command. (bytes : List ℕ) → IsKept bytes line.now → LineSays bytes command) }
+    ensures { IfOk result (λ command. (bytes : List ℕ) → IsKept bytes line.now → LineSays stays bytes command) }
 {
     let text = match text_of(line) {
         Ok(text) => text,
@@ -134,6 +145,9 @@ pub(crate) fn read_command(
     let words = first_words(text);
     if is_quit(&words) {
         return Ok(Ok(Command::Quit));
+    }
+    if is_shutdown(&words, stays) {
+        return Ok(Ok(Command::Shutdown));
     }
     match read_order(alloc, line, &words)? {
         Ok(order) => Ok(Ok(Command::Ask(order))),

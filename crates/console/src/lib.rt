@@ -4,6 +4,8 @@
 mod answering;
 mod attendant;
 mod commands;
+mod counting;
+mod ends;
 mod faults;
 mod greeting;
 mod orders;
@@ -12,7 +14,8 @@ mod serving;
 
 pub use answering::answer_lines;
 pub use attendant::Attendant;
+pub use ends::ConsoleEnd;
 pub use greeting::{greet, refuse_seat};
 pub use orders::Order;
-pub use serving::serve;
+pub use serving::{serve, serve_staying};
 pub use text_lines::StreamFault as ConsoleFault;

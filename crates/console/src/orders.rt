@@ -22,4 +22,6 @@ pub(crate) enum Command {
     Ask(Order),
     /// It ends the console.
     Quit,
+    /// It ends the console, and the server is to end.
+    Shutdown,
 }

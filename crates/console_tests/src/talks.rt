@@ -1,5 +1,5 @@
 //! Consoles, and what they write for what they read.
-use console::{Attendant, ConsoleFault, Order, answer_lines};
+use console::{Attendant, ConsoleEnd, ConsoleFault, Order, answer_lines};
 use node_threads::{Reply, SeatFault};
 use std::alloc::Global;
 use std::io::{BufReader, Read, Write};
@@ -9,7 +9,11 @@ mod faults;
 mod greetings;
 mod refusals;
 mod seats;
+mod staying;
 mod streams;
+
+/// As many lines as a console of a server that doesn't stay may have.
+const MOST_LINES: u64 = 1_000_000;
 
 /// An attendant at the node a that answers with the process a.1, and counts what it was asked.
 #[derive(Drop)]
@@ -33,7 +37,7 @@ impl Clerk {
     }
 }
 
-impl Attendant for Clerk {
+impl<H> Attendant<H> for Clerk {
     ghost use Rattle.std.specs.Prelude.{⊤};
 
     type State = usize;
@@ -46,7 +50,7 @@ impl Attendant for Clerk {
         &self.node
     }
 
-    fn ask(&mut self, _order: Order) -> Result<Reply, SeatFault> {
+    fn ask(&mut self, _rt: &H, _order: Order) -> Result<Reply, SeatFault> {
         self.asked = self.asked.saturating_add(1);
         match self.fault.take() {
             Some(fault) => Err(fault),
@@ -61,9 +65,25 @@ pub(crate) fn hold<R: Read + Drop, W: Write>(
     reader: R,
     writer: &mut W,
     clerk: &mut Clerk,
-) -> Result<(), ConsoleFault> {
+) -> Result<ConsoleEnd, ConsoleFault> {
     match BufReader::new(alloc, reader) {
-        Ok(mut reader) => answer_lines(alloc, &mut reader, writer, clerk),
+        Ok(mut reader) => {
+            answer_lines(&(), alloc, &mut reader, writer, clerk, false, MOST_LINES)
+        }
+        Err(_) => Err(ConsoleFault::Memory),
+    }
+}
+
+/// Has a console of a server that stays answer what a reader gives: so many lines at most.
+pub(crate) fn hold_staying<R: Read + Drop, W: Write>(
+    alloc: Global,
+    reader: R,
+    writer: &mut W,
+    clerk: &mut Clerk,
+    most: u64,
+) -> Result<ConsoleEnd, ConsoleFault> {
+    match BufReader::new(alloc, reader) {
+        Ok(mut reader) => answer_lines(&(), alloc, &mut reader, writer, clerk, true, most),
         Err(_) => Err(ConsoleFault::Memory),
     }
 }

@@ -5,3 +5,4 @@ mod Coming
 mod Leaving
 mod Sittings
 pub mod Telling
+mod Noting

@@ -11,6 +11,7 @@ ghost use Rattle.node_seats.specs.Faults.{IsAskRefused};
 use crate::caller::Caller;
 use crate::calls::copied_call;
 use crate::fault::SeatFault;
+use crate::notes::{KeptNotes, Notes};
 use shared_table::{Call, Event, Reply, SeatEntry, Transcript, WorldEvent};
 use std::alloc::Global;
 use std::marker::Model;
@@ -20,29 +21,29 @@ use term::{Name, NodeName, Pid};
 
 /// One caller's place at a node, with the transcript of what it was answered. It may go to another thread. Contracts see its
 /// number and its slot, its node and the inbox of that, the nodes of its cluster, the events that it has asked the node for, what it has seen of the
-/// node's table, and its transcript.
+/// node's table, and its transcript, whether that is kept or not.
 #[derive(Drop)]
-pub struct Seat {
+pub struct Seat<T: Notes = KeptNotes> {
     caller: Caller,
-    entries: Vec<SeatEntry>,
+    notes: T,
 }
 
-impl Model for Seat {
+impl<T: Notes> Model for Seat<T> {
     ghost use Rattle.node_seats.specs.Seats.{Sitting, sitting};
 
     ghost Value = { Sitting };
 
-    ghost view = { λ s. sitting s.caller s.entries.items };
+    ghost view = { λ s. sitting s.caller (T.noted s.notes) };
 }
 
-impl Seat {
+impl<T: Notes> Seat<T> {
     /// The seat of a caller, with an empty transcript.
     pub fn new(alloc: Global, caller: Caller) -> Self
         ensures { result ≡ sitting caller [] }
     {
         Seat {
             caller,
-            entries: Vec::new(alloc),
+            notes: T::new(alloc),
         }
     }
 
@@ -67,13 +68,6 @@ impl Seat {
         self.caller.node()
     }
 
-    /// The transcript so far, the oldest entry first.
-    pub fn entries(&self) -> &[SeatEntry]
-        ensures { result.now ≡ self.now.entries }
-    {
-        self.entries.as_slice()
-    }
-
     /// Calls the node, once, and waits for the reply, which the node's loop told this seat. The call and its answer then stand last in
     /// the transcript, which nothing else changes. `Memory`: nothing was asked, or it was and the reply is a list of names. `NodeLeft`:
     /// the node has left. `NoSuchNode`: the contact of a join isn't of the cluster. `Step`: the node refuses the call. `Closed`: the
@@ -84,11 +78,11 @@ impl Seat {
         ensures known { IfErr result (λ fault. IsAskRefused fault (knows self.old.nodes (Calls call))) }
     {
         let event = self.event(Event::Call(copied_call(&call)?));
-        self.entries.reserve(1)?;
+        self.notes.reserve()?;
         let answer = self.caller.call(rt, call)?;
         let reply = answer.reply.copy()?;
         let answer = Some(answer);
-        self.entries.push_reserved(SeatEntry { event, answer });
+        self.notes.put(SeatEntry { event, answer });
         Ok(reply)
     }
 
@@ -108,11 +102,11 @@ impl Seat {
         ensures ok { OnOk result (Done (Exit process.now) Made self.old self.new) }
         ensures err { IfErr result (λ fault. Unanswered fault (Exit process.now) self.old self.new) }
     {
-        self.entries.reserve(1)?;
+        self.notes.reserve()?;
         self.caller.exit(rt, process)?;
         let event = self.event(Event::Exit(process.copy()));
         let answer = None;
-        self.entries.push_reserved(SeatEntry { event, answer });
+        self.notes.put(SeatEntry { event, answer });
         Ok(())
     }
 
@@ -123,12 +117,28 @@ impl Seat {
         ensures left { OnOk result (HasLeft self.old.node) }
         ensures err { IfErr result (λ fault. Unanswered fault Leave self.old self.new) }
     {
-        self.entries.reserve(1)?;
+        self.notes.reserve()?;
         self.caller.leave(rt)?;
         let event = self.event(Event::Leave);
         let answer = None;
-        self.entries.push_reserved(SeatEntry { event, answer });
+        self.notes.put(SeatEntry { event, answer });
         Ok(())
+    }
+
+    /// An event of the seat's node.
+    fn event(&self, event: Event) -> WorldEvent
+        ensures { result ≡ At self.now.node event }
+    {
+        WorldEvent::At(self.caller.node().copy(), event)
+    }
+}
+
+impl Seat {
+    /// The transcript so far, the oldest entry first.
+    pub fn entries(&self) -> &[SeatEntry]
+        ensures { result.now ≡ self.now.entries }
+    {
+        self.notes.entries.as_slice()
     }
 
     /// The transcript, where the seat isn't used any more.
@@ -137,18 +147,11 @@ impl Seat {
         ensures node { result.node ≡ self.node }
         ensures entries { result.entries.items ≡ self.entries }
     {
-        let Seat { caller, entries } = self;
+        let Seat { caller, notes } = self;
         Transcript {
             seat: caller.place().seat,
             node: caller.node().copy(),
-            entries,
+            entries: notes.entries,
         }
-    }
-
-    /// An event of the seat's node.
-    fn event(&self, event: Event) -> WorldEvent
-        ensures { result ≡ At self.now.node event }
-    {
-        WorldEvent::At(self.caller.node().copy(), event)
     }
 }

@@ -1,11 +1,11 @@
 //! Clusters: the threads of all nodes, and the seats at them.
-ghost use Rattle.std.specs.Prelude.{ℕ, ◌≡◌, ◌==◌, ◌++◌, map, true, false, Some, None, Err, IfOk, OnOk, IfErr, OnErr};
+ghost use Rattle.std.specs.Prelude.{ℕ, ◌≡◌, ◌==◌, ◌++◌, [], map, true, false, Some, None, Err, IfOk, OnOk, IfErr, OnErr};
 ghost use Rattle.std.specs.List.{position};
 ghost use Rattle.term.specs.NodeSets.{set_of};
 ghost use Rattle.node_loop.specs.Openings.{start_refused, start_fault_of, IsOpening};
 ghost use Rattle.node_seats.specs.declared.fault.SeatFault.TheVariants.{NoSuchNode};
 ghost use Rattle.node_seats.specs.Faults.{IsSeatRefused};
-ghost use Rattle.node_seats.specs.Seats.{first_at};
+ghost use Rattle.node_seats.specs.Seats.{first_at, sitting};
 ghost use Rattle.replay.specs.Consistent.{is_torn};
 ghost use Rattle.replay.specs.Ends.{end_by};
 ghost use Rattle.node_threads.specs.Closing.{CloseIs, GivesBack};
@@ -20,7 +20,7 @@ use crate::seating::Seating;
 use crate::shared::Shared;
 use name_table::Names;
 use node_loop::{Gate, Log, NodeEnd, Opening, Record, StartFault, Transcript};
-use node_seats::{FreeSeat, Seat, SeatFault};
+use node_seats::{Caller, ForgottenNotes, FreeSeat, Notes, Seat, SeatFault};
 use replay::{CloseFault, Closed, replay};
 use std::alloc::{AllocError, Global};
 use std::marker::Model;
@@ -160,10 +160,9 @@ where
         })
     }
 
-    /// A new seat at a node, also at one that has left. Seats are numbered from 0 on as they are made, and no number is used again.
-    /// `NoSuchNode`: the node isn't of the cluster. `SeatsSpent`: 64 seats were made and not given back, or no number is left.
-    pub fn seat(&mut self, node: &NodeName) -> Result<Seat, SeatFault>
-        ensures ok { IfOk result (λ seat. first_at node.now (next_seats self.old) ≡ Some seat) }
+    /// The caller of a new seat at a node.
+    fn caller_at(&mut self, node: &NodeName) -> Result<Caller, SeatFault>
+        ensures ok { IfOk result (λ caller. first_at node.now (next_seats self.old) ≡ Some (sitting caller [])) }
         ensures made { OnOk result (self.new ≡ seats_more self.old) }
         ensures refused { IfErr result (λ fault. IsSeatRefused fault (set_of (nodes_in self.old) node.now) (are_spent self.old.seating)) }
         ensures unmade { OnErr result (self.new ≡ self.old) }
@@ -176,12 +175,35 @@ where
         };
         let caller = self.running[index].caller(&self.shared.hub, place, self.shared.yields)?;
         self.seating.take(place);
+        Ok(caller)
+    }
+
+    /// A new seat at a node, also at one that has left. Seats are numbered from 0 on as they are made, and no number is used again.
+    /// `NoSuchNode`: the node isn't of the cluster. `SeatsSpent`: 64 seats were made and not given back, or no number is left.
+    pub fn seat(&mut self, node: &NodeName) -> Result<Seat, SeatFault>
+        ensures ok { IfOk result (λ seat. first_at node.now (next_seats self.old) ≡ Some seat) }
+        ensures made { OnOk result (self.new ≡ seats_more self.old) }
+        ensures refused { IfErr result (λ fault. IsSeatRefused fault (set_of (nodes_in self.old) node.now) (are_spent self.old.seating)) }
+        ensures unmade { OnErr result (self.new ≡ self.old) }
+    {
+        let caller = self.caller_at(node)?;
+        Ok(Seat::new(self.alloc, caller))
+    }
+
+    /// A new seat at a node that keeps no transcript. It is made, numbered and refused as `seat` says.
+    pub fn forgetful_seat(&mut self, node: &NodeName) -> Result<Seat<ForgottenNotes>, SeatFault>
+        ensures ok { IfOk result (λ seat. first_at node.now (next_seats self.old) ≡ Some seat) }
+        ensures made { OnOk result (self.new ≡ seats_more self.old) }
+        ensures refused { IfErr result (λ fault. IsSeatRefused fault (set_of (nodes_in self.old) node.now) (are_spent self.old.seating)) }
+        ensures unmade { OnErr result (self.new ≡ self.old) }
+    {
+        let caller = self.caller_at(node)?;
         Ok(Seat::new(self.alloc, caller))
     }
 
     /// Takes a seat of this cluster back, so that another may be made in its stead. Nobody uses it any more, and so nothing more is told
     /// at its slot to its number.
-    pub fn give_back(&mut self, seat: Seat)
+    pub fn give_back<T: Notes>(&mut self, seat: Seat<T>)
         ensures { self.new ≡ seats_fewer seat.slot self.old }
     {
         self.seating.free(seat.slot());

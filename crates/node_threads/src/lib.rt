@@ -39,8 +39,8 @@ pub use cluster::Cluster;
 pub use ending::{EndFault, EndedCluster};
 pub use node_loop::{ForgottenLog, Gate, Log, OpenGate, Record, StartFault};
 pub use node_seats::{
-    Call, FreeSeat, HolderSeat, Line, NameList, Nodes, Parcel, Reply, Retries, Seat, SeatFault,
-    StepFault, Transcript,
+    Call, ForgottenNotes, FreeSeat, HolderSeat, KeptNotes, Line, NameList, Nodes, Notes, Parcel,
+    Reply, Retries, Seat, SeatFault, StepFault, Transcript,
 };
 pub use replay::{CloseFault, Closed};
 pub use ruled_end::{RuledEnd, Traffic};

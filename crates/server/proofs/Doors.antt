@@ -30,10 +30,10 @@ seats_keep nodes c d (s ∷ ss) S = seats_keep nodes S.1 d ss S.3
     ∙ ap (λ (m : Crewed). record m { seating = d.seating }) (seat_keeps c S.1 s.place S.2)
 
 -- one behind the others
-seats_more : (nodes : List ℕ) (c m d : Crewed) (ss ts : List Start) → SeatsAll nodes c ss m → SeatsAll nodes m ts d
+seats_behind : (nodes : List ℕ) (c m d : Crewed) (ss ts : List Start) → SeatsAll nodes c ss m → SeatsAll nodes m ts d
     → SeatsAll nodes c (ss ++ ts) d
-seats_more nodes c m d [] ts S T = subst (λ (x : Crewed). SeatsAll nodes x ts d) S T
-seats_more nodes c m d (s ∷ ss) ts S T = (S.0, S.1, S.2, seats_more nodes S.1 m d ss ts S.3 T)
+seats_behind nodes c m d [] ts S T = subst (λ (x : Crewed). SeatsAll nodes x ts d) S T
+seats_behind nodes c m d (s ∷ ss) ts S T = (S.0, S.1, S.2, seats_behind nodes S.1 m d ss ts S.3 T)
 
 module _ (nodes : List ℕ) (c : Crewed) (before : List Start) where
   -- none was taken
@@ -62,7 +62,7 @@ module _ (nodes : List ℕ) (c : Crewed) (before : List Start) where
     taken = T.taken ++ U.taken;
     behind = U.behind ∙ ap (λ (l : List Start). l ++ U.taken) T.behind ∙ append_assoc before T.taken U.taken;
     few = omega (arith, length-append T.taken U.taken, T.few, U.few, few);
-    seated = seats_more nodes c m d T.taken U.taken T.seated U.seated;
+    seated = seats_behind nodes c m d T.taken U.taken T.seated U.seated;
   }
 
 -- a cluster that keeps its crew reaches the same nodes

@@ -6,3 +6,6 @@ pub mod Ending
 pub mod Served
 pub mod Taking
 pub mod Serving
+pub mod Staying
+pub mod Notes
+pub mod Visits

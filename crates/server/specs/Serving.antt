@@ -9,6 +9,7 @@ use Rattle.node_threads.specs.declared.Closed.{Closed}
 use Rattle.node_threads.specs.declared.CloseFault.{CloseFault}
 use Rattle.node_threads.specs.Consistent.{is_torn}
 use Rattle.node_threads.specs.Wires.{IsCrew}
+use Rattle.node_threads.specs.Seating.{no_seats}
 use Rattle.node_threads.specs.Clusters.{Crewed}
 use Rattle.node_threads.specs.Closing.{CloseIs}
 use Rattle.text_lines.specs.Writing.{AppendsPart}

@@ -6,8 +6,10 @@ mod ending;
 mod faults;
 mod served;
 mod serving;
+mod staying;
 mod taking;
 
 pub use faults::ServeFault;
 pub use node_threads::StartFault;
 pub use serving::run_serve;
+pub use staying::run_stay;

@@ -21,7 +21,7 @@ use text_lines::tell;
 
 /// How often a node's thread, or a seat, that finds nothing to do yields at most before it sleeps. That mostly takes longer than a
 /// registration, so a node is awake when its next letter comes.
-const YIELDS: u32 = 500;
+pub(crate) const YIELDS: u32 = 500;
 
 /// Puts these nodes into a set. Where it has no room for all of them, some are left out.
 fn put_all(set: &mut NodeSet, nodes: &[NodeName])
@@ -35,7 +35,7 @@ fn put_all(set: &mut NodeSet, nodes: &[NodeName])
 }
 
 /// The set of all these nodes, of which there are eight at most.
-fn set_of_all(cluster: &[NodeName], lone: &[NodeName]) -> NodeSet
+pub(crate) fn set_of_all(cluster: &[NodeName], lone: &[NodeName]) -> NodeSet
     ensures { length cluster.now + length lone.now ≤ most_nodes
         → (c : ℕ) → set_of result c ≡ (set_of cluster.now c || set_of lone.now c) }
 {

@@ -3,4 +3,6 @@
 #![tactic(auto)]
 
 #[cfg(test)]
+mod stays;
+#[cfg(test)]
 mod talks;

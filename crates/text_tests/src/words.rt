@@ -76,6 +76,24 @@ fn takes_words(rt: HostRuntime) {
     assert!(rt; matches!(read(rt.alloc(), "program script"), Ok(Task::Script)));
 }
 
+/// Whether a line asks for a server, how many consoles it names, and whether that is to stay.
+fn stays(alloc: Global, line: &str) -> Option<(u8, bool)> {
+    match read(alloc, line) {
+        Ok(Task::Serve(options)) => Some((options.consoles, options.stay)),
+        _ => None,
+    }
+}
+
+#[test]
+fn takes_the_flag(rt: HostRuntime) {
+    let words = "program serve --listen x --nodes a";
+    assert!(rt; stays(rt.alloc(), words) == Some((8, false)));
+    let words = "program serve --listen x --nodes a --stay";
+    assert!(rt; stays(rt.alloc(), words) == Some((64, true)));
+    let words = "program serve --stay --listen x --nodes a --consoles 8";
+    assert!(rt; stays(rt.alloc(), words) == Some((8, true)));
+}
+
 /// Whether a line is refused with this word.
 fn is_refused(alloc: Global, line: &str, word: &str) -> bool {
     match read(alloc, line) {
@@ -136,6 +154,7 @@ program serve --help=--listen <ADDR>
 program serve --help=--nodes <LIST>
 program serve --help=--lone <LIST>
 program serve --help=--consoles <N>
+program serve --help=--stay
 ";
 
 /// Whether what is told of the line of a row has the text behind it.

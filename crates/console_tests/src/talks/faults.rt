@@ -1,7 +1,7 @@
 //! Ends of consoles: `quit`, a line that has no end, and readers and writers that fail at each point.
 use super::streams::{Endless, Full, Shy, Torn};
-use super::{Clerk, hold};
-use console::{ConsoleFault, answer_lines};
+use super::{Clerk, MOST_LINES, hold};
+use console::{ConsoleEnd, ConsoleFault, answer_lines};
 use std::alloc::Global;
 use std::io::{BufReader, Cursor};
 use std::test::Fail;
@@ -35,8 +35,16 @@ fn nothing_behind_quit_is_read(rt: HostRuntime) -> Result<(), Fail> {
     let mut clerk = Clerk::new(None)?;
     let mut reader = BufReader::new(alloc, Cursor::new(b"spawn\nquit\nspawn\nbogus".as_slice()))?;
     let mut written = Vec::new(alloc);
-    let result = answer_lines(alloc, &mut reader, &mut written, &mut clerk);
-    assert!(rt; result.is_ok());
+    let result = answer_lines(
+        &(),
+        alloc,
+        &mut reader,
+        &mut written,
+        &mut clerk,
+        false,
+        MOST_LINES,
+    );
+    assert!(rt; matches!(result, Ok(ConsoleEnd::Quit)));
     assert_eq!(rt; written.as_slice(), b"a.1\nok\n".as_slice());
     assert_eq!(rt; reader.buffer(), b"spawn\nbogus".as_slice());
     assert_eq!(rt; clerk.asked, 1);

@@ -1,8 +1,9 @@
-//! Consoles at seats of a running cluster: one that quits, and two that end by a fault. All hand a transcript back.
+//! Consoles at seats of a running cluster: one that quits, and two that end by a fault, which all hand a transcript back; and two
+//! that are lent one seat, one after the other.
 use super::streams::{Full, Torn};
-use console::{ConsoleFault, serve};
+use console::{ConsoleEnd, ConsoleFault, serve, serve_staying};
 use name_table::ListTable;
-use node_threads::{Cluster, OpenGate, Transcript};
+use node_threads::{Cluster, OpenGate, Seat, Transcript};
 use std::alloc::Global;
 use std::io::{BufReader, Cursor, Read, Write};
 use std::slice;
@@ -122,5 +123,50 @@ fn transcripts_are_handed_back(rt: HostRuntime) -> Result<(), Fail> {
     assert!(rt; played.is_some());
     // Seven calls, and the five letters of the registration, of which the last may stay undelivered.
     assert!(rt; matches!(events, 11 | 12));
+    Ok(())
+}
+
+/// Whether a console of a server that stays, at a seat that it is lent, answers lines with this text, and ends so.
+fn is_lent<H: Wait + Clock>(
+    rt: &H,
+    alloc: Global,
+    seat: &mut Seat,
+    lines: &[u8],
+    text: &[u8],
+    end: ConsoleEnd,
+) -> bool {
+    let Ok(mut reader) = BufReader::new(alloc, Cursor::new(lines)) else {
+        return false;
+    };
+    let mut written = Vec::new(alloc);
+    let result = serve_staying(rt, alloc, &mut reader, &mut written, seat);
+    written.as_slice() == text && matches!(result, Ok(ended) if ended == end)
+}
+
+/// The transcript of a seat that two consoles were lent, where both were answered as they should be.
+fn lend_twice<H: Wait + Clock>(rt: &H, alloc: Global, cluster: &mut Small) -> Option<Transcript> {
+    let node = parse_node("a").ok()?;
+    let mut seat = cluster.seat(&node).ok()?;
+    let lines = b"spawn\nquit\n".as_slice();
+    let first = is_lent(rt, alloc, &mut seat, lines, b"a.1\nok\n", ConsoleEnd::Quit);
+    let lines = b"exit a.1\nspawn\nshutdown\nspawn\n".as_slice();
+    let text = b"ok\na.2\nok\n".as_slice();
+    let second = is_lent(rt, alloc, &mut seat, lines, text, ConsoleEnd::Shutdown);
+    let transcript = seat.into_transcript();
+    (first && second && transcript.entries.len() == 3).then_some(transcript)
+}
+
+#[test]
+fn a_seat_is_lent_twice(rt: HostRuntime) -> Result<(), Fail> {
+    let alloc = rt.alloc();
+    let node = parse_node("a")?;
+    let mut cluster = Small::start(&rt, alloc, slice::from_ref(&node), &[], OpenGate, 0)?;
+    let lent = lend_twice(&rt, alloc, &mut cluster);
+    let closed = match &lent {
+        Some(transcript) => cluster.close(&rt, slice::from_ref(transcript)),
+        None => cluster.close(&rt, &[]),
+    };
+    assert!(rt; lent.is_some());
+    assert!(rt; closed.is_ok());
     Ok(())
 }

@@ -19,7 +19,7 @@ fn registers<R: Wait + Clock>(
     process: &Pid,
     name: &Name,
 ) -> Result<bool, SeatFault> {
-    let mut seat = cluster.seat(&process.node)?;
+    let mut seat = cluster.forgetful_seat(&process.node)?;
     let spawned = seat.call(rt, Call::Spawn)?;
     let named = seat.call(rt, Call::Register(name.copy(), process.copy()))?;
     Ok(spawned == Reply::Pid(process.copy()) && named == Reply::Yes)
@@ -27,7 +27,7 @@ fn registers<R: Wait + Clock>(
 
 /// Spawns three processes at a node. Whether it could.
 fn spawns_three<R: Wait + Clock>(rt: &R, cluster: &mut Forgetful, node: &NodeName) -> bool {
-    let Ok(mut seat) = cluster.seat(node) else {
+    let Ok(mut seat) = cluster.forgetful_seat(node) else {
         return false;
     };
     let mut fine = true;

@@ -1,10 +1,9 @@
 use Rattle.std.proofs.Common.{◌≡◌, ◌∙◌, ap, sym, subst, codes, Some, option_map, List, ℕ, Bor}
-use Rattle.std.specs.Str.Parse.{ParsesUnsigned, ExplainsUnsignedError, HasUnsignedDigitsIfOk}
-use Rattle.clap.specs.Words.{first_of, found_of, rows_of}
+use Rattle.clap.specs.Words.{first_of, found_of, one_of, rows_of}
 use Rattle.clap.proofs.CallerLemmas.{some_of_text}
 use Rattle.clap.proofs.WalkLemmas.{first_value-rows, one_text-rows}
 use Rattle.arguments.specs.Nodes.{PlacesNodes}
-use Rattle.arguments.proofs.Counted.{counted, fails_so, lists_refused}
+use Rattle.arguments.proofs.Counted.{fails_so, flag_read, lists_refused}
 use Rattle.arguments.proofs.reading.read_options.Goals as goal
 
 pub unwrap-listen-requires : goal.unwrap-listen-requires
@@ -31,15 +30,15 @@ returns c =
     sym (c.get_str.ensures ∙ first_value-rows f (codes "listen")) ∙ ap (option_map (λ (s : Bor (List ℕ)). s.now)) c.unwrap-listen.ensures in
     let nodes : first_of (codes "nodes") (rows_of f) ≡ Some c.unwrap-nodes.result.now =
     sym (c.get_str-2.ensures ∙ first_value-rows f (codes "nodes")) ∙ ap (option_map (λ (s : Bor (List ℕ)). s.now)) c.unwrap-nodes.ensures in
-    let one = one_text-rows f (codes "consoles") in
+    let one = one_text-rows f (codes "stay") in
     record {
       address = listen ∙ ap Some (sym c.in_ok-listen.ensures.ok);
       list = c.unwrap-nodes.result.now;
       nodes = nodes;
       placed = subst (λ o. PlacesNodes c.unwrap-nodes.result.now o c.in_ok-cluster.cluster c.in_ok-cluster.lone)
           (c.get_str-3.ensures ∙ first_value-rows f (codes "lone")) c.in_ok-cluster.ensures;
-      count = counted _ (λ bs r. ParsesUnsigned 8 10 bs r × ExplainsUnsignedError 10 bs r × HasUnsignedDigitsIfOk bs r)
-          (first_of (codes "consoles") (rows_of f)) _ c.get_one.result c.unwrap_or-consoles.result (λ u x g. g.0)
-          c.requires.consoles c.requires.digits (λ e. c.get_one.ensures.none (one ∙ e)) (λ t e. c.get_one.ensures.value t (one ∙ e))
-          c.unwrap_or-consoles.ensures;
+      count = c.read_consoles-consoles.ensures;
+      stays = flag_read (first_of (codes "stay") (rows_of f)) (one_of (codes "stay") (rows_of f)) c.get_flag-stay.result c.requires.flag
+          c.requires.written (λ e. c.get_flag-stay.ensures.none (one ∙ e)) (λ e. c.get_flag-stay.ensures.value (one ∙ e))
+          (λ e. c.get_flag-stay.ensures.other (one ∙ e));
     }

@@ -13,15 +13,16 @@ pub returns-in_err-text : goal.returns-in_err-text
 returns-in_err-text g c = λ bytes k.
     let old = g.W.Write.contents c.args.writer.now in
     let answers = g.A.Attendant.answers in
+    let stays = c.args.stays in
     let s = g.A.Attendant.state c.args.attendant.now in
     let t = g.A.Attendant.state c.reply_to.new.attendant in
     let r = c.from_residual.result in
     let p = err_from_is_err_and r c.from_residual.ensures.1 in
-    MatchResult-err (Tells answers bytes old old s t) (TellStops answers bytes old old s t) r p.0 p.1 (elim (c.in_err-text.ensures bytes k) [
+    MatchResult-err (Tells answers stays bytes old old s t) (TellStops answers stays bytes old old s t) r p.0 p.1 (elim (c.in_err-text.ensures bytes k) [
       | inl e ↦ inr (record { same = e; fault_is = p.2; wrote = Appends-nil old })
       | inr e ↦ inl (record {
         text = e.0;
-        quits = e.1;
+        ended = e.1;
         answered = e.2;
         wrote = AppendsPart-none old e.0;
         fault_is = inr p.2;
@@ -33,13 +34,14 @@ returns-in_err-tell g c = λ bytes k.
     let old = g.W.Write.contents c.args.writer.now in
     let new = g.W.Write.contents c.tell.new.writer in
     let answers = g.A.Attendant.answers in
+    let stays = c.args.stays in
     let s = g.A.Attendant.state c.args.attendant.now in
     let t = g.A.Attendant.state c.reply_to.new.attendant in
     let r = c.from_residual-in_err-tell.result in
     let p = err_from_is_err_and r c.from_residual-in_err-tell.ensures.1 in
-    MatchResult-err (Tells answers bytes old new s t) (TellStops answers bytes old new s t) r p.0 p.1 (inl (record {
+    MatchResult-err (Tells answers stays bytes old new s t) (TellStops answers stays bytes old new s t) r p.0 p.1 (inl (record {
       text = string_bytes c.in_ok-text.text;
-      quits = c.in_ok-text.quits;
+      ended = c.in_ok-text.ended;
       answered = c.in_ok-text.ensures bytes k;
       wrote = subst (λ (t : List ℕ). AppendsPart old new t) c.as_bytes.ensures.value c.in_err-tell.ensures;
       fault_is = unwritten c.in_err-tell.field-0.0 p.0 p.2;

@@ -5,7 +5,7 @@ use Rattle.console.proofs.answering.answer_lines.Given as goal
 -- the lines so far were answered
 abbrev pub invariant-loop-line : goal.invariant-loop-line
 invariant-loop-line g l =
-    ServesSoFar g.A.Attendant.answers (reader_remaining g.R.Read.remaining l.fn.reader)
+    ServesSoFar g.A.Attendant.answers l.fn.stays l.fn.most (reader_remaining g.R.Read.remaining l.fn.reader)
     (reader_remaining g.R.Read.remaining l.reader) (g.W.Write.contents l.fn.writer) (g.W.Write.contents l.writer)
     (g.A.Attendant.state l.fn.attendant) (g.A.Attendant.state l.attendant) l.left
 

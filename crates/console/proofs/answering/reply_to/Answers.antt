@@ -1,4 +1,4 @@
-use Rattle.std.proofs.Common.{false, refl, subst, inr, Result, Ok}
+use Rattle.std.proofs.Common.{None, refl, subst, inr, Result, Ok}
 use Rattle.std.proofs.lemmas.Result.{err_from_is_err_and}
 use Rattle.text_lines.proofs.Known.{MatchResult-err}
 use Rattle.command_lines.specs.declared.faults.LineFault.{LineFault}
@@ -14,11 +14,11 @@ returns-in_err-text-in-Ok-Ask g c = λ bytes k.
     let p = err_from_is_err_and r c.from_residual-in_err-text-in-Ok-Ask.ensures.1 in
     MatchResult-err _ _ r p.0 p.1 (inr (
       outcome_text c.ask-outcome.result,
-      false,
+      None,
       (
         Ok (Ask c.in-Ok-Ask.order),
-        subst (λ (said : Command). LineSays bytes (Ok said)) c.in-Ok-Ask.field-0-is
-            (subst (λ (said : Result Command LineFault). LineSays bytes said) c.in-Ok-Ask.is
+        subst (λ (said : Command). LineSays c.args.stays bytes (Ok said)) c.in-Ok-Ask.field-0-is
+            (subst (λ (said : Result Command LineFault). LineSays c.args.stays bytes said) c.in-Ok-Ask.is
             (c.in_ok-order.ensures bytes k)),
         (c.ask-outcome.result, c.ask-outcome.ensures, refl, refl),
       ),

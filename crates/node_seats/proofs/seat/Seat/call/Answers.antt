@@ -11,16 +11,16 @@ use Rattle.node_seats.proofs.seat.Seat.call.Goals as goal
 pub returns-clause-ok : goal.returns-clause-ok
 returns-clause-ok g c = record {
   answer = c.in_ok-answer.answer;
-  told = answered_so c.self.inside.caller c.self.inside.entries.items c.args.self.now c.self.view_is c.call.new.self
-      c.push_reserved.new.self.items (Ok (IsAnswer c.in_ok-answer.answer))
+  told = answered_so c.self.inside.caller (g.T.Notes.noted c.self.inside.notes) c.args.self.now c.self.view_is c.call.new.self
+      (g.T.Notes.noted c.put.new.self) (Ok (IsAnswer c.in_ok-answer.answer))
       c.in_ok-answer.ensures.told c.in_ok-answer.ensures.learns;
   says = sym c.in_ok-reply.ensures.copy;
-  kept = grown c.self.inside.caller c.self.inside.entries.items c.args.self.now c.self.view_is c.call.new.self
-      c.push_reserved.new.self.items (Calls c.args.call) c.event-event.result (Some c.in_ok-answer.answer)
+  kept = grown c.self.inside.caller (g.T.Notes.noted c.self.inside.notes) c.args.self.now c.self.view_is c.call.new.self
+      (g.T.Notes.noted c.put.new.self) (Calls c.args.call) c.event-event.result (Some c.in_ok-answer.answer)
       c.in_ok-answer.ensures.place c.in_ok-answer.ensures.inbox c.in_ok-answer.ensures.nodes c.in_ok-answer.ensures.asked
       (c.event-event.ensures ∙ ap (λ (s : Sitting). At s.node (Calls c.in_ok-copied_call.field-0)) (sym c.self.view_is)
       ∙ ap (λ (k : Call). At c.self.inside.caller.node (Calls k)) c.in_ok-copied_call.ensures)
-      (c.push_reserved.ensures.items
+      (c.put.ensures
       ∙ ap (λ (l : List SeatEntry). l ++ record { event = c.event-event.result; answer = Some c.in_ok-answer.answer } ∷ [])
-      c.reserve.ensures.items);
+      c.reserve.ensures.same);
 }

@@ -9,14 +9,14 @@ use Rattle.node_seats.proofs.seat.Seat.exit.Goals as goal
 
 pub returns-clause-ok : goal.returns-clause-ok
 returns-clause-ok g c = record {
-  told = answered_so c.self.inside.caller c.self.inside.entries.items c.args.self.now c.self.view_is c.exit.new.self
-      c.push_reserved.new.self.items (Ok Made)
+  told = answered_so c.self.inside.caller (g.T.Notes.noted c.self.inside.notes) c.args.self.now c.self.view_is c.exit.new.self
+      (g.T.Notes.noted c.put.new.self) (Ok Made)
       c.in_ok-exit.ensures.told c.in_ok-exit.ensures.learns;
-  kept = grown c.self.inside.caller c.self.inside.entries.items c.args.self.now c.self.view_is c.exit.new.self
-      c.push_reserved.new.self.items (Exit c.args.process.now) c.event-event.result None c.in_ok-exit.ensures.place
+  kept = grown c.self.inside.caller (g.T.Notes.noted c.self.inside.notes) c.args.self.now c.self.view_is c.exit.new.self
+      (g.T.Notes.noted c.put.new.self) (Exit c.args.process.now) c.event-event.result None c.in_ok-exit.ensures.place
       c.in_ok-exit.ensures.inbox c.in_ok-exit.ensures.nodes c.in_ok-exit.ensures.asked
       (c.event-event.ensures ∙ ap (λ (n : ℕ). At n (Exit c.copy.result)) c.in_ok-exit.ensures.node
       ∙ ap (λ (p : Process). At c.self.inside.caller.node (Exit p)) c.copy.ensures)
-      (c.push_reserved.ensures.items ∙ ap (λ (l : List SeatEntry). l ++ record { event = c.event-event.result; answer = None } ∷ [])
-      c.reserve.ensures.items);
+      (c.put.ensures ∙ ap (λ (l : List SeatEntry). l ++ record { event = c.event-event.result; answer = None } ∷ [])
+      c.reserve.ensures.same);
 }

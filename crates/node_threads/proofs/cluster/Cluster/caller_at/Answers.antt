@@ -1,4 +1,4 @@
-use Rattle.std.proofs.Common.{◌==◌, Some, sym, ap, ◌∙◌, rules}
+use Rattle.std.proofs.Common.{◌==◌, sym, ap, ◌∙◌, rules}
 use Rattle.std.specs.List.{position}
 use Rattle.term.specs.NodeSets.{set_of}
 use Rattle.node_seats.specs.declared.fault.SeatFault.TheVariants.{Memory}
@@ -8,7 +8,7 @@ use Rattle.node_threads.specs.Seating.{are_spent}
 use Rattle.node_threads.specs.Wires.{name_of}
 use Rattle.node_seats.specs.Callers.{nodes_at}
 use Rattle.node_threads.proofs.Rows.{crew_known, crew_unknown, crew_kept, seat_is}
-use Rattle.node_threads.proofs.cluster.Cluster.seat.Goals as goal
+use Rattle.node_threads.proofs.cluster.Cluster.caller_at.Goals as goal
 
 pub returns-in_default-clause-refused : goal.returns-in_default-clause-refused
 returns-in_default-clause-refused g c = crew_unknown c.args.node.now c.as_slice.result.now c.self.inside.running.items (record {
@@ -60,7 +60,6 @@ returns-clause-ok g c = seat_is c.args.node.now (record {
     (sym (c.index_of.ensures ∙ ap (position (λ w. name_of w == c.args.node.now)) c.as_slice.ensures.value) ∙ c.in-Some.is) c.self.view_is c.index_mut.result.now
     c.index_mut.ensures.value c.in_ok-caller.caller (c.in_ok-caller.ensures.place ∙ c.in-Some-next.ensures.1) c.in_ok-caller.ensures.asks c.in_ok-caller.ensures.nodes
     c.in_ok-caller.ensures.unasked c.in_ok-caller.ensures.unread
-    ∙ ap Some (sym c.new.ensures)
 
 pub invariant_of-self-2 : goal.invariant_of-self-2
 invariant_of-self-2 g c = (

@@ -1,0 +1,45 @@
+-- The lines on which a server that stays tells what happens.
+use Rattle.std.specs.Prelude.{ℕ, List, ◌∷◌, ◌++◌, codes, Result, Ok, Err}
+use Rattle.std.specs.Fmt.{decimal}
+use Rattle.term.specs.Spelling.{bytes_of}
+use Rattle.text_lines.specs.declared.faults.StreamFault.{StreamFault}
+use Rattle.text_lines.specs.declared.faults.StreamFault.TheVariants as fault
+use Rattle.console.specs.declared.ends.ConsoleEnd.{ConsoleEnd}
+use Rattle.console.specs.declared.ends.ConsoleEnd.TheVariants as by
+use Rattle.server.specs.declared.staying.notes.Note.{Note}
+use Rattle.server.specs.declared.staying.notes.Note.TheVariants.{Taken, Parted, NotAttached, TooMany, AcceptFailed}
+use Rattle.server.specs.declared.staying.notes.Parting.{Parting}
+use Rattle.server.specs.declared.staying.notes.Parting.TheVariants.{Quit, Input, Shutdown, Unseated, Read, Write, Lines, Memory}
+
+-- how a console ended that was served
+abbrev pub parting_of : Result ConsoleEnd StreamFault → Parting
+parting_of (Ok by.Quit) = Quit
+parting_of (Ok by.Input) = Input
+parting_of (Ok by.Shutdown) = Shutdown
+parting_of (Err fault.Read) = Read
+parting_of (Err fault.Write) = Write
+parting_of (Err fault.TooManyLines) = Lines
+parting_of (Err fault.Memory) = Memory
+
+-- the word for how it ended
+abbrev pub parting_word : Parting → List ℕ
+parting_word Quit = codes "quit"
+parting_word Input = codes "input"
+parting_word Shutdown = codes "shutdown"
+parting_word Unseated = codes "unseated"
+parting_word Read = codes "read"
+parting_word Write = codes "write"
+parting_word Lines = codes "lines"
+parting_word Memory = codes "memory"
+
+-- what is told of the console with this number
+abbrev pub told_of : ℕ → List ℕ → List ℕ
+told_of console text = codes "console " ++ decimal console ++ 32 ∷ text
+
+-- the text of the line on which it is told
+abbrev pub note_text : Note → List ℕ
+note_text (Taken console) = told_of console (codes "taken")
+note_text (Parted console node parting) = told_of console (bytes_of node ++ codes " ended " ++ parting_word parting)
+note_text (NotAttached console) = told_of console (codes "not_attached")
+note_text TooMany = codes "too_many_consoles"
+note_text AcceptFailed = codes "accept failed"

@@ -1,0 +1,67 @@
+-- What serving a cluster comes to that stays until a console asks for its end.
+use Rattle.std.specs.Prelude.{ℕ, Bool, ◌≡◌, is_ok, List, ◌++◌, codes, Option, Result, Ok, Err}
+use Rattle.std.specs.Global.{Global}
+use Rattle.std.specs.Io.KnownBytes.{Appends, Keeps}
+use Rattle.registry_model.specs.Table.{Table}
+use Rattle.term.specs.Spelling.{bytes_of}
+use Rattle.console.specs.Printing.{error_line}
+use Rattle.node_threads.specs.declared.ending.EndedCluster.{EndedCluster}
+use Rattle.node_threads.specs.declared.ending.EndFault.{EndFault}
+use Rattle.node_threads.specs.declared.ending.EndFault.TheVariants as untold
+use Rattle.node_threads.specs.Wires.{IsCrew}
+use Rattle.node_threads.specs.Seating.{no_seats}
+use Rattle.node_threads.specs.Clusters.{Crewed}
+use Rattle.node_threads.specs.Ending.{EndIs}
+use Rattle.text_lines.specs.Writing.{AppendsPart}
+use Rattle.server.specs.declared.faults.ServeFault.{ServeFault}
+use Rattle.server.specs.declared.faults.ServeFault.TheVariants.{Accept, Write, Memory}
+use Rattle.server.specs.Ending.{closed_line}
+
+-- the words for which it isn't told what a cluster came to
+abbrev pub end_text : EndFault → List ℕ
+end_text (untold.LeftInHold a) = codes "left_in_hold " ++ bytes_of a
+end_text untold.Memory = codes "memory"
+
+-- the line that tells what ending a cluster came to
+abbrev pub end_line : {N M : Type 0} → Result (EndedCluster N M) EndFault → List ℕ
+end_line (Ok ended) = closed_line ended.events
+end_line (Err fault) = error_line (end_text fault)
+
+-- what ending a cluster comes to
+abbrev pub Ending : Type 0
+Ending = Result (EndedCluster Table Global) EndFault
+
+-- a cluster has the lists and the crew that it had: its seats alone may differ
+pub record HasSameCrew (c d : Crewed) : Type 0 where
+  pub cluster : d.cluster ≡ c.cluster
+  pub lone : d.lone ≡ c.lone
+  pub crew : d.crew ≡ c.crew
+
+-- so this cluster ended
+abbrev pub Ends : Crewed → Ending → Type 0
+Ends c ending = EndIs (λ t. t) c.cluster c.lone c.crew ending
+
+-- the writer got the line that tells so, all of it, or a part where it failed; or memory was refused for the line
+abbrev pub TellsEnd : Crewed → Option (List ℕ) → Option (List ℕ) → Result Bool ServeFault → Type 0
+TellsEnd c old new (Ok good) = (ending : Ending) × Ends c ending × (good ≡ is_ok ending) × Appends old new (end_line ending)
+TellsEnd c old new (Err Write) = (ending : Ending) × Ends c ending × AppendsPart old new (end_line ending)
+TellsEnd c old new (Err _) = Keeps old new
+
+-- A cluster of these nodes gave out its seats, from the first on, and took them back, and ended so
+pub record EndsAfter (cluster lone : List ℕ) (ending : Ending) : Type 0 where
+  pub first : Crewed
+  pub crew : IsCrew cluster lone first.crew
+  pub unused : first.seating ≡ no_seats
+  pub last : Crewed
+  pub of : (last.cluster ≡ cluster) × (last.lone ≡ lone) × (last.crew ≡ first.crew)
+  pub ends : Ends last ending
+
+-- the writer got the line that tells what the cluster came to: all of it, or a part where it failed. After another fault it
+-- got nothing. The result is true where the run of the threads was one of the world's
+abbrev pub StaysCluster : List ℕ → List ℕ → Option (List ℕ) → Option (List ℕ) → Result Bool ServeFault → Type 0
+StaysCluster cluster lone old new (Ok good) =
+    (ending : Ending) × EndsAfter cluster lone ending × (good ≡ is_ok ending) × Appends old new (end_line ending)
+StaysCluster cluster lone old new (Err Write) =
+    (ending : Ending) × EndsAfter cluster lone ending × AppendsPart old new (end_line ending)
+StaysCluster cluster lone old new (Err Accept) = Keeps old new
+StaysCluster cluster lone old new (Err Memory) = Keeps old new

@@ -1,0 +1,94 @@
+//! Serving a cluster until a console asks for its end.
+ghost use Rattle.std.specs.Prelude.{◌≡◌, None, IfOk, string_bytes};
+ghost use Rattle.node_threads.specs.Openings.{start_refused};
+ghost use Rattle.server.specs.Staying.{StaysCluster, TellsEnd};
+
+mod desk;
+mod door;
+mod hall;
+mod notes;
+mod office;
+mod staff;
+mod worker;
+
+use crate::ending::end_line;
+use crate::faults::ServeFault;
+use crate::serving::{YIELDS, set_of_all};
+use crate::staying::desk::{StayingCluster, stay};
+use crate::staying::staff::Staff;
+use node_threads::OpenGate;
+use std::alloc::Global;
+use std::io::Write;
+use std::net::TcpListener;
+use std::sync::Wait;
+use std::thread::Threads;
+use std::time::Clock;
+use term::NodeName;
+use text_lines::tell;
+
+/// Ends a cluster, waits for the threads of its server, and tells what it came to.
+fn end<R, W, E>(
+    rt: &R,
+    alloc: Global,
+    cluster: StayingCluster,
+    staff: Staff,
+    writer: &mut W,
+    errors: &mut E,
+) -> Result<bool, ServeFault>
+where
+    R: Threads + Wait + Clock,
+    W: Write,
+    E: Write,
+    ensures { TellsEnd cluster (W.contents writer.old) (W.contents writer.new) result }
+{
+    staff.close(rt);
+    let ending = cluster.end(rt);
+    // Calls that waited are answered now, so consoles end.
+    staff.see_off(rt, alloc, errors);
+    let line = end_line(alloc, &ending)?;
+    tell(writer, line.as_bytes())?;
+    Ok(ending.is_ok())
+}
+
+/// Runs a cluster of threads and serves consoles until one of them asks for the end by the line `shutdown`: those of `cluster` are
+/// joined with each other, and each of `lone` stands for itself. It serves `consoles` connections at once, in as many threads, and tells
+/// others `error too_many_consoles`. Each console has a seat while it lasts. The nodes keep none of their steps. A connection that
+/// couldn't be taken ends nothing, so `Accept` never comes; with no `consoles` at all nobody can ask for the end. What happens is told
+/// on `errors`, whose faults are passed over.
+///
+/// At the end connections are ended, calls that wait are answered `closed`, and one line is written that tells what the cluster came
+/// to: `closed` with the number of events, and then the result is true; or `error` with the fault, and then it is false. `Memory`:
+/// memory was refused, or a thread couldn't be had, and no line is written. `Write`: a part of the line is.
+pub fn run_stay<R, W, E>(
+    rt: &R,
+    alloc: Global,
+    listener: TcpListener,
+    cluster: &[NodeName],
+    lone: &[NodeName],
+    consoles: u32,
+    writer: &mut W,
+    errors: &mut E,
+) -> Result<bool, ServeFault>
+where
+    R: Threads + Wait + Clock + Drop + Copy + Send + Sync + 'static,
+    W: Write,
+    E: Write,
+    requires { start_refused cluster.now lone.now ≡ None }
+    ensures { StaysCluster cluster.now lone.now (W.contents writer.old) (W.contents writer.new) result }
+{
+    let Ok(mut running) = StayingCluster::start(rt, alloc, cluster, lone, OpenGate, YIELDS) else {
+        return Err(ServeFault::Memory);
+    };
+    let nodes = set_of_all(cluster, lone);
+    match Staff::start(rt, alloc, listener, nodes, consoles) {
+        Ok(staff) => {
+            stay(rt, alloc, &mut running, &staff.messages, errors);
+            end(rt, alloc, running, staff, writer, errors)
+        }
+        Err(_) => {
+            // A cluster that is let go must be ended: its threads end here.
+            let _ = running.end(rt);
+            Err(ServeFault::Memory)
+        }
+    }
+}

@@ -1,0 +1,112 @@
+//! What a server that stays tells of what happens.
+ghost use Rattle.std.specs.Prelude.{◌≡◌, ◌++◌, IfOk, OnOk, string_bytes};
+ghost use Rattle.console.specs.Printing.{ended};
+ghost use Rattle.server.specs.Notes.{note_text, parting_of, parting_word};
+
+use console::{ConsoleEnd, ConsoleFault};
+use std::alloc::{AllocError, Global};
+use std::fmt::Write as _;
+use std::io::Write;
+use term::NodeName;
+use text_lines::tell;
+
+/// How a console ended that was attached to a node.
+#[derive(Drop)]
+pub(crate) enum Parting {
+    /// By the line `quit`.
+    Quit,
+    /// Its input ended.
+    Input,
+    /// By the line `shutdown`.
+    Shutdown,
+    /// There was no seat for it.
+    Unseated,
+    /// A line couldn't be read.
+    Read,
+    /// An answer couldn't be written.
+    Write,
+    /// It had too many lines.
+    Lines,
+    /// Memory was refused.
+    Memory,
+}
+
+/// What happens at a server.
+#[derive(Drop)]
+pub(crate) enum Note {
+    /// A console was taken: its number.
+    Taken(u64),
+    /// A console that was attached has ended: its number, its node and how.
+    Parted(u64, NodeName, Parting),
+    /// A console was attached to no node: its number.
+    NotAttached(u64),
+    /// A connection came while no worker was free.
+    TooMany,
+    /// A connection couldn't be taken.
+    AcceptFailed,
+}
+
+impl Parting {
+    /// That of a console that was served.
+    pub(crate) fn of(ended: &Result<ConsoleEnd, ConsoleFault>) -> Self
+        ensures { result ≡ parting_of ended.now }
+    {
+        match ended {
+            Ok(ConsoleEnd::Quit) => Parting::Quit,
+            Ok(ConsoleEnd::Input) => Parting::Input,
+            Ok(ConsoleEnd::Shutdown) => Parting::Shutdown,
+            Err(ConsoleFault::Read) => Parting::Read,
+            Err(ConsoleFault::Write) => Parting::Write,
+            Err(ConsoleFault::TooManyLines) => Parting::Lines,
+            Err(ConsoleFault::Memory) => Parting::Memory,
+        }
+    }
+
+    /// Its word.
+    fn word(&self) -> &'static str
+        ensures { result.now ≡ parting_word self.now }
+    {
+        match self {
+            Parting::Quit => "quit",
+            Parting::Input => "input",
+            Parting::Shutdown => "shutdown",
+            Parting::Unseated => "unseated",
+            Parting::Read => "read",
+            Parting::Write => "write",
+            Parting::Lines => "lines",
+            Parting::Memory => "memory",
+        }
+    }
+}
+
+/// Puts what is told behind a text.
+fn push_note(text: &mut String, note: &Note) -> Result<(), AllocError>
+    ensures { OnOk result (string_bytes text.new ≡ string_bytes text.old ++ note_text note.now) }
+{
+    match note {
+        Note::Taken(console) => write!(text, "console {console} taken"),
+        Note::Parted(console, node, parting) => {
+            write!(text, "console {console} {node} ended {}", parting.word())
+        }
+        Note::NotAttached(console) => write!(text, "console {console} not_attached"),
+        Note::TooMany => text.push_str("too_many_consoles"),
+        Note::AcceptFailed => text.push_str("accept failed"),
+    }
+}
+
+/// The line on which it is told.
+fn note_line(alloc: Global, note: &Note) -> Result<String, AllocError>
+    ensures { IfOk result (λ line. string_bytes line ≡ ended (note_text note.now)) }
+{
+    let mut line = String::new(alloc);
+    push_note(&mut line, note)?;
+    line.push('\n')?;
+    Ok(line)
+}
+
+/// Tells what happened. A fault of the writer changes nothing.
+pub(crate) fn tell_note<E: Write>(alloc: Global, errors: &mut E, note: &Note) {
+    if let Ok(line) = note_line(alloc, note) {
+        let _ = tell(errors, line.as_bytes());
+    }
+}

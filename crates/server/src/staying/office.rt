@@ -1,0 +1,65 @@
+//! What the threads of a server that stays work with.
+use crate::staying::desk::{Message, SeatAnswer};
+use crate::staying::hall::{Guest, Hall};
+use crate::staying::notes::Note;
+use crossbeam_channel::{Receiver, Sender, bounded};
+use node_threads::{Seat, SeatFault};
+use std::alloc::{AllocError, Global};
+use std::sync::{Arc, Mutex, Wait};
+use term::{NodeName, NodeSet};
+
+/// What each thread of a server works with.
+#[derive(Drop)]
+pub(crate) struct Office<R: Wait + Drop + Copy> {
+    pub(crate) rt: R,
+    pub(crate) alloc: Global,
+    /// The nodes to which consoles may be attached.
+    pub(crate) nodes: NodeSet,
+    pub(crate) hall: Arc<Mutex<Hall>, Global>,
+    /// Connections that wait for the worker that was engaged for them.
+    pub(crate) guests: Receiver<Guest>,
+    pub(crate) desk: Sender<Message>,
+}
+
+impl<R: Wait + Drop + Copy> Office<R> {
+    ghost use Rattle.std.specs.Prelude.{◌≡◌, IfOk};
+
+    /// The same, for another thread.
+    pub(crate) fn copy(&self) -> Result<Self, AllocError>
+        ensures { IfOk result (λ copy. copy.nodes ≡ self.now.nodes) }
+    {
+        let hall = Arc::try_clone(&self.hall)?;
+        let guests = self.guests.clone()?;
+        let desk = self.desk.clone()?;
+        Ok(Office {
+            rt: self.rt,
+            alloc: self.alloc,
+            nodes: self.nodes.copy(),
+            hall,
+            guests,
+            desk,
+        })
+    }
+
+    /// Says this to the desk, which listens for as long as there are threads. It waits while many messages are unread.
+    pub(crate) fn say(&self, message: Message) {
+        let _ = self.desk.send(&self.rt, message);
+    }
+
+    /// Tells the desk what happened.
+    pub(crate) fn note(&self, note: Note) {
+        self.say(Message::Tell(note));
+    }
+
+    /// Asks the desk for a seat at a node, and waits for it.
+    pub(crate) fn seat(&self, node: &NodeName) -> SeatAnswer {
+        let Ok((desk, seats)) = bounded(self.alloc, 1) else {
+            return Err(SeatFault::Memory);
+        };
+        self.say(Message::Ask(node.copy(), desk));
+        match seats.recv(&self.rt) {
+            Ok(answer) => answer,
+            Err(_) => Err(SeatFault::Closed),
+        }
+    }
+}

@@ -1,0 +1,170 @@
+//! The threads of a server that stays.
+ghost use denote.Param.Send.{IsSend, IsSync};
+
+use crate::staying::desk::{Message, dismiss};
+use crate::staying::door::Door;
+use crate::staying::hall::{Guest, Hall};
+use crate::staying::office::Office;
+use crate::staying::worker::Worker;
+use crossbeam_channel::{Receiver, RecvTimeoutError, Sender, bounded};
+use std::alloc::{AllocError, Global};
+use std::io::Write;
+use std::net::TcpListener;
+use std::sync::{Arc, Mutex, Wait};
+use std::thread;
+use std::thread::{JoinHandle, Threads};
+use std::time::{Clock, Duration};
+use term::NodeSet;
+
+/// How many messages the desk leaves unread before those that say more wait.
+const MESSAGES: usize = 256;
+
+/// How long a console may go on without a word to the desk after the cluster has ended, in milliseconds.
+const GRACE: u64 = 1_000;
+
+/// The workers and the door of a server, and what they say to the desk.
+#[derive(Drop)]
+pub(crate) struct Staff {
+    pub(crate) messages: Receiver<Message>,
+    hall: Arc<Mutex<Hall>, Global>,
+    threads: Vec<JoinHandle<()>>,
+}
+
+/// Starts the thread of a worker.
+fn start_worker<R>(rt: &R, worker: Worker<R>) -> Result<JoinHandle<()>, AllocError>
+where
+    R: Threads + Wait + Clock + Drop + Copy + Send + Sync + 'static,
+{
+    let handle = thread::spawn(
+        rt,
+        move || -> ()
+            requires sends { IsSend R.row }
+        { worker.run() },
+    )?;
+    Ok(handle)
+}
+
+/// Starts the thread of the door.
+fn start_door<R>(rt: &R, door: Door<R>) -> Result<JoinHandle<()>, AllocError>
+where
+    R: Threads + Wait + Clock + Drop + Copy + Send + Sync + 'static,
+{
+    let handle = thread::spawn(
+        rt,
+        move || -> ()
+            requires sends { IsSend R.row }
+        { door.run() },
+    )?;
+    Ok(handle)
+}
+
+/// Starts so many workers.
+fn start_workers<R>(
+    office: &Office<R>,
+    workers: u32,
+    threads: &mut Vec<JoinHandle<()>>,
+) -> Result<(), AllocError>
+where
+    R: Threads + Wait + Clock + Drop + Copy + Send + Sync + 'static,
+{
+    for place in 0..workers {
+        threads.reserve(1)?;
+        let worker = Worker {
+            office: office.copy()?,
+            place: place as usize,
+        };
+        threads.push_reserved(start_worker(&office.rt, worker)?);
+    }
+    Ok(())
+}
+
+/// Starts so many workers, and the door. The workers that were started end where the door isn't.
+fn start_all<R>(
+    office: Office<R>,
+    listener: TcpListener,
+    guests: Sender<Guest>,
+    workers: u32,
+    threads: &mut Vec<JoinHandle<()>>,
+) -> Result<(), AllocError>
+where
+    R: Threads + Wait + Clock + Drop + Copy + Send + Sync + 'static,
+{
+    start_workers(&office, workers, threads)?;
+    threads.reserve(1)?;
+    let rt = office.rt;
+    let door = Door {
+        office,
+        listener,
+        workers: guests,
+    };
+    threads.push_reserved(start_door(&rt, door)?);
+    Ok(())
+}
+
+impl Staff {
+    /// Starts so many workers, and the door of this listener. Where one can't be had, those that were started have ended.
+    pub(crate) fn start<R>(
+        rt: &R,
+        alloc: Global,
+        listener: TcpListener,
+        nodes: NodeSet,
+        workers: u32,
+    ) -> Result<Self, AllocError>
+    where
+        R: Threads + Wait + Clock + Drop + Copy + Send + Sync + 'static,
+    {
+        // No message takes memory, so none is lost. No more connections wait than workers were engaged.
+        let (desk, messages) = bounded(alloc, MESSAGES)?;
+        let (to_workers, guests) = bounded(alloc, workers as usize)?;
+        let hall = Arc::new(alloc, Mutex::new(Hall::new(alloc, workers)?))?;
+        let office = Office {
+            rt: *rt,
+            alloc,
+            nodes,
+            hall: Arc::try_clone(&hall)?,
+            guests,
+            desk,
+        };
+        let mut threads = Vec::new(alloc);
+        match start_all(office, listener, to_workers, workers, &mut threads) {
+            Ok(()) => Ok(Staff {
+                messages,
+                hall,
+                threads,
+            }),
+            Err(fault) => {
+                join_all(rt, threads);
+                Err(fault)
+            }
+        }
+    }
+
+    /// No connection is taken any more, and those that are open have no further line.
+    pub(crate) fn close<R: Wait>(&self, rt: &R) {
+        self.hall.lock(rt).close();
+    }
+
+    /// Waits until all threads have ended, behind the end of the cluster. Connections that are still open when nothing was said for a
+    /// while are ended.
+    pub(crate) fn see_off<R, E>(self, rt: &R, alloc: Global, errors: &mut E)
+    where
+        R: Threads + Wait + Clock,
+        E: Write,
+    {
+        for _ in rt.forever() {
+            match self.messages.recv_timeout(rt, Duration::from_millis(GRACE)) {
+                Ok(message) => dismiss(rt, alloc, message, errors),
+                Err(RecvTimeoutError::Timeout) => self.hall.lock(rt).cut(),
+                Err(RecvTimeoutError::Disconnected) => break,
+            }
+        }
+        join_all(rt, self.threads);
+    }
+}
+
+/// Waits until these threads have ended.
+fn join_all<R: Threads>(rt: &R, threads: Vec<JoinHandle<()>>) {
+    for thread in threads {
+        thread.join(rt);
+    }
+}

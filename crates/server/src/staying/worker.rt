@@ -1,0 +1,137 @@
+//! The thread that serves one connection after another.
+ghost use Rattle.std.specs.Io.Buffered.{reader_remaining};
+ghost use Rattle.server.specs.Visits.{IsHosted, Visits};
+
+use crate::staying::desk::Message;
+use crate::staying::hall::Guest;
+use crate::staying::notes::{Note, Parting};
+use crate::staying::office::Office;
+use console::{greet, refuse_seat, serve_staying};
+use std::alloc::Global;
+use std::io::{BufReader, Read, Write};
+use std::net::TcpStream;
+use std::sync::Wait;
+use std::time::{Clock, Duration};
+use term::NodeName;
+
+/// For how many seconds a console may wait with its first line, or with the reading of an answer.
+const PATIENCE: u64 = 10;
+
+/// Serves connections, one after another, each at a seat that the desk gives it.
+#[derive(Drop)]
+pub(crate) struct Worker<R: Wait + Clock + Drop + Copy> {
+    pub(crate) office: Office<R>,
+    /// Its place in the hall.
+    pub(crate) place: usize,
+}
+
+impl<R: Wait + Clock + Drop + Copy> Worker<R> {
+    /// Serves connections until none comes any more.
+    pub(crate) fn run(self) {
+        for _ in self.office.rt.forever() {
+            match self.office.guests.recv(&self.office.rt) {
+                Ok(guest) => self.host(guest),
+                Err(_) => return,
+            }
+        }
+    }
+
+    /// Serves a connection, and is free then.
+    fn host(&self, guest: Guest) {
+        let Guest { number, stream } = guest;
+        if self.enters(&stream) {
+            self.office.note(Note::Taken(number));
+            self.attend(number, &stream);
+        }
+        // Whoever sees the end of this connection finds the worker free, so it is free before that.
+        self.office.hall.lock(&self.office.rt).leave(self.place);
+        drop(stream);
+    }
+
+    /// Whether the connection is to be served. It isn't where the server ends, or couldn't end it.
+    fn enters(&self, stream: &TcpStream) -> bool {
+        match stream.try_clone() {
+            Ok(handle) => self
+                .office
+                .hall
+                .lock(&self.office.rt)
+                .enter(self.place, handle),
+            Err(_) => false,
+        }
+    }
+
+    /// Serves the console at the other end of a connection. Each answer is sent at once, and the console may wait with its first line,
+    /// and with the reading of an answer, for a while and no longer. A connection that can't be told so is served all the same.
+    fn attend(&self, number: u64, stream: &TcpStream) {
+        let _ = stream.set_nodelay(true);
+        let _ = stream.set_read_timeout(Some(Duration::from_secs(PATIENCE)));
+        let _ = stream.set_write_timeout(Some(Duration::from_secs(PATIENCE)));
+        let mut socket = stream;
+        match BufReader::new(self.office.alloc, stream) {
+            Ok(mut reader) => self.talk(number, &mut reader, &mut socket, stream),
+            Err(_) => self.office.note(Note::NotAttached(number)),
+        }
+    }
+
+    /// Greets a console, and serves it at the node that it names. Once it is attached it may say nothing on its connection for as long
+    /// as it likes.
+    fn talk<I: Read, O: Write>(
+        &self,
+        number: u64,
+        reader: &mut BufReader<I, Global>,
+        writer: &mut O,
+        stream: &TcpStream,
+    )
+        ensures { Visits self.now.office.nodes (reader_remaining I.remaining reader.old) (reader_remaining I.remaining reader.new)
+            (O.contents writer.old) (O.contents writer.new) }
+    {
+        match greet(self.office.alloc, reader, writer, &self.office.nodes) {
+            Ok(Some(node)) => {
+                let _ = stream.set_read_timeout(None);
+                let parting = self.serve(reader, writer, &node);
+                self.part(number, node, parting);
+            }
+            Ok(None) => self.office.note(Note::NotAttached(number)),
+            Err(_) => self.office.note(Note::NotAttached(number)),
+        }
+    }
+
+    /// Serves a console at a seat at its node, and gives that back; or tells it why there is none.
+    fn serve<I: Read, O: Write>(
+        &self,
+        reader: &mut BufReader<I, Global>,
+        writer: &mut O,
+        node: &NodeName,
+    ) -> Parting
+        ensures { IsHosted (reader_remaining I.remaining reader.old) (reader_remaining I.remaining reader.new)
+            (O.contents writer.old) (O.contents writer.new) result }
+    {
+        match self.office.seat(node) {
+            Ok(mut seat) => {
+                let ended = serve_staying(
+                    &self.office.rt,
+                    self.office.alloc,
+                    reader,
+                    writer,
+                    &mut seat,
+                );
+                self.office.say(Message::Back(seat));
+                Parting::of(&ended)
+            }
+            Err(fault) => {
+                // The console ends, whether it hears this or not.
+                let _ = refuse_seat(writer, &fault);
+                Parting::Unseated
+            }
+        }
+    }
+
+    /// Tells the desk how a console has ended, and that it asked for the end of the server, if it did.
+    fn part(&self, number: u64, node: NodeName, parting: Parting) {
+        let asks = matches!(parting, Parting::Shutdown);
+        self.office.note(Note::Parted(number, node, parting));
+        if asks {
+            self.office.say(Message::Shutdown);
+        }
+    }
+}
