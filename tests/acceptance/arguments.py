@@ -3,6 +3,7 @@
 import os
 import re
 import socket
+import stat
 import subprocess
 import tempfile
 import time
@@ -11,13 +12,14 @@ from functools import partial
 
 from .outcomes import Failure, Test, expect_same, expect_status, expect_text, shown
 from .programs import run
-from .served import Console, Served, listen_to, wait_for
+from .served import Console, Served, listen_to, wait_for, write_private
 
 ABOUT = b"A verified global name server\n.."
 ABOUT_SERVE = b"Runs nodes and serves consoles over the network\n.."
 ABOUT_SCRIPT = b"Plays a script from standard input and prints its answers\n.."
 VERSION = b"cluster_main 0.1.0\n"
 ERROR = b"error: .."
+COOKIE = b"0123456789abcdef"
 
 # What is read only where a script is played.
 INPUT = b"cluster a\nspawn a\n"
@@ -49,6 +51,10 @@ def refuses_options(name, options):
 def refuses_lists(name, word, *lists):
     words = ["serve", "--listen", "127.0.0.1:0", *lists]
     return Call(name, words, 2, errors=b"error %s\n" % word.encode())
+
+
+def refuses_staying(name, line, options):
+    return Call(name, ["serve", "--nodes", "a", *options.split()], 2, errors=f"error: {line}\n".encode())
 
 
 def cannot_listen(name, address):
@@ -87,6 +93,15 @@ CALLS = [
     refuses_options("consoles_that_are_no_number", "--listen 127.0.0.1:0 --nodes a --consoles x"),
     refuses_options("consoles_below_zero", "--listen 127.0.0.1:0 --nodes a --consoles=-1"),
     refuses_options("stay_alone", "--stay"),
+    refuses_staying("cookie_file_without_stay", "--cookie-file: goes with --stay alone", "--listen 127.0.0.1:0 --cookie-file c"),
+    refuses_staying("idle_without_stay", "--idle: goes with --stay alone", "--listen 127.0.0.1:0 --idle 5"),
+    refuses_staying("socket_without_stay", "--listen unix:PATH: goes with --stay alone", "--listen unix:s"),
+    refuses_staying("stay_over_tcp_without_a_cookie_file", "--cookie-file: wanted with --stay over TCP", "--listen 127.0.0.1:0 --stay"),
+    refuses_options("idle_of_no_time", "--listen unix:s --nodes a --stay --idle 0"),
+    refuses_options("idle_of_more_than_a_year", "--listen unix:s --nodes a --stay --idle 31536001"),
+    refuses_options("idle_that_is_no_number", "--listen unix:s --nodes a --stay --idle x"),
+    refuses_options("cookie_file_without_its_value", "--listen unix:s --nodes a --stay --cookie-file"),
+    refuses_options("cookie_file_of_a_script", "script --cookie-file c"),
     refuses_options("stay_twice", "--listen 127.0.0.1:0 --nodes a --stay --stay"),
     refuses_options("stay_with_a_value", "--listen 127.0.0.1:0 --nodes a --stay=yes"),
     refuses_options("stay_with_a_word", "--listen 127.0.0.1:0 --nodes a --stay yes"),
@@ -126,7 +141,8 @@ def check(program, call):
 
 def help_tells_of_each_option(program):
     told = program.run(["serve", "--help"]).stdout
-    for option in [b"--listen <ADDR>", b"--nodes <LIST>", b"--lone <LIST>", b"--consoles <N>", b"--stay"]:
+    options = [b"--listen <ADDR>", b"--nodes <LIST>", b"--lone <LIST>", b"--consoles <N>"]
+    for option in [*options, b"--stay", b"--cookie-file <FILE>", b"--idle <SECONDS>"]:
         if option not in told:
             raise Failure(f"{option.decode()} isn't told of")
 
@@ -138,18 +154,95 @@ def address_in_use(program):
         check(program, cannot_listen("", f"127.0.0.1:{taken.getsockname()[1]}"))
 
 
-def port_zero_is_told_as_the_one_that_listens(program, *options):
+def port_zero_of_a_server_that_stays(program):
+    with tempfile.TemporaryDirectory() as folder:
+        write_private(f"{folder}/cookie", COOKIE + b"\n")
+        options = ["--stay", "--cookie-file", f"{folder}/cookie"]
+        port_zero_is_told_as_the_one_that_listens(program, *options, line=b"attach a " + COOKIE)
+
+
+def serves_at(program, words, status, line):
+    """The program doesn't begin to serve: it tells this line on standard error."""
+    ran = program.run(["serve", "--nodes", "a", "--stay", *words])
+    expect_same("standard output", b"", ran.stdout)
+    expect_text("standard error", line, ran.stderr)
+    expect_status(status, ran.returncode)
+
+
+def cookie_files_that_are_refused(program):
+    """Each is refused before anything listens."""
+    with tempfile.TemporaryDirectory() as folder:
+        name = f"{folder}/cookie"
+
+        def refused(line):
+            options = ["--listen", "127.0.0.1:0", "--cookie-file", name]
+            serves_at(program, options, 1, f"error: --cookie-file {name}: {line}".encode())
+
+        refused("..")
+        os.mkdir(name)
+        refused("not a file\n")
+        os.rmdir(name)
+        for text in [b"", b"\n", b"fifteen-letters\n", b"with a space in it\n", b"x" * 256, b"sixteen-letters\xff\n"]:
+            write_private(name, text)
+            refused("no cookie in its first line\n")
+            os.remove(name)
+        for mode in [0o604, 0o640, 0o620]:
+            write_private(name, COOKIE)
+            os.chmod(name, mode)
+            refused("others may read it\n")
+            os.remove(name)
+
+
+def sockets_that_are_refused(program):
+    """What stands at the path stays there."""
+    with tempfile.TemporaryDirectory() as folder:
+
+        def refused(path, line):
+            serves_at(program, ["--listen", f"unix:{path}"], 1, f"error: --listen unix:{path}: {line}".encode())
+
+        refused(f"{folder}/" + "x" * (101 - len(folder) - 1), "too long\n")
+        refused(f"{folder}/no/socket", "..")
+        write_private(f"{folder}/file", b"kept")
+        refused(f"{folder}/file", "not a socket\n")
+        with open(f"{folder}/file", "rb") as file:
+            expect_same("the file", b"kept", file.read())
+        with socket.socket(socket.AF_UNIX) as taken:
+            taken.bind(f"{folder}/taken")
+            taken.listen()
+            refused(f"{folder}/taken", "in use\n")
+
+
+def socket_of_its_owner(program):
+    """A socket that nobody listens at any more is taken over, and is its owner's alone."""
+    with tempfile.TemporaryDirectory() as folder:
+        path = f"{folder}/socket"
+        with socket.socket(socket.AF_UNIX) as left:
+            left.bind(path)
+        words = [program.path, "serve", "--stay", "--listen", f"unix:{path}", "--nodes", "a"]
+        with subprocess.Popen(words, stdin=subprocess.DEVNULL, stdout=subprocess.PIPE, stderr=subprocess.DEVNULL) as served:
+            try:
+                wait_for(served.stdout, time.monotonic() + program.seconds, "line of the program")
+                expect_same("standard output", f"listening unix:{path}\n".encode(), served.stdout.readline())
+                mode = os.stat(path).st_mode
+                if not stat.S_ISSOCK(mode) or stat.S_IMODE(mode) != 0o600:
+                    raise Failure(f"expected a socket of mode 600, got {mode:o}")
+                expect_same("the folder", b"socket", " ".join(os.listdir(folder)).encode())
+            finally:
+                served.kill()
+
+
+def port_zero_is_told_as_the_one_that_listens(program, *options, line=b"attach a"):
     """The line tells the port that the system chose: a connection is taken there."""
     words = [program.path, "serve", "--listen", "127.0.0.1:0", "--nodes", "a", *options]
     with subprocess.Popen(words, stdin=subprocess.DEVNULL, stdout=subprocess.PIPE, stderr=subprocess.DEVNULL) as served:
         try:
             wait_for(served.stdout, time.monotonic() + program.seconds, "line of the program")
-            line = served.stdout.readline()
-            told = re.fullmatch(rb"listening 127\.0\.0\.1:([1-9][0-9]*)\n", line)
+            first = served.stdout.readline()
+            told = re.fullmatch(rb"listening 127\.0\.0\.1:([1-9][0-9]*)\n", first)
             if not told:
-                raise Failure(f"expected `listening 127.0.0.1:` with a port, got {shown(line)}")
+                raise Failure(f"expected `listening 127.0.0.1:` with a port, got {shown(first)}")
             with socket.create_connection(("127.0.0.1", int(told[1])), timeout=program.seconds) as console:
-                console.sendall(b"attach a\n")
+                console.sendall(line + b"\n")
                 expect_same("a console's answer", b"ok\n", console.recv(16))
         finally:
             served.kill()
@@ -245,6 +338,10 @@ def tests(program, root):
         help_tells_of_each_option,
         address_in_use,
         port_zero_is_told_as_the_one_that_listens,
+        port_zero_of_a_server_that_stays,
+        cookie_files_that_are_refused,
+        sockets_that_are_refused,
+        socket_of_its_owner,
         sixty_four_consoles,
         last_line_that_nobody_reads,
         input_that_cannot_be_read,
@@ -253,8 +350,6 @@ def tests(program, root):
         name_that_is_no_text,
     ]:
         yield Test(f"arguments/{it.__name__}", partial(it, program))
-    staying = partial(port_zero_is_told_as_the_one_that_listens, program, "--stay")
-    yield Test("arguments/port_zero_of_a_server_that_stays", staying)
     serve = ["serve", "--listen", "127.0.0.1:0", "--nodes", "a"]
     for name, words in [("script", ["script"]), ("help", ["--help"]), ("serve", serve)]:
         yield Test(f"arguments/output_that_is_full_of_{name}", partial(output_that_is_full, program, words))

@@ -1,8 +1,10 @@
 """Runs of the program, and where it stands."""
 
+import errno
 import os
 import shutil
 import subprocess
+import time
 from dataclasses import dataclass
 
 from .outcomes import Failure
@@ -20,6 +22,22 @@ class Program:
         return run([self.path, *words], self.seconds, **how)
 
 
+# How many tenths of a second a file that was just written may be busy.
+MOST_BUSY = 50
+
+
+def started(command, **how):
+    """Runs a command to its end. What was written just now may be busy, while a program that another test starts has it open."""
+    for _ in range(MOST_BUSY):
+        try:
+            return subprocess.run(command, **how)
+        except OSError as why:
+            if why.errno != errno.ETXTBSY:
+                raise
+            time.sleep(0.1)
+    return subprocess.run(command, **how)
+
+
 def run(command, seconds, **how):
     """Runs a command to its end, with no input and with pipes where nothing else is said."""
     if "input" not in how:
@@ -27,7 +45,7 @@ def run(command, seconds, **how):
     how.setdefault("stdout", subprocess.PIPE)
     how.setdefault("stderr", subprocess.PIPE)
     try:
-        return subprocess.run(command, timeout=seconds, **how)
+        return started(command, timeout=seconds, **how)
     except subprocess.TimeoutExpired:
         raise Failure(f"it had not ended after {seconds:g} seconds") from None
 

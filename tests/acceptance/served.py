@@ -4,6 +4,7 @@ import os
 import selectors
 import socket
 import subprocess
+import tempfile
 import time
 from contextlib import suppress
 
@@ -28,27 +29,51 @@ def wait_for(file, deadline, what):
             raise Failure(f"no {what} came in time")
 
 
+def write_private(path, text):
+    """Writes a file that nobody but its owner may read."""
+    with os.fdopen(os.open(path, os.O_WRONLY | os.O_CREAT, 0o600), "wb") as file:
+        file.write(text)
+
+
 class Served:
-    """A cluster that is served until the program ends, which it is made to where a test fails."""
+    """A cluster that is served until the program ends, which it is made to where a test fails.
+
+    One that stays is served at a socket of the file system; where a cookie stands among the options, as `--cookie TEXT`, over TCP."""
 
     def __init__(self, program, options):
         self.seconds = program.seconds
         self.stays = "--stay" in options
+        self.folder = tempfile.TemporaryDirectory(prefix="served-")
+        self.socket = f"{self.folder.name}/socket"
+        if "--cookie" in options:
+            at = options.index("--cookie")
+            write_private(f"{self.folder.name}/cookie", options[at + 1].encode() + b"\n")
+            options = [*options[:at], "--cookie-file", f"{self.folder.name}/cookie", *options[at + 2 :]]
+        self.is_over_tcp = not self.stays or "--cookie-file" in options
         for _ in range(MOST_PORTS):
-            self.address = ("127.0.0.1", free_port())
-            listen = "%s:%d" % self.address
+            self.address = ("127.0.0.1", free_port()) if self.is_over_tcp else self.socket
+            listen = "%s:%d" % self.address if self.is_over_tcp else f"unix:{self.socket}"
             self.start([program.path, "serve", "--listen", listen, *options])
             line = self.expect_line()
             if line == f"listening {listen}\n".encode():
                 return
             self.process.kill()
             output, errors = self.end()
-            if not errors.startswith(f"error: --listen {listen}: ".encode()):
+            if not self.is_over_tcp or not errors.startswith(f"error: --listen {listen}: ".encode()):
                 break
         raise Failure(f"expected `listening ..`, got {shown(line + output + errors)}")
 
     def start(self, words):
         self.process = subprocess.Popen(words, bufsize=0, **PIPES)
+
+    def connect(self):
+        """A connection to the program."""
+        if self.is_over_tcp:
+            return socket.create_connection(self.address, timeout=self.seconds)
+        stream = socket.socket(socket.AF_UNIX)
+        stream.settimeout(self.seconds)
+        stream.connect(self.address)
+        return stream
 
     def expect_line(self):
         """The first line of standard output. A program that doesn't print one in time is killed."""
@@ -64,6 +89,7 @@ class Served:
     def __exit__(self, *_):
         self.process.kill()
         self.end()
+        self.folder.cleanup()
 
     def read_line(self):
         """The next line of standard output."""
@@ -94,13 +120,15 @@ class Served:
             raise Failure(f"expected `closed` with its number of events, got {shown(output)}")
         if self.process.returncode != 0:
             raise Failure(f"expected status 0, got {self.process.returncode}")
+        if os.path.exists(self.socket):
+            raise Failure("the socket is left in the file system")
 
 
 class Console:
     """A connection, and what it has heard."""
 
     def __init__(self, served):
-        self.stream = socket.create_connection(served.address, timeout=served.seconds)
+        self.stream = served.connect()
         self.heard = b""
         self.has_ended = False
 

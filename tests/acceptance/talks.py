@@ -2,6 +2,7 @@
 
 import os
 import re
+import time
 from contextlib import suppress
 from dataclasses import dataclass
 from functools import partial
@@ -170,6 +171,39 @@ def seventy_in_turn(program):
         served.expect_closed(least=70, most=70)
 
 
+def hears(console, line, seconds):
+    """What a console is answered to a line."""
+    console.say(line + b"\n")
+    if not listen_to([console], lambda: console.next_line() is not None, seconds):
+        raise Failure(f"no answer to {shown(line)} in time")
+    answer = console.next_line()
+    console.take_line()
+    return answer
+
+
+def client_goes_while_its_call_waits(program, *options):
+    """A client goes whose linked process waits for a lock: the process exits soon, though the lock stays where it is."""
+    with Served(program, ["--stay", "--nodes", "a", "--consoles", "2", *options]) as served:
+        attach = b"attach a " + options[1].encode() if options else b"attach a"
+        first, second = Console(served), Console(served)
+        for line, answer in [(attach, b"ok"), (b"spawn", b"a.1"), (b"set_lock a.1 leader one all 0", b"true")]:
+            expect_same("an answer", answer, hears(first, line, program.seconds))
+        for line, answer in [(attach, b"ok"), (b"spawn_link", b"a.2")]:
+            expect_same("an answer", answer, hears(second, line, program.seconds))
+        second.say(b"set_lock self leader two all infinity\n")
+        ask, found = b"set_lock a.2 leader two all 0", b"false"
+        while found == b"false":
+            found = hears(first, ask, program.seconds)
+        expect_same("the answer while it waits", b"error busy", found)
+        second.go()
+        until = time.monotonic() + program.seconds
+        while found == b"error busy" and time.monotonic() < until:
+            found = hears(first, ask, program.seconds)
+        expect_same("the answer when its client has gone", b"error not_live", found)
+        expect_same("an answer", b"ok", hears(first, b"shutdown", program.seconds))
+        served.expect_closed()
+
+
 def tests(program, root):
     folder = f"{root}/tests/consoles"
     for name in sorted(os.listdir(folder)):
@@ -177,3 +211,6 @@ def tests(program, root):
     yield Test("consoles/a_million_lines", partial(a_million_lines, program))
     yield Test("consoles/one_too_many", partial(one_too_many, program))
     yield Test("consoles/seventy_in_turn", partial(seventy_in_turn, program))
+    yield Test("consoles/client_goes_at_a_socket", partial(client_goes_while_its_call_waits, program))
+    over_tcp = partial(client_goes_while_its_call_waits, program, "--cookie", "0123456789abcdef")
+    yield Test("consoles/client_goes_over_tcp", over_tcp)

@@ -1,5 +1,5 @@
 -- What clap has seen to, where it takes the words.
-use Rattle.std.proofs.Common.{◌≡◌, ◌∙◌, ◌&&◌, ◌||◌, ◌⊎◌, Bool, cond, codes, true, false, not, refl, sym, ap, subst, List, [], ◌∷◌, Option, Some, None, inl, inr, is_some, find, bytes_eq, pos, if◌then◌else◌, MatchResult, Result, Ok, Err, IfSome, option_map, option_and_then, slice_get}
+use Rattle.std.proofs.Common.{◌≡◌, ◌∙◌, ◌&&◌, ◌||◌, ◌⊎◌, ℕ, Bool, cond, codes, true, false, not, refl, sym, ap, subst, List, [], ◌∷◌, Option, Some, None, inl, inr, is_some, find, bytes_eq, pos, if◌then◌else◌, MatchResult, Result, Ok, Err, IsErrAnd, IfSome, option_map, option_and_then, slice_get}
 use Rattle.std.specs.Prelude.{slice_index_or}
 use Rattle.std.specs.Option.{option_map_or}
 use Rattle.clap.specs.Facts.{explicit_source, unwrap_or_range}
@@ -7,7 +7,9 @@ use Rattle.clap.specs.Values.{IsSignedIn, read_as}
 use Rattle.clap.specs.ValueTests.{accepts}
 use Rattle.clap.specs.Lexer.{without_minus}
 use Rattle.clap.specs.Takes.{is_given}
-use Rattle.clap.specs.Kinds.{check_kinds, or_else, value_kinds}
+use Rattle.clap.specs.Words.{first_of}
+use Rattle.clap.specs.declared.error.Error.{Error}
+use Rattle.clap.specs.Kinds.{HasKind, check_kinds, or_else, value_kinds}
 use Rattle.clap.specs.Faults.{defaults_fault, entered_fault, level_fault, settle_fault, values_fault, walk_fault}
 use Rattle.clap.specs.Walk.{Row, Rule, Text, action_of, answers_to, nothing_held, row_text, rows_after, walk, walk_from, settled}
 use Rattle.clap.specs.Simple.{Shape, argument_words, built, entered, label_of, names_of, rows_at, subcommand_of}
@@ -21,20 +23,25 @@ use Rattle.clap.specs.declared.error.kind.ErrorKind.TheVariants as kind
 use Rattle.clap.proofs.ValueTestLemmas.{accepts-Accepts}
 use Rattle.std.proofs.lemmas.Slice.Eq.{bytes_eq-Decides}
 use Rattle.arguments.specs.CommandLine.{program, refusals, serve_shape}
-use Rattle.arguments.specs.Reading.{Asks, AsksIn, HasOptions, IsFlagText, IsLooked, Refuses, RefusesIn}
+use Rattle.arguments.specs.Reading.{Asks, AsksIn, HasOptions, IsFlagText, IsLooked, Refuses, RefusesIn, RefusesValues}
 use Rattle.arguments.specs.CommandLine.{Entered}
 use Rattle.arguments.specs.declared.faults.ArgFault.{ArgFault}
 use Rattle.arguments.specs.declared.faults.ArgFault.TheVariants as fault
 use Rattle.arguments.specs.declared.task.Task.{Task}
-use Rattle.arguments.proofs.Taken.{HasFineRules, IsFine, StopsFine, find_row, level_rows, nil_both, one_value, row_with, walk_stops}
+use Rattle.arguments.proofs.Taken.{AllRows, HasFineRules, IsFine, StopsFine, find_row, level_rows, nil_both, one_value, row_with, walk_stops}
 
 -- ---- the options of `serve`
 
--- a row of `serve`: it has one value; that of the number of consoles is one of 1 to 64, and that of the flag says whether it is set
+-- the row of a number, which is one of 1 to the most
+abbrev IsNumber : ℕ → Row → Text → Type 0
+IsNumber most r text = (r.reading ≡ WithoutMinus) × IsSignedIn (pos 1) (pos most) text
+
+-- a row of `serve`: it has one value; those of numbers are in their ranges, and that of the flag says whether it is set
 record ServeRow (r : Row) : Type 0 where
   text : Text
   is : r.values ≡ text ∷ []
-  number : bytes_eq r.id (codes "consoles") ≡ true → (r.reading ≡ WithoutMinus) × IsSignedIn (pos 1) (pos 64) text
+  number : bytes_eq r.id (codes "consoles") ≡ true → IsNumber 64 r text
+  seconds : bytes_eq r.id (codes "idle") ≡ true → IsNumber 31536000 r text
   flag : bytes_eq r.id (codes "stay") ≡ true → (r.reading ≡ AsWritten) × IsFlagText text
 
 -- `serve`, as it is built
@@ -45,23 +52,25 @@ is_accepted : (b : Bool) (k : ErrorKind) → (if b then [] else k ∷ []) ≡ []
 is_accepted true k h = refl
 is_accepted false k h = cc
 
-number_accepted : (v : Text) → or_else (value_kinds false (vp.Signed (pos 1) (pos 64)) v) [] ≡ [] → IsSignedIn (pos 1) (pos 64) v
-number_accepted v h =
-    let parts = nil_both (value_kinds false (vp.Signed (pos 1) (pos 64)) v) [] h in
-    accepts-Accepts false (vp.Signed (pos 1) (pos 64)) v (is_accepted (accepts false (vp.Signed (pos 1) (pos 64)) v) kind.ValueValidation parts.0)
+number_accepted : (most : ℕ) (v : Text) → or_else (value_kinds false (vp.Signed (pos 1) (pos most)) v) [] ≡ []
+    → IsSignedIn (pos 1) (pos most) v
+number_accepted most v h =
+    let parts = nil_both (value_kinds false (vp.Signed (pos 1) (pos most)) v) [] h in
+    accepts-Accepts false (vp.Signed (pos 1) (pos most)) v (is_accepted (accepts false (vp.Signed (pos 1) (pos most)) v) kind.ValueValidation parts.0)
 
 -- an option with one value that is neither
 one_valued_fine : (P : Row → Type 0) (a : Rule) → action_of a ≡ action.Set → unwrap_or_range a.range ≡ one_value
     → ((v : Text) → values_fault a (v ∷ []) ≡ [] → P (row_with a v)) → IsFine P a
 one_valued_fine P a set range fits = inr (inl (record { set = set; range = range; fits = fits }))
 
-plain_row : (id text : Text) (reading : Reading) → bytes_eq id (codes "consoles") ≡ false → bytes_eq id (codes "stay") ≡ false
-    → ServeRow (record { id = id; values = text ∷ []; count = None; source = Some CommandLine; reading = reading })
-plain_row id text reading one two = record {
+plain_row : (id text : Text) (reading : Reading) → bytes_eq id (codes "consoles") ≡ false → bytes_eq id (codes "idle") ≡ false
+    → bytes_eq id (codes "stay") ≡ false → ServeRow (record { id = id; values = text ∷ []; count = None; source = Some CommandLine; reading = reading })
+plain_row id text reading one two three = record {
   text = text;
   is = refl;
   number = λ e. absurd (differ (sym e ∙ one));
-  flag = λ e. absurd (differ (sym e ∙ two));
+  seconds = λ e. absurd (differ (sym e ∙ two));
+  flag = λ e. absurd (differ (sym e ∙ three));
 }
   where
     differ : true ≡ false → ⊥
@@ -71,16 +80,17 @@ serve_fine : HasFineRules ServeRow serve_built.args_override_self serve_built.ru
 serve_fine = record {
   once = refl;
   fine = (
-    one_valued_fine ServeRow _ refl refl (λ v h. plain_row _ v _ refl refl),
+    one_valued_fine ServeRow _ refl refl (λ v h. plain_row _ v _ refl refl refl),
     (
-      one_valued_fine ServeRow _ refl refl (λ v h. plain_row _ v _ refl refl),
+      one_valued_fine ServeRow _ refl refl (λ v h. plain_row _ v _ refl refl refl),
       (
-        one_valued_fine ServeRow _ refl refl (λ v h. plain_row _ v _ refl refl),
+        one_valued_fine ServeRow _ refl refl (λ v h. plain_row _ v _ refl refl refl),
         (
           one_valued_fine ServeRow _ refl refl (λ v h. record {
             text = v;
             is = refl;
-            number = λ e. (refl, number_accepted v h);
+            number = λ e. (refl, number_accepted 64 v h);
+            seconds = λ e. cc;
             flag = λ e. cc;
           }),
           (
@@ -89,9 +99,21 @@ serve_fine = record {
               range = refl;
               text = codes "true";
               stands = refl;
-              fits = record { text = codes "true"; is = refl; number = λ e. cc; flag = λ e. (refl, inl refl) };
+              fits = record { text = codes "true"; is = refl; number = λ e. cc; seconds = λ e. cc; flag = λ e. (refl, inl refl) };
             })),
-            (inl refl, tt),
+            (
+              one_valued_fine ServeRow _ refl refl (λ v h. plain_row _ v _ refl refl refl),
+              (
+                one_valued_fine ServeRow _ refl refl (λ v h. record {
+                  text = v;
+                  is = refl;
+                  number = λ e. cc;
+                  seconds = λ e. (refl, number_accepted 31536000 v h);
+                  flag = λ e. cc;
+                }),
+                (inl refl, tt),
+              ),
+            ),
           ),
         ),
       ),
@@ -109,9 +131,9 @@ serve_fine = record {
             inr (
               codes "false",
               refl,
-              record { text = codes "false"; is = refl; number = λ e. cc; flag = λ e. (refl, inr refl) },
+              record { text = codes "false"; is = refl; number = λ e. cc; seconds = λ e. cc; flag = λ e. (refl, inr refl) },
             ),
-            (inl refl, tt),
+            (inl refl, (inl refl, (inl refl, tt))),
           ),
         ),
       ),
@@ -126,19 +148,18 @@ some_value None rows given = cc
 some_value (Some r) rows given =
     subst (λ (vs : List Text). is_some (slice_get vs 0) ≡ true) (sym (rows r refl).is) refl
 
-number_value : (o : Option Row) → ((r : Row) → o ≡ Some r → ServeRow r × (bytes_eq r.id (codes "consoles") ≡ true))
-    → IfSome (option_and_then (λ (r : Row). slice_get r.values 0) o) (IsSignedIn (pos 1) (pos 64))
-number_value None rows = tt
-number_value (Some r) rows =
+number_value : (most : ℕ) (o : Option Row) → ((r : Row) → o ≡ Some r → (text : Text) × (r.values ≡ text ∷ []) × IsNumber most r text)
+    → IfSome (option_and_then (λ (r : Row). slice_get r.values 0) o) (IsSignedIn (pos 1) (pos most))
+number_value most None rows = tt
+number_value most (Some r) rows =
     let row = rows r refl in
-    subst (λ (vs : List Text). IfSome (slice_get vs 0) (IsSignedIn (pos 1) (pos 64))) (sym row.0.is) (row.0.number row.1).1
+    subst (λ (vs : List Text). IfSome (slice_get vs 0) (IsSignedIn (pos 1) (pos most))) (sym row.1) row.2.1
 
-number_text : (o : Option Row) → ((r : Row) → o ≡ Some r → ServeRow r × (bytes_eq r.id (codes "consoles") ≡ true))
+number_text : (most : ℕ) (o : Option Row) → ((r : Row) → o ≡ Some r → (text : Text) × (r.values ≡ text ∷ []) × IsNumber most r text)
     → option_and_then row_text o ≡ option_map without_minus (option_and_then (λ (r : Row). slice_get r.values 0) o)
-number_text None rows = refl
-number_text (Some r) rows =
-    let row = rows r refl in
-    ap (λ how. option_map (read_as how) (slice_get r.values 0)) (row.0.number row.1).0
+number_text most None rows = refl
+number_text most (Some r) rows =
+    ap (λ how. option_map (read_as how) (slice_get r.values 0)) (rows r refl).2.0
 
 flag_value : (o : Option Row) → ((r : Row) → o ≡ Some r → ServeRow r × (bytes_eq r.id (codes "stay") ≡ true))
     → IfSome (option_and_then (λ (r : Row). slice_get r.values 0) o) IsFlagText
@@ -164,6 +185,17 @@ has_both true false h = cc
 has_both false true h = cc
 has_both false false h = cc
 
+-- the rows of the two numbers
+numbered : (rows : List Row) → AllRows ServeRow rows → (r : Row) → find (λ x. bytes_eq x.id (codes "consoles")) rows ≡ Some r
+    → (text : Text) × (r.values ≡ text ∷ []) × IsNumber 64 r text
+numbered rows all r e =
+    let found = find_row ServeRow (codes "consoles") rows r all e in (found.0.text, found.0.is, found.0.number found.1)
+
+limited : (rows : List Row) → AllRows ServeRow rows → (r : Row) → find (λ x. bytes_eq x.id (codes "idle")) rows ≡ Some r
+    → (text : Text) × (r.values ≡ text ∷ []) × IsNumber 31536000 r text
+limited rows all r e =
+    let found = find_row ServeRow (codes "idle") rows r all e in (found.0.text, found.0.is, found.0.seconds found.1)
+
 options_of : (words : List Text) → level_fault serve_built [] nothing_held words false [] ≡ []
     → HasOptions (rows_after serve_built.rules [] words)
 options_of words none =
@@ -173,8 +205,10 @@ options_of words none =
     record {
       listen = some_value (find (λ r. bytes_eq r.id (codes "listen")) rows) (λ r e. (find_row ServeRow (codes "listen") rows r level.0 e).0) both.0;
       nodes = some_value (find (λ r. bytes_eq r.id (codes "nodes")) rows) (λ r e. (find_row ServeRow (codes "nodes") rows r level.0 e).0) both.1;
-      consoles = number_value (find (λ r. bytes_eq r.id (codes "consoles")) rows) (λ r e. find_row ServeRow (codes "consoles") rows r level.0 e);
-      digits = number_text (find (λ r. bytes_eq r.id (codes "consoles")) rows) (λ r e. find_row ServeRow (codes "consoles") rows r level.0 e);
+      consoles = number_value 64 (find (λ r. bytes_eq r.id (codes "consoles")) rows) (numbered rows level.0);
+      digits = number_text 64 (find (λ r. bytes_eq r.id (codes "consoles")) rows) (numbered rows level.0);
+      idle = number_value 31536000 (find (λ r. bytes_eq r.id (codes "idle")) rows) (limited rows level.0);
+      seconds = number_text 31536000 (find (λ r. bytes_eq r.id (codes "idle")) rows) (limited rows level.0);
       flag = flag_value (find (λ r. bytes_eq r.id (codes "stay")) rows) (λ r e. find_row ServeRow (codes "stay") rows r level.0 e);
       written = flag_text (find (λ r. bytes_eq r.id (codes "stay")) rows) (λ r e. find_row ServeRow (codes "stay") rows r level.0 e);
     }
@@ -250,6 +284,19 @@ looked words none =
     let fine = walk_stops a.top refl (names_of a) (walk_from nothing_held) rest walking.0 tt in
     entered_one stop fine below.0 (is_entered (is_some (entered a stop)) checking.1)
 
+-- options that are refused, by the subcommand that they are of
+pub refused_in : (entered : Entered) (rows : List Row) (r : Result Task ArgFault) (f : ArgFault) → entered ≡ Some (codes "serve", rows)
+    → IsErrAnd r (λ y. y ≡ f) → RefusesValues (λ id. first_of id rows) f → MatchResult r (AsksIn entered) (RefusesIn entered)
+refused_in entered rows (Ok t) f same is h = absurd is
+refused_in entered rows (Err y) f same is h =
+    subst (λ (e : Entered). RefusesIn e y) (sym same) (refl, subst (RefusesValues (λ id. first_of id rows)) (sym is) h)
+
+-- words that clap refuses
+pub refused_by : (words : List Text) (r : Result Task ArgFault) (e : Error) → IsErrAnd r (λ y. y ≡ fault.Words e) → HasKind (refusals words) e
+    → MatchResult r (Asks words) (Refuses words)
+refused_by words (Ok t) e is h = absurd is
+refused_by words (Err y) e is h = subst (Refuses words) (sym is) h
+
 -- what the words ask for, by what they name
 pub asked_by : (words : List Text) (e : Entered) (r : Result Task ArgFault) → e ≡ subcommand_of program words → refusals words ≡ []
     → MatchResult r (AsksIn e) (RefusesIn e) → MatchResult r (Asks words) (Refuses words)
@@ -261,3 +308,5 @@ asked_by words e (Err fault.SameNode) is none h =
     let g = subst (λ (x : Entered). RefusesIn x fault.SameNode) is h in record { taken = none; serves = g.0; refused = g.1 }
 asked_by words e (Err fault.TooManyNodes) is none h =
     let g = subst (λ (x : Entered). RefusesIn x fault.TooManyNodes) is h in record { taken = none; serves = g.0; refused = g.1 }
+asked_by words e (Err (fault.Options f)) is none h =
+    let g = subst (λ (x : Entered). RefusesIn x (fault.Options f)) is h in record { taken = none; serves = g.0; refused = g.1 }

@@ -86,6 +86,22 @@ stay_with_a_value : (name : Text) → refusals (serving name (codes "--stay=yes"
 unfolding clap_on_literals
 stay_with_a_value name = refl
 
+serve_with_a_cookie : (name : Text) → refusals (serving name (codes "--cookie-file" ∷ codes "x" ∷ [])) ≡ []
+unfolding clap_on_literals
+serve_with_a_cookie name = refl
+
+longest_silence : (name : Text) → refusals (serving name (codes "--idle" ∷ codes "31536000" ∷ [])) ≡ []
+unfolding clap_on_literals
+longest_silence name = refl
+
+too_long_silence : (name : Text) → refusals (serving name (codes "--idle=31536001" ∷ [])) ≡ kind.ValueValidation ∷ []
+unfolding clap_on_literals
+too_long_silence name = refl
+
+no_silence : (name : Text) → refusals (serving name (codes "--idle=0" ∷ [])) ≡ kind.ValueValidation ∷ []
+unfolding clap_on_literals
+no_silence name = refl
+
 address : (name : Text) → value_in (subcommand_of program (serving name [])) (codes "listen") ≡ Some (codes "x:1")
 unfolding clap_on_literals
 address name = refl
@@ -105,6 +121,14 @@ lone name = refl
 stays : (name : Text) → value_in (subcommand_of program (serving name (codes "--stay" ∷ []))) (codes "stay") ≡ Some (codes "true")
 unfolding clap_on_literals
 stays name = refl
+
+cookie_file : (name : Text) → value_in (subcommand_of program (serving name (codes "--cookie-file=x" ∷ []))) (codes "cookie-file") ≡ Some (codes "x")
+unfolding clap_on_literals
+cookie_file name = refl
+
+idle : (name : Text) → value_in (subcommand_of program (serving name (codes "--idle=9" ∷ []))) (codes "idle") ≡ Some (codes "9")
+unfolding clap_on_literals
+idle name = refl
 
 ends : (name : Text) → value_in (subcommand_of program (serving name [])) (codes "stay") ≡ Some (codes "false")
 unfolding clap_on_literals
@@ -130,10 +154,16 @@ known_words = record {
   serve_staying = serve_staying;
   stay_twice = stay_twice;
   stay_with_a_value = stay_with_a_value;
+  serve_with_a_cookie = serve_with_a_cookie;
+  longest_silence = longest_silence;
+  too_long_silence = too_long_silence;
+  no_silence = no_silence;
   address = address;
   nodes = nodes;
   no_lone = no_lone;
   lone = lone;
   stays = stays;
+  cookie_file = cookie_file;
+  idle = idle;
   ends = ends;
 }

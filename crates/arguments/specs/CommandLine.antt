@@ -22,7 +22,11 @@ consoles_rule = record (one_valued (codes "consoles")) { parser = Some (parser.S
 abbrev pub stay_rule : Rule
 stay_rule = record (new_rule (codes "stay")) { long = Some (codes "stay"); action = Some SetTrue }
 
--- the options of `serve` that take a value
+-- the option for the seconds that a console may be silent, which takes a number from 1 to 31,536,000
+abbrev pub idle_rule : Rule
+idle_rule = record (one_valued (codes "idle")) { parser = Some (parser.Signed (pos 1) (pos 31536000)) }
+
+-- the options of `serve` that are for each server
 abbrev pub valued_rules : List Rule
 valued_rules = wanted (codes "listen") ∷ wanted (codes "nodes") ∷ one_valued (codes "lone") ∷ consoles_rule ∷ []
 
@@ -30,9 +34,13 @@ valued_rules = wanted (codes "listen") ∷ wanted (codes "nodes") ∷ one_valued
 abbrev pub valued_serve_shape : Shape
 valued_serve_shape = record (new_shape (codes "serve")) { rules = valued_rules }
 
+-- the options of `serve` that are for a server that stays
+abbrev pub staying_rules : List Rule
+staying_rules = stay_rule ∷ one_valued (codes "cookie-file") ∷ idle_rule ∷ []
+
 -- the subcommand `serve` with its options
 abbrev pub serve_shape : Shape
-serve_shape = record valued_serve_shape { rules = valued_rules ++ stay_rule ∷ [] }
+serve_shape = record valued_serve_shape { rules = valued_rules ++ staying_rules }
 
 -- a command with a version and two subcommands, `script`, which takes no arguments, and `serve`, of which one is wanted
 abbrev pub program : App
@@ -86,6 +94,11 @@ pub record KnownWords : Type 0 where
   pub stay_twice : (name : Text) → refusals (serving name (codes "--stay" ∷ codes "--stay" ∷ []))
       ≡ kind.ArgumentConflict ∷ []
   pub stay_with_a_value : (name : Text) → refusals (serving name (codes "--stay=yes" ∷ [])) ≡ kind.TooManyValues ∷ []
+  pub serve_with_a_cookie : (name : Text) → refusals (serving name (codes "--cookie-file" ∷ codes "x" ∷ [])) ≡ []
+  pub longest_silence : (name : Text) → refusals (serving name (codes "--idle" ∷ codes "31536000" ∷ [])) ≡ []
+  pub too_long_silence : (name : Text) → refusals (serving name (codes "--idle=31536001" ∷ []))
+      ≡ kind.ValueValidation ∷ []
+  pub no_silence : (name : Text) → refusals (serving name (codes "--idle=0" ∷ [])) ≡ kind.ValueValidation ∷ []
   pub address : (name : Text) → value_in (subcommand_of program (serving name [])) (codes "listen") ≡ Some (codes "x:1")
   pub nodes : (name : Text) → value_in (subcommand_of program (serving name [])) (codes "nodes") ≡ Some (codes "a,b")
   pub no_lone : (name : Text) → value_in (subcommand_of program (serving name [])) (codes "lone") ≡ None
@@ -93,4 +106,8 @@ pub record KnownWords : Type 0 where
       ≡ Some (codes "d")
   pub stays : (name : Text) → value_in (subcommand_of program (serving name (codes "--stay" ∷ []))) (codes "stay")
       ≡ Some (codes "true")
+  pub cookie_file : (name : Text) → value_in (subcommand_of program (serving name (codes "--cookie-file=x" ∷ [])))
+      (codes "cookie-file") ≡ Some (codes "x")
+  pub idle : (name : Text) → value_in (subcommand_of program (serving name (codes "--idle=9" ∷ []))) (codes "idle")
+      ≡ Some (codes "9")
   pub ends : (name : Text) → value_in (subcommand_of program (serving name [])) (codes "stay") ≡ Some (codes "false")

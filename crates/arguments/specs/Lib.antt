@@ -1,4 +1,5 @@
 pub mod CommandLine
 pub mod Faults
 pub mod Nodes
+pub mod Together
 pub mod Reading

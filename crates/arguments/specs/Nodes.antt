@@ -5,7 +5,7 @@ use Rattle.term.specs.NodeLists.{SpellsNodes, RefusesNodes}
 use Rattle.term.specs.NodeSets.{most_nodes, set_of}
 use Rattle.term.specs.declared.faults.TextFault.{TextFault}
 use Rattle.arguments.specs.declared.faults.ArgFault.{ArgFault}
-use Rattle.arguments.specs.declared.faults.ArgFault.TheVariants.{Words, Text, SameNode, TooManyNodes}
+use Rattle.arguments.specs.declared.faults.ArgFault.TheVariants.{Options, Words, Text, SameNode, TooManyNodes}
 
 -- some node stands in both lists
 abbrev pub shares : List ℕ → List ℕ → Bool
@@ -53,6 +53,7 @@ RefusesList nodes lone fault =
 -- the fault of two lists: that of the first that spells no set, else that they share a node, else that they are too many
 abbrev pub RefusesPlacing : List ℕ → Option (List ℕ) → ArgFault → Type 0
 RefusesPlacing _ _ (Words _) = ⊥
+RefusesPlacing _ _ (Options _) = ⊥
 RefusesPlacing nodes lone (Text fault) = RefusesList nodes lone fault
 RefusesPlacing nodes lone SameNode = SharesNode nodes lone
 RefusesPlacing nodes lone TooManyNodes = HasTooMany nodes lone

@@ -6,8 +6,10 @@ use Rattle.clap.specs.Values.{kind_of}
 use Rattle.clap.specs.declared.error.kind.ErrorKind.TheVariants.{OutOfMemory}
 use Rattle.arguments.specs.CommandLine.{Entered, name_in, program, refusals, value_in}
 use Rattle.arguments.specs.Nodes.{PlacesNodes, RefusesPlacing}
+use Rattle.arguments.specs.Together.{Clashes}
 use Rattle.arguments.specs.declared.faults.ArgFault.{ArgFault}
-use Rattle.arguments.specs.declared.faults.ArgFault.TheVariants.{Words}
+use Rattle.arguments.specs.declared.faults.ArgFault.TheVariants.{Options, Words}
+use Rattle.arguments.specs.declared.faults.OptionFault.{OptionFault}
 use Rattle.arguments.specs.declared.task.ServeOptions.{ServeOptions}
 use Rattle.arguments.specs.declared.task.Task.{Task}
 use Rattle.arguments.specs.declared.task.Task.TheVariants.{Script, Serve}
@@ -21,10 +23,19 @@ abbrev pub is_set : Option Bytes → Bool
 is_set None = false
 is_set (Some text) = bytes_eq text (codes "true")
 
+-- digits tell this number, which is from 1 to the most
+abbrev pub Counts : ℕ → Bytes → ℕ → Type 0
+Counts most digits n = (1 ≤ n) × (n ≤ most) × (n ≡ digits_value 10 (without_leading_plus digits))
+
 -- how many consoles are taken, or served at once where it stays: the number that is given, from 1 to 64; and where none is, 8, or 64 at once
 abbrev pub CountsConsoles : Bool → Option Bytes → ℕ → Type 0
 CountsConsoles stay None n = n ≡ (if stay then 64 else 8)
-CountsConsoles stay (Some digits) n = (1 ≤ n) × (n ≤ 64) × (n ≡ digits_value 10 (without_leading_plus digits))
+CountsConsoles stay (Some digits) n = Counts 64 digits n
+
+-- for how many seconds a console may be silent: the number that is given, from 1 to 31,536,000; and where none is, for ever
+abbrev pub CountsSeconds : Option Bytes → Option ℕ → Type 0
+CountsSeconds None limit = limit ≡ None
+CountsSeconds (Some digits) limit = (seconds : ℕ) × (limit ≡ Some seconds) × Counts 31536000 digits seconds
 
 -- these values tell `serve` so
 pub record Tells (value : Values) (o : ServeOptions) : Type 0 where
@@ -34,6 +45,12 @@ pub record Tells (value : Values) (o : ServeOptions) : Type 0 where
   pub placed : PlacesNodes list (value (codes "lone")) o.cluster o.lone
   pub count : CountsConsoles o.stay (value (codes "consoles")) o.consoles
   pub stays : o.stay ≡ is_set (value (codes "stay"))
+  pub cookie : option_map string_bytes o.cookie_file ≡ value (codes "cookie-file")
+  pub limit : CountsSeconds (value (codes "idle")) o.idle
+
+-- these values tell `serve` so, and their options go together
+abbrev pub TellsFine : Values → ServeOptions → Type 0
+TellsFine value o = Tells value o × Clashes o None
 
 -- the lists that these values give are refused for the fault
 pub record RefusesLists (value : Values) (fault : ArgFault) : Type 0 where
@@ -41,21 +58,33 @@ pub record RefusesLists (value : Values) (fault : ArgFault) : Type 0 where
   pub nodes : value (codes "nodes") ≡ Some list
   pub refused : RefusesPlacing list (value (codes "lone")) fault
 
--- the values of options that are refused: the lists are, or memory was
+-- the lists that these values give are fine, and their options don't go together
+abbrev pub RefusesTogether : Values → OptionFault → Type 0
+RefusesTogether value fault = (o : ServeOptions) × Tells value o × Clashes o (Some fault)
+
+-- the lists that these values give are refused for the fault, or memory was
+abbrev pub RefusesTold : Values → ArgFault → Type 0
+RefusesTold value (Words e) = kind_of e ≡ OutOfMemory
+RefusesTold value fault = RefusesLists value fault
+
+-- these values are refused for the fault: their lists are, or else their options, or memory was
 abbrev pub RefusesValues : Values → ArgFault → Type 0
 RefusesValues value (Words e) = kind_of e ≡ OutOfMemory
+RefusesValues value (Options fault) = RefusesTogether value fault
 RefusesValues value fault = RefusesLists value fault
 
 -- what a flag is read as
 abbrev pub IsFlagText : Bytes → Type 0
 IsFlagText text = (text ≡ codes "true") ⊎ (text ≡ codes "false")
 
--- what clap has seen to: the wanted options are there, the number of consoles is one of 1 to 64 where it is given, and the flag is set or not
+-- what clap has seen to: the wanted options are there, the numbers are in their ranges where they are given, and the flag is set or not
 pub record HasOptions (rows : List Row) : Type 0 where
   pub listen : is_some (first_of (codes "listen") rows) ≡ true
   pub nodes : is_some (first_of (codes "nodes") rows) ≡ true
   pub consoles : IfSome (first_of (codes "consoles") rows) (IsSignedIn (pos 1) (pos 64))
   pub digits : one_of (codes "consoles") rows ≡ option_map without_minus (first_of (codes "consoles") rows)
+  pub idle : IfSome (first_of (codes "idle") rows) (IsSignedIn (pos 1) (pos 31536000))
+  pub seconds : one_of (codes "idle") rows ≡ option_map without_minus (first_of (codes "idle") rows)
   pub flag : IfSome (first_of (codes "stay") rows) IsFlagText
   pub written : one_of (codes "stay") rows ≡ first_of (codes "stay") rows
 
@@ -67,7 +96,7 @@ IsLooked entered = (name_in entered ≡ Some (codes "script"))
 -- the subcommand and its options ask for this
 abbrev pub AsksIn : Entered → Task → Type 0
 AsksIn entered Script = name_in entered ≡ Some (codes "script")
-AsksIn entered (Serve o) = (name_in entered ≡ Some (codes "serve")) × Tells (value_in entered) o
+AsksIn entered (Serve o) = (name_in entered ≡ Some (codes "serve")) × TellsFine (value_in entered) o
 
 -- the options of `serve` are refused for the fault
 abbrev pub RefusesIn : Entered → ArgFault → Type 0
@@ -78,13 +107,13 @@ pub record Asks (words : List Bytes) (task : Task) : Type 0 where
   pub taken : refusals words ≡ []
   pub asked : AsksIn (subcommand_of program words) task
 
--- the words are taken, and the lists of `serve` are refused for the fault
-pub record RefusesNodesOf (words : List Bytes) (fault : ArgFault) : Type 0 where
+-- the words are taken, and the options of `serve` are refused for the fault
+pub record RefusesOptionsOf (words : List Bytes) (fault : ArgFault) : Type 0 where
   pub taken : refusals words ≡ []
   pub serves : name_in (subcommand_of program words) ≡ Some (codes "serve")
-  pub refused : RefusesLists (value_in (subcommand_of program words)) fault
+  pub refused : RefusesValues (value_in (subcommand_of program words)) fault
 
--- why the words are not taken: clap refuses them or memory was refused, or else the lists of `serve` are refused
+-- why the words are not taken: clap refuses them or memory was refused, or else the options of `serve` are refused
 abbrev pub Refuses : List Bytes → ArgFault → Type 0
 Refuses words (Words e) = HasKind (refusals words) e
-Refuses words fault = RefusesNodesOf words fault
+Refuses words fault = RefusesOptionsOf words fault

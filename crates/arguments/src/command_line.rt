@@ -2,7 +2,7 @@
 ghost use Rattle.std.specs.Prelude.{◌≡◌, false, None, IfOk, [], ◌∷◌};
 ghost use Rattle.clap.specs.Words.{app_of, rule_of};
 ghost use Rattle.clap.specs.declared.builder.command.Command.TheViews.{out-Command as fields_of};
-ghost use Rattle.arguments.specs.CommandLine.{program, consoles_rule, one_valued, serve_shape, stay_rule, valued_serve_shape, wanted};
+ghost use Rattle.arguments.specs.CommandLine.{program, consoles_rule, idle_rule, one_valued, serve_shape, stay_rule, valued_serve_shape, wanted};
 
 use clap::{Arg, ArgAction, Command};
 use std::alloc::{AllocError, Global};
@@ -53,7 +53,21 @@ fn stay_flag<'a>(alloc: Global) -> Arg<'a>
         .help("Stays until a console says shutdown, however many consoles come")
 }
 
-/// The subcommand `serve` with those of its options that take a value.
+/// The option for the seconds that a console may be silent.
+fn idle_option<'a>(alloc: Global) -> Arg<'a>
+    ensures rule { rule_of result ≡ idle_rule }
+    ensures local { result.global ≡ false }
+{
+    option(
+        alloc,
+        "idle",
+        "SECONDS",
+        "With --stay: after how many seconds without a line a console ends, 1 to 31536000; never without this option",
+    )
+    .value_parser(clap::value_parser!(u32).range(1..=31_536_000))
+}
+
+/// The subcommand `serve` with the options of each server.
 fn valued_serve_command<'a>(alloc: Global) -> Result<Command<'a>, AllocError>
     ensures shape { IfOk result (λ command. app_of command ≡ record { top = valued_serve_shape; subs = [] }) }
     ensures local { IfOk result (λ command. (fields_of command).has_globals ≡ false) }
@@ -62,7 +76,7 @@ fn valued_serve_command<'a>(alloc: Global) -> Result<Command<'a>, AllocError>
         alloc,
         "listen",
         "ADDR",
-        "The address to listen on, as 127.0.0.1:4370",
+        "The address to listen on, as 127.0.0.1:4370, or with --stay a socket, as unix:/run/yaltzumin/socket",
     );
     let nodes = wanted_option(
         alloc,
@@ -89,7 +103,16 @@ fn serve_command<'a>(alloc: Global) -> Result<Command<'a>, AllocError>
     ensures shape { IfOk result (λ command. app_of command ≡ record { top = serve_shape; subs = [] }) }
     ensures local { IfOk result (λ command. (fields_of command).has_globals ≡ false) }
 {
-    valued_serve_command(alloc)?.arg(stay_flag(alloc))
+    let cookie_file = option(
+        alloc,
+        "cookie-file",
+        "FILE",
+        "With --stay: the file whose first line each console must show, which only its owner may read; wanted where ADDR is no socket",
+    );
+    valued_serve_command(alloc)?
+        .arg(stay_flag(alloc))?
+        .arg(cookie_file)?
+        .arg(idle_option(alloc))
 }
 
 /// The command line of the program.

@@ -3,10 +3,11 @@ ghost use Rattle.std.specs.Prelude.{◌≡◌, option_map, codes};
 ghost use Rattle.clap.specs.Values.{kind_of};
 ghost use Rattle.clap.specs.declared.error.Error.{Error};
 ghost use Rattle.clap.specs.declared.error.kind.ErrorKind.TheVariants.{OutOfMemory};
-ghost use Rattle.arguments.specs.Faults.{word_of};
+ghost use Rattle.arguments.specs.Faults.{option_text, word_of};
 ghost use Rattle.arguments.specs.declared.faults.ArgFault.TheVariants.{Words, Text};
 
 use std::alloc::AllocError;
+use std::fmt;
 use term::TextFault;
 use thiserror::Error;
 
@@ -26,6 +27,22 @@ pub enum ArgFault {
     /// The lists name more than eight nodes together, and share none.
     #[error("too_many_nodes")]
     TooManyNodes,
+    /// The lists are fine, and an option doesn't go with the others.
+    #[error("{0}")]
+    Options(OptionFault),
+}
+
+/// Why an option doesn't go with the others. Where there are several reasons the first is told.
+#[derive(Clone, Copy, Debug)]
+pub enum OptionFault {
+    /// A cookie file is for a server that stays.
+    CookieFile,
+    /// A limit of silence is for a server that stays.
+    Idle,
+    /// A socket is for a server that stays.
+    Socket,
+    /// A server that stays, and listens at an address of the network, needs a cookie file.
+    NoCookieFile,
 }
 
 impl From<clap::Error> for ArgFault {
@@ -52,13 +69,33 @@ impl From<TextFault> for ArgFault {
     }
 }
 
+impl fmt::Display for OptionFault {
+    fn fmt<W: fmt::Write>(&self, f: &mut fmt::Formatter<W>) -> fmt::Result {
+        f.write_str(self.text())
+    }
+}
+
+impl OptionFault {
+    /// The text that is printed for it.
+    pub fn text(self) -> &'static str
+        ensures { result.now ≡ option_text self }
+    {
+        match self {
+            OptionFault::CookieFile => "--cookie-file: goes with --stay alone",
+            OptionFault::Idle => "--idle: goes with --stay alone",
+            OptionFault::Socket => "--listen unix:PATH: goes with --stay alone",
+            OptionFault::NoCookieFile => "--cookie-file: wanted with --stay over TCP",
+        }
+    }
+}
+
 impl ArgFault {
-    /// The word that is printed for the nodes, or none where the words themselves are at fault.
+    /// The word that is printed for the nodes, or none where other words are at fault.
     pub fn word(&self) -> Option<&'static str>
         ensures { option_map (λ word. word.now) result ≡ word_of self.now }
     {
         match self {
-            ArgFault::Words(_) => None,
+            ArgFault::Words(_) | ArgFault::Options(_) => None,
             ArgFault::Text(TextFault::Empty) => Some("empty"),
             ArgFault::Text(TextFault::TooLong) => Some("too_long"),
             ArgFault::Text(TextFault::BadByte(_)) => Some("bad_byte"),

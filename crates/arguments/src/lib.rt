@@ -7,6 +7,6 @@ mod nodes;
 mod reading;
 mod task;
 
-pub use faults::ArgFault;
+pub use faults::{ArgFault, OptionFault};
 pub use reading::read_args;
 pub use task::{ServeOptions, Task};

@@ -1,15 +1,15 @@
 //! What the words ask for.
-ghost use Rattle.std.specs.Prelude.{◌≡◌, None, MatchResult, codes, map, string_bytes};
+ghost use Rattle.std.specs.Prelude.{◌≡◌, None, IfOk, MatchResult, codes, map, option_map, string_bytes};
 ghost use Rattle.clap.specs.Words.{first_of, found_of, rows_of, subcommand_rows_of};
 ghost use Rattle.arguments.specs.CommandLine.{KnownWords};
-ghost use Rattle.arguments.specs.Reading.{Asks, AsksIn, CountsConsoles, HasOptions, IsLooked, Refuses, RefusesIn, RefusesValues, Tells};
+ghost use Rattle.arguments.specs.Reading.{Asks, AsksIn, CountsConsoles, CountsSeconds, HasOptions, IsLooked, Refuses, RefusesIn, RefusesTold, RefusesValues, Tells, TellsFine};
 
 use crate::command_line::command;
 use crate::faults::ArgFault;
 use crate::nodes::read_nodes;
 use crate::task::{ServeOptions, Task};
 use clap::ArgMatches;
-use std::alloc::Global;
+use std::alloc::{AllocError, Global};
 
 /// How many consoles are taken where the words don't tell.
 const CONSOLES: u8 = 8;
@@ -34,16 +34,35 @@ fn read_consoles(matches: &ArgMatches<'_>, stay: bool) -> u8
         .unwrap_or(untold_consoles(stay))
 }
 
-/// Reads the options of `serve`, which clap has looked at before: those that are wanted are there, and the number of
-/// consoles is one of 1 to 64 where it is given.
-fn read_options(alloc: Global, matches: &ArgMatches<'_>) -> Result<ServeOptions, ArgFault>
+/// Reads for how many seconds a console may be silent, which clap has looked at before.
+fn read_idle(matches: &ArgMatches<'_>) -> Option<u32>
+    requires { HasOptions (rows_of (found_of matches.now)) }
+    ensures { CountsSeconds (first_of (codes "idle") (rows_of (found_of matches.now))) result }
+{
+    matches.get_one::<u32>("idle")
+}
+
+/// A text of its own, where there is one.
+fn copied(alloc: Global, text: Option<&str>) -> Result<Option<String>, AllocError>
+    ensures { IfOk result (λ copy. option_map string_bytes copy ≡ option_map (λ text. text.now) text.entry) }
+{
+    match text {
+        Some(text) => Ok(Some(String::from_str(alloc, text)?)),
+        None => Ok(None),
+    }
+}
+
+/// Reads what the options of `serve` tell, which clap has looked at before: those that are wanted are there, and the numbers
+/// are in their ranges where they are given.
+fn read_told(alloc: Global, matches: &ArgMatches<'_>) -> Result<ServeOptions, ArgFault>
     requires { HasOptions (rows_of (found_of matches.now)) }
     ensures { MatchResult result (Tells (λ id. first_of id (rows_of (found_of matches.now))))
-        (RefusesValues (λ id. first_of id (rows_of (found_of matches.now)))) }
+        (RefusesTold (λ id. first_of id (rows_of (found_of matches.now)))) }
 {
     let listen = matches.get_str("listen").unwrap();
     let nodes = matches.get_str("nodes").unwrap();
     let (cluster, lone) = read_nodes(nodes, matches.get_str("lone"))?;
+    let cookie_file = copied(alloc, matches.get_str("cookie-file"))?;
     let listen = String::from_str(alloc, listen)?;
     let stay = matches.get_flag("stay");
     let consoles = read_consoles(matches, stay);
@@ -53,7 +72,22 @@ fn read_options(alloc: Global, matches: &ArgMatches<'_>) -> Result<ServeOptions,
         lone,
         consoles,
         stay,
+        cookie_file,
+        idle: read_idle(matches),
     })
+}
+
+/// Reads the options of `serve`, which clap has looked at before, and sees that they go together.
+fn read_options(alloc: Global, matches: &ArgMatches<'_>) -> Result<ServeOptions, ArgFault>
+    requires { HasOptions (rows_of (found_of matches.now)) }
+    ensures { MatchResult result (TellsFine (λ id. first_of id (rows_of (found_of matches.now))))
+        (RefusesValues (λ id. first_of id (rows_of (found_of matches.now)))) }
+{
+    let options = read_told(alloc, matches)?;
+    match options.fault() {
+        Some(fault) => Err(ArgFault::Options(fault)),
+        None => Ok(options),
+    }
 }
 
 /// Reads what clap found, which has looked at it before.

@@ -5,9 +5,9 @@ use Rattle.std.specs.Io.KnownBytes.{Keeps}
 use Rattle.clap.specs.Words.{HasKind, IsAmong, Kinds, Text as Word, kind_of, subcommand_of}
 use Rattle.clap.specs.declared.error.Error.{Error}
 use Rattle.arguments.specs.CommandLine.{program, refusals, value_in}
-use Rattle.arguments.specs.Reading.{Asks, Refuses, RefusesNodesOf}
+use Rattle.arguments.specs.Reading.{Asks, Refuses, RefusesOptionsOf}
 use Rattle.arguments.specs.declared.faults.ArgFault.{ArgFault}
-use Rattle.arguments.specs.declared.faults.ArgFault.TheVariants.{Words, Text, SameNode, TooManyNodes}
+use Rattle.arguments.specs.declared.faults.ArgFault.TheVariants.{Options, Words, Text, SameNode, TooManyNodes}
 use Rattle.arguments.specs.declared.task.ServeOptions.{ServeOptions}
 use Rattle.arguments.specs.declared.task.Task.TheVariants.{Serve}
 use Rattle.cluster_main.specs.Answering.{DoesFor, DoesNothing, DoesTask, Streams, Told}
@@ -44,7 +44,7 @@ taken words s told status e d = rw e d
 
 -- consoles were served
 pub served : (words : List Word) (o : ServeOptions) (came : Served) (s : Streams) (told : Told) (status : ℕ)
-    → Asks words (Serve o) → Keeps s.input s.rest → Serves o s.old s.new came → TellsWhy o.stay told.old told.new came
+    → Asks words (Serve o) → Keeps s.input s.rest → Serves o s.old s.new came → TellsWhy o told.old told.new came
     → status ≡ served_status came
     → DoesFor words (refusals words) s told status
 served words o came s told status a u d y e =
@@ -61,8 +61,8 @@ served words o came s told status a u d y e =
       }),
     ))
 
--- the lists of nodes were refused
-listed : (words : List Word) (fault : ArgFault) (s : Streams) (told : Told) (status : ℕ) → RefusesNodesOf words fault
+-- the lists of nodes were refused, or the options
+listed : (words : List Word) (fault : ArgFault) (s : Streams) (told : Told) (status : ℕ) → RefusesOptionsOf words fault
     → Keeps s.input s.rest → IsTold fault s.old s.new told.old told.new status
     → DoesFor words (refusals words) s told status
 listed words fault s told status r u d = taken words s told status r.taken (inr (
@@ -78,3 +78,4 @@ refused words (Words e) s told status r u d = shown words (refusals words) e s t
 refused words (Text f) s told status r u d = inl (listed words (Text f) s told status r u d)
 refused words SameNode s told status r u d = inl (listed words SameNode s told status r u d)
 refused words TooManyNodes s told status r u d = inl (listed words TooManyNodes s told status r u d)
+refused words (Options f) s told status r u d = inl (listed words (Options f) s told status r u d)

@@ -1,3 +1,5 @@
 mod Answered
+mod CookieText
 mod Placed
+mod Refused
 mod Written

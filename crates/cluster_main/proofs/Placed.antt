@@ -12,11 +12,11 @@ use Rattle.term.specs.Spelling.{SpellsText}
 use Rattle.term.proofs.NodeLists.{rising-tail}
 use Rattle.term.proofs.NodeSets.{FitsAt, rises, set_of-fits}
 use Rattle.arguments.specs.Nodes.{PlacesNodes, SpellsLone, shares}
-use Rattle.arguments.specs.Reading.{Tells, Values}
+use Rattle.arguments.specs.Reading.{TellsFine, Values}
 use Rattle.arguments.specs.declared.task.ServeOptions.{ServeOptions}
 use Rattle.server.specs.Openings.{repeats, start_refused}
 use Rattle.server.specs.declared.StartFault.{StartFault}
-use Rattle.cluster_main.specs.Serving.{IsPlaced}
+use Rattle.cluster_main.specs.Serving.{IsReady}
 
 -- the first of rising nodes isn't among the others
 head-misses : (c : ℕ) (cs : List ℕ) → IsStrictlyIncreasing (c ∷ cs) → set_of cs c ≡ false
@@ -83,8 +83,11 @@ lone-rises None lone alone = subst IsStrictlyIncreasing (sym alone) (λ k inside
 lone-rises (Some list) lone alone = alone.listed.rising
 
 -- the nodes of options that are told can be started as a cluster
-pub placed : (value : Values) (o : ServeOptions) → Tells value o → IsPlaced o
-placed value o t =
-    let p = t.placed in
-    starts o.cluster o.lone (some-node t.list o.cluster p.joined)
-    (apart-once o.cluster o.lone p.joined.listed.rising (lone-rises (value (codes "lone")) o.lone p.alone) p.apart) p.fits
+pub ready : (value : Values) (o : ServeOptions) → TellsFine value o → IsReady o
+ready value o t =
+    let p = t.0.placed in
+    record {
+      starts = starts o.cluster o.lone (some-node t.0.list o.cluster p.joined)
+          (apart-once o.cluster o.lone p.joined.listed.rising (lone-rises (value (codes "lone")) o.lone p.alone) p.apart) p.fits;
+      together = t.1;
+    }

@@ -6,7 +6,7 @@ use Rattle.clap.specs.declared.error.kind.ErrorKind.{ErrorKind}
 use Rattle.cluster_script.specs.Script.{Ran, Stopped}
 use Rattle.text_lines.specs.declared.faults.StreamFault.{StreamFault}
 use Rattle.arguments.specs.CommandLine.{Entered, name_in, program, refusals, value_in}
-use Rattle.arguments.specs.Reading.{RefusesLists, Tells, Values}
+use Rattle.arguments.specs.Reading.{RefusesValues, TellsFine, Values}
 use Rattle.arguments.specs.declared.faults.ArgFault.{ArgFault}
 use Rattle.arguments.specs.declared.task.ServeOptions.{ServeOptions}
 use Rattle.cluster_main.specs.Refusing.{IsTold, status_for}
@@ -52,31 +52,30 @@ pub record DoesNothing (s : Streams) : Type 0 where
   pub unread : Keeps s.input s.rest
   pub unprinted : Keeps s.old s.new
 
--- consoles were served, with the address and the nodes that these values give; nothing is read, and on standard error nothing is
--- told once the program listens, but by a server that stays
+-- consoles were served as these values say, or it was told on standard error why they aren't; nothing is read
 pub record ServesConsoles (value : Values) (s : Streams) (told : Told) (status : ℕ) : Type 0 where
   pub options : ServeOptions
   pub served : Served
-  pub given : Tells value options
+  pub given : TellsFine value options
   pub unread : Keeps s.input s.rest
   pub serves : Serves options s.old s.new served
-  pub why : TellsWhy options.stay told.old told.new served
+  pub why : TellsWhy options told.old told.new served
   pub status_is : status ≡ served_status served
 
--- the lists of nodes that these values give were refused, and the word for it was told
-pub record TellsWord (value : Values) (s : Streams) (told : Told) (status : ℕ) : Type 0 where
+-- the lists of nodes that these values give were refused, or the options, and the line for it was told
+pub record TellsFault (value : Values) (s : Streams) (told : Told) (status : ℕ) : Type 0 where
   pub fault : ArgFault
-  pub refused : RefusesLists value fault
+  pub refused : RefusesValues value fault
   pub unread : Keeps s.input s.rest
   pub answered : IsTold fault s.old s.new told.old told.new status
 
 -- what is done for a subcommand: a script is played, and nothing told on standard error; or consoles are served, unless the
--- lists of nodes are refused
+-- lists of nodes or the options are refused
 abbrev pub DoesTask : Entered → Streams → Told → ℕ → Type 0
 DoesTask entered s told status =
     ((name_in entered ≡ Some (codes "script")) × PlaysScript s status × Keeps told.old told.new)
     ⊎ ((name_in entered ≡ Some (codes "serve"))
-    × (ServesConsoles (value_in entered) s told status ⊎ TellsWord (value_in entered) s told status))
+    × (ServesConsoles (value_in entered) s told status ⊎ TellsFault (value_in entered) s told status))
 
 -- what is done for words whose parse may give these kinds
 abbrev pub DoesFor : List Text → Kinds → Streams → Told → ℕ → Type 0

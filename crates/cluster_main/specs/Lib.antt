@@ -1,4 +1,5 @@
+pub mod Cookies
 pub mod Listening
-pub mod Serving
 pub mod Refusing
+pub mod Serving
 pub mod Answering

@@ -8,6 +8,7 @@ use crate::refusing::refuse;
 use crate::serving::serve;
 use arguments::{Task, read_args};
 use std::alloc::Global;
+use std::fs::Files;
 use std::io::{BufReader, Read, Write};
 use std::net::{Net, TcpListener, TcpStream};
 use std::sync::Wait;
@@ -25,7 +26,7 @@ pub fn answer<H, R, W, E>(
     errors: &mut E,
 ) -> u8
 where
-    H: Threads + Wait + Clock + Net<Listener = TcpListener, Stream = TcpStream>,
+    H: Threads + Wait + Clock + Files + Net<Listener = TcpListener, Stream = TcpStream>,
     H: Drop + Copy + Send + Sync + 'static,
     R: Read,
     W: Write,

@@ -1,19 +1,37 @@
-//! The line that tells where the program listens.
-ghost use Rattle.std.specs.Prelude.{ℕ, List, IfOk, string_bytes};
+//! Where the program listens, and the line that tells of it.
+ghost use Rattle.std.specs.Prelude.{ℕ, List, IfOk, MatchResult, string_bytes};
 ghost use Rattle.text_lines.specs.Writing.{Writes};
-ghost use Rattle.cluster_main.specs.Listening.{HasPort, IsListeningLine, TellsAddress, listening_line};
+ghost use Rattle.cluster_main.specs.Listening.{EntersAt, HasPort, IsListeningLine, IsPortOf, RefusesAddress, TellsAddress, listening_line};
 
 use crate::lines::write_line;
+use crate::sockets::{ListenFault, bind_private};
+use arguments::ServeOptions;
+use server::Entry;
 use std::alloc::{AllocError, Global};
+use std::fs::Files;
 use std::io::Write;
-use std::net::TcpListener;
+use std::net::{Net, TcpListener, TcpStream};
 use text_lines::{WriteFault, hand_on};
 
-/// The port that a listener tells, if it tells one.
-fn port_of(listener: &TcpListener) -> Option<u16> {
-    match listener.local_addr() {
-        Ok(address) => Some(address.port()),
-        Err(_) => None,
+/// Listens at the address: at a socket where it names one, and else at one of the network.
+pub(crate) fn listen<H>(rt: &H, alloc: Global, options: &ServeOptions) -> Result<Entry, ListenFault>
+where
+    H: Files + Net<Listener = TcpListener, Stream = TcpStream>,
+    ensures { MatchResult result (EntersAt (string_bytes options.now.listen)) (RefusesAddress (string_bytes options.now.listen)) }
+{
+    match options.socket() {
+        Some(path) => Ok(Entry::Unix(bind_private(rt, alloc, path)?)),
+        None => Ok(Entry::Tcp(TcpListener::bind(rt, options.listen.as_str())?)),
+    }
+}
+
+/// The port that the listener at an entry tells, if it tells one.
+fn port_of(entry: &Entry) -> Option<u16>
+    ensures { IsPortOf entry.now result }
+{
+    match entry {
+        Entry::Tcp(listener) => Some(listener.local_addr().ok()?.port()),
+        Entry::Unix(_) => None,
     }
 }
 
@@ -50,12 +68,13 @@ fn write_address<W: Write>(writer: &mut W, address: &str) -> Result<(), WriteFau
 pub(crate) fn announce<W: Write>(
     alloc: Global,
     writer: &mut W,
-    listener: &TcpListener,
+    entry: &Entry,
     written: &str,
 ) -> Result<(), WriteFault>
+    requires { EntersAt written.now entry.now }
     ensures { (line : List ℕ) × IsListeningLine written.now line
         × Writes (W.contents writer.old) (W.contents writer.new) result line }
 {
-    let address = told_address(alloc, written, port_of(listener))?;
+    let address = told_address(alloc, written, port_of(entry))?;
     write_address(writer, address.as_str())
 }

@@ -2,14 +2,17 @@
 #![tactic(auto)]
 
 mod answering;
+mod cookies;
 mod lines;
 mod listening;
 mod playing;
 mod refusing;
 mod serving;
+mod sockets;
 mod words;
 
 use answering::answer;
+use std::fs::Files;
 use std::io::{self, BufReader, BufWriter, Write};
 use std::net::{Net, TcpListener, TcpStream};
 use std::process::ExitCode;
@@ -25,7 +28,7 @@ const BUFFER_SIZE: usize = 64 * 1024;
 /// Reads the arguments and does what they ask for, and gives the status.
 fn run<H, E>(rt: &H, errors: &mut E) -> io::Result<u8>
 where
-    H: Env + Input + Print + AllocGlobal + Threads + Wait + Clock,
+    H: Env + Files + Input + Print + AllocGlobal + Threads + Wait + Clock,
     H: Net<Listener = TcpListener, Stream = TcpStream> + Drop + Copy + Send + Sync + 'static,
     E: Write,
 {

@@ -226,8 +226,8 @@ fn with_five(
     }
 }
 
-/// What words ask for.
-pub(crate) fn read_words(alloc: Global, words: &[&str]) -> Result<Task, LineFault>
+/// What the words of a line ask for, or why it is refused.
+pub fn read_words(alloc: Global, words: &[&str]) -> Result<Task, LineFault>
     ensures asks { result ≢ Err Memory → WordsAsk (map (λ word. word.now) words.now) (asked_by result) }
     ensures memory { result ≡ Err Memory → WordsNameNodes (map (λ word. word.now) words.now) }
 {

@@ -1,2 +1,4 @@
 mod Heeding
+mod Leaving
+pub mod Meaning
 mod Talking

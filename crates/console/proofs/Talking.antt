@@ -12,7 +12,7 @@ use Rattle.text_lines.specs.Lines.{LosesLines, LosesInto, LosesWithinLine, HasNo
 use Rattle.text_lines.specs.Writing.{AppendsPart}
 use Rattle.text_lines.proofs.Known.{LosesLines-nil, LosesLines-trans, LosesLines-more, LosesInto-whole, LosesInto-behind, MayEndIn-none, count_of_all-append}
 use Rattle.text_lines.proofs.Written.{AppendsPart-behind}
-use Rattle.console.specs.Consoles.{Answering, AnswersLine, AnswersAll, EndsBy, GoesTooFar, ServesSome, ServesSoFar, Stops, Tells, TellStops}
+use Rattle.console.specs.Consoles.{Answering, AnswersLine, AnswersAll, GoesTooFar, ServesSome, ServesSoFar, Talk, TalkStops, TalksUntil, Tells, TellStops}
 use Rattle.console.specs.declared.ends.ConsoleEnd.{ConsoleEnd}
 use Rattle.console.specs.declared.ends.ConsoleEnd.TheVariants as by
 use Rattle.console.proofs.Heeding.{AnswersAll-push}
@@ -44,7 +44,7 @@ too_far a b ls most left t e g = (
 
 module _ {S : Type 0} (answers : Answering S) (stays : Bool) (most : ℕ) where
   -- no line was read yet
-  pub ServesSoFar-start : (input old : Option (List ℕ)) (s : S) → ServesSoFar answers stays most input input old old s s most
+  pub ServesSoFar-start : (input old : Option (List ℕ)) (s : Talk S) → ServesSoFar answers stays most input input old old s s most
   ServesSoFar-start input old s = record {
     taken = [];
     texts = [];
@@ -55,7 +55,7 @@ module _ {S : Type 0} (answers : Answering S) (stays : Bool) (most : ℕ) where
   }
 
   -- what was written stays
-  pub ServesSoFar-kept : (input mid old new same : Option (List ℕ)) (s t : S) (left : ℕ)
+  pub ServesSoFar-kept : (input mid old new same : Option (List ℕ)) (s t : Talk S) (left : ℕ)
       → ServesSoFar answers stays most input mid old new s t left → Keeps new same → ServesSoFar answers stays most input mid old same s t left
   ServesSoFar-kept input mid old new same s t left P k = record {
     taken = P.taken;
@@ -66,7 +66,7 @@ module _ {S : Type 0} (answers : Answering S) (stays : Bool) (most : ℕ) where
     wrote = Appends-kept old new same (concat P.texts) P.wrote k;
   }
 
-  module _ (input mid old new : Option (List ℕ)) (s t : S) (left : ℕ) (P : ServesSoFar answers stays most input mid old new s t left)
+  module _ (input mid old new : Option (List ℕ)) (s t : Talk S) (left : ℕ) (P : ServesSoFar answers stays most input mid old new s t left)
       (rest : Option (List ℕ)) where
     -- a part of the next line was read, and all answers are written, or a part of them
     module _ (part : List ℕ) where
@@ -93,19 +93,19 @@ module _ {S : Type 0} (answers : Answering S) (stays : Bool) (most : ℕ) where
       }
 
     -- the next line isn't read
-    pub Stops-reading : (f : StreamFault) → StopsAtLine mid rest (min left most_lines) f → Stops answers stays most input rest old new s t f
-    Stops-reading Read g = (so_far g.0 (mid, LosesLines-nil mid, g.1), g.2)
-    Stops-reading TooManyLines g = (
+    pub TalkStops-reading : (f : StreamFault) → StopsAtLine mid rest (min left most_lines) f → TalkStops answers stays most input rest old new s t f
+    TalkStops-reading Read g = (so_far g.0 (mid, LosesLines-nil mid, g.1), g.2)
+    TalkStops-reading TooManyLines g = (
       so_far g.0 (mid, LosesLines-nil mid, g.1),
       g.2,
       too_far input mid P.taken most left P.read P.counted g.3,
     )
-    Stops-reading Write g = (None, some_so_far g.0 (mid, LosesLines-nil mid, g.1), g.2)
-    Stops-reading Memory g = (None, some_so_far g.0 (mid, LosesLines-nil mid, g.1), g.2)
+    TalkStops-reading Write g = (None, some_so_far g.0 (mid, LosesLines-nil mid, g.1), g.2)
+    TalkStops-reading Memory g = (None, some_so_far g.0 (mid, LosesLines-nil mid, g.1), g.2)
 
     -- there is no further line
-    pub EndsBy-input : LosesLines mid rest [] → HasNoLine rest → EndsBy answers stays most input rest old new s t by.Input
-    EndsBy-input l none = (
+    pub TalksUntil-input : LosesLines mid rest [] → HasNoLine rest → TalksUntil answers stays most input rest old new s t by.Input
+    TalksUntil-input l none = (
       record {
         taken = P.taken;
         texts = P.texts;
@@ -129,7 +129,7 @@ module _ {S : Type 0} (answers : Answering S) (stays : Bool) (most : ℕ) where
       counts more e = omega (arith, P.counted, e, count_of_all-append P.taken (line ∷ []))
 
       -- it was answered
-      module _ (text : List ℕ) (u : S) (ended : Option ConsoleEnd) (a : AnswersLine answers stays line t text u ended) where
+      module _ (text : List ℕ) (u : Talk S) (ended : Option ConsoleEnd) (a : AnswersLine answers stays line t text u ended) where
         all : AnswersAll answers stays (P.taken ++ line ∷ []) s (P.texts ++ text ∷ []) u ended
         all = AnswersAll-push answers stays P.taken s P.texts t line text u ended P.answered a
 
@@ -152,7 +152,7 @@ module _ {S : Type 0} (answers : Answering S) (stays : Bool) (most : ℕ) where
             wrote = partly w;
           }
 
-      module _ (told : Option (List ℕ)) (u : S) where
+      module _ (told : Option (List ℕ)) (u : Talk S) where
         -- it doesn't end the console
         pub ServesSoFar-next : (more : ℕ) → left ≡ more + count_of line → (ended : Option ConsoleEnd) → ended ≡ None
             → Tells answers stays line new told t u ended → ServesSoFar answers stays most input rest old told s u more
@@ -170,13 +170,13 @@ module _ {S : Type 0} (answers : Answering S) (stays : Bool) (most : ℕ) where
         }
 
         -- it does
-        pub EndsBy-line : (more : ℕ) → left ≡ more + count_of line → (ended : Option ConsoleEnd) (how : ConsoleEnd) → ended ≡ Some how
-            → Tells answers stays line new told t u ended → EndsBy answers stays most input rest old told s u how
-        EndsBy-line more e None how q w = absurd (differ q)
+        pub TalksUntil-line : (more : ℕ) → left ≡ more + count_of line → (ended : Option ConsoleEnd) (how : ConsoleEnd) → ended ≡ Some how
+            → Tells answers stays line new told t u ended → TalksUntil answers stays most input rest old told s u how
+        TalksUntil-line more e None how q w = absurd (differ q)
           where
             differ : None ≡ Some how → ⊥
             differ q = cc
-        EndsBy-line more e (Some other) how q w = (
+        TalksUntil-line more e (Some other) how q w = (
           record {
             taken = P.taken ++ line ∷ [];
             texts = P.texts ++ w.0 ∷ [];
@@ -194,17 +194,17 @@ module _ {S : Type 0} (answers : Answering S) (stays : Bool) (most : ℕ) where
             some z = cc
 
         -- its answer isn't written, or not wholly
-        pub Stops-telling : (f : StreamFault) → LosesWithinLine mid rest → TellStops answers stays line new told t u f
-            → Stops answers stays most input rest old told s u f
-        Stops-telling f b w = elim w [
+        pub TalkStops-telling : (f : StreamFault) → LosesWithinLine mid rest → TellStops answers stays line new told t u f
+            → TalkStops answers stays most input rest old told s u f
+        TalkStops-telling f b w = elim w [
           | inl x ↦ elim x.fault_is [
-            | inl e ↦ subst (λ (g : StreamFault). Stops answers stays most input rest old told s u g) (sym e)
+            | inl e ↦ subst (λ (g : StreamFault). TalkStops answers stays most input rest old told s u g) (sym e)
                 (x.ended, cut x.text u x.ended x.answered told x.wrote, MayEndIn-none Write)
-            | inr e ↦ subst (λ (g : StreamFault). Stops answers stays most input rest old told s u g) (sym e)
+            | inr e ↦ subst (λ (g : StreamFault). TalkStops answers stays most input rest old told s u g) (sym e)
                 (x.ended, cut x.text u x.ended x.answered told x.wrote, MayEndIn-none Memory)
           ]
-          | inr x ↦ subst (λ (g : StreamFault). Stops answers stays most input rest old told s u g) (sym x.fault_is)
-              (subst (λ (v : S). Stops answers stays most input rest old told s v Memory) (sym x.same)
+          | inr x ↦ subst (λ (g : StreamFault). TalkStops answers stays most input rest old told s u g) (sym x.fault_is)
+              (subst (λ (v : Talk S). TalkStops answers stays most input rest old told s v Memory) (sym x.same)
               (None, dropped x.wrote, b.2))
         ]
           where

@@ -1,5 +1,5 @@
 -- What a line of a console says.
-use Rattle.std.specs.Prelude.{ℕ, Bool, true, false, ◌≡◌, ◌≢◌, ◌||◌, bytes_eq, codes, List, [], ◌∷◌, Option, Some, None, Result, Ok, Err}
+use Rattle.std.specs.Prelude.{ℕ, Bool, true, false, ◌≡◌, ◌≢◌, ◌||◌, bytes_eq, codes, if◌then◌else◌, List, [], ◌∷◌, Option, Some, None, Result, Ok, Err}
 use Rattle.registry_model.specs.Call.{Register, ReRegister, Unregister, RegisteredNames, Whereis as LooksUp}
 use Rattle.protocol_model.specs.Event.{Event, Calling, Exiting, Leave as Leaving, Spawn, OnName, LookUp, JoinBy}
 use Rattle.protocol_model.specs.Script.{Line}
@@ -12,7 +12,7 @@ use Rattle.text_lines.specs.Words.{words}
 use Rattle.console.specs.declared.orders.Order.{Order}
 use Rattle.console.specs.declared.orders.Order.TheVariants.{Call, Whereis, Exit, Leave}
 use Rattle.console.specs.declared.orders.Command.{Command}
-use Rattle.console.specs.declared.orders.Command.TheVariants.{Ask, Quit, Shutdown}
+use Rattle.console.specs.declared.orders.Command.TheVariants.{Ask, SpawnLink, Quit, Shutdown}
 
 -- what the node is asked, as the protocol has it
 abbrev pub event_in : Order → Event
@@ -71,6 +71,30 @@ abbrev pub WordsAskNode : List (List ℕ) → Result Order LineFault → Type 0
 WordsAskNode [] r = r ≡ Err BadLine
 WordsAskNode (word ∷ texts) r = AsksFor (is_lock_word word) word texts r
 
+-- a process stands first behind this word
+abbrev pub process_first : List ℕ → Bool
+process_first word = bytes_eq word (codes "exit") || is_lock_word word
+
+-- a process stands second behind it
+abbrev pub process_second : List ℕ → Bool
+process_second word = bytes_eq word (codes "register") || bytes_eq word (codes "re_register")
+
+-- what a text means, by whether a process stands there: `self` is the process of this text then, where the console has one of its own
+abbrev pub meant_by : Option (List ℕ) → Bool → List ℕ → List ℕ
+meant_by (Some own) true text = if bytes_eq text (codes "self") then own else text
+meant_by _ _ text = text
+
+-- what words mean in a console with this process of its own, or with none: their processes are spelled
+abbrev pub meant : Option (List ℕ) → List (List ℕ) → List (List ℕ)
+meant own (word ∷ text ∷ next ∷ texts) =
+    word ∷ meant_by own (process_first word) text ∷ meant_by own (process_second word) next ∷ texts
+meant own (word ∷ text ∷ []) = word ∷ meant_by own (process_first word) text ∷ []
+meant own words = words
+
+-- the words that ask for a process that is linked to the console
+abbrev pub spawn_link : List (List ℕ)
+spawn_link = codes "spawn_link" ∷ []
+
 -- the words that end a console
 abbrev pub quit : List (List ℕ)
 quit = codes "quit" ∷ []
@@ -87,17 +111,22 @@ ShutsDown stays ws = (stays ≡ true) × (ws ≡ shutdown)
 abbrev pub StaysUp : Bool → List (List ℕ) → Type 0
 StaysUp stays ws = stays ≡ true → ws ≢ shutdown
 
+-- they do none of what only a console does: it asks its node
+abbrev pub IsAsking : Bool → List (List ℕ) → Type 0
+IsAsking stays ws = (ws ≢ quit) × StaysUp stays ws × (ws ≢ spawn_link)
+
 -- what words say in a console, of a server that stays or of another, or why they are refused
 abbrev pub WordsSay : Bool → List (List ℕ) → Result Command LineFault → Type 0
 WordsSay stays ws (Ok Quit) = ws ≡ quit
 WordsSay stays ws (Ok Shutdown) = ShutsDown stays ws
-WordsSay stays ws (Ok (Ask o)) = (ws ≢ quit) × StaysUp stays ws × WordsAskNode ws (Ok o)
-WordsSay stays ws (Err f) = (ws ≢ quit) × StaysUp stays ws × WordsAskNode ws (Err f)
+WordsSay stays ws (Ok SpawnLink) = ws ≡ spawn_link
+WordsSay stays ws (Ok (Ask o)) = IsAsking stays ws × WordsAskNode ws (Ok o)
+WordsSay stays ws (Err f) = IsAsking stays ws × WordsAskNode ws (Err f)
 
-abbrev pub SaysUnless : Bool → Option LineFault → List ℕ → Result Command LineFault → Type 0
-SaysUnless stays (Some f) line r = r ≡ Err f
-SaysUnless stays None line r = WordsSay stays (words line) r
+abbrev pub SaysUnless : Bool → Option (List ℕ) → Option LineFault → List ℕ → Result Command LineFault → Type 0
+SaysUnless stays own (Some f) line r = r ≡ Err f
+SaysUnless stays own None line r = WordsSay stays (meant own (words line)) r
 
--- what a line says, or why it is refused: an empty one is a bad line, too
-abbrev pub LineSays : Bool → List ℕ → Result Command LineFault → Type 0
-LineSays stays line r = SaysUnless stays (unread line) line r
+-- what a line says, in a console with this process of its own, or with none, or why it is refused: an empty one is a bad line, too
+abbrev pub LineSays : Bool → Option (List ℕ) → List ℕ → Result Command LineFault → Type 0
+LineSays stays own line r = SaysUnless stays own (unread line) line r

@@ -2,10 +2,11 @@
 use Rattle.std.specs.Prelude.{ℕ, List, codes}
 use Rattle.command_lines.specs.Printing.{word_of}
 use Rattle.console.specs.declared.faults.GreetFault.{GreetFault}
-use Rattle.console.specs.declared.faults.GreetFault.TheVariants.{Line, NotAttached, NoSuchNode}
+use Rattle.console.specs.declared.faults.GreetFault.TheVariants.{Line, NotAllowed, NotAttached, NoSuchNode}
 
 -- the word for which a first line is refused
 abbrev pub greet_word : GreetFault → List ℕ
 greet_word (Line f) = word_of f
+greet_word NotAllowed = codes "not_allowed"
 greet_word NotAttached = codes "not_attached"
 greet_word NoSuchNode = codes "no_such_node"

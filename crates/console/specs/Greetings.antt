@@ -1,5 +1,5 @@
 -- The first line of a console.
-use Rattle.std.specs.Prelude.{ℕ, Bool, true, false, ◌≡◌, ◌⊎◌, bytes_eq, codes, List, [], ◌∷◌, Option, Some, None, Result, Ok, Err, if◌then◌else◌}
+use Rattle.std.specs.Prelude.{ℕ, Bool, true, false, ◌≡◌, ◌⊎◌, ◌&&◌, ⊤, bytes_eq, codes, List, [], ◌∷◌, Option, Some, None, Result, Ok, Err, if◌then◌else◌}
 use Rattle.std.specs.Io.KnownBytes.{Appends, Keeps}
 use Rattle.term.specs.NodeSets.{set_of}
 use Rattle.term.specs.Spelling.{SpellsText, RefusesText}
@@ -15,7 +15,7 @@ use Rattle.text_lines.specs.Words.{words}
 use Rattle.text_lines.specs.Writing.{AppendsPart}
 use Rattle.console.specs.Faults.{greet_word}
 use Rattle.console.specs.declared.faults.GreetFault.{GreetFault}
-use Rattle.console.specs.declared.faults.GreetFault.TheVariants.{Line, NotAttached, NoSuchNode}
+use Rattle.console.specs.declared.faults.GreetFault.TheVariants.{Line, NotAllowed, NotAttached, NoSuchNode}
 
 -- what is printed where something is done that has no reply
 abbrev pub okay : List ℕ
@@ -35,7 +35,7 @@ abbrev pub AttachesIf : Bool → List ℕ → List ℕ → Result ℕ GreetFault
 AttachesIf true nodes text r = NamesNode nodes text r
 AttachesIf false nodes text r = r ≡ Err NotAttached
 
--- to which of these nodes words attach a console, or why to none
+-- to which of these nodes words attach a console that needn't show anything, or why to none
 abbrev pub WordsAttach : List ℕ → List (List ℕ) → Result ℕ GreetFault → Type 0
 WordsAttach nodes (word ∷ text ∷ []) r = AttachesIf (bytes_eq word (codes "attach")) nodes text r
 WordsAttach nodes _ r = r ≡ Err NotAttached
@@ -44,9 +44,37 @@ abbrev pub AttachesUnless : Option LineFault → List ℕ → List ℕ → Resul
 AttachesUnless (Some f) nodes line r = r ≡ Err (Line f)
 AttachesUnless None nodes line r = WordsAttach nodes (words line) r
 
--- to which of these nodes a line attaches a console, or why to none
-abbrev pub LineAttaches : List ℕ → List ℕ → Result ℕ GreetFault → Type 0
-LineAttaches nodes line r = AttachesUnless (unread line) nodes line r
+-- the first and the third of three words show this cookie
+abbrev pub is_shown : List ℕ → List ℕ → List ℕ → Bool
+is_shown word shown cookie = bytes_eq word (codes "attach") && bytes_eq shown cookie
+
+abbrev pub AllowsIf : Bool → List ℕ → List ℕ → Result ℕ GreetFault → Type 0
+AllowsIf true nodes text r = NamesNode nodes text r
+AllowsIf false nodes text r = r ≡ Err NotAllowed
+
+-- to which of these nodes words attach a console that must show this cookie, or why to none
+abbrev pub WordsShow : List ℕ → List ℕ → List (List ℕ) → Result ℕ GreetFault → Type 0
+WordsShow cookie nodes (word ∷ text ∷ shown ∷ []) r = AllowsIf (is_shown word shown cookie) nodes text r
+WordsShow cookie nodes _ r = r ≡ Err NotAllowed
+
+-- a line that can't be read shows nothing
+abbrev pub AllowsUnless : Option LineFault → List ℕ → List ℕ → List ℕ → Result ℕ GreetFault → Type 0
+AllowsUnless (Some f) cookie nodes line r = r ≡ Err NotAllowed
+AllowsUnless None cookie nodes line r = WordsShow cookie nodes (words line) r
+
+-- to which of these nodes a line attaches a console, which must show the cookie where there is one, or why to none
+abbrev pub LineAttaches : Option (List ℕ) → List ℕ → List ℕ → Result ℕ GreetFault → Type 0
+LineAttaches None nodes line r = AttachesUnless (unread line) nodes line r
+LineAttaches (Some cookie) nodes line r = AllowsUnless (unread line) cookie nodes line r
+
+-- a line shows the cookie behind `attach` and a text, where there is one
+abbrev pub Shows : Option (List ℕ) → List ℕ → Type 0
+Shows None line = ⊤
+Shows (Some cookie) line = (text : List ℕ) × (words line ≡ codes "attach" ∷ text ∷ cookie ∷ [])
+
+-- the one line that was read does
+abbrev pub ShowsFirst : Option (List ℕ) → Option (List ℕ) → Option (List ℕ) → Type 0
+ShowsFirst cookie input rest = (line : List ℕ) × LosesLines input rest (line ∷ []) × Shows cookie line
 
 -- what the line is answered
 abbrev pub greeting_text : Result ℕ GreetFault → List ℕ
@@ -59,11 +87,11 @@ node_in (Ok n) = Some n
 node_in (Err f) = None
 
 -- a first line was read, and nothing behind it; it was answered
-pub record AnswersFirst (nodes : List ℕ) (input rest old new : Option (List ℕ)) (found : Option ℕ) : Type 0 where
+pub record AnswersFirst (cookie : Option (List ℕ)) (nodes : List ℕ) (input rest old new : Option (List ℕ)) (found : Option ℕ) : Type 0 where
   pub line : List ℕ
   pub answer : Result ℕ GreetFault
   pub read : LosesLines input rest (line ∷ [])
-  pub attaches : LineAttaches nodes line answer
+  pub attaches : LineAttaches cookie nodes line answer
   pub found_is : found ≡ node_in answer
   pub wrote : Appends old new (greeting_text answer)
 
@@ -75,24 +103,24 @@ pub record HasNoFirst (input rest old new : Option (List ℕ)) (found : Option �
   pub kept : Keeps old new
 
 -- A console was greeted, and is attached to the node that was found, if one was
-abbrev pub Greets : List ℕ → Option (List ℕ) → Option (List ℕ) → Option (List ℕ) → Option (List ℕ) → Option ℕ → Type 0
-Greets nodes input rest old new found =
-    AnswersFirst nodes input rest old new found ⊎ HasNoFirst input rest old new found
+abbrev pub Greets : Option (List ℕ) → List ℕ → Option (List ℕ) → Option (List ℕ) → Option (List ℕ) → Option (List ℕ) → Option ℕ → Type 0
+Greets cookie nodes input rest old new found =
+    AnswersFirst cookie nodes input rest old new found ⊎ HasNoFirst input rest old new found
 
 -- the first line wasn't read, and nothing was written
 abbrev pub StopsFirst : Option (List ℕ) → Option (List ℕ) → Option (List ℕ) → Option (List ℕ) → StreamFault → Type 0
 StopsFirst input rest old new f = StopsAtLine input rest most_lines f × Keeps old new
 
 -- it was read, and a part of its answer was written
-pub record CutsFirst (nodes : List ℕ) (input rest old new : Option (List ℕ)) (f : StreamFault) : Type 0 where
+pub record CutsFirst (cookie : Option (List ℕ)) (nodes : List ℕ) (input rest old new : Option (List ℕ)) (f : StreamFault) : Type 0 where
   pub line : List ℕ
   pub answer : Result ℕ GreetFault
   pub read : LosesLines input rest (line ∷ [])
-  pub attaches : LineAttaches nodes line answer
+  pub attaches : LineAttaches cookie nodes line answer
   pub wrote : AppendsPart old new (greeting_text answer)
   pub fault_is : (f ≡ Write) ⊎ (f ≡ Memory)
 
 -- A console wasn't greeted
-abbrev pub GreetStops : List ℕ → Option (List ℕ) → Option (List ℕ) → Option (List ℕ) → Option (List ℕ) → StreamFault → Type 0
-GreetStops nodes input rest old new f =
-    StopsFirst input rest old new f ⊎ CutsFirst nodes input rest old new f
+abbrev pub GreetStops : Option (List ℕ) → List ℕ → Option (List ℕ) → Option (List ℕ) → Option (List ℕ) → Option (List ℕ) → StreamFault → Type 0
+GreetStops cookie nodes input rest old new f =
+    StopsFirst input rest old new f ⊎ CutsFirst cookie nodes input rest old new f

@@ -2,34 +2,108 @@
 ghost use Rattle.std.specs.Prelude.{◌≡◌, ℕ, List, string_bytes, MatchResult};
 ghost use Rattle.std.specs.Io.Buffered.{reader_remaining};
 ghost use Rattle.text_lines.specs.Lines.{IsKept};
-ghost use Rattle.console.specs.Consoles.{AnswersLine, EndsBy, MayAnswer, Tells, TellStops, Stops};
+ghost use Rattle.console.specs.Consoles.{AnswersLine, EndsBy, Exits, HeedsSpawnLink, MayAnswer, MaySpawnLinked, SpawnsLinked, Stops, TalkStops, TalksUntil, Tells, TellStops, talk};
+ghost use Rattle.console.specs.Links.{left_by, linked_in};
 
 use crate::attendant::Attendant;
 use crate::commands::read_command;
 use crate::counting::next_line;
 use crate::ends::ConsoleEnd;
-use crate::orders::Command;
+use crate::links::Links;
+use crate::orders::{Command, Order};
 use crate::outcomes::outcome_line;
+use command_lines::{Call, Reply};
+use node_seats::SeatFault;
 use std::alloc::{AllocError, Global};
 use std::io::{BufReader, Read, Write};
 use text_lines::{Line, StreamFault, tell};
+
+/// Asks something of the attendant. A process whose exit was made is linked no longer.
+fn ask<H, A: Attendant<H>>(
+    rt: &H,
+    attendant: &mut A,
+    links: &mut Links,
+    order: Order,
+) -> Result<Reply, SeatFault>
+    ensures answered { A.answers (A.state attendant.old) order result (A.state attendant.new) }
+    ensures links { linked_in links.new ≡ left_by order result (linked_in links.old) }
+{
+    match order {
+        Order::Exit(process) => {
+            let exiting = process.copy();
+            let outcome = attendant.ask(rt, Order::Exit(process), false);
+            if outcome.is_ok() {
+                links.unlink(&exiting);
+            }
+            outcome
+        }
+        order => {
+            let linked = links.may_wait(&order);
+            attendant.ask(rt, order, linked)
+        }
+    }
+}
+
+/// Asks for a process, and links it. There is room for it before it is asked for.
+fn spawn_linked<H, A: Attendant<H>>(
+    rt: &H,
+    attendant: &mut A,
+    links: &mut Links,
+) -> Result<Reply, SeatFault>
+    ensures { SpawnsLinked A.answers (talk (A.state attendant.old) (linked_in links.old)) result
+        (talk (A.state attendant.new) (linked_in links.new)) }
+{
+    if links.reserve().is_err() {
+        return Err(SeatFault::Memory);
+    }
+    let outcome = attendant.ask(rt, Order::Call(Call::Spawn), false);
+    links.link(&outcome);
+    outcome
+}
+
+/// What `spawn_link` is answered.
+fn reply_to_spawn_link<H, A: Attendant<H>>(
+    rt: &H,
+    alloc: Global,
+    attendant: &mut A,
+    links: &mut Links,
+) -> Result<String, AllocError>
+    ensures { MatchResult result
+        (λ text. HeedsSpawnLink A.answers (talk (A.state attendant.old) (linked_in links.old)) (string_bytes text)
+        (talk (A.state attendant.new) (linked_in links.new)))
+        (λ _. MaySpawnLinked A.answers (talk (A.state attendant.old) (linked_in links.old))
+        (talk (A.state attendant.new) (linked_in links.new))) }
+{
+    if links.is_full() {
+        return String::from_str(alloc, "error too_many_links\n");
+    }
+    let outcome = spawn_linked(rt, attendant, links);
+    outcome_line(alloc, attendant.node(), outcome)
+}
 
 /// Has a line answered: the text, and how it ends the console, where it does.
 fn reply_to<H, A: Attendant<H>>(
     rt: &H,
     alloc: Global,
     attendant: &mut A,
+    links: &mut Links,
     line: &Line,
     stays: bool,
 ) -> Result<(String, Option<ConsoleEnd>), AllocError>
     ensures { (bytes : List ℕ) → IsKept bytes line.now → MatchResult result
-        (λ said. AnswersLine A.answers stays bytes (A.state attendant.old) (string_bytes said.0) (A.state attendant.new) said.1)
-        (λ _. MayAnswer A.answers stays bytes (A.state attendant.old) (A.state attendant.new)) }
+        (λ said. AnswersLine A.answers stays bytes (talk (A.state attendant.old) (linked_in links.old)) (string_bytes said.0)
+        (talk (A.state attendant.new) (linked_in links.new)) said.1)
+        (λ _. MayAnswer A.answers stays bytes (talk (A.state attendant.old) (linked_in links.old))
+        (talk (A.state attendant.new) (linked_in links.new))) }
 {
-    match read_command(alloc, line, stays)? {
+    match read_command(alloc, line, links, stays)? {
         Ok(Command::Ask(order)) => {
-            let outcome = attendant.ask(rt, order);
+            let outcome = ask(rt, attendant, links, order);
             let text = outcome_line(alloc, attendant.node(), outcome)?;
+            Ok((text, None))
+        }
+        Ok(Command::SpawnLink) => {
+            let text = reply_to_spawn_link(rt, alloc, attendant, links)?;
             Ok((text, None))
         }
         Ok(Command::Quit) => Ok((String::from_str(alloc, "ok\n")?, Some(ConsoleEnd::Quit))),
@@ -38,22 +112,64 @@ fn reply_to<H, A: Attendant<H>>(
     }
 }
 
-/// Answers a line: how it ends the console, where it does.
+/// Answers a line: how it ends the console, where it does. What is linked is noted before the answer is written.
 fn answer<H, W: Write, A: Attendant<H>>(
     rt: &H,
     alloc: Global,
     writer: &mut W,
     attendant: &mut A,
+    links: &mut Links,
     line: &Line,
     stays: bool,
 ) -> Result<Option<ConsoleEnd>, StreamFault>
     ensures { (bytes : List ℕ) → IsKept bytes line.now → MatchResult result
-        (Tells A.answers stays bytes (W.contents writer.old) (W.contents writer.new) (A.state attendant.old) (A.state attendant.new))
-        (TellStops A.answers stays bytes (W.contents writer.old) (W.contents writer.new) (A.state attendant.old) (A.state attendant.new)) }
+        (Tells A.answers stays bytes (W.contents writer.old) (W.contents writer.new)
+        (talk (A.state attendant.old) (linked_in links.old)) (talk (A.state attendant.new) (linked_in links.new)))
+        (TellStops A.answers stays bytes (W.contents writer.old) (W.contents writer.new)
+        (talk (A.state attendant.old) (linked_in links.old)) (talk (A.state attendant.new) (linked_in links.new))) }
 {
-    let (text, ended) = reply_to(rt, alloc, attendant, line, stays)?;
+    let (text, ended) = reply_to(rt, alloc, attendant, links, line, stays)?;
     tell(writer, text.as_bytes())?;
     Ok(ended)
+}
+
+/// Reads lines until one ends the console or the input does, and answers each. What they leave linked stands in `links` then.
+fn answer_each<H, R: Read, W: Write, A: Attendant<H>>(
+    rt: &H,
+    alloc: Global,
+    reader: &mut BufReader<R, Global>,
+    writer: &mut W,
+    attendant: &mut A,
+    links: &mut Links,
+    stays: bool,
+    most: u64,
+) -> Result<ConsoleEnd, StreamFault>
+    ensures { MatchResult result
+        (TalksUntil A.answers stays most (reader_remaining R.remaining reader.old) (reader_remaining R.remaining reader.new)
+        (W.contents writer.old) (W.contents writer.new)
+        (talk (A.state attendant.old) (linked_in links.old)) (talk (A.state attendant.new) (linked_in links.new)))
+        (TalkStops A.answers stays most (reader_remaining R.remaining reader.old) (reader_remaining R.remaining reader.new)
+        (W.contents writer.old) (W.contents writer.new)
+        (talk (A.state attendant.old) (linked_in links.old)) (talk (A.state attendant.new) (linked_in links.new))) }
+{
+    let mut left = most;
+    let mut room = Vec::new(alloc);
+    while let Some(line) = next_line(room, reader, writer, &mut left)? {
+        if let Some(ended) = answer(rt, alloc, writer, attendant, links, &line, stays)? {
+            return Ok(ended);
+        }
+        room = line.into_room(alloc);
+    }
+    Ok(ConsoleEnd::Input)
+}
+
+/// Asks each linked process to exit, whatever the attendant says.
+fn exit_all<H, A: Attendant<H>>(rt: &H, attendant: &mut A, links: &Links)
+    ensures { Exits A.answers (linked_in links.now) (A.state attendant.old) (A.state attendant.new) }
+{
+    for process in links.as_slice() {
+        let _ = attendant.ask(rt, Order::Exit(process.copy()), false);
+    }
 }
 
 /// Reads lines until `quit` or the end of the input, and answers each with one line: how the console ended. In a console of a
@@ -62,6 +178,9 @@ fn answer<H, W: Write, A: Attendant<H>>(
 /// A line that asks something is asked of the attendant, and answered with the text of the reply or the word of the refusal;
 /// any other is refused, an empty one too. Each answer is handed on before the next line is read. `Read` and `TooManyLines`:
 /// all lines that were read are answered. `Write` and `Memory`: a part of the answers is written, and nothing behind it.
+///
+/// `spawn_link` asks for a process that is linked to the console until its exit. However the console ends, each process that is
+/// linked then is asked to exit, in the order in which they were linked, before this returns.
 pub fn answer_lines<H, R: Read, W: Write, A: Attendant<H>>(
     rt: &H,
     alloc: Global,
@@ -77,13 +196,10 @@ pub fn answer_lines<H, R: Read, W: Write, A: Attendant<H>>(
         (Stops A.answers stays most (reader_remaining R.remaining reader.old) (reader_remaining R.remaining reader.new)
         (W.contents writer.old) (W.contents writer.new) (A.state attendant.old) (A.state attendant.new)) }
 {
-    let mut left = most;
-    let mut room = Vec::new(alloc);
-    while let Some(line) = next_line(room, reader, writer, &mut left)? {
-        if let Some(ended) = answer(rt, alloc, writer, attendant, &line, stays)? {
-            return Ok(ended);
-        }
-        room = line.into_room(alloc);
-    }
-    Ok(ConsoleEnd::Input)
+    let mut links = Links::new(alloc);
+    let ended = answer_each(
+        rt, alloc, reader, writer, attendant, &mut links, stays, most,
+    );
+    exit_all(rt, attendant, &links);
+    ended
 }

@@ -22,7 +22,8 @@ pub trait Attendant<H> {
     /// The node that it speaks for.
     fn node(&self) -> &NodeName;
 
-    /// Has an order carried out, and gives the reply, or why it is refused.
-    fn ask(&mut self, rt: &H, order: Order) -> Result<Reply, SeatFault>
+    /// Has an order carried out, and gives the reply, or why it is refused. Where the order is `linked` it is the call of a process that
+    /// exits with the console: once the console's input has ended, it needn't be waited for.
+    fn ask(&mut self, rt: &H, order: Order, linked: bool) -> Result<Reply, SeatFault>
         ensures { answers (Self.state self.old) order result (Self.state self.new) };
 }

@@ -1,16 +1,20 @@
 //! What the lines of a console say: an arm for each.
-ghost use Rattle.std.specs.Prelude.{◌≡◌, ◌≢◌, ◌∷◌, [], ℕ, List, None, true, map, take, IfOk, MatchBool};
+ghost use Rattle.std.specs.Prelude.{◌≡◌, ◌≢◌, ◌∷◌, [], ℕ, List, Some, true, map, take, IfOk, MatchBool};
+ghost use Rattle.std.specs.Option.{option_map};
 ghost use Rattle.text_lines.specs.Lines.{IsKept};
 ghost use Rattle.text_lines.specs.Words.{words as words_in};
-ghost use Rattle.command_lines.specs.Commands.{asked_by, unread};
+ghost use Rattle.command_lines.specs.Commands.{asked_by};
 ghost use Rattle.command_lines.specs.Grammar.{WordsAsk};
-ghost use Rattle.console.specs.Commands.{LineSays, ShutsDown, StaysUp, WordsAskNode, AsksOwn, AsksAsScript, OwnAsk, begins_lock, is_lock_word as any_lock_word, quit};
+ghost use Rattle.console.specs.Commands.{LineSays, ShutsDown, StaysUp, WordsAskNode, WordsSay, AsksOwn, AsksAsScript, OwnAsk, begins_lock, process_first, process_second, is_lock_word as any_lock_word, meant, meant_by, quit, spawn_link};
+ghost use Rattle.console.specs.Links.{linked_in, own_text};
 
+use crate::links::Links;
 use crate::orders::{Command, Order};
-use command_lines::{Call, Event, LineFault, Task, WorldEvent, ran_out, read_task, text_of};
+use arrayvec::ArrayVec;
+use command_lines::{Call, Event, LineFault, Task, WorldEvent, ran_out, read_words, text_of};
 use std::alloc::{AllocError, Global};
 use term::{parse_name, parse_node, parse_pid};
-use text_lines::{Line, first_words};
+use text_lines::{Line, MOST_WORDS, first_words};
 
 /// What a word alone asks.
 fn bare(word: &str) -> Result<Order, LineFault>
@@ -60,8 +64,8 @@ fn read_own(words: &[&str]) -> Result<Order, LineFault>
     }
 }
 
-/// What a lock call asks that was read as a line of a script.
-fn read_lock_call(task: Result<Task, LineFault>) -> Result<Order, LineFault>
+/// What a lock call asks that was read as one of a script.
+fn order_of(task: Result<Task, LineFault>) -> Result<Order, LineFault>
     ensures { (word : List ℕ) (texts : List (List ℕ)) → any_lock_word word ≡ true → WordsAsk (word ∷ texts) (asked_by task)
         → AsksAsScript word texts result }
 {
@@ -110,47 +114,141 @@ fn is_shutdown(words: &[&str], stays: bool) -> bool
     }
 }
 
-/// What a line asks, of which these are the first words. A lock call is read as in a script, from its whole line.
-fn read_order(
-    alloc: Global,
-    line: &Line,
-    words: &[&str],
-) -> Result<Result<Order, LineFault>, AllocError>
-    ensures { IfOk result (λ order. (bytes : List ℕ) → IsKept bytes line.now → unread bytes ≡ None
-        → map (λ word. word.now) words.now ≡ take 7 (words_in bytes) → WordsAskNode (words_in bytes) order) }
+/// Whether words ask for a process that is linked to the console.
+fn is_spawn_link(words: &[&str]) -> bool
+    ensures { MatchBool result (map (λ word. word.now) words.now ≡ spawn_link) (map (λ word. word.now) words.now ≢ spawn_link) }
+{
+    match words {
+        [word] => matches!(*word, "spawn_link"),
+        _ => false,
+    }
+}
+
+/// What a lock call asks. It is read as in a script.
+fn read_lock_call(alloc: Global, words: &[&str]) -> Result<Result<Order, LineFault>, AllocError>
+    requires { begins_lock (map (λ word. word.now) words.now) ≡ true }
+    ensures { IfOk result (WordsAskNode (map (λ word. word.now) words.now)) }
+{
+    let task = read_words(alloc, words);
+    if ran_out(&task) {
+        return Err(AllocError);
+    }
+    Ok(order_of(task))
+}
+
+/// What words ask of the console's node.
+fn read_order(alloc: Global, words: &[&str]) -> Result<Result<Order, LineFault>, AllocError>
+    ensures { IfOk result (WordsAskNode (map (λ word. word.now) words.now)) }
 {
     if is_lock_call(words) {
-        let task = read_task(alloc, line);
-        if ran_out(&task) {
-            return Err(AllocError);
-        }
-        Ok(read_lock_call(task))
+        read_lock_call(alloc, words)
     } else {
         Ok(read_own(words))
     }
 }
 
-/// What a line says, in a console of a server that stays or of another, or why it is refused.
+/// What words say, in a console of a server that stays or of another.
+fn read_said(
+    alloc: Global,
+    words: &[&str],
+    stays: bool,
+) -> Result<Result<Command, LineFault>, AllocError>
+    ensures { IfOk result (WordsSay stays (map (λ word. word.now) words.now)) }
+{
+    if is_quit(words) {
+        return Ok(Ok(Command::Quit));
+    }
+    if is_shutdown(words, stays) {
+        return Ok(Ok(Command::Shutdown));
+    }
+    if is_spawn_link(words) {
+        return Ok(Ok(Command::SpawnLink));
+    }
+    match read_order(alloc, words)? {
+        Ok(order) => Ok(Ok(Command::Ask(order))),
+        Err(fault) => Ok(Err(fault)),
+    }
+}
+
+/// Whether a process stands first behind this word.
+fn takes_process_first(word: &str) -> bool
+    ensures { result ≡ process_first word.now }
+{
+    matches!(word, "exit" | "set_lock" | "del_lock")
+}
+
+/// Whether a process stands second behind this word.
+fn takes_process_second(word: &str) -> bool
+    ensures { result ≡ process_second word.now }
+{
+    matches!(word, "register" | "re_register")
+}
+
+/// What a text means, by whether a process stands there: `self` is the console's own one then.
+fn meant_text<'a>(text: &'a str, stands: bool, own: &'a str) -> &'a str
+    ensures { result.now ≡ meant_by (Some own.now) stands text.now }
+{
+    if stands && matches!(text, "self") {
+        own
+    } else {
+        text
+    }
+}
+
+/// Puts the console's own process, where it has one, in the place of `self`, where a process stands.
+fn spell_own<'a>(words: &mut [&'a str], own: Option<&'a str>)
+    ensures { map (λ word. word.now) words.new
+        ≡ meant (option_map (λ text. text.now) own.entry) (map (λ word. word.now) words.old) }
+{
+    let Some(own) = own else {
+        return;
+    };
+    if words.len() > 1 {
+        words[1] = meant_text(words[1], takes_process_first(words[0]), own);
+    }
+    if words.len() > 2 {
+        words[2] = meant_text(words[2], takes_process_second(words[0]), own);
+    }
+}
+
+/// The first words of a text, as they are meant in a console with this process of its own.
+fn meant_words<'a>(text: &'a str, own: Option<&'a str>) -> ArrayVec<&'a str, MOST_WORDS>
+    ensures { map (λ word. word.now) result.items ≡ meant (option_map (λ text. text.now) own.entry) (take 7 (words_in text.now)) }
+{
+    let mut words = first_words(text);
+    spell_own(&mut words, own);
+    words
+}
+
+/// What a text says, in a console with this process of its own.
+#[tactic(auto, using(crate::proofs::Meaning::first_words_say))]
+fn read_text(
+    alloc: Global,
+    text: &str,
+    own: Option<&str>,
+    stays: bool,
+) -> Result<Result<Command, LineFault>, AllocError>
+    ensures { IfOk result (WordsSay stays (meant (option_map (λ text. text.now) own.entry) (words_in text.now))) }
+{
+    read_said(alloc, &meant_words(text, own), stays)
+}
+
+/// What a line says, in a console of a server that stays or of another, or why it is refused. `self` is the process that was linked
+/// last, where a process stands in the line and one is linked.
 pub(crate) fn read_command(
     alloc: Global,
     line: &Line,
+    links: &Links,
     stays: bool,
 ) -> Result<Result<Command, LineFault>, AllocError>
-    ensures { IfOk result (λ command. (bytes : List ℕ) → IsKept bytes line.now → LineSays stays bytes command) }
+    ensures { IfOk result (λ command. (bytes : List ℕ) → IsKept bytes line.now
+        → LineSays stays (own_text (linked_in links.now)) bytes command) }
 {
-    let text = match text_of(line) {
-        Ok(text) => text,
-        Err(fault) => return Ok(Err(fault)),
-    };
-    let words = first_words(text);
-    if is_quit(&words) {
-        return Ok(Ok(Command::Quit));
-    }
-    if is_shutdown(&words, stays) {
-        return Ok(Ok(Command::Shutdown));
-    }
-    match read_order(alloc, line, &words)? {
-        Ok(order) => Ok(Ok(Command::Ask(order))),
+    match text_of(line) {
+        Ok(text) => {
+            let own = links.own_text(alloc)?;
+            read_text(alloc, text, own.as_deref(), stays)
+        }
         Err(fault) => Ok(Err(fault)),
     }
 }

@@ -12,6 +12,8 @@ use term::TextFault;
 pub(crate) enum GreetFault {
     /// It can't be read, or its text is no node's name.
     Line(LineFault),
+    /// It doesn't show the cookie that is asked for.
+    NotAllowed,
     /// It isn't `attach` with one text.
     NotAttached,
     /// There is no such node.
@@ -43,6 +45,7 @@ impl GreetFault {
     {
         match self {
             GreetFault::Line(fault) => fault.line(),
+            GreetFault::NotAllowed => "error not_allowed\n",
             GreetFault::NotAttached => "error not_attached\n",
             GreetFault::NoSuchNode => "error no_such_node\n",
         }

@@ -1,23 +1,42 @@
 //! The first line of a console.
-ghost use Rattle.std.specs.Prelude.{◌≡◌, ℕ, List, true, map, string_bytes, IfOk, IfSome, MatchResult};
+ghost use Rattle.std.specs.Prelude.{◌≡◌, ℕ, List, Some, None, true, map, string_bytes, option_map, IfOk, IfSome, MatchResult};
 ghost use Rattle.term.specs.NodeSets.{set_of};
 ghost use Rattle.std.specs.Io.Buffered.{reader_remaining};
 ghost use Rattle.text_lines.specs.Lines.{IsKept};
 ghost use Rattle.text_lines.specs.Writing.{Writes};
 ghost use Rattle.command_lines.specs.Printing.{error_line};
-ghost use Rattle.console.specs.Greetings.{WordsAttach, LineAttaches, Greets, GreetStops, greeting_text};
+ghost use Rattle.console.specs.Greetings.{NamesNode, WordsAttach, WordsShow, LineAttaches, Greets, GreetStops, Shows, ShowsFirst, greeting_text, is_shown};
 ghost use Rattle.console.specs.Outcomes.{seat_word};
 
+use crate::cookie::Cookie;
 use crate::faults::GreetFault;
 use crate::outcomes::seat_line;
 use command_lines::text_of;
 use node_seats::SeatFault;
 use std::alloc::{AllocError, Global};
 use std::io::{BufReader, Read, Write};
+use std::thread;
+use std::time::{Clock, Duration};
 use term::{NodeName, NodeSet, parse_node};
 use text_lines::{Line, MOST_LINES, StreamFault, WriteFault, first_words, read_line, tell};
 
-/// To which of these nodes words attach a console.
+/// For how many seconds who doesn't show the cookie waits for the answer.
+const DELAY: u64 = 1;
+
+/// Which of these nodes a text names.
+fn find_node(text: &str, nodes: &NodeSet) -> Result<NodeName, GreetFault>
+    ensures names { NamesNode nodes.now text.now result }
+    ensures known { IfOk result (λ node. set_of nodes.now node ≡ true) }
+{
+    let node = parse_node(text)?;
+    if nodes.contains(&node) {
+        Ok(node)
+    } else {
+        Err(GreetFault::NoSuchNode)
+    }
+}
+
+/// To which of these nodes words attach a console that needn't show anything.
 fn read_words(words: &[&str], nodes: &NodeSet) -> Result<NodeName, GreetFault>
     ensures attach { WordsAttach nodes.now (map (λ word. word.now) words.now) result }
     ensures known { IfOk result (λ node. set_of nodes.now node ≡ true) }
@@ -28,21 +47,65 @@ fn read_words(words: &[&str], nodes: &NodeSet) -> Result<NodeName, GreetFault>
     if *word != "attach" {
         return Err(GreetFault::NotAttached);
     }
-    let node = parse_node(text)?;
-    if nodes.contains(&node) {
-        Ok(node)
+    find_node(text, nodes)
+}
+
+/// Whether the first and the third of three words show this cookie.
+fn shows_cookie(word: &str, shown: &str, cookie: &Cookie) -> bool
+    ensures { result ≡ is_shown word.now shown.now cookie.now }
+{
+    word == "attach" && cookie.is(shown)
+}
+
+/// To which of these nodes words attach a console that must show this cookie.
+fn read_shown(words: &[&str], nodes: &NodeSet, cookie: &Cookie) -> Result<NodeName, GreetFault>
+    ensures attach { WordsShow cookie.now nodes.now (map (λ word. word.now) words.now) result }
+    ensures known { IfOk result (λ node. set_of nodes.now node ≡ true) }
+{
+    let [word, text, shown] = words else {
+        return Err(GreetFault::NotAllowed);
+    };
+    if shows_cookie(word, shown, cookie) {
+        find_node(text, nodes)
     } else {
-        Err(GreetFault::NoSuchNode)
+        Err(GreetFault::NotAllowed)
     }
 }
 
-/// To which of these nodes a line attaches a console.
-fn read_greeting(line: &Line, nodes: &NodeSet) -> Result<NodeName, GreetFault>
-    ensures attaches { (bytes : List ℕ) → IsKept bytes line.now → LineAttaches nodes.now bytes result }
+/// To which of these nodes a line attaches a console that must show this cookie. One that can't be read shows nothing.
+fn read_showing(line: &Line, nodes: &NodeSet, cookie: &Cookie) -> Result<NodeName, GreetFault>
+    ensures attaches { (bytes : List ℕ) → IsKept bytes line.now → LineAttaches (Some cookie.now) nodes.now bytes result }
+    ensures known { IfOk result (λ node. set_of nodes.now node ≡ true) }
+{
+    match text_of(line) {
+        Ok(text) => read_shown(&first_words(text), nodes, cookie),
+        Err(_) => Err(GreetFault::NotAllowed),
+    }
+}
+
+/// To which of these nodes a line attaches a console that needn't show anything.
+fn read_open(line: &Line, nodes: &NodeSet) -> Result<NodeName, GreetFault>
+    ensures attaches { (bytes : List ℕ) → IsKept bytes line.now → LineAttaches None nodes.now bytes result }
     ensures known { IfOk result (λ node. set_of nodes.now node ≡ true) }
 {
     let text = text_of(line)?;
     read_words(&first_words(text), nodes)
+}
+
+/// To which of these nodes a line attaches a console, which must show the cookie where there is one.
+fn read_greeting(
+    line: &Line,
+    nodes: &NodeSet,
+    cookie: Option<&Cookie>,
+) -> Result<NodeName, GreetFault>
+    ensures attaches { (bytes : List ℕ) → IsKept bytes line.now → LineAttaches (option_map (λ c. c.now) cookie.entry) nodes.now bytes result }
+    ensures known { IfOk result (λ node. set_of nodes.now node ≡ true) }
+    ensures shows { IfOk result (λ _. (bytes : List ℕ) → IsKept bytes line.now → Shows (option_map (λ c. c.now) cookie.entry) bytes) }
+{
+    match cookie {
+        Some(cookie) => read_showing(line, nodes, cookie),
+        None => read_open(line, nodes),
+    }
 }
 
 /// What a first line is answered.
@@ -67,28 +130,42 @@ fn answer_first<W: Write>(
     tell(writer, text.as_bytes())
 }
 
-/// Reads the first line of a console, `attach` with the name of one of these nodes, and answers it: which node it is.
+/// Has who doesn't show the cookie wait, so that trying many takes long.
+fn hold_up<C: Clock>(rt: &C, answer: &Result<NodeName, GreetFault>) {
+    if matches!(answer, Err(GreetFault::NotAllowed)) {
+        thread::sleep(rt, Duration::from_secs(DELAY));
+    }
+}
+
+/// Reads the first line of a console, `attach` with the name of one of these nodes, and answers it: which node it is. Where there is a
+/// cookie the line must show it behind the name: whatever doesn't is answered `error not_allowed` after a second, and learns nothing
+/// of the nodes.
 ///
 /// Any other line is answered with the word for which it is refused, and no line at all isn't; then there is no node, and the
 /// console ends. It fails as `answer_lines` does.
-pub fn greet<R: Read, W: Write>(
+pub fn greet<R: Read, W: Write, C: Clock>(
+    rt: &C,
     alloc: Global,
     reader: &mut BufReader<R, Global>,
     writer: &mut W,
     nodes: &NodeSet,
+    cookie: Option<&Cookie>,
 ) -> Result<Option<NodeName>, StreamFault>
     ensures greets { MatchResult result
-        (Greets nodes.now (reader_remaining R.remaining reader.old) (reader_remaining R.remaining reader.new)
-        (W.contents writer.old) (W.contents writer.new))
-        (GreetStops nodes.now (reader_remaining R.remaining reader.old) (reader_remaining R.remaining reader.new)
-        (W.contents writer.old) (W.contents writer.new)) }
+        (Greets (option_map (λ c. c.now) cookie.entry) nodes.now (reader_remaining R.remaining reader.old)
+        (reader_remaining R.remaining reader.new) (W.contents writer.old) (W.contents writer.new))
+        (GreetStops (option_map (λ c. c.now) cookie.entry) nodes.now (reader_remaining R.remaining reader.old)
+        (reader_remaining R.remaining reader.new) (W.contents writer.old) (W.contents writer.new)) }
     ensures known { IfOk result (λ found. IfSome found (λ node. set_of nodes.now node ≡ true)) }
+    ensures shows { IfOk result (λ found. IfSome found (λ _. ShowsFirst (option_map (λ c. c.now) cookie.entry)
+        (reader_remaining R.remaining reader.old) (reader_remaining R.remaining reader.new))) }
 {
     let mut left = MOST_LINES;
     let Some(line) = read_line(Vec::new(alloc), reader, writer, &mut left)? else {
         return Ok(None);
     };
-    let answer = read_greeting(&line, nodes);
+    let answer = read_greeting(&line, nodes, cookie);
+    hold_up(rt, &answer);
     answer_first(alloc, writer, &answer)?;
     Ok(answer.ok())
 }

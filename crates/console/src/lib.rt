@@ -3,17 +3,22 @@
 
 mod answering;
 mod attendant;
+mod client;
 mod commands;
+mod cookie;
 mod counting;
 mod ends;
 mod faults;
 mod greeting;
+mod links;
 mod orders;
 mod outcomes;
 mod serving;
 
 pub use answering::answer_lines;
 pub use attendant::Attendant;
+pub use client::{Client, Peer};
+pub use cookie::Cookie;
 pub use ends::ConsoleEnd;
 pub use greeting::{greet, refuse_seat};
 pub use orders::Order;

@@ -20,6 +20,8 @@ pub enum Order {
 pub(crate) enum Command {
     /// It asks something of the node.
     Ask(Order),
+    /// It asks for a process that is linked to the console.
+    SpawnLink,
     /// It ends the console.
     Quit,
     /// It ends the console, and the server is to end.

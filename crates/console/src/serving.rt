@@ -5,19 +5,20 @@ ghost use Rattle.text_lines.specs.Lines.{most_lines};
 ghost use Rattle.node_seats.specs.Seats.{Sitting};
 ghost use Rattle.console.specs.Consoles.{EndsBy, Serves, Stops, most_staying};
 ghost use Rattle.console.specs.Seats.{SeatAnswers, IsTranscript};
-ghost use Rattle.console.specs.declared.orders.Order.TheVariants.{Whereis};
+ghost use Rattle.console.specs.declared.orders.Order.TheVariants.{Call as Calls, Whereis, Exit, Leave};
 
 use crate::answering::answer_lines;
 use crate::attendant::Attendant;
+use crate::client::{Client, Peer};
 use crate::ends::ConsoleEnd;
 use crate::orders::Order;
-use command_lines::Reply;
-use node_seats::{Notes, Seat, SeatFault, Transcript};
+use command_lines::{Call, Reply};
+use node_seats::{Beside, Notes, Seat, SeatFault, Transcript};
 use std::alloc::Global;
 use std::io::{BufReader, Read, Write};
 use std::sync::Wait;
 use std::time::Clock;
-use term::{Name, NodeName};
+use term::{Name, NodeName, Pid};
 use text_lines::{MOST_LINES, StreamFault};
 
 /// Looks a name up from a seat.
@@ -28,6 +29,26 @@ fn look_up<T: Notes>(seat: &mut Seat<T>, name: &Name) -> Result<Reply, SeatFault
         Some(owner) => Ok(Reply::Pid(owner)),
         None => Ok(Reply::Undefined),
     }
+}
+
+/// Has a process exit from a seat.
+fn exit<H: Wait + Clock, T: Notes>(
+    rt: &H,
+    seat: &mut Seat<T>,
+    process: &Pid,
+) -> Result<Reply, SeatFault>
+    ensures { SeatAnswers seat.old (Exit process.now) result seat.new }
+{
+    seat.exit(rt, process)?;
+    Ok(Reply::Ok)
+}
+
+/// Has the node of a seat leave.
+fn leave<H: Wait + Clock, T: Notes>(rt: &H, seat: &mut Seat<T>) -> Result<Reply, SeatFault>
+    ensures { SeatAnswers seat.old Leave result seat.new }
+{
+    seat.leave(rt)?;
+    Ok(Reply::Ok)
 }
 
 impl<H: Wait + Clock, T: Notes> Attendant<H> for Seat<T> {
@@ -43,24 +64,89 @@ impl<H: Wait + Clock, T: Notes> Attendant<H> for Seat<T> {
         Seat::<T>::node(self)
     }
 
-    fn ask(&mut self, rt: &H, order: Order) -> Result<Reply, SeatFault> {
+    fn ask(&mut self, rt: &H, order: Order, _linked: bool) -> Result<Reply, SeatFault> {
         match order {
             Order::Call(call) => self.call(rt, call),
             Order::Whereis(name) => look_up(self, &name),
-            Order::Exit(process) => {
-                self.exit(rt, &process)?;
-                Ok(Reply::Ok)
-            }
-            Order::Leave => {
-                self.leave(rt)?;
-                Ok(Reply::Ok)
-            }
+            Order::Exit(process) => exit(rt, self, &process),
+            Order::Leave => leave(rt, self),
+        }
+    }
+}
+
+/// The client of a console, while a call waits that it has made.
+#[derive(Drop)]
+struct Waiting<'a, C: Client> {
+    client: &'a C,
+    /// Whether the call is one of a process that exits with the console.
+    linked: bool,
+}
+
+impl<'a, C: Client> Beside for Waiting<'a, C> {
+    fn has_gone(&self) -> bool {
+        match self.client.peer() {
+            Peer::Listens => false,
+            Peer::InputEnded => self.linked,
+            Peer::Gone => true,
+        }
+    }
+}
+
+/// A seat whose calls are made for a client, and given up where that has gone.
+#[derive(Drop)]
+struct ClientSeat<T: Notes, C: Client + Drop> {
+    seat: Seat<T>,
+    client: C,
+}
+
+impl<T: Notes, C: Client + Drop> ClientSeat<T, C> {
+    /// Calls the node. A lock call is waited for no longer than the client may want to hear of it. All others are answered before long,
+    /// and a spawn that was given up would leave a process that isn't linked.
+    fn call<H: Wait + Clock>(
+        &mut self,
+        rt: &H,
+        call: Call,
+        linked: bool,
+    ) -> Result<Reply, SeatFault>
+        ensures { SeatAnswers self.old.seat (Calls call) result self.new.seat }
+    {
+        if !matches!(call, Call::SetLock(..)) {
+            return self.seat.call(rt, call);
+        }
+        let waiting = Waiting {
+            client: &self.client,
+            linked,
+        };
+        self.seat.call_beside(rt, call, &waiting)
+    }
+}
+
+impl<H: Wait + Clock, T: Notes, C: Client + Drop> Attendant<H> for ClientSeat<T, C> {
+    ghost use Rattle.console.specs.Seats.{SeatAnswers};
+
+    type State = Seat<T>;
+
+    ghost state = { λ s. s.seat };
+
+    ghost answers = { SeatAnswers };
+
+    fn node(&self) -> &NodeName {
+        self.seat.node()
+    }
+
+    fn ask(&mut self, rt: &H, order: Order, linked: bool) -> Result<Reply, SeatFault> {
+        match order {
+            Order::Call(call) => self.call(rt, call, linked),
+            Order::Whereis(name) => look_up(&mut self.seat, &name),
+            Order::Exit(process) => exit(rt, &mut self.seat, &process),
+            Order::Leave => leave(rt, &mut self.seat),
         }
     }
 }
 
 /// Serves a console from a seat: each line that is read is answered, as `answer_lines` says, until `quit` or the end of the
-/// input. The transcript is the seat's, also after a fault: what it had, and an entry for each order that was carried out.
+/// input; then all that it left linked exits. The transcript is the seat's, also after a fault: what it had, and an entry for each
+/// order that was carried out, the exits at the end among them.
 pub fn serve<R: Read, W: Write, H: Wait + Clock>(
     rt: &H,
     alloc: Global,
@@ -85,21 +171,27 @@ pub fn serve<R: Read, W: Write, H: Wait + Clock>(
     }
 }
 
-/// Serves a console of a server that stays, from a seat that it is lent: as `serve` does, but that the line `shutdown` is answered
-/// `ok` and ends it, too, and that no number of lines does. Only a line that counts for more than a reader's lines may is too
-/// many. How it ended is told; what the server does then is for the caller.
-pub fn serve_staying<R: Read, W: Write, H: Wait + Clock, T: Notes>(
+/// Serves a console of a server that stays from a seat, which comes back behind the exits of all that it left linked: as `serve`
+/// does, but that the line `shutdown` is answered `ok` and ends it, too, and that no number of lines does. Only a line that counts
+/// for more than a reader's lines may is too many. How it ended is told; what the server does then is for the caller.
+///
+/// A lock call that waits is given up, and answered `error closed`, where its client is gone; and, where it is the call of a linked
+/// process, also where the console's input has ended, as that process exits then.
+pub fn serve_staying<R: Read, W: Write, H: Wait + Clock, T: Notes, C: Client + Drop>(
     rt: &H,
     alloc: Global,
     reader: &mut BufReader<R, Global>,
     writer: &mut W,
-    seat: &mut Seat<T>,
-) -> Result<ConsoleEnd, StreamFault>
-    ensures { MatchResult result
+    seat: Seat<T>,
+    client: C,
+) -> (Result<ConsoleEnd, StreamFault>, Seat<T>)
+    ensures { MatchResult result.0
         (EndsBy SeatAnswers true most_staying (reader_remaining R.remaining reader.old) (reader_remaining R.remaining reader.new)
-        (W.contents writer.old) (W.contents writer.new) seat.old seat.new)
+        (W.contents writer.old) (W.contents writer.new) seat result.1)
         (Stops SeatAnswers true most_staying (reader_remaining R.remaining reader.old) (reader_remaining R.remaining reader.new)
-        (W.contents writer.old) (W.contents writer.new) seat.old seat.new) }
+        (W.contents writer.old) (W.contents writer.new) seat result.1) }
 {
-    answer_lines(rt, alloc, reader, writer, seat, true, u64::MAX)
+    let mut attendant = ClientSeat { seat, client };
+    let ended = answer_lines(rt, alloc, reader, writer, &mut attendant, true, u64::MAX);
+    (ended, attendant.seat)
 }

@@ -5,12 +5,16 @@ use std::alloc::Global;
 use std::io::{BufReader, Read, Write};
 use term::{NodeName, Pid, TextFault, parse_node, parse_pid};
 
+mod clients;
+mod cookies;
 mod faults;
 mod greetings;
+mod links;
 mod refusals;
 mod seats;
 mod staying;
 mod streams;
+mod waiting;
 
 /// As many lines as a console of a server that doesn't stay may have.
 const MOST_LINES: u64 = 1_000_000;
@@ -50,7 +54,7 @@ impl<H> Attendant<H> for Clerk {
         &self.node
     }
 
-    fn ask(&mut self, _rt: &H, _order: Order) -> Result<Reply, SeatFault> {
+    fn ask(&mut self, _rt: &H, _order: Order, _linked: bool) -> Result<Reply, SeatFault> {
         self.asked = self.asked.saturating_add(1);
         match self.fault.take() {
             Some(fault) => Err(fault),

@@ -1,5 +1,5 @@
 -- Who told a caller what.
-use Rattle.std.specs.Prelude.{ℕ, Bool, true, nat_lt, ◌≡◌, ◌≤◌, Result, Err, List, ◌∷◌}
+use Rattle.std.specs.Prelude.{ℕ, Bool, true, nat_lt, ◌≡◌, ◌==◌, ◌||◌, ◌&&◌, ◌≤◌, Result, Err, List, ◌∷◌}
 use Rattle.shared_table.specs.declared.Ticket.{Ticket}
 use Rattle.shared_table.specs.declared.Effect.{Effect}
 use Rattle.shared_table.specs.declared.TaskFault.{TaskFault}
@@ -12,9 +12,13 @@ use Rattle.shared_table.specs.Left.{logs_leave}
 use Rattle.node_seats.specs.declared.fault.SeatFault.{SeatFault}
 use Rattle.node_seats.specs.declared.fault.SeatFault.TheVariants.{Step}
 
--- a reply is to an earlier seat than the one that lies in their slot
+-- one ticket comes before another: it is of an earlier seat, or of the same and for an earlier call
+abbrev pub comes_before : Ticket → Ticket → Bool
+comes_before one other = nat_lt one.seat other.seat || (one.seat == other.seat && nat_lt one.number other.number)
+
+-- a reply is to an earlier ticket than the one that lies in their slot
 abbrev pub is_late : TaskReply → TaskReply → Bool
-is_late reply lying = nat_lt reply.ticket.seat lying.ticket.seat
+is_late reply lying = comes_before reply.ticket lying.ticket
 
 -- the loop of a node came to where it tells this reply next, and what it shows its readers changed behind no step beyond that length
 pub record TellsNext (name : ℕ) (reply : TaskReply) (length : ℕ) : Type 0 where

@@ -7,6 +7,7 @@ ghost use Rattle.node_seats.specs.Callers.{name_of, inbox_of, place_of, nodes_of
 ghost use Rattle.node_seats.specs.Faults.{IsAskRefused, MayAsk};
 ghost use Rattle.node_seats.specs.Replies.{IsToldTo, IsFaultTold, HasLeft};
 
+use crate::beside::{Beside, Nobody};
 use crate::caller::Caller;
 use crate::fault::SeatFault;
 use shared_table::{Answer, Call, Effect, Event};
@@ -16,7 +17,12 @@ use term::Pid;
 
 impl Caller {
     /// Asks for a call, and gives its answer. It is refused as `ask` is.
-    pub(crate) fn call<R: Wait + Clock>(&mut self, rt: &R, call: Call) -> Result<Answer, SeatFault>
+    pub(crate) fn call<R: Wait + Clock, B: Beside>(
+        &mut self,
+        rt: &R,
+        call: Call,
+        beside: &B,
+    ) -> Result<Answer, SeatFault>
         ensures place { place_of self.new ≡ place_of self.old }
         ensures node { name_of self.new ≡ name_of self.old }
         ensures inbox { inbox_of self.new ≡ inbox_of self.old }
@@ -28,7 +34,7 @@ impl Caller {
         ensures refused { IfErr result (λ fault. IsFaultTold (name_of self.old) (ticket_of self.old) fault (told_of self.new)) }
         ensures learns { Learns (seen_of self.old) (seen_of self.new) }
     {
-        match self.ask(rt, Event::Call(call))? {
+        match self.ask(rt, Event::Call(call), beside)? {
             Effect::Answered(answer) => Ok(answer),
             // No call comes to anything else.
             _ => Err(SeatFault::Closed),
@@ -47,7 +53,7 @@ impl Caller {
         ensures refused { IfErr result (λ fault. IsFaultTold (name_of self.old) (ticket_of self.old) fault (told_of self.new)) }
         ensures learns { Learns (seen_of self.old) (seen_of self.new) }
     {
-        match self.ask(rt, Event::Exit(process.copy()))? {
+        match self.ask(rt, Event::Exit(process.copy()), &Nobody)? {
             Effect::Made => Ok(()),
             // No exit comes to anything else.
             _ => Err(SeatFault::Closed),
@@ -68,7 +74,7 @@ impl Caller {
         ensures refused { IfErr result (λ fault. IsFaultTold (name_of self.old) (ticket_of self.old) fault (told_of self.new)) }
         ensures learns { Learns (seen_of self.old) (seen_of self.new) }
     {
-        match self.ask(rt, Event::Leave)? {
+        match self.ask(rt, Event::Leave, &Nobody)? {
             Effect::Left => Ok(()),
             // No leave comes to anything else.
             _ => Err(SeatFault::Closed),

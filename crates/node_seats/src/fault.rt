@@ -15,8 +15,8 @@ pub enum SeatFault {
     /// The node has left.
     #[error("node_left")]
     NodeLeft,
-    /// The node's thread ended without a leave, another's ended so and with it the cluster, the cluster was closed, or the numbers of
-    /// the seat's calls are spent.
+    /// The node's thread ended without a leave, another's ended so and with it the cluster, the cluster was closed, the numbers of the
+    /// seat's calls are spent, or whoever a call was made for went while it waited.
     #[error("closed")]
     Closed,
     /// The cluster has 64 seats that weren't given back, or no number for one more.

@@ -47,11 +47,13 @@ impl Laid {
         self.reply.ticket.slot
     }
 
-    /// Whether it is to an earlier seat than the reply that lies in their slot: that seat has been given back, and this one comes too late.
+    /// Whether it is to an earlier ticket than the reply that lies in their slot: that seat has been given back, or has given the call up
+    /// and made another, and this reply comes too late.
     pub(crate) fn comes_late(&self, lying: &Laid) -> bool
         ensures { result ≡ is_late self.now.reply lying.now.reply }
     {
-        self.reply.ticket.seat < lying.reply.ticket.seat
+        let (own, other) = (&self.reply.ticket, &lying.reply.ticket);
+        own.seat < other.seat || (own.seat == other.seat && own.number < other.number)
     }
 
     /// The length of the node's log up to which its readers were shown all before it was laid.

@@ -7,6 +7,7 @@
 mod address;
 mod asking;
 mod bell;
+mod beside;
 mod caller;
 mod calls;
 mod fault;
@@ -24,6 +25,7 @@ mod seat;
 mod standing;
 
 pub use address::Address;
+pub use beside::{Beside, Nobody};
 pub use caller::Caller;
 pub use fault::SeatFault;
 pub use free_seat::FreeSeat;

@@ -8,6 +8,7 @@ ghost use Rattle.node_seats.specs.Seats.{sitting, Answered, Unanswered, Done, Lo
 ghost use Rattle.node_seats.specs.Replies.{HasLeft};
 ghost use Rattle.node_seats.specs.Faults.{IsAskRefused};
 
+use crate::beside::{Beside, Nobody};
 use crate::caller::Caller;
 use crate::calls::copied_call;
 use crate::fault::SeatFault;
@@ -77,9 +78,25 @@ impl<T: Notes> Seat<T> {
         ensures err { IfErr result (λ fault. Unanswered fault (Calls call) self.old self.new) }
         ensures known { IfErr result (λ fault. IsAskRefused fault (knows self.old.nodes (Calls call))) }
     {
+        self.call_beside(rt, call, &Nobody)
+    }
+
+    /// Calls the node as `call` does, but waits no longer than whoever the call is made for is there: `Closed` then, and whether the call
+    /// was made isn't known. The node goes on with it: a lock call that was given up may be granted later, unless its process exits
+    /// before. The seat may call and exit again at once: a reply to what was given up is dropped.
+    pub fn call_beside<R: Wait + Clock, B: Beside>(
+        &mut self,
+        rt: &R,
+        call: Call,
+        beside: &B,
+    ) -> Result<Reply, SeatFault>
+        ensures ok { IfOk result (λ reply. Answered call reply self.old self.new) }
+        ensures err { IfErr result (λ fault. Unanswered fault (Calls call) self.old self.new) }
+        ensures known { IfErr result (λ fault. IsAskRefused fault (knows self.old.nodes (Calls call))) }
+    {
         let event = self.event(Event::Call(copied_call(&call)?));
         self.notes.reserve()?;
-        let answer = self.caller.call(rt, call)?;
+        let answer = self.caller.call(rt, call, beside)?;
         let reply = answer.reply.copy()?;
         let answer = Some(answer);
         self.notes.put(SeatEntry { event, answer });

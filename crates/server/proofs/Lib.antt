@@ -3,3 +3,4 @@ mod Leaving
 mod Doors
 mod Joining
 mod Closing
+mod Reseating

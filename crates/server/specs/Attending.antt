@@ -52,13 +52,13 @@ pub record IsAttached (nodes : List ℕ) (input rest old new : Option (List ℕ)
   pub node : ℕ
   pub unread : Option (List ℕ)
   pub written : Option (List ℕ)
-  pub greeted : Greets nodes input unread old written (Some node)
+  pub greeted : Greets None nodes input unread old written (Some node)
   pub sits : Sits node unread rest written new place left
 
 -- it was attached to none, and gave its seat back: its first line is refused, or it has none, or that line wasn't read or answered
 pub record IsUnattached (nodes : List ℕ) (input rest old new : Option (List ℕ)) (place : Place) (left : Left) : Type 0 where
   pub back : left ≡ Unserved place
-  pub greeted : Greets nodes input rest old new None ⊎ ((f : StreamFault) × GreetStops nodes input rest old new f)
+  pub greeted : Greets None nodes input rest old new None ⊎ ((f : StreamFault) × GreetStops None nodes input rest old new f)
 
 -- a console of a cluster of these nodes ended that had this place, and this is left of it
 abbrev pub Attends : List ℕ → Option (List ℕ) → Option (List ℕ) → Option (List ℕ) → Option (List ℕ) → Place → Left → Type 0

@@ -1,4 +1,5 @@
 pub use Rattle.console.specs.Printing
+pub use Rattle.console.specs.Cookies
 pub use Rattle.node_threads.specs.Openings
 pub mod Faults
 pub mod Attending

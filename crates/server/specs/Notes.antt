@@ -1,5 +1,5 @@
 -- The lines on which a server that stays tells what happens.
-use Rattle.std.specs.Prelude.{ℕ, List, ◌∷◌, ◌++◌, codes, Result, Ok, Err}
+use Rattle.std.specs.Prelude.{ℕ, Bool, true, false, List, ◌∷◌, ◌++◌, codes, Result, Ok, Err}
 use Rattle.std.specs.Fmt.{decimal}
 use Rattle.term.specs.Spelling.{bytes_of}
 use Rattle.text_lines.specs.declared.faults.StreamFault.{StreamFault}
@@ -20,6 +20,11 @@ parting_of (Err fault.Read) = Read
 parting_of (Err fault.Write) = Write
 parting_of (Err fault.TooManyLines) = Lines
 parting_of (Err fault.Memory) = Memory
+
+-- whether it asked for the end of the server
+abbrev pub asks_for_the_end : Parting → Bool
+asks_for_the_end Shutdown = true
+asks_for_the_end _ = false
 
 -- the word for how it ended
 abbrev pub parting_word : Parting → List ℕ

@@ -1,5 +1,5 @@
 -- What serving a cluster comes to that stays until a console asks for its end.
-use Rattle.std.specs.Prelude.{ℕ, Bool, ◌≡◌, is_ok, List, ◌++◌, codes, Option, Result, Ok, Err}
+use Rattle.std.specs.Prelude.{ℕ, Bool, ◌≡◌, is_ok, List, [], ◌∷◌, ◌++◌, codes, Option, Some, None, Result, Ok, Err}
 use Rattle.std.specs.Global.{Global}
 use Rattle.std.specs.Io.KnownBytes.{Appends, Keeps}
 use Rattle.registry_model.specs.Table.{Table}
@@ -10,7 +10,7 @@ use Rattle.node_threads.specs.declared.ending.EndFault.{EndFault}
 use Rattle.node_threads.specs.declared.ending.EndFault.TheVariants as untold
 use Rattle.node_threads.specs.Wires.{IsCrew}
 use Rattle.node_threads.specs.Seating.{no_seats}
-use Rattle.node_threads.specs.Clusters.{Crewed}
+use Rattle.node_threads.specs.Clusters.{Crewed, seats_more, seats_fewer}
 use Rattle.node_threads.specs.Ending.{EndIs}
 use Rattle.text_lines.specs.Writing.{AppendsPart}
 use Rattle.server.specs.declared.faults.ServeFault.{ServeFault}
@@ -31,11 +31,16 @@ end_line (Err fault) = error_line (end_text fault)
 abbrev pub Ending : Type 0
 Ending = Result (EndedCluster Table Global) EndFault
 
--- a cluster has the lists and the crew that it had: its seats alone may differ
-pub record HasSameCrew (c d : Crewed) : Type 0 where
-  pub cluster : d.cluster ≡ c.cluster
-  pub lone : d.lone ≡ c.lone
-  pub crew : d.crew ≡ c.crew
+-- what a cluster is after seats were given out and taken back: for each in turn none, or the slot of the one that came back
+abbrev pub reseated : List (Option ℕ) → Crewed → Crewed
+reseated [] c = c
+reseated (None ∷ turns) c = reseated turns (seats_more c)
+reseated (Some slot ∷ turns) c = reseated turns (seats_fewer slot c)
+
+-- seats of a cluster were given out and taken back, and nothing else of it changed
+pub record Reseats (c d : Crewed) : Type 0 where
+  pub turns : List (Option ℕ)
+  pub is : d ≡ reseated turns c
 
 -- so this cluster ended
 abbrev pub Ends : Crewed → Ending → Type 0
@@ -45,7 +50,8 @@ Ends c ending = EndIs (λ t. t) c.cluster c.lone c.crew ending
 abbrev pub TellsEnd : Crewed → Option (List ℕ) → Option (List ℕ) → Result Bool ServeFault → Type 0
 TellsEnd c old new (Ok good) = (ending : Ending) × Ends c ending × (good ≡ is_ok ending) × Appends old new (end_line ending)
 TellsEnd c old new (Err Write) = (ending : Ending) × Ends c ending × AppendsPart old new (end_line ending)
-TellsEnd c old new (Err _) = Keeps old new
+TellsEnd c old new (Err Memory) = Keeps old new
+TellsEnd c old new (Err Accept) = ⊥
 
 -- A cluster of these nodes gave out its seats, from the first on, and took them back, and ended so
 pub record EndsAfter (cluster lone : List ℕ) (ending : Ending) : Type 0 where
@@ -53,15 +59,16 @@ pub record EndsAfter (cluster lone : List ℕ) (ending : Ending) : Type 0 where
   pub crew : IsCrew cluster lone first.crew
   pub unused : first.seating ≡ no_seats
   pub last : Crewed
+  pub seats : Reseats first last
   pub of : (last.cluster ≡ cluster) × (last.lone ≡ lone) × (last.crew ≡ first.crew)
   pub ends : Ends last ending
 
 -- the writer got the line that tells what the cluster came to: all of it, or a part where it failed. After another fault it
--- got nothing. The result is true where the run of the threads was one of the world's
+-- got nothing. The result is true where the run of the threads was one of the world's. No connection that isn't taken ends it
 abbrev pub StaysCluster : List ℕ → List ℕ → Option (List ℕ) → Option (List ℕ) → Result Bool ServeFault → Type 0
 StaysCluster cluster lone old new (Ok good) =
     (ending : Ending) × EndsAfter cluster lone ending × (good ≡ is_ok ending) × Appends old new (end_line ending)
 StaysCluster cluster lone old new (Err Write) =
     (ending : Ending) × EndsAfter cluster lone ending × AppendsPart old new (end_line ending)
-StaysCluster cluster lone old new (Err Accept) = Keeps old new
+StaysCluster cluster lone old new (Err Accept) = ⊥
 StaysCluster cluster lone old new (Err Memory) = Keeps old new

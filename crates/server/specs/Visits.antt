@@ -5,7 +5,7 @@ use Rattle.node_threads.specs.declared.SeatFault.{SeatFault}
 use Rattle.text_lines.specs.declared.faults.StreamFault.{StreamFault}
 use Rattle.console.specs.declared.ends.ConsoleEnd.{ConsoleEnd}
 use Rattle.console.specs.Consoles.{EndsBy, Stops, most_staying}
-use Rattle.console.specs.Greetings.{Greets, GreetStops}
+use Rattle.console.specs.Greetings.{Greets, GreetStops, ShowsFirst}
 use Rattle.console.specs.Seats.{SeatAnswers}
 use Rattle.server.specs.declared.staying.notes.Parting.{Parting}
 use Rattle.server.specs.declared.staying.notes.Parting.TheVariants.{Unseated}
@@ -27,20 +27,21 @@ IsHosted input rest old new parting =
     IsServedAt input rest old new parting
     ⊎ ((fault : SeatFault) × IsUnseated input rest old new fault × (parting ≡ Unseated))
 
--- it was greeted and attached to one of these nodes
-pub record IsGuest (nodes : List ℕ) (input rest old new : Option (List ℕ)) : Type 0 where
+-- it was greeted, showed the cookie if there is one, and was attached to one of these nodes
+pub record IsGuest (cookie : Option (List ℕ)) (nodes : List ℕ) (input rest old new : Option (List ℕ)) : Type 0 where
   pub node : ℕ
   pub unread : Option (List ℕ)
   pub written : Option (List ℕ)
   pub parting : Parting
-  pub greeted : Greets nodes input unread old written (Some node)
+  pub greeted : Greets cookie nodes input unread old written (Some node)
+  pub shown : ShowsFirst cookie input unread
   pub hosted : IsHosted unread rest written new parting
 
 -- it was attached to none: its first line is refused, or it has none, or that line wasn't read or answered
-abbrev pub IsTurnedAway : List ℕ → Option (List ℕ) → Option (List ℕ) → Option (List ℕ) → Option (List ℕ) → Type 0
-IsTurnedAway nodes input rest old new =
-    Greets nodes input rest old new None ⊎ ((f : StreamFault) × GreetStops nodes input rest old new f)
+abbrev pub IsTurnedAway : Option (List ℕ) → List ℕ → Option (List ℕ) → Option (List ℕ) → Option (List ℕ) → Option (List ℕ) → Type 0
+IsTurnedAway cookie nodes input rest old new =
+    Greets cookie nodes input rest old new None ⊎ ((f : StreamFault) × GreetStops cookie nodes input rest old new f)
 
--- a console of a cluster of these nodes ended
-abbrev pub Visits : List ℕ → Option (List ℕ) → Option (List ℕ) → Option (List ℕ) → Option (List ℕ) → Type 0
-Visits nodes input rest old new = IsGuest nodes input rest old new ⊎ IsTurnedAway nodes input rest old new
+-- a console of a cluster of these nodes ended, which had to show this cookie, if there is one
+abbrev pub Visits : Option (List ℕ) → List ℕ → Option (List ℕ) → Option (List ℕ) → Option (List ℕ) → Option (List ℕ) → Type 0
+Visits cookie nodes input rest old new = IsGuest cookie nodes input rest old new ⊎ IsTurnedAway cookie nodes input rest old new

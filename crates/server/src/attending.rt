@@ -78,7 +78,7 @@ pub(crate) fn attend<H: Wait + Clock, R: Read, W: Write>(
     ensures { Attends nodes.now (reader_remaining R.remaining reader.old) (reader_remaining R.remaining reader.new)
         (W.contents writer.old) (W.contents writer.new) place result }
 {
-    match greet(alloc, reader, writer, nodes) {
+    match greet(rt, alloc, reader, writer, nodes, None) {
         Ok(Some(node)) => attend_at(rt, alloc, reader, writer, &node, place),
         Ok(None) => Left::Unserved(place),
         Err(_) => Left::Unserved(place),

@@ -1,15 +1,18 @@
-//! Clusters of threads that are served to consoles over TCP.
+//! Clusters of threads that are served to consoles over TCP, or over a socket of the file system.
 #![tactic(auto)]
 
 mod attending;
 mod ending;
+mod entry;
 mod faults;
 mod served;
 mod serving;
 mod staying;
 mod taking;
 
+pub use console::Cookie;
+pub use entry::Entry;
 pub use faults::ServeFault;
 pub use node_threads::StartFault;
 pub use serving::run_serve;
-pub use staying::run_stay;
+pub use staying::{StayOptions, run_stay};

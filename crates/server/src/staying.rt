@@ -8,18 +8,21 @@ mod door;
 mod hall;
 mod notes;
 mod office;
+mod options;
 mod staff;
+pub(crate) mod stream;
 mod worker;
 
 use crate::ending::end_line;
+use crate::entry::Entry;
 use crate::faults::ServeFault;
 use crate::serving::{YIELDS, set_of_all};
 use crate::staying::desk::{StayingCluster, stay};
+pub use crate::staying::options::StayOptions;
 use crate::staying::staff::Staff;
 use node_threads::OpenGate;
 use std::alloc::Global;
 use std::io::Write;
-use std::net::TcpListener;
 use std::sync::Wait;
 use std::thread::Threads;
 use std::time::Clock;
@@ -51,10 +54,10 @@ where
 }
 
 /// Runs a cluster of threads and serves consoles until one of them asks for the end by the line `shutdown`: those of `cluster` are
-/// joined with each other, and each of `lone` stands for itself. It serves `consoles` connections at once, in as many threads, and tells
-/// others `error too_many_consoles`. Each console has a seat while it lasts. The nodes keep none of their steps. A connection that
-/// couldn't be taken ends nothing, so `Accept` never comes; with no `consoles` at all nobody can ask for the end. What happens is told
-/// on `errors`, whose faults are passed over.
+/// joined with each other, and each of `lone` stands for itself. It serves as many connections at once as the options say, in as many
+/// threads, and tells others `error too_many_consoles`; with none at all nobody can ask for the end. Each console has a seat while it
+/// lasts, behind a first line that shows the cookie, if there is one. The nodes keep none of their steps. A connection that couldn't be
+/// taken ends nothing, so `Accept` never comes. What happens is told on `errors`, whose faults are passed over.
 ///
 /// At the end connections are ended, calls that wait are answered `closed`, and one line is written that tells what the cluster came
 /// to: `closed` with the number of events, and then the result is true; or `error` with the fault, and then it is false. `Memory`:
@@ -62,10 +65,10 @@ where
 pub fn run_stay<R, W, E>(
     rt: &R,
     alloc: Global,
-    listener: TcpListener,
+    entry: Entry,
     cluster: &[NodeName],
     lone: &[NodeName],
-    consoles: u32,
+    options: StayOptions,
     writer: &mut W,
     errors: &mut E,
 ) -> Result<bool, ServeFault>
@@ -80,7 +83,7 @@ where
         return Err(ServeFault::Memory);
     };
     let nodes = set_of_all(cluster, lone);
-    match Staff::start(rt, alloc, listener, nodes, consoles) {
+    match Staff::start(rt, alloc, entry, nodes, options) {
         Ok(staff) => {
             stay(rt, alloc, &mut running, &staff.messages, errors);
             end(rt, alloc, running, staff, writer, errors)

@@ -1,7 +1,9 @@
-//! Tests of clusters that are served, over a loopback socket: what only a call in code can show. Talks of several consoles are
+//! Tests of clusters that are served, over a loopback socket or one of the system alone: what only a call in code can show. Talks of several consoles are
 //! in tests/consoles.
 #![tactic(auto)]
 
+#[cfg(test)]
+mod sockets;
 #[cfg(test)]
 mod stays;
 #[cfg(test)]

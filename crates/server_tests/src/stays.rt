@@ -1,5 +1,5 @@
 //! Clusters that stay: consoles that come and go, one more than may be, and the line that ends it all.
-use server::{ServeFault, run_stay};
+use server::{Entry, ServeFault, StayOptions, run_stay};
 use std::alloc::Global;
 use std::io::{self, Read, Write};
 use std::net::{Net, Shutdown, SocketAddr, TcpListener, TcpStream};
@@ -12,16 +12,29 @@ use term::parse_node;
 
 /// What serving a cluster came to.
 #[derive(Drop)]
-struct Stayed {
-    result: Result<bool, ServeFault>,
+pub(crate) struct Stayed {
+    pub(crate) result: Result<bool, ServeFault>,
     /// What was written.
-    written: Vec<u8>,
+    pub(crate) written: Vec<u8>,
     /// What was told beside that.
-    told: Vec<u8>,
+    pub(crate) told: Vec<u8>,
 }
 
 /// Serves a cluster of the one node a to so many consoles at once, until one asks for the end.
 fn serve<R>(rt: &R, alloc: Global, listener: TcpListener, consoles: u32) -> Stayed
+where
+    R: Threads + Wait + Clock + Drop + Copy + Send + Sync + 'static,
+{
+    let options = StayOptions {
+        consoles,
+        idle: None,
+        cookie: None,
+    };
+    serve_as(rt, alloc, Entry::Tcp(listener), options)
+}
+
+/// Serves a cluster of the one node a to consoles that come in there, until one asks for the end.
+pub(crate) fn serve_as<R>(rt: &R, alloc: Global, entry: Entry, options: StayOptions) -> Stayed
 where
     R: Threads + Wait + Clock + Drop + Copy + Send + Sync + 'static,
 {
@@ -31,10 +44,10 @@ where
         Ok(node) => run_stay(
             rt,
             alloc,
-            listener,
+            entry,
             slice::from_ref(&node),
             &[],
-            consoles,
+            options,
             &mut written,
             &mut told,
         ),
@@ -48,7 +61,12 @@ where
 }
 
 /// Connects, says all this at once, and hears what is answered until the console ends.
-fn converse<R>(rt: &R, alloc: Global, address: SocketAddr, lines: &[u8]) -> io::Result<Vec<u8>>
+pub(crate) fn converse<R>(
+    rt: &R,
+    alloc: Global,
+    address: SocketAddr,
+    lines: &[u8],
+) -> io::Result<Vec<u8>>
 where
     R: Net<Listener = TcpListener, Stream = TcpStream>,
 {
@@ -60,7 +78,7 @@ where
 }
 
 /// Hears what is answered until the console ends.
-fn hear(alloc: Global, stream: &TcpStream) -> io::Result<Vec<u8>> {
+pub(crate) fn hear(alloc: Global, stream: &TcpStream) -> io::Result<Vec<u8>> {
     let mut socket = stream;
     let mut heard = Vec::new(alloc);
     socket.read_to_end(&mut heard)?;

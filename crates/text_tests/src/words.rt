@@ -1,4 +1,5 @@
 //! Words that are taken, and words that are not.
+use crate::reading::is_text;
 use arguments::{ArgFault, ServeOptions, Task, read_args};
 use std::alloc::{AllocError, Global};
 use term::{NodeSet, parse_nodes};
@@ -88,10 +89,34 @@ fn stays(alloc: Global, line: &str) -> Option<(u8, bool)> {
 fn takes_the_flag(rt: HostRuntime) {
     let words = "program serve --listen x --nodes a";
     assert!(rt; stays(rt.alloc(), words) == Some((8, false)));
-    let words = "program serve --listen x --nodes a --stay";
+    let words = "program serve --listen unix:x --nodes a --stay";
     assert!(rt; stays(rt.alloc(), words) == Some((64, true)));
-    let words = "program serve --stay --listen x --nodes a --consoles 8";
+    let words = "program serve --stay --cookie-file x --listen x --nodes a --consoles 8";
     assert!(rt; stays(rt.alloc(), words) == Some((8, true)));
+}
+
+/// Whether a line asks for a server that listens at this socket, or at none where it is empty, with this file and limit.
+fn is_guarded(alloc: Global, line: &str, socket: &str, file: &str, limit: Option<u32>) -> bool {
+    match read(alloc, line) {
+        Ok(Task::Serve(options)) => {
+            options.socket().unwrap_or("") == socket
+                && options.cookie_file.as_deref().unwrap_or("") == file
+                && options.idle == limit
+        }
+        _ => false,
+    }
+}
+
+#[test]
+fn takes_who_may_come(rt: HostRuntime) {
+    let words = "program serve --listen x --nodes a";
+    assert!(rt; is_guarded(rt.alloc(), words, "", "", None));
+    let words = "program serve --stay --listen unix:/run/x --nodes a";
+    assert!(rt; is_guarded(rt.alloc(), words, "/run/x", "", None));
+    let words = "program serve --stay --listen unix:x --nodes a --cookie-file f --idle 31536000";
+    assert!(rt; is_guarded(rt.alloc(), words, "x", "f", Some(31_536_000)));
+    let words = "program serve --stay --listen x:1 --nodes a --cookie-file=f --idle=1";
+    assert!(rt; is_guarded(rt.alloc(), words, "", "f", Some(1)));
 }
 
 /// Whether a line is refused with this word.
@@ -126,6 +151,37 @@ fn refuses_lists(rt: HostRuntime) {
     }
 }
 
+/// Options that don't go together, each with what is told of them; and lists that are refused before.
+const OPTIONS: &str = "\
+program serve --listen x --nodes a --cookie-file f|--cookie-file: goes with --stay alone
+program serve --listen x --nodes a --idle 9|--idle: goes with --stay alone
+program serve --listen unix:x --nodes a|--listen unix:PATH: goes with --stay alone
+program serve --listen x --nodes a --stay|--cookie-file: wanted with --stay over TCP
+program serve --listen x --nodes a --stay --idle 9|--cookie-file: wanted with --stay over TCP
+program serve --listen unix:x --nodes a --idle 9 --cookie-file f|--cookie-file: goes with --stay alone
+program serve --listen unix:x --nodes a --idle 9|--idle: goes with --stay alone
+program serve --listen unix:x --nodes a,,b --idle 9|empty
+program serve --listen x --nodes a --lone a --stay|same_node
+";
+
+/// Whether the line of a row is refused with the text behind it.
+fn is_refused_with(alloc: Global, row: &str) -> bool {
+    let Some((line, text)) = row.split_once('|') else {
+        return false;
+    };
+    match read(alloc, line) {
+        Ok(_) => false,
+        Err(fault) => is_text(format!(in alloc; "{fault}"), text),
+    }
+}
+
+#[test]
+fn refuses_options(rt: HostRuntime) {
+    for row in OPTIONS.lines() {
+        assert!(rt; is_refused_with(rt.alloc(), row), "{row}");
+    }
+}
+
 /// Whether this is a part of what was printed.
 fn has_text(printed: Result<String, AllocError>, part: &str) -> bool {
     match printed {
@@ -148,13 +204,18 @@ program serve=--listen <ADDR>
 program serve --listen x=--nodes <LIST>
 program serve --listen x --nodes a --consoles 65=1..=64
 program serve --listen x --nodes a --consoles 0=1..=64
+program serve --listen unix:x --nodes a --stay --idle 0=1..=31536000
+program serve --listen unix:x --nodes a --stay --idle 31536001=1..=31536000
 program --help=Runs nodes and serves consoles over the network
 program serve --help=127.0.0.1:4370
+program serve --help=unix:/run/yaltzumin/socket
 program serve --help=--listen <ADDR>
 program serve --help=--nodes <LIST>
 program serve --help=--lone <LIST>
 program serve --help=--consoles <N>
 program serve --help=--stay
+program serve --help=--cookie-file <FILE>
+program serve --help=--idle <SECONDS>
 ";
 
 /// Whether what is told of the line of a row has the text behind it.

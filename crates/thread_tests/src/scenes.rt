@@ -19,6 +19,7 @@ use world_history::{HistoryEntry, KeptEntry};
 mod beside;
 mod crowds;
 mod forgetful;
+mod given_up;
 mod holders;
 mod leaves;
 mod meeting;
@@ -42,6 +43,8 @@ enum Scene {
     Work,
     /// A call that waits for a lock ends so.
     Wait(Ending),
+    /// A call that waits for a lock is given up.
+    GiveUp,
     /// A node leaves that may be holding the lock.
     Leave,
     /// A process is spawned at each node, from a seat in a thread of its own.
@@ -70,6 +73,7 @@ impl Scene {
             Scene::Both => names::both(rt, seats),
             Scene::Work => holders::work(rt, seats),
             Scene::Wait(ending) => leaves::wait(rt, cluster, seats, ending),
+            Scene::GiveUp => given_up::give_up(rt, seats),
             Scene::Leave => leaves::leave(rt, cluster, seats),
             Scene::Spawns => crowds::spawn_at_all(rt, seats),
             Scene::Names => crowds::name_at_all(rt, seats),
@@ -211,6 +215,13 @@ fn holders_work_under_their_locks(rt: HostRuntime) {
 fn a_waiting_call_ends_with_its_process_or_its_node(rt: HostRuntime) {
     for ending in [Ending::Exit, Ending::Leave, Ending::ClusterLeave] {
         assert!(rt; plays(&rt, rt.alloc(), "a,b", "b,b", Scene::Wait(ending)).is_some());
+    }
+}
+
+#[test]
+fn a_call_whose_client_goes_holds_nothing(rt: HostRuntime) {
+    for _ in 0..10u32 {
+        assert!(rt; plays(&rt, rt.alloc(), "a,b", "a,b", Scene::GiveUp).is_some());
     }
 }
 

@@ -5,6 +5,7 @@ use node_threads::SeatFault;
 use std::alloc::Global;
 use std::io::{BufReader, Cursor};
 use std::test::Fail;
+use std::time::Clock;
 use term::{parse_node, parse_nodes};
 
 /// A first line.
@@ -16,7 +17,7 @@ fn a_console_is_attached(rt: HostRuntime) -> Result<(), Fail> {
     let nodes = parse_nodes("a,b")?;
     let mut reader = BufReader::new(alloc, Cursor::new(b"attach b\nspawn\n".as_slice()))?;
     let mut written = Vec::new(alloc);
-    let greeted = greet(alloc, &mut reader, &mut written, &nodes)?;
+    let greeted = greet(&rt, alloc, &mut reader, &mut written, &nodes, None)?;
     assert!(rt; greeted == Some(parse_node("b")?));
     assert_eq!(rt; written.as_slice(), b"ok\n".as_slice());
     assert_eq!(rt; reader.buffer(), b"spawn\n".as_slice());
@@ -24,7 +25,7 @@ fn a_console_is_attached(rt: HostRuntime) -> Result<(), Fail> {
 }
 
 /// Whether a reader's failure behind these bytes ends a console that wasn't answered.
-fn reader_ends_it(alloc: Global, read: &[u8]) -> bool {
+fn reader_ends_it<C: Clock>(rt: &C, alloc: Global, read: &[u8]) -> bool {
     let Ok(nodes) = parse_nodes("a,b") else {
         return false;
     };
@@ -32,12 +33,12 @@ fn reader_ends_it(alloc: Global, read: &[u8]) -> bool {
         return false;
     };
     let mut written = Vec::new(alloc);
-    let greeted = greet(alloc, &mut reader, &mut written, &nodes);
+    let greeted = greet(rt, alloc, &mut reader, &mut written, &nodes, None);
     matches!(greeted, Err(ConsoleFault::Read)) && written.is_empty()
 }
 
 /// Whether a writer that has room for so much ends a console.
-fn writer_ends_it(alloc: Global, room: usize) -> bool {
+fn writer_ends_it<C: Clock>(rt: &C, alloc: Global, room: usize) -> bool {
     let Ok(nodes) = parse_nodes("a,b") else {
         return false;
     };
@@ -45,7 +46,7 @@ fn writer_ends_it(alloc: Global, room: usize) -> bool {
         return false;
     };
     let mut writer = Full::new(Vec::new(alloc), room, true);
-    let greeted = greet(alloc, &mut reader, &mut writer, &nodes);
+    let greeted = greet(rt, alloc, &mut reader, &mut writer, &nodes, None);
     matches!(greeted, Err(ConsoleFault::Write))
         && b"ok\n".starts_with(writer.taken.as_slice())
         && writer.taken.len() == room
@@ -54,10 +55,10 @@ fn writer_ends_it(alloc: Global, room: usize) -> bool {
 #[test]
 fn first_lines_that_tear_are_faults(rt: HostRuntime) {
     for count in 0..LINE.len() {
-        assert!(rt; reader_ends_it(rt.alloc(), &LINE[..count]));
+        assert!(rt; reader_ends_it(&rt, rt.alloc(), &LINE[..count]));
     }
     for room in 0..3 {
-        assert!(rt; writer_ends_it(rt.alloc(), room));
+        assert!(rt; writer_ends_it(&rt, rt.alloc(), room));
     }
 }
 

@@ -1,5 +1,6 @@
 //! Consoles at seats of a running cluster: one that quits, and two that end by a fault, which all hand a transcript back; and two
-//! that are lent one seat, one after the other.
+//! that have one seat, one after the other.
+use super::clients::Listener;
 use super::streams::{Full, Torn};
 use console::{ConsoleEnd, ConsoleFault, serve, serve_staying};
 use name_table::ListTable;
@@ -126,47 +127,48 @@ fn transcripts_are_handed_back(rt: HostRuntime) -> Result<(), Fail> {
     Ok(())
 }
 
-/// Whether a console of a server that stays, at a seat that it is lent, answers lines with this text, and ends so.
-fn is_lent<H: Wait + Clock>(
+/// Whether a console of a server that stays, at a seat, answers lines with this text, and ends so; and the seat.
+fn hold<H: Wait + Clock>(
     rt: &H,
     alloc: Global,
-    seat: &mut Seat,
+    seat: Seat,
     lines: &[u8],
     text: &[u8],
     end: ConsoleEnd,
-) -> bool {
+) -> (bool, Seat) {
     let Ok(mut reader) = BufReader::new(alloc, Cursor::new(lines)) else {
-        return false;
+        return (false, seat);
     };
     let mut written = Vec::new(alloc);
-    let result = serve_staying(rt, alloc, &mut reader, &mut written, seat);
-    written.as_slice() == text && matches!(result, Ok(ended) if ended == end)
+    let (result, seat) = serve_staying(rt, alloc, &mut reader, &mut written, seat, Listener);
+    let is_due = written.as_slice() == text && matches!(result, Ok(ended) if ended == end);
+    (is_due, seat)
 }
 
-/// The transcript of a seat that two consoles were lent, where both were answered as they should be.
-fn lend_twice<H: Wait + Clock>(rt: &H, alloc: Global, cluster: &mut Small) -> Option<Transcript> {
+/// The transcript of a seat that two consoles had, where both were answered as they should be.
+fn hold_twice<H: Wait + Clock>(rt: &H, alloc: Global, cluster: &mut Small) -> Option<Transcript> {
     let node = parse_node("a").ok()?;
-    let mut seat = cluster.seat(&node).ok()?;
-    let lines = b"spawn\nquit\n".as_slice();
-    let first = is_lent(rt, alloc, &mut seat, lines, b"a.1\nok\n", ConsoleEnd::Quit);
-    let lines = b"exit a.1\nspawn\nshutdown\nspawn\n".as_slice();
-    let text = b"ok\na.2\nok\n".as_slice();
-    let second = is_lent(rt, alloc, &mut seat, lines, text, ConsoleEnd::Shutdown);
+    let seat = cluster.seat(&node).ok()?;
+    let lines = b"spawn\nspawn_link\nquit\n".as_slice();
+    let (first, seat) = hold(rt, alloc, seat, lines, b"a.1\na.2\nok\n", ConsoleEnd::Quit);
+    let lines = b"exit a.1\nexit a.2\nspawn\nshutdown\nspawn\n".as_slice();
+    let text = b"ok\nerror already_exited\na.3\nok\n".as_slice();
+    let (second, seat) = hold(rt, alloc, seat, lines, text, ConsoleEnd::Shutdown);
     let transcript = seat.into_transcript();
-    (first && second && transcript.entries.len() == 3).then_some(transcript)
+    (first && second && transcript.entries.len() == 5).then_some(transcript)
 }
 
 #[test]
-fn a_seat_is_lent_twice(rt: HostRuntime) -> Result<(), Fail> {
+fn a_seat_comes_back(rt: HostRuntime) -> Result<(), Fail> {
     let alloc = rt.alloc();
     let node = parse_node("a")?;
     let mut cluster = Small::start(&rt, alloc, slice::from_ref(&node), &[], OpenGate, 0)?;
-    let lent = lend_twice(&rt, alloc, &mut cluster);
-    let closed = match &lent {
+    let held = hold_twice(&rt, alloc, &mut cluster);
+    let closed = match &held {
         Some(transcript) => cluster.close(&rt, slice::from_ref(transcript)),
         None => cluster.close(&rt, &[]),
     };
-    assert!(rt; lent.is_some());
+    assert!(rt; held.is_some());
     assert!(rt; closed.is_ok());
     Ok(())
 }

@@ -1,6 +1,6 @@
 //! The desk of a server that stays: it owns the cluster, and does what consoles ask of it.
 ghost use Rattle.std.specs.Prelude.{◌≡◌, OnOk, OnErr};
-ghost use Rattle.server.specs.Staying.{HasSameCrew};
+ghost use Rattle.server.specs.Staying.{Reseats};
 
 use crate::staying::notes::{Note, tell_note};
 use crossbeam_channel::{Receiver, Sender};
@@ -37,7 +37,7 @@ fn seat_at<R: Wait>(
     node: &NodeName,
     console: &Sender<SeatAnswer>,
 )
-    ensures { HasSameCrew cluster.old cluster.new }
+    ensures { Reseats cluster.old cluster.new }
 {
     let answer = cluster.forgetful_seat(node);
     if let Err(untaken) = console.send(rt, answer) {
@@ -55,7 +55,7 @@ fn heed<R: Wait, E: Write>(
     message: Message,
     errors: &mut E,
 ) -> bool
-    ensures { HasSameCrew cluster.old cluster.new }
+    ensures { Reseats cluster.old cluster.new }
 {
     match message {
         Message::Ask(node, console) => {
@@ -82,7 +82,7 @@ pub(crate) fn stay<R: Wait, E: Write>(
     messages: &Receiver<Message>,
     errors: &mut E,
 )
-    ensures { HasSameCrew cluster.old cluster.new }
+    ensures { Reseats cluster.old cluster.new }
 {
     for _ in rt.forever() {
         let Ok(message) = messages.recv(rt) else {

@@ -1,13 +1,17 @@
 //! The thread that takes connections.
+ghost use Rattle.std.specs.Prelude.{◌≡◌, true, None};
+
+use crate::entry::Entry;
 use crate::staying::hall::Guest;
 use crate::staying::notes::Note;
 use crate::staying::office::Office;
+use crate::staying::staff::Duty;
+use crate::staying::stream::Stream;
 use crossbeam_channel::Sender;
 use libc::net::{POLLIN, poll};
 use libc::types::pollfd;
 use std::io::{ErrorKind, Read, Write};
-use std::net::{Shutdown, TcpListener, TcpStream};
-use std::os::fd::AsRawFd;
+use std::net::Shutdown;
 use std::sync::Wait;
 use std::thread;
 use std::time::{Clock, Duration, Instant};
@@ -25,15 +29,15 @@ const SILENCE: u64 = 60;
 #[derive(Drop)]
 pub(crate) struct Door<R: Wait + Clock + Drop + Copy> {
     pub(crate) office: Office<R>,
-    pub(crate) listener: TcpListener,
+    pub(crate) entry: Entry,
     /// Where the workers take connections from.
     pub(crate) workers: Sender<Guest>,
 }
 
 /// Waits for a connection, for a while.
-fn wait_at<R: Clock>(rt: &R, listener: &TcpListener) {
+fn wait_at<R: Clock>(rt: &R, entry: &Entry) {
     let mut asked = [pollfd {
-        fd: listener.as_raw_fd(),
+        fd: entry.fd(),
         events: POLLIN,
         revents: 0,
     }];
@@ -49,7 +53,7 @@ fn rest<R: Clock>(rt: &R) {
 
 /// Tells a client that all workers are busy, and ends its connection, whether it hears this or not. What it has sent is read before: with
 /// a connection that ends unread the system may take the answer back.
-fn turn_away(stream: TcpStream) {
+fn turn_away(stream: Stream) {
     let _ = (&stream).write_all(b"error too_many_consoles\n");
     let _ = stream.shutdown(Shutdown::Write);
     let _ = stream.set_read_timeout(Some(Duration::from_millis(FAREWELL)));
@@ -66,27 +70,29 @@ fn is_nothing(kind: ErrorKind) -> bool {
 }
 
 /// Whether it is time for the next line, if the last one was told then.
-fn is_due<R: Clock>(rt: &R, told: &Option<Instant>) -> bool {
+fn is_due<R: Clock>(rt: &R, told: &Option<Instant>) -> bool
+    ensures { told.now ≡ None → result ≡ true }
+{
     match (told, Instant::now(rt)) {
         (Some(last), Ok(now)) => now.saturating_duration_since(*last).as_secs() >= SILENCE,
         _ => true,
     }
 }
 
-impl<R: Wait + Clock + Drop + Copy> Door<R> {
-    /// Takes connections until the server ends. The listener is let go then, so whoever comes too late is told by the system.
-    pub(crate) fn run(self) {
+impl<R: Wait + Clock + Drop + Copy> Duty for Door<R> {
+    /// Takes connections until the server ends. The entry is let go then, so whoever comes too late is told by the system.
+    fn run(self) {
         // Where this fails, a client that gives up too early may hold the door up until the next one comes.
-        let _ = self.listener.set_nonblocking(true);
+        let _ = self.entry.take_at_once();
         let mut number = 0u64;
         let mut told = None;
         for _ in self.office.rt.forever() {
             if self.is_closing() {
                 return;
             }
-            wait_at(&self.office.rt, &self.listener);
-            match self.listener.accept() {
-                Ok((stream, _peer)) => {
+            wait_at(&self.office.rt, &self.entry);
+            match self.entry.accept() {
+                Ok(stream) => {
                     number = number.saturating_add(1);
                     self.let_in(Guest { number, stream });
                 }
@@ -95,7 +101,9 @@ impl<R: Wait + Clock + Drop + Copy> Door<R> {
             }
         }
     }
+}
 
+impl<R: Wait + Clock + Drop + Copy> Door<R> {
     /// Whether the server ends.
     fn is_closing(&self) -> bool {
         self.office.hall.lock(&self.office.rt).is_closing()

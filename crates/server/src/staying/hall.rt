@@ -1,14 +1,15 @@
 //! What the door, the workers and the desk of a server have in common.
-ghost use Rattle.std.specs.Prelude.{◌≡◌, ◌+◌, true, false, not, IfOk, MatchBool};
+ghost use Rattle.std.specs.Prelude.{◌≡◌, ◌+◌, ◌<◌, ◌^◌, true, false, not, None, Some, set, replicate, if◌then◌else◌, IfOk, MatchBool};
 
+use crate::staying::stream::Stream;
 use std::alloc::{AllocError, Global};
-use std::net::{Shutdown, TcpStream};
+use std::net::Shutdown;
 
 /// A connection that was taken, and its number among all that were.
 #[derive(Drop)]
 pub(crate) struct Guest {
     pub(crate) number: u64,
-    pub(crate) stream: TcpStream,
+    pub(crate) stream: Stream,
 }
 
 /// How many workers are free, and the connections of those that aren't. It lies under a lock.
@@ -18,22 +19,39 @@ pub(crate) struct Hall {
     closing: bool,
     free: u32,
     /// A handle of the connection that each worker serves.
-    open: Vec<Option<TcpStream>>,
+    handles: Vec<Option<Stream>>,
+}
+
+/// No handles, of so many workers.
+fn no_handles(alloc: Global, workers: u32) -> Result<Vec<Option<Stream>>, AllocError>
+    ensures { IfOk result (λ handles. handles.items ≡ replicate workers None) }
+{
+    let mut handles = Vec::new(alloc);
+    for _ in 0..workers {
+        handles.push(None)?;
+    }
+    Ok(handles)
+}
+
+/// A place has this handle, or none. Where there is no such place nothing is changed.
+fn put(handles: &mut Vec<Option<Stream>>, worker: usize, handle: Option<Stream>)
+    ensures { handles.new.items ≡ set handles.old.items worker handle }
+{
+    if worker < handles.len() {
+        handles[worker] = handle;
+    }
 }
 
 impl Hall {
     /// That of so many workers, which are free.
     pub(crate) fn new(alloc: Global, workers: u32) -> Result<Self, AllocError>
-        ensures { IfOk result (λ hall. (hall.free ≡ workers) × (hall.closing ≡ false)) }
+        ensures { IfOk result (λ hall. (hall.free ≡ workers) × (hall.closing ≡ false) × (hall.handles.items ≡ replicate workers None)) }
     {
-        let mut open = Vec::new(alloc);
-        for _ in 0..workers {
-            open.push(None)?;
-        }
+        let handles = no_handles(alloc, workers)?;
         Ok(Hall {
             closing: false,
             free: workers,
-            open,
+            handles,
         })
     }
 
@@ -41,6 +59,7 @@ impl Hall {
     pub(crate) fn engage(&mut self) -> bool
         ensures closing { self.new.closing ≡ self.old.closing }
         ensures free { MatchBool result (self.old.free ≡ self.new.free + 1) ((self.old.free ≡ 0) × (self.new.free ≡ 0)) }
+        ensures handles { self.new.handles.items ≡ self.old.handles.items }
     {
         match self.free.checked_sub(1) {
             Some(free) => {
@@ -53,33 +72,34 @@ impl Hall {
 
     /// The worker that was to take a connection is free again.
     pub(crate) fn release(&mut self)
-        ensures { self.new.closing ≡ self.old.closing }
+        ensures closing { self.new.closing ≡ self.old.closing }
+        ensures free { self.old.free + 1 < 2 ^ 32 → self.new.free ≡ self.old.free + 1 }
+        ensures handles { self.new.handles.items ≡ self.old.handles.items }
     {
         self.free = self.free.saturating_add(1);
     }
 
     /// A worker begins to serve the connection of this handle. Not where the server ends.
-    pub(crate) fn enter(&mut self, worker: usize, handle: TcpStream) -> bool
+    pub(crate) fn enter(&mut self, worker: usize, handle: Stream) -> bool
         ensures closing { self.new.closing ≡ self.old.closing }
         ensures free { self.new.free ≡ self.old.free }
         ensures entered { result ≡ not self.old.closing }
+        ensures handles { self.new.handles.items ≡ if result then set self.old.handles.items worker (Some handle) else self.old.handles.items }
     {
         if self.closing {
             return false;
         }
-        if let Some(place) = self.open.get_mut(worker) {
-            *place = Some(handle);
-        }
+        put(&mut self.handles, worker, Some(handle));
         true
     }
 
     /// A worker is free again.
     pub(crate) fn leave(&mut self, worker: usize)
-        ensures { self.new.closing ≡ self.old.closing }
+        ensures closing { self.new.closing ≡ self.old.closing }
+        ensures free { self.old.free + 1 < 2 ^ 32 → self.new.free ≡ self.old.free + 1 }
+        ensures handles { self.new.handles.items ≡ set self.old.handles.items worker None }
     {
-        if let Some(place) = self.open.get_mut(worker) {
-            *place = None;
-        }
+        put(&mut self.handles, worker, None);
         self.release();
     }
 
@@ -92,20 +112,22 @@ impl Hall {
 
     /// The server ends: no connection is served any more, and those that are open have no further line.
     pub(crate) fn close(&mut self)
-        ensures { self.new.closing ≡ true }
+        ensures closing { self.new.closing ≡ true }
+        ensures free { self.new.free ≡ self.old.free }
+        ensures handles { self.new.handles.items ≡ self.old.handles.items }
     {
         self.closing = true;
-        shut_all(self.open.as_slice(), Shutdown::Read);
+        shut_all(self.handles.as_slice(), Shutdown::Read);
     }
 
     /// Ends the connections that are open still.
     pub(crate) fn cut(&self) {
-        shut_all(self.open.as_slice(), Shutdown::Both);
+        shut_all(self.handles.as_slice(), Shutdown::Both);
     }
 }
 
 /// Ends these connections in one or both directions. One that can't be ended so has ended already.
-fn shut_all(handles: &[Option<TcpStream>], how: Shutdown) {
+fn shut_all(handles: &[Option<Stream>], how: Shutdown) {
     for place in handles {
         if let Some(handle) = place {
             let _ = handle.shutdown(how);

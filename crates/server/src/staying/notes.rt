@@ -1,7 +1,7 @@
 //! What a server that stays tells of what happens.
 ghost use Rattle.std.specs.Prelude.{◌≡◌, ◌++◌, IfOk, OnOk, string_bytes};
 ghost use Rattle.console.specs.Printing.{ended};
-ghost use Rattle.server.specs.Notes.{note_text, parting_of, parting_word};
+ghost use Rattle.server.specs.Notes.{asks_for_the_end, note_text, parting_of, parting_word};
 
 use console::{ConsoleEnd, ConsoleFault};
 use std::alloc::{AllocError, Global};
@@ -60,6 +60,13 @@ impl Parting {
             Err(ConsoleFault::TooManyLines) => Parting::Lines,
             Err(ConsoleFault::Memory) => Parting::Memory,
         }
+    }
+
+    /// Whether the console asked for the end of the server.
+    pub(crate) fn asks_for_the_end(&self) -> bool
+        ensures { result ≡ asks_for_the_end self.now }
+    {
+        matches!(self, Parting::Shutdown)
     }
 
     /// Its word.

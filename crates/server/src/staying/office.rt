@@ -2,6 +2,7 @@
 use crate::staying::desk::{Message, SeatAnswer};
 use crate::staying::hall::{Guest, Hall};
 use crate::staying::notes::Note;
+use crate::staying::options::StayOptions;
 use crossbeam_channel::{Receiver, Sender, bounded};
 use node_threads::{Seat, SeatFault};
 use std::alloc::{AllocError, Global};
@@ -15,6 +16,7 @@ pub(crate) struct Office<R: Wait + Drop + Copy> {
     pub(crate) alloc: Global,
     /// The nodes to which consoles may be attached.
     pub(crate) nodes: NodeSet,
+    pub(crate) options: Arc<StayOptions, Global>,
     pub(crate) hall: Arc<Mutex<Hall>, Global>,
     /// Connections that wait for the worker that was engaged for them.
     pub(crate) guests: Receiver<Guest>,
@@ -26,8 +28,9 @@ impl<R: Wait + Drop + Copy> Office<R> {
 
     /// The same, for another thread.
     pub(crate) fn copy(&self) -> Result<Self, AllocError>
-        ensures { IfOk result (λ copy. copy.nodes ≡ self.now.nodes) }
+        ensures { IfOk result (λ copy. (copy.nodes ≡ self.now.nodes) × (copy.options.value ≡ self.now.options.value)) }
     {
+        let options = Arc::try_clone(&self.options)?;
         let hall = Arc::try_clone(&self.hall)?;
         let guests = self.guests.clone()?;
         let desk = self.desk.clone()?;
@@ -35,6 +38,7 @@ impl<R: Wait + Drop + Copy> Office<R> {
             rt: self.rt,
             alloc: self.alloc,
             nodes: self.nodes.copy(),
+            options,
             hall,
             guests,
             desk,

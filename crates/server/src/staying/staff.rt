@@ -1,15 +1,16 @@
 //! The threads of a server that stays.
 ghost use denote.Param.Send.{IsSend, IsSync};
 
+use crate::entry::Entry;
 use crate::staying::desk::{Message, dismiss};
 use crate::staying::door::Door;
 use crate::staying::hall::{Guest, Hall};
 use crate::staying::office::Office;
+use crate::staying::options::StayOptions;
 use crate::staying::worker::Worker;
 use crossbeam_channel::{Receiver, RecvTimeoutError, Sender, bounded};
 use std::alloc::{AllocError, Global};
 use std::io::Write;
-use std::net::TcpListener;
 use std::sync::{Arc, Mutex, Wait};
 use std::thread;
 use std::thread::{JoinHandle, Threads};
@@ -30,30 +31,21 @@ pub(crate) struct Staff {
     threads: Vec<JoinHandle<()>>,
 }
 
-/// Starts the thread of a worker.
-fn start_worker<R>(rt: &R, worker: Worker<R>) -> Result<JoinHandle<()>, AllocError>
-where
-    R: Threads + Wait + Clock + Drop + Copy + Send + Sync + 'static,
-{
-    let handle = thread::spawn(
-        rt,
-        move || -> ()
-            requires sends { IsSend R.row }
-        { worker.run() },
-    )?;
-    Ok(handle)
+/// What a thread does until it ends.
+pub(crate) trait Duty: Drop {
+    fn run(self);
 }
 
-/// Starts the thread of the door.
-fn start_door<R>(rt: &R, door: Door<R>) -> Result<JoinHandle<()>, AllocError>
-where
-    R: Threads + Wait + Clock + Drop + Copy + Send + Sync + 'static,
-{
+/// Starts a thread.
+fn start<R: Threads, D: Duty + Send + 'static>(
+    rt: &R,
+    duty: D,
+) -> Result<JoinHandle<()>, AllocError> {
     let handle = thread::spawn(
         rt,
         move || -> ()
-            requires sends { IsSend R.row }
-        { door.run() },
+            requires sends { IsSend D.row }
+        { duty.run() },
     )?;
     Ok(handle)
 }
@@ -73,7 +65,7 @@ where
             office: office.copy()?,
             place: place as usize,
         };
-        threads.push_reserved(start_worker(&office.rt, worker)?);
+        threads.push_reserved(start(&office.rt, worker)?);
     }
     Ok(())
 }
@@ -81,7 +73,7 @@ where
 /// Starts so many workers, and the door. The workers that were started end where the door isn't.
 fn start_all<R>(
     office: Office<R>,
-    listener: TcpListener,
+    entry: Entry,
     guests: Sender<Guest>,
     workers: u32,
     threads: &mut Vec<JoinHandle<()>>,
@@ -94,25 +86,26 @@ where
     let rt = office.rt;
     let door = Door {
         office,
-        listener,
+        entry,
         workers: guests,
     };
-    threads.push_reserved(start_door(&rt, door)?);
+    threads.push_reserved(start(&rt, door)?);
     Ok(())
 }
 
 impl Staff {
-    /// Starts so many workers, and the door of this listener. Where one can't be had, those that were started have ended.
+    /// Starts the workers of so many consoles, and the door of this entry. Where one can't be had, those that were started have ended.
     pub(crate) fn start<R>(
         rt: &R,
         alloc: Global,
-        listener: TcpListener,
+        entry: Entry,
         nodes: NodeSet,
-        workers: u32,
+        options: StayOptions,
     ) -> Result<Self, AllocError>
     where
         R: Threads + Wait + Clock + Drop + Copy + Send + Sync + 'static,
     {
+        let workers = options.consoles;
         // No message takes memory, so none is lost. No more connections wait than workers were engaged.
         let (desk, messages) = bounded(alloc, MESSAGES)?;
         let (to_workers, guests) = bounded(alloc, workers as usize)?;
@@ -121,12 +114,13 @@ impl Staff {
             rt: *rt,
             alloc,
             nodes,
+            options: Arc::new(alloc, options)?,
             hall: Arc::try_clone(&hall)?,
             guests,
             desk,
         };
         let mut threads = Vec::new(alloc);
-        match start_all(office, listener, to_workers, workers, &mut threads) {
+        match start_all(office, entry, to_workers, workers, &mut threads) {
             Ok(()) => Ok(Staff {
                 messages,
                 hall,

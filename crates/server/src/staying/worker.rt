@@ -6,10 +6,11 @@ use crate::staying::desk::Message;
 use crate::staying::hall::Guest;
 use crate::staying::notes::{Note, Parting};
 use crate::staying::office::Office;
+use crate::staying::staff::Duty;
+use crate::staying::stream::Stream;
 use console::{greet, refuse_seat, serve_staying};
 use std::alloc::Global;
 use std::io::{BufReader, Read, Write};
-use std::net::TcpStream;
 use std::sync::Wait;
 use std::time::{Clock, Duration};
 use term::NodeName;
@@ -25,9 +26,9 @@ pub(crate) struct Worker<R: Wait + Clock + Drop + Copy> {
     pub(crate) place: usize,
 }
 
-impl<R: Wait + Clock + Drop + Copy> Worker<R> {
+impl<R: Wait + Clock + Drop + Copy> Duty for Worker<R> {
     /// Serves connections until none comes any more.
-    pub(crate) fn run(self) {
+    fn run(self) {
         for _ in self.office.rt.forever() {
             match self.office.guests.recv(&self.office.rt) {
                 Ok(guest) => self.host(guest),
@@ -35,7 +36,9 @@ impl<R: Wait + Clock + Drop + Copy> Worker<R> {
             }
         }
     }
+}
 
+impl<R: Wait + Clock + Drop + Copy> Worker<R> {
     /// Serves a connection, and is free then.
     fn host(&self, guest: Guest) {
         let Guest { number, stream } = guest;
@@ -49,7 +52,7 @@ impl<R: Wait + Clock + Drop + Copy> Worker<R> {
     }
 
     /// Whether the connection is to be served. It isn't where the server ends, or couldn't end it.
-    fn enters(&self, stream: &TcpStream) -> bool {
+    fn enters(&self, stream: &Stream) -> bool {
         match stream.try_clone() {
             Ok(handle) => self
                 .office
@@ -62,8 +65,8 @@ impl<R: Wait + Clock + Drop + Copy> Worker<R> {
 
     /// Serves the console at the other end of a connection. Each answer is sent at once, and the console may wait with its first line,
     /// and with the reading of an answer, for a while and no longer. A connection that can't be told so is served all the same.
-    fn attend(&self, number: u64, stream: &TcpStream) {
-        let _ = stream.set_nodelay(true);
+    fn attend(&self, number: u64, stream: &Stream) {
+        let _ = stream.send_at_once();
         let _ = stream.set_read_timeout(Some(Duration::from_secs(PATIENCE)));
         let _ = stream.set_write_timeout(Some(Duration::from_secs(PATIENCE)));
         let mut socket = stream;
@@ -73,22 +76,29 @@ impl<R: Wait + Clock + Drop + Copy> Worker<R> {
         }
     }
 
-    /// Greets a console, and serves it at the node that it names. Once it is attached it may say nothing on its connection for as long
-    /// as it likes.
+    /// Greets a console, which must show the cookie if there is one, and serves it at the node that it names. Once it is attached it may
+    /// say nothing on its connection for as long as the server is told, or for as long as it likes.
     fn talk<I: Read, O: Write>(
         &self,
         number: u64,
         reader: &mut BufReader<I, Global>,
         writer: &mut O,
-        stream: &TcpStream,
+        stream: &Stream,
     )
-        ensures { Visits self.now.office.nodes (reader_remaining I.remaining reader.old) (reader_remaining I.remaining reader.new)
-            (O.contents writer.old) (O.contents writer.new) }
+        ensures { Visits self.now.office.options.value.cookie self.now.office.nodes (reader_remaining I.remaining reader.old)
+            (reader_remaining I.remaining reader.new) (O.contents writer.old) (O.contents writer.new) }
     {
-        match greet(self.office.alloc, reader, writer, &self.office.nodes) {
+        let Office {
+            rt,
+            alloc,
+            nodes,
+            options,
+            ..
+        } = &self.office;
+        match greet(rt, *alloc, reader, writer, nodes, options.cookie.as_ref()) {
             Ok(Some(node)) => {
-                let _ = stream.set_read_timeout(None);
-                let parting = self.serve(reader, writer, &node);
+                let _ = stream.set_read_timeout(options.silence());
+                let parting = self.serve(reader, writer, stream, &node);
                 self.part(number, node, parting);
             }
             Ok(None) => self.office.note(Note::NotAttached(number)),
@@ -96,24 +106,27 @@ impl<R: Wait + Clock + Drop + Copy> Worker<R> {
         }
     }
 
-    /// Serves a console at a seat at its node, and gives that back; or tells it why there is none.
+    /// Serves a console at a seat at its node, and gives that back; or tells it why there is none. A call of it that waits for a lock
+    /// waits no longer than its client is there.
     fn serve<I: Read, O: Write>(
         &self,
         reader: &mut BufReader<I, Global>,
         writer: &mut O,
+        stream: &Stream,
         node: &NodeName,
     ) -> Parting
         ensures { IsHosted (reader_remaining I.remaining reader.old) (reader_remaining I.remaining reader.new)
             (O.contents writer.old) (O.contents writer.new) result }
     {
         match self.office.seat(node) {
-            Ok(mut seat) => {
-                let ended = serve_staying(
+            Ok(seat) => {
+                let (ended, seat) = serve_staying(
                     &self.office.rt,
                     self.office.alloc,
                     reader,
                     writer,
-                    &mut seat,
+                    seat,
+                    stream,
                 );
                 self.office.say(Message::Back(seat));
                 Parting::of(&ended)
@@ -128,7 +141,7 @@ impl<R: Wait + Clock + Drop + Copy> Worker<R> {
 
     /// Tells the desk how a console has ended, and that it asked for the end of the server, if it did.
     fn part(&self, number: u64, node: NodeName, parting: Parting) {
-        let asks = matches!(parting, Parting::Shutdown);
+        let asks = parting.asks_for_the_end();
         self.office.note(Note::Parted(number, node, parting));
         if asks {
             self.office.say(Message::Shutdown);

@@ -24,7 +24,7 @@ pub(super) enum Ending {
 }
 
 /// The call of a process for a lock.
-fn set(holder: &Pid, id: &LockId, retries: Retries) -> Call {
+pub(super) fn set(holder: &Pid, id: &LockId, retries: Retries) -> Call {
     Call::SetLock(holder.copy(), id.copy(), Nodes::All, retries)
 }
 

@@ -1,9 +1,9 @@
 use Rattle.std.proofs.Common.{◌≡◌, ◌∙◌, ap, sym, map, string_bytes, [], subst}
-use Rattle.clap.specs.Words.{App, fault_of, is_simple, is_simple_and_free, subcommand_of, subcommand_rows_of}
+use Rattle.clap.specs.Words.{App, HasKind, fault_of, is_simple, is_simple_and_free, subcommand_of, subcommand_rows_of}
 use Rattle.arguments.specs.CommandLine.{program, refusals}
 use Rattle.arguments.specs.Reading.{IsLooked}
 use Rattle.arguments.proofs.Words.{is_free, is_plain}
-use Rattle.arguments.proofs.Looked.{asked_by, looked}
+use Rattle.arguments.proofs.Looked.{asked_by, looked, refused_by}
 use Rattle.arguments.proofs.reading.read_args.Goals as goal
 
 pub read_matches-requires : goal.read_matches-requires
@@ -14,6 +14,14 @@ read_matches-requires c =
     let is : subcommand_rows_of c.in_ok-matches.matches ≡ subcommand_of program words =
     (c.in_ok-matches.ensures.matches (ap is_simple e ∙ is_plain)).1 ∙ ap (λ (a : App). subcommand_of a words) e in
     subst IsLooked (sym is) (looked words none)
+
+pub returns-in_err-matches-clause-task : goal.returns-in_err-matches-clause-task
+returns-in_err-matches-clause-task c =
+    let words = map string_bytes c.args.words.now in
+    let e = c.in_ok-command.ensures in
+    let error = c.in_err-matches.field-0.0 in
+    refused_by words c.from_residual-in_err-matches.result error c.from_residual-in_err-matches.ensures.1
+    (subst (λ (a : App). HasKind (fault_of a words) error) e (c.in_err-matches.ensures.kinds (ap is_simple_and_free e ∙ is_free)))
 
 pub returns-clause-task : goal.returns-clause-task
 returns-clause-task c =

@@ -6,14 +6,14 @@ use Rattle.arguments.specs.CommandLine.{program, value_in}
 use Rattle.arguments.specs.Reading.{Asks}
 use Rattle.cluster_main.specs.Answering.{Streams, Told}
 use Rattle.cluster_main.proofs.Answered.{refused, served}
-use Rattle.cluster_main.proofs.Placed.{placed}
+use Rattle.cluster_main.proofs.Placed.{ready}
 use Rattle.cluster_main.proofs.answering.answer.Goals as goal
 
 pub serve-requires-after_bounds : goal.serve-requires-after_bounds
 serve-requires-after_bounds g c κs within =
     let words : List Text = map string_bytes c.in-Some.words.now in
     let task = subst (Asks words) c.in-Ok-Serve.field-0-is c.in-Ok-Serve.ensures.task in
-    placed (value_in (subcommand_of program words)) c.in-Ok-Serve.options task.asked.1
+    ready (value_in (subcommand_of program words)) c.in-Ok-Serve.options task.asked.1
 
 pub returns-in-Ok-Serve : goal.returns-in-Ok-Serve
 returns-in-Ok-Serve g c =

@@ -11,6 +11,6 @@ returns-in_err-address g c =
     let line = listening_line c.args.written.now in
     let p = err_from_is_err_and c.from_residual.result c.from_residual.ensures.1 in (
       line,
-      (None, c.args.written.now, refl, refl),
+      record { port = None; told = c.args.written.now; tells = refl; socket = λ path is. refl; is = refl },
       Writes-err a a c.from_residual.result p.0 line p.1 (AppendsPart-none a line),
     )

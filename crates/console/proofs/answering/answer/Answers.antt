@@ -5,7 +5,8 @@ use Rattle.std.proofs.KnownBytes.{Appends-nil}
 use Rattle.text_lines.specs.Writing.{AppendsPart}
 use Rattle.text_lines.proofs.Known.{MatchResult-err}
 use Rattle.text_lines.proofs.Written.{AppendsPart-none}
-use Rattle.console.specs.Consoles.{Tells, TellStops}
+use Rattle.console.specs.Consoles.{Tells, TellStops, talk}
+use Rattle.console.specs.Links.{linked_in}
 use Rattle.console.proofs.Heeding.{unwritten}
 use Rattle.console.proofs.answering.answer.Goals as goal
 
@@ -14,8 +15,8 @@ returns-in_err-text g c = λ bytes k.
     let old = g.W.Write.contents c.args.writer.now in
     let answers = g.A.Attendant.answers in
     let stays = c.args.stays in
-    let s = g.A.Attendant.state c.args.attendant.now in
-    let t = g.A.Attendant.state c.reply_to.new.attendant in
+    let s = talk (g.A.Attendant.state c.args.attendant.now) (linked_in c.args.links.now) in
+    let t = talk (g.A.Attendant.state c.reply_to.new.attendant) (linked_in c.reply_to.new.links) in
     let r = c.from_residual.result in
     let p = err_from_is_err_and r c.from_residual.ensures.1 in
     MatchResult-err (Tells answers stays bytes old old s t) (TellStops answers stays bytes old old s t) r p.0 p.1 (elim (c.in_err-text.ensures bytes k) [
@@ -35,8 +36,8 @@ returns-in_err-tell g c = λ bytes k.
     let new = g.W.Write.contents c.tell.new.writer in
     let answers = g.A.Attendant.answers in
     let stays = c.args.stays in
-    let s = g.A.Attendant.state c.args.attendant.now in
-    let t = g.A.Attendant.state c.reply_to.new.attendant in
+    let s = talk (g.A.Attendant.state c.args.attendant.now) (linked_in c.args.links.now) in
+    let t = talk (g.A.Attendant.state c.reply_to.new.attendant) (linked_in c.reply_to.new.links) in
     let r = c.from_residual-in_err-tell.result in
     let p = err_from_is_err_and r c.from_residual-in_err-tell.ensures.1 in
     MatchResult-err (Tells answers stays bytes old new s t) (TellStops answers stays bytes old new s t) r p.0 p.1 (inl (record {

@@ -18,10 +18,12 @@ returns-in-Ok g c =
     let input = reader_remaining g.R.Read.remaining c.args.reader.now in
     let rest = reader_remaining g.R.Read.remaining c.answer_lines-ended.new.reader in
     let old = g.W.Write.contents c.args.writer.now in
-    let new = g.W.Write.contents c.answer_lines-ended.new.writer in (
+    let new = g.W.Write.contents c.answer_lines-ended.new.writer in
+    let served = c.in-Ok.ensures in (
       seat,
       left_by seat transcript.result transcript.ensures.seat transcript.ensures.node transcript.ensures.entries,
-      subst (λ (most : ℕ). Serves SeatAnswers false most input rest old new c.args.seat seat) c.from-most.ensures c.in-Ok.ensures.0,
+      subst (λ (most : ℕ). Serves SeatAnswers false most input rest old new c.args.seat seat) c.from-most.ensures
+          (served.0, served.1.0, served.2),
     )
 
 pub returns-in-Err : goal.returns-in-Err

@@ -1,5 +1,5 @@
-use Rattle.server.specs.Staying.{HasSameCrew}
+use Rattle.server.specs.Staying.{Reseats}
 use Rattle.server.proofs.staying.desk.stay.Given as goal
 
 abbrev pub invariant-loop : goal.invariant-loop
-invariant-loop g l = HasSameCrew l.fn.cluster l.cluster
+invariant-loop g l = Reseats l.fn.cluster l.cluster

@@ -6,7 +6,7 @@ use Rattle.shared_table.specs.declared.SeatEntry.{SeatEntry}
 use Rattle.shared_table.specs.declared.Effect.TheVariants.{Answered as IsAnswer}
 use Rattle.node_seats.specs.Seats.{Sitting}
 use Rattle.node_seats.proofs.Sittings.{answered_so, grown}
-use Rattle.node_seats.proofs.seat.Seat.call.Goals as goal
+use Rattle.node_seats.proofs.seat.Seat.call_beside.Goals as goal
 
 pub returns-clause-ok : goal.returns-clause-ok
 returns-clause-ok g c = record {

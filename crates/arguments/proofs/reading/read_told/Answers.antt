@@ -4,7 +4,7 @@ use Rattle.clap.proofs.CallerLemmas.{some_of_text}
 use Rattle.clap.proofs.WalkLemmas.{first_value-rows, one_text-rows}
 use Rattle.arguments.specs.Nodes.{PlacesNodes}
 use Rattle.arguments.proofs.Counted.{fails_so, flag_read, lists_refused}
-use Rattle.arguments.proofs.reading.read_options.Goals as goal
+use Rattle.arguments.proofs.reading.read_told.Goals as goal
 
 pub unwrap-listen-requires : goal.unwrap-listen-requires
 unwrap-listen-requires c =
@@ -41,4 +41,6 @@ returns c =
       stays = flag_read (first_of (codes "stay") (rows_of f)) (one_of (codes "stay") (rows_of f)) c.get_flag-stay.result c.requires.flag
           c.requires.written (λ e. c.get_flag-stay.ensures.none (one ∙ e)) (λ e. c.get_flag-stay.ensures.value (one ∙ e))
           (λ e. c.get_flag-stay.ensures.other (one ∙ e));
+      cookie = c.in_ok-cookie_file.ensures ∙ c.get_str-4.ensures ∙ first_value-rows f (codes "cookie-file");
+      limit = c.read_idle.ensures;
     }

@@ -1,0 +1,37 @@
+-- What the words of a line say, by its first seven.
+use Rattle.std.proofs.Common.{ℕ, Bool, true, false, List, [], ◌∷◌, take, Option, Result, Ok, Err}
+use Rattle.command_lines.specs.declared.faults.LineFault.{LineFault}
+use Rattle.console.specs.Commands.{AsksFor, WordsSay, is_lock_word, meant}
+use Rattle.console.specs.declared.orders.Order.{Order}
+use Rattle.console.specs.declared.orders.Command.{Command}
+use Rattle.console.specs.declared.orders.Command.TheVariants.{Ask, SpawnLink, Quit, Shutdown}
+
+module _ (a b c d e f g h : List ℕ) (words : List (List ℕ)) where
+  -- no line has seven words
+  ask_more : (locks : Bool) (r : Result Order LineFault) → AsksFor locks a (b ∷ c ∷ d ∷ e ∷ f ∷ g ∷ []) r
+      → AsksFor locks a (b ∷ c ∷ d ∷ e ∷ f ∷ g ∷ h ∷ words) r
+  ask_more true r asks = asks
+  ask_more false r asks = asks
+
+  -- so more than seven say what the first seven do
+  say_more : (stays : Bool) (r : Result Command LineFault) → WordsSay stays (a ∷ b ∷ c ∷ d ∷ e ∷ f ∷ g ∷ []) r
+      → WordsSay stays (a ∷ b ∷ c ∷ d ∷ e ∷ f ∷ g ∷ h ∷ words) r
+  say_more stays (Ok Quit) says = cc
+  say_more stays (Ok Shutdown) says = (says.0, cc)
+  say_more stays (Ok SpawnLink) says = cc
+  say_more stays (Ok (Ask order)) says =
+      ((λ is. cc, λ _ is. cc, λ is. cc), ask_more (is_lock_word a) (Ok order) says.1)
+  say_more stays (Err fault) says = ((λ is. cc, λ _ is. cc, λ is. cc), ask_more (is_lock_word a) (Err fault) says.1)
+
+-- as they are meant
+pub first_words_say : (stays : Bool) (own : Option (List ℕ)) (words : List (List ℕ)) (r : Result Command LineFault)
+    → WordsSay stays (meant own (take 7 words)) r → WordsSay stays (meant own words) r
+first_words_say stays own [] r says = says
+first_words_say stays own (a ∷ []) r says = says
+first_words_say stays own (a ∷ b ∷ []) r says = says
+first_words_say stays own (a ∷ b ∷ c ∷ []) r says = says
+first_words_say stays own (a ∷ b ∷ c ∷ d ∷ []) r says = says
+first_words_say stays own (a ∷ b ∷ c ∷ d ∷ e ∷ []) r says = says
+first_words_say stays own (a ∷ b ∷ c ∷ d ∷ e ∷ f ∷ []) r says = says
+first_words_say stays own (a ∷ b ∷ c ∷ d ∷ e ∷ f ∷ g ∷ []) r says = says
+first_words_say stays own (a ∷ b ∷ c ∷ d ∷ e ∷ f ∷ g ∷ h ∷ words) r says = say_more a _ _ d e f g h words stays r says

@@ -1,0 +1,34 @@
+//! Clients at the other end of a console.
+use console::{Client, Peer};
+use std::alloc::Global;
+use std::sync::Arc;
+use std::sync::atomic::{AtomicU32, Ordering};
+
+/// A client that listens.
+#[derive(Drop)]
+pub(crate) struct Listener;
+
+impl Client for Listener {
+    fn peer(&self) -> Peer {
+        Peer::Listens
+    }
+}
+
+/// A client that has ended its input, and goes. It counts how often somebody looks how it stands.
+#[derive(Drop)]
+pub(crate) struct Leaver {
+    pub(crate) looks: Arc<AtomicU32, Global>,
+    /// How often it is found to be there, before it is gone.
+    pub(crate) stays: u32,
+}
+
+impl Client for Leaver {
+    fn peer(&self) -> Peer {
+        let look = self.looks.fetch_add(1, Ordering::SeqCst);
+        if look < self.stays {
+            Peer::InputEnded
+        } else {
+            Peer::Gone
+        }
+    }
+}
