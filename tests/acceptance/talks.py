@@ -204,6 +204,48 @@ def client_goes_while_its_call_waits(program, *options):
         served.expect_closed()
 
 
+def expect_status(console, text, seconds):
+    """A console is answered this to `status`, in which `*` stands for any number; and the server has some memory."""
+    answer = hears(console, b"status", seconds)
+    wanted = re.escape(text).replace(rb"\*", rb"\d+") + rb" memory (\d+)"
+    found = re.fullmatch(wanted, answer)
+    if not found or int(found[1]) < 1_000_000:
+        raise Failure(f"the status: expected {shown(text)} and some memory, got {shown(answer)}")
+
+
+def statuses(program):
+    """What `status` tells of nodes that are joined, alone and have left, and of consoles that come and go."""
+    with Served(program, ["--stay", "--nodes", "a,b", "--lone", "c", "--consoles", "3"]) as served:
+        seconds = program.seconds
+        first = Console(served)
+        expect_same("an answer", b"ok", hears(first, b"attach a", seconds))
+        expect_status(first, b"status a joined members a,b names 0 locks 0 calls 0 serials 0 spans 0 consoles 1 steps 0", seconds)
+        talk = [(b"spawn", b"a.1"), (b"spawn", b"a.2"), (b"spawn", b"a.3"), (b"set_lock a.1 r q a 0", b"true"), (b"exit a.2", b"ok")]
+        for line, answer in talk:
+            expect_same("an answer", answer, hears(first, line, seconds))
+        expect_status(first, b"status a joined members a,b names 0 locks 1 calls 1 serials 3 spans 1 consoles 1 steps *", seconds)
+        expect_same("an answer", b"yes", hears(first, b"register x a.1", seconds))
+        expect_status(first, b"status a joined members a,b names 1 locks * calls 2 serials 3 spans 1 consoles 1 steps *", seconds)
+        alone = Console(served)
+        expect_same("an answer", b"ok", hears(alone, b"attach c", seconds))
+        expect_status(alone, b"status c lone members c names 0 locks 0 calls 0 serials 0 spans 0 consoles 2 steps 0", seconds)
+        expect_same("an answer", b"joined", hears(alone, b"join a", seconds))
+        expect_status(alone, b"status c joined members a,b,c names 1 locks * calls 1 serials 0 spans 0 consoles 2 steps *", seconds)
+        other = Console(served)
+        for line, answer in [(b"attach b", b"ok"), (b"leave", b"ok"), (b"status", b"error node_left"), (b"quit", b"ok")]:
+            expect_same("an answer", answer, hears(other, line, seconds))
+        listen_to([other], lambda: other.has_ended, seconds)
+        expect_same("an answer", b"error bad_line", hears(alone, b"status c", seconds))
+        expect_same("an answer", b"ok", hears(alone, b"quit", seconds))
+        listen_to([alone], lambda: alone.has_ended, seconds)
+        until, members = time.monotonic() + seconds, b"a,b,c"
+        while members != b"a,c" and time.monotonic() < until:
+            members = hears(first, b"status", seconds).split()[4]
+        expect_status(first, b"status a joined members a,c names 1 locks * calls 2 serials 3 spans 1 consoles 1 steps *", seconds)
+        expect_same("an answer", b"ok", hears(first, b"shutdown", seconds))
+        served.expect_closed()
+
+
 def tests(program, root):
     folder = f"{root}/tests/consoles"
     for name in sorted(os.listdir(folder)):
@@ -211,6 +253,7 @@ def tests(program, root):
     yield Test("consoles/a_million_lines", partial(a_million_lines, program))
     yield Test("consoles/one_too_many", partial(one_too_many, program))
     yield Test("consoles/seventy_in_turn", partial(seventy_in_turn, program))
+    yield Test("consoles/statuses", partial(statuses, program))
     yield Test("consoles/client_goes_at_a_socket", partial(client_goes_while_its_call_waits, program))
     over_tcp = partial(client_goes_while_its_call_waits, program, "--cookie", "0123456789abcdef")
     yield Test("consoles/client_goes_over_tcp", over_tcp)

@@ -3,9 +3,10 @@ use Rattle.std.proofs.Common.{ℕ, Bool, true, false, ◌==◌, ◌≡◌, Optio
 use Rattle.std.specs.Prelude.{not, ◌&&◌, ◌||◌, if◌then◌else◌}
 use Rattle.std.specs.List.{list_any}
 use Rattle.registry_model.specs.Process.{Process}
-use Rattle.registry_model.specs.Table.{Table, get}
+use Rattle.registry_model.specs.Table.{get}
 use Rattle.registry_model.specs.Call.{Look, Whereis, RegisteredNames, Reply, True, False, is_reply, reply_to, pid_or_undefined, seen_in}
 use Rattle.registry_model.specs.History.{Entry}
+use Rattle.registry_model.specs.Registry.{Replica}
 use Rattle.protocol_model.specs.Letter.{Global, Letter}
 use Rattle.protocol_model.specs.LockTable.{is_free_for}
 use Rattle.protocol_model.specs.Watch.{next_serial}
@@ -41,13 +42,13 @@ not_true_one b m s h = rw h (go ((s.node == b) && (s.number == m)))
     go true = refl
     go false = refl
 
-not_true_look : (t : Table) (look : Look) → is_reply (seen_in t look) True ≡ false
-not_true_look t (Whereis x) = go (get x t)
+not_true_look : (v : Replica) (look : Look) → is_reply (seen_in v look) True ≡ false
+not_true_look v (Whereis x) = go (get x v.table)
   where
     go : (p : Option Process) → is_reply (pid_or_undefined p) True ≡ false
     go None = refl
     go (Some p) = refl
-not_true_look t RegisteredNames = refl
+not_true_look v RegisteredNames = refl
 
 fine_not_true : (r : Reply) → not (is_reply r True) ≡ true → is_reply r True ≡ false
 fine_not_true r h = go (is_reply r True) h
@@ -72,8 +73,8 @@ module _ (o : Opening) (a : ℕ) (w : World) (b m : ℕ) where
       (record { node = a; number = 0; reply = Reply.Pid (record { node = a; serial = next_serial (w.node a).watch }) })
       refl
   not_true_answers (LooksUp look) h k R = not_true_one b m (record
-      { node = a; number = 0; reply = seen_in (w.node a).replica.table look })
-      (not_true_look (w.node a).replica.table look)
+      { node = a; number = 0; reply = seen_in (w.node a).replica look })
+      (not_true_look (w.node a).replica look)
   not_true_answers (SkipsJoin i j ops) h k R = not_true_one b m
       (record { node = a; number = i; reply = Reply.ContactLeft }) refl
   not_true_answers (HearsAnswer f id g op r) h k R = ap (any_true b m)
@@ -89,7 +90,7 @@ module _ (o : Opening) (a : ℕ) (w : World) (b m : ℕ) where
       (same_take_back o.bound a f (join_number w) id p ack (w.node a)).answers
   not_true_answers (EndsJoin f i) h k R = not_true_one b m (record { node = a; number = i; reply = Reply.NotMember })
       refl
-  not_true_answers (IsWelcomed f i members pairs told kills) h k R = not_true_one b m
+  not_true_answers (IsWelcomed f i members pairs told fate) h k R = not_true_one b m
       (record { node = a; number = i; reply = Reply.Joined }) refl
   not_true_answers (LosesContact i j) h k R = not_true_one b m
       (record { node = a; number = i; reply = Reply.ContactLeft }) refl

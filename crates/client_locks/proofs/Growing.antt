@@ -171,13 +171,13 @@ is_fine _ = true
 
 -- no name call is answered `true`
 pub not_true_reply : (members : Nodes) (t : Table) (call : NameCall) → is_reply (reply_to members t call) True ≡ false
-not_true_reply members t (Register x p) = go (not (members p.node)) (is_some (get x t) || owns p t)
+not_true_reply members t (Register e) = go (not (members e.owner.node)) (is_some (get e.name t) || owns e.owner t)
   where
     go : (b c : Bool) → is_reply (if b then Reply.UnknownNode else (if c then Reply.No else Reply.Yes)) True ≡ false
     go true c = refl
     go false true = refl
     go false false = refl
-not_true_reply members t (ReRegister x p) = go (not (members p.node))
+not_true_reply members t (ReRegister e) = go (not (members e.owner.node))
   where
     go : (b : Bool) → is_reply (if b then Reply.UnknownNode else Reply.Yes) True ≡ false
     go true = refl
@@ -210,7 +210,7 @@ module _ (o : Opening) (a : ℕ) (w : World) where
   fine_keeps (CountsDown d op asked awaited reply) m h = sym (ap is_fine m.tested.1) ∙ h
   fine_keeps (Finishes op asked awaited reply) m h = refl
   fine_keeps (EndsJoin f k) m h = refl
-  fine_keeps (IsWelcomed f k members pairs told kills) m h = refl
+  fine_keeps (IsWelcomed f k members pairs told fate) m h = refl
   fine_keeps (LosesContact k j) m h = refl
   fine_keeps (Judges f id p) m h = ap is_fine (same_judge o.bound a f (join_number w) id p
       (is_free_for id p (w.node a).locks) (w.node a)).current ∙ h

@@ -148,15 +148,15 @@ module _ (o : Opening) (a : ℕ) (w : World) (num : Numbers) (P : Proper o w) (o
       quietly (taking f Letter.JoinRefused) (turn_by o a w (EndsJoin f k)) m.front
       (unread_letter o a f w Letter.JoinRefused (λ p c. refl) (λ p c. refl))
       (record { calls = refl; dead = refl; locks = refl; sends = refl })
-  clients_keeps (IsAdmitted f j puts kills) m =
-      quietly (taking f (Letter.Admit j puts kills)) (turn_by o a w (IsAdmitted f j puts kills)) m.front
-      (unread_letter o a f w (Letter.Admit j puts kills) (λ p c. refl) (λ p c. refl))
-      (quiet_send a v f Letter.Applied (with_replica (admitted j puts) (begun v)) refl
-      (quiet_replica a v (admitted j puts) (begun v) (quiet_begun a v)))
-  clients_keeps (IsWelcomed f k members pairs told kills) m =
-      quietly (taking f (Letter.Welcome members pairs told kills))
-      (turn_by o a w (IsWelcomed f k members pairs told kills)) m.front
-      (unread_letter o a f w (Letter.Welcome members pairs told kills) (λ p c. refl) (λ p c. refl))
+  clients_keeps (IsAdmitted f j settled) m =
+      quietly (taking f (Letter.Admit j settled)) (turn_by o a w (IsAdmitted f j settled)) m.front
+      (unread_letter o a f w (Letter.Admit j settled) (λ p c. refl) (λ p c. refl))
+      (quiet_send a v f Letter.Applied (with_replica (admitted j settled) (begun v)) refl
+      (quiet_replica a v (admitted j settled) (begun v) (quiet_begun a v)))
+  clients_keeps (IsWelcomed f k members pairs told fate) m =
+      quietly (taking f (Letter.Welcome members pairs told fate))
+      (turn_by o a w (IsWelcomed f k members pairs told fate)) m.front
+      (unread_letter o a f w (Letter.Welcome members pairs told fate) (λ p c. refl) (λ p c. refl))
       (record { calls = refl; dead = refl; locks = refl; sends = refl })
   clients_keeps (LosesContact k j) m =
       quietly None (turn_by o a w (LosesContact k j)) tt (unread_none o a w)

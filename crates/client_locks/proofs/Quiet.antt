@@ -113,9 +113,9 @@ module _ (a : ℕ) (v : Node) where
     calls = q.calls;
     dead = q.dead;
     locks = q.locks;
-    sends = pass_append (is_plain a) (u.sends ++ to_each (nodes_of n u.node.replica.members) (Letter.Admit j s.puts s.kills))
+    sends = pass_append (is_plain a) (u.sends ++ to_each (nodes_of n u.node.replica.members) (Letter.Admit j s))
         (_ ∷ [])
-        (pass_append (is_plain a) u.sends (to_each (nodes_of n u.node.replica.members) (Letter.Admit j s.puts s.kills))
-        q.sends (pass_each (is_plain a) (nodes_of n u.node.replica.members) (Letter.Admit j s.puts s.kills) refl))
+        (pass_append (is_plain a) u.sends (to_each (nodes_of n u.node.replica.members) (Letter.Admit j s))
+        q.sends (pass_each (is_plain a) (nodes_of n u.node.replica.members) (Letter.Admit j s) refl))
         refl;
   }

@@ -197,6 +197,6 @@ module _ (o : Opening) (a f : ℕ) (w : World) (num : Numbers) (C : Clients o w 
   unread_ignored (Letter.GivenBack q) front h = ignored_given_back q front h
   unread_ignored Letter.Applied front h = unread_letter o a f w Letter.Applied (λ p c. refl) (λ p c. refl)
   unread_ignored Letter.JoinRefused front h = unread_letter o a f w Letter.JoinRefused (λ p c. refl) (λ p c. refl)
-  unread_ignored (Letter.Welcome members pairs told kills) front h = unread_letter o a f w
-      (Letter.Welcome members pairs told kills) (λ p c. refl) (λ p c. refl)
+  unread_ignored (Letter.Welcome members pairs told fate) front h = unread_letter o a f w
+      (Letter.Welcome members pairs told fate) (λ p c. refl) (λ p c. refl)
   unread_ignored _ front h = cc

@@ -69,7 +69,7 @@ fn run<H, W, E>(
     errors: &mut E,
 ) -> Result<bool, ServeFault>
 where
-    H: Threads + Wait + Clock + Drop + Copy + Send + Sync + 'static,
+    H: Threads + Wait + Clock + Files + Drop + Copy + Send + Sync + 'static,
     W: Write,
     E: Write,
     requires ready { IsReady options.now }
@@ -104,7 +104,7 @@ fn serve_at<H, W, E>(
     errors: &mut E,
 ) -> Served
 where
-    H: Threads + Wait + Clock + Drop + Copy + Send + Sync + 'static,
+    H: Threads + Wait + Clock + Files + Drop + Copy + Send + Sync + 'static,
     W: Write,
     E: Write,
     requires ready { IsReady options.now }

@@ -81,8 +81,8 @@ abbrev pub grammar : List Row
 grammar =
     row (codes "spawn") (Node ∷ []) (λ n. call_at n Spawn)
     ∷ row (codes "exit") (Pid ∷ []) (λ p. at_node p.node (Exiting p))
-    ∷ row (codes "register") (Node ∷ Name ∷ Pid ∷ []) (λ n x p. call_at n (OnName (Register x p)))
-    ∷ row (codes "re_register") (Node ∷ Name ∷ Pid ∷ []) (λ n x p. call_at n (OnName (ReRegister x p)))
+    ∷ row (codes "register") (Node ∷ Name ∷ Pid ∷ []) (λ n x p. call_at n (OnName (Register (record { name = x; owner = p }))))
+    ∷ row (codes "re_register") (Node ∷ Name ∷ Pid ∷ []) (λ n x p. call_at n (OnName (ReRegister (record { name = x; owner = p }))))
     ∷ row (codes "unregister") (Node ∷ Name ∷ []) (λ n x. call_at n (OnName (Unregister x)))
     ∷ row (codes "whereis") (Node ∷ Name ∷ []) (λ n x. call_at n (LookUp (Whereis x)))
     ∷ row (codes "names") (Node ∷ []) (λ n. call_at n (LookUp RegisteredNames))

@@ -4,7 +4,7 @@ use Rattle.command_lines.specs.declared.faults.LineFault.{LineFault}
 use Rattle.console.specs.Commands.{AsksFor, WordsSay, is_lock_word, meant}
 use Rattle.console.specs.declared.orders.Order.{Order}
 use Rattle.console.specs.declared.orders.Command.{Command}
-use Rattle.console.specs.declared.orders.Command.TheVariants.{Ask, SpawnLink, Quit, Shutdown}
+use Rattle.console.specs.declared.orders.Command.TheVariants.{Ask, SpawnLink, Quit, Shutdown, Status}
 
 module _ (a b c d e f g h : List ℕ) (words : List (List ℕ)) where
   -- no line has seven words
@@ -19,9 +19,10 @@ module _ (a b c d e f g h : List ℕ) (words : List (List ℕ)) where
   say_more stays (Ok Quit) says = cc
   say_more stays (Ok Shutdown) says = (says.0, cc)
   say_more stays (Ok SpawnLink) says = cc
+  say_more stays (Ok Status) says = (says.0, cc)
   say_more stays (Ok (Ask order)) says =
-      ((λ is. cc, λ _ is. cc, λ is. cc), ask_more (is_lock_word a) (Ok order) says.1)
-  say_more stays (Err fault) says = ((λ is. cc, λ _ is. cc, λ is. cc), ask_more (is_lock_word a) (Err fault) says.1)
+      ((λ is. cc, λ _ is. cc, λ is. cc, λ _ is. cc), ask_more (is_lock_word a) (Ok order) says.1)
+  say_more stays (Err fault) says = ((λ is. cc, λ _ is. cc, λ is. cc, λ _ is. cc), ask_more (is_lock_word a) (Err fault) says.1)
 
 -- as they are meant
 pub first_words_say : (stays : Bool) (own : Option (List ℕ)) (words : List (List ℕ)) (r : Result Command LineFault)

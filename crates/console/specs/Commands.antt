@@ -12,7 +12,7 @@ use Rattle.text_lines.specs.Words.{words}
 use Rattle.console.specs.declared.orders.Order.{Order}
 use Rattle.console.specs.declared.orders.Order.TheVariants.{Call, Whereis, Exit, Leave}
 use Rattle.console.specs.declared.orders.Command.{Command}
-use Rattle.console.specs.declared.orders.Command.TheVariants.{Ask, SpawnLink, Quit, Shutdown}
+use Rattle.console.specs.declared.orders.Command.TheVariants.{Ask, SpawnLink, Quit, Shutdown, Status}
 
 -- what the node is asked, as the protocol has it
 abbrev pub event_in : Order → Event
@@ -31,8 +31,8 @@ abbrev pub own_lines : ℕ → List Row
 own_lines n =
     row (codes "spawn") [] (call_at n Spawn)
     ∷ row (codes "exit") (Pid ∷ []) (λ p. at_node n (Exiting p))
-    ∷ row (codes "register") (Name ∷ Pid ∷ []) (λ x p. call_at n (OnName (Register x p)))
-    ∷ row (codes "re_register") (Name ∷ Pid ∷ []) (λ x p. call_at n (OnName (ReRegister x p)))
+    ∷ row (codes "register") (Name ∷ Pid ∷ []) (λ x p. call_at n (OnName (Register (record { name = x; owner = p }))))
+    ∷ row (codes "re_register") (Name ∷ Pid ∷ []) (λ x p. call_at n (OnName (ReRegister (record { name = x; owner = p }))))
     ∷ row (codes "unregister") (Name ∷ []) (λ x. call_at n (OnName (Unregister x)))
     ∷ row (codes "whereis") (Name ∷ []) (λ x. call_at n (LookUp (LooksUp x)))
     ∷ row (codes "names") [] (call_at n (LookUp RegisteredNames))
@@ -103,23 +103,28 @@ quit = codes "quit" ∷ []
 abbrev pub shutdown : List (List ℕ)
 shutdown = codes "shutdown" ∷ []
 
--- these words end the server: it is one that stays
-abbrev pub ShutsDown : Bool → List (List ℕ) → Type 0
-ShutsDown stays ws = (stays ≡ true) × (ws ≡ shutdown)
+-- the words that ask how the node and the server stand
+abbrev pub status : List (List ℕ)
+status = codes "status" ∷ []
 
--- they don't
-abbrev pub StaysUp : Bool → List (List ℕ) → Type 0
-StaysUp stays ws = stays ≡ true → ws ≢ shutdown
+-- words are these, of a line that a server has which stays, and no other
+abbrev pub SaysAtStaying : Bool → List (List ℕ) → List (List ℕ) → Type 0
+SaysAtStaying stays these ws = (stays ≡ true) × (ws ≡ these)
+
+-- they aren't, or the server doesn't stay
+abbrev pub SaysElse : Bool → List (List ℕ) → List (List ℕ) → Type 0
+SaysElse stays these ws = stays ≡ true → ws ≢ these
 
 -- they do none of what only a console does: it asks its node
 abbrev pub IsAsking : Bool → List (List ℕ) → Type 0
-IsAsking stays ws = (ws ≢ quit) × StaysUp stays ws × (ws ≢ spawn_link)
+IsAsking stays ws = (ws ≢ quit) × SaysElse stays shutdown ws × (ws ≢ spawn_link) × SaysElse stays status ws
 
 -- what words say in a console, of a server that stays or of another, or why they are refused
 abbrev pub WordsSay : Bool → List (List ℕ) → Result Command LineFault → Type 0
 WordsSay stays ws (Ok Quit) = ws ≡ quit
-WordsSay stays ws (Ok Shutdown) = ShutsDown stays ws
+WordsSay stays ws (Ok Shutdown) = SaysAtStaying stays shutdown ws
 WordsSay stays ws (Ok SpawnLink) = ws ≡ spawn_link
+WordsSay stays ws (Ok Status) = SaysAtStaying stays status ws
 WordsSay stays ws (Ok (Ask o)) = IsAsking stays ws × WordsAskNode ws (Ok o)
 WordsSay stays ws (Err f) = IsAsking stays ws × WordsAskNode ws (Err f)
 

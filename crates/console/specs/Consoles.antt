@@ -22,7 +22,9 @@ use Rattle.console.specs.declared.ends.ConsoleEnd.TheVariants as by
 use Rattle.console.specs.declared.orders.Order.{Order}
 use Rattle.console.specs.declared.orders.Order.TheVariants.{Call, Exit}
 use Rattle.console.specs.declared.orders.Command.{Command}
-use Rattle.console.specs.declared.orders.Command.TheVariants.{Ask, SpawnLink, Quit, Shutdown}
+use Rattle.console.specs.declared.orders.Command.TheVariants.{Ask, SpawnLink, Quit, Shutdown, Status}
+use Rattle.console.specs.declared.status.Status.{Status as Standing}
+use Rattle.console.specs.Statuses.{status_outcome}
 
 -- what an order may be answered, and what is left then
 abbrev pub Answering : Type 0 → Type 1
@@ -78,7 +80,8 @@ module _ {S : Type 0} (answers : Answering S) where
   MaySpawnLinked s t = (t ≡ s) ⊎ ((text : List ℕ) × HeedsSpawnLink s text t)
 
 module _ {S : Type 0} (answers : Answering S) (stays : Bool) where
-  -- this is printed for what a line says, this is left, and so it ends the console, if it does: an order is printed as it was answered
+  -- This is printed for what a line says, this is left, and so it ends the console, if it does: an order is printed as it was answered.
+  -- How the node and the server stand is the line of some status or refusal, and asks for nothing
   abbrev pub Heeds : Talk S → Result Command LineFault → List ℕ → Talk S → Option ConsoleEnd → Type 0
   Heeds s (Ok (Ask order)) text t ended =
       (r : Result Reply SeatFault) × answers s.state order r t.state × (t.links ≡ left_by order r s.links) × (text ≡ outcome_text r)
@@ -86,6 +89,8 @@ module _ {S : Type 0} (answers : Answering S) (stays : Bool) where
   Heeds s (Ok SpawnLink) text t ended = HeedsSpawnLink answers s text t × (ended ≡ None)
   Heeds s (Ok Quit) text t ended = (text ≡ okay) × (t ≡ s) × (ended ≡ Some by.Quit)
   Heeds s (Ok Shutdown) text t ended = (text ≡ okay) × (t ≡ s) × (ended ≡ Some by.Shutdown)
+  Heeds s (Ok Status) text t ended =
+      (r : Result Standing SeatFault) × (text ≡ status_outcome r) × (t ≡ s) × (ended ≡ None)
   Heeds s (Err f) text t ended = (text ≡ error_line (word_of f)) × (t ≡ s) × (ended ≡ None)
 
   -- the same, for a line of a server that stays or of another

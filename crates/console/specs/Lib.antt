@@ -7,3 +7,4 @@ pub mod Greetings
 pub mod Outcomes
 pub mod Consoles
 pub mod Seats
+pub mod Statuses

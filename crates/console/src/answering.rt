@@ -12,6 +12,7 @@ use crate::ends::ConsoleEnd;
 use crate::links::Links;
 use crate::orders::{Command, Order};
 use crate::outcomes::outcome_line;
+use crate::status::status_line;
 use command_lines::{Call, Reply};
 use node_seats::SeatFault;
 use std::alloc::{AllocError, Global};
@@ -106,6 +107,10 @@ fn reply_to<H, A: Attendant<H>>(
             let text = reply_to_spawn_link(rt, alloc, attendant, links)?;
             Ok((text, None))
         }
+        Ok(Command::Status) => {
+            let status = attendant.status(rt);
+            Ok((status_line(alloc, status)?, None))
+        }
         Ok(Command::Quit) => Ok((String::from_str(alloc, "ok\n")?, Some(ConsoleEnd::Quit))),
         Ok(Command::Shutdown) => Ok((String::from_str(alloc, "ok\n")?, Some(ConsoleEnd::Shutdown))),
         Err(fault) => Ok((String::from_str(alloc, fault.line())?, None)),
@@ -173,7 +178,7 @@ fn exit_all<H, A: Attendant<H>>(rt: &H, attendant: &mut A, links: &Links)
 }
 
 /// Reads lines until `quit` or the end of the input, and answers each with one line: how the console ended. In a console of a
-/// server that stays `shutdown` is answered `ok` and ends it, too. It answers `most` lines at most.
+/// server that stays `shutdown` is answered `ok` and ends it, too, and `status` tells how the node and the server stand. It answers `most` lines at most.
 ///
 /// A line that asks something is asked of the attendant, and answered with the text of the reply or the word of the refusal;
 /// any other is refused, an empty one too. Each answer is handed on before the next line is read. `Read` and `TooManyLines`:

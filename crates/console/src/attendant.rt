@@ -5,6 +5,7 @@ ghost use Rattle.node_seats.specs.declared.fault.SeatFault.{SeatFault as AnyFaul
 ghost use Rattle.console.specs.declared.orders.Order.{Order as AnyOrder};
 
 use crate::orders::Order;
+use crate::status::Status;
 use command_lines::Reply;
 use node_seats::SeatFault;
 use term::NodeName;
@@ -26,4 +27,7 @@ pub trait Attendant<H> {
     /// exits with the console: once the console's input has ended, it needn't be waited for.
     fn ask(&mut self, rt: &H, order: Order, linked: bool) -> Result<Reply, SeatFault>
         ensures { answers (Self.state self.old) order result (Self.state self.new) };
+
+    /// How the node stands, and the server that it is of; or why nobody can tell. It is asked in consoles of servers that stay alone.
+    fn status(&self, rt: &H) -> Result<Status, SeatFault>;
 }

@@ -5,7 +5,7 @@ ghost use Rattle.text_lines.specs.Lines.{IsKept};
 ghost use Rattle.text_lines.specs.Words.{words as words_in};
 ghost use Rattle.command_lines.specs.Commands.{asked_by};
 ghost use Rattle.command_lines.specs.Grammar.{WordsAsk};
-ghost use Rattle.console.specs.Commands.{LineSays, ShutsDown, StaysUp, WordsAskNode, WordsSay, AsksOwn, AsksAsScript, OwnAsk, begins_lock, process_first, process_second, is_lock_word as any_lock_word, meant, meant_by, quit, spawn_link};
+ghost use Rattle.console.specs.Commands.{LineSays, WordsAskNode, WordsSay, SaysAtStaying, SaysElse, AsksOwn, AsksAsScript, OwnAsk, begins_lock, process_first, process_second, is_lock_word as any_lock_word, meant, meant_by, quit, shutdown, spawn_link, status};
 ghost use Rattle.console.specs.Links.{linked_in, own_text};
 
 use crate::links::Links;
@@ -106,10 +106,22 @@ fn is_quit(words: &[&str]) -> bool
 
 /// Whether words shut a server down: in a console of one that stays.
 fn is_shutdown(words: &[&str], stays: bool) -> bool
-    ensures { MatchBool result (ShutsDown stays (map (λ word. word.now) words.now)) (StaysUp stays (map (λ word. word.now) words.now)) }
+    ensures { MatchBool result (SaysAtStaying stays shutdown (map (λ word. word.now) words.now))
+        (SaysElse stays shutdown (map (λ word. word.now) words.now)) }
 {
     match words {
         [word] => stays && matches!(*word, "shutdown"),
+        _ => false,
+    }
+}
+
+/// Whether words ask how things stand: in a console of a server that stays.
+fn is_status(words: &[&str], stays: bool) -> bool
+    ensures { MatchBool result (SaysAtStaying stays status (map (λ word. word.now) words.now))
+        (SaysElse stays status (map (λ word. word.now) words.now)) }
+{
+    match words {
+        [word] => stays && matches!(*word, "status"),
         _ => false,
     }
 }
@@ -163,6 +175,9 @@ fn read_said(
     }
     if is_spawn_link(words) {
         return Ok(Ok(Command::SpawnLink));
+    }
+    if is_status(words, stays) {
+        return Ok(Ok(Command::Status));
     }
     match read_order(alloc, words)? {
         Ok(order) => Ok(Ok(Command::Ask(order))),

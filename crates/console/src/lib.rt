@@ -14,6 +14,7 @@ mod links;
 mod orders;
 mod outcomes;
 mod serving;
+mod status;
 
 pub use answering::answer_lines;
 pub use attendant::Attendant;
@@ -23,4 +24,5 @@ pub use ends::ConsoleEnd;
 pub use greeting::{greet, refuse_seat};
 pub use orders::Order;
 pub use serving::{serve, serve_staying};
+pub use status::{House, Load, Status};
 pub use text_lines::StreamFault as ConsoleFault;

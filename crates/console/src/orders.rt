@@ -26,4 +26,6 @@ pub(crate) enum Command {
     Quit,
     /// It ends the console, and the server is to end.
     Shutdown,
+    /// It asks how the node stands, and the server.
+    Status,
 }

@@ -12,6 +12,7 @@ use crate::attendant::Attendant;
 use crate::client::{Client, Peer};
 use crate::ends::ConsoleEnd;
 use crate::orders::Order;
+use crate::status::{House, Load, Status};
 use command_lines::{Call, Reply};
 use node_seats::{Beside, Notes, Seat, SeatFault, Transcript};
 use std::alloc::Global;
@@ -20,6 +21,9 @@ use std::sync::Wait;
 use std::time::Clock;
 use term::{Name, NodeName, Pid};
 use text_lines::{MOST_LINES, StreamFault};
+
+/// How many lines a console of a server that stays may have: more than come.
+const MOST_STAYING: u64 = u64::MAX;
 
 /// Looks a name up from a seat.
 fn look_up<T: Notes>(seat: &mut Seat<T>, name: &Name) -> Result<Reply, SeatFault>
@@ -72,6 +76,18 @@ impl<H: Wait + Clock, T: Notes> Attendant<H> for Seat<T> {
             Order::Leave => leave(rt, self),
         }
     }
+
+    // A seat alone knows of no server.
+    fn status(&self, _rt: &H) -> Result<Status, SeatFault> {
+        let node = Seat::<T>::status(self)?;
+        Ok(Status {
+            node,
+            load: Load {
+                consoles: 0,
+                memory: 0,
+            },
+        })
+    }
 }
 
 /// The client of a console, while a call waits that it has made.
@@ -92,14 +108,15 @@ impl<'a, C: Client> Beside for Waiting<'a, C> {
     }
 }
 
-/// A seat whose calls are made for a client, and given up where that has gone.
+/// A seat in a house, whose calls are made for a client, and given up where that has gone.
 #[derive(Drop)]
-struct ClientSeat<T: Notes, C: Client + Drop> {
+struct ClientSeat<'a, T: Notes, C: Client + Drop, B> {
     seat: Seat<T>,
     client: C,
+    house: &'a B,
 }
 
-impl<T: Notes, C: Client + Drop> ClientSeat<T, C> {
+impl<'a, T: Notes, C: Client + Drop, B> ClientSeat<'a, T, C, B> {
     /// Calls the node. A lock call is waited for no longer than the client may want to hear of it. All others are answered before long,
     /// and a spawn that was given up would leave a process that isn't linked.
     fn call<H: Wait + Clock>(
@@ -121,7 +138,13 @@ impl<T: Notes, C: Client + Drop> ClientSeat<T, C> {
     }
 }
 
-impl<H: Wait + Clock, T: Notes, C: Client + Drop> Attendant<H> for ClientSeat<T, C> {
+impl<'a, H, T, C, B> Attendant<H> for ClientSeat<'a, T, C, B>
+where
+    H: Wait + Clock,
+    T: Notes,
+    C: Client + Drop,
+    B: House<H>,
+{
     ghost use Rattle.console.specs.Seats.{SeatAnswers};
 
     type State = Seat<T>;
@@ -141,6 +164,12 @@ impl<H: Wait + Clock, T: Notes, C: Client + Drop> Attendant<H> for ClientSeat<T,
             Order::Exit(process) => exit(rt, &mut self.seat, &process),
             Order::Leave => leave(rt, &mut self.seat),
         }
+    }
+
+    fn status(&self, rt: &H) -> Result<Status, SeatFault> {
+        let node = self.seat.status()?;
+        let load = self.house.load(rt);
+        Ok(Status { node, load })
     }
 }
 
@@ -173,25 +202,46 @@ pub fn serve<R: Read, W: Write, H: Wait + Clock>(
 
 /// Serves a console of a server that stays from a seat, which comes back behind the exits of all that it left linked: as `serve`
 /// does, but that the line `shutdown` is answered `ok` and ends it, too, and that no number of lines does. Only a line that counts
-/// for more than a reader's lines may is too many. How it ended is told; what the server does then is for the caller.
+/// for more than a reader's lines may is too many. The line `status` is answered by what the node and the house tell of themselves. How it
+/// ended is told; what the server does then is for the caller.
 ///
 /// A lock call that waits is given up, and answered `error closed`, where its client is gone; and, where it is the call of a linked
 /// process, also where the console's input has ended, as that process exits then.
-pub fn serve_staying<R: Read, W: Write, H: Wait + Clock, T: Notes, C: Client + Drop>(
+pub fn serve_staying<R, W, H, T, C, B>(
     rt: &H,
     alloc: Global,
     reader: &mut BufReader<R, Global>,
     writer: &mut W,
     seat: Seat<T>,
     client: C,
+    house: &B,
 ) -> (Result<ConsoleEnd, StreamFault>, Seat<T>)
+where
+    R: Read,
+    W: Write,
+    H: Wait + Clock,
+    T: Notes,
+    C: Client + Drop,
+    B: House<H>,
     ensures { MatchResult result.0
         (EndsBy SeatAnswers true most_staying (reader_remaining R.remaining reader.old) (reader_remaining R.remaining reader.new)
         (W.contents writer.old) (W.contents writer.new) seat result.1)
         (Stops SeatAnswers true most_staying (reader_remaining R.remaining reader.old) (reader_remaining R.remaining reader.new)
         (W.contents writer.old) (W.contents writer.new) seat result.1) }
 {
-    let mut attendant = ClientSeat { seat, client };
-    let ended = answer_lines(rt, alloc, reader, writer, &mut attendant, true, u64::MAX);
+    let mut attendant = ClientSeat {
+        seat,
+        client,
+        house,
+    };
+    let ended = answer_lines(
+        rt,
+        alloc,
+        reader,
+        writer,
+        &mut attendant,
+        true,
+        MOST_STAYING,
+    );
     (ended, attendant.seat)
 }

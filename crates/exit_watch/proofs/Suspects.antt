@@ -115,18 +115,18 @@ module _ (h k : Held) (s : ℕ) (n : IsNoted h k s) where
     ])
 
     pub noted-put : (p : Process) → p.serial ≡ s → (x : Text) (t : Table) → AreSuspected h t →
-        AreSuspected k (put x p t)
+        AreSuspected k (put (record { name = x; owner = p }) t)
     noted-put p i x t sus q dead o = go (is_process p (process_of k q)) refl
       where
         go : (b : Bool) → is_process p (process_of k q) ≡ b → is_suspect k q ≡ true
         go true e =
             let (a, j) = and_parts (p.node == k.node) (p.serial == q) e in
             subst (λ (r : ℕ). is_suspect k r ≡ true) (sym i ∙ eqb-true p.serial q j) joins
-        go false e = noted-keeps t sus q dead (owns-put (process_of k q) x p t e o)
+        go false e = noted-keeps t sus q dead (owns-put (process_of k q) (record { name = x; owner = p }) t e o)
 
 -- a put for another process than the dead of this node makes no suspect
 pub put-keeps : (h : Held) (p : Process) → ((p.node == h.node) && is_dead h.watch p.serial) ≡ false →
-    (x : Text) (t : Table) → AreSuspected h t → AreSuspected h (put x p t)
+    (x : Text) (t : Table) → AreSuspected h t → AreSuspected h (put (record { name = x; owner = p }) t)
 put-keeps h p other x t sus q dead o = go (is_process p (process_of h q)) refl
   where
     go : (b : Bool) → is_process p (process_of h q) ≡ b → is_suspect h q ≡ true
@@ -134,4 +134,4 @@ put-keeps h p other x t sus q dead o = go (is_process p (process_of h q)) refl
         let (a, i) = and_parts (p.node == h.node) (p.serial == q) e in
         let d : is_dead h.watch p.serial ≡ true = ap (is_dead h.watch) (eqb-true p.serial q i) ∙ dead in
         absurd (cc (d, rw a at other))
-    go false e = sus q dead (owns-put (process_of h q) x p t e o)
+    go false e = sus q dead (owns-put (process_of h q) (record { name = x; owner = p }) t e o)

@@ -1,2 +1,3 @@
+pub use Rattle.spans.specs.Spans
 pub mod Faults
 pub mod Held

@@ -1,6 +1,8 @@
 //! The watch of one node.
-ghost use Rattle.std.specs.Prelude.{◌≡◌, true, false, nat_lt, Some, OnOk, OnErr, IfOk, IfErr};
+ghost use Rattle.std.specs.Prelude.{◌≡◌, true, false, nat_eq, nat_lt, Some, OnOk, OnErr, IfOk, IfErr};
 ghost use Rattle.std.specs.Option.{option_map};
+ghost use Rattle.std.specs.Set.{distinct_count};
+ghost use Rattle.spans.specs.Spans.{ends};
 ghost use Rattle.registry_model.specs.Table.{Table, put};
 ghost use Rattle.registry_model.specs.Process.{Text};
 ghost use Rattle.protocol_model.specs.Watch.{is_live, is_dead, is_issued, next_serial, with_spawned, with_dead, owed};
@@ -66,6 +68,20 @@ impl Watch {
             dead: Dead::new(alloc),
             suspects: BTreeSet::new(alloc),
         }
+    }
+
+    /// The greatest serial that it has given; 0 before the first.
+    pub fn last_serial(&self) -> u32
+        ensures { result ≡ self.now.watch.last_serial }
+    {
+        self.last_serial
+    }
+
+    /// In how many spans it keeps the serials of the dead: as many as there are dead behind whom the next serial isn't dead.
+    pub fn spans(&self) -> usize
+        ensures { result ≡ distinct_count nat_eq (ends self.now.watch.dead) }
+    {
+        self.dead.spans()
     }
 
     /// The process of this node that has this serial.
@@ -202,7 +218,7 @@ impl Watch {
         ensures node { self.new.node ≡ self.old.node }
         ensures watch { self.new.watch ≡ self.old.watch }
         ensures ok { OnOk result ((x : Text) (t : Table) → AreSuspected self.old t
-            → AreSuspected self.new (put x owner.now t)) }
+            → AreSuspected self.new (put (record { name = x; owner = owner.now }) t)) }
         ensures suspected { KeepsSuspects self.old self.new }
         ensures unchanged { OnErr result (self.new ≡ self.old) }
         ensures refused { OnErr result (is_unnoted self.old owner.now ≡ true) }

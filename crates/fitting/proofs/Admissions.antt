@@ -4,9 +4,10 @@ use Rattle.std.specs.Prelude.{◌&&◌, ◌||◌, not, if◌then◌else◌}
 use Rattle.std.specs.List.{AllByRecursion}
 use Rattle.std.proofs.lemmas.Bool.{eq-eqb, ne_eqb}
 use Rattle.registry_model.specs.Call.{NameCall, Reply, Joined, False, is_grant, reply_to}
-use Rattle.registry_model.specs.Process.{Process, Nodes}
+use Rattle.registry_model.specs.Process.{Nodes}
 use Rattle.registry_model.specs.Table.{Table}
 use Rattle.registry_model.specs.History.{Entry, Standing, hold_at}
+use Rattle.registry_model.specs.Settlement.{Fate}
 use Rattle.protocol_model.specs.Node.{Node, Op, Current, is_writing}
 use Rattle.protocol_model.specs.Event.{Answer}
 use Rattle.protocol_model.specs.Client.{is_spent}
@@ -50,13 +51,13 @@ is_call_reply _ = false
 
 reply_to-call : (members : Nodes) (table : Table) (call : NameCall)
     → is_call_reply (reply_to members table call) ≡ true
-reply_to-call members table (NameCall.Register x p) = go (not (members p.node)) (_)
+reply_to-call members table (NameCall.Register e) = go (not (members e.owner.node)) (_)
   where
     go : (b c : Bool) → is_call_reply (if b then Reply.UnknownNode else (if c then Reply.No else Reply.Yes)) ≡ true
     go true c = refl
     go false true = refl
     go false false = refl
-reply_to-call members table (NameCall.ReRegister x p) = go (not (members p.node))
+reply_to-call members table (NameCall.ReRegister e) = go (not (members e.owner.node))
   where
     go : (b : Bool) → is_call_reply (if b then Reply.UnknownNode else Reply.Yes) ≡ true
     go true = refl
@@ -70,14 +71,14 @@ not_joined r e q = cc (sym (ap is_call_reply q) ∙ e)
 -- the answer, where it is `joined`, is that of this rule, which reads a welcome
 abbrev pub IsOfWelcome : ℕ → Rules.Rule → Answer → Type 0
 IsOfWelcome a r s = s.reply ≡ Joined → (f : ℕ) × (k : ℕ) × (members : Nodes) × (pairs : Table) × (told : Nodes)
-    × (kills : List Process) × (r ≡ Rules.IsWelcomed f k members pairs told kills) × (s ≡ answer_to a k Joined)
+    × (fate : Fate) × (r ≡ Rules.IsWelcomed f k members pairs told fate) × (s ≡ answer_to a k Joined)
 
 -- so is each answer of a rule
 pub of_welcome : (o : Opening) (a : ℕ) (w : World) (r : Rules.Rule) → Replicas o w → Rules.May o a w r
     → AllByRecursion (IsOfWelcome a r) (answered a r (w.node a))
 of_welcome o a w Rules.Spawns R M = (λ e. cc, tt)
 of_welcome o a w (Rules.LooksUp look) R M =
-    (λ e. absurd (cc (sym (seen_in-word (w.node a).replica.table look) ∙ ap is_word e)), tt)
+    (λ e. absurd (cc (sym (seen_in-word (w.node a).replica look) ∙ ap is_word e)), tt)
 of_welcome o a w (Rules.SkipsJoin k m ops) R M = (λ e. cc, tt)
 of_welcome o a w (Rules.Denies k call r) R M = (
   λ e. absurd (not_joined (reply_to (w.node a).replica.members (w.node a).replica.table call)
@@ -93,8 +94,8 @@ of_welcome o a w (Rules.Finishes op asked awaited reply) R M =
     done (Op.Name k call) None W = tt
     done _ reply W = tt
 of_welcome o a w (Rules.EndsJoin f k) R M = (λ e. cc, tt)
-of_welcome o a w (Rules.IsWelcomed f k members pairs told kills) R M =
-    (λ e. (f, k, members, pairs, told, kills, refl, refl), tt)
+of_welcome o a w (Rules.IsWelcomed f k members pairs told fate) R M =
+    (λ e. (f, k, members, pairs, told, fate, refl, refl), tt)
 of_welcome o a w (Rules.LosesContact k m) R M = (λ e. cc, tt)
 of_welcome o a w (Rules.FailsLock c) R M = (λ e. cc, tt)
 of_welcome o a w (Rules.WinsLock c r) R M = (λ e. cc, tt)
@@ -111,10 +112,10 @@ of_welcome o a w _ R M = tt
 
 -- where a node reads the welcome that it waits for, its admission holds, by another node
 pub welcome_holds : (o : Opening) (a : ℕ) (w : World) (f k : ℕ) (members : Nodes) (pairs : Table) (told : Nodes)
-    (kills : List Process) (gate : ℕ → ℕ → Gate)
-    → Replicas o w → Gates o w gate → Rules.May o a w (Rules.IsWelcomed f k members pairs told kills)
+    (fate : Fate) (gate : ℕ → ℕ → Gate)
+    → Replicas o w → Gates o w gate → Rules.May o a w (Rules.IsWelcomed f k members pairs told fate)
     → (f ≡ a → ⊥) × Admitted (standing_at o w) a k f
-welcome_holds o a w f k members pairs told kills gate R G M = (apart, here)
+welcome_holds o a w f k members pairs told fate gate R G M = (apart, here)
   where
     shown : (gate a f ≡ Entering) × (returns M.front.1.0 ≡ [])
     shown = at_welcome (returns M.front.1.0) (gate a f) (sym (ap returns M.front.1.1) ∙ G.back a f M.running)
@@ -139,8 +140,8 @@ joined_rule o a w r gate R G M =
   where
     tells : (s : Answer) → IsOfWelcome a r s → TellsJoin a (standing_at o w) (standing_at o w) s
     tells s T e =
-        let x : (f : ℕ) × (k : ℕ) × (members : Nodes) × (pairs : Table) × (told : Nodes) × (kills : List Process)
-        × (r ≡ Rules.IsWelcomed f k members pairs told kills) × (s ≡ answer_to a k Joined) = T e in
+        let x : (f : ℕ) × (k : ℕ) × (members : Nodes) × (pairs : Table) × (told : Nodes) × (fate : Fate)
+        × (r ≡ Rules.IsWelcomed f k members pairs told fate) × (s ≡ answer_to a k Joined) = T e in
         let h : (x.0 ≡ a → ⊥) × Admitted (standing_at o w) a x.1 x.0 =
         welcome_holds o a w x.0 x.1 x.2 x.3 x.4 x.5 gate R G (subst (Rules.May o a w) x.6 M) in
         (x.1, x.0, x.7, h.0, h.1, h.1)

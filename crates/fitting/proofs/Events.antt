@@ -115,7 +115,7 @@ event_enters o w (At a (Event.Calling (Call.LookUp look))) R N W =
     given = (turn_of o w (At a (Event.Calling (Call.LookUp look)))).answers
 
     reply : Reply
-    reply = seen_in (w.node a).replica.table look
+    reply = seen_in (w.node a).replica look
 
     one : map (λ (s : Answer). Entry.Read a look s.reply) (answers o w (At a (Event.Calling (Call.LookUp look))))
         ≡ Entry.Read a look reply ∷ []

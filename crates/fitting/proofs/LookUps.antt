@@ -138,7 +138,7 @@ looks_once o w (At a (Event.Calling (Call.LookUp look))) ps R B C X rested is W 
     e = At a (Event.Calling (Call.LookUp look))
 
     reply : Reply
-    reply = seen_in (w.node a).replica.table look
+    reply = seen_in (w.node a).replica look
 
     given : (played o w e).answers ≡ answer_to a 0 reply ∷ []
     given = answers_given o w e is

@@ -54,16 +54,16 @@ paired_append a (n ∷ ns) ms (x ∷ xs) ys p q = (p.0, paired_append a ns ms xs
 -- a name call may have the reply that a table and members give it
 reply_to-may : (nodes : Nodes) (table : Table) (call : NameCall)
     → may_have (Call.OnName call) (reply_to nodes table call) ≡ true
-reply_to-may nodes table (Register x p) = go (not (nodes p.node)) (_)
+reply_to-may nodes table (Register e) = go (not (nodes e.owner.node)) (_)
   where
     go : (b c : Bool)
-        → may_have (Call.OnName (Register x p)) (if b then UnknownNode else (if c then No else Yes)) ≡ true
+        → may_have (Call.OnName (Register e)) (if b then UnknownNode else (if c then No else Yes)) ≡ true
     go true c = refl
     go false true = refl
     go false false = refl
-reply_to-may nodes table (ReRegister x p) = go (not (nodes p.node))
+reply_to-may nodes table (ReRegister e) = go (not (nodes e.owner.node))
   where
-    go : (b : Bool) → may_have (Call.OnName (ReRegister x p)) (if b then UnknownNode else Yes) ≡ true
+    go : (b : Bool) → may_have (Call.OnName (ReRegister e)) (if b then UnknownNode else Yes) ≡ true
     go true = refl
     go false = refl
 reply_to-may nodes table (Unregister x) = refl

@@ -7,6 +7,7 @@ use Rattle.registry_model.specs.Process.{Process, Nodes}
 use Rattle.registry_model.specs.Table.{Table, get}
 use Rattle.registry_model.specs.Call.{NameCall, Register, ReRegister, Unregister, Look, Whereis, RegisteredNames, Reply, Yes, No, Ok, UnknownNode, False, pid_or_undefined, is_grant, reply_to, seen_in}
 use Rattle.registry_model.specs.History.{Entry, Standing, hold_at, after}
+use Rattle.registry_model.specs.Registry.{Replica}
 use Rattle.protocol_model.specs.Node.{Op, Current}
 use Rattle.protocol_model.specs.Event.{Answer}
 use Rattle.protocol_model.specs.Client.{is_spent}
@@ -21,26 +22,26 @@ use Rattle.fitting.proofs.Chains.{Ground}
 -- a name call's reply is prompt
 reply_to-prompt : (a k : ℕ) (members : Nodes) (table : Table) (call : NameCall)
     → is_prompt (answer_to a k (reply_to members table call)) ≡ true
-reply_to-prompt a k members table (Register x p) = go (not (members p.node)) (_)
+reply_to-prompt a k members table (Register e) = go (not (members e.owner.node)) (_)
   where
     go : (b c : Bool) → is_prompt (answer_to a k (if b then UnknownNode else (if c then No else Yes))) ≡ true
     go true c = refl
     go false true = refl
     go false false = refl
-reply_to-prompt a k members table (ReRegister x p) = go (not (members p.node))
+reply_to-prompt a k members table (ReRegister e) = go (not (members e.owner.node))
   where
     go : (b : Bool) → is_prompt (answer_to a k (if b then UnknownNode else Yes)) ≡ true
     go true = refl
     go false = refl
 reply_to-prompt a k members table (Unregister x) = refl
 
-seen_in-prompt : (a k : ℕ) (table : Table) (look : Look) → is_prompt (answer_to a k (seen_in table look)) ≡ false
-seen_in-prompt a k table (Whereis x) = go (get x table)
+seen_in-prompt : (a k : ℕ) (v : Replica) (look : Look) → is_prompt (answer_to a k (seen_in v look)) ≡ false
+seen_in-prompt a k v (Whereis x) = go (get x v.table)
   where
     go : (p : Option Process) → is_prompt (answer_to a k (pid_or_undefined p)) ≡ false
     go None = refl
     go (Some p) = refl
-seen_in-prompt a k table RegisteredNames = refl
+seen_in-prompt a k v RegisteredNames = refl
 
 grant-prompt : (a k : ℕ) (r : Reply) → is_grant r ≡ true → is_prompt (answer_to a k r) ≡ true
 grant-prompt a k Yes e = refl
@@ -54,8 +55,8 @@ prompt_one s b e = ap (λ (t : Bool). if t then s ∷ [] else []) e
 pub prompt_rule : (o : Opening) (a : ℕ) (w : World) (r : Rules.Rule) → Replicas o w → Rules.May o a w r
     → filter is_prompt (answered a r (w.node a)) ≡ due (standing_at o w) (entered a (join_number w) r (w.node a))
 prompt_rule o a w (Rules.LooksUp look) R M =
-    prompt_one (answer_to a 0 (seen_in (w.node a).replica.table look)) false
-    (seen_in-prompt a 0 (w.node a).replica.table look)
+    prompt_one (answer_to a 0 (seen_in (w.node a).replica look)) false
+    (seen_in-prompt a 0 (w.node a).replica look)
 prompt_rule o a w (Rules.Grants k call r) R M =
     sym (ap (λ (b : Bool). (if b then [] else answer_to a k reply ∷ []) ++ []) M.tested.1)
   where

@@ -6,6 +6,7 @@ use Rattle.std.proofs.lemmas.Bool.{cases_eq, eq-eqb, ne_eqb}
 use Rattle.registry_model.specs.Call.{NameCall, Register, ReRegister, Unregister, Look, Whereis, RegisteredNames, Reply, Yes, No, Ok, UnknownNode, Pid, True, False, Joined, NotMember, ContactLeft, pid_or_undefined, is_grant, reply_to, seen_in}
 use Rattle.registry_model.specs.Table.{Table, get}
 use Rattle.registry_model.specs.History.{Entry}
+use Rattle.registry_model.specs.Registry.{Replica}
 use Rattle.protocol_model.specs.Letter.{Letter}
 use Rattle.protocol_model.specs.Node.{Node, Op, Current}
 use Rattle.protocol_model.specs.Watch.{next_serial}
@@ -27,13 +28,13 @@ use Rattle.fitting.proofs.Accounts.{numbered_op, reply_by, answer_with, is_word,
 
 -- a name call's reply is a word
 pub reply_to-word : (members : _) (table : Table) (call : NameCall) → is_word (reply_to members table call) ≡ true
-reply_to-word members table (Register x p) = go (not (members p.node)) (_)
+reply_to-word members table (Register e) = go (not (members e.owner.node)) (_)
   where
     go : (b c : Bool) → is_word (if b then UnknownNode else (if c then No else Yes)) ≡ true
     go true c = refl
     go false true = refl
     go false false = refl
-reply_to-word members table (ReRegister x p) = go (not (members p.node))
+reply_to-word members table (ReRegister e) = go (not (members e.owner.node))
   where
     go : (b : Bool) → is_word (if b then UnknownNode else Yes) ≡ true
     go true = refl
@@ -41,13 +42,13 @@ reply_to-word members table (ReRegister x p) = go (not (members p.node))
 reply_to-word members table (Unregister x) = refl
 
 -- a look-up's is none
-pub seen_in-word : (table : Table) (look : Look) → is_word (seen_in table look) ≡ false
-seen_in-word table (Whereis x) = go (get x table)
+pub seen_in-word : (v : Replica) (look : Look) → is_word (seen_in v look) ≡ false
+seen_in-word v (Whereis x) = go (get x v.table)
   where
     go : (p : Option _) → is_word (pid_or_undefined p) ≡ false
     go None = refl
     go (Some p) = refl
-seen_in-word table RegisteredNames = refl
+seen_in-word v RegisteredNames = refl
 
 pub grant_word : (r : Reply) → is_grant r ≡ true → is_word r ≡ true
 grant_word Yes e = refl
@@ -74,14 +75,14 @@ elsewhere a b k r ne = ap (λ (t : Bool). if t && is_word r then answer_to a k r
 words_elsewhere : (a b : ℕ) (r : Rules.Rule) (v : Node) → (a == b) ≡ false
     → filter (is_word_at b) (answered a r v) ≡ []
 words_elsewhere a b Rules.Spawns v ne = elsewhere a b 0 (Pid (record { node = a; serial = next_serial v.watch })) ne
-words_elsewhere a b (Rules.LooksUp look) v ne = elsewhere a b 0 (seen_in v.replica.table look) ne
+words_elsewhere a b (Rules.LooksUp look) v ne = elsewhere a b 0 (seen_in v.replica look) ne
 words_elsewhere a b (Rules.SkipsJoin k m ops) v ne = elsewhere a b k ContactLeft ne
 words_elsewhere a b (Rules.Denies k call r) v ne =
     elsewhere a b k (reply_to v.replica.members v.replica.table call) ne
 words_elsewhere a b (Rules.Finishes (Op.Name k call) asked awaited (Some reply)) v ne = elsewhere a b k reply ne
 words_elsewhere a b (Rules.Finishes (Op.Name k call) asked awaited None) v ne = refl
 words_elsewhere a b (Rules.EndsJoin f k) v ne = elsewhere a b k NotMember ne
-words_elsewhere a b (Rules.IsWelcomed f k members pairs told kills) v ne = elsewhere a b k Joined ne
+words_elsewhere a b (Rules.IsWelcomed f k members pairs told fate) v ne = elsewhere a b k Joined ne
 words_elsewhere a b (Rules.LosesContact k m) v ne = elsewhere a b k ContactLeft ne
 words_elsewhere a b (Rules.FailsLock c) v ne = elsewhere a b c.number False ne
 words_elsewhere a b (Rules.WinsLock c r) v ne = elsewhere a b c.number True ne
@@ -143,7 +144,7 @@ other_pair gate j m g b ne y = sym (ap (λ (t : Bool). reply_by
 -- the rule ends a join of its own node
 abbrev pub ends_own : Rules.Rule → Bool
 ends_own (Rules.EndsJoin f k) = true
-ends_own (Rules.IsWelcomed f k members pairs told kills) = true
+ends_own (Rules.IsWelcomed f k members pairs told fate) = true
 ends_own (Rules.LosesContact k m) = true
 ends_own _ = false
 
@@ -155,7 +156,7 @@ pub replies_same : (o : Opening) (a : ℕ) (w : World) (r : Rules.Rule) (gate : 
 replies_same o a w (Rules.RefusesJoin f pairs) gate G M d e = cc
 replies_same o a w (Rules.Admits j pairs r) gate G M d e = cc
 replies_same o a w (Rules.EndsJoin f k) gate G M d e = cc
-replies_same o a w (Rules.IsWelcomed f k members pairs told kills) gate G M d e = cc
+replies_same o a w (Rules.IsWelcomed f k members pairs told fate) gate G M d e = cc
 replies_same o a w (Rules.LosesContact k m) gate G M d e = cc
 replies_same o a w (Rules.AsksJoin k m ops) gate G M d e = quiet_pair gate a m _
     (ap reply_by (shut_gate o w a m (gate a m) (G.facts a m) (λ i h. cc (sym M.tested.0 ∙ h))))
@@ -187,7 +188,7 @@ settles_other o a w r gate G M d b ne = settles_still b _ _ _ _ (w.node b) (w.no
     rows : (r : Rules.Rule) → Gates o w gate → Rules.May o a w r → decides_other r ≡ false → (m : ℕ)
         → replies_to gate b m ≡ replies_to (gate_by o a w r gate) b m
     rows (Rules.EndsJoin f k) G M d = other_pair gate a f Away b ne
-    rows (Rules.IsWelcomed f k members pairs told kills) G M d = other_pair gate a f Away b ne
+    rows (Rules.IsWelcomed f k members pairs told fate) G M d = other_pair gate a f Away b ne
     rows (Rules.LosesContact k m) G M d = other_pair gate a m Away b ne
     rows (Rules.RefusesJoin f pairs) G M d = cc
     rows (Rules.Admits j pairs r) G M d = cc

@@ -86,10 +86,10 @@ paired_call a (m ∷ ns) (x ∷ xs) p s c = elim (Contains-cases x xs s c) [
 -- no name call is answered as a join is, and no join as a name call that is granted
 joined_not_named : (call : NameCall) (g : Gate) (r : Reply) → reply_by g ≡ Some r → may_have (Call.OnName call) r ≡ true
     → ⊥
-joined_not_named (Register x p) Gate.Turned r e may = cc (e, may)
-joined_not_named (Register x p) Gate.Entering r e may = cc (e, may)
-joined_not_named (ReRegister x p) Gate.Turned r e may = cc (e, may)
-joined_not_named (ReRegister x p) Gate.Entering r e may = cc (e, may)
+joined_not_named (Register new) Gate.Turned r e may = cc (e, may)
+joined_not_named (Register new) Gate.Entering r e may = cc (e, may)
+joined_not_named (ReRegister new) Gate.Turned r e may = cc (e, may)
+joined_not_named (ReRegister new) Gate.Entering r e may = cc (e, may)
 joined_not_named (Unregister x) Gate.Turned r e may = cc (e, may)
 joined_not_named (Unregister x) Gate.Entering r e may = cc (e, may)
 joined_not_named call g r e may = cc

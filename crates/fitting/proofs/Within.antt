@@ -6,7 +6,7 @@ use Rattle.std.specs.List.{AllByRecursion}
 use Rattle.registry_model.specs.Process.{Process, is_process, Nodes, at}
 use Rattle.registry_model.specs.Table.{Table, Change, StrikeOwner}
 use Rattle.registry_model.specs.Call.{NameCall, Reply, True, False, Joined, NotMember, ContactLeft, is_grant, change_of}
-use Rattle.registry_model.specs.Settlement.{settle}
+use Rattle.registry_model.specs.Settlement.{Fate, settle}
 use Rattle.registry_model.specs.History.{Entry}
 use Rattle.protocol_model.specs.Round.{Round, owes, asked, answer, down, is_empty, is_over, Ending, ending, opens}
 use Rattle.protocol_model.specs.Letter.{Id, Global, Letter, is_down}
@@ -369,13 +369,12 @@ module _ (S T : ℕ → Type 0) (weaken : (k : ℕ) → S k → T k) (a : ℕ) w
           (replies k NotMember _ (λ e. cc) (works Current.Free u refl W)) W
       refused_join f _ u W = W
 
-      welcomes : (f : ℕ) (members : Nodes) (pairs : Table) (told : Nodes) (ps : List Process) (c : Current)
-          (u : Turn) → Within u
-          → Within (Reading.welcome n a number f members pairs told ps c u)
-      welcomes f members pairs told ps (Current.Joining k m) u W = either (m == f) _ _
+      welcomes : (f : ℕ) (members : Nodes) (pairs : Table) (told : Nodes) (fate : Fate) (c : Current) (u : Turn)
+          → Within u → Within (Reading.welcome n a number f members pairs told fate c u)
+      welcomes f members pairs told fate (Current.Joining k m) u W = either (m == f) _ _
           (sends _ _ (replies k Joined _ (λ e. cc) (works Current.Free _ refl
-          (kills ps _ (becomes _ u refl W.word W))))) W
-      welcomes f members pairs told ps _ u W = W
+          (kills fate.kills _ (becomes _ u refl W.word W))))) W
+      welcomes f members pairs told fate _ u W = W
 
       told_of : (d : ℕ) (u : Turn) → Within u → Within (Reading.told_of n a number d u)
       told_of d u W = record { calls = W.calls; answers = W.answers; word = W.word }
@@ -403,8 +402,8 @@ module _ (S T : ℕ → Type 0) (weaken : (k : ℕ) → S k → T k) (a : ℕ) w
       reads f Letter.Applied u W = awaits_less f u.node.current u W.word W
       reads f (Letter.JoinAsk pairs) u W = asked_to_admit f pairs u W
       reads f Letter.JoinRefused u W = refused_join f u.node.current u W
-      reads f (Letter.Admit j puts ps) u W = sends _ _ (kills ps _ (becomes _ u refl W.word W))
-      reads f (Letter.Welcome members pairs told ps) u W = welcomes f members pairs told ps u.node.current u W
+      reads f (Letter.Admit j settled) u W = sends _ _ (kills settled.fate.kills _ (becomes _ u refl W.word W))
+      reads f (Letter.Welcome members pairs told fate) u W = welcomes f members pairs told fate u.node.current u W
       reads f Letter.Down u W = bereaves f u W
 
       pub receives : (f : ℕ) (l : Letter) (u : Turn) → Within u → Within (Reading.receive n a number f l u)

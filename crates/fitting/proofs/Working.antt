@@ -132,7 +132,7 @@ is_idle (Rules.Finishes op asked awaited reply) = false
 is_idle (Rules.QueuesJoin f pairs) = false
 is_idle (Rules.RefusesJoin f pairs) = false
 is_idle (Rules.EndsJoin f k) = false
-is_idle (Rules.IsWelcomed f k members pairs told kills) = false
+is_idle (Rules.IsWelcomed f k members pairs told fate) = false
 is_idle (Rules.LosesContact k m) = false
 is_idle _ = true
 
@@ -166,7 +166,7 @@ idle_node o a number (Rules.Finishes op asked awaited reply) v e = cc
 idle_node o a number (Rules.QueuesJoin f pairs) v e = cc
 idle_node o a number (Rules.RefusesJoin f pairs) v e = cc
 idle_node o a number (Rules.EndsJoin f k) v e = cc
-idle_node o a number (Rules.IsWelcomed f k members pairs told kills) v e = cc
+idle_node o a number (Rules.IsWelcomed f k members pairs told fate) v e = cc
 idle_node o a number (Rules.LosesContact k m) v e = cc
 idle_node o a number (Rules.Judges f id p) v e =
     node-if (is_free_for id p v.locks) v _ (begun v) (refl, refl) (refl, refl)
@@ -182,8 +182,8 @@ idle_node o a number _ v e = (refl, refl)
 -- they answer no name or join call, and enter none
 idle_words : (a : ℕ) (r : Rules.Rule) (v : Node) → is_idle r ≡ true → filter (is_word_at a) (answered a r v) ≡ []
 idle_words a Rules.Spawns v e = word_left a a 0 (Pid (record { node = a; serial = next_serial v.watch })) refl
-idle_words a (Rules.LooksUp look) v e = word_left a a 0 (seen_in v.replica.table look)
-    (seen_in-word v.replica.table look)
+idle_words a (Rules.LooksUp look) v e = word_left a a 0 (seen_in v.replica look)
+    (seen_in-word v.replica look)
 idle_words a (Rules.FailsLock c) v e = word_left a a c.number False refl
 idle_words a (Rules.WinsLock c r) v e = word_left a a c.number True refl
 idle_words a (Rules.GivesUpLock c r granted) v e = go (is_spent c.retries)
@@ -198,7 +198,7 @@ idle_words a (Rules.SkipsJoin k m ops) v e = cc
 idle_words a (Rules.Denies k call r) v e = cc
 idle_words a (Rules.Finishes op asked awaited reply) v e = cc
 idle_words a (Rules.EndsJoin f k) v e = cc
-idle_words a (Rules.IsWelcomed f k members pairs told kills) v e = cc
+idle_words a (Rules.IsWelcomed f k members pairs told fate) v e = cc
 idle_words a (Rules.LosesContact k m) v e = cc
 idle_words a _ v e = refl
 
@@ -339,9 +339,9 @@ settles_self o a w (Rules.EndsJoin f k) gate P R G M e =
     answered_join a f k NotMember _ _ (w.node a) (Rules.turn_by o a w (Rules.EndsJoin f k)).node refl
     (ap reply_by (at_refusal (returns M.front.1.0) (gate a f)
     (sym (ap returns M.front.1.1) ∙ G.back a f M.running)).0) M.tested.1 refl refl
-settles_self o a w (Rules.IsWelcomed f k members pairs told kills) gate P R G M e =
+settles_self o a w (Rules.IsWelcomed f k members pairs told fate) gate P R G M e =
     answered_join a f k Joined _ _ (w.node a) (Rules.turn_by o a w
-    (Rules.IsWelcomed f k members pairs told kills)).node refl
+    (Rules.IsWelcomed f k members pairs told fate)).node refl
     (ap reply_by (at_welcome (returns M.front.1.0) (gate a f)
     (sym (ap returns M.front.1.1) ∙ G.back a f M.running)).0) M.tested.1 refl refl
 settles_self o a w (Rules.LosesContact k m) gate P R G M e =

@@ -3,10 +3,11 @@ use Rattle.std.proofs.Common.{ℕ, Bool, true, false, ◌≡◌, ◌==◌, ◌+�
 use Rattle.std.specs.Prelude.{◌&&◌, not, if◌then◌else◌, is_some}
 use Rattle.std.specs.List.{list_any}
 use Rattle.registry_model.specs.Process.{Process, is_process, Nodes, at}
-use Rattle.registry_model.specs.Table.{Table, get}
+use Rattle.registry_model.specs.Table.{get}
 use Rattle.registry_model.specs.Call.{Look, Whereis, RegisteredNames, Reply, Yes, Joined, NotMember, Pid, is_reply, is_grant, reply_to, change_of, pid_or_undefined, seen_in}
 use Rattle.registry_model.specs.Settlement.{settle}
 use Rattle.registry_model.specs.History.{Entry}
+use Rattle.registry_model.specs.Registry.{Replica}
 use Rattle.protocol_model.specs.Round.{Round, owes, asked, answer, down, is_over, Ending, ending, opens, rest, is_empty}
 use Rattle.protocol_model.specs.Letter.{Global, Letter, is_down}
 use Rattle.protocol_model.specs.LockTable.{is_free_for}
@@ -24,9 +25,9 @@ use Rattle.protocol_model.specs.World.{Opening, World, WorldEvent, At, Deliver, 
 use Rattle.headline.proofs.Turns.{is_yes, begins, Tame, push_none, tame_same, tame_none, tame_idle, tame_start, same_try, same_delete, same_hear, same_owe, same_lose_all, same_retry_all}
 
 -- no look-up is answered `yes`
-pub seen_in-yes : (t : Table) (look : Look) → is_reply (seen_in t look) Yes ≡ false
-seen_in-yes t RegisteredNames = refl
-seen_in-yes t (Whereis x) = go (get x t)
+pub seen_in-yes : (v : Replica) (look : Look) → is_reply (seen_in v look) Yes ≡ false
+seen_in-yes v RegisteredNames = refl
+seen_in-yes v (Whereis x) = go (get x v.table)
   where
     go : (p : Option Process) → is_reply (pid_or_undefined p) Yes ≡ false
     go None = refl
@@ -223,21 +224,21 @@ module _ (n a : ℕ) (number : ℕ → ℕ) where
       go (Current.Asking op r) = tame_none u e.answers
       go (Current.Waiting op) = tame_none u e.answers
       go (Current.Writing op asked awaited reply) = tame_none u e.answers
-  tame_read f (Letter.Admit i puts kills) u e =
-      tame_none (read n a number f (Letter.Admit i puts kills) u)
-      (kill-answers kills (with_replica (admitted i puts) u) ∙ e.answers)
-  tame_read f (Letter.Welcome members pairs told kills) u e = go u.node.current
+  tame_read f (Letter.Admit i settled) u e =
+      tame_none (read n a number f (Letter.Admit i settled) u)
+      (kill-answers settled.fate.kills (with_replica (admitted i settled) u) ∙ e.answers)
+  tame_read f (Letter.Welcome members pairs told fate) u e = go u.node.current
     where
       v : Turn
-      v = kill n a kills (with_replica (welcomed members pairs told) u)
+      v = kill n a fate.kills (with_replica (welcomed members pairs told) u)
 
-      go : (c : Current) → Tame (welcome n a number f members pairs told kills c u)
+      go : (c : Current) → Tame (welcome n a number f members pairs told fate c u)
       go (Current.Joining k m) = ends (m == f)
         where
           ends : (b : Bool) → Tame (if b then send f Letter.Applied
               (reply_with a k Joined (at_work Current.Free v)) else u)
           ends true = tame_idle (send f Letter.Applied (reply_with a k Joined (at_work Current.Free v))) refl
-              (ap (list_any begins) (kill-entries kills (with_replica (welcomed members pairs told) u)) ∙ e.none)
+              (ap (list_any begins) (kill-entries fate.kills (with_replica (welcomed members pairs told) u)) ∙ e.none)
           ends false = tame_none u e.answers
       go Current.Free = tame_none u e.answers
       go (Current.Asking op r) = tame_none u e.answers
@@ -266,10 +267,10 @@ module _ (n a : ℕ) (number : ℕ → ℕ) where
     entries = refl;
   }) (tame_none u e.answers)
   tame_call k (Call.LookUp look) u e = tame_same u (call n a k (Call.LookUp look) u) (record {
-    yes = push_none is_yes u.answers (answer_to a 0 (seen_in u.node.replica.table look))
-        (seen_in-yes u.node.replica.table look);
+    yes = push_none is_yes u.answers (answer_to a 0 (seen_in u.node.replica look))
+        (seen_in-yes u.node.replica look);
     current = refl;
-    entries = push_none begins u.entries (Entry.Read a look (seen_in u.node.replica.table look)) refl;
+    entries = push_none begins u.entries (Entry.Read a look (seen_in u.node.replica look)) refl;
   }) (tame_none u e.answers)
   tame_call k (Call.OnName c) u e = tame_none (call n a k (Call.OnName c) u) e.answers
   tame_call k (Call.SetLock p r q target retries) u e =

@@ -6,7 +6,7 @@ use Rattle.std.specs.Prelude.{not, if◌then◌else◌}
 use Rattle.std.proofs.lemmas.Bool.{eq-eqb, eqb-true}
 use Rattle.std.proofs.lemmas.List.{append-nil, append_assoc}
 use Rattle.registry_model.specs.Process.{Text, Process, Nodes}
-use Rattle.registry_model.specs.Table.{Table, Put, changed, get, owns, put}
+use Rattle.registry_model.specs.Table.{Pair, Table, Put, changed, get, owns, put}
 use Rattle.registry_model.specs.Call.{Register, Yes, No, reply_to}
 use Rattle.registry_model.specs.Registry.{Registry, Replica, in_group, table_of, view, members, replica_of}
 use Rattle.registry_model.specs.History.{Entry, Name, Standing, standing_of, registry_of}
@@ -28,10 +28,10 @@ use Rattle.headline.proofs.Fields.{past_now}
 
 -- a `no` is never given to a free name and a free process
 pub no_to_the_taken : NoToTheTaken
-no_to_the_taken o es before later n k x p e free = go (members t.registry n) (view t.registry n) N.answer
-    (ap (λ (r : Registry). members r n p.node) same ∙ free.member)
-    (ap (λ (r : Registry). get x (view r n)) same ∙ free.name)
-    (ap (λ (r : Registry). owns p (view r n)) same ∙ free.owner)
+no_to_the_taken o es before later n k new e free = go (members t.registry n) (view t.registry n) N.answer
+    (ap (λ (r : Registry). members r n new.owner.node) same ∙ free.member)
+    (ap (λ (r : Registry). get new.name (view r n)) same ∙ free.name)
+    (ap (λ (r : Registry). owns new.owner (view r n)) same ∙ free.owner)
   where
     t : Standing
     t = standing_of (in_cluster o) before
@@ -39,20 +39,20 @@ no_to_the_taken o es before later n k x p e free = go (members t.registry n) (vi
     same : t.registry ≡ registry_of (in_cluster o) before
     same = registry-standing_of (in_cluster o) before
 
-    N : NameIsLegal t n (Register x p) No
-    N = name_is_legal t n (Register x p) No (is_legal-at (in_cluster o) before later (Name n k (Register x p) No)
+    N : NameIsLegal t n (Register new) No
+    N = name_is_legal t n (Register new) No (is_legal-at (in_cluster o) before later (Name n k (Register new) No)
         (subst (λ (h : List Entry). IsLegal (in_cluster o) h) e (history_is_legal o es)))
 
-    go : (m : Nodes) (v : Table) → No ≡ reply_to m v (Register x p) → m p.node ≡ true → get x v ≡ None
-        → owns p v ≡ false → ⊥
+    go : (m : Nodes) (v : Table) → No ≡ reply_to m v (Register new) → m new.owner.node ≡ true
+        → get new.name v ≡ None → owns new.owner v ≡ false → ⊥
     go m v a i j q =
-        let yes_then : reply_to m v (Register x p) ≡ Yes = rw (i, j, q) refl in
+        let yes_then : reply_to m v (Register new) ≡ Yes = rw (i, j, q) refl in
         cc (a, yes_then)
 
 -- a `yes` is given to the free only
 pub yes_to_the_free_only : YesToTheFreeOnly
-yes_to_the_free_only o es before later n k x p e = yes_law (in_cluster o) (world o es).history
-    (history_is_legal o es) before later n k x p e
+yes_to_the_free_only o es before later n k new e = yes_law (in_cluster o) (world o es).history
+    (history_is_legal o es) before later n k new e
 
 -- a name that is seen stands over these entries, or one of them takes it
 stands_along : (cluster : Nodes) (h : List Entry) → NamesStand cluster h
@@ -99,17 +99,17 @@ group_back r a c g = go (r.joined a) (r.joined c) refl refl g
     go false false i j g = eq-eqb a c (sym (eqb-true c a g))
 
 -- right behind the entry of a `yes` its group sees the name, but for those who were told that the owner's node left
-given_seen : (cluster : Nodes) (before : List Entry) (n k c : ℕ) (x : Text) (p : Process)
-    → in_group (registry_of cluster before) n c ≡ true → (registry_of cluster before).told c p.node ≡ false
-    → get x (view (registry_of cluster (before ++ Name n k (Register x p) Yes ∷ [])) c) ≡ Some p
-given_seen cluster before n k c x p g untold =
-    ap (λ (q : Registry). get x (view q c)) (registry_of-push cluster before (Name n k (Register x p) Yes))
-    ∙ ap (get x) (view-with_table n (changed (Put x p)) r c (group_back r n c g))
-    ∙ get-without (r.told c) (put x p (table_of r c))
-    (is_rising-changed (Put x p) (table_of r c) (is_rising-table_of r rises c)) x
+given_seen : (cluster : Nodes) (before : List Entry) (n k c : ℕ) (new : Pair)
+    → in_group (registry_of cluster before) n c ≡ true → (registry_of cluster before).told c new.owner.node ≡ false
+    → get new.name (view (registry_of cluster (before ++ Name n k (Register new) Yes ∷ [])) c) ≡ Some new.owner
+given_seen cluster before n k c new g untold =
+    ap (λ (q : Registry). get new.name (view q c)) (registry_of-push cluster before (Name n k (Register new) Yes))
+    ∙ ap (get new.name) (view-with_table n (changed (Put new)) r c (group_back r n c g))
+    ∙ get-without (r.told c) (put new (table_of r c))
+    (is_rising-changed (Put new) (table_of r c) (is_rising-table_of r rises c)) new.name
     ∙ ap (if_kept (λ q. not (r.told c q.node)))
-    (get-put x p (table_of r c) x ∙ ap (λ (b : Bool). if b then Some p else get x (table_of r c)) (eq-eqb x x refl))
-    ∙ ap (λ (b : Bool). if not b then Some p else None) untold
+    (get-put new (table_of r c) new.name ∙ ap (λ (b : Bool). if b then Some new.owner else get new.name (table_of r c)) (eq-eqb new.name new.name refl))
+    ∙ ap (λ (b : Bool). if not b then Some new.owner else None) untold
   where
     r : Registry
     r = registry_of cluster before
@@ -119,12 +119,12 @@ given_seen cluster before n k c x p g untold =
 
 -- the name stands, and running nodes find it, until it is taken
 pub yes_stands : YesStands
-yes_stands o es before later n k c x p e g untold r free =
+yes_stands o es before later n k c new e g untold r free =
     go (stands_along (in_cluster o) (world o es).history
-    (stand_law (in_cluster o) (world o es).history (history_is_legal o es)) c x p later
-    (before ++ Name n k (Register x p) Yes ∷ [])
-    (e ∙ sym (append_assoc before (Name n k (Register x p) Yes ∷ []) later))
-    (given_seen (in_cluster o) before n k c x p g untold))
+    (stand_law (in_cluster o) (world o es).history (history_is_legal o es)) c new.name new.owner later
+    (before ++ Name n k (Register new) Yes ∷ [])
+    (e ∙ sym (append_assoc before (Name n k (Register new) Yes ∷ []) later))
+    (given_seen (in_cluster o) before n k c new g untold))
   where
     same : standing_at o (world o es) ≡ so_far o es
     same = past_now o (events o es) (world o es) (whole o es) (told o es)
@@ -140,9 +140,9 @@ yes_stands o es before later n k c x p e g untold r free =
     shown = shows_when_free o es c running free ∙ ap (λ (t : Standing). replica_of t.registry c) (sym same)
         ∙ ap (λ (q : Registry). replica_of q c) (registry-standing_of (in_cluster o) (world o es).history)
 
-    go : (get x (view (registry_of (in_cluster o) (world o es).history) c) ≡ Some p)
-        ⊎ IsTaken (in_cluster o) (before ++ Name n k (Register x p) Yes ∷ []) later c x p
-        → (get x ((world o es).node c).replica.table ≡ Some p)
-        ⊎ IsTaken (in_cluster o) (before ++ Name n k (Register x p) Yes ∷ []) later c x p
-    go (inl s) = inl (ap (λ (v : Replica). get x v.table) shown ∙ s)
+    go : (get new.name (view (registry_of (in_cluster o) (world o es).history) c) ≡ Some new.owner)
+        ⊎ IsTaken (in_cluster o) (before ++ Name n k (Register new) Yes ∷ []) later c new.name new.owner
+        → (get new.name ((world o es).node c).replica.table ≡ Some new.owner)
+        ⊎ IsTaken (in_cluster o) (before ++ Name n k (Register new) Yes ∷ []) later c new.name new.owner
+    go (inl s) = inl (ap (λ (v : Replica). get new.name v.table) shown ∙ s)
     go (inr T) = inr T

@@ -255,11 +255,11 @@ in_flat {A} {B} f front rest x y c = subst (λ (l : List B). Contains l y) (sym 
 
 -- right behind a `yes` its group finds the process
 pub yes_is_found : YesIsFound
-yes_is_found o es before p s call x q split c y calls gives n runs group untold =
-    ap (λ (v : Replica). get x v.table) shown
-    ∙ seen-get (now.registry.told n) (table_of now.registry n) (is_rising-table_of now.registry rises n) x q
-    (ap (get x) (table_of-group now.registry s.node n group) ∙ given)
-    (ap (λ (v : Replica). v.told q.node) (sym shown) ∙ untold)
+yes_is_found o es before p s call new split c y calls gives n runs group untold =
+    ap (λ (v : Replica). get new.name v.table) shown
+    ∙ seen-get (now.registry.told n) (table_of now.registry n) (is_rising-table_of now.registry rises n) new.name new.owner
+    (ap (get new.name) (table_of-group now.registry s.node n group) ∙ given)
+    (ap (λ (v : Replica). v.told new.owner.node) (sym shown) ∙ untold)
   where
     cluster : Nodes
     cluster = in_cluster o
@@ -336,39 +336,39 @@ yes_is_found o es before p s call x q split c y calls gives n runs group untold 
             (sym (eq-eqb s.node s.node refl))
             (Contains-front (NameAs s.number Y.call) [])
 
-    puts : change_of Y.call ≡ Put x q
+    puts : change_of Y.call ≡ Put new
     puts = ap change_of (one_call 1 (flat_map (calls_in s.node) (events o es)) s.number Y.call call asked calls) ∙ gives
 
     -- its entry puts the name
     begun : Standing
     begun = standing_of cluster (L.before ++ e ∷ [])
 
-    put_then : get x (table_of (after (standing_of cluster L.before) e).registry s.node) ≡ Some q
+    put_then : get new.name (table_of (after (standing_of cluster L.before) e).registry s.node) ≡ Some new.owner
     put_then =
         let r : Registry = (standing_of cluster L.before).registry in
-        ap (λ (g : Registry). get x (table_of g s.node)) (registry-after (standing_of cluster L.before) e)
-        ∙ ap (get x) (table_of-with_table s.node (changed (change_of Y.call)) r s.node (in_group-itself r s.node))
-        ∙ ap (λ (d : Change). get x (changed d (table_of r s.node))) puts
-        ∙ get-put x q (table_of r s.node) x ∙ ap (λ (b : Bool). if b then Some q else get x (table_of r s.node))
-        (eq-eqb x x refl)
+        ap (λ (g : Registry). get new.name (table_of g s.node)) (registry-after (standing_of cluster L.before) e)
+        ∙ ap (get new.name) (table_of-with_table s.node (changed (change_of Y.call)) r s.node (in_group-itself r s.node))
+        ∙ ap (λ (d : Change). get new.name (changed d (table_of r s.node))) puts
+        ∙ get-put new (table_of r s.node) new.name ∙ ap (λ (b : Bool). if b then Some new.owner else get new.name (table_of r s.node))
+        (eq-eqb new.name new.name refl)
 
     -- it stays while it holds
-    held_then : get x (table_of (fold after (after (standing_of cluster L.before) e) L.later).registry s.node) ≡ Some q
-    held_then = name_held L.later (after (standing_of cluster L.before) e) e s.node x (Some q)
+    held_then : get new.name (table_of (fold after (after (standing_of cluster L.before) e) L.later).registry s.node) ≡ Some new.owner
+    held_then = name_held L.later (after (standing_of cluster L.before) e) e s.node new.name (Some new.owner)
         (IsHeld-begun (standing_of cluster L.before) e s.node refl)
         (both (is_legal (standing_of cluster L.before) e) (all_legal (after (standing_of cluster L.before) e) L.later)
         (all_legal-append (nothing_yet cluster) L.before (e ∷ L.later) legal).1).1
         (λ d. L.not_done (subst (λ (a : ℕ). Contains L.later (Done a)) (sym holder) d)) put_then
 
-    at_done : get x (table_of u.registry s.node) ≡ Some q
-    at_done = ap (λ (v : Standing). get x (table_of v.registry s.node))
+    at_done : get new.name (table_of u.registry s.node) ≡ Some new.owner
+    at_done = ap (λ (v : Standing). get new.name (table_of v.registry s.node))
         (sym same ∙ ap (standing_of cluster) parts ∙ standing_of-append cluster L.before (e ∷ L.later))
         ∙ held_then
 
     -- and to the end of the step
-    given : get x (table_of now.registry s.node) ≡ Some q
-    given = ap (λ (v : Standing). get x (table_of v.registry s.node)) last
-        ∙ name_calm (D.entry ∷ D.rest) u s.node x (Some q) calm at_done
+    given : get new.name (table_of now.registry s.node) ≡ Some new.owner
+    given = ap (λ (v : Standing). get new.name (table_of v.registry s.node)) last
+        ∙ name_calm (D.entry ∷ D.rest) u s.node new.name (Some new.owner) calm at_done
       where
         last : now ≡ fold after u (D.entry ∷ D.rest)
         last = ap (standing o) split ∙ ap (standing_of cluster)

@@ -61,9 +61,9 @@ Contains-filter {X} test (y ∷ xs) x c = go (test y) c (Contains-filter test xs
 -- a welcome is a letter that carries an operation out
 welcome_carried : (ls : List Letter) → returns ls ≡ true ∷ [] → count_of carries (mine ls) ≡ 0 → ⊥
 welcome_carried [] e z = cc
-welcome_carried (Letter.Welcome members pairs told kills ∷ ls) e z = absurd (omega (arith, z))
+welcome_carried (Letter.Welcome members pairs told fate ∷ ls) e z = absurd (omega (arith, z))
 welcome_carried (Letter.Apply change ∷ ls) e z = absurd (omega (arith, z))
-welcome_carried (Letter.Admit j puts kills ∷ ls) e z = absurd (omega (arith, z))
+welcome_carried (Letter.Admit j settled ∷ ls) e z = absurd (omega (arith, z))
 welcome_carried (Letter.JoinRefused ∷ ls) e z = cc
 welcome_carried (Letter.Applied ∷ ls) e z = welcome_carried ls e (omega (arith, z))
 welcome_carried (Letter.SetLock id p ∷ ls) e z = welcome_carried ls e z

@@ -59,7 +59,7 @@ module _ (o : Opening) (a : ℕ) where
   none_made w (Rules.CountsDown d op asked awaited reply) m h = refl
   none_made w (Rules.Finishes op asked awaited reply) m h = refl
   none_made w (Rules.EndsJoin f k) m h = refl
-  none_made w (Rules.IsWelcomed f k members pairs told kills) m h = refl
+  none_made w (Rules.IsWelcomed f k members pairs told fate) m h = refl
   none_made w (Rules.LosesContact k j) m h = refl
   none_made w (Rules.Judges f id p) m h = ap asks_join
       (same_judge o.bound a f (join_number w) id p (is_free_for id p (w.node a).locks) (w.node a)).current ∙ h

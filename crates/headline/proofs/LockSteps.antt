@@ -96,7 +96,7 @@ module _ (o : Opening) (a : ℕ) (w : World) (calls : List Call) (xs : List Answ
   by_rule : (r : Rule) → suits Hearing r ≡ true → Rules.May o a w r
       → Behind (Rules.turn_by o a w r).node.calls (answered a r (w.node a))
   by_rule Rules.Spawns h m = stays _ (aside_zero a (Pid _))
-  by_rule (Rules.LooksUp look) h m = stays _ (aside_zero a (seen_in (w.node a).replica.table look))
+  by_rule (Rules.LooksUp look) h m = stays _ (aside_zero a (seen_in (w.node a).replica look))
   by_rule (Rules.Exits p) h m = drops p
   by_rule (Rules.Kills f l p receivers) h m = drops p
   by_rule (Rules.SkipsJoin k n ops) h m = stays _ (aside_word a k ContactLeft refl)
@@ -115,7 +115,7 @@ module _ (o : Opening) (a : ℕ) (w : World) (calls : List Call) (xs : List Answ
       words (Op.Join k n) reply W = aside_none a
       words (Op.Admission j pairs) reply W = aside_none a
   by_rule (Rules.EndsJoin f k) h m = stays _ (aside_word a k NotMember refl)
-  by_rule (Rules.IsWelcomed f k members pairs told kills) h m = stays _ (aside_word a k Joined refl)
+  by_rule (Rules.IsWelcomed f k members pairs told fate) h m = stays _ (aside_word a k Joined refl)
   by_rule (Rules.LosesContact k n) h m = stays _ (aside_word a k ContactLeft refl)
   by_rule (Rules.HearsAnswer f id granted op r) h m = subst (λ (cs : List LockCall). Behind cs [])
       (sym (same_ask_rest o.bound a f granted (Letter.SetLock (Global a) (registrar a)) r (w.node a)).calls)

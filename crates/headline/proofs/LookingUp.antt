@@ -29,9 +29,9 @@ takes_look_up o w a look up = go (in_world o a) (left w a) up.0 up.1
 -- it answers it from its table
 reads : (o : Opening) (w : World) (a : ℕ) (look : Look) → Rested w → IsUp o w a
     → answers o w (At a (Event.Calling (Call.LookUp look)))
-    ≡ answer_to a 0 (seen_in (w.node a).replica.table look) ∷ []
+    ≡ answer_to a 0 (seen_in (w.node a).replica look) ∷ []
 reads o w a look rested up = answers_given o w (At a (Event.Calling (Call.LookUp look))) (takes_look_up o w a look up)
-    ∙ looked-answers o.bound a look (seen_in (w.node a).replica.table look) (w.node a) (rested a up.1)
+    ∙ looked-answers o.bound a look (seen_in (w.node a).replica look) (w.node a) (rested a up.1)
 
 -- so it is at each node that runs by the history
 pub look_ups_read_the_table : LookUpsReadTheTable

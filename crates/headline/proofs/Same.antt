@@ -62,8 +62,8 @@ replica n v = and_from _ _ (and_from _ _ (and_from _ _ (list is_pair pair v.tabl
     (nodes n v.members v.members (λ c. refl))) (nodes n v.told v.told (λ c. refl))) (truth v.joined)
 
 pub call : (c : NameCall) → is_call c c ≡ true
-call (NameCall.Register x p) = and_from _ _ (number x) (is_process-same p)
-call (NameCall.ReRegister x p) = and_from _ _ (number x) (is_process-same p)
+call (NameCall.Register f) = pair f
+call (NameCall.ReRegister f) = pair f
 call (NameCall.Unregister x) = number x
 
 pub numbered_call : (c : Numbered) → is_numbered_call c c ≡ true

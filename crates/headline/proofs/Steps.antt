@@ -60,7 +60,7 @@ rule_says : (o : Opening) (a : ℕ) (w : World) (r : Rule) → Rules.May o a w r
     → Says a (is_writing (w.node a).current) (Rules.turn_by o a w r)
 rule_says o a w (Rules.LooksUp look) m = record {
   nodes = refl;
-  yes = λ h. cc (h, ap (λ (b : Bool). b || false) (seen_in-yes (w.node a).replica.table look));
+  yes = λ h. cc (h, ap (λ (b : Bool). b || false) (seen_in-yes (w.node a).replica look));
 }
 rule_says o a w (Rules.Denies k call r) m = record {
   nodes = refl;

@@ -58,12 +58,8 @@ pub table : (t u : Table) → is_table t u ≡ true → t ≡ u
 table t u e = list is_pair pair t u e
 
 pub call : (c d : NameCall) → is_call c d ≡ true → c ≡ d
-call (NameCall.Register x p) (NameCall.Register y q) e =
-    let parts : ((x == y) ≡ true) × (is_process p q ≡ true) = and_parts _ _ e in
-    ap₂ NameCall.Register (number x y parts.0) (is_process-true p q parts.1)
-call (NameCall.ReRegister x p) (NameCall.ReRegister y q) e =
-    let parts : ((x == y) ≡ true) × (is_process p q ≡ true) = and_parts _ _ e in
-    ap₂ NameCall.ReRegister (number x y parts.0) (is_process-true p q parts.1)
+call (NameCall.Register f) (NameCall.Register g) e = ap NameCall.Register (pair f g e)
+call (NameCall.ReRegister f) (NameCall.ReRegister g) e = ap NameCall.ReRegister (pair f g e)
 call (NameCall.Unregister x) (NameCall.Unregister y) e = ap NameCall.Unregister (number x y e)
 call _ _ e = cc
 

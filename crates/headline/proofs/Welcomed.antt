@@ -4,11 +4,12 @@ use Rattle.std.specs.Prelude.{◌&&◌, not, if◌then◌else◌, drop, Contains
 use Rattle.std.specs.List.{list_any}
 use Rattle.std.proofs.lemmas.Bool.{ne_eqb, eq-eqb, and_from}
 use Rattle.std.proofs.lemmas.List.Elements.{Contains-append_cases, All-from_recursion, All-contains}
-use Rattle.registry_model.specs.Process.{Process, Nodes}
+use Rattle.registry_model.specs.Process.{Nodes}
 use Rattle.registry_model.specs.Table.{Table}
 use Rattle.registry_model.specs.Registry.{replica_of}
 use Rattle.registry_model.specs.Call.{Joined}
 use Rattle.registry_model.specs.History.{Entry, hold_at, standing_of}
+use Rattle.registry_model.specs.Settlement.{Fate}
 use Rattle.registry_model.proofs.Lists.{Contains-nil}
 use Rattle.registry_model.proofs.Updates.{at_same}
 use Rattle.protocol_model.specs.Letter.{Letter}
@@ -108,19 +109,19 @@ module _ (o : Opening) (a : ℕ) where
   }
 
   -- a reads the welcome
-  module _ (w : World) (f k : ℕ) (members : Nodes) (pairs : Table) (told : Nodes) (kills : List Process) (W : Whole o w)
-      (V : Whole o (Rules.effect o a (Rules.IsWelcomed f k members pairs told kills) w))
-      (M : Rules.May o a w (Rules.IsWelcomed f k members pairs told kills)) where
+  module _ (w : World) (f k : ℕ) (members : Nodes) (pairs : Table) (told : Nodes) (fate : Fate) (W : Whole o w)
+      (V : Whole o (Rules.effect o a (Rules.IsWelcomed f k members pairs told fate) w))
+      (M : Rules.May o a w (Rules.IsWelcomed f k members pairs told fate)) where
     -- the rule
     abbrev reads : Rule
-    reads = Rules.IsWelcomed f k members pairs told kills
+    reads = Rules.IsWelcomed f k members pairs told fate
 
     R : Replicas o w
     R = replicas o w W.kept
 
     -- its admission holds
     holds : (f ≡ a → ⊥) × Admitted (standing_at o w) a k f
-    holds = welcome_holds o a w f k members pairs told kills W.kept.joins.gate R W.kept.joins.gates M
+    holds = welcome_holds o a w f k members pairs told fate W.kept.joins.gate R W.kept.joins.gates M
 
     -- f awaits a once, so it is the only letter that carries an operation out
     last : list_any carries (mine M.front.1.0) ≡ false
@@ -131,7 +132,7 @@ module _ (o : Opening) (a : ℕ) where
         (W.kept.known.kept.sessions f a
         (R.writers f (sym (R.holds f) ∙ admitted_holds (standing_at o w) a k f holds.1)) (M.inside, M.running))))
       where
-        only : (b : Bool) → count_of carries (mine (Letter.Welcome members pairs told kills ∷ M.front.1.0))
+        only : (b : Bool) → count_of carries (mine (Letter.Welcome members pairs told fate ∷ M.front.1.0))
             + count_of is_applied (mine (w.links.queue a f)) ≡ one_if b → count_of carries (mine M.front.1.0) ≡ 0
         only true e = omega (arith, e)
         only false e = absurd (omega (arith, e))
@@ -180,8 +181,8 @@ module _ (o : Opening) (w : World) (e : WorldEvent) (W : Whole o w) (V : Whole o
               (All-from_recursion (IsOfWelcome a r) (answered a r (x.node a))
               (of_welcome o a x r (replicas o x X.kept) m))
 
-          here : (f : ℕ) × (k : ℕ) × (members : Nodes) × (pairs : Table) × (told : Nodes) × (kills : List Process)
-              × (r ≡ Rules.IsWelcomed f k members pairs told kills) × (s ≡ answer_to a k Joined)
+          here : (f : ℕ) × (k : ℕ) × (members : Nodes) × (pairs : Table) × (told : Nodes) × (fate : Fate)
+              × (r ≡ Rules.IsWelcomed f k members pairs told fate) × (s ≡ answer_to a k Joined)
               → Entered o a (Rules.effect o a r x)
           here h = subst (λ (q : Rule). Entered o a (Rules.effect o a q x)) (sym h.6)
               (entered_opens o a x h.0 h.1 h.2 h.3 h.4 h.5 X

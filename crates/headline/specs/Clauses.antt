@@ -66,7 +66,7 @@ EachLookUpOnce = (o : Opening) (es : List WorldEvent) (p : Played) → Contains 
 abbrev pub LookUpsReadTheTable : Type 0
 LookUpsReadTheTable = (o : Opening) (es : List WorldEvent) (a : ℕ) (look : Look) → IsRunning o (so_far o es) a →
     filter is_unnumbered ((now o es).answers (At a (Event.Calling (Call.LookUp look))))
-    ≡ answer_to a 0 (seen_in ((now o es).node a).table look) ∷ []
+    ≡ answer_to a 0 (seen_in ((now o es).node a) look) ∷ []
 
 -- a `spawn` gives the next process
 abbrev pub SpawnsGiveTheNext : Type 0

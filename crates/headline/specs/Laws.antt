@@ -3,7 +3,7 @@ use mathlib.Core.Logic.{◌⊎◌}
 use Rattle.std.specs.Prelude.{ℕ, Bool, true, false, ◌≡◌, IsTrue, Contains, Some, None, List, [], ◌∷◌, ◌++◌}
 use Rattle.std.specs.List.{list_all}
 use Rattle.registry_model.specs.Process.{Text, Process, Nodes, nobody}
-use Rattle.registry_model.specs.Table.{Put, get}
+use Rattle.registry_model.specs.Table.{Pair, Put, get}
 use Rattle.registry_model.specs.Call.{NameCall, Register, Yes, No, change_of}
 use Rattle.registry_model.specs.Registry.{in_group}
 use Rattle.registry_model.specs.History.{Entry, Name, is_free, registry_of}
@@ -48,15 +48,15 @@ JoinedAgree = (o : Opening) (es : List WorldEvent) (a b : ℕ) → RunsJoined o 
 -- A `no` to `register` is never given to a free name and a free process of a member: who is refused so saw the name or the
 -- process taken
 abbrev pub NoToTheTaken : Type 0
-NoToTheTaken = (o : Opening) (es : List WorldEvent) (before later : List Entry) (n k : ℕ) (x : Text) (p : Process) →
-    (now o es).history ≡ before ++ Name n k (Register x p) No ∷ later
-    → IsFreeFor (registry_of (in_cluster o) before) n x p → ⊥
+NoToTheTaken = (o : Opening) (es : List WorldEvent) (before later : List Entry) (n k : ℕ) (new : Pair) →
+    (now o es).history ≡ before ++ Name n k (Register new) No ∷ later
+    → IsFreeFor (registry_of (in_cluster o) before) n new → ⊥
 
 -- A `yes` to `register` is only given to a free name and a free process of a member
 abbrev pub YesToTheFreeOnly : Type 0
-YesToTheFreeOnly = (o : Opening) (es : List WorldEvent) (before later : List Entry) (n k : ℕ) (x : Text) (p : Process) →
-    (now o es).history ≡ before ++ Name n k (Register x p) Yes ∷ later
-    → IsFreeFor (registry_of (in_cluster o) before) n x p
+YesToTheFreeOnly = (o : Opening) (es : List WorldEvent) (before later : List Entry) (n k : ℕ) (new : Pair) →
+    (now o es).history ≡ before ++ Name n k (Register new) Yes ∷ later
+    → IsFreeFor (registry_of (in_cluster o) before) n new
 
 -- some entry of these takes the name x from p, as n sees it
 pub record IsTaken (cluster : Nodes) (before later : List Entry) (n : ℕ) (x : Text) (p : Process) : Type 0 where
@@ -69,23 +69,24 @@ pub record IsTaken (cluster : Nodes) (before later : List Entry) (n : ℕ) (x : 
 -- After a `yes` to `register` every running node of the group, that wasn't told that the owner's node left, finds the
 -- owner whenever no operation of its group holds, until an entry takes the name
 abbrev pub YesStands : Type 0
-YesStands = (o : Opening) (es : List WorldEvent) (before later : List Entry) (n k c : ℕ) (x : Text) (p : Process) →
-    (now o es).history ≡ before ++ Name n k (Register x p) Yes ∷ later
+YesStands = (o : Opening) (es : List WorldEvent) (before later : List Entry) (n k c : ℕ) (new : Pair) →
+    (now o es).history ≡ before ++ Name n k (Register new) Yes ∷ later
     → in_group (registry_of (in_cluster o) before) n c ≡ true →
-    (registry_of (in_cluster o) before).told c p.node ≡ false → Runs o (world o es) c
+    (registry_of (in_cluster o) before).told c new.owner.node ≡ false → Runs o (world o es) c
     → IsTrue (is_free (so_far o es) c) →
-    (get x ((world o es).node c).replica.table ≡ Some p)
-    ⊎ IsTaken (in_cluster o) (before ++ Name n k (Register x p) Yes ∷ []) later c x p
+    (get new.name ((world o es).node c).replica.table ≡ Some new.owner)
+    ⊎ IsTaken (in_cluster o) (before ++ Name n k (Register new) Yes ∷ []) later c new.name new.owner
 
--- When a call that gives the name x to q is answered `yes`, every running node of the group finds q at once, but for
--- those that were told that q's node left
+-- When a call that gives a name to a process is answered `yes`, every running node of the group finds it at once, but
+-- for those that were told that the process's node left
 abbrev pub YesIsFound : Type 0
 YesIsFound = (o : Opening) (es : List WorldEvent) (before : List Played) (p : Played) (s : Answer) (call : NameCall)
-    (x : Text) (q : Process) →
+    (new : Pair) →
     events o es ≡ before ++ p ∷ [] → Contains p.answers s → s.reply ≡ Yes →
-    Contains (accepted_at s.node (events o es)) (NameAs s.number call) → change_of call ≡ Put x q →
+    Contains (accepted_at s.node (events o es)) (NameAs s.number call) → change_of call ≡ Put new →
     (c : ℕ) → Runs o (world o es) c → in_group (so_far o es).registry s.node c ≡ true →
-    ((world o es).node c).replica.told q.node ≡ false → get x ((world o es).node c).replica.table ≡ Some q
+    ((world o es).node c).replica.told new.owner.node ≡ false →
+    get new.name ((world o es).node c).replica.table ≡ Some new.owner
 
 -- a refused event answers nothing and leaves the world and the course as they were
 pub record ChangesNothing (o : Opening) (w : World) (e : WorldEvent) : Type 0 where

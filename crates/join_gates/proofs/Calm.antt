@@ -7,6 +7,7 @@ use Rattle.registry_model.specs.Table.{Table, Put, StrikeOwner}
 use Rattle.registry_model.specs.Call.{Reply, change_of}
 use Rattle.registry_model.specs.Registry.{Replica}
 use Rattle.registry_model.specs.History.{Entry}
+use Rattle.registry_model.specs.Settlement.{Settled}
 use Rattle.protocol_model.specs.Round.{Round, opens, rest, asked, answer}
 use Rattle.protocol_model.specs.Letter.{Letter, Global}
 use Rattle.protocol_model.specs.LockTable.{is_free_for}
@@ -35,7 +36,7 @@ abbrev pub takes_token : Rules.Rule → Bool
 takes_token (Rules.QueuesJoin f pairs) = true
 takes_token (Rules.RefusesJoin f pairs) = true
 takes_token (Rules.EndsJoin f k) = true
-takes_token (Rules.IsWelcomed f k members pairs told kills) = true
+takes_token (Rules.IsWelcomed f k members pairs told fate) = true
 takes_token (Rules.Ignores f l) = true
 takes_token (Rules.Drops f l) = true
 takes_token _ = false
@@ -47,7 +48,7 @@ turns_node (Rules.QueuesJoin f pairs) = true
 turns_node (Rules.Admits j pairs r) = true
 turns_node (Rules.Passes j pairs r) = true
 turns_node (Rules.EndsJoin f k) = true
-turns_node (Rules.IsWelcomed f k members pairs told kills) = true
+turns_node (Rules.IsWelcomed f k members pairs told fate) = true
 turns_node (Rules.IsTold f) = true
 turns_node (Rules.LosesContact k m) = true
 turns_node _ = false
@@ -119,7 +120,7 @@ pub takes_plain : (o : Opening) (a : ℕ) (r : Rules.Rule) → takes_token r ≡
 takes_plain o a (Rules.QueuesJoin f pairs) e = cc
 takes_plain o a (Rules.RefusesJoin f pairs) e = cc
 takes_plain o a (Rules.EndsJoin f k) e = cc
-takes_plain o a (Rules.IsWelcomed f k members pairs told kills) e = cc
+takes_plain o a (Rules.IsWelcomed f k members pairs told fate) e = cc
 takes_plain o a (Rules.Ignores f l) e = cc
 takes_plain o a (Rules.Drops f l) e = cc
 takes_plain o a _ e = refl
@@ -185,17 +186,17 @@ once_tail b c d op ops e O = record {
   queue = tail_one op ops O.queue;
 }
 
-along : (puts : Table) (v : Replica) → ((fold (λ x e. wrote (Put e.name e.owner) x) v puts).joined ≡ v.joined)
-    × ((fold (λ x e. wrote (Put e.name e.owner) x) v puts).told ≡ v.told)
+along : (puts : Table) (v : Replica) → ((fold (λ x e. wrote (Put e) x) v puts).joined ≡ v.joined)
+    × ((fold (λ x e. wrote (Put e) x) v puts).told ≡ v.told)
 along [] v = (refl, refl)
-along (e ∷ puts) v = along puts (wrote (Put e.name e.owner) v)
+along (e ∷ puts) v = along puts (wrote (Put e) v)
 
 -- an admission leaves who is joined and who was told
-pub admitted-same : (j : ℕ) (puts : Table) (v : Replica)
-    → ((admitted j puts v).joined ≡ v.joined) × ((admitted j puts v).told ≡ v.told)
-admitted-same j puts v = (
-  (along puts (with_member j v)).0 ∙ (member (v.told j)).0,
-  (along puts (with_member j v)).1 ∙ (member (v.told j)).1,
+pub admitted-same : (j : ℕ) (settled : Settled) (v : Replica)
+    → ((admitted j settled v).joined ≡ v.joined) × ((admitted j settled v).told ≡ v.told)
+admitted-same j settled v = (
+  (along settled.puts (with_member j v)).0 ∙ (member (v.told j)).0,
+  (along settled.puts (with_member j v)).1 ∙ (member (v.told j)).1,
 )
   where
     member : (b : Bool) → ((if b then v else record v { members = at v.members j true }).joined ≡ v.joined)
@@ -216,7 +217,7 @@ quietly o a w (Rules.QueuesJoin f pairs) e M = cc
 quietly o a w (Rules.Admits j pairs r) e M = cc
 quietly o a w (Rules.Passes j pairs r) e M = cc
 quietly o a w (Rules.EndsJoin f k) e M = cc
-quietly o a w (Rules.IsWelcomed f k members pairs told kills) e M = cc
+quietly o a w (Rules.IsWelcomed f k members pairs told fate) e M = cc
 quietly o a w (Rules.IsTold f) e M = cc
 quietly o a w (Rules.LosesContact k m) e M = cc
 quietly o a w (Rules.CallsName call) e M = record {
@@ -328,9 +329,9 @@ quietly o a w (Rules.Finishes op them awaited reply) e M =
 
     same : (answer_op o.bound a op reply (enter (Entry.Done a) (begun v))).node ≡ v
     same = node-answer_op o.bound a op reply (enter (Entry.Done a) (begun v))
-quietly o a w (Rules.IsAdmitted f j puts kills) e M =
-    quiet_same (w.node a) _ refl refl (admitted-same j puts (w.node a).replica).0
-    (admitted-same j puts (w.node a).replica).1
+quietly o a w (Rules.IsAdmitted f j settled) e M =
+    quiet_same (w.node a) _ refl refl (admitted-same j settled (w.node a).replica).0
+    (admitted-same j settled (w.node a).replica).1
 quietly o a w (Rules.Judges f id p) e M = quiet-if (is_free_for id p (w.node a).locks) (w.node a) _ (begun (w.node a))
     (quiet_same (w.node a) _ refl refl refl refl) (quiet_same (w.node a) _ refl refl refl refl)
 quietly o a w (Rules.TakesBack f id p ack) e M = quiet-if ack (w.node a) _ _

@@ -29,7 +29,7 @@ ignores o a w gate f Letter.JoinRefused R2 M G =
     = at_refusal (returns M.front.1.0) (gate a f) (sym (ap returns M.front.1.1) ∙ G.back a f M.running) in
     let waits : (k : ℕ) × (current o w a ≡ Current.Joining k f) = (G.facts a f).fit (ap is_away here.0) in
     absurd (cc (sym M.tested.1 ∙ ap (Rules.is_joining_by f) waits.1 ∙ eq-eqb f f refl))
-ignores o a w gate f (Letter.Welcome members pairs told kills) R2 M G =
+ignores o a w gate f (Letter.Welcome members pairs told fate) R2 M G =
     let here : (gate a f ≡ Entering) × (returns M.front.1.0 ≡ [])
     = at_welcome (returns M.front.1.0) (gate a f) (sym (ap returns M.front.1.1) ∙ G.back a f M.running) in
     let waits : (k : ℕ) × (current o w a ≡ Current.Joining k f) = (G.facts a f).fit (ap is_away here.0) in
@@ -84,7 +84,7 @@ letter_drops o a w gate f (Letter.JoinAsk p) P R R2 M G =
 letter_drops o a w gate f Letter.JoinRefused P R R2 M G =
     absurd (cc (sym (ap returns M.front.1.1) ∙ G.back a f M.running
     ∙ no_answer o w gate a f P R M.running M.tested.0 G))
-letter_drops o a w gate f (Letter.Welcome members pairs told kills) P R R2 M G =
+letter_drops o a w gate f (Letter.Welcome members pairs told fate) P R R2 M G =
     absurd (cc (sym (ap returns M.front.1.1) ∙ G.back a f M.running
     ∙ no_answer o w gate a f P R M.running M.tested.0 G))
 letter_drops o a w gate f l P R R2 M G = calm_turn o a w (Rules.turn_by o a w (Rules.Drops f l)) gate

@@ -25,7 +25,7 @@ gate_by o a w (Rules.RefusesJoin f pairs) gate = at_pair gate f a Turned
 gate_by o a w (Rules.Admits j pairs r) gate = at_pair gate j a Entering
 gate_by o a w (Rules.Passes j pairs r) gate = at_pair gate j a Away
 gate_by o a w (Rules.EndsJoin f k) gate = at_pair gate a f Away
-gate_by o a w (Rules.IsWelcomed f k members pairs told kills) gate = at_pair gate a f Away
+gate_by o a w (Rules.IsWelcomed f k members pairs told fate) gate = at_pair gate a f Away
 gate_by o a w (Rules.LosesContact k m) gate = at_pair gate a m Away
 gate_by o a w (Rules.Drops f l) gate = gate_dropped a f l gate
 gate_by o a w _ gate = gate
@@ -51,8 +51,8 @@ gates_keep o a w (Rules.RefusesJoin f pairs) gate P R R2 own O M G = refuses_joi
 gates_keep o a w (Rules.Admits j pairs r) gate P R R2 own O M G = admits o a w gate j pairs r R2 M G
 gates_keep o a w (Rules.Passes j pairs r) gate P R R2 own O M G = passes o a w gate j pairs r R2 M G
 gates_keep o a w (Rules.EndsJoin f k) gate P R R2 own O M G = ends_join o a w gate f k R2 M G
-gates_keep o a w (Rules.IsWelcomed f k members pairs told kills) gate P R R2 own O M G =
-    is_welcomed o a w gate f k members pairs told kills R2 M G
+gates_keep o a w (Rules.IsWelcomed f k members pairs told fate) gate P R R2 own O M G =
+    is_welcomed o a w gate f k members pairs told fate R2 M G
 gates_keep o a w (Rules.LosesContact k m) gate P R R2 own O M G = loses_contact o a w gate k m P R R2 M G
 gates_keep o a w (Rules.Ignores f l) gate P R R2 own O M G = ignores o a w gate f l R2 M G
 gates_keep o a w (Rules.Drops f l) gate P R R2 own O M G = letter_drops o a w gate f l P R R2 M G
@@ -92,7 +92,7 @@ turn_once o a w (Rules.EndsJoin f k) M O = once_work (w.node a).replica.joined (
     (w.node a).queue refl O
 turn_once o a w (Rules.LosesContact k m) M O =
     once_work (w.node a).replica.joined (w.node a).current _ (w.node a).queue refl O
-turn_once o a w (Rules.IsWelcomed f k members pairs told kills) M O = record {
+turn_once o a w (Rules.IsWelcomed f k members pairs told fate) M O = record {
   joined = λ h. (refl, O.waits (ap is_joining M.tested.1));
   waits = λ h. cc;
   queue = O.queue;
@@ -135,7 +135,7 @@ joins_opens o = record {
 each_shows : (W : Type 0) (ls : List Letter) → ((b c : List Bool) → returns ls ≡ b ++ true ∷ c → W)
     → Each (λ l. is_welcome l ≡ true → W) ls
 each_shows W [] x = tt
-each_shows W (Letter.Welcome members pairs told kills ∷ ls) x =
+each_shows W (Letter.Welcome members pairs told fate ∷ ls) x =
     (λ e. x [] (returns ls) refl, each_shows W ls (λ b c e. x (true ∷ b) c (ap (λ (l : List Bool). true ∷ l) e)))
 each_shows W (Letter.JoinRefused ∷ ls) x = (
   λ e. cc,

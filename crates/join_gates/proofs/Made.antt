@@ -18,7 +18,7 @@ use Rattle.moves.proofs.Rules
 
 -- what a rule enters, at node a, which is v before it
 abbrev pub entered : ℕ → (ℕ → ℕ) → Rules.Rule → Node → List Entry
-entered a number (Rules.LooksUp look) v = Entry.Read a look (seen_in v.replica.table look) ∷ []
+entered a number (Rules.LooksUp look) v = Entry.Read a look (seen_in v.replica look) ∷ []
 entered a number (Rules.Exits p) v = Entry.Exit p ∷ []
 entered a number (Rules.SkipsJoin k m ops) v = Entry.Join a k m ContactLeft ∷ []
 entered a number (Rules.Grants k call r) v = Entry.Name a k call
@@ -42,12 +42,12 @@ answer_of a _ _ = []
 -- what a rule answers
 abbrev pub answered : ℕ → Rules.Rule → Node → List Answer
 answered a Rules.Spawns v = answer_to a 0 (Pid (record { node = a; serial = next_serial v.watch })) ∷ []
-answered a (Rules.LooksUp look) v = answer_to a 0 (seen_in v.replica.table look) ∷ []
+answered a (Rules.LooksUp look) v = answer_to a 0 (seen_in v.replica look) ∷ []
 answered a (Rules.SkipsJoin k m ops) v = answer_to a k ContactLeft ∷ []
 answered a (Rules.Denies k call r) v = answer_to a k (reply_to v.replica.members v.replica.table call) ∷ []
 answered a (Rules.Finishes op asked awaited reply) v = answer_of a op reply
 answered a (Rules.EndsJoin f k) v = answer_to a k NotMember ∷ []
-answered a (Rules.IsWelcomed f k members pairs told kills) v = answer_to a k Joined ∷ []
+answered a (Rules.IsWelcomed f k members pairs told fate) v = answer_to a k Joined ∷ []
 answered a (Rules.LosesContact k m) v = answer_to a k ContactLeft ∷ []
 answered a (Rules.FailsLock c) v = answer_to a c.number False ∷ []
 answered a (Rules.WinsLock c r) v = answer_to a c.number True ∷ []

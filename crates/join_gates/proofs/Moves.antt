@@ -3,10 +3,10 @@ use Rattle.std.proofs.Common.{ℕ, Bool, true, false, ◌≡◌, ◌==◌, List,
 use Rattle.std.specs.Prelude.{◌||◌, if◌then◌else◌, fold}
 use Rattle.std.proofs.lemmas.Bool.{eq-eqb, ne_eqb}
 use Rattle.std.proofs.lemmas.List.{append-nil, append_assoc}
-use Rattle.registry_model.specs.Process.{Process, Nodes, nodes_of, at}
+use Rattle.registry_model.specs.Process.{Nodes, nodes_of, at}
 use Rattle.registry_model.specs.Table.{Table, put_all}
 use Rattle.registry_model.specs.Call.{Joined}
-use Rattle.registry_model.specs.Settlement.{Settled, settle}
+use Rattle.registry_model.specs.Settlement.{Fate, Settled, settle}
 use Rattle.registry_model.specs.History.{Entry, Standing, is_holding, after}
 use Rattle.registry_model.specs.Legal.{is_legal, all_legal}
 use Rattle.protocol_model.specs.Letter.{Letter}
@@ -333,11 +333,11 @@ admits o a w gate j pairs r R2 M G = moved o w v gate j a Entering (knocks_on w 
     s = settle (w.node a).replica.table pairs
 
     admit : Letter
-    admit = Letter.Admit j s.puts s.kills
+    admit = Letter.Admit j s
 
     welcome : Letter
     welcome = Letter.Welcome (at (w.node a).replica.members j true) (put_all s.puts (w.node a).replica.table)
-        (w.node a).replica.told s.kills
+        (w.node a).replica.told s.fate
 
     to_members : List Send
     to_members = to_each (nodes_of o.bound (w.node a).replica.members) admit
@@ -439,11 +439,11 @@ ends_join o a w gate f k R2 M G = moved o w v gate a f Away (knocks_on w a f) (r
     here = at_refusal (returns rest) (gate a f) (sym (ap returns front) ∙ G.back a f M.running)
 
 pub is_welcomed : (o : Opening) (a : ℕ) (w : World) (gate : ℕ → ℕ → Gate) (f k : ℕ) (members : Nodes) (pairs : Table)
-    (told : Nodes) (kills : List Process)
-    → Replicas o (Rules.effect o a (Rules.IsWelcomed f k members pairs told kills) w)
-    → Rules.May o a w (Rules.IsWelcomed f k members pairs told kills) → Gates o w gate
-    → Gates o (Rules.effect o a (Rules.IsWelcomed f k members pairs told kills) w) (at_pair gate a f Away)
-is_welcomed o a w gate f k members pairs told kills R2 M G =
+    (told : Nodes) (fate : Fate)
+    → Replicas o (Rules.effect o a (Rules.IsWelcomed f k members pairs told fate) w)
+    → Rules.May o a w (Rules.IsWelcomed f k members pairs told fate) → Gates o w gate
+    → Gates o (Rules.effect o a (Rules.IsWelcomed f k members pairs told fate) w) (at_pair gate a f Away)
+is_welcomed o a w gate f k members pairs told fate R2 M G =
     moved o w v gate a f Away (knocks_on w a f) (returns rest) (admissions a (jobs (w.node f)))
     G (λ x l. l)
     (λ x y l. sent_none knocks knocks-append (letter_taken (Deliver f a) w) a u
@@ -465,10 +465,10 @@ is_welcomed o a w gate f k members pairs told kills R2 M G =
     (shut o v a f)
   where
     rule : Rules.Rule
-    rule = Rules.IsWelcomed f k members pairs told kills
+    rule = Rules.IsWelcomed f k members pairs told fate
 
     letter : Letter
-    letter = Letter.Welcome members pairs told kills
+    letter = Letter.Welcome members pairs told fate
 
     u : Turn
     u = Rules.turn_by o a w rule

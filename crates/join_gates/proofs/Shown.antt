@@ -50,9 +50,9 @@ find_write : (o : Opening) (w : World) (P : Letter → Type 0) (ls : List Letter
     × (is_welcome l ≡ true → (b : List Bool) × (c : List Bool) × (returns ls ≡ b ++ true ∷ c))
 find_write o w P [] e E = cc
 find_write o w P (Letter.Apply change ∷ ls) e E = (Letter.Apply change, refl, E.0, λ h. cc)
-find_write o w P (Letter.Admit j puts kills ∷ ls) e E = (Letter.Admit j puts kills, refl, E.0, λ h. cc)
-find_write o w P (Letter.Welcome members pairs told kills ∷ ls) e E =
-    (Letter.Welcome members pairs told kills, refl, E.0, λ h. ([], returns ls, refl))
+find_write o w P (Letter.Admit j settled ∷ ls) e E = (Letter.Admit j settled, refl, E.0, λ h. cc)
+find_write o w P (Letter.Welcome members pairs told fate ∷ ls) e E =
+    (Letter.Welcome members pairs told fate, refl, E.0, λ h. ([], returns ls, refl))
 find_write o w P (Letter.JoinRefused ∷ ls) e E =
     let x : (l : Letter) × (is_write o w l ≡ true) × P l
     × (is_welcome l ≡ true → (b : List Bool) × (c : List Bool) × (returns ls ≡ b ++ true ∷ c)) =
@@ -63,8 +63,8 @@ find_write o w P (_ ∷ ls) e E = find_write o w P ls e E.1
 -- but for a welcome it leaves open who is joined
 acts-joined : (o : Opening) (w : World) (l : Letter) (v : Replica) → is_welcome l ≡ false
     → (acts o w l v).joined ≡ v.joined
-acts-joined o w (Letter.Welcome members pairs told kills) v e = cc
-acts-joined o w (Letter.Admit j puts kills) v e = (admitted-same j puts v).0
+acts-joined o w (Letter.Welcome members pairs told fate) v e = cc
+acts-joined o w (Letter.Admit j settled) v e = (admitted-same j settled v).0
 acts-joined o w _ v e = refl
 
 -- a welcome on a link belongs to a join that is let in

@@ -139,8 +139,8 @@ each_welcome : (P : Letter → Type 0) (ls : List Letter) → returns ls ≡ tru
     → (l : Letter) × (is_welcome l ≡ true) × P l
 each_welcome P [] e E = cc
 each_welcome P (Letter.JoinRefused ∷ ls) e E = cc
-each_welcome P (Letter.Welcome members pairs told kills ∷ ls) e E =
-    (Letter.Welcome members pairs told kills, refl, E.0)
+each_welcome P (Letter.Welcome members pairs told fate ∷ ls) e E =
+    (Letter.Welcome members pairs told fate, refl, E.0)
 each_welcome P (_ ∷ ls) e E = each_welcome P ls e E.1
 
 -- at the end of an operation no welcome of it is on its way
@@ -165,7 +165,7 @@ finish_going o a w op asked awaited reply gate R G j m enters runs =
     entering_is _ e = cc
 
     writes : (l : Letter) → is_welcome l ≡ true → is_write o v l ≡ true
-    writes (Letter.Welcome members pairs told kills) e = refl
+    writes (Letter.Welcome members pairs told fate) e = refl
     writes _ e = cc
 
     clash : m ≡ a → ⊥

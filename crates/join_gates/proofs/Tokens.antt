@@ -49,14 +49,14 @@ knocks (_ ∷ ls) = knocks ls
 abbrev pub returns : List Letter → List Bool
 returns [] = []
 returns (Letter.JoinRefused ∷ ls) = false ∷ returns ls
-returns (Letter.Welcome members pairs told kills ∷ ls) = true ∷ returns ls
+returns (Letter.Welcome members pairs told fate ∷ ls) = true ∷ returns ls
 returns (_ ∷ ls) = returns ls
 
 -- a letter that is neither
 abbrev pub is_plain : Letter → Bool
 is_plain (Letter.JoinAsk p) = false
 is_plain Letter.JoinRefused = false
-is_plain (Letter.Welcome members pairs told kills) = false
+is_plain (Letter.Welcome members pairs told fate) = false
 is_plain _ = true
 
 -- the names of the admissions of j among these operations
@@ -96,7 +96,7 @@ knocks-append (_ ∷ xs) ys = knocks-append xs ys
 pub returns-append : (xs ys : List Letter) → returns (xs ++ ys) ≡ returns xs ++ returns ys
 returns-append [] ys = refl
 returns-append (Letter.JoinRefused ∷ xs) ys = ap (λ (l : List Bool). false ∷ l) (returns-append xs ys)
-returns-append (Letter.Welcome members pairs told kills ∷ xs) ys =
+returns-append (Letter.Welcome members pairs told fate ∷ xs) ys =
     ap (λ (l : List Bool). true ∷ l) (returns-append xs ys)
 returns-append (_ ∷ xs) ys = returns-append xs ys
 
@@ -114,7 +114,7 @@ knocks-plain _ ls e = refl
 
 pub returns-plain : (l : Letter) (ls : List Letter) → is_plain l ≡ true → returns (l ∷ ls) ≡ returns ls
 returns-plain Letter.JoinRefused ls e = cc
-returns-plain (Letter.Welcome members pairs told kills) ls e = cc
+returns-plain (Letter.Welcome members pairs told fate) ls e = cc
 returns-plain _ ls e = refl
 
 -- all letters of these sends are plain

@@ -221,7 +221,7 @@ module _ (o : Opening) (w : World) (B : Base o w) where
               (sym Z.history)
 
           decided : ((registry_of (in_cluster o) Z.world.history).dead p ≡ true)
-              ⊎ (Contains (settle (Z.world.node t).replica.table A.pairs).kills p
+              ⊎ (Contains (settle (Z.world.node t).replica.table A.pairs).fate.kills p
               × (((Z.world.node t).replica.members p.node ≡ true) ⊎ (p.node ≡ A.joiner)))
               → (is_dead ((accepted o w e).node p.node).watch p.serial ≡ true)
               ⊎ ((x : ℕ) × (in_world o x ≡ true) × (has_kill p ((accepted o w e).links.queue x p.node) ≡ true))
@@ -233,7 +233,7 @@ module _ (o : Opening) (w : World) (B : Base o w) where
             ut.0,
             subst (λ (y : WorldEvent). has_kill p ((accepted o w y).links.queue t p.node) ≡ true) (sym i)
                 (delivery_sent o w f t p.node p was_up.1 (A.sent p p.node
-                (subst (λ (v : Replica). Contains (settle v.table A.pairs).kills p) Z.replica c)
+                (subst (λ (v : Replica). Contains (settle v.table A.pairs).fate.kills p) Z.replica c)
                 (receiver where_it_is))),
           )
             where

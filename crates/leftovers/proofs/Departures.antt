@@ -7,6 +7,7 @@ use Rattle.std.proofs.lemmas.Bool.{cases_eq, eq-eqb, ne_eqb, eqb-true}
 use Rattle.registry_model.specs.Process.{Process, Nodes, at}
 use Rattle.registry_model.specs.Table.{Table, Put}
 use Rattle.registry_model.specs.Registry.{Replica}
+use Rattle.registry_model.specs.Settlement.{Settled}
 use Rattle.protocol_model.specs.Letter.{Id, Letter, is_down}
 use Rattle.protocol_model.specs.Links.{Links, posted}
 use Rattle.protocol_model.specs.LockTable.{Locks, is_free_for, grant, drop_node}
@@ -106,16 +107,16 @@ down_posted a ls q d c h = go (d == a && not (q.closed c))
     go false = h
 
 -- puts tell nothing
-puts_told : (puts : Table) (v : Replica) → (fold (λ x e. wrote (Put e.name e.owner) x) v puts).told ≡ v.told
+puts_told : (puts : Table) (v : Replica) → (fold (λ x e. wrote (Put e) x) v puts).told ≡ v.told
 puts_told [] v = refl
-puts_told (e ∷ puts) v = puts_told puts (wrote (Put e.name e.owner) v)
+puts_told (e ∷ puts) v = puts_told puts (wrote (Put e) v)
 
-pub admitted-group : (j : ℕ) (puts : Table) (v : Replica)
-    → (admitted j puts v).members ≡ (if v.told j then v else record v { members = at v.members j true }).members
-admitted-group j puts v = puts-members puts (with_member j v)
+pub admitted-group : (j : ℕ) (settled : Settled) (v : Replica)
+    → (admitted j settled v).members ≡ (if v.told j then v else record v { members = at v.members j true }).members
+admitted-group j settled v = puts-members settled.puts (with_member j v)
 
-pub admitted-told : (j : ℕ) (puts : Table) (v : Replica) → (admitted j puts v).told ≡ v.told
-admitted-told j puts v = puts_told puts (with_member j v) ∙ go (v.told j)
+pub admitted-told : (j : ℕ) (settled : Settled) (v : Replica) → (admitted j settled v).told ≡ v.told
+admitted-told j settled v = puts_told settled.puts (with_member j v) ∙ go (v.told j)
   where
     go : (t : Bool) → (if t then v else record v { members = at v.members j true }).told ≡ v.told
     go true = refl
@@ -123,8 +124,8 @@ admitted-told j puts v = puts_told puts (with_member j v) ∙ go (v.told j)
 
 -- who is told stays told
 pub told_by_rule : (r : Rule) (v : Replica) (d : ℕ) → v.told d ≡ true → (replica_by r v).told d ≡ true
-told_by_rule (Rules.IsAdmitted f j puts kills) v d h = ap (λ (s : Nodes). s d) (admitted-told j puts v) ∙ h
-told_by_rule (Rules.IsWelcomed f k members pairs told kills) v d h = ap (λ (b : Bool). b || told d) h
+told_by_rule (Rules.IsAdmitted f j settled) v d h = ap (λ (s : Nodes). s d) (admitted-told j settled v) ∙ h
+told_by_rule (Rules.IsWelcomed f k members pairs told fate) v d h = ap (λ (b : Bool). b || told d) h
 told_by_rule (Rules.IsTold f) v d h = by_test f (λ x t. v.told x ≡ true → (if t then true else v.told x) ≡ true)
     (λ k. refl) (λ x ne k. k) d h
 told_by_rule _ v d h = h

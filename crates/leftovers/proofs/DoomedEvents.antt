@@ -110,10 +110,10 @@ module _ (o : Opening) (w : World) (B : Base o w) (f t : ℕ) (up : IsUp o w t) 
   pub letter_dead : (l : Letter) (ls : List Letter) → w.links.queue f t ≡ l ∷ ls → (p : Process) → p.node ≡ t
       → (p.serial == 0) ≡ false → kills_by p l ≡ true
       → is_dead (receive o.bound t (join_number w) f l (begun (w.node t))).node.watch p.serial ≡ true
-  letter_dead (Letter.Admit j puts kills) ls front p home client h =
+  letter_dead (Letter.Admit j settled) ls front p home client h =
       ap (λ (x : Watch). is_dead x p.serial)
       (start-watch o.bound t (if (w.node t).replica.told f && true then begun (w.node t)
-      else read o.bound t (join_number w) f (Letter.Admit j puts kills) (begun (w.node t))))
+      else read o.bound t (join_number w) f (Letter.Admit j settled) (begun (w.node t))))
       ∙ go ((w.node t).replica.told f) refl
     where
       sender : IsUp o w f
@@ -121,13 +121,13 @@ module _ (o : Opening) (w : World) (B : Base o w) (f t : ℕ) (up : IsUp o w t) 
 
       go : (b : Bool) → (w.node t).replica.told f ≡ b
           → is_dead (if b && true then begun (w.node t)
-          else read o.bound t (join_number w) f (Letter.Admit j puts kills) (begun (w.node t))).node.watch p.serial ≡ true
+          else read o.bound t (join_number w) f (Letter.Admit j settled) (begun (w.node t))).node.watch p.serial ≡ true
       go true e = cc (B.all.proper.told_left t f up.1 e, sender.1)
-      go false e = kill_kills o.bound t p home client kills (with_replica (admitted j puts) (begun (w.node t))) h
-  letter_dead (Letter.Welcome members pairs told kills) ls front p home client h =
+      go false e = kill_kills o.bound t p home client settled.fate.kills (with_replica (admitted j settled) (begun (w.node t))) h
+  letter_dead (Letter.Welcome members pairs told fate) ls front p home client h =
       ap (λ (x : Watch). is_dead x p.serial)
       (start-watch o.bound t (if (w.node t).replica.told f && true then begun (w.node t)
-      else read o.bound t (join_number w) f (Letter.Welcome members pairs told kills) (begun (w.node t))))
+      else read o.bound t (join_number w) f (Letter.Welcome members pairs told fate) (begun (w.node t))))
       ∙ go ((w.node t).replica.told f) refl
     where
       sender : IsUp o w f
@@ -138,17 +138,17 @@ module _ (o : Opening) (w : World) (B : Base o w) (f t : ℕ) (up : IsUp o w t) 
           ((heard_joins o w B).welcome f t up)).0 refl
 
       welcomed_now : (b : Bool) → (f == f) ≡ b → is_dead (if b then send f Letter.Applied (reply_with t waits.0 Joined
-          (at_work Current.Free (kill o.bound t kills (with_replica (welcomed members pairs told)
+          (at_work Current.Free (kill o.bound t fate.kills (with_replica (welcomed members pairs told)
           (begun (w.node t)))))) else begun (w.node t)).node.watch p.serial ≡ true
-      welcomed_now true e = kill_kills o.bound t p home client kills
+      welcomed_now true e = kill_kills o.bound t p home client fate.kills
           (with_replica (welcomed members pairs told) (begun (w.node t))) h
       welcomed_now false e = cc (eq-eqb f f refl, e)
 
       go : (b : Bool) → (w.node t).replica.told f ≡ b
           → is_dead (if b && true then begun (w.node t) else read o.bound t (join_number w) f
-          (Letter.Welcome members pairs told kills) (begun (w.node t))).node.watch p.serial ≡ true
+          (Letter.Welcome members pairs told fate) (begun (w.node t))).node.watch p.serial ≡ true
       go true e = cc (B.all.proper.told_left t f up.1 e, sender.1)
-      go false e = subst (λ (c : Current). is_dead (welcome o.bound t (join_number w) f members pairs told kills c
+      go false e = subst (λ (c : Current). is_dead (welcome o.bound t (join_number w) f members pairs told fate c
           (begun (w.node t))).node.watch p.serial ≡ true) (sym waits.1) (welcomed_now (f == f) refl)
   letter_dead l ls front p home client h = cc h
 
@@ -361,18 +361,18 @@ module _ (o : Opening) (w : World) (B : Base o w) (f t : ℕ) (up : IsUp o w t) 
       go : (c : Current) → Result (refused_join o.bound t (join_number w) f c (begun v))
       go (Current.Joining k m) = contact k m (m == f)
       go _ = inl (adds_none (begun v))
-  read_result known (Letter.Admit j puts kills) ls front = inl (adds_then (begun v)
-      (kill o.bound t kills (with_replica (admitted j puts) (begun v)))
-      (read o.bound t (join_number w) f (Letter.Admit j puts kills) (begun v))
-      (adds_then (begun v) (with_replica (admitted j puts) (begun v))
-      (kill o.bound t kills (with_replica (admitted j puts) (begun v)))
-      (adds_same (begun v) (with_replica (admitted j puts) (begun v)) refl refl)
-      (add_kill o.bound t kills (with_replica (admitted j puts) (begun v))))
-      (add_send o.bound t f Letter.Applied (kill o.bound t kills (with_replica (admitted j puts) (begun v)))))
-  read_result known (Letter.Welcome members pairs told kills) ls front = go v.current
+  read_result known (Letter.Admit j settled) ls front = inl (adds_then (begun v)
+      (kill o.bound t settled.fate.kills (with_replica (admitted j settled) (begun v)))
+      (read o.bound t (join_number w) f (Letter.Admit j settled) (begun v))
+      (adds_then (begun v) (with_replica (admitted j settled) (begun v))
+      (kill o.bound t settled.fate.kills (with_replica (admitted j settled) (begun v)))
+      (adds_same (begun v) (with_replica (admitted j settled) (begun v)) refl refl)
+      (add_kill o.bound t settled.fate.kills (with_replica (admitted j settled) (begun v))))
+      (add_send o.bound t f Letter.Applied (kill o.bound t settled.fate.kills (with_replica (admitted j settled) (begun v)))))
+  read_result known (Letter.Welcome members pairs told fate) ls front = go v.current
     where
       killed : Turn
-      killed = kill o.bound t kills (with_replica (welcomed members pairs told) (begun v))
+      killed = kill o.bound t fate.kills (with_replica (welcomed members pairs told) (begun v))
 
       contact : (k m : ℕ) (b : Bool) → Result (if b then send f Letter.Applied (reply_with t k Joined
           (at_work Current.Free killed)) else begun v)
@@ -380,12 +380,12 @@ module _ (o : Opening) (w : World) (B : Base o w) (f t : ℕ) (up : IsUp o w t) 
           (send f Letter.Applied (reply_with t k Joined (at_work Current.Free killed)))
           (adds_then (begun v) (with_replica (welcomed members pairs told) (begun v)) killed
           (adds_same (begun v) (with_replica (welcomed members pairs told) (begun v)) refl refl)
-          (add_kill o.bound t kills (with_replica (welcomed members pairs told) (begun v))))
+          (add_kill o.bound t fate.kills (with_replica (welcomed members pairs told) (begun v))))
           (adds_sends killed (send f Letter.Applied (reply_with t k Joined (at_work Current.Free killed)))
           (_ ∷ []) refl refl))
       contact k m false = inl (adds_none (begun v))
 
-      go : (c : Current) → Result (welcome o.bound t (join_number w) f members pairs told kills c (begun v))
+      go : (c : Current) → Result (welcome o.bound t (join_number w) f members pairs told fate c (begun v))
       go (Current.Joining k m) = contact k m (m == f)
       go _ = inl (adds_none (begun v))
   read_result known Letter.Down ls front = down_result known ls front

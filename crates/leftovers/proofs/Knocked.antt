@@ -68,7 +68,7 @@ module _ (o : Opening) (a : ℕ) (w : World) where
   joining_kept (Rules.CountsDown d op s awaited reply) h k m = λ e. cc e
   joining_kept (Rules.Finishes op s awaited reply) h k m = λ e. cc e
   joining_kept (Rules.EndsJoin f n) h k m = λ e. cc e
-  joining_kept (Rules.IsWelcomed f n members pairs told kills) h k m = λ e. cc e
+  joining_kept (Rules.IsWelcomed f n members pairs told fate) h k m = λ e. cc e
   joining_kept (Rules.LosesContact n c) h k m = λ e. cc e
   joining_kept (Rules.HearsLock f id g c r) h k m = go (opens f g r)
     where
@@ -159,14 +159,14 @@ module _ (o : Opening) (a : ℕ) (w : World) where
         free q = cc (sym (ap (λ (x : Node). x.current) (ap (λ (y : ℕ). at w.node a
             (Rules.turn_by o a w (Rules.EndsJoin f k)).node y) q
             ∙ at_same w.node a (Rules.turn_by o a w (Rules.EndsJoin f k)).node)) ∙ e)
-    gates_open (Rules.IsWelcomed f k members pairs told kills) M j c n uj uc e = elsewhere gate a f Away j c
-        (K j c n uj uc (joined_before (Rules.IsWelcomed f k members pairs told kills) refl j n c e))
+    gates_open (Rules.IsWelcomed f k members pairs told fate) M j c n uj uc e = elsewhere gate a f Away j c
+        (K j c n uj uc (joined_before (Rules.IsWelcomed f k members pairs told fate) refl j n c e))
         (λ q z. absurd (free q))
       where
         free : j ≡ a → ⊥
         free q = cc (sym (ap (λ (x : Node). x.current) (ap (λ (y : ℕ). at w.node a
-            (Rules.turn_by o a w (Rules.IsWelcomed f k members pairs told kills)).node y) q
-            ∙ at_same w.node a (Rules.turn_by o a w (Rules.IsWelcomed f k members pairs told kills)).node)) ∙ e)
+            (Rules.turn_by o a w (Rules.IsWelcomed f k members pairs told fate)).node y) q
+            ∙ at_same w.node a (Rules.turn_by o a w (Rules.IsWelcomed f k members pairs told fate)).node)) ∙ e)
     gates_open (Rules.LosesContact k m) M j c n uj uc e = elsewhere gate a m Away j c
         (K j c n uj uc (joined_before (Rules.LosesContact k m) refl j n c e))
         (λ q z. absurd (told_up m M.running M.tested.0 (subst (IsUp o w) z uc)))

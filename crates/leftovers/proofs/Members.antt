@@ -60,9 +60,9 @@ module _ (o : Opening) (b : ℕ) (w : World) (B : Base o w) (N : Near w) where
   -- who runs and is a member stays one
   pub members_stay : (r : Rule) → Rules.May o b w r → (x : ℕ) → left w x ≡ false → v.replica.members x ≡ true
       → (replica_by r v.replica).members x ≡ true
-  members_stay (Rules.IsAdmitted f j puts kills) m x up h = admitted-members j puts v.replica x h
-  members_stay (Rules.IsWelcomed f k members pairs told kills) m x up h =
-      wide o w B f b k members pairs told kills m.front.1.0 m.inside m.running m.tested.0 m.tested.1 m.front.1.1 x h
+  members_stay (Rules.IsAdmitted f j settled) m x up h = admitted-members j settled v.replica x h
+  members_stay (Rules.IsWelcomed f k members pairs told fate) m x up h =
+      wide o w B f b k members pairs told fate m.front.1.0 m.inside m.running m.tested.0 m.tested.1 m.front.1.1 x h
   members_stay (Rules.IsTold f) m x up h = at_other v.replica.members f false x (λ e. cc (ap (left w) e, gone, up)) ∙ h
     where
       gone : left w f ≡ true

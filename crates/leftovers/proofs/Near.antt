@@ -71,19 +71,19 @@ module _ (o : Opening) (a : ℕ) (w : World) (B : Base o w) where
   -- who is near stays near
   near_stays : (r : Rule) → Rules.May o a w r → (x : ℕ) → is_near (w.node a).replica x ≡ true
       → is_near (replica_by r (w.node a).replica) x ≡ true
-  near_stays (Rules.IsAdmitted f j puts kills) m x h = or_by ((w.node a).replica.members x) ((w.node a).replica.told x)
-      ((admitted j puts (w.node a).replica).members x) ((admitted j puts (w.node a).replica).told x) h
-      (λ e. member_near (admitted j puts (w.node a).replica) x (admitted-members j puts (w.node a).replica x e))
-      (λ e. told_near (admitted j puts (w.node a).replica) x
-      (told_by_rule (Rules.IsAdmitted f j puts kills) (w.node a).replica x e))
-  near_stays (Rules.IsWelcomed f k members pairs told kills) m x h =
+  near_stays (Rules.IsAdmitted f j settled) m x h = or_by ((w.node a).replica.members x) ((w.node a).replica.told x)
+      ((admitted j settled (w.node a).replica).members x) ((admitted j settled (w.node a).replica).told x) h
+      (λ e. member_near (admitted j settled (w.node a).replica) x (admitted-members j settled (w.node a).replica x e))
+      (λ e. told_near (admitted j settled (w.node a).replica) x
+      (told_by_rule (Rules.IsAdmitted f j settled) (w.node a).replica x e))
+  near_stays (Rules.IsWelcomed f k members pairs told fate) m x h =
       or_by ((w.node a).replica.members x) ((w.node a).replica.told x)
       ((welcomed members pairs told (w.node a).replica).members x)
       ((welcomed members pairs told (w.node a).replica).told x) h
       (λ e. member_near (welcomed members pairs told (w.node a).replica) x
-      (wide o w B f a k members pairs told kills m.front.1.0 m.inside m.running m.tested.0 m.tested.1 m.front.1.1 x e))
+      (wide o w B f a k members pairs told fate m.front.1.0 m.inside m.running m.tested.0 m.tested.1 m.front.1.1 x e))
       (λ e. told_near (welcomed members pairs told (w.node a).replica) x
-      (told_by_rule (Rules.IsWelcomed f k members pairs told kills) (w.node a).replica x e))
+      (told_by_rule (Rules.IsWelcomed f k members pairs told fate) (w.node a).replica x e))
   near_stays (Rules.IsTold f) m x h = by_test f
       (λ y t. ((w.node a).replica.members y || (w.node a).replica.told y) ≡ true
       → ((if t then false else (w.node a).replica.members y) || (if t then true else (w.node a).replica.told y)) ≡ true)

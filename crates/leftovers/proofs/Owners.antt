@@ -1,11 +1,11 @@
 -- The owners of the cluster's names are on joined nodes.
 use Rattle.std.proofs.Common.{ℕ, Bool, true, false, ◌==◌, ◌≡◌, Option, Some, None, List, [], ◌∷◌, ◌++◌, refl, sym, ◌∙◌, subst}
 use Rattle.std.specs.Prelude.{not, nat_lt, fold, if◌then◌else◌}
-use Rattle.std.specs.List.{list_all, list_any}
-use Rattle.registry_model.specs.Process.{Text, Process, is_process, Nodes, at}
-use Rattle.registry_model.specs.Table.{Table, get, put, put_all, changed, StrikeOwner}
+use Rattle.std.specs.List.{list_all}
+use Rattle.registry_model.specs.Process.{Process, is_process, Nodes, at}
+use Rattle.registry_model.specs.Table.{Pair, Table, get, put, put_all, changed, StrikeOwner}
 use Rattle.registry_model.specs.Call.{NameCall, Register, ReRegister, Unregister, Reply, Yes, Joined, is_grant, change_of}
-use Rattle.registry_model.specs.Settlement.{Settled, with_put, with_kill, settle_one, settle}
+use Rattle.registry_model.specs.Settlement.{Settled, unsettled, with_put, with_kill, settle_one, settle}
 use Rattle.registry_model.specs.Registry.{Registry, in_group, with_table, view, members, with_joiner}
 use Rattle.registry_model.specs.History.{Entry, Name, Strike, Join, Done, Exit, Left, Told, Read, effect, Standing, standing_of}
 use Rattle.registry_model.specs.Legal.{is_legal, IsLegal}
@@ -22,16 +22,15 @@ use Rattle.leftovers.proofs.GrantLists.{all_filter}
 abbrev pub all_owners : (Process → Bool) → Table → Bool
 all_owners ok t = list_all (λ e. ok e.owner) t
 
-owners_put : (ok : Process → Bool) (x : Text) (p : Process) (t : Table) → ok p ≡ true → all_owners ok t ≡ true
-    → all_owners ok (put x p t) ≡ true
-owners_put ok x p [] k h = rw k refl
-owners_put ok x p (e ∷ t) k h =
+owners_put : (ok : Process → Bool) (new : Pair) (t : Table) → ok new.owner ≡ true → all_owners ok t ≡ true
+    → all_owners ok (put new t) ≡ true
+owners_put ok new [] k h = rw k refl
+owners_put ok new (e ∷ t) k h =
     let parts : (ok e.owner ≡ true) × (all_owners ok t ≡ true) = both (ok e.owner) (all_owners ok t) h in
-    go (e.name == x) (nat_lt x e.name) parts.0 parts.1 (owners_put ok x p t k parts.1)
+    go (e.name == new.name) (nat_lt new.name e.name) parts.0 parts.1 (owners_put ok new t k parts.1)
   where
-    go : (b c : Bool) → ok e.owner ≡ true → all_owners ok t ≡ true → all_owners ok (put x p t) ≡ true
-        → all_owners ok (if b then record { name = x; owner = p } ∷ t
-        else (if c then record { name = x; owner = p } ∷ e ∷ t else e ∷ put x p t)) ≡ true
+    go : (b c : Bool) → ok e.owner ≡ true → all_owners ok t ≡ true → all_owners ok (put new t) ≡ true
+        → all_owners ok (if b then new ∷ t else (if c then new ∷ e ∷ t else e ∷ put new t)) ≡ true
     go true c i j l = rw (k, j) refl
     go false true i j l = rw (k, i, j) refl
     go false false i j l = rw (i, l) refl
@@ -41,7 +40,7 @@ owners_put_all : (ok : Process → Bool) (ps t : Table) → all_owners ok ps ≡
 owners_put_all ok [] t k h = h
 owners_put_all ok (e ∷ ps) t k h =
     let parts : (ok e.owner ≡ true) × (all_owners ok ps ≡ true) = both (ok e.owner) (all_owners ok ps) k in
-    owners_put_all ok ps (put e.name e.owner t) parts.1 (owners_put ok e.name e.owner t parts.0 h)
+    owners_put_all ok ps (put e t) parts.1 (owners_put ok e t parts.0 h)
 
 owners_wider : (ok more : Process → Bool) → ((p : Process) → ok p ≡ true → more p ≡ true) → (t : Table)
     → all_owners ok t ≡ true → all_owners more t ≡ true
@@ -69,22 +68,15 @@ owners_settled ok table (e ∷ ps) s k h =
     putting : ok e.owner ≡ true → all_owners ok (s.puts ++ e ∷ []) ≡ true
     putting i = owners_append ok s.puts (e ∷ []) h (rw i refl)
 
-    killing : (p : Process) (x : Settled) → all_owners ok x.puts ≡ true → all_owners ok (with_kill p x).puts ≡ true
-    killing p x i = go (list_any (is_process p) x.kills)
-      where
-        go : (b : Bool) → all_owners ok (if b then x else record x { kills = x.kills ++ p ∷ [] }).puts ≡ true
-        go true = i
-        go false = i
-
     one : (q : Option Process) → ok e.owner ≡ true → all_owners ok (settle_one e q s).puts ≡ true
     one None i = putting i
     one (Some q) i = go (nat_lt e.owner.node q.node) (is_process e.owner q)
       where
         go : (b c : Bool) → all_owners ok (if b then with_kill q (with_put e s)
             else (if c then s else with_kill e.owner s)).puts ≡ true
-        go true c = killing q (with_put e s) (putting i)
+        go true c = putting i
         go false true = h
-        go false false = killing e.owner s h
+        go false false = h
 
 abbrev pub JoinedOwners : Registry → Type 0
 JoinedOwners r = all_owners (λ p. r.joined p.node) r.table ≡ true
@@ -113,15 +105,16 @@ member_joined r n c j m = go (r.joined n) j (both (in_group r n c) (not (r.told 
 granted-owners : (s : Standing) (n : ℕ) (call : NameCall) (reply : Reply) → NameIsLegal s n call reply
     → is_grant reply ≡ true → s.registry.joined n ≡ true → JoinedOwners s.registry
     → all_owners (λ p. s.registry.joined p.node) (changed (change_of call) s.registry.table) ≡ true
-granted-owners s n (Register x p) reply l g j h =
-    let e : reply ≡ Yes = granted_register (members s.registry n) (view s.registry n) x p reply l.answer g in
-    let y : YesToRegister (members s.registry n) (view s.registry n) x p =
-    yes_to_register (members s.registry n) (view s.registry n) x p (sym e ∙ l.answer) in
-    owners_put (λ q. s.registry.joined q.node) x p s.registry.table (member_joined s.registry n p.node j y.member) h
-granted-owners s n (ReRegister x p) reply l g j h =
-    let y : (reply ≡ Yes) × (members s.registry n p.node ≡ true) =
-    granted_re_register (members s.registry n) (view s.registry n) x p reply l.answer g in
-    owners_put (λ q. s.registry.joined q.node) x p s.registry.table (member_joined s.registry n p.node j y.1) h
+granted-owners s n (Register new) reply l g j h =
+    let e : reply ≡ Yes = granted_register (members s.registry n) (view s.registry n) new reply l.answer g in
+    let y : YesToRegister (members s.registry n) (view s.registry n) new =
+    yes_to_register (members s.registry n) (view s.registry n) new (sym e ∙ l.answer) in
+    owners_put (λ q. s.registry.joined q.node) new s.registry.table
+    (member_joined s.registry n new.owner.node j y.member) h
+granted-owners s n (ReRegister new) reply l g j h =
+    let y : (reply ≡ Yes) × (members s.registry n new.owner.node ≡ true) =
+    granted_re_register (members s.registry n) (view s.registry n) new reply l.answer g in
+    owners_put (λ q. s.registry.joined q.node) new s.registry.table (member_joined s.registry n new.owner.node j y.1) h
 granted-owners s n (Unregister x) reply l g j h =
     all_filter (λ e. s.registry.joined e.owner.node) _ s.registry.table h
 
@@ -158,7 +151,7 @@ owners-effect s (Join j k m Joined) l r g h = lone (s.registry.joined j) refl
     lone false i = owners_put_all (λ p. at s.registry.joined j true p.node)
         (settle (view s.registry m) (s.registry.lone j)).puts s.registry.table
         (owners_settled (λ p. at s.registry.joined j true p.node) (view s.registry m) (s.registry.lone j)
-        (record { puts = []; kills = [] })
+        unsettled
         (owners_wider (λ p. p.node == j) (λ p. at s.registry.joined j true p.node) own (s.registry.lone j)
         (are_on-own j (s.registry.lone j) (r.lone j) (g.own j i))) refl)
         old_owners

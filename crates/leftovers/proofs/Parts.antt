@@ -17,8 +17,8 @@ use Rattle.moves.proofs.Rules.{Rule}
 
 abbrev pub replica_by : Rule → Replica → Replica
 replica_by (Rules.Writes f change) v = wrote change v
-replica_by (Rules.IsAdmitted f j puts kills) v = admitted j puts v
-replica_by (Rules.IsWelcomed f k members pairs told kills) v = welcomed members pairs told v
+replica_by (Rules.IsAdmitted f j settled) v = admitted j settled v
+replica_by (Rules.IsWelcomed f k members pairs told fate) v = welcomed members pairs told v
 replica_by (Rules.IsTold f) v = bereft f v
 replica_by _ v = v
 

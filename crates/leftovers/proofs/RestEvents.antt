@@ -8,6 +8,7 @@ use Rattle.registry_model.specs.Table.{Table}
 use Rattle.registry_model.specs.Registry.{Replica}
 use Rattle.registry_model.specs.Call.{NotMember, Joined}
 use Rattle.registry_model.specs.History.{Entry}
+use Rattle.registry_model.specs.Settlement.{Settled}
 use Rattle.protocol_model.specs.Round.{Round, asked, is_out, Mark, Out}
 use Rattle.protocol_model.specs.Letter.{Letter, is_down}
 use Rattle.protocol_model.specs.LockTable.{is_free_for}
@@ -73,20 +74,20 @@ module _ (o : Opening) (w : World) (B : Base o w) (a : ℕ) (here : in_world o a
   untold_self = R.sides.group.apart a R.sides.group.itself
 
   -- another node is let in
-  admitted-rests : (j : ℕ) (puts : Table) → in_world o j ≡ true
-      → V (with_replica (admitted j puts) (begun v))
-  admitted-rests j puts inside = record {
+  admitted-rests : (j : ℕ) (settled : Settled) → in_world o j ≡ true
+      → V (with_replica (admitted j settled) (begun v))
+  admitted-rests j settled inside = record {
     sides = record {
       group = record {
-        apart = λ x h. ap (λ (s : Nodes). s x) (admitted-told j puts v.replica)
-            ∙ apart (v.replica.told j) refl x (sym (ap (λ (s : Nodes). s x) (admitted-group j puts v.replica)) ∙ h);
-        itself = ap (λ (s : Nodes). s a) (admitted-group j puts v.replica) ∙ itself (v.replica.told j);
+        apart = λ x h. ap (λ (s : Nodes). s x) (admitted-told j settled v.replica)
+            ∙ apart (v.replica.told j) refl x (sym (ap (λ (s : Nodes). s x) (admitted-group j settled v.replica)) ∙ h);
+        itself = ap (λ (s : Nodes). s a) (admitted-group j settled v.replica) ∙ itself (v.replica.told j);
         inside = λ x h. within (v.replica.told j) x
-            (sym (ap (λ (s : Nodes). s x) (admitted-group j puts v.replica)) ∙ h);
+            (sym (ap (λ (s : Nodes). s x) (admitted-group j settled v.replica)) ∙ h);
       };
-      calls = subst (λ (s : Nodes). CallsRest o a s v.calls []) (sym (admitted-told j puts v.replica)) R.sides.calls;
+      calls = subst (λ (s : Nodes). CallsRest o a s v.calls []) (sym (admitted-told j settled v.replica)) R.sides.calls;
     };
-    work = subst (λ (s : Nodes). WorkRests o s v.current) (sym (admitted-told j puts v.replica)) R.work;
+    work = subst (λ (s : Nodes). WorkRests o s v.current) (sym (admitted-told j settled v.replica)) R.work;
   }
     where
       G : Grouped o a v.replica
@@ -294,18 +295,18 @@ module _ (o : Opening) (w : World) (B : Base o w) (a : ℕ) (here : in_world o a
         go : (c : Current) → V (refused_join o.bound a (join_number w) f c (begun v))
         go (Current.Joining k m) = contact k m (m == f)
         go _ = R
-    read-rests (Letter.Admit j puts kills) ls front known_letter =
-        let after : V (kill o.bound a kills (with_replica (admitted j puts) (begun v))) =
-        kill_by o a V died kills (with_replica (admitted j puts) (begun v)) (admitted-rests j puts known_letter) in
+    read-rests (Letter.Admit j settled) ls front known_letter =
+        let after : V (kill o.bound a settled.fate.kills (with_replica (admitted j settled) (begun v))) =
+        kill_by o a V died settled.fate.kills (with_replica (admitted j settled) (begun v)) (admitted-rests j settled known_letter) in
         record { sides = after.sides; work = after.work }
-    read-rests (Letter.Welcome members pairs told kills) ls front known_letter = go v.current refl
+    read-rests (Letter.Welcome members pairs told fate) ls front known_letter = go v.current refl
       where
         joined : (k m : ℕ) → v.current ≡ Current.Joining k m → m ≡ f
             → V (send f Letter.Applied (reply_with a k Joined (at_work Current.Free
-            (kill o.bound a kills (with_replica (welcomed members pairs told) (begun v))))))
+            (kill o.bound a fate.kills (with_replica (welcomed members pairs told) (begun v))))))
         joined k m e same = record {
           sides = kill_by o a (λ u. Sides o a u.node.replica u.node.calls [])
-              (λ p u s. record { group = s.group; calls = die-calls o a p u u.node.replica.told s.calls }) kills
+              (λ p u s. record { group = s.group; calls = die-calls o a p u u.node.replica.told s.calls }) fate.kills
               (with_replica (welcomed members pairs told) (begun v))
               (welcomed-sides N f k members pairs told (e ∙ ap (λ (x : ℕ). Current.Joining k x) same) known_letter.0
               known_letter.1 known_letter.2);
@@ -314,12 +315,12 @@ module _ (o : Opening) (w : World) (B : Base o w) (a : ℕ) (here : in_world o a
 
         contact : (k m : ℕ) → v.current ≡ Current.Joining k m → (b : Bool) → (m == f) ≡ b
             → V (if b then send f Letter.Applied (reply_with a k Joined (at_work Current.Free
-            (kill o.bound a kills (with_replica (welcomed members pairs told) (begun v))))) else begun v)
+            (kill o.bound a fate.kills (with_replica (welcomed members pairs told) (begun v))))) else begun v)
         contact k m e true q = joined k m e (eqb-true m f q)
         contact k m e false q = R
 
         go : (c : Current) → v.current ≡ c
-            → V (welcome o.bound a (join_number w) f members pairs told kills c (begun v))
+            → V (welcome o.bound a (join_number w) f members pairs told fate c (begun v))
         go (Current.Joining k m) e = contact k m e (m == f) refl
         go _ e = R
     read-rests Letter.Down ls front known_letter = bereaved known_letter.0

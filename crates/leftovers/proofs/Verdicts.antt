@@ -8,7 +8,7 @@ use Rattle.std.proofs.lemmas.List.{append_assoc}
 use Rattle.registry_model.specs.Process.{Process, is_process, Nodes, nodes_of, with_node}
 use Rattle.registry_model.specs.Table.{Pair, Table, get, put_all, StrikeOwner}
 use Rattle.registry_model.specs.Call.{Joined, Reply, is_grant, reply_to, change_of}
-use Rattle.registry_model.specs.Settlement.{Settled, settle}
+use Rattle.registry_model.specs.Settlement.{Settled, unsettled, settle}
 use Rattle.registry_model.specs.Registry.{Registry, Replica, replica_of, view}
 use Rattle.registry_model.specs.History.{Entry, effect, hold_at, registry_of}
 use Rattle.registry_model.specs.Legal.{IsLegal}
@@ -42,7 +42,7 @@ pub record Admitted (n a : ℕ) (number : ℕ → ℕ) (op : Op) (u v : Turn) : 
   pub more : List Entry
   pub entries : v.entries ≡ u.entries ++ Entry.Join joiner (number joiner) a Joined ∷ more
   pub harmless : are_harmless more ≡ true
-  pub sent : (p : Process) (x : ℕ) → Contains (settle u.node.replica.table pairs).kills p
+  pub sent : (p : Process) (x : ℕ) → Contains (settle u.node.replica.table pairs).fate.kills p
       → ((nat_lt x n && u.node.replica.members x) ≡ true) ⊎ (x ≡ joiner) → has_kill p (sent_to x v.sends) ≡ true
 
 abbrev pub Outcome : ℕ → ℕ → (ℕ → ℕ) → Op → Turn → Turn → Type 0
@@ -64,7 +64,7 @@ admitted_then n a number op u v z f g = record {
 
 module _ (n a : ℕ) (number : ℕ → ℕ) where
   admit_sent : (j : ℕ) (pairs : Table) (s : Nodes) (u : Turn) (p : Process) (x : ℕ)
-      → Contains (settle u.node.replica.table pairs).kills p
+      → Contains (settle u.node.replica.table pairs).fate.kills p
       → ((nat_lt x n && u.node.replica.members x) ≡ true) ⊎ (x ≡ j)
       → has_kill p (sent_to x (admit n a number j pairs s (settle u.node.replica.table pairs) u).sends) ≡ true
   admit_sent j pairs s u p x c h = ap (has_kill p) (sent_to-append x (u.sends ++ to_each (nodes_of n u.node.replica.members) l)
@@ -74,15 +74,15 @@ module _ (n a : ℕ) (number : ℕ → ℕ) where
       set = settle u.node.replica.table pairs
 
       l : Letter
-      l = Letter.Admit j (settle u.node.replica.table pairs).puts (settle u.node.replica.table pairs).kills
+      l = Letter.Admit j (settle u.node.replica.table pairs)
 
       z : Letter
       z = Letter.Welcome (with_node j u.node.replica.members)
           (put_all (settle u.node.replica.table pairs).puts u.node.replica.table) u.node.replica.told
-          (settle u.node.replica.table pairs).kills
+          (settle u.node.replica.table pairs).fate
 
-      kills : list_any (is_process p) (settle u.node.replica.table pairs).kills ≡ true
-      kills = list_any-Contains p (settle u.node.replica.table pairs).kills c
+      kills : list_any (is_process p) (settle u.node.replica.table pairs).fate.kills ≡ true
+      kills = list_any-Contains p (settle u.node.replica.table pairs).fate.kills c
 
       go : ((nat_lt x n && u.node.replica.members x) ≡ true) ⊎ (x ≡ j)
           → has_kill p (sent_to x (u.sends ++ to_each (nodes_of n u.node.replica.members) l)
@@ -179,7 +179,7 @@ harmless_dead (e ∷ es) r p h d =
     not_deadly _ k n = elim k [ ]
 
 killed_by_join : (r : Registry) (p : Process) (j k m : ℕ) → Kills r p (Entry.Join j k m Joined)
-    → Contains (settle (view r m) (r.lone j)).kills p
+    → Contains (settle (view r m) (r.lone j)).fate.kills p
 killed_by_join r p j k m (ByJoin x y z c) = c
 
 -- the owner of a name is listed
@@ -200,7 +200,7 @@ pub admitted_dead : (o : Opening) (w : World) → Base o w → (a j k : ℕ) (pa
     → left w p.node ≡ false
     → (registry_of (in_cluster o) (w.history ++ Entry.Join j k a Joined ∷ more)).dead p ≡ true
     → ((registry_of (in_cluster o) w.history).dead p ≡ true)
-    ⊎ (Contains (settle (w.node a).replica.table pairs).kills p
+    ⊎ (Contains (settle (w.node a).replica.table pairs).fate.kills p
     × (((w.node a).replica.members p.node ≡ true) ⊎ (p.node ≡ j)))
 admitted_dead o w B a j k pairs r0 more up asks legal calm p running dead =
     elim (dead-cases (registry_of (in_cluster o) w.history) (Entry.Join j k a Joined) p
@@ -228,21 +228,21 @@ admitted_dead o w B a j k pairs r0 more up asks legal calm p running dead =
     same = sym (registry-standing_of (in_cluster o) w.history)
 
     kills : Contains (settle (view (registry_of (in_cluster o) w.history) a)
-        ((registry_of (in_cluster o) w.history).lone j)).kills p
-        → Contains (settle (w.node a).replica.table pairs).kills p
+        ((registry_of (in_cluster o) w.history).lone j)).fate.kills p
+        → Contains (settle (w.node a).replica.table pairs).fate.kills p
         × (((w.node a).replica.members p.node ≡ true) ⊎ (p.node ≡ j))
     kills c = (
-      subst (λ (t : Table). Contains (settle t pairs).kills p) (sym (ap (λ (v : Replica). v.table) shows))
-          (subst (λ (t : Table). Contains (settle (view (standing_at o w).registry a) t).kills p) sent_pairs here),
+      subst (λ (t : Table). Contains (settle t pairs).fate.kills p) (sym (ap (λ (v : Replica). v.table) shows))
+          (subst (λ (t : Table). Contains (settle (view (standing_at o w).registry a) t).fate.kills p) sent_pairs here),
       elim ((kills-settle_from (view (standing_at o w).registry a) ((standing_at o w).registry.lone j)
-          (record { puts = []; kills = [] }) p).0 here) [
+          unsettled p).0 here) [
             | inl i ↦ absurd (Contains-nil p i)
             | inr i ↦ loses i
           ],
     )
       where
-        here : Contains (settle (view (standing_at o w).registry a) ((standing_at o w).registry.lone j)).kills p
-        here = subst (λ (q : Registry). Contains (settle (view q a) (q.lone j)).kills p) same c
+        here : Contains (settle (view (standing_at o w).registry a) ((standing_at o w).registry.lone j)).fate.kills p
+        here = subst (λ (q : Registry). Contains (settle (view q a) (q.lone j)).fate.kills p) same c
 
         member : (e : Pair) → Contains (view (standing_at o w).registry a) e → e.owner ≡ p
             → (w.node a).replica.members p.node ≡ true

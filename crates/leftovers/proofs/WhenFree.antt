@@ -13,8 +13,8 @@ use Rattle.leftovers.proofs.Carried.{doomed_along}
 
 -- a letter by which somebody dies carries an operation out
 kill_writes : (o : Opening) (w : World) (p : Process) (l : Letter) → kills_by p l ≡ true → is_write o w l ≡ true
-kill_writes o w p (Letter.Admit j puts kills) h = refl
-kill_writes o w p (Letter.Welcome members pairs told kills) h = refl
+kill_writes o w p (Letter.Admit j settled) h = refl
+kill_writes o w p (Letter.Welcome members pairs told fate) h = refl
 kill_writes o w p _ h = cc
 
 -- so none is on its way where no operation holds

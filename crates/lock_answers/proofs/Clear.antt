@@ -148,13 +148,13 @@ module _ (o : Opening) (a : ℕ) (w : World) (B : Base o w) where
           → call_of p (Rules.turn_by o a w r).node.calls ≡ Some c
           → ClearIn (replica_by r (w.node a).replica).told c.phase
       go (Rules.IsTold f) q m e = cc
-      go (Rules.IsAdmitted f j puts kills) q m e = subst (λ (s : Nodes). ClearIn s c.phase)
-          (sym (admitted-told j puts (w.node a).replica)) (stepped_clear (Rules.IsAdmitted f j puts kills) m C p c e)
-      go (Rules.IsWelcomed f k members pairs told kills) q m e = welcomed_clear f k members pairs told c.phase
+      go (Rules.IsAdmitted f j settled) q m e = subst (λ (s : Nodes). ClearIn s c.phase)
+          (sym (admitted-told j settled (w.node a).replica)) (stepped_clear (Rules.IsAdmitted f j settled) m C p c e)
+      go (Rules.IsWelcomed f k members pairs told fate) q m e = welcomed_clear f k members pairs told c.phase
           m.tested.1 (m.inside, m.running) letter.2 (N a p c e)
-          (stepped_clear (Rules.IsWelcomed f k members pairs told kills) m C p c e)
+          (stepped_clear (Rules.IsWelcomed f k members pairs told fate) m C p c e)
         where
-          letter : Invariants.IsProper o w f a (Letter.Welcome members pairs told kills)
+          letter : Invariants.IsProper o w f a (Letter.Welcome members pairs told fate)
           letter = (subst (Each (Invariants.IsProper o w f a)) m.front.1.1
               (B.all.proper.letters f a m.running)).0
       go r q m e = stepped_clear r m C p c e

@@ -86,7 +86,7 @@ module _ (o : Opening) (a : ℕ) (w : World) (R : Replicas o w) (s : Answer) (lo
       words (Op.Join i n) reply W k = Contains-nil s k
       words (Op.Admission j pairs) reply W k = Contains-nil s k
   by_rule (Rules.EndsJoin f i) m k = absurd (not_word i NotMember refl k)
-  by_rule (Rules.IsWelcomed f i members pairs told kills) m k = absurd (not_word i Joined refl k)
+  by_rule (Rules.IsWelcomed f i members pairs told fate) m k = absurd (not_word i Joined refl k)
   by_rule (Rules.LosesContact i n) m k = absurd (not_word i ContactLeft refl k)
   by_rule (Rules.FailsLock c) m k = ends (Rules.FailsLock c) c False refl k
   by_rule (Rules.WinsLock c r) m k = ends (Rules.WinsLock c r) c True refl k

@@ -35,8 +35,8 @@ is_lock_answer s = is_verdict s.reply
 
 -- by this letter nobody dies
 abbrev spares : Letter → Bool
-spares (Letter.Admit j puts kills) = false
-spares (Letter.Welcome members pairs told kills) = false
+spares (Letter.Admit j settled) = false
+spares (Letter.Welcome members pairs told fate) = false
 spares _ = true
 
 -- the watch is as it was
@@ -243,8 +243,8 @@ module _ (n a : ℕ) (number : ℕ → ℕ) where
           ends true = refl
           ends false = refl
       go _ = refl
-  watch_read f (Letter.Admit j puts kills) u h = cc
-  watch_read f (Letter.Welcome members pairs told kills) u h = cc
+  watch_read f (Letter.Admit j settled) u h = cc
+  watch_read f (Letter.Welcome members pairs told fate) u h = cc
   watch_read f Letter.Down u h = watch_bereave f u
 
   -- a letter by which nobody dies leaves the watch
@@ -268,21 +268,21 @@ module _ (n a : ℕ) (number : ℕ → ℕ) where
 
   read_silent : (f : ℕ) (l : Letter) (u : Turn) → spares l ≡ false → list_any is_lock_answer u.answers ≡ false
       → list_any is_lock_answer (read n a number f l u).answers ≡ false
-  read_silent f (Letter.Admit j puts kills) u h e =
-      ap (list_any is_lock_answer) (kill-answers kills (with_replica (admitted j puts) u)) ∙ e
-  read_silent f (Letter.Welcome members pairs told kills) u h e = go u.node.current
+  read_silent f (Letter.Admit j settled) u h e =
+      ap (list_any is_lock_answer) (kill-answers settled.fate.kills (with_replica (admitted j settled) u)) ∙ e
+  read_silent f (Letter.Welcome members pairs told fate) u h e = go u.node.current
     where
       v : Turn
-      v = kill n a kills (with_replica (welcomed members pairs told) u)
+      v = kill n a fate.kills (with_replica (welcomed members pairs told) u)
 
       go : (c : Current)
-          → list_any is_lock_answer (welcome n a number f members pairs told kills c u).answers ≡ false
+          → list_any is_lock_answer (welcome n a number f members pairs told fate c u).answers ≡ false
       go (Current.Joining k i) = ends (i == f)
         where
           ends : (t : Bool) → list_any is_lock_answer (if t then send f Letter.Applied
               (reply_with a k Joined (at_work Current.Free v)) else u).answers ≡ false
           ends true = push_none is_lock_answer v.answers (answer_to a k Joined) refl
-              ∙ ap (list_any is_lock_answer) (kill-answers kills (with_replica (welcomed members pairs told) u)) ∙ e
+              ∙ ap (list_any is_lock_answer) (kill-answers fate.kills (with_replica (welcomed members pairs told) u)) ∙ e
           ends false = e
       go _ = e
   read_silent f _ u h e = cc

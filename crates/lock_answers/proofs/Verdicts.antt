@@ -4,7 +4,6 @@ use Rattle.std.proofs.Common.{ℕ, Bool, true, false, ◌≡◌, Option, Some, N
 use Rattle.std.specs.Prelude.{Contains, if◌then◌else◌}
 use Rattle.std.specs.List.{list_all}
 use Rattle.std.proofs.lemmas.List.Elements.{Contains-append_cases}
-use Rattle.registry_model.specs.Table.{Table}
 use Rattle.registry_model.specs.Process.{Process, Nodes}
 use Rattle.registry_model.specs.Call.{Look, Whereis, RegisteredNames, Reply, True, False, pid_or_undefined, reply_to, seen_in}
 use Rattle.registry_model.proofs.Lists.{Contains-cases, Contains-nil}
@@ -19,6 +18,7 @@ use Rattle.moves.proofs.Rules.{Rule, IsOpen, May, MayAll, effect, turn_by, answe
 use Rattle.moves.proofs.Invariants.{IsWritten}
 use Rattle.moves.proofs.Indices.{both}
 use Rattle.registry_model.specs.Table.{get}
+use Rattle.registry_model.specs.Registry.{Replica}
 use Rattle.walk.proofs.ChainKinds.{Hearing, suits}
 use Rattle.leftovers.proofs.Made.{answered, answer_of, answers_made}
 use Rattle.leftovers.proofs.FittingAccounts.{is_word}
@@ -36,13 +36,13 @@ word_no_verdict True h = cc
 word_no_verdict False h = cc
 word_no_verdict _ h = refl
 
-look_no_verdict : (t : Table) (look : Look) → is_verdict (seen_in t look) ≡ false
-look_no_verdict t (Whereis x) = go (get x t)
+look_no_verdict : (v : Replica) (look : Look) → is_verdict (seen_in v look) ≡ false
+look_no_verdict v (Whereis x) = go (get x v.table)
   where
     go : (p : Option Process) → is_verdict (pid_or_undefined p) ≡ false
     go None = refl
     go (Some p) = refl
-look_no_verdict t RegisteredNames = refl
+look_no_verdict v RegisteredNames = refl
 
 -- s is the `false` of an open call whose retries are spent, and whose round at node a has failed
 pub record GaveUp (o : Opening) (a : ℕ) (w : World) (s : Answer) : Type 0 where
@@ -107,7 +107,7 @@ module _ (o : Opening) (a : ℕ) (w : World) (s : Answer) where
   pub said_by : (r : Rule) → suits Hearing r ≡ true → Base o w → May o a w r → Contains (answered a r (w.node a)) s
       → Said o a w s
   said_by Rules.Spawns h B m c = no_verdict _ refl c
-  said_by (Rules.LooksUp look) h B m c = no_verdict _ (look_no_verdict (w.node a).replica.table look) c
+  said_by (Rules.LooksUp look) h B m c = no_verdict _ (look_no_verdict (w.node a).replica look) c
   said_by (Rules.SkipsJoin k n ops) h B m c = no_verdict _ refl c
   said_by (Rules.Denies k call r) h B m c = no_verdict _
       (word_no_verdict (reply_to (w.node a).replica.members (w.node a).replica.table call)
@@ -123,7 +123,7 @@ module _ (o : Opening) (a : ℕ) (w : World) (s : Answer) where
       words (Op.Join k n) reply W c = silent c
       words (Op.Admission j pairs) reply W c = silent c
   said_by (Rules.EndsJoin f k) h B m c = no_verdict _ refl c
-  said_by (Rules.IsWelcomed f k members pairs told kills) h B m c = no_verdict _ refl c
+  said_by (Rules.IsWelcomed f k members pairs told fate) h B m c = no_verdict _ refl c
   said_by (Rules.LosesContact k n) h B m c = no_verdict _ refl c
   said_by (Rules.FailsLock d) h B m c = cc
   said_by (Rules.DeletesNothing d) h B m c = cc

@@ -79,9 +79,9 @@ module _ (o : Opening) (a : ℕ) where
   member_by : (w : World) → Ground o w → (r : Rule) → is_notice r ≡ false → Rules.May o a w r → (x : ℕ)
       → (w.node a).replica.members x ≡ true → (replica_by r (w.node a).replica).members x ≡ true
   member_by w G (Rules.IsTold f) q m x h = cc
-  member_by w G (Rules.IsAdmitted f j puts kills) q m x h = admitted-members j puts (w.node a).replica x h
-  member_by w G (Rules.IsWelcomed f k members pairs told kills) q m x h =
-      wide o w G.base f a k members pairs told kills m.front.1.0 m.inside m.running m.tested.0 m.tested.1 m.front.1.1 x
+  member_by w G (Rules.IsAdmitted f j settled) q m x h = admitted-members j settled (w.node a).replica x h
+  member_by w G (Rules.IsWelcomed f k members pairs told fate) q m x h =
+      wide o w G.base f a k members pairs told fate m.front.1.0 m.inside m.running m.tested.0 m.tested.1 m.front.1.1 x
       h
   member_by w G r q m x h = h
 

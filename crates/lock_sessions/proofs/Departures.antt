@@ -28,8 +28,8 @@ use Rattle.lock_sessions.proofs.Base.{not_both, is_leave, others, farewell, ran_
 pub proper-more : (o : Opening) (w e : World) → ((d : ℕ) → left w d ≡ true → left e d ≡ true) → (f n : ℕ) (l : Letter)
     → IsProper o w f n l → IsProper o e f n l
 proper-more o w e more f n Letter.Down p = (more f p.0, p.1)
-proper-more o w e more f n (Letter.Admit j puts kills) p = p
-proper-more o w e more f n (Letter.Welcome members pairs told kills) p = (p.0, p.1, λ d h. more d (p.2 d h))
+proper-more o w e more f n (Letter.Admit j settled) p = p
+proper-more o w e more f n (Letter.Welcome members pairs told fate) p = (p.0, p.1, λ d h. more d (p.2 d h))
 proper-more o w e more f n _ p = tt
 
 -- one operation more at the end of a queue
@@ -147,9 +147,9 @@ module _ (o : Opening) (a : ℕ) (w : World) (I : Proper o w) (up : IsUp o w a) 
 
   -- so do many writes
   puts_fine : (puts : Table) (v : Replica) → FineReplica v
-      → FineReplica (fold (λ x e. wrote (Put e.name e.owner) x) v puts)
+      → FineReplica (fold (λ x e. wrote (Put e) x) v puts)
   puts_fine [] v F = F
-  puts_fine (e ∷ puts) v F = puts_fine puts (wrote (Put e.name e.owner) v) (wrote_fine (Put e.name e.owner) v F)
+  puts_fine (e ∷ puts) v F = puts_fine puts (wrote (Put e) v) (wrote_fine (Put e) v F)
 
   -- a node of the world may become a member
   with_member_fine : (j : ℕ) → in_world o j ≡ true → FineReplica (with_member j (w.node a).replica)
@@ -293,11 +293,11 @@ module _ (o : Opening) (a : ℕ) (w : World) (I : Proper o w) (up : IsUp o w a) 
       s = settle (w.node a).replica.table pairs
 
       admission : Letter
-      admission = Letter.Admit j s.puts s.kills
+      admission = Letter.Admit j s
 
       welcome : Letter
       welcome = Letter.Welcome (at (w.node a).replica.members j true) (put_all s.puts (w.node a).replica.table)
-          (w.node a).replica.told s.kills
+          (w.node a).replica.told s.fate
 
       is_fine : (n : ℕ) → j ≡ n → IsProper o w a n welcome
       is_fine n e = (
@@ -334,14 +334,14 @@ module _ (o : Opening) (a : ℕ) (w : World) (I : Proper o w) (up : IsUp o w a) 
   fine_turn (Rule.RefusesJoin f pairs) e m =
       plain _ refl refl (I.currents a) (to_one f Letter.JoinRefused (λ n e. tt))
   fine_turn (Rule.EndsJoin f k) e m = plain _ refl refl tt (λ n. tt)
-  fine_turn (Rule.IsAdmitted f j puts kills) e m = record {
-    replica = puts_fine puts (with_member j (w.node a).replica)
-        (with_member_fine j (front_is f (Letter.Admit j puts kills) m.front.1.0 m.front.1.1));
+  fine_turn (Rule.IsAdmitted f j settled) e m = record {
+    replica = puts_fine settled.puts (with_member j (w.node a).replica)
+        (with_member_fine j (front_is f (Letter.Admit j settled) m.front.1.0 m.front.1.1));
     queue = I.queues a;
     current = I.currents a;
     sends = λ n run. to_one f Letter.Applied (λ n e. tt) n;
   }
-  fine_turn (Rule.IsWelcomed f k members pairs told kills) e m = record {
+  fine_turn (Rule.IsWelcomed f k members pairs told fate) e m = record {
     replica = welcomed_fine members pairs told known.0 known.1 known.2;
     queue = I.queues a;
     current = tt;
@@ -350,7 +350,7 @@ module _ (o : Opening) (a : ℕ) (w : World) (I : Proper o w) (up : IsUp o w a) 
     where
       known : (members a ≡ true) × ((c : ℕ) → members c ≡ true → in_world o c ≡ true)
           × ((d : ℕ) → told d ≡ true → left w d ≡ true)
-      known = front_is f (Letter.Welcome members pairs told kills) m.front.1.0 m.front.1.1
+      known = front_is f (Letter.Welcome members pairs told fate) m.front.1.0 m.front.1.1
   fine_turn (Rule.IsTold f) e m = record {
     replica = bereft_fine f known.0 known.1;
     queue = I.queues a;

@@ -240,12 +240,12 @@ module _ (o : Opening) (a : ℕ) (w : World) (I : Proper o w) (L : Locks o w) (u
   lock_rule (Rule.EndsJoin f k) e m = quietly o a w I L up _ (taking f Letter.JoinRefused)
       (quiet_taken o a w I L up (taking f Letter.JoinRefused) m.front refl refl) none (L.calls a) tt refl refl
       (unmarked (Current.Joining k f) Current.Free m.tested.1 (λ x. refl))
-  lock_rule (Rule.IsAdmitted f j puts kills) e m = plainly o a w I L up _ (taking f (Letter.Admit j puts kills))
-      (quiet_taken o a w I L up (taking f (Letter.Admit j puts kills)) m.front refl refl)
+  lock_rule (Rule.IsAdmitted f j settled) e m = plainly o a w I L up _ (taking f (Letter.Admit j settled))
+      (quiet_taken o a w I L up (taking f (Letter.Admit j settled)) m.front refl refl)
       (one f Letter.Applied (λ n. tt) refl refl) (L.calls a) refl refl
-  lock_rule (Rule.IsWelcomed f k members pairs told kills) e m =
-      quietly o a w I L up _ (taking f (Letter.Welcome members pairs told kills))
-      (quiet_taken o a w I L up (taking f (Letter.Welcome members pairs told kills)) m.front refl refl)
+  lock_rule (Rule.IsWelcomed f k members pairs told fate) e m =
+      quietly o a w I L up _ (taking f (Letter.Welcome members pairs told fate))
+      (quiet_taken o a w I L up (taking f (Letter.Welcome members pairs told fate)) m.front refl refl)
       (one f Letter.Applied (λ n. tt) refl refl) (L.calls a) tt refl refl
       (unmarked (Current.Joining k f) Current.Free m.tested.1 (λ x. refl))
   lock_rule (Rule.IsTold f) e m = is_told o a w I L up f

@@ -1,6 +1,7 @@
 mod Asking
 mod Changes
 mod Copied
+mod Counting
 mod Dropping
 mod Facts
 mod Filing

@@ -1,5 +1,5 @@
 //! Lock tables.
-ghost use Rattle.std.specs.Prelude.{◌≡◌, ◌==◌, ◌++◌, ◌∷◌, false, not, [], filter, All, IfOk, IfNone, IfSome, OnOk, OnErr};
+ghost use Rattle.std.specs.Prelude.{◌≡◌, ◌==◌, ◌++◌, ◌∷◌, false, not, [], filter, length, All, IfOk, IfNone, IfSome, OnOk, OnErr};
 ghost use Rattle.registry_model.specs.Process.{is_process};
 ghost use Rattle.protocol_model.specs.LockTable.{count, refused_for, give_back, drop_holder, drop_node, is_in_the_way};
 ghost use Rattle.lock_table.specs.Ids.{id_of};
@@ -80,6 +80,14 @@ impl LockTable {
             by_holder: self.by_holder.clone()?,
             next: self.next,
         })
+    }
+
+    /// How many grants it has: one for each holder of a resource, however often that was granted to it.
+    #[tactic(auto, using(crate::proofs::Counting::counted))]
+    pub fn len(&self) -> usize
+        ensures { result ≡ length self.now }
+    {
+        self.grants.len()
     }
 
     /// How often a holder has a lock, 0 where it has it not.

@@ -25,7 +25,7 @@ Each P (l ∷ ls) = P l × Each P ls
 
 -- a letter to a joiner
 abbrev pub is_welcome : Letter → Bool
-is_welcome (Letter.Welcome members pairs told kills) = true
+is_welcome (Letter.Welcome members pairs told fate) = true
 is_welcome _ = false
 
 -- a `Down` stands only at the end
@@ -51,8 +51,8 @@ module _ (o : Opening) (w : World) where
   -- what is known of a letter on the link from f to n by itself
   abbrev pub IsProper : ℕ → ℕ → Letter → Type 0
   IsProper f n Letter.Down = (left w f ≡ true) × (f ≡ n → ⊥)
-  IsProper f n (Letter.Admit j puts kills) = in_world o j ≡ true
-  IsProper f n (Letter.Welcome members pairs told kills) =
+  IsProper f n (Letter.Admit j settled) = in_world o j ≡ true
+  IsProper f n (Letter.Welcome members pairs told fate) =
       (members n ≡ true) × ((c : ℕ) → members c ≡ true → in_world o c ≡ true)
       × ((d : ℕ) → told d ≡ true → left w d ≡ true)
   IsProper f n _ = Unit {0}
@@ -93,15 +93,15 @@ module _ (o : Opening) (w : World) where
   -- a letter that carries an operation out
   abbrev pub is_write : Letter → Bool
   is_write (Letter.Apply change) = true
-  is_write (Letter.Admit j puts kills) = true
-  is_write (Letter.Welcome members pairs told kills) = true
+  is_write (Letter.Admit j settled) = true
+  is_write (Letter.Welcome members pairs told fate) = true
   is_write _ = false
 
   -- what it makes of a replica
   abbrev pub acts : Letter → Replica → Replica
   acts (Letter.Apply change) v = wrote change v
-  acts (Letter.Admit j puts kills) v = admitted j puts v
-  acts (Letter.Welcome members pairs told kills) v = welcomed members pairs told v
+  acts (Letter.Admit j settled) v = admitted j settled v
+  acts (Letter.Welcome members pairs told fate) v = welcomed members pairs told v
   acts _ v = v
 
   -- whether c hasn't carried out the operation that holds in its group

@@ -7,7 +7,7 @@ use Rattle.std.specs.List.{list_all}
 use Rattle.registry_model.specs.Process.{Text, Process, is_process, Nodes, at}
 use Rattle.registry_model.specs.Table.{Table, Change, StrikeOwner}
 use Rattle.registry_model.specs.Call.{NameCall, Look, Reply, Joined, NotMember, is_grant, change_of, reply_to, seen_in}
-use Rattle.registry_model.specs.Settlement.{settle}
+use Rattle.registry_model.specs.Settlement.{Fate, Settled, settle}
 use Rattle.registry_model.specs.History.{Entry}
 use Rattle.protocol_model.specs.Round.{Round, is_empty, owes, asked, answer, down, is_over, Held, GiveBack, ending}
 use Rattle.protocol_model.specs.Letter.{Id, Global, Client, Letter, is_down}
@@ -60,8 +60,8 @@ pub data Rule : Type 0 where
   RefusesJoin : (f : ℕ) → (pairs : Table) → Rule
   EndsJoin : (f number : ℕ) → Rule
   Kills : (f : ℕ) → (letter : Letter) → (process : Process) → (receivers : Nodes) → Rule  -- before its letter is read
-  IsAdmitted : (f joiner : ℕ) → (puts : Table) → (kills : List Process) → Rule
-  IsWelcomed : (f number : ℕ) → (members : Nodes) → (pairs : Table) → (told : Nodes) → (kills : List Process) → Rule
+  IsAdmitted : (f joiner : ℕ) → (settled : Settled) → Rule
+  IsWelcomed : (f number : ℕ) → (members : Nodes) → (pairs : Table) → (told : Nodes) → (fate : Fate) → Rule
   IsTold : (f : ℕ) → Rule  -- reads `Down`
   LosesContact : (number contact : ℕ) → Rule
   Ignores : (f : ℕ) → (letter : Letter) → Rule  -- a letter that isn't awaited
@@ -97,8 +97,8 @@ die_to n receivers p u = send_all n receivers (Letter.ReleaseOf p)
 
 -- who dies by a letter
 abbrev pub kills_in : Letter → List Process
-kills_in (Letter.Admit j puts kills) = kills
-kills_in (Letter.Welcome members pairs told kills) = kills
+kills_in (Letter.Admit j settled) = settled.fate.kills
+kills_in (Letter.Welcome members pairs told fate) = fate.kills
 kills_in _ = []
 
 -- a lock call's phase has a round in which f owes an answer
@@ -137,7 +137,7 @@ awaits a v f (Letter.LockAnswer id p granted) =
 awaits a v f (Letter.GivenBack p) = some_call (is_owed_in f) (call_of p v.calls)
 awaits a v f Letter.Applied = is_awaited f v.current
 awaits a v f Letter.JoinRefused = is_joining_by f v.current
-awaits a v f (Letter.Welcome members pairs told kills) = is_joining_by f v.current
+awaits a v f (Letter.Welcome members pairs told fate) = is_joining_by f v.current
 awaits a v f _ = true
 
 -- the round of an operation is over, and held by the members as they are now
@@ -177,7 +177,7 @@ module _ (o : Opening) (a : ℕ) where
   made number (CallsJoin m) u = queued o.bound a (Op.Join (u.node.last_call + 1) m) (count_call u)
   made number CallsLock u = count_call u
   made number Spawns u = spawned o.bound a (next_serial u.node.watch) u
-  made number (LooksUp look) u = looked o.bound a look (seen_in u.node.replica.table look) u
+  made number (LooksUp look) u = looked o.bound a look (seen_in u.node.replica look) u
   made number (Exits p) u = die o.bound a p (enter (Entry.Exit p) u)
   made number (Begins op ops) u = ask_global o.bound a op (with_queue ops u)
   made number (BeginsStrike serial) u = ask_global o.bound a (Op.Strike (record { node = a; serial = serial })) u
@@ -210,8 +210,8 @@ module _ (o : Opening) (a : ℕ) where
   made number (RefusesJoin f pairs) u = send f Letter.JoinRefused (enter (Entry.Join f (number f) a NotMember) u)
   made number (EndsJoin f k) u = reply_with a k NotMember (at_work Current.Free u)
   made number (Kills f l p receivers) u = die_to o.bound receivers p u
-  made number (IsAdmitted f j puts kills) u = send f Letter.Applied (with_replica (admitted j puts) u)
-  made number (IsWelcomed f k members pairs told kills) u =
+  made number (IsAdmitted f j settled) u = send f Letter.Applied (with_replica (admitted j settled) u)
+  made number (IsWelcomed f k members pairs told fate) u =
       send f Letter.Applied (reply_with a k Joined (at_work Current.Free
       (with_replica (welcomed members pairs told) u)))
   made number (IsTold f) u = told_of o.bound a number f u
@@ -245,8 +245,8 @@ module _ (o : Opening) (a : ℕ) where
   takes (QueuesJoin f pairs) = taking f (Letter.JoinAsk pairs)
   takes (RefusesJoin f pairs) = taking f (Letter.JoinAsk pairs)
   takes (EndsJoin f k) = taking f Letter.JoinRefused
-  takes (IsAdmitted f j puts kills) = taking f (Letter.Admit j puts kills)
-  takes (IsWelcomed f k members pairs told kills) = taking f (Letter.Welcome members pairs told kills)
+  takes (IsAdmitted f j settled) = taking f (Letter.Admit j settled)
+  takes (IsWelcomed f k members pairs told fate) = taking f (Letter.Welcome members pairs told fate)
   takes (IsTold f) = taking f Letter.Down
   takes (Ignores f l) = taking f l
   takes (Drops f l) = taking f l
@@ -304,8 +304,8 @@ module _ (o : Opening) (a : ℕ) where
       (v.replica.told f ≡ false) × (in_world o f ≡ true) × IsFront w f l × Contains (kills_in l) p
       × (is_live a v.watch p ≡ true)
       × (awaits a v f l ≡ true) × ((c : ℕ) → v.replica.members c ≡ true → receivers c ≡ true)
-  Tested w v (IsAdmitted f j puts kills) = v.replica.told f ≡ false
-  Tested w v (IsWelcomed f k members pairs told kills) = (v.replica.told f ≡ false) × (v.current ≡ Current.Joining k f)
+  Tested w v (IsAdmitted f j settled) = v.replica.told f ≡ false
+  Tested w v (IsWelcomed f k members pairs told fate) = (v.replica.told f ≡ false) × (v.current ≡ Current.Joining k f)
   Tested w v (LosesContact k m) = (v.replica.told m ≡ true) × (v.current ≡ Current.Joining k m)
   Tested w v (Ignores f l) = (v.replica.told f ≡ false) × (awaits a v f l ≡ false)
   Tested w v (Drops f l) = (v.replica.told f ≡ true) × (is_down l ≡ false)

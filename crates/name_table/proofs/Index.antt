@@ -5,15 +5,15 @@ use Rattle.std.specs.List.{IsDistinct, AllByRecursion}
 use Rattle.std.specs.Map.{keys_of}
 use Rattle.std.proofs.lemmas.Bool.{cases_eq, cases_order, eq-eqb, ne_eqb, lt-ltb}
 use Rattle.registry_model.specs.Process.{Text, Process, is_process}
-use Rattle.registry_model.specs.Table.{Table, is_below, is_rising, get, put, remove, strike, without}
+use Rattle.registry_model.specs.Table.{Pair, Table, is_below, is_rising, get, put, remove, strike, without}
 use Rattle.registry_model.proofs.Tables.{is_rising-parts, is_rising-put, is_rising-remove, is_rising-strike, is_rising-without, get-below, get-put, get-remove, get-strike, get-without, get-front, get-behind, if_kept, same_table}
 use Rattle.name_table.specs.Owners.{name_of}
-use Rattle.name_table.specs.Index.{Owners, owner_of, table_of, is_owner}
+use Rattle.name_table.specs.Index.{Owners, owner_of, pair_of, table_of, is_owner}
 
 -- who has a name
 pub get-table_of : (es : Owners) (y : Text) → get y (table_of es) ≡ owner_of y es
 get-table_of [] y = refl
-get-table_of (e ∷ es) y = get-put e.0 e.1 (table_of es) y ∙ (elim (cases_eq e.0 y) [
+get-table_of (e ∷ es) y = get-put (pair_of e) (table_of es) y ∙ (elim (cases_eq e.0 y) [
   | inl i ↦ rw (eq-eqb e.0 y i, eq-eqb y e.0 (sym i)) refl
   | inr ne ↦ rw (ne_eqb e.0 y ne, ne_eqb y e.0 (λ i. ne (sym i))) (get-table_of es y)
 ])
@@ -21,7 +21,7 @@ get-table_of (e ∷ es) y = get-put e.0 e.1 (table_of es) y ∙ (elim (cases_eq 
 -- its names rise
 pub is_rising-table_of : (es : Owners) → is_rising (table_of es) ≡ true
 is_rising-table_of [] = refl
-is_rising-table_of (e ∷ es) = is_rising-put e.0 e.1 (table_of es) (is_rising-table_of es)
+is_rising-table_of (e ∷ es) = is_rising-put (pair_of e) (table_of es) (is_rising-table_of es)
 
 -- a table is told by who has each name
 pub table_told : (es : Owners) (t : Table) → is_rising t ≡ true →
@@ -29,13 +29,13 @@ pub table_told : (es : Owners) (t : Table) → is_rising t ≡ true →
 table_told es t r h = same_table (table_of es) t (is_rising-table_of es) r (λ y. get-table_of es y ∙ h y)
 
 -- one more name, or a new owner
-pub table-put : (old new : Owners) (x : Text) (p : Process) →
-    ((y : Text) → owner_of y new ≡ (if x == y then Some p else owner_of y old)) →
-    table_of new ≡ put x p (table_of old)
-table-put old new x p h =
-    table_told new (put x p (table_of old)) (is_rising-put x p (table_of old) (is_rising-table_of old))
-    (λ y. h y ∙ sym (get-put x p (table_of old) y
-    ∙ ap (λ (o : Option Process). if x == y then Some p else o) (get-table_of old y)))
+pub table-put : (old new : Owners) (pair : Pair) →
+    ((y : Text) → owner_of y new ≡ (if pair.name == y then Some pair.owner else owner_of y old)) →
+    table_of new ≡ put pair (table_of old)
+table-put old new pair h =
+    table_told new (put pair (table_of old)) (is_rising-put pair (table_of old) (is_rising-table_of old))
+    (λ y. h y ∙ sym (get-put pair (table_of old) y
+    ∙ ap (λ (o : Option Process). if pair.name == y then Some pair.owner else o) (get-table_of old y)))
 
 -- a name taken out
 pub table-remove : (old new : Owners) (x : Text) →
@@ -64,7 +64,7 @@ table-strike old new p h =
     kept (Some q) = by q (is_process q p)
 
 -- a name that isn't among the keys has no owner
-owner_of-absent : (x : Text) (es : Owners) → AllByRecursion (λ y. (x == y) ≡ false) (keys_of es) →
+pub owner_of-absent : (x : Text) (es : Owners) → AllByRecursion (λ y. (x == y) ≡ false) (keys_of es) →
     owner_of x es ≡ None
 owner_of-absent x [] h = refl
 owner_of-absent x (e ∷ es) h = rw h.0 (owner_of-absent x es h.1)

@@ -1,4 +1,5 @@
 mod Agreement
+mod Counting
 mod Departures
 mod Index
 mod Least

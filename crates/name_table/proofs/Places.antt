@@ -68,63 +68,64 @@ get-place x (e ∷ t) r = go (nat_lt e.name x) refl (get-place x t (is_rising-pa
             ]
 
 -- where the name stands it gets the new owner
-pub put-here : (x : Text) (p : Process) (t : Table) (d : Pair) → place x t < length t → (get_or t (place x t) d).name
-    ≡ x
-    → put x p t ≡ set t (place x t) (record { name = x; owner = p })
-put-here x p [] d l e = absurd (omega arith)
-put-here x p (f ∷ t) d l e = elim (cases_order x f.name) [
-  | inl j ↦ rw (eq-eqb f.name x (sym j), le-ltb f.name x (omega arith)) refl
-  | inr (inl k) ↦ absurd (less (le-ltb f.name x (omega arith)) l e (omega arith))
-  | inr (inr g) ↦ later (lt-ltb f.name x g) l e (ne_eqb f.name x (λ i. absurd (omega arith)))
-      (le-ltb x f.name (omega arith)) (put-here x p t d)
+pub put-here : (new : Pair) (t : Table) (d : Pair) → place new.name t < length t
+    → (get_or t (place new.name t) d).name ≡ new.name → put new t ≡ set t (place new.name t) new
+put-here new [] d l e = absurd (omega arith)
+put-here new (f ∷ t) d l e = elim (cases_order new.name f.name) [
+  | inl j ↦ rw (eq-eqb f.name new.name (sym j), le-ltb f.name new.name (omega arith)) refl
+  | inr (inl k) ↦ absurd (less (le-ltb f.name new.name (omega arith)) l e (omega arith))
+  | inr (inr g) ↦ later (lt-ltb f.name new.name g) l e (ne_eqb f.name new.name (λ i. absurd (omega arith)))
+      (le-ltb new.name f.name (omega arith)) (put-here new t d)
 ]
   where
-    less : nat_lt f.name x ≡ false → place x (f ∷ t) < suc (length t) → (get_or (f ∷ t) (place x (f ∷ t)) d).name ≡ x
-        → x < f.name → ⊥
+    less : nat_lt f.name new.name ≡ false → place new.name (f ∷ t) < suc (length t)
+        → (get_or (f ∷ t) (place new.name (f ∷ t)) d).name ≡ new.name
+        → new.name < f.name → ⊥
     less q l e k = omega (
       arith,
-      sym (ap (λ (b : Bool). (get_or (f ∷ t) (if b then suc (place x t) else 0) d).name) q)
+      sym (ap (λ (b : Bool). (get_or (f ∷ t) (if b then suc (place new.name t) else 0) d).name) q)
           ∙ e,
     )
 
-    later : nat_lt f.name x ≡ true → place x (f ∷ t) < suc (length t) → (get_or (f ∷ t) (place x (f ∷ t)) d).name ≡ x
-        → (f.name == x) ≡ false → nat_lt x f.name ≡ false
-        → (place x t < length t → (get_or t (place x t) d).name ≡ x → put x p t
-        ≡ set t (place x t) (record { name = x; owner = p }))
-        → put x p (f ∷ t) ≡ set (f ∷ t) (place x (f ∷ t)) (record { name = x; owner = p })
+    later : nat_lt f.name new.name ≡ true → place new.name (f ∷ t) < suc (length t)
+        → (get_or (f ∷ t) (place new.name (f ∷ t)) d).name ≡ new.name
+        → (f.name == new.name) ≡ false → nat_lt new.name f.name ≡ false
+        → (place new.name t < length t → (get_or t (place new.name t) d).name ≡ new.name → put new t
+        ≡ set t (place new.name t) new)
+        → put new (f ∷ t) ≡ set (f ∷ t) (place new.name (f ∷ t)) new
     later q l e n m h =
-        let within : place x t < length t = omega (
+        let within : place new.name t < length t = omega (
           arith,
           subst
-              (λ (b : Bool). (if b then suc (place x t) else 0) < suc (length t)) q l,
+              (λ (b : Bool). (if b then suc (place new.name t) else 0) < suc (length t)) q l,
         ) in
         rw (n, m, q) (ap (λ (u : Table). f ∷ u) (h within (subst
-        (λ (b : Bool). (get_or (f ∷ t) (if b then suc (place x t) else 0) d).name ≡ x) q e)))
+        (λ (b : Bool). (get_or (f ∷ t) (if b then suc (place new.name t) else 0) d).name ≡ new.name) q e)))
 
 -- and else it is inserted there
-pub put-there : (x : Text) (p : Process) (t : Table) (d : Pair)
-    → (place x t < length t → (get_or t (place x t) d).name ≡ x → ⊥)
-    → put x p t ≡ insert t (place x t) (record { name = x; owner = p })
-put-there x p [] d ne = refl
-put-there x p (f ∷ t) d ne = elim (cases_order x f.name) [
-  | inl j ↦ absurd (here (le-ltb f.name x (omega arith)) j)
-  | inr (inl k) ↦ rw (ne_eqb f.name x (λ i. absurd (omega arith)), lt-ltb x f.name k, le-ltb f.name x (omega arith))
+pub put-there : (new : Pair) (t : Table) (d : Pair)
+    → (place new.name t < length t → (get_or t (place new.name t) d).name ≡ new.name → ⊥)
+    → put new t ≡ insert t (place new.name t) new
+put-there new [] d ne = refl
+put-there new (f ∷ t) d ne = elim (cases_order new.name f.name) [
+  | inl j ↦ absurd (here (le-ltb f.name new.name (omega arith)) j)
+  | inr (inl k) ↦ rw (ne_eqb f.name new.name (λ i. absurd (omega arith)), lt-ltb new.name f.name k, le-ltb f.name new.name (omega arith))
       refl
-  | inr (inr g) ↦ later (lt-ltb f.name x g) (ne_eqb f.name x (λ i. absurd (omega arith)))
-      (le-ltb x f.name (omega arith)) (put-there x p t d)
+  | inr (inr g) ↦ later (lt-ltb f.name new.name g) (ne_eqb f.name new.name (λ i. absurd (omega arith)))
+      (le-ltb new.name f.name (omega arith)) (put-there new t d)
 ]
   where
-    here : nat_lt f.name x ≡ false → x ≡ f.name → ⊥
-    here q j = ne (subst (λ (b : Bool). (if b then suc (place x t) else 0) < suc (length t)) (sym q) (omega arith))
-        (subst (λ (b : Bool). (get_or (f ∷ t) (if b then suc (place x t) else 0) d).name ≡ x) (sym q) (sym j))
+    here : nat_lt f.name new.name ≡ false → new.name ≡ f.name → ⊥
+    here q j = ne (subst (λ (b : Bool). (if b then suc (place new.name t) else 0) < suc (length t)) (sym q) (omega arith))
+        (subst (λ (b : Bool). (get_or (f ∷ t) (if b then suc (place new.name t) else 0) d).name ≡ new.name) (sym q) (sym j))
 
-    later : nat_lt f.name x ≡ true → (f.name == x) ≡ false → nat_lt x f.name ≡ false
-        → ((place x t < length t → (get_or t (place x t) d).name ≡ x → ⊥) → put x p t
-        ≡ insert t (place x t) (record { name = x; owner = p }))
-        → put x p (f ∷ t) ≡ insert (f ∷ t) (place x (f ∷ t)) (record { name = x; owner = p })
+    later : nat_lt f.name new.name ≡ true → (f.name == new.name) ≡ false → nat_lt new.name f.name ≡ false
+        → ((place new.name t < length t → (get_or t (place new.name t) d).name ≡ new.name → ⊥) → put new t
+        ≡ insert t (place new.name t) new)
+        → put new (f ∷ t) ≡ insert (f ∷ t) (place new.name (f ∷ t)) new
     later q n m h = rw (n, m, q) (ap (λ (u : Table). f ∷ u) (h (λ l e. ne
-        (subst (λ (b : Bool). (if b then suc (place x t) else 0) < suc (length t)) (sym q) (omega arith))
-        (subst (λ (b : Bool). (get_or (f ∷ t) (if b then suc (place x t) else 0) d).name ≡ x) (sym q) e))))
+        (subst (λ (b : Bool). (if b then suc (place new.name t) else 0) < suc (length t)) (sym q) (omega arith))
+        (subst (λ (b : Bool). (get_or (f ∷ t) (if b then suc (place new.name t) else 0) d).name ≡ new.name) (sym q) e))))
 
 -- where a name stands there is a pair of this name
 pub stands_within : (x : Text) (t : Table) (i : ℕ) (d : Pair) → stands x t i ≡ true → (i < length t)
@@ -211,20 +212,18 @@ rising_parted x (e ∷ t) r (suc i) (suc j) d le l h = rising_parted x t (is_ris
     (omega arith) h
 
 -- a put as the code makes it: over what stands at its place, or as a new pair there
-pub put_stands : (x : Text) (p : Process) (t : Table) (i : ℕ) → i ≡ place x t → stands x t i ≡ true
-    → set t i (record { name = x; owner = p }) ≡ put x p t
-put_stands x p t i e h =
-    let d : Pair = record { name = x; owner = p } in
-    let there : (place x t < length t) × ((get_or t (place x t) d).name ≡ x) = stands_within x t (place x t) d
-    (ap (stands x t) (sym e) ∙ h) in
-    ap (λ (j : ℕ). set t j d) e ∙ sym (put-here x p t d there.0 there.1)
+pub put_stands : (new : Pair) (t : Table) (i : ℕ) → i ≡ place new.name t → stands new.name t i ≡ true
+    → set t i new ≡ put new t
+put_stands new t i e h =
+    let there : (place new.name t < length t) × ((get_or t (place new.name t) new).name ≡ new.name) =
+    stands_within new.name t (place new.name t) new (ap (stands new.name t) (sym e) ∙ h) in
+    ap (λ (j : ℕ). set t j new) e ∙ sym (put-here new t new there.0 there.1)
 
-pub put_absent : (x : Text) (p : Process) (t : Table) (i : ℕ) → i ≡ place x t → stands x t i ≡ false
-    → insert t i (record { name = x; owner = p }) ≡ put x p t
-put_absent x p t i e h =
-    let d : Pair = record { name = x; owner = p } in
-    ap (λ (j : ℕ). insert t j d) e ∙ sym (put-there x p t d
-    (stands_not x t (place x t) d (ap (stands x t) (sym e) ∙ h)))
+pub put_absent : (new : Pair) (t : Table) (i : ℕ) → i ≡ place new.name t → stands new.name t i ≡ false
+    → insert t i new ≡ put new t
+put_absent new t i e h =
+    ap (λ (j : ℕ). insert t j new) e ∙ sym (put-there new t new
+    (stands_not new.name t (place new.name t) new (ap (stands new.name t) (sym e) ∙ h)))
 
 -- a name that stands below all names is in no pair
 pub remove-below : (x : Text) (t : Table) → is_rising t ≡ true → is_below x t ≡ true → remove x t ≡ t

@@ -4,7 +4,7 @@ use Rattle.std.specs.Map.{lookup}
 use Rattle.std.specs.Ordering.{nat_cmp}
 use Rattle.std.specs.BTreeSet.{BTreeSet, contains}
 use Rattle.registry_model.specs.Process.{Text, Process, is_process}
-use Rattle.registry_model.specs.Table.{Table, put}
+use Rattle.registry_model.specs.Table.{Pair, Table, put}
 
 -- the owner of each name, in any order
 abbrev pub Owners : Type 0
@@ -22,14 +22,18 @@ owner_of x owners = lookup (λ y. x == y) owners
 abbrev pub names_of : Process → Owned → Option (BTreeSet Text)
 names_of p owned = lookup (is_process p) owned
 
+-- a name and its owner as a pair
+abbrev pub pair_of : Text × Process → Pair
+pair_of e = record { name = e.0; owner = e.1 }
+
 -- the table of these names and their owners
 abbrev pub table_of : Owners → Table
 table_of [] = []
-table_of (e ∷ es) = put e.0 e.1 (table_of es)
+table_of (e ∷ es) = put (pair_of e) (table_of es)
 
 -- the pairs of these names and their owners, in this order
 abbrev pub pairs_of : Owners → Table
-pairs_of owners = map (λ e. record { name = e.0; owner = e.1 }) owners
+pairs_of owners = map pair_of owners
 
 -- p is this owner
 abbrev pub is_owner : Process → Option Process → Bool

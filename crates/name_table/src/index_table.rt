@@ -124,7 +124,7 @@ impl<A: Allocator + Copy + Drop> IndexTable<A> {
 
     /// The name has this owner from now on. Behind the listing nothing can be refused, so a refusal changes nothing.
     fn put(&mut self, name: Name, owner: Pid) -> Result<(), AllocError>
-        ensures ok { OnOk result (self.new ≡ put name owner self.old) }
+        ensures ok { OnOk result (self.new ≡ put (record { name = name; owner = owner }) self.old) }
         ensures err { OnErr result (self.new ≡ self.old) }
     {
         self.owners.reserve(1)?;
@@ -169,6 +169,10 @@ impl<A: Allocator + Copy + Drop> Names for IndexTable<A> {
     fn get(&self, name: &Name) -> Option<Pid> {
         let owner = self.owners.get(name)?;
         Some(owner.copy())
+    }
+
+    fn len(&self) -> usize {
+        self.owners.len()
     }
 
     fn write(&mut self, change: Change) -> Result<(), AllocError> {

@@ -63,7 +63,7 @@ fn owner_in(pairs: &[Pair], name: &Name) -> Option<Pid>
 /// The name has this owner from now on. Memory is refused only for a new name where the list has no room left.
 fn put_in<A: Allocator>(pairs: &mut Vec<Pair, A>, name: Name, owner: Pid) -> Result<(), AllocError>
     requires { is_rising pairs.old.items ≡ true }
-    ensures ok { OnOk result (pairs.new.items ≡ put name owner pairs.old.items) }
+    ensures ok { OnOk result (pairs.new.items ≡ put (record { name = name; owner = owner }) pairs.old.items) }
     ensures err { OnErr result (pairs.new.items ≡ pairs.old.items) }
     ensures absent { OnErr result (get name pairs.old.items ≡ None) }
     ensures full { OnErr result (vec_capacity pairs.old ≤ vec_len pairs.old) }
@@ -140,6 +140,10 @@ impl<A: Allocator + Drop> Names for ListTable<A> {
 
     fn get(&self, name: &Name) -> Option<Pid> {
         owner_in(self.pairs.as_slice(), name)
+    }
+
+    fn len(&self) -> usize {
+        self.pairs.len()
     }
 
     fn write(&mut self, change: Change) -> Result<(), AllocError> {

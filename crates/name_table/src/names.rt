@@ -1,5 +1,5 @@
 //! The tables that a node may keep.
-ghost use Rattle.std.specs.Prelude.{◌≡◌, ◌==◌, true, [], is_some, IfOk, OnOk, OnErr};
+ghost use Rattle.std.specs.Prelude.{◌≡◌, ◌==◌, true, [], is_some, length, IfOk, OnOk, OnErr};
 ghost use Rattle.registry_model.specs.Table.{Table, get, owns, changed, is_rising, names, without};
 ghost use Rattle.name_table.specs.Changes.{change_of, is_put};
 ghost use Rattle.name_table.specs.Owners.{name_of};
@@ -23,6 +23,10 @@ pub trait Names: Sized + Drop {
     /// The owner of a name, if it has one.
     fn get(&self, name: &Name) -> Option<Pid>
         ensures { result ≡ get name.now (contents self.now) };
+
+    /// How many names it has.
+    fn len(&self) -> usize
+        ensures { result ≡ length (contents self.now) };
 
     /// Makes a change. Where memory is refused the table is as before; only a put takes memory.
     fn write(&mut self, change: Change) -> Result<(), AllocError>

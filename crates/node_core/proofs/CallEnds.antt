@@ -5,7 +5,7 @@ use Rattle.std.proofs.lemmas.Bool.{eqb-true, ne_eqb, eq-eqb, cases_eq}
 use Rattle.std.proofs.lemmas.List.Elements.{All-head, All-tail, All-same}
 use Rattle.std.proofs.Math.Bool.{and-false}
 use Rattle.registry_model.specs.Process.{Process, is_process, Nodes, without_node as without}
-use Rattle.registry_model.specs.Call.{True, False}
+use Rattle.registry_model.specs.Call.{True}
 use Rattle.protocol_model.specs.Letter.{Letter as AnyLetter}
 use Rattle.protocol_model.specs.Node.{LockPhase, LockCall as AnyCall, call_of, put_call, drop_call}
 use Rattle.protocol_model.specs.Round.{Round, is_empty, is_over, owes, answer, down, asked as asked_by, ending, Ending as AnyEnding, Held as IsHeld, GiveBack as GiveBackTo}

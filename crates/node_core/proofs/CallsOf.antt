@@ -6,9 +6,9 @@ use Rattle.registry_model.specs.Call.{True, False}
 use Rattle.protocol_model.specs.Event.{is_waiting_call}
 use Rattle.protocol_model.specs.Letter.{Letter as AnyLetter}
 use Rattle.protocol_model.specs.Node.{LockPhase, LockCall as AnyCall, Retries as AnyRetries, call_of, put_call, drop_call, targets}
-use Rattle.protocol_model.specs.Round.{Round, begin, greatest}
-use Rattle.protocol_model.specs.Turn.{Turn, keep_call, reply_with, become}
-use Rattle.protocol_model.specs.Client.{in_phase, close_call, refuse_lock, is_spent, one_less, retry_in, try_lock, ask_lock}
+use Rattle.protocol_model.specs.Round.{begin, greatest}
+use Rattle.protocol_model.specs.Turn.{keep_call, reply_with, become}
+use Rattle.protocol_model.specs.Client.{in_phase, close_call, refuse_lock, is_spent, one_less, retry_in, try_lock}
 use Rattle.term.specs.NodeSets.{set_of}
 use Rattle.lock_table.specs.Ids.{id_of}
 use Rattle.locker.specs.Held.{Held as HeldRound, seen}
@@ -29,7 +29,7 @@ use Rattle.node_core.specs.Locking.{retry_of}
 use Rattle.node_core.specs.Seen.{turn_of}
 use Rattle.node_core.specs.Steps.{Makes}
 use Rattle.node_core.proofs.Whole.{whole_with}
-use Rattle.node_core.proofs.Locking.{All-put_call, made_as, keeps, asks_lock, tries_none, tries_some, begun_within}
+use Rattle.node_core.proofs.Locking.{All-put_call, made_as, keeps, asks_lock, tries_none, tries_some}
 use Rattle.node_core.proofs.CallEnds.{same_found, found_is, stood}
 use Rattle.std.proofs.lemmas.List.Elements.{All-same}
 

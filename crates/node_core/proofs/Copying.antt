@@ -6,14 +6,14 @@ use Rattle.std.proofs.lemmas.List.Elements.{All-head, All-tail, All-cons, All-ni
 use Rattle.registry_model.specs.Table.{Table}
 use Rattle.protocol_model.specs.Event.{is_join}
 use Rattle.protocol_model.specs.LockTable.{Locks}
-use Rattle.protocol_model.specs.Node.{Op as AnyOp, Current, Node}
+use Rattle.protocol_model.specs.Node.{Op as AnyOp, Current}
 use Rattle.term.specs.NodeSets.{set_of}
 use Rattle.exit_watch.specs.Held.{Held as Watch}
 use Rattle.lock_calls.specs.Held.{Held as LockCalls}
 use Rattle.transaction.specs.declared.op.Op.{Op}
 use Rattle.transaction.specs.declared.op.Op.TheVariants.{Name, Strike, Join, Admission}
 use Rattle.transaction.specs.Ops.{op_of}
-use Rattle.transaction.specs.Work.{Work, IsCopyOf, begins_with_join}
+use Rattle.transaction.specs.Work.{IsCopyOf}
 use Rattle.locker.specs.Held.{seen}
 use Rattle.node_events.specs.Seen.{reply_of}
 use Rattle.node_core.specs.declared.node.Phase.{Phase}

@@ -33,6 +33,7 @@ use Rattle.lock_calls.specs.Held.{Held as LockCalls, seen}
 use Rattle.transaction.specs.declared.op.Op.{Op}
 use Rattle.transaction.specs.Ops.{op_of}
 use Rattle.transaction.specs.Work.{Work}
+use Rattle.exchange.specs.Bodies.{fate_in}
 use Rattle.exchange.specs.declared.bodies.Welcome.{Welcome}
 use Rattle.node_events.specs.declared.events.Answer.{Answer}
 use Rattle.node_events.specs.declared.events.Entry.TheVariants.{Joined as HasJoined}
@@ -96,12 +97,12 @@ kills_one h k w cs t u p r lived whole same set is_so lived_is killed dropped re
 pub puts_next : (h k m : Held) (t : Made) (pairs : Table) (i : ℕ) (e d : Pair) (x : Text) (p : Process)
     → i < length pairs → e ≡ get_or pairs i e → d ≡ e → x ≡ d.name → p ≡ d.owner
     → Makes (λ n a. with_replica (put_names (take i pairs))) h t k t
-    → Makes (λ n a. with_replica (wrote (Put x p))) k t m t
+    → Makes (λ n a. with_replica (wrote (Put (record { name = x; owner = p })))) k t m t
     → Makes (λ n a. with_replica (put_names (take (i + 1) pairs))) h t m t
 puts_next h k m t pairs i e d x p l is same named owned before next =
     made_as (followed before next) (ap (λ (v : Replica). become (record node { replica = v }) (turn_of h t))
-    (ap (λ (y : Text). wrote (Put y p) (first node.replica)) (named ∙ ap (λ (f : Pair). f.name) same)
-    ∙ ap (λ (q : Process). wrote (Put e.name q) (first node.replica)) (owned ∙ ap (λ (f : Pair). f.owner) same)
+    (ap (λ (y : Text). wrote (Put (record { name = y; owner = p })) (first node.replica)) (named ∙ ap (λ (f : Pair). f.name) same)
+    ∙ ap (λ (q : Process). wrote (Put (record { name = e.name; owner = q })) (first node.replica)) (owned ∙ ap (λ (f : Pair). f.owner) same)
     ∙ sym (fold-append write node.replica (take i pairs) (e ∷ []))
     ∙ ap (λ (ps : Table). put_names ps node.replica) (ap (λ (f : Pair). take i pairs ++ f ∷ []) is
     ∙ sym (take_at_read pairs i e l).1)))
@@ -113,7 +114,7 @@ puts_next h k m t pairs i e d x p l is same named owned before next =
     first = put_names (take i pairs)
 
     write : Replica → Pair → Replica
-    write v f = wrote (Put f.name f.owner) v
+    write v f = wrote (Put f) v
 
 -- h is the node, which is told by its welcome of members and of nodes that have left. either: those that one of the two
 -- was told of; told: these without the node itself; rest: the members that haven't left
@@ -277,11 +278,11 @@ pub welcomes : (h0 h m k : Held) (t u v x : Made) (f d k0 : ℕ) (w : Work) (bod
     (record h0 { registrar = w }) t m t
     → Makes (λ n a. kill n a body.kills.items) m t k u
     → s ≡ record { node = k.name; call = k0; reply = IsJoined } → v ≡ answered s u → d ≡ f → x ≡ sent d Applied v
-    → Makes (λ n a y. welcome n a number f (set_of body.members) body.pairs.items (set_of body.told) body.kills.items
+    → Makes (λ n a y. welcome n a number f (set_of body.members) body.pairs.items (set_of body.told) (fate_in body)
     y.node.current y) h t k x
 welcomes h0 h m k t u v x f d k0 w body s number same waits free M K answer answering to sending =
     subst (λ (y : Held). Some k0 ≡ join_by f (node_of y).current → Makes (λ n a z. welcome n a number f
-    (set_of body.members) body.pairs.items (set_of body.told) body.kills.items z.node.current z) y t k x) same
+    (set_of body.members) body.pairs.items (set_of body.told) (fate_in body) z.node.current z) y t k x) same
     (λ waits0. record {
       name = both.name;
       world = both.world;
@@ -295,7 +296,7 @@ welcomes h0 h m k t u v x f d k0 w body s number same waits free M K answer answ
           ∙ kills_at n a body.kills.items Current.Free (moving (turn_of h0 t))))
           ∙ ap (λ (b : Bool). if b then granted else turn_of h0 t) (sym (eq-eqb f f refl))
           ∙ ap (λ (y : Current). welcome n a number f (set_of body.members) body.pairs.items (set_of body.told)
-          body.kills.items y (turn_of h0 t)) (sym (joining_is f k0 (node_of h0).current waits0));
+          (fate_in body) y (turn_of h0 t)) (sym (joining_is f k0 (node_of h0).current waits0));
     }) waits
   where
     n : ℕ
@@ -356,14 +357,14 @@ writes (Some x) op asked all e =
 
 -- a joiner is sent all that a node has
 pub welcomed_by : (h0 h : Held) (j k : ℕ) (s : Settled) (t u : Made) (m : Letter) → h0 ≡ h → letter_of m
-    ≡ AnyLetter.Welcome (with_node j (set_of h0.members)) (put_all s.puts h0.table) (set_of h0.told) s.kills
+    ≡ AnyLetter.Welcome (with_node j (set_of h0.members)) (put_all s.puts h0.table) (set_of h0.told) s.fate
     → k ≡ j → u ≡ sent k m t → Welcomes h j s t u
 welcomed_by h0 h j k s t u m same is to sends =
     subst (λ (x : Held). Welcomes x j s t u) same (m, is, sends ∙ ap (λ (c : ℕ). sent c m t) to)
 
 -- the members are told to admit it
 pub admits_by : (h0 h : Held) (j : ℕ) (s : Settled) (t u : Made) (l : Letter) → h0 ≡ h
-    → letter_of l ≡ AnyLetter.Admit j s.puts s.kills → SendsAll h0.members l t u → TellsToAdmit h j s t u
+    → letter_of l ≡ AnyLetter.Admit j s → SendsAll h0.members l t u → TellsToAdmit h j s t u
 admits_by h0 h j s t u l same is sends = subst (λ (x : Held). TellsToAdmit x j s t u) same (l, is, sends)
 
 pub lets_in : (h0 h : Held) (t u v x : Made) (w : Work) (asked all : List ℕ) (a j j1 j2 : ℕ) (l m : Letter)
@@ -371,9 +372,9 @@ pub lets_in : (h0 h : Held) (t u v x : Made) (w : Work) (asked all : List ℕ) (
     → h0 ≡ h → IsWhole h0 → set_of h0.world j ≡ true → IsNodeSet h0.members
     → ((c : ℕ) → set_of all c ≡ (set_of h0.world c && (set_of h0.members c || (c == j))))
     → w ≡ record h0.registrar { awaited = all } → j1 ≡ j → a ≡ h0.name → u ≡ entered (HasJoined j1 a) t
-    → letter_of l ≡ AnyLetter.Admit j s.puts s.kills → SendsAll h0.members l u v
+    → letter_of l ≡ AnyLetter.Admit j s → SendsAll h0.members l u v
     → letter_of m
-    ≡ AnyLetter.Welcome (with_node j (set_of h0.members)) (put_all s.puts h0.table) (set_of h0.told) s.kills
+    ≡ AnyLetter.Welcome (with_node j (set_of h0.members)) (put_all s.puts h0.table) (set_of h0.told) s.fate
     → j2 ≡ j → x ≡ sent j2 m v → IsAdmitting h j pairs
     → Makes (λ n b. admit n b unnumbered j pairs (set_of asked) s) h t
     (record h0 { registrar = w; phase = Writing asked None }) x
@@ -388,7 +389,7 @@ lets_in h0 h t u v x w asked all a j j1 j2 l m s pairs same whole of set are awa
           ∙ ap (λ (y : AnyLetter). send j y (turn_of k v)) welcoming
           ∙ ap (λ (y : Turn). send j welcome_letter y) (sent_all_is k u v h0.members l admits set whole.members
           ∙ ap (λ (y : AnyLetter). send_all n (set_of h0.members) y (turn_of k u)) admit_it
-          ∙ ap (send_all n (set_of h0.members) (AnyLetter.Admit j s.puts s.kills)) (ap (turn_of k) entering
+          ∙ ap (send_all n (set_of h0.members) (AnyLetter.Admit j s)) (ap (turn_of k) entering
           ∙ entered_is k t (HasJoined j1 a)
           ∙ ap (λ (c : ℕ). enter (AnyEntry.Join c 0 a Joined) (turn_of k t)) joiner
           ∙ ap (λ (c : ℕ). enter (AnyEntry.Join j 0 c Joined) (turn_of k t)) own
@@ -409,7 +410,7 @@ lets_in h0 h t u v x w asked all a j j1 j2 l m s pairs same whole of set are awa
 
     welcome_letter : AnyLetter
     welcome_letter =
-        AnyLetter.Welcome (with_node j (set_of h0.members)) (put_all s.puts h0.table) (set_of h0.told) s.kills
+        AnyLetter.Welcome (with_node j (set_of h0.members)) (put_all s.puts h0.table) (set_of h0.told) s.fate
 
 -- j, which has not left, is let in
 pub lets_pass : (h0 h k : Held) (t u : Made) (asked : List ℕ) (j : ℕ) (pairs : Table) (s : Settled) → h0 ≡ h

@@ -8,7 +8,7 @@ use Rattle.registry_model.specs.Process.{Process, is_process, Nodes, with_node, 
 use Rattle.registry_model.specs.Table.{Table, StrikeOwner, put_all}
 use Rattle.registry_model.specs.Call.{NameCall, Look, Reply as AnyReply, Joined, NotMember, ContactLeft, is_grant, change_of, reply_to, seen_in}
 use Rattle.registry_model.specs.History.{Entry as AnyEntry}
-use Rattle.registry_model.specs.Settlement.{Settled, settle}
+use Rattle.registry_model.specs.Settlement.{Fate, Settled, settle}
 use Rattle.protocol_model.specs.Letter.{Letter as AnyLetter, Id, Global, is_down}
 use Rattle.protocol_model.specs.LockTable.{is_free_for, drop_node}
 use Rattle.protocol_model.specs.Event.{Call as AnyCall, Event as AnyEvent}
@@ -234,8 +234,8 @@ module _ (n a : ℕ) (number : ℕ → ℕ) where
       → AreNumbered (admit n a unnumbered j ps s w) (admit n a number j ps s w)
   lets_in j ps s w u = ap (λ (v : Turn). send j
       (AnyLetter.Welcome (with_node j u.node.replica.members) (put_all w.puts u.node.replica.table)
-      u.node.replica.told w.kills)
-      (send_all n u.node.replica.members (AnyLetter.Admit j w.puts w.kills)
+      u.node.replica.told w.fate)
+      (send_all n u.node.replica.members (AnyLetter.Admit j w)
       (at_work (Current.Writing (AnyOp.Admission j ps) s (with_node j u.node.replica.members) None) v)))
       (enters (AnyEntry.Join j 0 a Joined) u)
 
@@ -314,16 +314,16 @@ module _ (n a : ℕ) (number : ℕ → ℕ) where
       where_so (m == f) (λ v. reply_with a k NotMember (at_work Current.Free v)) (λ v. refl) u
   refuses_join f _ u = refl
 
-  welcomes : (f : ℕ) (members : Nodes) (pairs : Table) (gone : Nodes) (ps : List Process) (cur : Current)
-      → AreNumbered (welcome n a unnumbered f members pairs gone ps cur)
-      (welcome n a number f members pairs gone ps cur)
-  welcomes f members pairs gone ps (Current.Joining k m) u = where_so (m == f)
-      (λ v. joined (kill n a ps (with_replica (welcomed members pairs gone) v)))
-      (λ v. ap joined (kills ps (with_replica (welcomed members pairs gone) v))) u
+  welcomes : (f : ℕ) (members : Nodes) (pairs : Table) (gone : Nodes) (fate : Fate) (cur : Current)
+      → AreNumbered (welcome n a unnumbered f members pairs gone fate cur)
+      (welcome n a number f members pairs gone fate cur)
+  welcomes f members pairs gone fate (Current.Joining k m) u = where_so (m == f)
+      (λ v. joined (kill n a fate.kills (with_replica (welcomed members pairs gone) v)))
+      (λ v. ap joined (kills fate.kills (with_replica (welcomed members pairs gone) v))) u
     where
       joined : Turn → Turn
       joined v = send f AnyLetter.Applied (reply_with a k Joined (at_work Current.Free v))
-  welcomes f members pairs gone ps _ u = refl
+  welcomes f members pairs gone fate _ u = refl
 
   is_told : (d : ℕ) → AreNumbered (told_of n a unnumbered d) (told_of n a number d)
   is_told d u = ap (λ (v : Turn). with_locks (drop_node d) (with_replica (bereft d) v)) (enters (AnyEntry.Told a d) u)
@@ -350,9 +350,9 @@ module _ (n a : ℕ) (number : ℕ → ℕ) where
   reads f AnyLetter.Applied u = awaits f u.node.current u
   reads f (AnyLetter.JoinAsk ps) u = asks_to_join f ps u
   reads f AnyLetter.JoinRefused u = refuses_join f u.node.current u
-  reads f (AnyLetter.Admit j puts ps) u =
-      ap (send f AnyLetter.Applied) (kills ps (with_replica (admitted j puts) u))
-  reads f (AnyLetter.Welcome members pairs gone ps) u = welcomes f members pairs gone ps u.node.current u
+  reads f (AnyLetter.Admit j settled) u =
+      ap (send f AnyLetter.Applied) (kills settled.fate.kills (with_replica (admitted j settled) u))
+  reads f (AnyLetter.Welcome members pairs gone fate) u = welcomes f members pairs gone fate u.node.current u
   reads f AnyLetter.Down u = bereaves f u
 
   pub receive_numbered : (f : ℕ) (l : AnyLetter) → AreNumbered (receive n a unnumbered f l) (receive n a number f l)
@@ -369,7 +369,7 @@ module _ (n a : ℕ) (number : ℕ → ℕ) where
 
   calls : (k : ℕ) (c : AnyCall) → Passes (call n a k c)
   calls k AnyCall.Spawn u = refl
-  calls k (AnyCall.LookUp look) u = looks look (seen_in u.node.replica.table look) u
+  calls k (AnyCall.LookUp look) u = looks look (seen_in u.node.replica look) u
   calls k (AnyCall.OnName c) u = refl
   calls k (AnyCall.SetLock p r q target retries) u = tries (new_call n a k p r q target retries) (count_call u)
   calls k (AnyCall.DelLock p r q target) u = deletes (new_call n a k p r q target (Times 0)) (count_call u)

@@ -11,7 +11,7 @@ use Rattle.transaction.specs.declared.op.Op.{Op}
 use Rattle.transaction.specs.declared.op.Op.TheVariants.{Join}
 use Rattle.transaction.specs.Ops.{op_of}
 use Rattle.transaction.specs.Work.{Work, started, starts, begins_with_join}
-use Rattle.node_events.specs.Made.{Made, Spends}
+use Rattle.node_events.specs.Made.{Made}
 use Rattle.node_core.specs.Held.{Held, IsWhole, IsOpWithin, IsCurrentWithin, bound_of}
 use Rattle.node_core.specs.Rare.{joins_in, Adds}
 use Rattle.node_core.specs.Seen.{node_of, turn_of}

@@ -20,8 +20,8 @@ AreOf world s = (c : ℕ) → s c ≡ true → world c ≡ true
 -- What node t relies on of a letter of node a: who is admitted is of the world, a welcome is one to t, and who has left
 -- is another node than t
 abbrev pub IsFit : ℕ → Nodes → ℕ → AnyLetter → Type 0
-IsFit a world t (AnyLetter.Admit j puts kills) = world j ≡ true
-IsFit a world t (AnyLetter.Welcome members pairs told kills) =
+IsFit a world t (AnyLetter.Admit j settled) = world j ≡ true
+IsFit a world t (AnyLetter.Welcome members pairs told fate) =
     AreOf world members × AreOf world told × (members t ≡ true) × (told t ≡ false) × (is_rising pairs ≡ true)
 IsFit a world t AnyLetter.Down = (t == a) ≡ false
 IsFit a world t _ = Unit {0}

@@ -62,8 +62,8 @@ module _ {n a : ℕ} {world : Nodes} where
   calls_for k RegisteredNames u of W = W
   calls_for k (JoinBy m) u of W = queues W (u.node.queue ++ AnyOp.Join k m ∷ [])
       (ops-push world u.node.queue (AnyOp.Join k m) W.queue of)
-  calls_for k (Register x p) u of W = numbers k (NameCall.Register x p) u W
-  calls_for k (ReRegister x p) u of W = numbers k (NameCall.ReRegister x p) u W
+  calls_for k (Register x p) u of W = numbers k (NameCall.Register (record { name = x; owner = p })) u W
+  calls_for k (ReRegister x p) u of W = numbers k (NameCall.ReRegister (record { name = x; owner = p })) u W
   calls_for k (Unregister x) u of W = numbers k (NameCall.Unregister x) u W
   calls_for k (SetsLock p id nodes retries) u of W =
       tries (new_call n a k p id.resource id.requester (target_of nodes) (retries_of retries)) (count_call u) W

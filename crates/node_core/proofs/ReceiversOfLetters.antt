@@ -7,6 +7,7 @@ use Rattle.registry_model.specs.Table.{Table, Put as AnyPut, is_rising}
 use Rattle.registry_model.specs.Registry.{Replica}
 use Rattle.registry_model.specs.Call.{Joined, NotMember}
 use Rattle.registry_model.specs.History.{Entry as AnyEntry}
+use Rattle.registry_model.specs.Settlement.{Fate, Settled}
 use Rattle.registry_model.proofs.Tables.{is_rising-without}
 use Rattle.protocol_model.specs.Letter.{Letter as AnyLetter, Id, is_down}
 use Rattle.protocol_model.specs.LockTable.{is_free_for}
@@ -21,6 +22,7 @@ use Rattle.protocol_model.specs.Reading.{with_member, admitted, welcomed, bereft
 use Rattle.protocol_model.specs.Calling.{die, kill, queued}
 use Rattle.term.specs.NodeSets.{set_of}
 use Rattle.lock_table.specs.Ids.{id_of}
+use Rattle.exchange.specs.Bodies.{settled_in, fate_in}
 use Rattle.node_events.specs.declared.events.Letter.{Letter}
 use Rattle.node_events.specs.declared.events.Letter.TheVariants.{SetLock, LockAnswer, GiveBack, GivenBack, ReleaseOf, Apply, Applied, JoinAsk, JoinRefused, Admit, Welcome, Down}
 use Rattle.name_table.specs.Changes.{change_of}
@@ -33,10 +35,10 @@ use Rattle.node_core.proofs.ReceiversOfOperations.{awaits, starts, hears, loses_
 -- names are put
 puts_names : {n a : ℕ} {world : Nodes} {ops : List AnyOp} {cur : Current} {locks : List LockCall} {ss : List Send}
     (names : Table) (v : Replica) → Knows n a world v ops cur locks ss
-    → Knows n a world (fold (λ replica pair. wrote (AnyPut pair.name pair.owner) replica) v names) ops cur locks ss
+    → Knows n a world (fold (λ replica pair. wrote (AnyPut pair) replica) v names) ops cur locks ss
 puts_names [] v W = W
 puts_names (pair ∷ names) v W =
-    puts_names names (wrote (AnyPut pair.name pair.owner) v) (writes_one W (AnyPut pair.name pair.owner))
+    puts_names names (wrote (AnyPut pair) v) (writes_one W (AnyPut pair))
 
 -- the members of a welcome that haven't left
 abbrev pub staying : Nodes → Nodes → Turn → Nodes
@@ -81,11 +83,11 @@ module _ {n a : ℕ} {world : Nodes} where
       owes_less f c.phase c u (found_of (IsCallOf world) p u.node.calls c is W.calls) W
 
   -- j is admitted, where the members with it have a boss
-  admits : (f j : ℕ) (names : Table) (ps : List Process) (u : Turn) → world f ≡ true → world j ≡ true
+  admits : (f j : ℕ) (settled : Settled) (u : Turn) → world f ≡ true → world j ≡ true
       → world (greatest n (with_node j u.node.replica.members)) ≡ true → IsWithin n a world u
-      → IsWithin n a world (send f AnyLetter.Applied (kill n a ps (with_replica (admitted j names) u)))
-  admits f j names ps u e here boss W = sends (kills ps (with_replica (admitted j names) u)
-      (puts_names names (with_member j u.node.replica) (go (u.node.replica.told j)))) f AnyLetter.Applied e tt
+      → IsWithin n a world (send f AnyLetter.Applied (kill n a settled.fate.kills (with_replica (admitted j settled) u)))
+  admits f j settled u e here boss W = sends (kills settled.fate.kills (with_replica (admitted j settled) u)
+      (puts_names settled.puts (with_member j u.node.replica) (go (u.node.replica.told j)))) f AnyLetter.Applied e tt
     where
       go : (b : Bool) → Knows n a world
           (if b then u.node.replica else record u.node.replica { members = with_node j u.node.replica.members })
@@ -164,11 +166,11 @@ module _ {n a : ℕ} {world : Nodes} where
     is_refused f _ u W = W
 
     -- a join by f is granted, where those members have a boss
-    is_welcome : (f : ℕ) (members : Nodes) (pairs : Table) (gone : Nodes) (ps : List Process) (cur : Current) (u : Turn)
+    is_welcome : (f : ℕ) (members : Nodes) (pairs : Table) (gone : Nodes) (fate : Fate) (cur : Current) (u : Turn)
         → world f ≡ true → AreOf world members → AreOf world gone → is_rising pairs ≡ true
         → world (greatest n (staying members gone u)) ≡ true
-        → IsWithin n a world u → IsWithin n a world (welcome n a number f members pairs gone ps cur u)
-    is_welcome f members pairs gone ps (Current.Joining k m) u e of left rising boss W = go (m == f)
+        → IsWithin n a world u → IsWithin n a world (welcome n a number f members pairs gone fate cur u)
+    is_welcome f members pairs gone fate (Current.Joining k m) u e of left rising boss W = go (m == f)
       where
         v : Turn
         v = with_replica (welcomed members pairs gone) u
@@ -184,10 +186,10 @@ module _ {n a : ℕ} {world : Nodes} where
             (is_rising-without (λ c. u.node.replica.told c || gone c) pairs rising) boss
 
         go : (b : Bool) → IsWithin n a world (if b
-            then send f AnyLetter.Applied (reply_with a k Joined (at_work Current.Free (kill n a ps v))) else u)
-        go true = sends (works (kills ps v V) Current.Free tt) f AnyLetter.Applied e tt
+            then send f AnyLetter.Applied (reply_with a k Joined (at_work Current.Free (kill n a fate.kills v))) else u)
+        go true = sends (works (kills fate.kills v V) Current.Free tt) f AnyLetter.Applied e tt
         go false = W
-    is_welcome f members pairs gone ps _ u e of left rising boss W = W
+    is_welcome f members pairs gone fate _ u e of left rising boss W = W
 
     -- what is done with a letter
     reads_letter : (f : ℕ) (l : Letter) (u : Turn) → world f ≡ true → HasBoss n world f l u → IsWithin n a world u
@@ -202,9 +204,9 @@ module _ {n a : ℕ} {world : Nodes} where
     reads_letter f (JoinAsk pairs) u e boss W = lets_ask f pairs.items u e W
     reads_letter f JoinRefused u e boss W = is_refused f u.node.current u W
     reads_letter f (Admit body) u e boss W =
-        admits f body.joiner body.puts.items body.kills.items u e boss.0 boss.1 W
+        admits f body.joiner (settled_in body) u e boss.0 boss.1 W
     reads_letter f (Welcome body) u e boss W = is_welcome f (set_of body.value.members) body.value.pairs.items (set_of body.value.told)
-        body.value.kills.items u.node.current u e boss.0 boss.1 boss.2 boss.3 W
+        (fate_in body.value) u.node.current u e boss.0 boss.1 boss.2 boss.3 W
     reads_letter f Down u e boss W = bereaves f u e boss W
 
     pub receives : (f : ℕ) (l : Letter) (u : Turn) → world f ≡ true → HasBoss n world f l u → IsWithin n a world u

@@ -125,9 +125,9 @@ module _ {n a : ℕ} {world : Nodes} where
         go true left = finishes (AnyOp.Admission j ps) s None u of W
         go false here = sends (sends_all
             (works W (Current.Writing (AnyOp.Admission j ps) s (with_node j u.node.replica.members) None) of)
-            u.node.replica.members (AnyLetter.Admit j settled.puts settled.kills) (λ c e. (W.members c e, fits))) j
+            u.node.replica.members (AnyLetter.Admit j settled) (λ c e. (W.members c e, fits))) j
             (AnyLetter.Welcome (with_node j u.node.replica.members) (put_all settled.puts u.node.replica.table)
-            u.node.replica.told settled.kills) fits (
+            u.node.replica.told settled.fate) fits (
               and_one_of world u.node.replica.members j W.members fits,
               W.told,
               ap (λ (b : Bool). if b then true else u.node.replica.members j) (eq-eqb j j refl),

@@ -1,5 +1,5 @@
 -- Room that is made within a step changes nothing of what the protocol sees.
-use Rattle.std.proofs.Common.{ℕ, ◌≡◌, List, sym, ap, ◌∙◌, map}
+use Rattle.std.proofs.Common.{ℕ, ◌≡◌, List, ap, ◌∙◌, map}
 use Rattle.protocol_model.specs.Turn.{Turn}
 use Rattle.node_events.specs.Made.{Made, IsSameMade}
 use Rattle.node_events.specs.Letters.{send_of}

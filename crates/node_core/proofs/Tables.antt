@@ -44,15 +44,15 @@ below_last x (d ∷ t) e b r =
 
 -- the last of rising names comes last where it is put to those before it that pass
 put_last : (ok : Pair → Bool) (t : Table) (e : Pair) → is_rising (t ++ e ∷ []) ≡ true
-    → put e.name e.owner (filter ok t) ≡ filter ok t ++ e ∷ []
+    → put e (filter ok t) ≡ filter ok t ++ e ∷ []
 put_last ok [] e r = refl
 put_last ok (d ∷ t) e r =
     let parts : (is_below d.name (t ++ e ∷ []) ≡ true) × (is_rising (t ++ e ∷ []) ≡ true) =
     is_rising-parts d (t ++ e ∷ []) r in
     go (ok d) (below_last d.name t e parts.0 parts.1) (put_last ok t e parts.1)
   where
-    go : (b : Bool) → d.name < e.name → put e.name e.owner (filter ok t) ≡ filter ok t ++ e ∷ []
-        → put e.name e.owner (if b then d ∷ filter ok t else filter ok t)
+    go : (b : Bool) → d.name < e.name → put e (filter ok t) ≡ filter ok t ++ e ∷ []
+        → put e (if b then d ∷ filter ok t else filter ok t)
         ≡ (if b then d ∷ filter ok t else filter ok t) ++ e ∷ []
     go true l h = rw (ne_eqb d.name e.name (λ i. absurd (omega arith)), le-ltb e.name d.name (omega arith))
         (ap (λ (u : Table). d ∷ u) h)
@@ -74,7 +74,7 @@ module _ (gone : Nodes) (pairs : Table) (i : ℕ) (e : Pair) (l : i < length pai
 
   -- it hasn't
   put_in : gone e.owner.node ≡ false → is_rising pairs ≡ true
-      → put e.name e.owner (without gone (take i pairs)) ≡ without gone (take (i + 1) pairs)
+      → put e (without gone (take i pairs)) ≡ without gone (take (i + 1) pairs)
   put_in here r =
       put_last (λ d. not (gone d.owner.node)) (take i pairs) e
       (ap is_rising (sym first_are) ∙ is_rising-take (i + 1) pairs r)
@@ -99,8 +99,8 @@ passes_over w v v2 pairs gone i t t2 e d has l is same same_watch same_table lef
 pub takes_pair : (w v v1 v2 : Watch) (pairs : Table) (gone : Nodes) (i : ℕ) (t t1 t2 : Table) (e d : Pair) (x : Text)
     (p : Process) → HasFirst w v pairs gone i t → i < length pairs → e ≡ get_or pairs i e → d ≡ e → v2 ≡ v1 → t2 ≡ t1
     → gone d.owner.node ≡ false → v1.node ≡ v.node → v1.watch ≡ v.watch
-    → ((y : Text) (u : Table) → AreSuspected v u → AreSuspected v1 (put y d.owner u)) → KeepsSuspects v v1
-    → x ≡ d.name → p ≡ d.owner → t1 ≡ put x p t → HasFirst w v2 pairs gone (i + 1) t2
+    → ((y : Text) (u : Table) → AreSuspected v u → AreSuspected v1 (put (record { name = y; owner = d.owner }) u)) → KeepsSuspects v v1
+    → x ≡ d.name → p ≡ d.owner → t1 ≡ put (record { name = x; owner = p }) t → HasFirst w v2 pairs gone (i + 1) t2
 takes_pair w v v1 v2 pairs gone i t t1 t2 e d x p has l is same same_watch same_table here node watch told kept named
     owned written =
     subst (λ (y : Watch). HasFirst w y pairs gone (i + 1) t2) (sym same_watch)
@@ -109,10 +109,12 @@ takes_pair w v v1 v2 pairs gone i t t1 t2 e d x p has l is same same_watch same_
       watch = watch ∙ has.watch;
       suspected = told d.name t has.suspected;
       kept = λ u sus. kept u (has.kept u sus);
-      table = λ r. ap (put d.name d.owner) (has.table r)
-          ∙ ap (λ (f : Pair). put f.name f.owner (without gone (take i pairs))) same
+      table = λ r. ap (put d) (has.table r)
+          ∙ ap (λ (f : Pair). put f (without gone (take i pairs))) same
           ∙ put_in gone pairs i e l is (ap (λ (f : Pair). gone f.owner.node) (sym same) ∙ here) r;
     }))
   where
-    put_is : t1 ≡ put d.name d.owner t
-    put_is = written ∙ ap (λ (y : Text). put y p t) named ∙ ap (λ (q : Process). put d.name q t) owned
+    put_is : t1 ≡ put d t
+    put_is =
+        written ∙ ap (λ (y : Text). put (record { name = y; owner = p }) t) named
+        ∙ ap (λ (q : Process). put (record { name = d.name; owner = q }) t) owned

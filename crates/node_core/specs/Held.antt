@@ -1,8 +1,10 @@
 -- What a node holds.
-use Rattle.std.specs.Prelude.{ℕ, Bool, true, false, ◌+◌, ◌≡◌, ◌<◌, All, max, List, [], ◌∷◌, Option, Some, None}
+use Rattle.std.specs.Prelude.{ℕ, Bool, nat_eq, true, false, ◌+◌, ◌≡◌, ◌<◌, All, max, List, [], ◌∷◌, Option, Some, None}
+use Rattle.std.specs.Set.{distinct_count}
 use Rattle.registry_model.specs.Table.{Table}
 use Rattle.protocol_model.specs.LockTable.{Locks}
 use Rattle.term.specs.NodeSets.{set_of}
+use Rattle.exit_watch.specs.Spans.{ends}
 use Rattle.exit_watch.specs.Held.{Held as Watch, watch_from, AreSuspected}
 use Rattle.lock_calls.specs.Held.{Held as LockCalls, none_at, seen}
 use Rattle.lock_calls.specs.declared.call.LockCall.{LockCall}
@@ -27,6 +29,10 @@ pub record Held : Type 0 where
   pub phase : Phase  -- where the current operation stands
   pub calls : LockCalls  -- of its processes, that aren't answered
   pub last_call : ℕ
+
+-- in how many spans a node keeps the serials of its dead
+abbrev pub spans_of : Held → ℕ
+spans_of h = distinct_count nat_eq (ends h.watch.watch.dead)
 
 -- above all of these nodes
 abbrev pub bound_of : List ℕ → ℕ

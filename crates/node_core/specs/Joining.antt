@@ -42,12 +42,12 @@ IsAdmitting h j pairs = option_map op_of h.registrar.current ≡ Some (Op.Admiss
 
 -- the members are told to admit j
 abbrev pub TellsToAdmit : Held → ℕ → Settled → Made → Made → Type 0
-TellsToAdmit h j s t u = (l : Letter) × (letter_of l ≡ AnyLetter.Admit j s.puts s.kills) × SendsAll h.members l t u
+TellsToAdmit h j s t u = (l : Letter) × (letter_of l ≡ AnyLetter.Admit j s) × SendsAll h.members l t u
 
 -- j is sent all that the node has, and what is settled
 abbrev pub Welcomes : Held → ℕ → Settled → Made → Made → Type 0
 Welcomes h j s t u = (m : Letter)
-    × (letter_of m ≡ AnyLetter.Welcome (with_node j (set_of h.members)) (put_all s.puts h.table) (set_of h.told) s.kills)
+    × (letter_of m ≡ AnyLetter.Welcome (with_node j (set_of h.members)) (put_all s.puts h.table) (set_of h.told) s.fate)
     × (u ≡ sent j m t)
 
 -- p dies, if it lives here
@@ -56,4 +56,4 @@ kill_one n a p u = if is_live a u.node.watch p then die n a p u else u
 
 -- these names are put, in order
 abbrev pub put_names : Table → Replica → Replica
-put_names puts v = fold (λ replica pair. wrote (Put pair.name pair.owner) replica) v puts
+put_names puts v = fold (λ replica pair. wrote (Put pair) replica) v puts

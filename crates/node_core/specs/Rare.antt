@@ -1,5 +1,5 @@
 -- What few steps do, and what a step makes at most.
-use Rattle.std.specs.Prelude.{ℕ, Bool, true, false, ◌||◌, ◌&&◌, ◌+◌, ◌≤◌, Option, Some, None, List, [], ◌∷◌, length, if◌then◌else◌}
+use Rattle.std.specs.Prelude.{ℕ, Bool, true, false, ◌||◌, ◌+◌, ◌≤◌, Option, Some, List, length, if◌then◌else◌}
 use Rattle.transaction.specs.declared.op.Op.{Op}
 use Rattle.transaction.specs.declared.op.Op.TheVariants.{Admission}
 use Rattle.transaction.specs.Work.{begins_with_join}

@@ -115,7 +115,7 @@ impl<N: Names<Memory = Global>> NodeCore<N> {
     ghost use Rattle.std.specs.Prelude.{false, true, None, Some, is_some, ◌++◌, ◌+◌, ◌-◌, ◌^◌, min, length, OnOk, OnErr, IfOk, IfErr};
     ghost use Rattle.std.specs.Option.{option_copied};
     ghost use Rattle.protocol_model.specs.Node.{call_of, holds_global};
-    ghost use Rattle.node_core.specs.Held.{IsWhole};
+    ghost use Rattle.node_core.specs.Held.{IsWhole, spans_of};
     ghost use Rattle.node_core.specs.Seen.{node_of};
     ghost use Rattle.node_events.specs.Seen.{fault_of, is_memory};
     ghost use Rattle.node_events.specs.declared.events.StepFault.TheVariants.{Memory};
@@ -435,6 +435,34 @@ impl<N: Names<Memory = Global>> NodeCore<N> {
         ensures { result ≡ self.now.last_call }
     {
         self.last_call
+    }
+
+    /// How many names its table has.
+    pub fn names(&self) -> usize
+        ensures { result ≡ length self.now.table }
+    {
+        self.table.len()
+    }
+
+    /// How many grants its lock table has: one for each holder of a resource.
+    pub fn grants(&self) -> usize
+        ensures { result ≡ length self.now.locks }
+    {
+        self.locks.len()
+    }
+
+    /// The greatest serial that it has given a process; 0 before the first.
+    pub fn last_serial(&self) -> u32
+        ensures { result ≡ self.now.watch.watch.last_serial }
+    {
+        self.watch.last_serial()
+    }
+
+    /// In how many spans it keeps the serials of its dead.
+    pub fn spans(&self) -> usize
+        ensures { result ≡ spans_of self.now }
+    {
+        self.watch.spans()
     }
 
     /// Its table.

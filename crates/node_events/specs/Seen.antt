@@ -116,8 +116,8 @@ abbrev pub call_of : Call → AnyCall
 call_of Spawn = AnyCall.Spawn
 call_of (Whereis x) = AnyCall.LookUp (AnyLook.Whereis x)
 call_of RegisteredNames = AnyCall.LookUp AnyLook.RegisteredNames
-call_of (Register x p) = AnyCall.OnName (AnyNameCall.Register x p)
-call_of (ReRegister x p) = AnyCall.OnName (AnyNameCall.ReRegister x p)
+call_of (Register x p) = AnyCall.OnName (AnyNameCall.Register (record { name = x; owner = p }))
+call_of (ReRegister x p) = AnyCall.OnName (AnyNameCall.ReRegister (record { name = x; owner = p }))
 call_of (Unregister x) = AnyCall.OnName (AnyNameCall.Unregister x)
 call_of (SetsLock p id nodes retries) =
     AnyCall.SetLock p id.resource id.requester (target_of nodes) (retries_of retries)

@@ -16,7 +16,7 @@ pub record Greets (world : Nodes) (t : ℕ) (cluster : Nodes) (pairs : Table) (g
 -- to t, and who has left is another node of the world
 abbrev pub IsSaid : Nodes → ℕ → ℕ → Letter → Type 0
 IsSaid world f t (JoinAsk pairs) = world f ≡ true
-IsSaid world f t (Admit joiner puts kills) = world joiner ≡ true
-IsSaid world f t (Welcome members pairs told kills) = Greets world t members pairs told
+IsSaid world f t (Admit joiner settled) = world joiner ≡ true
+IsSaid world f t (Welcome members pairs told fate) = Greets world t members pairs told
 IsSaid world f t Down = (world f ≡ true) × ((f == t) ≡ false)
 IsSaid world f t _ = Unit {0}

@@ -10,6 +10,7 @@ mod item;
 mod laws;
 mod leaving;
 mod node_loop;
+mod numbers;
 mod outgoing;
 mod replies;
 mod ring;
@@ -27,4 +28,5 @@ pub use node_log::{
     Reply, Retries, SeatEntry, StartFault, StepFault, Transcript, WorldEvent,
 };
 pub use node_loop::NodeLoop;
+pub use numbers::Numbers;
 pub use replies::{Effect, TaskFault, TaskReply};

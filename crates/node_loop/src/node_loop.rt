@@ -1,6 +1,7 @@
 //! A node's loop.
-ghost use Rattle.std.specs.Prelude.{◌≡◌, ◌∷◌, [], false, map, IfOk, OnErr, MatchOption};
+ghost use Rattle.std.specs.Prelude.{◌≡◌, ◌∷◌, [], false, length, map, IfOk, OnErr, MatchOption};
 ghost use Rattle.tray.specs.Held.{none_for};
+ghost use Rattle.node_log.specs.NodeCoreHeld.{spans_of};
 ghost use Rattle.node_loop.specs.Told.{told_by};
 ghost use Rattle.node_loop.specs.Desks.{empty_desk};
 ghost use Rattle.node_loop.specs.Held.{owes, written};
@@ -15,6 +16,7 @@ use crate::edit::{Edit, Note, Owed, Update};
 use crate::fault::TurnFault;
 use crate::gate::{Gate, Permit};
 use crate::item::Item;
+use crate::numbers::Numbers;
 use crate::replies::TaskReply;
 use crate::ring::Ring;
 use link::{Inbox, Post};
@@ -149,6 +151,39 @@ impl<N: Names<Memory = Global>, L: Record> NodeLoop<N, L> {
         ensures { result.now ≡ self.now.log.node }
     {
         self.log.node()
+    }
+
+    /// How it stands, in numbers.
+    pub fn numbers(&self) -> Numbers
+        ensures names { result.names ≡ length self.now.core.table }
+        ensures locks { result.locks ≡ length self.now.core.locks }
+        ensures calls { result.calls ≡ self.now.core.last_call }
+        ensures serials { result.serials ≡ self.now.core.watch.watch.last_serial }
+        ensures spans { result.spans ≡ spans_of self.now.core }
+        ensures steps { result.steps ≡ length self.now.log.entries }
+    {
+        Numbers {
+            names: self.core.names(),
+            locks: self.core.grants(),
+            calls: self.core.last_call(),
+            serials: self.core.last_serial(),
+            spans: self.core.spans(),
+            steps: self.log.count(),
+        }
+    }
+
+    /// The members of its node, that node among them.
+    pub fn members(&self) -> &NodeSet
+        ensures { result.now ≡ self.now.core.members }
+    {
+        self.core.members()
+    }
+
+    /// Whether its node is joined with the cluster.
+    pub fn is_joined(&self) -> bool
+        ensures { result ≡ self.now.core.joined }
+    {
+        self.core.is_joined()
     }
 
     /// The oldest reply, which is taken off the list.

@@ -16,6 +16,7 @@ use crate::hub::Hub;
 use crate::line::Line;
 use crate::place::Place;
 use crate::standing::Standing;
+use crate::told::NodeStatus;
 use shared_table::{Effect, Event, Item, Lookup, TableReader, Task, TaskFault, Ticket};
 use std::alloc::{AllocError, Global};
 use std::sync::{Arc, Wait};
@@ -208,6 +209,21 @@ impl Caller {
             Lookup::Left => Err(SeatFault::NodeLeft),
             // No thread tells of what it hasn't published, so no table is behind what was told.
             Lookup::Behind | Lookup::Gone => Err(SeatFault::Closed),
+        }
+    }
+
+    /// How the node stands, as its thread told last. It asks the node for nothing, and waits for nobody. `NodeLeft`: the node has left.
+    /// `Closed`: its thread has ended, or the cluster was closed.
+    pub fn status(&self) -> Result<NodeStatus, SeatFault>
+        ensures node { IfOk result (λ status. status.node ≡ name_of self.now) }
+        ensures ended { IfErr result IsEnd }
+    {
+        if self.standing.has_left() {
+            return Err(SeatFault::NodeLeft);
+        }
+        match self.end() {
+            Some(fault) => Err(fault),
+            None => Ok(self.standing.status(&self.node, self.hub.nodes())),
         }
     }
 

@@ -51,8 +51,16 @@ impl Host {
         self.hub.is_closing()
     }
 
+    /// Call it before the first turn of the node, and behind each turn that did something: tells how it stands, and whether it has left.
+    pub fn tell<N: Names<Memory = Global>, L: Record>(&self, node: &NodeLoop<N, L>) {
+        self.standing.tell(self.hub.nodes(), node);
+        if node.has_left() {
+            self.standing.leave();
+        }
+    }
+
     /// Call it behind each turn of the node, where its readers are shown all: lays its replies down for their callers, each with how long
-    /// a log is behind what they are shown, and tells them where it has left.
+    /// a log is behind what they are shown.
     pub fn hand_out<N: Names<Memory = Global>, L: Record, R: Wait>(
         &self,
         rt: &R,
@@ -70,9 +78,6 @@ impl Host {
                 break;
             };
             self.hub.lay(rt, reply);
-        }
-        if node.has_left() {
-            self.standing.leave();
         }
     }
 

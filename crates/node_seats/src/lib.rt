@@ -23,6 +23,7 @@ mod parcel;
 mod place;
 mod seat;
 mod standing;
+mod told;
 
 pub use address::Address;
 pub use beside::{Beside, Nobody};
@@ -39,6 +40,7 @@ pub use parcel::Parcel;
 pub use place::{MOST_SEATS, Place, SEAT_NUMBERS};
 pub use seat::Seat;
 pub use shared_table::{
-    Call, Effect, KeptPublisher, NameList, Nodes, Publisher, ReaderFactory, Reply, Retries,
-    StepFault, Transcript,
+    Call, Effect, KeptPublisher, NameList, Nodes, Numbers, Publisher, ReaderFactory, Reply,
+    Retries, StepFault, Transcript,
 };
+pub use told::NodeStatus;

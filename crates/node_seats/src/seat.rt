@@ -6,6 +6,7 @@ ghost use Rattle.shared_table.specs.declared.WorldEvent.TheVariants.{At};
 ghost use Rattle.shared_table.specs.declared.Effect.TheVariants.{Made, Left};
 ghost use Rattle.node_seats.specs.Seats.{sitting, Answered, Unanswered, Done, LooksUp};
 ghost use Rattle.node_seats.specs.Replies.{HasLeft};
+ghost use Rattle.node_seats.specs.Callers.{IsEnd};
 ghost use Rattle.node_seats.specs.Faults.{IsAskRefused};
 
 use crate::beside::{Beside, Nobody};
@@ -13,6 +14,7 @@ use crate::caller::Caller;
 use crate::calls::copied_call;
 use crate::fault::SeatFault;
 use crate::notes::{KeptNotes, Notes};
+use crate::told::NodeStatus;
 use shared_table::{Call, Event, Reply, SeatEntry, Transcript, WorldEvent};
 use std::alloc::Global;
 use std::marker::Model;
@@ -21,8 +23,8 @@ use std::time::Clock;
 use term::{Name, NodeName, Pid};
 
 /// One caller's place at a node, with the transcript of what it was answered. It may go to another thread. Contracts see its
-/// number and its slot, its node and the inbox of that, the nodes of its cluster, the events that it has asked the node for, what it has seen of the
-/// node's table, and its transcript, whether that is kept or not.
+/// number and its slot, its node and the inbox of that, the nodes of its cluster, the events that it has asked the node for, what it
+/// has seen of the node's table, and its transcript, whether that is kept or not.
 #[derive(Drop)]
 pub struct Seat<T: Notes = KeptNotes> {
     caller: Caller,
@@ -111,6 +113,16 @@ impl<T: Notes> Seat<T> {
         ensures { LooksUp name.now result self.old self.new }
     {
         self.caller.look_up(name)
+    }
+
+    /// How its node stands, as the node's thread told last: behind every step whose reply this seat was given, or a later one. It asks the
+    /// node for nothing, and stands in no transcript. `NodeLeft`: the node has left. `Closed`: its thread has ended, or the cluster was
+    /// closed.
+    pub fn status(&self) -> Result<NodeStatus, SeatFault>
+        ensures node { IfOk result (λ status. status.node ≡ self.now.node) }
+        ensures ended { IfErr result IsEnd }
+    {
+        self.caller.status()
     }
 
     /// A process of the node dies. It waits until that is so, and the exit then stands last in the transcript. It is refused as

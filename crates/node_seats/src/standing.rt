@@ -1,9 +1,13 @@
 //! How the thread of a node stands, as others read it.
 ghost use Rattle.std.specs.Prelude.{◌≡◌, [], IfOk};
 
-use shared_table::{ReaderFactory, TableReader};
-use std::alloc::AllocError;
+use crate::told::{NodeStatus, Told};
+use crossbeam_utils::CachePadded;
+use name_table::Names;
+use shared_table::{NodeLoop, ReaderFactory, Record, TableReader};
+use std::alloc::{AllocError, Global};
 use std::sync::atomic::{AtomicBool, Ordering};
+use term::{NodeName, NodeSet};
 
 /// What the thread of a node has told of itself, and by what its table is read.
 #[derive(Drop)]
@@ -11,6 +15,8 @@ pub(crate) struct Standing {
     readers: ReaderFactory,
     left: AtomicBool,
     ended: AtomicBool,
+    /// It is written behind each step. Callers that wait read what stands above, so it lies apart from that.
+    told: CachePadded<Told>,
 }
 
 impl Standing {
@@ -20,6 +26,7 @@ impl Standing {
             readers,
             left: AtomicBool::new(false),
             ended: AtomicBool::new(false),
+            told: CachePadded::new(Told::new()),
         }
     }
 
@@ -28,6 +35,24 @@ impl Standing {
         ensures { IfOk result (λ reader. reader ≡ record { editions = []; told = 0 }) }
     {
         self.readers.reader()
+    }
+
+    /// Tells how the node stands, one of a cluster of these nodes.
+    pub(crate) fn tell<N: Names<Memory = Global>, L: Record>(
+        &self,
+        nodes: &NodeSet,
+        node: &NodeLoop<N, L>,
+    ) {
+        self.told
+            .tell_members(nodes, node.is_joined(), node.members());
+        self.told.tell_numbers(&node.numbers());
+    }
+
+    /// How the node stands, one of a cluster of these nodes.
+    pub(crate) fn status(&self, node: &NodeName, nodes: &NodeSet) -> NodeStatus
+        ensures { result.node ≡ node.now }
+    {
+        self.told.status(node, nodes)
     }
 
     /// The node has left.

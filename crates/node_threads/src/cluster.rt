@@ -20,7 +20,7 @@ use crate::seating::Seating;
 use crate::shared::Shared;
 use name_table::Names;
 use node_loop::{Gate, Log, NodeEnd, Opening, Record, StartFault, Transcript};
-use node_seats::{Caller, ForgottenNotes, FreeSeat, Notes, Seat, SeatFault};
+use node_seats::{Caller, ForgottenNotes, FreeSeat, NodeStatus, Notes, Seat, SeatFault};
 use replay::{CloseFault, Closed, replay};
 use std::alloc::{AllocError, Global};
 use std::marker::Model;
@@ -236,6 +236,17 @@ where
             return Err(SeatFault::NoSuchNode);
         };
         self.running[index].leave(rt)
+    }
+
+    /// How a node stands, as its thread told last. It asks the node for nothing, and waits for nobody. `NoSuchNode`: the node isn't of the
+    /// cluster. `NodeLeft`: it has left. `Closed`: its thread has ended.
+    pub fn status(&self, node: &NodeName) -> Result<NodeStatus, SeatFault>
+        ensures { set_of (nodes_in self.now) node.now ≡ false → result ≡ Err NoSuchNode }
+    {
+        let Some(index) = index_of(self.running.as_slice(), node) else {
+            return Err(SeatFault::NoSuchNode);
+        };
+        self.running[index].status()
     }
 
     /// Asks all threads to end, waits until they have, and holds what each took against what the others put: what they left behind.

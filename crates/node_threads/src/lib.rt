@@ -39,8 +39,9 @@ pub use cluster::Cluster;
 pub use ending::{EndFault, EndedCluster};
 pub use node_loop::{ForgottenLog, Gate, Log, OpenGate, Record, StartFault};
 pub use node_seats::{
-    Beside, Call, ForgottenNotes, FreeSeat, HolderSeat, KeptNotes, Line, NameList, Nobody, Nodes,
-    Notes, Parcel, Reply, Retries, Seat, SeatFault, StepFault, Transcript,
+    Beside, Call, ForgottenNotes, FreeSeat, HolderSeat, KeptNotes, Line, NameList, Nobody,
+    NodeStatus, Nodes, Notes, Numbers, Parcel, Reply, Retries, Seat, SeatFault, StepFault,
+    Transcript,
 };
 pub use replay::{CloseFault, Closed};
 pub use ruled_end::{RuledEnd, Traffic};

@@ -15,7 +15,9 @@ use crate::ruled_end::RuledEnd;
 use link::Mailbox;
 use name_table::Names;
 use node_loop::{Gate, Item, NodeEnd, NodeLoop, Record, TurnFault};
-use node_seats::{Address, Caller, Host, Hub, KeptPublisher, Line, Parcel, Place, SeatFault};
+use node_seats::{
+    Address, Caller, Host, Hub, KeptPublisher, Line, NodeStatus, Parcel, Place, SeatFault,
+};
 use std::alloc::{AllocError, Global};
 use std::marker::Model;
 use std::snapshot::Snapshot;
@@ -113,6 +115,13 @@ fn turn<G: Gate, N: Names<Memory = Global>, L: Record, R: Wait + Drop>(
     node.turn(end, gate)
 }
 
+/// Tells how the node stands, where its last turn did something.
+fn tell<N: Names<Memory = Global>, L: Record>(node: &NodeLoop<N, L>, host: &Host) {
+    if node.worked() {
+        host.tell(node);
+    }
+}
+
 /// Shows the node's readers what its last turn did, and hands its replies out then: whether they are shown all. As long as they aren't,
 /// replies wait, so that nobody is told of more than is shown.
 fn show<N: Names<Memory = Global>, L: Record, R: Wait + Drop>(
@@ -157,6 +166,7 @@ fn turns<G: Gate, N: Names<Memory = Global>, L: Record, R: Wait + Clock + Drop>(
             return publisher;
         }
         let outcome = turn(node, end, gate);
+        tell(node, host);
         let (next, shown) = show(rt, node, host, publisher);
         publisher = next;
         if outcome.is_err() {
@@ -234,8 +244,8 @@ where
 }
 
 impl<N: Names<Memory = Global> + Send + 'static, L: Record + Send + 'static> Running<N, L> {
-    ghost use Rattle.std.specs.Prelude.{◌<◌, []};
-    ghost use Rattle.node_seats.specs.Callers.{inbox_of, place_of, nodes_of, nodes_at, asked_by, seen_of, unseen};
+    ghost use Rattle.std.specs.Prelude.{◌<◌, [], IfErr};
+    ghost use Rattle.node_seats.specs.Callers.{inbox_of, place_of, nodes_of, nodes_at, asked_by, seen_of, unseen, IsEnd};
     ghost use Rattle.node_threads.specs.Wires.{name_of};
     ghost use Rattle.node_threads.specs.Ended.{Returns};
     ghost use Rattle.node_threads.specs.Clusters.{LeftAsAsked};
@@ -255,6 +265,8 @@ impl<N: Names<Memory = Global> + Send + 'static, L: Record + Send + 'static> Run
         requires publishes { Publishes work.node work.publisher.publisher }
         ensures { IfOk result (λ running. running ≡ record { inbox = inbox_at address; core = work.node.core; lines = work.lines.items }) }
     {
+        // Whoever asks how the node stands before its first turn is told how it begins.
+        work.host.tell(&work.node);
         let handle = spawn(rt, work)?;
         Ok(Running {
             address,
@@ -294,6 +306,13 @@ impl<N: Names<Memory = Global> + Send + 'static, L: Record + Send + 'static> Run
         ensures left { OnOk result (LeftAsAsked self.old.inbox) }
     {
         self.caller.leave(rt)
+    }
+
+    /// How the node stands, as its thread told last; or why nobody can tell any more.
+    pub(crate) fn status(&self) -> Result<NodeStatus, SeatFault>
+        ensures { IfErr result IsEnd }
+    {
+        self.caller.status()
     }
 
     /// Asks the threads of the cluster to end, and wakes this one.

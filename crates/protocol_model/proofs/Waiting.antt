@@ -268,10 +268,10 @@ module _ (n a : ℕ) where
     by_letter f (Letter.JoinAsk pairs) u = kept u.node.current _
         (either (IsAt u.node.current) u.node.replica.joined _ _ refl refl)
     by_letter f Letter.JoinRefused u = refused f u.node.current u
-    by_letter f (Letter.Admit j puts kills) u = kept u.node.current _ (killed kills _)
-    by_letter f (Letter.Welcome members pairs told kills) u = go u.node.current
+    by_letter f (Letter.Admit j settled) u = kept u.node.current _ (killed settled.fate.kills _)
+    by_letter f (Letter.Welcome members pairs told fate) u = go u.node.current
       where
-        go : (now : Current) → Keeps u.node.current (welcome n a number f members pairs told kills now u).node.current
+        go : (now : Current) → Keeps u.node.current (welcome n a number f members pairs told fate now u).node.current
         go (Current.Joining k m) = either (Keeps u.node.current) (m == f) _ _
             (rested u.node.current _ (λ o h. cc h)) (kept u.node.current _ refl)
         go Current.Free = kept u.node.current _ refl

@@ -110,8 +110,8 @@ pub record IsNextProcess (ps : List Played) (dead : Process → Bool) (a : ℕ) 
 
 -- the replies that a numbered call may have
 abbrev pub may_have : Call → Reply → Bool
-may_have (Call.OnName (Register x p)) reply = elim reply [ Yes ↦ true | No ↦ true | UnknownNode ↦ true | _ ↦ false ]
-may_have (Call.OnName (ReRegister x p)) reply = elim reply [ Yes ↦ true | UnknownNode ↦ true | _ ↦ false ]
+may_have (Call.OnName (Register pair)) reply = elim reply [ Yes ↦ true | No ↦ true | UnknownNode ↦ true | _ ↦ false ]
+may_have (Call.OnName (ReRegister pair)) reply = elim reply [ Yes ↦ true | UnknownNode ↦ true | _ ↦ false ]
 may_have (Call.OnName (Unregister x)) reply = elim reply [ Ok ↦ true | _ ↦ false ]
 may_have (Call.SetLock p r q target retries) reply = elim reply [ True ↦ true | False ↦ true | _ ↦ false ]
 may_have (Call.DelLock p r q target) reply = elim reply [ True ↦ true | _ ↦ false ]

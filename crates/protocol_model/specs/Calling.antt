@@ -37,7 +37,7 @@ module _ (n a : ℕ) where
   -- what a call does; k: its number, where it has one
   abbrev pub call : ℕ → Call → Turn → Turn
   call k Call.Spawn u = spawned (next_serial u.node.watch) u
-  call k (Call.LookUp look) u = looked look (seen_in u.node.replica.table look) u
+  call k (Call.LookUp look) u = looked look (seen_in u.node.replica look) u
   call k (Call.OnName c) u = queued (Op.Name k c) (count_call u)
   call k (Call.SetLock p r q target retries) u = try_lock n a (new_call n a k p r q target retries) (count_call u)
   call k (Call.DelLock p r q target) u = delete_lock n a (new_call n a k p r q target (Times 0)) (count_call u)

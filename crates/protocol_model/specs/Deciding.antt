@@ -18,8 +18,8 @@ module _ (n a : ℕ) (number : ℕ → ℕ) where
   admit j pairs asked s u =
       send j
       (Letter.Welcome (with_node j u.node.replica.members)
-      (put_all s.puts u.node.replica.table) u.node.replica.told s.kills)
-      (send_all n u.node.replica.members (Letter.Admit j s.puts s.kills)
+      (put_all s.puts u.node.replica.table) u.node.replica.told s.fate)
+      (send_all n u.node.replica.members (Letter.Admit j s)
       (at_work (Current.Writing (Op.Admission j pairs) asked (with_node j u.node.replica.members) None)
       (enter (Entry.Join j (number j) a Joined) u)))
 

@@ -57,7 +57,7 @@ pub record Headline (o : Opening) (ps : List Played) (now : Seen) : Type 0 where
   -- and it is answered what its node shows
   pub reads : (a : ℕ) (look : Look) → IsRunning o (standing o ps) a →
       filter is_unnumbered (now.answers (At a (Event.Calling (Call.LookUp look))))
-      ≡ answer_to a 0 (seen_in (now.node a).table look) ∷ []
+      ≡ answer_to a 0 (seen_in (now.node a) look) ∷ []
   -- a `spawn` gives the next process
   pub spawns : (a : ℕ) (q : Process) → Contains (now.answers (At a (Event.Calling Call.Spawn))) (answer_to a 0 (Pid q)) →
       IsNextProcess ps now.dead a q

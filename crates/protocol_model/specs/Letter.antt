@@ -1,7 +1,8 @@
 -- Letters: what one node sends to another, or to itself.
-use Rattle.std.specs.Prelude.{ℕ, Bool, true, false, ◌&&◌, ◌==◌, List}
+use Rattle.std.specs.Prelude.{ℕ, Bool, true, false, ◌&&◌, ◌==◌}
 use Rattle.registry_model.specs.Process.{Text, Process, Nodes}
 use Rattle.registry_model.specs.Table.{Table, Change}
+use Rattle.registry_model.specs.Settlement.{Fate, Settled}
 
 -- a lock's id, a resource and a requester: the resource `global` under a node, or another's
 pub data Id : Type 0 where
@@ -30,8 +31,8 @@ pub data Letter : Type 0 where
   Applied : Letter  -- a write, an admission or a welcome was carried out
   JoinAsk : (pairs : Table) → Letter  -- a lone node asks to join, with its whole table
   JoinRefused : Letter  -- the node that was asked isn't joined itself
-  Admit : (joiner : ℕ) → (puts : Table) → (kills : List Process) → Letter  -- to each member
-  Welcome : (members : Nodes) → (pairs : Table) → (told : Nodes) → (kills : List Process) → Letter  -- to the joiner
+  Admit : (joiner : ℕ) → (settled : Settled) → Letter  -- to each member
+  Welcome : (members : Nodes) → (pairs : Table) → (told : Nodes) → (fate : Fate) → Letter  -- to the joiner
   Down : Letter  -- the sender has left
 
 -- the letter says that its sender has left

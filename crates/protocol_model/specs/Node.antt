@@ -103,7 +103,7 @@ put_call c (d ∷ cs) =
 
 -- a put whose owner's node is told to have left removes the name instead; all else is written as it stands
 abbrev pub unless_told : Nodes → Change → Change
-unless_told told (Put x p) = if told p.node then Remove x else Put x p
+unless_told told (Put pair) = if told pair.owner.node then Remove pair.name else Put pair
 unless_told told c = c
 
 -- the rule Write

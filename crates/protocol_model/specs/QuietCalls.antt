@@ -1,6 +1,6 @@
 -- What a `set_lock` with no retries is answered in a quiet world. es: the events so far; w: the world that they made.
 use mathlib.Core.Logic.{◌⊎◌}
-use Rattle.std.specs.Prelude.{ℕ, Bool, true, false, ◌+◌, ◌≡◌, ◌<◌, Contains, None, List, ◌∷◌}
+use Rattle.std.specs.Prelude.{ℕ, true, false, ◌+◌, ◌≡◌, ◌<◌, Contains, None, List, ◌∷◌}
 use Rattle.std.specs.List.{list_all}
 use Rattle.registry_model.specs.Process.{Text, Process, Nodes}
 use Rattle.registry_model.specs.Call.{Reply, True, False}

@@ -1,9 +1,10 @@
 -- A step of a node that a letter makes.
 -- n: above all nodes of the world. a: this node. number j: the number of j's current join, for the history alone.
-use Rattle.std.specs.Prelude.{ℕ, Bool, true, not, ◌&&◌, ◌||◌, ◌==◌, fold, List, if◌then◌else◌}
+use Rattle.std.specs.Prelude.{ℕ, Bool, true, not, ◌&&◌, ◌||◌, ◌==◌, fold, if◌then◌else◌}
 use Rattle.registry_model.specs.Process.{Process, is_process, Nodes, with_node, without_node}
 use Rattle.registry_model.specs.Table.{Table, Put, without}
 use Rattle.registry_model.specs.Call.{Joined, NotMember}
+use Rattle.registry_model.specs.Settlement.{Fate, Settled}
 use Rattle.registry_model.specs.Registry.{Replica}
 use Rattle.registry_model.specs.History.{Entry}
 use Rattle.protocol_model.specs.Letter.{Id, Letter, is_down}
@@ -20,8 +21,8 @@ abbrev pub with_member : ℕ → Replica → Replica
 with_member j v = if v.told j then v else record v { members = with_node j v.members }
 
 -- j is admitted: it is a member, and its names are written
-abbrev pub admitted : ℕ → Table → Replica → Replica
-admitted j puts v = fold (λ replica pair. wrote (Put pair.name pair.owner) replica) (with_member j v) puts
+abbrev pub admitted : ℕ → Settled → Replica → Replica
+admitted j settled v = fold (λ replica pair. wrote (Put pair) replica) (with_member j v) settled.puts
 
 -- what a joined node has of these members and this table, where it was told that these have left
 abbrev pub joined_with : Nodes → Table → Nodes → Replica
@@ -66,14 +67,14 @@ module _ (n a : ℕ) (number : ℕ → ℕ) where
   refused_join f (Current.Joining k m) u = if m == f then reply_with a k NotMember (at_work Current.Free u) else u
   refused_join f _ u = u
 
-  -- a join by f is granted, and these die
-  abbrev pub welcome : ℕ → Nodes → Table → Nodes → List Process → Current → Turn → Turn
-  welcome f members pairs told kills (Current.Joining k m) u =
+  -- a join by f is granted, and who lost a name by it dies
+  abbrev pub welcome : ℕ → Nodes → Table → Nodes → Fate → Current → Turn → Turn
+  welcome f members pairs told fate (Current.Joining k m) u =
       if m == f
       then send f Letter.Applied (reply_with a k Joined
-      (at_work Current.Free (kill n a kills (with_replica (welcomed members pairs told) u))))
+      (at_work Current.Free (kill n a fate.kills (with_replica (welcomed members pairs told) u))))
       else u
-  welcome f members pairs told kills _ u = u
+  welcome f members pairs told fate _ u = u
 
   -- the departure of d is entered, and this node takes it in
   abbrev pub told_of : ℕ → Turn → Turn
@@ -102,8 +103,9 @@ module _ (n a : ℕ) (number : ℕ → ℕ) where
   read f Letter.Applied u = await_less n a f u.node.current u
   read f (Letter.JoinAsk pairs) u = asked_to_admit f pairs u
   read f Letter.JoinRefused u = refused_join f u.node.current u
-  read f (Letter.Admit j puts kills) u = send f Letter.Applied (kill n a kills (with_replica (admitted j puts) u))
-  read f (Letter.Welcome members pairs told kills) u = welcome f members pairs told kills u.node.current u
+  read f (Letter.Admit j settled) u =
+      send f Letter.Applied (kill n a settled.fate.kills (with_replica (admitted j settled) u))
+  read f (Letter.Welcome members pairs told fate) u = welcome f members pairs told fate u.node.current u
   read f Letter.Down u = bereave f u
 
   -- a letter from a node that is told to have left is dropped unread, but for `Down`

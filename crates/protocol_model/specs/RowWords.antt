@@ -88,10 +88,10 @@ abbrev pub spawn : ℕ → Line
 spawn n = call n Call.Spawn
 
 abbrev pub register : ℕ → Text → Process → Line
-register n name owner = call n (Call.OnName (NameCall.Register name owner))
+register n name owner = call n (Call.OnName (NameCall.Register (record { name = name; owner = owner })))
 
 abbrev pub re_register : ℕ → Text → Process → Line
-re_register n name owner = call n (Call.OnName (NameCall.ReRegister name owner))
+re_register n name owner = call n (Call.OnName (NameCall.ReRegister (record { name = name; owner = owner })))
 
 abbrev pub unregister : ℕ → Text → Line
 unregister n name = call n (Call.OnName (NameCall.Unregister name))

@@ -46,8 +46,8 @@ is_replica n v u =
 
 -- whether two name calls are one
 abbrev pub is_call : NameCall → NameCall → Bool
-is_call (NameCall.Register x p) (NameCall.Register y q) = (x == y) && is_process p q
-is_call (NameCall.ReRegister x p) (NameCall.ReRegister y q) = (x == y) && is_process p q
+is_call (NameCall.Register e) (NameCall.Register f) = is_pair e f
+is_call (NameCall.ReRegister e) (NameCall.ReRegister f) = is_pair e f
 is_call (NameCall.Unregister x) (NameCall.Unregister y) = x == y
 is_call _ _ = false
 

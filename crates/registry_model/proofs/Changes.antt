@@ -3,7 +3,7 @@ use Rattle.std.proofs.Common.{Bool, true, false, ◌≡◌, Option, Some, None, 
 use Rattle.std.specs.Prelude.{◌⊎◌, not}
 use Rattle.std.proofs.lemmas.Bool.{cases_eq, eq-eqb, ne_eqb}
 use Rattle.registry_model.specs.Process.{Text, Process, is_process, Nodes}
-use Rattle.registry_model.specs.Table.{Table, is_rising, get, put, put_all, remove, strike, without, Change, Put, Remove, StrikeOwner, changed}
+use Rattle.registry_model.specs.Table.{Pair, Table, is_rising, get, put, put_all, remove, strike, without, Change, Put, Remove, StrikeOwner, changed}
 use Rattle.registry_model.specs.SharedLaws.{IsGiven, IsStruck, IsChanged, IsWithout, IsWrittenOver, IsTheTable}
 use Rattle.registry_model.proofs.Lists.{is_process-same, is_process-other, cases_process}
 use Rattle.registry_model.proofs.Tables.{if_kept, or_else, same_table, get-put, get-remove, get-strike, get-without, get-put_all, is_rising-changed, is_rising-without, is_rising-put_all}
@@ -36,11 +36,11 @@ struck_alike p t u v g h y = go (cases_owner (get y t))
     ]
     go (inr e) = other (λ k. cc)
 
--- a put gives the name to p
-pub is_given-put : (x : Text) (p : Process) (t : Table) → IsGiven x (Some p) t (put x p t)
-is_given-put x p t = record {
-  here = get-put x p t x ∙ rw (eq-eqb x x refl);
-  elsewhere = λ y ne. get-put x p t y ∙ rw (ne_eqb x y (λ e. ne (sym e)));
+-- a put gives the name to its owner
+pub is_given-put : (new : Pair) (t : Table) → IsGiven new.name (Some new.owner) t (put new t)
+is_given-put new t = record {
+  here = get-put new t new.name ∙ rw (eq-eqb new.name new.name refl);
+  elsewhere = λ y ne. get-put new t y ∙ rw (ne_eqb new.name y (λ e. ne (sym e)));
 }
 
 -- a removal gives it to nobody
@@ -63,11 +63,11 @@ is_struck-strike p t r = record {
 
 -- each change of a rising table
 pub change_law : (c : Change) (t : Table) → is_rising t ≡ true → IsTheTable (IsChanged c t) (changed c t)
-change_law (Put x p) t r = record {
-  rises = is_rising-changed (Put x p) t r;
-  so = is_given-put x p t;
-  alone = λ u s g. same_table u (put x p t) s (is_rising-changed (Put x p) t r)
-      (given_alike x (Some p) t u (put x p t) g (is_given-put x p t));
+change_law (Put new) t r = record {
+  rises = is_rising-changed (Put new) t r;
+  so = is_given-put new t;
+  alone = λ u s g. same_table u (put new t) s (is_rising-changed (Put new) t r)
+      (given_alike new.name (Some new.owner) t u (put new t) g (is_given-put new t));
 }
 change_law (Remove x) t r = record {
   rises = is_rising-changed (Remove x) t r;

@@ -40,7 +40,7 @@ dead_stays r (Name n k call reply) p d = go (is_grant reply)
     go false = d
 dead_stays r (Strike q) p d = ap (λ (f : Process → Bool). f p) (dead-with_table q.node (changed (StrikeOwner q)) r) ∙ d
 dead_stays r (Join j k m Joined) p d =
-    or_left (r.dead p) (list_any (is_process p) (settle (view r m) (r.lone j)).kills) d
+    or_left (r.dead p) (list_any (is_process p) (settle (view r m) (r.lone j)).fate.kills) d
 dead_stays r (Join j k m _) p d = d
 dead_stays r (Done n) p d = d
 dead_stays r (Exit q) p d = or_right (is_process p q) (r.dead p) d
@@ -93,14 +93,14 @@ joined_stays_after r (e ∷ h) n d = joined_stays_after (effect e r) h n (joined
 -- an entry that kills p
 pub data Kills (r : Registry) (p : Process) : Entry → Type 0 where
   ByExit : Kills r p (Exit p)
-  ByJoin : (j k m : ℕ) → Contains (settle (view r m) (r.lone j)).kills p → Kills r p (Join j k m Joined)
+  ByJoin : (j k m : ℕ) → Contains (settle (view r m) (r.lone j)).fate.kills p → Kills r p (Join j k m Joined)
 
 -- whom an entry kills is dead after it
 pub Kills-dead : (r : Registry) (e : Entry) (p : Process) → Kills r p e → (effect e r).dead p ≡ true
 Kills-dead r e p ByExit = or_left (is_process p p) (r.dead p) (is_process-same p)
 Kills-dead r e p (ByJoin j k m c) =
-    or_right (r.dead p) (list_any (is_process p) (settle (view r m) (r.lone j)).kills)
-    (list_any-Contains p (settle (view r m) (r.lone j)).kills c)
+    or_right (r.dead p) (list_any (is_process p) (settle (view r m) (r.lone j)).fate.kills)
+    (list_any-Contains p (settle (view r m) (r.lone j)).fate.kills c)
 
 -- who is dead after an entry was dead before it, or is killed by it
 pub dead-cases : (r : Registry) (e : Entry) (p : Process) → (effect e r).dead p ≡ true → (r.dead p ≡ true) ⊎ Kills r p e
@@ -112,9 +112,9 @@ dead-cases r (Name n k call reply) p d = inl (go (is_grant reply) d)
 dead-cases r (Strike q) p d =
     inl (ap (λ (f : Process → Bool). f p) (sym (dead-with_table q.node (changed (StrikeOwner q)) r)) ∙ d)
 dead-cases r (Join j k m Joined) p d =
-    elim (or_cases (r.dead p) (list_any (is_process p) (settle (view r m) (r.lone j)).kills) d) [
+    elim (or_cases (r.dead p) (list_any (is_process p) (settle (view r m) (r.lone j)).fate.kills) d) [
       | inl h ↦ inl h
-      | inr h ↦ inr (ByJoin j k m (Contains-list_any p (settle (view r m) (r.lone j)).kills h))
+      | inr h ↦ inr (ByJoin j k m (Contains-list_any p (settle (view r m) (r.lone j)).fate.kills h))
     ]
 dead-cases r (Join j k m _) p d = inl d
 dead-cases r (Done n) p d = inl d

@@ -4,7 +4,7 @@ use Rattle.std.specs.Prelude.{if◌then◌else◌, not, ◌&&◌, ◌||◌, is_s
 use Rattle.std.proofs.lemmas.Bool.{and_parts, not-true}
 use Rattle.std.proofs.lemmas.Slice.Eq.{bytes_eq-Decides}
 use Rattle.registry_model.specs.Process.{Text, Process, Nodes}
-use Rattle.registry_model.specs.Table.{Table, get, owns}
+use Rattle.registry_model.specs.Table.{Pair, Table, get, owns}
 use Rattle.registry_model.specs.Call.{NameCall, Register, ReRegister, Reply, Yes, No, Ok, UnknownNode, True, False, Joined, NotMember, ContactLeft, Pid, Undefined, Names, is_reply, is_grant, reply_to}
 use Rattle.registry_model.specs.Registry.{view, members}
 use Rattle.registry_model.specs.History.{Entry, Name, Strike, Join, Done, Exit, Left, Told, Read, Standing, is_free}
@@ -96,28 +96,30 @@ decider_is_free s (Told n c) b l d = absurd cc
 decider_is_free s (Read n look reply) b l d = absurd cc
 
 -- `register` was answered `yes`
-pub record YesToRegister (gone : Nodes) (table : Table) (x : Text) (p : Process) : Type 0 where
-  pub name : get x table ≡ None
-  pub owner : owns p table ≡ false
-  pub member : gone p.node ≡ true
+pub record YesToRegister (members : Nodes) (table : Table) (new : Pair) : Type 0 where
+  pub name : get new.name table ≡ None
+  pub owner : owns new.owner table ≡ false
+  pub member : members new.owner.node ≡ true
 
 -- from the reply
-pub yes_to_register : (members : Nodes) (table : Table) (x : Text) (p : Process) →
-    Yes ≡ reply_to members table (Register x p) → YesToRegister members table x p
-yes_to_register members table x p h = go (members p.node) refl (get x table) refl (owns p table) refl h
+pub yes_to_register : (members : Nodes) (table : Table) (new : Pair) →
+    Yes ≡ reply_to members table (Register new) → YesToRegister members table new
+yes_to_register members table new h =
+    go (members new.owner.node) refl (get new.name table) refl (owns new.owner table) refl h
   where
-    go : (m : Bool) → members p.node ≡ m → (o : Option Process) → get x table ≡ o → (b : Bool) → owns p table ≡ b →
-        Yes ≡ (if not m then UnknownNode else (if is_some o || b then No else Yes)) → YesToRegister members table x p
+    go : (m : Bool) → members new.owner.node ≡ m → (o : Option Process) → get new.name table ≡ o → (b : Bool) →
+        owns new.owner table ≡ b → Yes ≡ (if not m then UnknownNode else (if is_some o || b then No else Yes)) →
+        YesToRegister members table new
     go false k o g b i e = absurd cc
     go true k (Some q) g b i e = absurd cc
     go true k None g true i e = absurd cc
     go true k None g false i e = record { name = g; owner = i; member = k }
 
 -- a granted `register` was answered `yes`
-pub granted_register : (members : Nodes) (table : Table) (x : Text) (p : Process) (r : Reply) →
-    r ≡ reply_to members table (Register x p) → is_grant r ≡ true → r ≡ Yes
-granted_register members table x p r e g = e
-    ∙ go (members p.node) (is_some (get x table) || owns p table) (ap is_grant (sym e) ∙ g)
+pub granted_register : (members : Nodes) (table : Table) (new : Pair) (r : Reply) →
+    r ≡ reply_to members table (Register new) → is_grant r ≡ true → r ≡ Yes
+granted_register members table new r e g = e
+    ∙ go (members new.owner.node) (is_some (get new.name table) || owns new.owner table) (ap is_grant (sym e) ∙ g)
   where
     go : (m b : Bool) → is_grant (if not m then UnknownNode else (if b then No else Yes)) ≡ true →
         (if not m then UnknownNode else (if b then No else Yes)) ≡ Yes
@@ -126,12 +128,12 @@ granted_register members table x p r e g = e
     go true false h = refl
 
 -- a granted `re_register` was answered `yes`, and the owner's node is a member
-pub granted_re_register : (members : Nodes) (table : Table) (x : Text) (p : Process) (r : Reply) →
-    r ≡ reply_to members table (ReRegister x p) → is_grant r ≡ true →
-    (r ≡ Yes) × (members p.node ≡ true)
-granted_re_register members table x p r e g = go (members p.node) refl e
+pub granted_re_register : (members : Nodes) (table : Table) (new : Pair) (r : Reply) →
+    r ≡ reply_to members table (ReRegister new) → is_grant r ≡ true →
+    (r ≡ Yes) × (members new.owner.node ≡ true)
+granted_re_register members table new r e g = go (members new.owner.node) refl e
   where
-    go : (m : Bool) → members p.node ≡ m → r ≡ (if not m then UnknownNode else Yes) →
-        (r ≡ Yes) × (members p.node ≡ true)
+    go : (m : Bool) → members new.owner.node ≡ m → r ≡ (if not m then UnknownNode else Yes) →
+        (r ≡ Yes) × (members new.owner.node ≡ true)
     go false k h = let w : is_grant UnknownNode ≡ true = ap is_grant (sym h) ∙ g in absurd cc
     go true k h = (h, k)

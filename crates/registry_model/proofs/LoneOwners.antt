@@ -3,7 +3,7 @@ use Rattle.std.proofs.Common.{ℕ, Bool, true, false, ◌==◌, ◌≡◌, Optio
 use Rattle.std.specs.Prelude.{if◌then◌else◌, not}
 use Rattle.std.proofs.lemmas.Bool.{eqb-true, and_parts}
 use Rattle.registry_model.specs.Process.{Text, Process, is_process, Nodes, at}
-use Rattle.registry_model.specs.Table.{Table, is_rising, get, put, remove, strike, changed, StrikeOwner}
+use Rattle.registry_model.specs.Table.{Pair, Table, is_rising, get, put, remove, strike, changed, StrikeOwner}
 use Rattle.registry_model.specs.Call.{NameCall, Register, ReRegister, Unregister, Reply, Yes, Joined, is_grant, change_of}
 use Rattle.registry_model.specs.Registry.{Registry, in_group, with_table, view, members}
 use Rattle.registry_model.specs.History.{Entry, Name, Strike, Join, Done, Exit, Left, Told, Read, effect, Standing, standing_of}
@@ -19,11 +19,11 @@ pub record IsOwn (n : ℕ) (t : Table) : Type 0 where
   pub owner : (x : Text) (p : Process) → get x t ≡ Some p → p.node ≡ n
 
 -- a name is put for a process of n
-pub IsOwn-put : (n : ℕ) (t : Table) (y : Text) (q : Process) → q.node ≡ n → IsOwn n t → IsOwn n (put y q t)
-IsOwn-put n t y q i o = record { owner = λ x p h. go x p (y == x) (sym (get-put y q t x) ∙ h) }
+pub IsOwn-put : (n : ℕ) (t : Table) (new : Pair) → new.owner.node ≡ n → IsOwn n t → IsOwn n (put new t)
+IsOwn-put n t new i o = record { owner = λ x p h. go x p (new.name == x) (sym (get-put new t x) ∙ h) }
   where
-    go : (x : Text) (p : Process) (b : Bool) → (if b then Some q else get x t) ≡ Some p → p.node ≡ n
-    go x p true h = let e : q ≡ p = cc in ap (λ (r : Process). r.node) (sym e) ∙ i
+    go : (x : Text) (p : Process) (b : Bool) → (if b then Some new.owner else get x t) ≡ Some p → p.node ≡ n
+    go x p true h = let e : new.owner ≡ p = cc in ap (λ (r : Process). r.node) (sym e) ∙ i
     go x p false h = o.owner x p h
 
 -- a name is removed
@@ -76,15 +76,15 @@ members-lone r n c j m = go (r.joined n) j (and_parts (in_group r n c) (not (r.t
 pub IsOwn-granted : (s : Standing) (n : ℕ) (call : NameCall) (reply : Reply) → NameIsLegal s n call reply →
     is_grant reply ≡ true → s.registry.joined n ≡ false →
     IsOwn n (s.registry.lone n) → IsOwn n (changed (change_of call) (s.registry.lone n))
-IsOwn-granted s n (Register x p) reply l g j o =
-    let e : reply ≡ Yes = granted_register (members s.registry n) (view s.registry n) x p reply l.answer g in
-    let y : YesToRegister (members s.registry n) (view s.registry n) x p =
-    yes_to_register (members s.registry n) (view s.registry n) x p (sym e ∙ l.answer) in
-    IsOwn-put n (s.registry.lone n) x p (members-lone s.registry n p.node j y.member) o
-IsOwn-granted s n (ReRegister x p) reply l g j o =
-    let y : (reply ≡ Yes) × (members s.registry n p.node ≡ true) =
-    granted_re_register (members s.registry n) (view s.registry n) x p reply l.answer g in
-    IsOwn-put n (s.registry.lone n) x p (members-lone s.registry n p.node j y.1) o
+IsOwn-granted s n (Register new) reply l g j o =
+    let e : reply ≡ Yes = granted_register (members s.registry n) (view s.registry n) new reply l.answer g in
+    let y : YesToRegister (members s.registry n) (view s.registry n) new =
+    yes_to_register (members s.registry n) (view s.registry n) new (sym e ∙ l.answer) in
+    IsOwn-put n (s.registry.lone n) new (members-lone s.registry n new.owner.node j y.member) o
+IsOwn-granted s n (ReRegister new) reply l g j o =
+    let y : (reply ≡ Yes) × (members s.registry n new.owner.node ≡ true) =
+    granted_re_register (members s.registry n) (view s.registry n) new reply l.answer g in
+    IsOwn-put n (s.registry.lone n) new (members-lone s.registry n new.owner.node j y.1) o
 IsOwn-granted s n (Unregister x) reply l g j o = IsOwn-remove n (s.registry.lone n) x o
 
 -- each legal entry

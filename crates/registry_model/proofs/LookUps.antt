@@ -8,6 +8,7 @@ use Rattle.std.proofs.lemmas.List.Elements.{Contains-get_or}
 use Rattle.registry_model.specs.Process.{Text, Process}
 use Rattle.registry_model.specs.Table.{Table, is_below, is_rising, get, names}
 use Rattle.registry_model.specs.Call.{Look, Whereis, RegisteredNames, Reply, Names, pid_or_undefined, seen_in}
+use Rattle.registry_model.specs.Registry.{Replica}
 use Rattle.registry_model.specs.SharedLaws.{AreNames, IsSeenIn}
 use Rattle.registry_model.specs.SharedLaws.IsSeenIn.{OwnerOf, NoOwnerOf, AllNames}
 use Rattle.registry_model.proofs.Lists.{Contains-cases, Contains-front, Contains-behind, Contains-nil}
@@ -121,24 +122,24 @@ names-AreNames t xs r a = same_rising xs (names t) a.rising (rising-names t r)
     ))
 
 -- the reply in words is the function's
-pub seen_in-from_words : (t : Table) (look : Look) (r : Reply) → is_rising t ≡ true → IsSeenIn t look r →
-    r ≡ seen_in t look
-seen_in-from_words t look r rises (OwnerOf x p h) = rw h refl
-seen_in-from_words t look r rises (NoOwnerOf x h) = rw h refl
-seen_in-from_words t look r rises (AllNames xs a) = ap (λ (ys : List Text). Names ys) (names-AreNames t xs rises a)
+pub seen_in-from_words : (v : Replica) (look : Look) (r : Reply) → is_rising v.table ≡ true → IsSeenIn v look r →
+    r ≡ seen_in v look
+seen_in-from_words v look r rises (OwnerOf x p h) = rw h refl
+seen_in-from_words v look r rises (NoOwnerOf x h) = rw h refl
+seen_in-from_words v look r rises (AllNames xs a) = ap (λ (ys : List Text). Names ys) (names-AreNames v.table xs rises a)
 
 -- the function's reply in words
-pub seen_in_words : (t : Table) (look : Look) → is_rising t ≡ true → IsSeenIn t look (seen_in t look)
-seen_in_words t (Whereis x) rises = go (get x t) refl
+pub seen_in_words : (v : Replica) (look : Look) → is_rising v.table ≡ true → IsSeenIn v look (seen_in v look)
+seen_in_words v (Whereis x) rises = go (get x v.table) refl
   where
-    go : (o : Option Process) → get x t ≡ o → IsSeenIn t (Whereis x) (pid_or_undefined o)
+    go : (o : Option Process) → get x v.table ≡ o → IsSeenIn v (Whereis x) (pid_or_undefined o)
     go None h = NoOwnerOf x h
     go (Some p) h = OwnerOf x p h
-seen_in_words t RegisteredNames rises = AllNames (names t) (AreNames-names t rises)
+seen_in_words v RegisteredNames rises = AllNames (names v.table) (AreNames-names v.table rises)
 
 -- each look-up has one reply
-pub look_law : (t : Table) (look : Look) (r : Reply) → is_rising t ≡ true → IsSeenIn t look r ↔ (r ≡ seen_in t look)
-look_law t look r rises = (
-  seen_in-from_words t look r rises,
-  λ e. subst (λ (s : Reply). IsSeenIn t look s) (sym e) (seen_in_words t look rises),
+pub look_law : (v : Replica) (look : Look) (r : Reply) → is_rising v.table ≡ true → IsSeenIn v look r ↔ (r ≡ seen_in v look)
+look_law v look r rises = (
+  seen_in-from_words v look r rises,
+  λ e. subst (λ (s : Reply). IsSeenIn v look s) (sym e) (seen_in_words v look rises),
 )

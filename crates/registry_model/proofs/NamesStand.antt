@@ -58,33 +58,33 @@ pub stands-granted : (s : Standing) (m k : ℕ) (call : NameCall) (reply : Reply
     Rises s.registry → get x (view s.registry n) ≡ Some p → in_group s.registry n m ≡ true →
     (get x (view (with_table m (changed (change_of call)) s.registry) n) ≡ Some p)
     ⊎ Takes s.registry n x p (Name m k call reply)
-stands-granted s m k (Register y q) reply n x p l gr g h i = elim (cases_eq y x) [
-  | inl e ↦ inr (subst (λ (f : Entry). Takes s.registry n x p f)
-      (sym (ap₂ (λ (y : Text) (reply : Reply). Name m k (Register y q) reply) e is_yes)) (Retaken m k q i (told e)))
-  | inr ne ↦ inl (stays-with_table m (Put y q) s.registry n x p g h i (λ w. get-put y q (table_of s.registry n) x
-      ∙ rw (ne_eqb y x ne) w))
+stands-granted s m k (Register new) reply n x p l gr g h i = elim (cases_eq new.name x) [
+  | inl e ↦ inr (subst (λ (reply : Reply). Takes s.registry n x p (Name m k (Register new) reply)) (sym is_yes)
+      (Retaken m k new e i (told e)))
+  | inr ne ↦ inl (stays-with_table m (Put new) s.registry n x p g h i (λ w. get-put new (table_of s.registry n) x
+      ∙ rw (ne_eqb new.name x ne) w))
 ]
   where
     is_yes : reply ≡ Yes
-    is_yes = granted_register (members s.registry m) (view s.registry m) y q reply l.answer gr
+    is_yes = granted_register (members s.registry m) (view s.registry m) new reply l.answer gr
 
-    unseen : YesToRegister (members s.registry m) (view s.registry m) y q
-    unseen = yes_to_register (members s.registry m) (view s.registry m) y q (sym is_yes ∙ l.answer)
+    unseen : YesToRegister (members s.registry m) (view s.registry m) new
+    unseen = yes_to_register (members s.registry m) (view s.registry m) new (sym is_yes ∙ l.answer)
 
-    told : y ≡ x → s.registry.told m p.node ≡ true
+    told : new.name ≡ x → s.registry.told m p.node ≡ true
     told e = get-unseen (s.registry.told m) (table_of s.registry m) (is_rising-table_of s.registry g m) x p
         (subst (λ (z : Text). get z (view s.registry m) ≡ None) e unseen.name)
         (ap (get x) (table_of-group s.registry n m i)
         ∙ (get-seen (s.registry.told n) (table_of s.registry n) (is_rising-table_of s.registry g n) x p h).0)
-stands-granted s m k (ReRegister y q) reply n x p l gr g h i = elim (cases_eq y x) [
-  | inl e ↦ inr (subst (λ (f : Entry). Takes s.registry n x p f)
-      (sym (ap₂ (λ (y : Text) (reply : Reply). Name m k (ReRegister y q) reply) e is_yes)) (Replaced m k q i))
-  | inr ne ↦ inl (stays-with_table m (Put y q) s.registry n x p g h i (λ w. get-put y q (table_of s.registry n) x
-      ∙ rw (ne_eqb y x ne) w))
+stands-granted s m k (ReRegister new) reply n x p l gr g h i = elim (cases_eq new.name x) [
+  | inl e ↦ inr (subst (λ (reply : Reply). Takes s.registry n x p (Name m k (ReRegister new) reply)) (sym is_yes)
+      (Replaced m k new e i))
+  | inr ne ↦ inl (stays-with_table m (Put new) s.registry n x p g h i (λ w. get-put new (table_of s.registry n) x
+      ∙ rw (ne_eqb new.name x ne) w))
 ]
   where
     is_yes : reply ≡ Yes
-    is_yes = (granted_re_register (members s.registry m) (view s.registry m) y q reply l.answer gr).0
+    is_yes = (granted_re_register (members s.registry m) (view s.registry m) new reply l.answer gr).0
 stands-granted s m k (Unregister y) reply n x p l gr g h i = elim (cases_eq y x) [
   | inl e ↦ inr (subst (λ (f : Entry). Takes s.registry n x p f)
       (sym (ap₂ (λ (y : Text) (reply : Reply). Name m k (Unregister y) reply) e l.answer)) (GivenUp m k i))
@@ -288,13 +288,13 @@ stand_law cluster h l before later e n x p s seen =
 
 -- who is answered `yes` registered a free name
 pub yes_law : (cluster : Nodes) (h : List Entry) → IsLegal cluster h → YesToTheFree cluster h
-yes_law cluster h l before later n k x p s =
-    let legal : IsLegal cluster (before ++ Name n k (Register x p) Yes ∷ later) =
+yes_law cluster h l before later n k new s =
+    let legal : IsLegal cluster (before ++ Name n k (Register new) Yes ∷ later) =
     subst (λ (h : List Entry). IsLegal cluster h) s l in
     let t : Standing = standing_of cluster before in
-    let a : NameIsLegal t n (Register x p) Yes =
-    name_is_legal t n (Register x p) Yes (is_legal-at cluster before later (Name n k (Register x p) Yes) legal) in
-    let y : YesToRegister (members t.registry n) (view t.registry n) x p =
-    yes_to_register (members t.registry n) (view t.registry n) x p a.answer in
-    subst (λ (r : Registry). IsFreeFor r n x p) (registry-standing_of cluster before)
+    let a : NameIsLegal t n (Register new) Yes =
+    name_is_legal t n (Register new) Yes (is_legal-at cluster before later (Name n k (Register new) Yes) legal) in
+    let y : YesToRegister (members t.registry n) (view t.registry n) new =
+    yes_to_register (members t.registry n) (view t.registry n) new a.answer in
+    subst (λ (r : Registry). IsFreeFor r n new) (registry-standing_of cluster before)
     (record { name = y.name; owner = y.owner; member = y.member })

@@ -1,8 +1,8 @@
 -- What name calls make of tables, in words.
 use Rattle.std.proofs.Common.{ℕ, Bool, true, false, ◌≡◌, Some, None, List, ◌∷◌, ◌++◌, refl, sym, subst}
 use Rattle.std.specs.Prelude.{if◌then◌else◌}
-use Rattle.registry_model.specs.Process.{Text, Process, Nodes}
-use Rattle.registry_model.specs.Table.{Table, Change, Put, Remove, is_rising, changed}
+use Rattle.registry_model.specs.Process.{Text, Nodes}
+use Rattle.registry_model.specs.Table.{Pair, Table, Change, Put, Remove, is_rising, changed}
 use Rattle.registry_model.specs.Call.{NameCall, Register, ReRegister, Unregister, Reply, Yes, No, Ok, UnknownNode, is_grant, change_of}
 use Rattle.registry_model.specs.SharedLaws.{IsReplyTo, IsGiven, IsCarriedOut, IsTheTable}
 use Rattle.registry_model.specs.SharedLaws.IsReplyTo.{ForStranger, AgainForStranger, OfUsedName, ForOwner, OfFreeName, OfAnyName, ToGiveUp}
@@ -38,13 +38,14 @@ given_law call reply t c IsSo l to from = record {
 }
 
 -- `register` gives the name
-given_by_register : (x : Text) (p : Process) (t u : Table) → IsOutcome (Register x p) Yes t u → IsGiven x (Some p) t u
-given_by_register x p t u (Registered y q g) = g
+given_by_register : (new : Pair) (t u : Table) → IsOutcome (Register new) Yes t u →
+    IsGiven new.name (Some new.owner) t u
+given_by_register new t u (Registered e g) = g
 
 -- `re_register` gives the name
-given_by_re_register : (x : Text) (p : Process) (t u : Table) → IsOutcome (ReRegister x p) Yes t u →
-    IsGiven x (Some p) t u
-given_by_re_register x p t u (Reregistered y q g) = g
+given_by_re_register : (new : Pair) (t u : Table) → IsOutcome (ReRegister new) Yes t u →
+    IsGiven new.name (Some new.owner) t u
+given_by_re_register new t u (Reregistered e g) = g
 
 -- `unregister` gives it to nobody
 given_by_unregister : (x : Text) (t u : Table) → IsOutcome (Unregister x) Ok t u → IsGiven x None t u
@@ -61,20 +62,20 @@ same_by_unknown_node call t u (OwnerUnknown c e) = e
 -- what each name call makes of a rising table
 pub outcome_law : (members : Nodes) (view t : Table) (call : NameCall) (r : Reply) → is_rising t ≡ true →
     IsReplyTo members view call r → IsTheTable (IsOutcome call r t) (outcome call r t)
-outcome_law members view t call r rises (ForStranger x p m) =
+outcome_law members view t call r rises (ForStranger e m) =
     record { rises = rises; so = OwnerUnknown call refl; alone = λ u s h. same_by_unknown_node call t u h }
-outcome_law members view t call r rises (AgainForStranger x p m) =
+outcome_law members view t call r rises (AgainForStranger e m) =
     record { rises = rises; so = OwnerUnknown call refl; alone = λ u s h. same_by_unknown_node call t u h }
-outcome_law members view t call r rises (OfUsedName x p q m g) =
+outcome_law members view t call r rises (OfUsedName e q m g) =
     record { rises = rises; so = Refused call refl; alone = λ u s h. same_by_no call t u h }
-outcome_law members view t call r rises (ForOwner x p m o) =
+outcome_law members view t call r rises (ForOwner e m o) =
     record { rises = rises; so = Refused call refl; alone = λ u s h. same_by_no call t u h }
-outcome_law members view t call r rises (OfFreeName x p m g f) =
-    given_law (Register x p) Yes t (Put x p) (IsGiven x (Some p) t) (change_law (Put x p) t rises)
-    (λ u g. Registered x p g) (given_by_register x p t)
-outcome_law members view t call r rises (OfAnyName x p m) =
-    given_law (ReRegister x p) Yes t (Put x p) (IsGiven x (Some p) t) (change_law (Put x p) t rises)
-    (λ u g. Reregistered x p g) (given_by_re_register x p t)
+outcome_law members view t call r rises (OfFreeName e m g f) =
+    given_law (Register e) Yes t (Put e) (IsGiven e.name (Some e.owner) t) (change_law (Put e) t rises)
+    (λ u g. Registered e g) (given_by_register e t)
+outcome_law members view t call r rises (OfAnyName e m) =
+    given_law (ReRegister e) Yes t (Put e) (IsGiven e.name (Some e.owner) t) (change_law (Put e) t rises)
+    (λ u g. Reregistered e g) (given_by_re_register e t)
 outcome_law members view t call r rises (ToGiveUp x) =
     given_law (Unregister x) Ok t (Remove x) (IsGiven x None t) (change_law (Remove x) t rises)
     (λ u g. Unregistered x g) (given_by_unregister x t)

@@ -7,7 +7,7 @@ use Rattle.std.proofs.lemmas.List.Elements.{Contains-push_cases, Contains-append
 use Rattle.std.proofs.lemmas.Bool.{ltb-true, ltb-false, lt-ltb, le-ltb, and_parts, and_from, false_from_ne_true, not-true, not_from_false, or_parts, both_ways}
 use Rattle.registry_model.specs.Process.{Text, Process, is_process}
 use Rattle.registry_model.specs.Table.{Pair, Table, is_rising, get, put_all}
-use Rattle.registry_model.specs.Settlement.{Settled, with_put, with_kill, settle_one, settle}
+use Rattle.registry_model.specs.Settlement.{Fate, Settled, unsettled, with_put, doomed, with_kill, settle_one, settle}
 use Rattle.registry_model.specs.SharedLaws.{Loses, Settles}
 use Rattle.registry_model.specs.SharedLaws.Loses.{OfJoiner, OfCluster}
 use Rattle.registry_model.proofs.Lists.{Contains-cases, Contains-front, Contains-behind, Contains-nil, list_any-Contains, Contains-list_any, is_process-eq, is_process-other}
@@ -28,14 +28,6 @@ loser e (Some q) = if nat_lt e.owner.node q.node then Some q else (if is_process
 abbrev pub settle_from : Table → Settled → Table → Settled
 settle_from table s pairs = fold (λ s e. settle_one e (get e.name table) s) s pairs
 
--- a kill writes nothing
-pub puts-with_kill : (p : Process) (s : Settled) → (with_kill p s).puts ≡ s.puts
-puts-with_kill p s = go (list_any (is_process p) s.kills)
-  where
-    go : (b : Bool) → (if b then s else record s { kills = s.kills ++ p ∷ [] }).puts ≡ s.puts
-    go true = refl
-    go false = refl
-
 -- what one name writes
 pub puts-settle_one : (e : Pair) (o : Option Process) (s : Settled) →
     (settle_one e o s).puts ≡ s.puts ++ (if wins e o then e ∷ [] else [])
@@ -44,9 +36,9 @@ puts-settle_one e (Some q) s = go (nat_lt e.owner.node q.node) (is_process e.own
   where
     go : (b c : Bool) → (if b then with_kill q (with_put e s) else (if c then s else with_kill e.owner s)).puts
         ≡ s.puts ++ (if b then e ∷ [] else [])
-    go true c = puts-with_kill q (with_put e s)
+    go true c = refl
     go false true = sym (append-nil s.puts)
-    go false false = puts-with_kill e.owner s ∙ sym (append-nil s.puts)
+    go false false = sym (append-nil s.puts)
 
 -- what a settlement writes: the pairs that win
 pub puts-settle_from : (table pairs : Table) (s : Settled) →
@@ -65,12 +57,12 @@ puts-settle_from table (e ∷ pairs) s =
 
 -- the same from the start
 pub puts-settle : (table pairs : Table) → (settle table pairs).puts ≡ filter (λ e. wins e (get e.name table)) pairs
-puts-settle table pairs = puts-settle_from table pairs (record { puts = []; kills = [] })
+puts-settle table pairs = puts-settle_from table pairs unsettled
 
 -- who is killed
-pub kills-with_kill : (p : Process) (s : Settled) (q : Process) →
-    Contains (with_kill p s).kills q ↔ (Contains s.kills q ⊎ (p ≡ q))
-kills-with_kill p s q = go (list_any (is_process p) s.kills) refl
+pub kills-doomed : (p : Process) (s : Fate) (q : Process) →
+    Contains (doomed p s).kills q ↔ (Contains s.kills q ⊎ (p ≡ q))
+kills-doomed p s q = go (list_any (is_process p) s.kills) refl
   where
     go : (b : Bool) → list_any (is_process p) s.kills ≡ b →
         Contains (if b then s else record s { kills = s.kills ++ p ∷ [] }).kills q ↔ (Contains s.kills q ⊎ (p ≡ q))
@@ -91,19 +83,20 @@ kills-with_kill p s q = go (list_any (is_process p) s.kills) refl
 
 -- who is killed for one name
 pub kills-settle_one : (e : Pair) (o : Option Process) (s : Settled) (q : Process) →
-    Contains (settle_one e o s).kills q ↔ (Contains s.kills q ⊎ (loser e o ≡ Some q))
+    Contains (settle_one e o s).fate.kills q ↔ (Contains s.fate.kills q ⊎ (loser e o ≡ Some q))
 kills-settle_one e None s q = (λ c. inl c, λ c. elim c [ inl d ↦ d | inr k ↦ absurd cc ])
 kills-settle_one e (Some p) s q = go (nat_lt e.owner.node p.node) (is_process e.owner p)
   where
-    some : (a : Process) (t : Settled) → Contains (with_kill a t).kills q ↔ (Contains t.kills q ⊎ (Some a ≡ Some q))
+    some : (a : Process) (t : Settled) →
+        Contains (with_kill a t).fate.kills q ↔ (Contains t.fate.kills q ⊎ (Some a ≡ Some q))
     some a t = (
-      λ c. elim ((kills-with_kill a t q).0 c) [ inl d ↦ inl d | inr k ↦ inr cc ],
-      λ c. elim c [ inl d ↦ (kills-with_kill a t q).1 (inl d) | inr k ↦ (kills-with_kill a t q).1 (inr cc) ],
+      λ c. elim ((kills-doomed a t.fate q).0 c) [ inl d ↦ inl d | inr k ↦ inr cc ],
+      λ c. elim c [ inl d ↦ (kills-doomed a t.fate q).1 (inl d) | inr k ↦ (kills-doomed a t.fate q).1 (inr cc) ],
     )
 
     go : (b c : Bool) → Contains
-        (if b then with_kill p (with_put e s) else (if c then s else with_kill e.owner s)).kills q
-        ↔ (Contains s.kills q ⊎ ((if b then Some p else (if c then None else Some e.owner)) ≡ Some q))
+        (if b then with_kill p (with_put e s) else (if c then s else with_kill e.owner s)).fate.kills q
+        ↔ (Contains s.fate.kills q ⊎ ((if b then Some p else (if c then None else Some e.owner)) ≡ Some q))
     go true c = some p (with_put e s)
     go false true = (λ c. inl c, λ c. elim c [ inl d ↦ d | inr k ↦ absurd cc ])
     go false false = some e.owner s
@@ -114,31 +107,31 @@ LosesOne table pairs q = (e : Pair) × Contains pairs e × (loser e (get e.name 
 
 -- who is killed in a settlement
 pub kills-settle_from : (table pairs : Table) (s : Settled) (q : Process) →
-    Contains (settle_from table s pairs).kills q ↔ (Contains s.kills q ⊎ LosesOne table pairs q)
+    Contains (settle_from table s pairs).fate.kills q ↔ (Contains s.fate.kills q ⊎ LosesOne table pairs q)
 kills-settle_from table [] s q = (λ c. inl c, λ c. elim c [ inl d ↦ d | inr (e, c, k) ↦ absurd (Contains-nil e c) ])
 kills-settle_from table (e ∷ pairs) s q =
     go (kills-settle_from table pairs (settle_one e (get e.name table) s) q) (kills-settle_one e (get e.name table) s q)
   where
-    go : Contains (settle_from table (settle_one e (get e.name table) s) pairs).kills q ↔
-        (Contains (settle_one e (get e.name table) s).kills q ⊎ LosesOne table pairs q) →
-        Contains (settle_one e (get e.name table) s).kills q ↔
-        (Contains s.kills q ⊎ (loser e (get e.name table) ≡ Some q)) →
-        Contains (settle_from table (settle_one e (get e.name table) s) pairs).kills q ↔
-        (Contains s.kills q ⊎ LosesOne table (e ∷ pairs) q)
+    go : Contains (settle_from table (settle_one e (get e.name table) s) pairs).fate.kills q ↔
+        (Contains (settle_one e (get e.name table) s).fate.kills q ⊎ LosesOne table pairs q) →
+        Contains (settle_one e (get e.name table) s).fate.kills q ↔
+        (Contains s.fate.kills q ⊎ (loser e (get e.name table) ≡ Some q)) →
+        Contains (settle_from table (settle_one e (get e.name table) s) pairs).fate.kills q ↔
+        (Contains s.fate.kills q ⊎ LosesOne table (e ∷ pairs) q)
     go rest one = (to, from)
       where
         behind : LosesOne table pairs q → LosesOne table (e ∷ pairs) q
         behind (d, c, k) = (d, Contains-behind e pairs d c, k)
 
-        to : Contains (settle_from table (settle_one e (get e.name table) s) pairs).kills q →
-            Contains s.kills q ⊎ LosesOne table (e ∷ pairs) q
+        to : Contains (settle_from table (settle_one e (get e.name table) s) pairs).fate.kills q →
+            Contains s.fate.kills q ⊎ LosesOne table (e ∷ pairs) q
         to c = elim (rest.0 c) [
           | inl d ↦ elim (one.0 d) [ inl f ↦ inl f | inr k ↦ inr (e, Contains-front e pairs, k) ]
           | inr l ↦ inr (behind l)
         ]
 
-        from : Contains s.kills q ⊎ LosesOne table (e ∷ pairs) q →
-            Contains (settle_from table (settle_one e (get e.name table) s) pairs).kills q
+        from : Contains s.fate.kills q ⊎ LosesOne table (e ∷ pairs) q →
+            Contains (settle_from table (settle_one e (get e.name table) s) pairs).fate.kills q
         from (inl c) = rest.1 (inl (one.1 (inl c)))
         from (inr (d, c, k)) = elim (Contains-cases e pairs d c) [
           | inl i ↦ rest.1 (inl (one.1 (inr (subst (λ (f : Pair). loser f (get f.name table) ≡ Some q) (sym i) k))))
@@ -203,8 +196,8 @@ is_once-push (q ∷ ps) p h n =
         ])
 
 -- a kill keeps it so
-pub is_once-with_kill : (p : Process) (s : Settled) → is_once s.kills ≡ true → is_once (with_kill p s).kills ≡ true
-is_once-with_kill p s h = go (list_any (is_process p) s.kills) refl
+pub is_once-doomed : (p : Process) (s : Fate) → is_once s.kills ≡ true → is_once (doomed p s).kills ≡ true
+is_once-doomed p s h = go (list_any (is_process p) s.kills) refl
   where
     go : (b : Bool) → list_any (is_process p) s.kills ≡ b →
         is_once (if b then s else record s { kills = s.kills ++ p ∷ [] }).kills ≡ true
@@ -212,21 +205,21 @@ is_once-with_kill p s h = go (list_any (is_process p) s.kills) refl
     go false k = is_once-push s.kills p h k
 
 -- and so does a settlement
-pub is_once-settle_from : (table pairs : Table) (s : Settled) → is_once s.kills ≡ true →
-    is_once (settle_from table s pairs).kills ≡ true
+pub is_once-settle_from : (table pairs : Table) (s : Settled) → is_once s.fate.kills ≡ true →
+    is_once (settle_from table s pairs).fate.kills ≡ true
 is_once-settle_from table [] s h = h
 is_once-settle_from table (e ∷ pairs) s h =
     is_once-settle_from table pairs (settle_one e (get e.name table) s) (one (get e.name table))
   where
-    one : (o : Option Process) → is_once (settle_one e o s).kills ≡ true
+    one : (o : Option Process) → is_once (settle_one e o s).fate.kills ≡ true
     one None = h
     one (Some q) = go (nat_lt e.owner.node q.node) (is_process e.owner q)
       where
         go : (b c : Bool) → is_once
-            (if b then with_kill q (with_put e s) else (if c then s else with_kill e.owner s)).kills ≡ true
-        go true c = is_once-with_kill q (with_put e s) h
+            (if b then with_kill q (with_put e s) else (if c then s else with_kill e.owner s)).fate.kills ≡ true
+        go true c = is_once-doomed q s.fate h
         go false true = h
-        go false false = is_once-with_kill e.owner s h
+        go false false = is_once-doomed e.owner s.fate h
 
 -- in words
 pub once-is_once : (before later : List Process) (p : Process) → is_once (before ++ p ∷ later) ≡ true →
@@ -276,16 +269,13 @@ settle_law table pairs rt rp = record {
   rises = is_rising-puts table pairs rp;
   written = λ y p e. kept y p (get y pairs) (sym (get-puts table pairs rp y) ∙ e);
   killed = λ p. (
-    λ c. to p ((kills-settle_from table pairs none p).0 c),
-    λ l. (kills-settle_from table pairs none p).1 (inr (from p l)),
+    λ c. to p ((kills-settle_from table pairs unsettled p).0 c),
+    λ l. (kills-settle_from table pairs unsettled p).1 (inr (from p l)),
   );
   once = λ before later p e c. once-is_once before later p (ap is_once (sym e)
-      ∙ is_once-settle_from table pairs none refl) c;
+      ∙ is_once-settle_from table pairs unsettled refl) c;
 }
   where
-    none : Settled
-    none = record { puts = []; kills = [] }
-
     kept : (y : Text) (p : Process) (o : Option Process) → if_kept (λ q. wins (pair y q) (get y table)) o ≡ Some p →
         o ≡ Some p
     kept y p None h = h

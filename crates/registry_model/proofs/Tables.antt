@@ -27,37 +27,41 @@ get-below x (e ∷ t) r b =
     let h : get x t ≡ None = get-below x t tail.1 (is_below-less e.name x t l tail.0) in
     rw (ne_eqb e.name x (λ i. absurd (omega arith))) h
 
--- put: x has p, and each other name has whom it had
-pub get-put : (x : Text) (p : Process) (t : Table) (y : Text) → get y (put x p t) ≡ (if x == y then Some p else get y t)
-get-put x p [] y = refl
-get-put x p (e ∷ t) y = let h : get y (put x p t) ≡ (if x == y then Some p else get y t) = get-put x p t y in
-    elim (cases_order x e.name) [
+-- put: its name has its owner, and each other name has whom it had
+pub get-put : (new : Pair) (t : Table) (y : Text) →
+    get y (put new t) ≡ (if new.name == y then Some new.owner else get y t)
+get-put new [] y = refl
+get-put new (e ∷ t) y =
+    let h : get y (put new t) ≡ (if new.name == y then Some new.owner else get y t) = get-put new t y in
+    elim (cases_order new.name e.name) [
       | inl i ↦ grind (arith, nat_tests)
       | inr (inl l) ↦ grind (arith, nat_tests)
       | inr (inr g) ↦ grind (arith, nat_tests)
     ]
 
 -- a put keeps what stands below all names
-pub is_below-put : (z x : Text) (p : Process) (t : Table) → z < x → is_below z t ≡ true → is_below z (put x p t) ≡ true
-is_below-put z x p [] l b = lt-ltb z x l
-is_below-put z x p (e ∷ t) l b = elim (cases_order x e.name) [
-  | inl i ↦ rw (eq-eqb e.name x (sym i)) (lt-ltb z x l)
-  | inr (inl k) ↦ rw (ne_eqb e.name x (λ i. absurd (omega arith)), lt-ltb x e.name k) (lt-ltb z x l)
-  | inr (inr g) ↦ rw (ne_eqb e.name x (λ i. absurd (omega arith)), le-ltb x e.name (omega arith)) b
+pub is_below-put : (z : Text) (new : Pair) (t : Table) → z < new.name → is_below z t ≡ true →
+    is_below z (put new t) ≡ true
+is_below-put z new [] l b = lt-ltb z new.name l
+is_below-put z new (e ∷ t) l b = elim (cases_order new.name e.name) [
+  | inl i ↦ rw (eq-eqb e.name new.name (sym i)) (lt-ltb z new.name l)
+  | inr (inl k) ↦ rw (ne_eqb e.name new.name (λ i. absurd (omega arith)), lt-ltb new.name e.name k)
+      (lt-ltb z new.name l)
+  | inr (inr g) ↦ rw (ne_eqb e.name new.name (λ i. absurd (omega arith)), le-ltb new.name e.name (omega arith)) b
 ]
 
 -- after a put the names still rise
-pub is_rising-put : (x : Text) (p : Process) (t : Table) → is_rising t ≡ true → is_rising (put x p t) ≡ true
-is_rising-put x p [] r = refl
-is_rising-put x p (e ∷ t) r =
+pub is_rising-put : (new : Pair) (t : Table) → is_rising t ≡ true → is_rising (put new t) ≡ true
+is_rising-put new [] r = refl
+is_rising-put new (e ∷ t) r =
     let tail : (is_below e.name t ≡ true) × (is_rising t ≡ true) = is_rising-parts e t r in
-    let h : is_rising (put x p t) ≡ true = is_rising-put x p t tail.1 in
-    elim (cases_order x e.name) [
-      | inl i ↦ rw (eq-eqb e.name x (sym i)) (rw (i, tail.0) tail.1)
-      | inr (inl l) ↦ rw (ne_eqb e.name x (λ i. absurd (omega arith)), lt-ltb x e.name l)
-          (rw (lt-ltb x e.name l, tail.0) tail.1)
-      | inr (inr g) ↦ rw (ne_eqb e.name x (λ i. absurd (omega arith)), le-ltb x e.name (omega arith))
-          (rw (is_below-put e.name x p t g tail.0) h)
+    let h : is_rising (put new t) ≡ true = is_rising-put new t tail.1 in
+    elim (cases_order new.name e.name) [
+      | inl i ↦ rw (eq-eqb e.name new.name (sym i)) (rw (i, tail.0) tail.1)
+      | inr (inl l) ↦ rw (ne_eqb e.name new.name (λ i. absurd (omega arith)), lt-ltb new.name e.name l)
+          (rw (lt-ltb new.name e.name l, tail.0) tail.1)
+      | inr (inr g) ↦ rw (ne_eqb e.name new.name (λ i. absurd (omega arith)), le-ltb new.name e.name (omega arith))
+          (rw (is_below-put e.name new t g tail.0) h)
     ]
 
 -- remove: nobody has x, and each other name has whom it had
@@ -154,9 +158,9 @@ get-behind e t y ne = rw (ne_eqb e.name y ne)
 pub get-put_all : (pairs t : Table) → is_rising pairs ≡ true → (y : Text) →
     get y (put_all pairs t) ≡ or_else (get y pairs) (get y t)
 get-put_all [] t r y = refl
-get-put_all (e ∷ pairs) t r y = get-put_all pairs (put e.name e.owner t) tail.1 y ∙ (elim (cases_eq e.name y) [
-  | inl i ↦ rw (none i, eq-eqb e.name y i) (get-put e.name e.owner t y ∙ rw (eq-eqb e.name y i))
-  | inr ne ↦ rw (ne_eqb e.name y ne) (ap (or_else (get y pairs)) (get-put e.name e.owner t y ∙ rw (ne_eqb e.name y ne)))
+get-put_all (e ∷ pairs) t r y = get-put_all pairs (put e t) tail.1 y ∙ (elim (cases_eq e.name y) [
+  | inl i ↦ rw (none i, eq-eqb e.name y i) (get-put e t y ∙ rw (eq-eqb e.name y i))
+  | inr ne ↦ rw (ne_eqb e.name y ne) (ap (or_else (get y pairs)) (get-put e t y ∙ rw (ne_eqb e.name y ne)))
 ])
   where
     tail : (is_below e.name pairs ≡ true) × (is_rising pairs ≡ true)
@@ -168,7 +172,7 @@ get-put_all (e ∷ pairs) t r y = get-put_all pairs (put e.name e.owner t) tail.
 -- after put_all the names still rise
 pub is_rising-put_all : (pairs t : Table) → is_rising t ≡ true → is_rising (put_all pairs t) ≡ true
 is_rising-put_all [] t r = r
-is_rising-put_all (e ∷ pairs) t r = is_rising-put_all pairs (put e.name e.owner t) (is_rising-put e.name e.owner t r)
+is_rising-put_all (e ∷ pairs) t r = is_rising-put_all pairs (put e t) (is_rising-put e t r)
 
 -- rising tables in which each name has the same owner are one
 pub same_table : (s t : Table) → is_rising s ≡ true → is_rising t ≡ true → ((y : Text) → get y s ≡ get y t) → s ≡ t
@@ -236,39 +240,39 @@ abbrev pub by_owner : (Process → Bool) → Table → Table
 by_owner ok t = filter (λ e. ok e.owner) t
 
 -- a filter by owners after a put
-pub by_owner-put : (ok : Process → Bool) (x : Text) (p : Process) (t : Table) → is_rising t ≡ true →
-    by_owner ok (put x p t) ≡ (if ok p then put x p (by_owner ok t) else remove x (by_owner ok t))
-by_owner-put ok x p t r = go (ok p) refl
+pub by_owner-put : (ok : Process → Bool) (new : Pair) (t : Table) → is_rising t ≡ true →
+    by_owner ok (put new t) ≡ (if ok new.owner then put new (by_owner ok t) else remove new.name (by_owner ok t))
+by_owner-put ok new t r = go (ok new.owner) refl
   where
     risen : is_rising (by_owner ok t) ≡ true
     risen = is_rising-filter (λ e. ok e.owner) t r
 
-    risen_put : is_rising (by_owner ok (put x p t)) ≡ true
-    risen_put = is_rising-filter (λ e. ok e.owner) (put x p t) (is_rising-put x p t r)
+    risen_put : is_rising (by_owner ok (put new t)) ≡ true
+    risen_put = is_rising-filter (λ e. ok e.owner) (put new t) (is_rising-put new t r)
 
-    left : (y : Text) → get y (by_owner ok (put x p t)) ≡ if_kept ok (if x == y then Some p else get y t)
-    left y = get-filter ok (put x p t) (is_rising-put x p t r) y ∙ ap (if_kept ok) (get-put x p t y)
+    left : (y : Text) → get y (by_owner ok (put new t)) ≡ if_kept ok (if new.name == y then Some new.owner else get y t)
+    left y = get-filter ok (put new t) (is_rising-put new t r) y ∙ ap (if_kept ok) (get-put new t y)
 
-    go : (b : Bool) → ok p ≡ b →
-        by_owner ok (put x p t) ≡ (if b then put x p (by_owner ok t) else remove x (by_owner ok t))
-    go true k = same_table (by_owner ok (put x p t)) (put x p (by_owner ok t)) risen_put
-        (is_rising-put x p (by_owner ok t) risen)
-        (λ y. left y ∙ each y (x == y)
-        ∙ sym (get-put x p (by_owner ok t) y
-        ∙ ap (λ (o : Option Process). if x == y then Some p else o) (get-filter ok t r y)))
+    go : (b : Bool) → ok new.owner ≡ b →
+        by_owner ok (put new t) ≡ (if b then put new (by_owner ok t) else remove new.name (by_owner ok t))
+    go true k = same_table (by_owner ok (put new t)) (put new (by_owner ok t)) risen_put
+        (is_rising-put new (by_owner ok t) risen)
+        (λ y. left y ∙ each y (new.name == y)
+        ∙ sym (get-put new (by_owner ok t) y
+        ∙ ap (λ (o : Option Process). if new.name == y then Some new.owner else o) (get-filter ok t r y)))
       where
         each : (y : Text) (b : Bool) →
-            if_kept ok (if b then Some p else get y t) ≡ (if b then Some p else if_kept ok (get y t))
+            if_kept ok (if b then Some new.owner else get y t) ≡ (if b then Some new.owner else if_kept ok (get y t))
         each y true = rw k refl
         each y false = refl
-    go false k = same_table (by_owner ok (put x p t)) (remove x (by_owner ok t)) risen_put
-        (is_rising-filter (λ e. not (e.name == x)) (by_owner ok t) risen)
-        (λ y. left y ∙ each y (x == y)
-        ∙ sym (get-remove x (by_owner ok t) y
-        ∙ ap (λ (o : Option Process). if x == y then None else o) (get-filter ok t r y)))
+    go false k = same_table (by_owner ok (put new t)) (remove new.name (by_owner ok t)) risen_put
+        (is_rising-filter (λ e. not (e.name == new.name)) (by_owner ok t) risen)
+        (λ y. left y ∙ each y (new.name == y)
+        ∙ sym (get-remove new.name (by_owner ok t) y
+        ∙ ap (λ (o : Option Process). if new.name == y then None else o) (get-filter ok t r y)))
       where
         each : (y : Text) (b : Bool) →
-            if_kept ok (if b then Some p else get y t) ≡ (if b then None else if_kept ok (get y t))
+            if_kept ok (if b then Some new.owner else get y t) ≡ (if b then None else if_kept ok (get y t))
         each y true = rw k refl
         each y false = refl
 
@@ -296,18 +300,18 @@ is_rising-without gone t r = is_rising-filter (λ e. not (gone e.owner.node)) t 
 
 -- after each change the names still rise
 pub is_rising-changed : (c : Change) (t : Table) → is_rising t ≡ true → is_rising (changed c t) ≡ true
-is_rising-changed (Put x p) t r = is_rising-put x p t r
+is_rising-changed (Put new) t r = is_rising-put new t r
 is_rising-changed (Remove x) t r = is_rising-remove x t r
 is_rising-changed (StrikeOwner p) t r = is_rising-strike p t r
 
 -- a put is seen as one where its owner's node is, and as a removal else
-pub without-put : (gone : Nodes) (x : Text) (p : Process) (t : Table) → is_rising t ≡ true →
-    without gone (put x p t) ≡ (if gone p.node then remove x (without gone t) else put x p (without gone t))
-without-put gone x p t r = by_owner-put (λ q. not (gone q.node)) x p t r ∙ turned (gone p.node)
+pub without-put : (gone : Nodes) (new : Pair) (t : Table) → is_rising t ≡ true →
+    without gone (put new t) ≡ (if gone new.owner.node then remove new.name (without gone t) else put new (without gone t))
+without-put gone new t r = by_owner-put (λ q. not (gone q.node)) new t r ∙ turned (gone new.owner.node)
   where
     turned : (b : Bool) →
-        (if not b then put x p (without gone t) else remove x (without gone t))
-        ≡ (if b then remove x (without gone t) else put x p (without gone t))
+        (if not b then put new (without gone t) else remove new.name (without gone t))
+        ≡ (if b then remove new.name (without gone t) else put new (without gone t))
     turned true = refl
     turned false = refl
 
@@ -362,22 +366,22 @@ without-at gone d t =
     either false false = refl
 
 -- a put of what is seen is seen as one of all
-pub without-put_without : (gone : Nodes) (x : Text) (p : Process) (t : Table) → is_rising t ≡ true →
-    without gone (put x p (without gone t)) ≡ without gone (put x p t)
-without-put_without gone x p t r =
-    without-put gone x p (without gone t) (is_rising-without gone t r)
-    ∙ ap (λ (u : Table). if gone p.node then remove x u else put x p u) (without_twice gone t)
-    ∙ sym (without-put gone x p t r)
+pub without-put_without : (gone : Nodes) (new : Pair) (t : Table) → is_rising t ≡ true →
+    without gone (put new (without gone t)) ≡ without gone (put new t)
+without-put_without gone new t r =
+    without-put gone new (without gone t) (is_rising-without gone t r)
+    ∙ ap (λ (u : Table). if gone new.owner.node then remove new.name u else put new u) (without_twice gone t)
+    ∙ sym (without-put gone new t r)
 
 -- and so are many puts
 pub without-put_all_without : (gone : Nodes) (pairs t : Table) → is_rising t ≡ true →
     without gone (put_all pairs (without gone t)) ≡ without gone (put_all pairs t)
 without-put_all_without gone [] t r = without_twice gone t
 without-put_all_without gone (e ∷ pairs) t r =
-    sym (without-put_all_without gone pairs (put e.name e.owner (without gone t))
-    (is_rising-put e.name e.owner (without gone t) (is_rising-without gone t r)))
-    ∙ ap (λ (u : Table). without gone (put_all pairs u)) (without-put_without gone e.name e.owner t r)
-    ∙ without-put_all_without gone pairs (put e.name e.owner t) (is_rising-put e.name e.owner t r)
+    sym (without-put_all_without gone pairs (put e (without gone t))
+    (is_rising-put e (without gone t) (is_rising-without gone t r)))
+    ∙ ap (λ (u : Table). without gone (put_all pairs u)) (without-put_without gone e t r)
+    ∙ without-put_all_without gone pairs (put e t) (is_rising-put e t r)
 
 -- a strike of what is seen is seen as one of all
 pub without-strike_without : (gone : Nodes) (p : Process) (t : Table) →

@@ -1,12 +1,13 @@
 -- Calls that change or read a table, and what is answered.
 use Rattle.std.specs.Prelude.{Bool, true, false, not, ◌||◌, bytes_eq, Option, Some, None, is_some, List, if◌then◌else◌}
 use Rattle.registry_model.specs.Process.{Text, Process, is_process, Nodes}
-use Rattle.registry_model.specs.Table.{Table, get, owns, names, Change, Put, Remove}
+use Rattle.registry_model.specs.Table.{Pair, Table, get, owns, names, Change, Put, Remove}
+use Rattle.registry_model.specs.Registry.{Replica}
 
 -- a call that goes through the registry
 pub data NameCall : Type 0 where
-  Register : (name : Text) → (owner : Process) → NameCall
-  ReRegister : (name : Text) → (owner : Process) → NameCall
+  Register : (pair : Pair) → NameCall
+  ReRegister : (pair : Pair) → NameCall
   Unregister : (name : Text) → NameCall
 
 -- a look-up at one node: of one name, or of all names
@@ -57,15 +58,17 @@ is_grant _ = false
 
 -- what a granted name call does
 abbrev pub change_of : NameCall → Change
-change_of (Register x p) = Put x p
-change_of (ReRegister x p) = Put x p
+change_of (Register pair) = Put pair
+change_of (ReRegister pair) = Put pair
 change_of (Unregister x) = Remove x
 
 -- the reply to a name call, by the members and the table of the node that runs it
 abbrev pub reply_to : Nodes → Table → NameCall → Reply
-reply_to members table (Register x p) =
-    if not (members p.node) then UnknownNode else (if is_some (get x table) || owns p table then No else Yes)
-reply_to members table (ReRegister x p) = if not (members p.node) then UnknownNode else Yes
+reply_to members table (Register pair) =
+    if not (members pair.owner.node)
+    then UnknownNode
+    else (if is_some (get pair.name table) || owns pair.owner table then No else Yes)
+reply_to members table (ReRegister pair) = if not (members pair.owner.node) then UnknownNode else Yes
 reply_to members table (Unregister x) = Ok
 
 -- the owner, if there is one
@@ -73,7 +76,7 @@ abbrev pub pid_or_undefined : Option Process → Reply
 pid_or_undefined None = Undefined
 pid_or_undefined (Some p) = Pid p
 
--- the reply to a look-up in this table
-abbrev pub seen_in : Table → Look → Reply
-seen_in table (Whereis x) = pid_or_undefined (get x table)
-seen_in table RegisteredNames = Names (names table)
+-- the reply to a look-up at a node that shows this
+abbrev pub seen_in : Replica → Look → Reply
+seen_in shown (Whereis x) = pid_or_undefined (get x shown.table)
+seen_in shown RegisteredNames = Names (names shown.table)

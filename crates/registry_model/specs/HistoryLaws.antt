@@ -17,16 +17,16 @@ pub record HasOneOwner (table : Table) : Type 0 where
 abbrev pub OneOwner : Nodes → List Entry → Type 0
 OneOwner cluster h = (n : ℕ) → HasOneOwner (table_of (registry_of cluster h) n)
 
--- as n sees it, nobody has x, p has no name, and p's node is a member
-pub record IsFreeFor (r : Registry) (n : ℕ) (x : Text) (p : Process) : Type 0 where
-  pub name : get x (view r n) ≡ None
-  pub owner : owns p (view r n) ≡ false
-  pub member : members r n p.node ≡ true
+-- as n sees it, nobody has the name, the owner has no name, and the owner's node is a member
+pub record IsFreeFor (r : Registry) (n : ℕ) (e : Pair) : Type 0 where
+  pub name : get e.name (view r n) ≡ None
+  pub owner : owns e.owner (view r n) ≡ false
+  pub member : members r n e.owner.node ≡ true
 
 -- Who is answered yes registered a free name, for a process that had none, on a node of the group
 abbrev pub YesToTheFree : Nodes → List Entry → Type 0
-YesToTheFree cluster h = (before later : List Entry) (n k : ℕ) (x : Text) (p : Process) →
-    h ≡ before ++ Name n k (Register x p) Yes ∷ later → IsFreeFor (registry_of cluster before) n x p
+YesToTheFree cluster h = (before later : List Entry) (n k : ℕ) (e : Pair) →
+    h ≡ before ++ Name n k (Register e) Yes ∷ later → IsFreeFor (registry_of cluster before) n e
 
 -- node n decides a name call with this reply: the reply is that of n's members and view, the table of n's group is what
 -- the call makes of it, and all else stays
@@ -49,14 +49,14 @@ CallsAreCarriedOut cluster h = (before later : List Entry) (n k : ℕ) (call : N
 pub data Takes (r : Registry) (n : ℕ) (x : Text) (p : Process) : Entry → Type 0 where
   -- n's group gives it up, or gives it to another
   GivenUp : (m k : ℕ) → IsTrue (in_group r n m) → Takes r n x p (Name m k (Unregister x) Ok)
-  Replaced : (m k : ℕ) (q : Process) → IsTrue (in_group r n m) → Takes r n x p (Name m k (ReRegister x q) Yes)
+  Replaced : (m k : ℕ) (e : Pair) → e.name ≡ x → IsTrue (in_group r n m) → Takes r n x p (Name m k (ReRegister e) Yes)
   -- p is struck in n's group
   Struck : IsTrue (in_group r n p.node) → Takes r n x p (Strike p)
   -- n is told that p's node left
   Departed : Takes r n x p (Told n p.node)
   -- a node of n's group that was told so gives the name, which it sees no more
-  Retaken : (m k : ℕ) (q : Process) → IsTrue (in_group r n m) → IsTrue (r.told m p.node) →
-      Takes r n x p (Name m k (Register x q) Yes)
+  Retaken : (m k : ℕ) (e : Pair) → e.name ≡ x → IsTrue (in_group r n m) → IsTrue (r.told m p.node) →
+      Takes r n x p (Name m k (Register e) Yes)
   -- a joiner has the name too, for a process on a lesser node
   LostToJoiner : (j k m : ℕ) (q : Process) → IsTrue (r.joined n) → get x (r.lone j) ≡ Some q → q.node < p.node →
       Takes r n x p (Join j k m Joined)
@@ -116,7 +116,7 @@ pub record OldLeavesOut (cluster : Nodes) (h : List Entry) : Type 0 where
 pub data Died (cluster : Nodes) (h : List Entry) (p : Process) : Type 0 where
   Exited : Contains h (Exit p) → Died cluster h p
   Killed : (before later : List Entry) (j k m : ℕ) → h ≡ before ++ Join j k m Joined ∷ later →
-      (let r = registry_of cluster before in Contains (settle (view r m) (r.lone j)).kills p) → Died cluster h p
+      (let r = registry_of cluster before in Contains (settle (view r m) (r.lone j)).fate.kills p) → Died cluster h p
 
 -- Who dies is dead for good, and nobody else is dead
 pub record DeadForGood (cluster : Nodes) (h : List Entry) : Type 0 where

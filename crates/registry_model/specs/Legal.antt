@@ -2,7 +2,7 @@
 use Rattle.std.specs.Prelude.{ℕ, Bool, true, false, not, ◌&&◌, ◌||◌, List, [], ◌∷◌, IsTrue}
 use Rattle.registry_model.specs.Process.{Process, Nodes}
 use Rattle.registry_model.specs.Call.{NameCall, Look, Reply, Joined, NotMember, ContactLeft, is_reply, reply_to, seen_in}
-use Rattle.registry_model.specs.Registry.{view, members}
+use Rattle.registry_model.specs.Registry.{view, members, replica_of}
 use Rattle.registry_model.specs.History.{Entry, Name, Strike, Join, Done, Exit, Left, Told, Read, Standing, is_free, is_holding, old, after, nothing_yet}
 
 -- node n may decide an operation: none holds in its group, and n hasn't left
@@ -37,7 +37,7 @@ is_legal_left s d = not (s.registry.left d) && not (is_holding s d)
 -- a look-up sees the registry with or without the operation that holds
 abbrev pub is_legal_read : Standing → ℕ → Look → Reply → Bool
 is_legal_read s n look reply =
-    is_reply reply (seen_in (view s.registry n) look) || is_reply reply (seen_in (view (old s n) n) look)
+    is_reply reply (seen_in (replica_of s.registry n) look) || is_reply reply (seen_in (replica_of (old s n) n) look)
 
 -- whether the entry is legal next
 abbrev pub is_legal : Standing → Entry → Bool

@@ -64,5 +64,5 @@ with_joiner j m s r = record {
   lone = at r.lone j [];
   left = r.left;
   told = at r.told j (λ d. r.told j d || r.told m d);
-  dead = λ p. r.dead p || list_any (is_process p) s.kills;
+  dead = λ p. r.dead p || list_any (is_process p) s.fate.kills;
 }

@@ -4,6 +4,7 @@ use Rattle.registry_model.specs.Process.{Text, Process, Nodes}
 use Rattle.registry_model.specs.Table.{Pair, Table, is_rising, get, put_all, Change, Put, Remove, StrikeOwner}
 use Rattle.registry_model.specs.Call.{NameCall, Register, ReRegister, Unregister, Look, Whereis, RegisteredNames, Reply, Yes, No, Ok, UnknownNode, Pid, Undefined, Names}
 use Rattle.registry_model.specs.Settlement.{Settled}
+use Rattle.registry_model.specs.Registry.{Replica}
 
 -- p has a name in this table
 abbrev pub HasAName : Process → Table → Type 0
@@ -12,20 +13,18 @@ HasAName p table = (pair : Pair) × Contains table pair × (pair.owner ≡ p)
 -- The reply to a name call at a node with these members and this table
 pub data IsReplyTo (members : Nodes) (table : Table) : NameCall → Reply → Type 0 where
   -- the owner's node is no member
-  ForStranger : (x : Text) (p : Process) → members p.node ≡ false → IsReplyTo members table (Register x p) UnknownNode
-  AgainForStranger : (x : Text) (p : Process) → members p.node ≡ false →
-      IsReplyTo members table (ReRegister x p) UnknownNode
+  ForStranger : (e : Pair) → members e.owner.node ≡ false → IsReplyTo members table (Register e) UnknownNode
+  AgainForStranger : (e : Pair) → members e.owner.node ≡ false → IsReplyTo members table (ReRegister e) UnknownNode
   -- some process has the name
-  OfUsedName : (x : Text) (p q : Process) → members p.node ≡ true → get x table ≡ Some q →
-      IsReplyTo members table (Register x p) No
+  OfUsedName : (e : Pair) (q : Process) → members e.owner.node ≡ true → get e.name table ≡ Some q →
+      IsReplyTo members table (Register e) No
   -- the process has a name
-  ForOwner : (x : Text) (p : Process) → members p.node ≡ true → HasAName p table →
-      IsReplyTo members table (Register x p) No
+  ForOwner : (e : Pair) → members e.owner.node ≡ true → HasAName e.owner table → IsReplyTo members table (Register e) No
   -- neither
-  OfFreeName : (x : Text) (p : Process) → members p.node ≡ true → get x table ≡ None → (HasAName p table → ⊥) →
-      IsReplyTo members table (Register x p) Yes
+  OfFreeName : (e : Pair) → members e.owner.node ≡ true → get e.name table ≡ None → (HasAName e.owner table → ⊥) →
+      IsReplyTo members table (Register e) Yes
   -- whoever has the name or a name
-  OfAnyName : (x : Text) (p : Process) → members p.node ≡ true → IsReplyTo members table (ReRegister x p) Yes
+  OfAnyName : (e : Pair) → members e.owner.node ≡ true → IsReplyTo members table (ReRegister e) Yes
   ToGiveUp : (x : Text) → IsReplyTo members table (Unregister x) Ok
 
 -- these are the nodes of the set below n, each once and rising
@@ -38,11 +37,11 @@ pub record AreNames (table : Table) (xs : List Text) : Type 0 where
   pub owned : (x : Text) → Contains xs x ↔ ((p : Process) × (get x table ≡ Some p))
   pub rising : AllPairs (λ x y. x < y) xs
 
--- The reply to a look-up in this table
-pub data IsSeenIn (table : Table) : Look → Reply → Type 0 where
-  OwnerOf : (x : Text) (p : Process) → get x table ≡ Some p → IsSeenIn table (Whereis x) (Pid p)
-  NoOwnerOf : (x : Text) → get x table ≡ None → IsSeenIn table (Whereis x) Undefined
-  AllNames : (xs : List Text) → AreNames table xs → IsSeenIn table RegisteredNames (Names xs)
+-- The reply to a look-up at a node that shows this
+pub data IsSeenIn (shown : Replica) : Look → Reply → Type 0 where
+  OwnerOf : (x : Text) (p : Process) → get x shown.table ≡ Some p → IsSeenIn shown (Whereis x) (Pid p)
+  NoOwnerOf : (x : Text) → get x shown.table ≡ None → IsSeenIn shown (Whereis x) Undefined
+  AllNames : (xs : List Text) → AreNames shown.table xs → IsSeenIn shown RegisteredNames (Names xs)
 
 -- x is given to o, and each other name has whom it had
 pub record IsGiven (x : Text) (o : Option Process) (before after : Table) : Type 0 where
@@ -56,16 +55,15 @@ pub record IsStruck (p : Process) (before after : Table) : Type 0 where
 
 -- what each change does
 abbrev pub IsChanged : Change → Table → Table → Type 0
-IsChanged (Put x p) = IsGiven x (Some p)
+IsChanged (Put e) = IsGiven e.name (Some e.owner)
 IsChanged (Remove x) = IsGiven x None
 IsChanged (StrikeOwner p) = IsStruck p
 
 -- What a name call with this reply makes of the table of its group: `yes` gives the name to the owner, `ok` to nobody,
 -- and all that is refused leaves the table
 pub data IsCarriedOut (before after : Table) : NameCall → Reply → Type 0 where
-  Registered : (x : Text) (p : Process) → IsGiven x (Some p) before after → IsCarriedOut before after (Register x p) Yes
-  Reregistered : (x : Text) (p : Process) → IsGiven x (Some p) before after →
-      IsCarriedOut before after (ReRegister x p) Yes
+  Registered : (e : Pair) → IsGiven e.name (Some e.owner) before after → IsCarriedOut before after (Register e) Yes
+  Reregistered : (e : Pair) → IsGiven e.name (Some e.owner) before after → IsCarriedOut before after (ReRegister e) Yes
   Unregistered : (x : Text) → IsGiven x None before after → IsCarriedOut before after (Unregister x) Ok
   Refused : (call : NameCall) → after ≡ before → IsCarriedOut before after call No
   OwnerUnknown : (call : NameCall) → after ≡ before → IsCarriedOut before after call UnknownNode
@@ -109,5 +107,5 @@ pub record Settles (table pairs : Table) (settled : Settled) : Type 0 where
   pub rises : IsTrue (is_rising settled.puts)
   pub written : (y : Text) (p : Process) → get y settled.puts ≡ Some p → get y pairs ≡ Some p
   -- who loses a name dies, nobody else does, and each of them once
-  pub killed : (p : Process) → Contains settled.kills p ↔ ((y : Text) × Loses table pairs y p)
-  pub once : (before later : List Process) (p : Process) → settled.kills ≡ before ++ p ∷ later → Contains before p → ⊥
+  pub killed : (p : Process) → Contains settled.fate.kills p ↔ ((y : Text) × Loses table pairs y p)
+  pub once : (before later : List Process) (p : Process) → settled.fate.kills ≡ before ++ p ∷ later → Contains before p → ⊥

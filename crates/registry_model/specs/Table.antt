@@ -27,17 +27,17 @@ abbrev pub get : Text → Table → Option Process
 get x [] = None
 get x (pair ∷ t) = if pair.name == x then Some pair.owner else get x t
 
--- p has the name x, and nobody else does
-abbrev pub put : Text → Process → Table → Table
-put x p [] = record { name = x; owner = p } ∷ []
-put x p (pair ∷ t) =
-    if pair.name == x
-    then record { name = x; owner = p } ∷ t
-    else (if nat_lt x pair.name then record { name = x; owner = p } ∷ pair ∷ t else pair ∷ put x p t)
+-- the pair's owner has its name, and nobody else does
+abbrev pub put : Pair → Table → Table
+put new [] = new ∷ []
+put new (pair ∷ t) =
+    if pair.name == new.name
+    then new ∷ t
+    else (if nat_lt new.name pair.name then new ∷ pair ∷ t else pair ∷ put new t)
 
 -- each of these pairs is put, in order
 abbrev pub put_all : Table → Table → Table
-put_all pairs t = fold (λ u pair. put pair.name pair.owner u) t pairs
+put_all pairs t = fold (λ u pair. put pair u) t pairs
 
 -- nobody has the name x
 abbrev pub remove : Text → Table → Table
@@ -61,12 +61,12 @@ names t = map (λ pair. pair.name) t
 
 -- a change of a table
 pub data Change : Type 0 where
-  Put : (name : Text) → (owner : Process) → Change
+  Put : (pair : Pair) → Change
   Remove : (name : Text) → Change
   StrikeOwner : (owner : Process) → Change
 
 -- the table after a change
 abbrev pub changed : Change → Table → Table
-changed (Put x p) t = put x p t
+changed (Put pair) t = put pair t
 changed (Remove x) t = remove x t
 changed (StrikeOwner p) t = strike p t

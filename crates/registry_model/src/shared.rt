@@ -4,6 +4,7 @@ ghost use Rattle.registry_model.specs.Process.{Nodes, nodes_of};
 ghost use Rattle.registry_model.specs.Table.{Table, Change, is_rising, changed, without, put_all};
 ghost use Rattle.registry_model.specs.Call.{NameCall, Look, Reply, is_grant, change_of, reply_to, seen_in};
 ghost use Rattle.registry_model.specs.Settlement.{settle};
+ghost use Rattle.registry_model.specs.Registry.{Replica};
 ghost use Rattle.registry_model.specs.SharedLaws.{AreNodesBelow, IsReplyTo, IsSeenIn, IsChanged, IsCarriedOut, IsWithout, IsWrittenOver, IsTheTable, Settles};
 
 /// The nodes of a set as a list.
@@ -17,10 +18,10 @@ pub fn reply()
         IsReplyTo members table call r ↔ (r ≡ reply_to members table call) }
 {}
 
-/// Each look-up in a table has one reply.
+/// Each look-up at a node has one reply, by what the node shows.
 pub fn look_up()
-    ensures { (table : Table) (look : Look) (r : Reply) → IsTrue (is_rising table) →
-        IsSeenIn table look r ↔ (r ≡ seen_in table look) }
+    ensures { (shown : Replica) (look : Look) (r : Reply) → IsTrue (is_rising shown.table) →
+        IsSeenIn shown look r ↔ (r ≡ seen_in shown look) }
 {}
 
 /// Each change of a table.

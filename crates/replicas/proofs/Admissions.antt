@@ -20,10 +20,10 @@ without-puts : (gone : Nodes) (puts s t : Table) → is_rising s ≡ true → is
     → without gone s ≡ without gone t
     → without gone (put_all puts s) ≡ without gone (put_all puts t)
 without-puts gone [] s t rs rt e = e
-without-puts gone (p ∷ puts) s t rs rt e = without-puts gone puts (put p.name p.owner s) (put p.name p.owner t)
-    (is_rising-put p.name p.owner s rs) (is_rising-put p.name p.owner t rt)
-    (without-changed gone (Put p.name p.owner) s rs ∙ ap (changed (unless_told gone (Put p.name p.owner))) e
-    ∙ sym (without-changed gone (Put p.name p.owner) t rt))
+without-puts gone (p ∷ puts) s t rs rt e = without-puts gone puts (put p s) (put p t)
+    (is_rising-put p s rs) (is_rising-put p t rt)
+    (without-changed gone (Put p) s rs ∙ ap (changed (unless_told gone (Put p))) e
+    ∙ sym (without-changed gone (Put p) t rt))
 
 -- what was told on the way need not be put aside before
 pub without-put_all : (f g : Nodes) (puts t : Table) → is_rising t ≡ true
@@ -39,15 +39,15 @@ without-put_all f g puts t r = without-puts (λ d. g d || f d) puts (without f t
 
 -- names are put one after another by the rule Write
 pub puts-written : (told : Nodes) (puts t : Table) (m : Nodes) (joined : Bool) → is_rising t ≡ true
-    → ◌≡◌ {A = Replica} (fold (λ x e. wrote (Put e.name e.owner) x)
+    → ◌≡◌ {A = Replica} (fold (λ x e. wrote (Put e) x)
     (record { table = without told t; members = m; told = told; joined = joined }) puts)
     (record { table = without told (put_all puts t); members = m; told = told; joined = joined })
 puts-written told [] t m joined r = refl
 puts-written told (p ∷ puts) t m joined r =
     ap (λ (u : Table). let v : Replica = record { table = u; members = m; told = told; joined = joined } in
-    fold (λ x e. wrote (Put e.name e.owner) x) v puts)
-    (sym (without-changed told (Put p.name p.owner) t r))
-    ∙ puts-written told puts (put p.name p.owner t) m joined (is_rising-put p.name p.owner t r)
+    fold (λ x e. wrote (Put e) x) v puts)
+    (sym (without-changed told (Put p) t r))
+    ∙ puts-written told puts (put p t) m joined (is_rising-put p t r)
 
 -- what c shows where these are joined, and it is one of them and was told that those have left
 abbrev joined_less : Nodes → Table → Nodes → Replica
@@ -92,9 +92,9 @@ replica_of-lone r c j = ap (λ (b : Bool). let v : Replica =
     } in v) j
 
 -- one member more
-admitted-joined : (j : ℕ) (joined : Nodes) (puts table : Table) (told : Nodes) → is_rising table ≡ true
-    → admitted j puts (joined_less joined table told) ≡ joined_less (at joined j true) (put_all puts table) told
-admitted-joined j joined puts table told r = go (told j) refl
+admitted-joined : (j : ℕ) (joined : Nodes) (s : Settled) (table : Table) (told : Nodes) → is_rising table ≡ true
+    → admitted j s (joined_less joined table told) ≡ joined_less (at joined j true) (put_all s.puts table) told
+admitted-joined j joined s table told r = go (told j) refl
   where
     -- one that is told isn't a member
     absent : (x : ℕ) (b : Bool) → (b ≡ true → told x ≡ true)
@@ -111,26 +111,26 @@ admitted-joined j joined puts table told r = go (told j) refl
     of b e x i = subst (λ (y : ℕ). told y ≡ b) (sym (eqb-true x j i)) e
 
     with : Nodes → Replica
-    with m = record { table = without told (put_all puts table); members = m; told = told; joined = true }
+    with m = record { table = without told (put_all s.puts table); members = m; told = told; joined = true }
 
-    go : (b : Bool) → told j ≡ b → fold (λ x e. wrote (Put e.name e.owner) x)
+    go : (b : Bool) → told j ≡ b → fold (λ x e. wrote (Put e) x)
         (if b then joined_less joined table told else record (joined_less joined table told)
-        { members = at (λ x. joined x && not (told x)) j true }) puts
-        ≡ joined_less (at joined j true) (put_all puts table) told
-    go true e = puts-written told puts table (λ x. joined x && not (told x)) true r
+        { members = at (λ x. joined x && not (told x)) j true }) s.puts
+        ≡ joined_less (at joined j true) (put_all s.puts table) told
+    go true e = puts-written told s.puts table (λ x. joined x && not (told x)) true r
         ∙ ap with (fun_ext (λ x. absent x (x == j) (of true e x)))
-    go false e = puts-written told puts table (at (λ x. joined x && not (told x)) j true) true r
+    go false e = puts-written told s.puts table (at (λ x. joined x && not (told x)) j true) true r
         ∙ ap with (fun_ext (λ x. present x (x == j) (of false e x)))
 
 module _ (r : Registry) (j m : ℕ) (s : Settled) (R : Rises r) where
   -- a joined node that admits the joiner shows the join
   pub replica_of-admitted : (c : ℕ) → r.joined c ≡ true → (c ≡ j → ⊥)
-      → replica_of (with_joiner j m s r) c ≡ admitted j s.puts (replica_of r c)
+      → replica_of (with_joiner j m s r) c ≡ admitted j s (replica_of r c)
   replica_of-admitted c k ne = replica_of-joined (with_joiner j m s r) c (at_other r.joined j true c ne ∙ k)
       ∙ ap (joined_less (at r.joined j true) (put_all s.puts r.table))
       (at_other r.told j (λ d. r.told j d || r.told m d) c ne)
-      ∙ sym (admitted-joined j r.joined s.puts r.table (r.told c) R.table)
-      ∙ ap (admitted j s.puts) (sym (replica_of-joined r c k))
+      ∙ sym (admitted-joined j r.joined s r.table (r.told c) R.table)
+      ∙ ap (admitted j s) (sym (replica_of-joined r c k))
 
   -- the joiner that is welcomed with what its contact shows shows the join
   pub replica_of-welcomed : r.joined m ≡ true

@@ -113,10 +113,10 @@ module _ (o : Opening) (w : World) (P : Proper o w) (X : Exclusive o w) (J : Joi
   group c = in_group q a c
 
   abbrev admit_letter : Letter
-  admit_letter = Letter.Admit j st.puts st.kills
+  admit_letter = Letter.Admit j st
 
   abbrev welcome_letter : Letter
-  welcome_letter = Letter.Welcome (at v.members j true) (put_all st.puts v.table) v.told st.kills
+  welcome_letter = Letter.Welcome (at v.members j true) (put_all st.puts v.table) v.told st.fate
 
   abbrev new : ℕ → List Letter
   new c = (if nat_lt c o.bound && v.members c then admit_letter ∷ [] else []) ++
@@ -135,10 +135,10 @@ module _ (o : Opening) (w : World) (P : Proper o w) (X : Exclusive o w) (J : Joi
   in_old_group : (c : ℕ) → in_group s.registry a c ≡ s.registry.joined c
   in_old_group c = ap (λ (b : Bool). if b then s.registry.joined c else c == a) member
 
-  killed : AllDead q st.kills
-  killed = subst (λ (x : Settled). AllDead q x.kills) (sym same_settled)
-      (all_dead q st_now.kills st_now.kills (λ p h. or_right (s.registry.dead p)
-      (list_any (is_process p) st_now.kills) h) (λ p h. h))
+  killed : AllDead q st.fate.kills
+  killed = subst (λ (x : Settled). AllDead q x.fate.kills) (sym same_settled)
+      (all_dead q st_now.fate.kills st_now.fate.kills (λ p h. or_right (s.registry.dead p)
+      (list_any (is_process p) st_now.fate.kills) h) (λ p h. h))
 
   written : (c : ℕ) → w.links.closed c ≡ false → at s.registry.joined j true c ≡ true
       → IsWrittenTo s.registry q c (new c) × (awaited c ≡ true)
@@ -174,7 +174,7 @@ module _ (o : Opening) (w : World) (P : Proper o w) (X : Exclusive o w) (J : Joi
               (ne_eqb j c (λ i. ne (sym i)));
           carries = refl;
           kills = killed;
-          leads = ap (λ (x : Settled). admitted j x.puts (replica_of s.registry c)) same_settled
+          leads = ap (λ (x : Settled). admitted j x (replica_of s.registry c)) same_settled
               ∙ sym (replica_of-admitted s.registry j a st_now (sound o w P X J I).rises c k ne);
         },
         is,

@@ -172,8 +172,8 @@ module _ (o : Opening) (a : ℕ) (w : World) where
   pub calm_foreign : (r : Rule) → is_calm r ≡ true → is_foreign o a w (takes o a r) ≡ true
   calm_foreign (Writes f change) e = cc
   calm_foreign (CountsApplied f op asked awaited reply) e = cc
-  calm_foreign (IsAdmitted f j puts kills) e = cc
-  calm_foreign (IsWelcomed f k members pairs told kills) e = cc
+  calm_foreign (IsAdmitted f j settled) e = cc
+  calm_foreign (IsWelcomed f k members pairs told fate) e = cc
   calm_foreign (Ignores f l) e = cc
   calm_foreign (Drops f l) e = cc
   calm_foreign _ e = refl

@@ -67,9 +67,9 @@ module _ (o : Opening) (w : World) (P : Proper o w) (X : Exclusive o w) (J : Joi
   known_keeps (Writes f change) m = Known-wrote o w P X J I a f change m
   known_keeps (RefusesJoin f pairs) m = Known-refused o w P X J I a f pairs m
   known_keeps (Kills f l p receivers) m = Known-killed o w P X J I a f l p receivers m
-  known_keeps (IsAdmitted f j puts kills) m = Known-wrote_admission o w P X J I a f j puts kills m
-  known_keeps (IsWelcomed f k members pairs told kills) m =
-      Known-welcomed o w P X J I a f k members pairs told kills m
+  known_keeps (IsAdmitted f j settled) m = Known-wrote_admission o w P X J I a f j settled m
+  known_keeps (IsWelcomed f k members pairs told fate) m =
+      Known-welcomed o w P X J I a f k members pairs told fate m
   known_keeps (IsTold f) m = Known-told o w P X J I a f m
   known_keeps (LosesContact k c) m = Known-lost o w P X J I a k c m
   known_keeps (Ignores f l) m = Known-ignored o w P X J I a f l m

@@ -27,8 +27,8 @@ busy_writing _ = refl
 
 -- nobody dies by a letter of another kind
 pub kills_in-other : (r : Registry) (l : Letter) → is_mine l ≡ false → AllDead r (kills_in l)
-kills_in-other r (Letter.Admit j puts kills) e = cc
-kills_in-other r (Letter.Welcome members pairs told kills) e = cc
+kills_in-other r (Letter.Admit j settled) e = cc
+kills_in-other r (Letter.Welcome members pairs told fate) e = cc
 kills_in-other r _ e = tt
 
 -- a letter that carries an operation out is among those of a scene, if there is one

@@ -6,6 +6,7 @@ use Rattle.std.proofs.lemmas.Bool.{eqb-true, eq-eqb}
 use Rattle.registry_model.specs.Process.{Nodes, at}
 use Rattle.registry_model.specs.Table.{Table, is_rising, put, remove, without, Change, Put, Remove, StrikeOwner, changed}
 use Rattle.registry_model.specs.Registry.{Replica}
+use Rattle.registry_model.specs.Settlement.{Settled}
 use Rattle.registry_model.proofs.Tables.{without-remove, without-strike, without-put, is_rising-changed, without-at}
 use Rattle.protocol_model.specs.Letter.{Letter}
 use Rattle.protocol_model.specs.Node.{unless_told, wrote}
@@ -15,8 +16,8 @@ use Rattle.protocol_model.specs.Reading.{with_member, admitted, joined_with, wel
 -- a letter that carries an operation out
 abbrev pub carries : Letter → Bool
 carries (Letter.Apply change) = true
-carries (Letter.Admit j puts kills) = true
-carries (Letter.Welcome members pairs told kills) = true
+carries (Letter.Admit j settled) = true
+carries (Letter.Welcome members pairs told fate) = true
 carries _ = false
 
 -- the answer to it
@@ -27,8 +28,8 @@ is_applied _ = false
 -- what it makes of a replica
 abbrev pub carried : Letter → Replica → Replica
 carried (Letter.Apply change) v = wrote change v
-carried (Letter.Admit j puts kills) v = admitted j puts v
-carried (Letter.Welcome members pairs told kills) v = welcomed members pairs told v
+carried (Letter.Admit j settled) v = admitted j settled v
+carried (Letter.Welcome members pairs told fate) v = welcomed members pairs told v
 carried _ v = v
 
 -- a replica is told by its parts
@@ -42,14 +43,15 @@ same_replica told joined e f = ap₂ (λ (t : Table) (m : Nodes). let v : Replic
 without-written : (d : ℕ) (told : Nodes) (ch : Change) (t : Table) → is_rising t ≡ true
     → changed (unless_told (at told d true) ch) (without (λ c. c == d) t)
     ≡ without (λ c. c == d) (changed (unless_told told ch) t)
-without-written d told (Put x p) t r = go (told p.node) (p.node == d) (without-put (λ c. c == d) x p t r)
+without-written d told (Put new) t r =
+    go (told new.owner.node) (new.owner.node == d) (without-put (λ c. c == d) new t r)
   where
-    go : (b c : Bool) → without (λ c. c == d) (put x p t)
-        ≡ (if c then remove x (without (λ c. c == d) t) else put x p (without (λ c. c == d) t))
-        → changed (if (if c then true else b) then Remove x else Put x p) (without (λ c. c == d) t)
-        ≡ without (λ c. c == d) (changed (if b then Remove x else Put x p) t)
-    go true true e = sym (without-remove (λ c. c == d) x t)
-    go true false e = sym (without-remove (λ c. c == d) x t)
+    go : (b c : Bool) → without (λ c. c == d) (put new t)
+        ≡ (if c then remove new.name (without (λ c. c == d) t) else put new (without (λ c. c == d) t))
+        → changed (if (if c then true else b) then Remove new.name else Put new) (without (λ c. c == d) t)
+        ≡ without (λ c. c == d) (changed (if b then Remove new.name else Put new) t)
+    go true true e = sym (without-remove (λ c. c == d) new.name t)
+    go true false e = sym (without-remove (λ c. c == d) new.name t)
     go false true e = sym e
     go false false e = sym e
 without-written d told (Remove x) t r = sym (without-remove (λ c. c == d) x t)
@@ -99,19 +101,19 @@ with_member-bereft d j v = go (v.told j) (j == d) refl
 
 -- names that are put one after another
 pub puts-bereft : (d : ℕ) (puts : Table) (v : Replica) → is_rising v.table ≡ true
-    → fold (λ x e. wrote (Put e.name e.owner) x) (bereft d v) puts
-    ≡ bereft d (fold (λ x e. wrote (Put e.name e.owner) x) v puts)
+    → fold (λ x e. wrote (Put e) x) (bereft d v) puts
+    ≡ bereft d (fold (λ x e. wrote (Put e) x) v puts)
 puts-bereft d [] v r = refl
-puts-bereft d (e ∷ puts) v r = ap (λ (x : Replica). fold (λ x e. wrote (Put e.name e.owner) x) x puts)
-    (wrote-bereft d (Put e.name e.owner) v r)
-    ∙ puts-bereft d puts (wrote (Put e.name e.owner) v)
-    (is_rising-changed (unless_told v.told (Put e.name e.owner)) v.table r)
+puts-bereft d (e ∷ puts) v r = ap (λ (x : Replica). fold (λ x e. wrote (Put e) x) x puts)
+    (wrote-bereft d (Put e) v r)
+    ∙ puts-bereft d puts (wrote (Put e) v)
+    (is_rising-changed (unless_told v.told (Put e)) v.table r)
 
-admitted-bereft : (d j : ℕ) (puts : Table) (v : Replica) → is_rising v.table ≡ true
-    → admitted j puts (bereft d v) ≡ bereft d (admitted j puts v)
-admitted-bereft d j puts v r = ap (λ (x : Replica). fold (λ x e. wrote (Put e.name e.owner) x) x puts)
+admitted-bereft : (d j : ℕ) (settled : Settled) (v : Replica) → is_rising v.table ≡ true
+    → admitted j settled (bereft d v) ≡ bereft d (admitted j settled v)
+admitted-bereft d j settled v r = ap (λ (x : Replica). fold (λ x e. wrote (Put e) x) x settled.puts)
     (with_member-bereft d j v)
-    ∙ puts-bereft d puts (with_member j v) (go (v.told j))
+    ∙ puts-bereft d settled.puts (with_member j v) (go (v.told j))
   where
     go : (b : Bool) → is_rising (if b then v else record v { members = at v.members j true }).table ≡ true
     go true = r
@@ -134,23 +136,23 @@ welcomed-bereft d members pairs told v =
 pub carried-bereft : (l : Letter) (d : ℕ) (v : Replica) → is_rising v.table ≡ true
     → carried l (bereft d v) ≡ bereft d (carried l v)
 carried-bereft (Letter.Apply change) d v r = wrote-bereft d change v r
-carried-bereft (Letter.Admit j puts kills) d v r = admitted-bereft d j puts v r
-carried-bereft (Letter.Welcome members pairs told kills) d v r = welcomed-bereft d members pairs told v
+carried-bereft (Letter.Admit j settled) d v r = admitted-bereft d j settled v r
+carried-bereft (Letter.Welcome members pairs told fate) d v r = welcomed-bereft d members pairs told v
 carried-bereft _ d v r = refl
 
 -- only a welcome changes whether a node is joined
-puts-joined : (puts : Table) (v : Replica) → (fold (λ x e. wrote (Put e.name e.owner) x) v puts).joined ≡ v.joined
+puts-joined : (puts : Table) (v : Replica) → (fold (λ x e. wrote (Put e) x) v puts).joined ≡ v.joined
 puts-joined [] v = refl
-puts-joined (e ∷ puts) v = puts-joined puts (wrote (Put e.name e.owner) v)
+puts-joined (e ∷ puts) v = puts-joined puts (wrote (Put e) v)
 
 -- so a letter that is no welcome leaves it
 pub carried-joined : (l : Letter) (v : Replica) → carries l ≡ true → is_welcome l ≡ false
     → (carried l v).joined ≡ v.joined
 carried-joined (Letter.Apply change) v e f = refl
-carried-joined (Letter.Admit j puts kills) v e f = puts-joined puts (with_member j v) ∙ go (v.told j)
+carried-joined (Letter.Admit j settled) v e f = puts-joined settled.puts (with_member j v) ∙ go (v.told j)
   where
     go : (b : Bool) → (if b then v else record v { members = at v.members j true }).joined ≡ v.joined
     go true = refl
     go false = refl
-carried-joined (Letter.Welcome members pairs told kills) v e f = cc
+carried-joined (Letter.Welcome members pairs told fate) v e f = cc
 carried-joined _ v e f = cc

@@ -4,11 +4,12 @@ use Rattle.std.specs.Prelude.{if◌then◌else◌, not, ◌||◌, fold}
 use Rattle.std.proofs.Math.Path.{fun_ext}
 use Rattle.std.proofs.lemmas.Bool.{eq-eqb}
 use Rattle.std.proofs.lemmas.List.{append-nil}
-use Rattle.registry_model.specs.Process.{Process, Nodes, at}
+use Rattle.registry_model.specs.Process.{Nodes, at}
 use Rattle.registry_model.specs.Table.{Table, Change}
 use Rattle.registry_model.specs.Call.{Reply}
 use Rattle.registry_model.specs.History.{Entry, hold_at, after}
 use Rattle.registry_model.specs.Legal.{IsLegal}
+use Rattle.registry_model.specs.Settlement.{Fate, Settled}
 use Rattle.protocol_model.specs.Letter.{Letter}
 use Rattle.protocol_model.specs.Node.{Op, Current}
 use Rattle.protocol_model.specs.Turn.{Turn, begun, Send, sent_to}
@@ -89,31 +90,31 @@ module _ (o : Opening) (w : World) (P : Proper o w) (X : Exclusive o w) (J : Joi
   }
 
   -- an admission is carried out
-  pub Known-wrote_admission : (f j : ℕ) (puts : Table) (kills : List Process) → May o a w (IsAdmitted f j puts kills)
-      → Known o (effect o a (IsAdmitted f j puts kills) w)
-  Known-wrote_admission f j puts kills m = record {
-    legal = same_history (IsAdmitted f j puts kills) refl;
-    kept = subst (Kept o) (sym (scene_of-effect o a w (IsAdmitted f j puts kills) refl
-        ∙ ap (λ (mail : ℕ → ℕ → List Letter). stepped o a w (turn_by o a w (IsAdmitted f j puts kills))
-        (sent a w.links.closed (λ y. mine (sent_to y (turn_by o a w (IsAdmitted f j puts kills)).sends)) mail))
-        (mine-took f a (Letter.Admit j puts kills) m.front.1.0 w.links.queue m.front.1.1)))
-        (Kept-turn f (Letter.Admit j puts kills) m.front.1.0 m.front.1.1 (m.inside, m.running) refl
-        (turn_by o a w (IsAdmitted f j puts kills)) refl refl refl refl refl refl);
+  pub Known-wrote_admission : (f j : ℕ) (settled : Settled) → May o a w (IsAdmitted f j settled)
+      → Known o (effect o a (IsAdmitted f j settled) w)
+  Known-wrote_admission f j settled m = record {
+    legal = same_history (IsAdmitted f j settled) refl;
+    kept = subst (Kept o) (sym (scene_of-effect o a w (IsAdmitted f j settled) refl
+        ∙ ap (λ (mail : ℕ → ℕ → List Letter). stepped o a w (turn_by o a w (IsAdmitted f j settled))
+        (sent a w.links.closed (λ y. mine (sent_to y (turn_by o a w (IsAdmitted f j settled)).sends)) mail))
+        (mine-took f a (Letter.Admit j settled) m.front.1.0 w.links.queue m.front.1.1)))
+        (Kept-turn f (Letter.Admit j settled) m.front.1.0 m.front.1.1 (m.inside, m.running) refl
+        (turn_by o a w (IsAdmitted f j settled)) refl refl refl refl refl refl);
   }
 
   -- a welcome is carried out
-  pub Known-welcomed : (f k : ℕ) (members : Nodes) (pairs : Table) (told : Nodes) (kills : List Process)
-      → May o a w (IsWelcomed f k members pairs told kills)
-      → Known o (effect o a (IsWelcomed f k members pairs told kills) w)
-  Known-welcomed f k members pairs told kills m = record {
-    legal = same_history (IsWelcomed f k members pairs told kills) refl;
-    kept = subst (Kept o) (sym (scene_of-effect o a w (IsWelcomed f k members pairs told kills) refl
-        ∙ ap (λ (mail : ℕ → ℕ → List Letter). stepped o a w (turn_by o a w (IsWelcomed f k members pairs told kills))
-        (sent a w.links.closed (λ y. mine (sent_to y (turn_by o a w (IsWelcomed f k members pairs told kills)).sends))
+  pub Known-welcomed : (f k : ℕ) (members : Nodes) (pairs : Table) (told : Nodes) (fate : Fate)
+      → May o a w (IsWelcomed f k members pairs told fate)
+      → Known o (effect o a (IsWelcomed f k members pairs told fate) w)
+  Known-welcomed f k members pairs told fate m = record {
+    legal = same_history (IsWelcomed f k members pairs told fate) refl;
+    kept = subst (Kept o) (sym (scene_of-effect o a w (IsWelcomed f k members pairs told fate) refl
+        ∙ ap (λ (mail : ℕ → ℕ → List Letter). stepped o a w (turn_by o a w (IsWelcomed f k members pairs told fate))
+        (sent a w.links.closed (λ y. mine (sent_to y (turn_by o a w (IsWelcomed f k members pairs told fate)).sends))
         mail))
-        (mine-took f a (Letter.Welcome members pairs told kills) m.front.1.0 w.links.queue m.front.1.1)))
-        (Kept-turn f (Letter.Welcome members pairs told kills) m.front.1.0 m.front.1.1 (m.inside, m.running) refl
-        (turn_by o a w (IsWelcomed f k members pairs told kills)) refl refl
+        (mine-took f a (Letter.Welcome members pairs told fate) m.front.1.0 w.links.queue m.front.1.1)))
+        (Kept-turn f (Letter.Welcome members pairs told fate) m.front.1.0 m.front.1.1 (m.inside, m.running) refl
+        (turn_by o a w (IsWelcomed f k members pairs told fate)) refl refl
         (sym (ap doing_of m.tested.1))
         (sym (ap (λ (c : Current). struck_by c ++ struck_of (w.node a).queue) m.tested.1)) refl refl);
   }
@@ -200,8 +201,8 @@ module _ (o : Opening) (w : World) (P : Proper o w) (X : Exclusive o w) (J : Joi
   unawaited : (f : ℕ) (l : Letter) (rest : List Letter) → w.links.queue f a ≡ l ∷ rest → Runs o S f → Runs o S a
       → awaits a (w.node a) f l ≡ false → is_mine l ≡ false
   unawaited f (Letter.Apply change) rest front uf ua e = cc
-  unawaited f (Letter.Admit j puts kills) rest front uf ua e = cc
-  unawaited f (Letter.Welcome members pairs told kills) rest front uf ua e =
+  unawaited f (Letter.Admit j settled) rest front uf ua e = cc
+  unawaited f (Letter.Welcome members pairs told fate) rest front uf ua e =
       let x : (k : ℕ) × ((w.node a).current ≡ Current.Joining k f) =
       (subst (Each (λ l. is_welcome l ≡ true → (k : ℕ) × ((w.node a).current ≡ Current.Joining k f))) front
       (J.welcome f a ua)).0 refl in

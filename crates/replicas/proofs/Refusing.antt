@@ -5,7 +5,7 @@ use Rattle.std.proofs.lemmas.Bool.{and_from, or_left, or_right}
 use Rattle.registry_model.specs.Process.{nodes_of}
 use Rattle.registry_model.specs.Table.{Table}
 use Rattle.registry_model.specs.Call.{NameCall, Look, NotMember, ContactLeft, is_reply, reply_to, seen_in}
-use Rattle.registry_model.specs.Registry.{Registry, view, Replica, replica_of}
+use Rattle.registry_model.specs.Registry.{Registry, Replica, replica_of}
 use Rattle.registry_model.specs.History.{Entry, Name, Join, Read, Hold, Standing, hold_at, old_or, old}
 use Rattle.registry_model.specs.Legal.{IsLegal, is_legal, all_legal}
 use Rattle.protocol_model.specs.Round.{Round, asked}
@@ -59,16 +59,16 @@ module _ (o : Opening) (w : World) (P : Proper o w) (X : Exclusive o w) (J : Joi
       go false f = now f
 
   -- a look-up sees one of them
-  pub legal_read : IsUp o w a → (look : Look) → is_legal s (Read a look (seen_in v.replica.table look)) ≡ true
-  legal_read up look = shown_either up (λ x. is_legal s (Read a look (seen_in x.table look)) ≡ true)
-      (λ r f i. or_right (is_reply (seen_in v.replica.table look) (seen_in (view s.registry a) look))
-      (is_reply (seen_in v.replica.table look) (seen_in (view (old s a) a) look))
-      (ap (λ (x : Replica). is_reply (seen_in v.replica.table look) (seen_in x.table look))
-      (sym (f ∙ ap (λ (r : Registry). replica_of r a) i)) ∙ is_reply-same (seen_in v.replica.table look)))
-      (λ f. or_left (is_reply (seen_in v.replica.table look) (seen_in (view s.registry a) look))
-      (is_reply (seen_in v.replica.table look) (seen_in (view (old s a) a) look))
-      (ap (λ (x : Replica). is_reply (seen_in v.replica.table look) (seen_in x.table look)) (sym f)
-      ∙ is_reply-same (seen_in v.replica.table look)))
+  pub legal_read : IsUp o w a → (look : Look) → is_legal s (Read a look (seen_in v.replica look)) ≡ true
+  legal_read up look = shown_either up (λ x. is_legal s (Read a look (seen_in x look)) ≡ true)
+      (λ r f i. or_right (is_reply (seen_in v.replica look) (seen_in (replica_of s.registry a) look))
+      (is_reply (seen_in v.replica look) (seen_in (replica_of (old s a) a) look))
+      (ap (λ (x : Replica). is_reply (seen_in v.replica look) (seen_in x look))
+      (sym (f ∙ ap (λ (r : Registry). replica_of r a) i)) ∙ is_reply-same (seen_in v.replica look)))
+      (λ f. or_left (is_reply (seen_in v.replica look) (seen_in (replica_of s.registry a) look))
+      (is_reply (seen_in v.replica look) (seen_in (replica_of (old s a) a) look))
+      (ap (λ (x : Replica). is_reply (seen_in v.replica look) (seen_in x look)) (sym f)
+      ∙ is_reply-same (seen_in v.replica look)))
 
   -- who is told to have left is told so by the registry
   pub told_now : IsUp o w a → (d : ℕ) → v.replica.told d ≡ true → s.registry.told a d ≡ true
@@ -95,8 +95,8 @@ module _ (o : Opening) (w : World) (P : Proper o w) (X : Exclusive o w) (J : Joi
   -- a look-up
   pub Known-looked : (look : Look) → May o a w (LooksUp look) → Known o (effect o a (LooksUp look) w)
   Known-looked look m = Known-quiet (LooksUp look) refl refl tt (record {
-    legal = one_legal (Read a look (seen_in v.replica.table look)) (legal_read (m.inside, m.running) look);
-    standing = after-read s a look (seen_in v.replica.table look);
+    legal = one_legal (Read a look (seen_in v.replica look)) (legal_read (m.inside, m.running) look);
+    standing = after-read s a look (seen_in v.replica look);
     silent = refl;
     replica = refl;
     doing = refl;

@@ -12,10 +12,10 @@ use Rattle.protocol_model.specs.Node.{unless_told, wrote}
 -- a changed table, less those that are told to have left, is written by the rule Write
 pub without-changed : (gone : Nodes) (c : Change) (t : Table) → is_rising t ≡ true
     → without gone (changed c t) ≡ changed (unless_told gone c) (without gone t)
-without-changed gone (Put x p) t r = without-put gone x p t r ∙ go (gone p.node)
+without-changed gone (Put e) t r = without-put gone e t r ∙ go (gone e.owner.node)
   where
-    go : (b : Bool) → (if b then remove x (without gone t) else put x p (without gone t))
-        ≡ changed (if b then Remove x else Put x p) (without gone t)
+    go : (b : Bool) → (if b then remove e.name (without gone t) else put e (without gone t))
+        ≡ changed (if b then Remove e.name else Put e) (without gone t)
     go true = refl
     go false = refl
 without-changed gone (Remove x) t r = without-remove gone x t

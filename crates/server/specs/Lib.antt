@@ -8,5 +8,6 @@ pub mod Served
 pub mod Taking
 pub mod Serving
 pub mod Staying
+pub mod Lookouts
 pub mod Notes
 pub mod Visits

@@ -7,7 +7,8 @@ use Rattle.text_lines.specs.declared.faults.StreamFault.TheVariants as fault
 use Rattle.console.specs.declared.ends.ConsoleEnd.{ConsoleEnd}
 use Rattle.console.specs.declared.ends.ConsoleEnd.TheVariants as by
 use Rattle.server.specs.declared.staying.notes.Note.{Note}
-use Rattle.server.specs.declared.staying.notes.Note.TheVariants.{Taken, Parted, NotAttached, TooMany, AcceptFailed}
+use Rattle.server.specs.declared.staying.notes.Note.TheVariants.{Taken, Parted, NotAttached, TooMany, AcceptFailed, Spent}
+use Rattle.server.specs.declared.staying.notes.Supply.TheVariants.{Calls, Serials}
 use Rattle.server.specs.declared.staying.notes.Parting.{Parting}
 use Rattle.server.specs.declared.staying.notes.Parting.TheVariants.{Quit, Input, Shutdown, Unseated, Read, Write, Lines, Memory}
 
@@ -48,3 +49,5 @@ note_text (Parted console node parting) = told_of console (bytes_of node ++ code
 note_text (NotAttached console) = told_of console (codes "not_attached")
 note_text TooMany = codes "too_many_consoles"
 note_text AcceptFailed = codes "accept failed"
+note_text (Spent Calls node) = codes "calls of " ++ bytes_of node ++ codes ": 90 % spent"
+note_text (Spent Serials node) = codes "serials of " ++ bytes_of node ++ codes ": 90 % spent"

@@ -13,6 +13,6 @@ mod taking;
 pub use console::Cookie;
 pub use entry::Entry;
 pub use faults::ServeFault;
-pub use node_threads::StartFault;
+pub use node_threads::{NodeStatus, Numbers, StartFault};
 pub use serving::run_serve;
-pub use staying::{StayOptions, run_stay};
+pub use staying::{Lookout, Spent, StayOptions, run_stay};

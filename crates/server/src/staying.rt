@@ -6,6 +6,8 @@ ghost use Rattle.server.specs.Staying.{StaysCluster, TellsEnd};
 mod desk;
 mod door;
 mod hall;
+mod lookout;
+mod memory;
 mod notes;
 mod office;
 mod options;
@@ -18,10 +20,13 @@ use crate::entry::Entry;
 use crate::faults::ServeFault;
 use crate::serving::{YIELDS, set_of_all};
 use crate::staying::desk::{StayingCluster, stay};
+pub use crate::staying::lookout::{Lookout, Spent};
+use crate::staying::memory::resident;
 pub use crate::staying::options::StayOptions;
 use crate::staying::staff::Staff;
 use node_threads::OpenGate;
 use std::alloc::Global;
+use std::fs::Files;
 use std::io::Write;
 use std::sync::Wait;
 use std::thread::Threads;
@@ -73,7 +78,7 @@ pub fn run_stay<R, W, E>(
     errors: &mut E,
 ) -> Result<bool, ServeFault>
 where
-    R: Threads + Wait + Clock + Drop + Copy + Send + Sync + 'static,
+    R: Threads + Wait + Clock + Files + Drop + Copy + Send + Sync + 'static,
     W: Write,
     E: Write,
     requires { start_refused cluster.now lone.now ≡ None }
@@ -83,9 +88,17 @@ where
         return Err(ServeFault::Memory);
     };
     let nodes = set_of_all(cluster, lone);
-    match Staff::start(rt, alloc, entry, nodes, options) {
+    match Staff::start(rt, alloc, entry, nodes.copy(), options, resident(rt)) {
         Ok(staff) => {
-            stay(rt, alloc, &mut running, &staff.messages, errors);
+            stay(
+                rt,
+                alloc,
+                &mut running,
+                &nodes,
+                &staff.messages,
+                &*staff.memory,
+                errors,
+            );
             end(rt, alloc, running, staff, writer, errors)
         }
         Err(_) => {

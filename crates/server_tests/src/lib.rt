@@ -3,6 +3,8 @@
 #![tactic(auto)]
 
 #[cfg(test)]
+mod lookouts;
+#[cfg(test)]
 mod sockets;
 #[cfg(test)]
 mod stays;

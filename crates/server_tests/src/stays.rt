@@ -1,6 +1,7 @@
 //! Clusters that stay: consoles that come and go, one more than may be, and the line that ends it all.
 use server::{Entry, ServeFault, StayOptions, run_stay};
 use std::alloc::Global;
+use std::fs::Files;
 use std::io::{self, Read, Write};
 use std::net::{Net, Shutdown, SocketAddr, TcpListener, TcpStream};
 use std::slice;
@@ -23,7 +24,7 @@ pub(crate) struct Stayed {
 /// Serves a cluster of the one node a to so many consoles at once, until one asks for the end.
 fn serve<R>(rt: &R, alloc: Global, listener: TcpListener, consoles: u32) -> Stayed
 where
-    R: Threads + Wait + Clock + Drop + Copy + Send + Sync + 'static,
+    R: Threads + Wait + Clock + Files + Drop + Copy + Send + Sync + 'static,
 {
     let options = StayOptions {
         consoles,
@@ -36,7 +37,7 @@ where
 /// Serves a cluster of the one node a to consoles that come in there, until one asks for the end.
 pub(crate) fn serve_as<R>(rt: &R, alloc: Global, entry: Entry, options: StayOptions) -> Stayed
 where
-    R: Threads + Wait + Clock + Drop + Copy + Send + Sync + 'static,
+    R: Threads + Wait + Clock + Files + Drop + Copy + Send + Sync + 'static,
 {
     let mut written = Vec::new(alloc);
     let mut told = Vec::new(alloc);
@@ -133,6 +134,27 @@ fn consoles_come_one_after_another(rt: HostRuntime) -> Result<(), Fail> {
     let log =
         b"console 1 taken\nconsole 1 a ended quit\nconsole 2 taken\nconsole 2 a ended shutdown\n";
     assert_eq!(rt; stayed.told.as_slice(), log.as_slice());
+    Ok(())
+}
+
+#[test]
+fn a_status_tells_what_its_console_did(rt: HostRuntime) -> Result<(), Fail> {
+    let alloc = rt.alloc();
+    let listener = TcpListener::bind(&rt, "127.0.0.1:0")?;
+    let address = listener.local_addr()?;
+    let lines = b"attach a\nspawn\nexit a.1\nspawn\nset_lock a.2 r q all 0\nstatus\nshutdown\n";
+    let (stayed, heard) = join(
+        &rt,
+        || serve(&rt, alloc, listener, 2),
+        || converse(&rt, alloc, address, lines.as_slice()),
+    );
+    let heard = heard?;
+    let begun = b"ok\na.1\nok\na.2\ntrue\n\
+        status a joined members a names 0 locks 1 calls 1 serials 2 spans 1 consoles 1 steps ";
+    assert!(rt; heard.starts_with(begun.as_slice()));
+    // The system tells how much memory there is.
+    assert!(rt; heard.ends_with(b"\nok\n") && !heard.ends_with(b" memory 0\nok\n"));
+    assert_eq!(rt; stayed.result, Ok(true));
     Ok(())
 }
 

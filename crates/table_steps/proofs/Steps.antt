@@ -1,9 +1,10 @@
 -- What a node has behind a whole step.
-use Rattle.std.proofs.Common.{ℕ, Bool, true, false, ◌≡◌, ◌==◌, ◌+◌, ◌∙◌, not, ◌&&◌, List, cond, refl}
+use Rattle.std.proofs.Common.{ℕ, Bool, true, false, ◌≡◌, ◌==◌, ◌+◌, ◌∙◌, not, ◌&&◌, cond, refl}
 use Rattle.registry_model.specs.Process.{Process, Nodes, is_process}
 use Rattle.registry_model.specs.Table.{Table}
 use Rattle.registry_model.specs.Call.{Joined}
 use Rattle.registry_model.specs.History.{Entry}
+use Rattle.registry_model.specs.Settlement.{Fate}
 use Rattle.protocol_model.specs.Letter.{Letter, is_down}
 use Rattle.protocol_model.specs.LockTable.{is_free_for}
 use Rattle.protocol_model.specs.Node.{Current, Times, call_of}
@@ -36,21 +37,21 @@ module _ (n a : ℕ) where
   of_event world Event.Leave u = refl
 
   module _ (number : ℕ → ℕ) where
-    welcomes : (f : ℕ) (members : Nodes) (pairs : Table) (told : Nodes) (kills : List Process) (now : Current) (u : Turn)
-        → Keeping.replica_in (Reading.welcome n a number f members pairs told kills now u) ≡ behind_welcome f members pairs told now (Keeping.replica_in u)
-    welcomes f members pairs told kills (Current.Joining k m) u = at (m == f)
+    welcomes : (f : ℕ) (members : Nodes) (pairs : Table) (told : Nodes) (fate : Fate) (now : Current) (u : Turn)
+        → Keeping.replica_in (Reading.welcome n a number f members pairs told fate now u) ≡ behind_welcome f members pairs told now (Keeping.replica_in u)
+    welcomes f members pairs told fate (Current.Joining k m) u = at (m == f)
       where
         granted : Turn
-        granted = Calling.kill n a kills (with_replica (Reading.welcomed members pairs told) u)
+        granted = Calling.kill n a fate.kills (with_replica (Reading.welcomed members pairs told) u)
 
         at : (b : Bool) → Keeping.replica_in (cond b (send f Letter.Applied (reply_with a k Joined (at_work Current.Free granted))) u)
             ≡ cond b (Reading.welcomed members pairs told (Keeping.replica_in u)) (Keeping.replica_in u)
-        at true = Keeping.kill n a kills (with_replica (Reading.welcomed members pairs told) u)
+        at true = Keeping.kill n a fate.kills (with_replica (Reading.welcomed members pairs told) u)
         at false = refl
-    welcomes f members pairs told kills Current.Free u = refl
-    welcomes f members pairs told kills (Current.Asking op r) u = refl
-    welcomes f members pairs told kills (Current.Waiting op) u = refl
-    welcomes f members pairs told kills (Current.Writing op s awaited reply) u = refl
+    welcomes f members pairs told fate Current.Free u = refl
+    welcomes f members pairs told fate (Current.Asking op r) u = refl
+    welcomes f members pairs told fate (Current.Waiting op) u = refl
+    welcomes f members pairs told fate (Current.Writing op s awaited reply) u = refl
 
     hears : (f : ℕ) (p : Process) (granted : Bool) (u : Turn) → Keeping.replica_in (Reading.hear n a number f p granted u) ≡ Keeping.replica_in u
     hears f p granted u = Keeping.either (is_process p (Registrar.registrar a)) _ _ u
@@ -88,8 +89,8 @@ module _ (n a : ℕ) where
     reads f Letter.Applied u = Keeping.await_less n a f u.node.current u
     reads f (Letter.JoinAsk pairs) u = Keeping.either u.node.replica.joined _ _ u refl refl
     reads f Letter.JoinRefused u = refused_join f u.node.current u
-    reads f (Letter.Admit j puts kills) u = Keeping.kill n a kills (with_replica (Reading.admitted j puts) u)
-    reads f (Letter.Welcome members pairs told kills) u = welcomes f members pairs told kills u.node.current u
+    reads f (Letter.Admit j settled) u = Keeping.kill n a settled.fate.kills (with_replica (Reading.admitted j settled) u)
+    reads f (Letter.Welcome members pairs told fate) u = welcomes f members pairs told fate u.node.current u
     reads f Letter.Down u = bereaved f u
 
 pub letters_write : LettersWrite

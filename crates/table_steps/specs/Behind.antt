@@ -18,8 +18,8 @@ behind_welcome f members pairs told _ v = v
 -- behind a letter from f that is read
 abbrev pub behind_letter : ℕ → Letter → Current → Replica → Replica
 behind_letter f (Letter.Apply change) now v = wrote change v
-behind_letter f (Letter.Admit j puts kills) now v = admitted j puts v
-behind_letter f (Letter.Welcome members pairs told kills) now v = behind_welcome f members pairs told now v
+behind_letter f (Letter.Admit j settled) now v = admitted j settled v
+behind_letter f (Letter.Welcome members pairs told fate) now v = behind_welcome f members pairs told now v
 behind_letter f Letter.Down now v = bereft f v
 behind_letter f _ now v = v
 

@@ -16,7 +16,8 @@ pub enum StreamFault {
     /// The writer failed: a part is written of what the lines so far print.
     #[error("the answers can't be written")]
     Write,
-    /// The next line takes the count past 1,000,000 lines: all is written that the lines before it print.
+    /// The next line takes the count past the lines that may come, or counts for more than 1,000,000 itself: all is written that the
+    /// lines before it print.
     #[error("too many lines")]
     TooManyLines,
     /// Memory was refused: a part is written of what the lines so far print.

@@ -5,6 +5,7 @@ use Rattle.std.specs.List.{list_any}
 use Rattle.registry_model.specs.Process.{at}
 use Rattle.registry_model.specs.Table.{Table, Put}
 use Rattle.registry_model.specs.Registry.{Replica}
+use Rattle.registry_model.specs.Settlement.{Settled}
 use Rattle.protocol_model.specs.Round.{answer, opens, rest}
 use Rattle.protocol_model.specs.Letter.{Letter, Global}
 use Rattle.protocol_model.specs.LockTable.{is_free_for, grant}
@@ -53,13 +54,13 @@ joins_of-none (op ∷ ops) e = go (is_join op) (list_any is_join ops) e (joins_o
     go false s q h = omega (arith, h q)
 
 -- puts join nobody
-puts-joined : (puts : Table) (v : Replica) → (fold (λ x e. wrote (Put e.name e.owner) x) v puts).joined ≡ v.joined
+puts-joined : (puts : Table) (v : Replica) → (fold (λ x e. wrote (Put e) x) v puts).joined ≡ v.joined
 puts-joined [] v = refl
-puts-joined (e ∷ puts) v = puts-joined puts (wrote (Put e.name e.owner) v)
+puts-joined (e ∷ puts) v = puts-joined puts (wrote (Put e) v)
 
 -- who admits another is joined, or not, as before
-pub admitted-joined : (j : ℕ) (puts : Table) (v : Replica) → (admitted j puts v).joined ≡ v.joined
-admitted-joined j puts v = puts-joined puts (with_member j v) ∙ go (v.told j)
+pub admitted-joined : (j : ℕ) (settled : Settled) (v : Replica) → (admitted j settled v).joined ≡ v.joined
+admitted-joined j settled v = puts-joined settled.puts (with_member j v) ∙ go (v.told j)
   where
     go : (t : Bool) → (if t then v else record v { members = at v.members j true }).joined ≡ v.joined
     go true = refl
@@ -125,10 +126,10 @@ module _ (o : Opening) (a : ℕ) (w : World) where
   joins_turn number (Rules.Finishes (Op.Admission j pairs) asked awaited reply) v h t = calm v h
   joins_turn number (Rules.EndsJoin f k) v h t = calm v h
   joins_turn number (Rules.LosesContact k m) v h t = calm v h
-  joins_turn number (Rules.IsAdmitted f j puts kills) v h t =
+  joins_turn number (Rules.IsAdmitted f j settled) v h t =
       subst (λ (b : Bool). one_if (is_joining v.current) + joins_of v.queue + one_if b < 2)
-      (sym (admitted-joined j puts v.replica)) h
-  joins_turn number (Rules.IsWelcomed f k members pairs told kills) v h t =
+      (sym (admitted-joined j settled v.replica)) h
+  joins_turn number (Rules.IsWelcomed f k members pairs told fate) v h t =
       let waits : one_if (is_joining v.current) ≡ 1 = ap (λ (c : Current). one_if (is_joining c)) t.1 in
       omega (arith, h, waits)
   joins_turn number (Rules.HearsLock f id granted c r) v h t = go (opens f granted r)

@@ -7,6 +7,7 @@ use Rattle.std.proofs.lemmas.List.Elements.{All-head, All-tail}
 use Rattle.registry_model.specs.Process.{Process, Nodes, at}
 use Rattle.registry_model.specs.Table.{Table, Put}
 use Rattle.registry_model.specs.Registry.{Replica}
+use Rattle.registry_model.specs.Settlement.{Settled}
 use Rattle.protocol_model.specs.Letter.{Letter}
 use Rattle.protocol_model.specs.Watch.{is_live}
 use Rattle.protocol_model.specs.Node.{Node, wrote}
@@ -64,14 +65,14 @@ kill_to-current n a s (p ∷ ps) u = go (is_live a u.node.watch p) (kill_to-curr
     go false h = h u
 
 -- puts change no members
-pub puts-members : (puts : Table) (v : Replica) → (fold (λ x e. wrote (Put e.name e.owner) x) v puts).members ≡ v.members
+pub puts-members : (puts : Table) (v : Replica) → (fold (λ x e. wrote (Put e) x) v puts).members ≡ v.members
 puts-members [] v = refl
-puts-members (e ∷ puts) v = puts-members puts (wrote (Put e.name e.owner) v)
+puts-members (e ∷ puts) v = puts-members puts (wrote (Put e) v)
 
 -- who is a member is one after an admission
-pub admitted-members : (j : ℕ) (puts : Table) (v : Replica) (c : ℕ) → v.members c ≡ true
-    → (admitted j puts v).members c ≡ true
-admitted-members j puts v c m = ap (λ (s : Nodes). s c) (puts-members puts (with_member j v)) ∙ go (v.told j)
+pub admitted-members : (j : ℕ) (settled : Settled) (v : Replica) (c : ℕ) → v.members c ≡ true
+    → (admitted j settled v).members c ≡ true
+admitted-members j settled v c m = ap (λ (s : Nodes). s c) (puts-members settled.puts (with_member j v)) ∙ go (v.told j)
   where
     go : (t : Bool) → (if t then v else record v { members = at v.members j true }).members c ≡ true
     go true = m

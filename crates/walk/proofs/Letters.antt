@@ -8,6 +8,7 @@ use Rattle.registry_model.specs.Table.{Table}
 use Rattle.registry_model.specs.Call.{Reply, Joined, NotMember}
 use Rattle.registry_model.specs.Registry.{Replica}
 use Rattle.registry_model.specs.History.{Entry}
+use Rattle.registry_model.specs.Settlement.{Fate, Settled}
 use Rattle.protocol_model.specs.Round.{Round, is_empty, owes, answer}
 use Rattle.protocol_model.specs.Letter.{Id, Global, Letter}
 use Rattle.protocol_model.specs.Node.{Op, Current, LockPhase, LockCall, call_of}
@@ -258,78 +259,78 @@ module _ (o : Opening) (a : ℕ) (inside : in_world o a ≡ true) (w : World) (r
         go Current.Free e = skip (ap (is_joining_by f) e)
 
     -- f has j admitted, and these die
-    pub admit-chain : (j : ℕ) (puts : Table) (kills : List Process)
-        → w.links.queue f a ≡ Letter.Admit j puts kills ∷ rest
-        → Reads (send f Letter.Applied (kill o.bound a kills (with_replica (admitted j puts) (begun (w.node a)))))
-    admit-chain j puts kills front =
+    pub admit-chain : (j : ℕ) (settled : Settled)
+        → w.links.queue f a ≡ Letter.Admit j settled ∷ rest
+        → Reads (send f Letter.Applied (kill o.bound a settled.fate.kills (with_replica (admitted j settled) (begun (w.node a)))))
+    admit-chain j settled front =
         subst (λ (u : Turn). Reads (send f Letter.Applied u))
-        (ap (λ (v : Replica). replaced (admitted j puts v) killed)
-        (kill_to-replica o.bound a after.members kills (begun (w.node a)))
-        ∙ sym (kill-replaced o.bound a after kills (begun (w.node a))))
-        (chain_letter o a Hearing inside w [] killed (Rules.IsAdmitted f j puts kills) f
-        (Letter.Admit j puts kills) rest running
-        (kill_to-chain o a inside w running f (Letter.Admit j puts kills) rest known front after.members kills
+        (ap (λ (v : Replica). replaced (admitted j settled v) killed)
+        (kill_to-replica o.bound a after.members settled.fate.kills (begun (w.node a)))
+        ∙ sym (kill-replaced o.bound a after settled.fate.kills (begun (w.node a))))
+        (chain_letter o a Hearing inside w [] killed (Rules.IsAdmitted f j settled) f
+        (Letter.Admit j settled) rest running
+        (kill_to-chain o a inside w running f (Letter.Admit j settled) rest known front after.members settled.fate.kills
         (begun (w.node a))
-        (chain_none o a Hearing w) untold (λ v e. refl) (admitted-members j puts (w.node a).replica)
-        (All-contains_itself kills))
+        (chain_none o a Hearing w) untold (λ v e. refl) (admitted-members j settled (w.node a).replica)
+        (All-contains_itself settled.fate.kills))
         refl refl known front
-        (ap (λ (v : Replica). v.told f) (kill_to-replica o.bound a after.members kills (begun (w.node a))) ∙ untold))
+        (ap (λ (v : Replica). v.told f) (kill_to-replica o.bound a after.members settled.fate.kills (begun (w.node a))) ∙ untold))
       where
         after : Replica
-        after = admitted j puts (w.node a).replica
+        after = admitted j settled (w.node a).replica
 
         killed : Turn
-        killed = kill_to o.bound a after.members kills (begun (w.node a))
+        killed = kill_to o.bound a after.members settled.fate.kills (begun (w.node a))
 
     -- a join by f is granted, and these die; who is a member stays one
-    pub welcome-chain : (members : Nodes) (pairs : Table) (told : Nodes) (kills : List Process)
-        → w.links.queue f a ≡ Letter.Welcome members pairs told kills ∷ rest
+    pub welcome-chain : (members : Nodes) (pairs : Table) (told : Nodes) (fate : Fate)
+        → w.links.queue f a ≡ Letter.Welcome members pairs told fate ∷ rest
         → ((k : ℕ) → (w.node a).current ≡ Current.Joining k f
         → (c : ℕ) → (w.node a).replica.members c ≡ true
         → (welcomed members pairs told (w.node a).replica).members c ≡ true)
-        → Reads (welcome o.bound a (join_number w) f members pairs told kills (w.node a).current (begun (w.node a)))
-    welcome-chain members pairs told kills front wide = go (w.node a).current refl
+        → Reads (welcome o.bound a (join_number w) f members pairs told fate (w.node a).current (begun (w.node a)))
+    welcome-chain members pairs told fate front wide = go (w.node a).current refl
       where
         skip : is_joining_by f (w.node a).current ≡ false → Reads (begun (w.node a))
-        skip e = ignored (Letter.Welcome members pairs told kills) front e
+        skip e = ignored (Letter.Welcome members pairs told fate) front e
 
         after : Replica
         after = welcomed members pairs told (w.node a).replica
 
         killed : Turn
-        killed = kill_to o.bound a after.members kills (begun (w.node a))
+        killed = kill_to o.bound a after.members fate.kills (begun (w.node a))
 
         granted : (k : ℕ) → (w.node a).current ≡ Current.Joining k f
             → Reads (send f Letter.Applied (reply_with a k Joined
             (at_work Current.Free
-            (kill o.bound a kills (with_replica (welcomed members pairs told) (begun (w.node a)))))))
+            (kill o.bound a fate.kills (with_replica (welcomed members pairs told) (begun (w.node a)))))))
         granted k e =
             subst (λ (u : Turn). Reads (send f Letter.Applied (reply_with a k Joined (at_work Current.Free u))))
             (ap (λ (v : Replica). replaced (welcomed members pairs told v) killed)
-            (kill_to-replica o.bound a after.members kills (begun (w.node a)))
-            ∙ sym (kill-replaced o.bound a after kills (begun (w.node a))))
-            (chain_letter o a Hearing inside w [] killed (Rules.IsWelcomed f k members pairs told kills) f
-            (Letter.Welcome members pairs told kills) rest running
+            (kill_to-replica o.bound a after.members fate.kills (begun (w.node a)))
+            ∙ sym (kill-replaced o.bound a after fate.kills (begun (w.node a))))
+            (chain_letter o a Hearing inside w [] killed (Rules.IsWelcomed f k members pairs told fate) f
+            (Letter.Welcome members pairs told fate) rest running
             (kill_to-chain o a inside w running f
-            (Letter.Welcome members pairs told kills) rest known front after.members kills (begun (w.node a))
+            (Letter.Welcome members pairs told fate) rest known front after.members fate.kills (begun (w.node a))
             (chain_none o a Hearing w) untold (λ v q. ap (is_joining_by f) (q ∙ e) ∙ eq-eqb f f refl) (wide k e)
-            (All-contains_itself kills))
+            (All-contains_itself fate.kills))
             refl refl known front (
-              ap (λ (v : Replica). v.told f) (kill_to-replica o.bound a after.members kills (begun (w.node a)))
+              ap (λ (v : Replica). v.told f) (kill_to-replica o.bound a after.members fate.kills (begun (w.node a)))
                   ∙ untold,
-              kill_to-current o.bound a after.members kills (begun (w.node a)) ∙ e,
+              kill_to-current o.bound a after.members fate.kills (begun (w.node a)) ∙ e,
             ))
 
         join : (k m : ℕ) → (w.node a).current ≡ Current.Joining k m → (t : Bool) → (m == f) ≡ t
             → Reads (if t then send f Letter.Applied (reply_with a k Joined
             (at_work Current.Free
-            (kill o.bound a kills (with_replica (welcomed members pairs told) (begun (w.node a))))))
+            (kill o.bound a fate.kills (with_replica (welcomed members pairs told) (begun (w.node a))))))
             else begun (w.node a))
         join k m e true q = granted k (e ∙ ap (λ (x : ℕ). Current.Joining k x) (eqb-true m f q))
         join k m e false q = skip (ap (is_joining_by f) e ∙ q)
 
         go : (c : Current) → (w.node a).current ≡ c
-            → Reads (welcome o.bound a (join_number w) f members pairs told kills c (begun (w.node a)))
+            → Reads (welcome o.bound a (join_number w) f members pairs told fate c (begun (w.node a)))
         go (Current.Joining k m) e = join k m e (m == f) refl
         go (Current.Asking op r) e = skip (ap (is_joining_by f) e)
         go (Current.Waiting op) e = skip (ap (is_joining_by f) e)

@@ -1,9 +1,10 @@
 -- A letter is received: a chain of rules, which ends with the start of the registrar's next operation.
 use Rattle.std.proofs.Common.{ℕ, Bool, true, false, ◌==◌, ◌≡◌, List, [], ◌∷◌, refl, sym, subst, ap, ◌∙◌}
 use Rattle.std.specs.Prelude.{◌&&◌, not, if◌then◌else◌}
-use Rattle.registry_model.specs.Process.{Process, is_process, Nodes}
+use Rattle.registry_model.specs.Process.{is_process, Nodes}
 use Rattle.registry_model.specs.Table.{Table}
 use Rattle.registry_model.specs.Registry.{Replica}
+use Rattle.registry_model.specs.Settlement.{Fate}
 use Rattle.protocol_model.specs.Letter.{Letter, is_down}
 use Rattle.protocol_model.specs.Node.{Current, call_of}
 use Rattle.protocol_model.specs.Turn.{Turn, begun, at_work}
@@ -26,10 +27,10 @@ use Rattle.walk.proofs.Letters.{by_rule, hear_answer-chain, hear_lock-chain, owe
 -- to those after the welcome
 abbrev pub WelcomeWidens : Opening → World → Type 0
 WelcomeWidens o w =
-    (f a k : ℕ) (members : Nodes) (pairs : Table) (told : Nodes) (kills : List Process) (rest : List Letter)
+    (f a k : ℕ) (members : Nodes) (pairs : Table) (told : Nodes) (fate : Fate) (rest : List Letter)
     → in_world o a ≡ true → left w a ≡ false → (w.node a).replica.told f ≡ false
     → (w.node a).current ≡ Current.Joining k f
-    → w.links.queue f a ≡ Letter.Welcome members pairs told kills ∷ rest
+    → w.links.queue f a ≡ Letter.Welcome members pairs told fate ∷ rest
     → (c : ℕ) → (w.node a).replica.members c ≡ true → (welcomed members pairs told (w.node a).replica).members c ≡ true
 
 module _ (o : Opening) (a : ℕ) (inside : in_world o a ≡ true) (w : World) (running : left w a ≡ false)
@@ -60,11 +61,11 @@ module _ (o : Opening) (a : ℕ) (inside : in_world o a ≡ true) (w : World) (r
   read-chain (Letter.JoinAsk pairs) d front untold =
       asked_to_admit-chain o a inside w running f known rest untold pairs front
   read-chain Letter.JoinRefused d front untold = refused_join-chain o a inside w running f known rest untold front
-  read-chain (Letter.Admit j puts kills) d front untold =
-      admit-chain o a inside w running f known rest untold j puts kills front
-  read-chain (Letter.Welcome members pairs told kills) d front untold =
-      welcome-chain o a inside w running f known rest untold members pairs told kills front
-      (λ k e. wide f a k members pairs told kills rest inside running untold e front)
+  read-chain (Letter.Admit j settled) d front untold =
+      admit-chain o a inside w running f known rest untold j settled front
+  read-chain (Letter.Welcome members pairs told fate) d front untold =
+      welcome-chain o a inside w running f known rest untold members pairs told fate front
+      (λ k e. wide f a k members pairs told fate rest inside running untold e front)
   read-chain Letter.Down d front untold = cc
 
   -- a letter but `Down`

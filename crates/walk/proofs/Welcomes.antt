@@ -36,11 +36,11 @@ lone_alone o w h a c up lone member =
 
 -- a node that is welcomed keeps its members
 pub welcome_widens : (o : Opening) (w : World) → JoinsOnce w → Proper o w → LoneAlone o w → WelcomeWidens o w
-welcome_widens o w once proper lone f a k members pairs told kills rest inside running untold waits front c member =
+welcome_widens o w once proper lone f a k members pairs told fate rest inside running untold waits front c member =
     subst (λ (x : ℕ). (welcomed members pairs told (w.node a).replica).members x ≡ true)
     (sym (lone a c (inside, running) (joining_lone w once a k f waits) member)) own
   where
-    letter : Invariants.IsProper o w f a (Letter.Welcome members pairs told kills)
+    letter : Invariants.IsProper o w f a (Letter.Welcome members pairs told fate)
     letter = (subst (Each (Invariants.IsProper o w f a)) front (proper.letters f a running)).0
 
     stays : (t : Bool) → (t ≡ true → left w a ≡ true) → t ≡ false

@@ -1,5 +1,5 @@
 //! Clients at the other end of a console.
-use console::{Client, Peer};
+use console::{Client, House, Load, Peer};
 use std::alloc::Global;
 use std::sync::Arc;
 use std::sync::atomic::{AtomicU32, Ordering};
@@ -11,6 +11,19 @@ pub(crate) struct Listener;
 impl Client for Listener {
     fn peer(&self) -> Peer {
         Peer::Listens
+    }
+}
+
+/// A server of five consoles.
+#[derive(Drop)]
+pub(crate) struct Home;
+
+impl<H> House<H> for Home {
+    fn load(&self, _rt: &H) -> Load {
+        Load {
+            consoles: 5,
+            memory: 14_680_064,
+        }
     }
 }
 

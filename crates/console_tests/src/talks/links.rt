@@ -1,7 +1,7 @@
 //! Linked processes: whose exit is asked for when a console ends, and what `self` is.
-use super::MOST_LINES;
 use super::streams::{Full, Torn};
-use console::{Attendant, ConsoleEnd, ConsoleFault, Order, answer_lines};
+use super::{MOST_LINES, status_of};
+use console::{Attendant, ConsoleEnd, ConsoleFault, Order, Status, answer_lines};
 use node_threads::{Call, Reply, SeatFault, StepFault};
 use std::alloc::Global;
 use std::io::{BufReader, Cursor, Read, Write};
@@ -77,6 +77,10 @@ impl<H> Attendant<H> for Roll {
             Order::Exit(process) => self.exit(&process),
             _ => Ok(Reply::True),
         }
+    }
+
+    fn status(&self, _rt: &H) -> Result<Status, SeatFault> {
+        Ok(status_of(&self.node))
     }
 }
 

@@ -1,6 +1,6 @@
 //! Consoles at seats of a running cluster: one that quits, and two that end by a fault, which all hand a transcript back; and two
 //! that have one seat, one after the other.
-use super::clients::Listener;
+use super::clients::{Home, Listener};
 use super::streams::{Full, Torn};
 use console::{ConsoleEnd, ConsoleFault, serve, serve_staying};
 use name_table::ListTable;
@@ -140,7 +140,7 @@ fn hold<H: Wait + Clock>(
         return (false, seat);
     };
     let mut written = Vec::new(alloc);
-    let (result, seat) = serve_staying(rt, alloc, &mut reader, &mut written, seat, Listener);
+    let (result, seat) = serve_staying(rt, alloc, &mut reader, &mut written, seat, Listener, &Home);
     let is_due = written.as_slice() == text && matches!(result, Ok(ended) if ended == end);
     (is_due, seat)
 }

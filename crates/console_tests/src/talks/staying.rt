@@ -54,6 +54,18 @@ fn shutdown_is_one_word_of_a_server_that_stays(rt: HostRuntime) {
 }
 
 #[test]
+fn status_is_one_line_of_a_server_that_stays(rt: HostRuntime) {
+    let alloc = rt.alloc();
+    let text = b"error bad_line\nerror bad_line\n".as_slice();
+    assert!(rt; lasts_until(alloc, b"status\nstatus a\n", text, ConsoleEnd::Input));
+    let text =
+        b"status a lone members a names 3 locks 2 calls 1204 serials 17 spans 1 consoles 5 steps 9120 memory 14680064\n\
+        error bad_line\nerror bad_line\na.1\n";
+    let lines = b"status\nstatus a\nSTATUS\nspawn\n".as_slice();
+    assert!(rt; stays_until(alloc, lines, text.as_slice(), ConsoleEnd::Input));
+}
+
+#[test]
 fn nothing_behind_shutdown_is_read(rt: HostRuntime) -> Result<(), Fail> {
     let alloc = rt.alloc();
     let mut clerk = Clerk::new(None)?;

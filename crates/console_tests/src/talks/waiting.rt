@@ -1,5 +1,5 @@
 //! Consoles at a seat of a running cluster: `self` in each of its places, and lock calls whose client goes while they wait.
-use super::clients::{Leaver, Listener};
+use super::clients::{Home, Leaver, Listener};
 use console::{Client, serve_staying};
 use name_table::ListTable;
 use node_threads::{Cluster, OpenGate, Seat, Transcript};
@@ -28,7 +28,7 @@ fn answers<H: Wait + Clock, C: Client + Drop>(
         return (false, seat);
     };
     let mut written = Vec::new(alloc);
-    let (result, seat) = serve_staying(rt, alloc, &mut reader, &mut written, seat, client);
+    let (result, seat) = serve_staying(rt, alloc, &mut reader, &mut written, seat, client, &Home);
     (result.is_ok() && written.as_slice() == text, seat)
 }
 

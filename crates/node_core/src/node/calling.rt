@@ -223,7 +223,7 @@ impl<N: Names<Memory = Global>> NodeCore<N> {
 
     /// What is seen in the node's own table.
     fn seen(&self, look: &Look) -> Result<Reply, AllocError>
-        ensures { IfOk result (λ reply. reply_of reply ≡ seen_in self.now.table (look_of look.now)) }
+        ensures { IfOk result (λ reply. reply_of reply ≡ seen_in (node_of self.now).replica (look_of look.now)) }
     {
         Ok(match look {
             Look::Whereis(name) => match self.table.get(name) {
@@ -238,7 +238,7 @@ impl<N: Names<Memory = Global>> NodeCore<N> {
     fn look_up(&self, turn: &mut Turn, look: Look) -> Result<(), AllocError>
         requires { HasRoom 0 1 1 turn.old }
         ensures spends { Spends 0 1 1 turn.old turn.new }
-        ensures turn { OnOk result (Makes (λ n a u. looked n a (look_of look) (seen_in u.node.replica.table (look_of look)) u) self.now turn.old self.now turn.new) }
+        ensures turn { OnOk result (Makes (λ n a u. looked n a (look_of look) (seen_in u.node.replica (look_of look)) u) self.now turn.old self.now turn.new) }
     {
         let reply = self.seen(&look)?;
         let entry = Entry::Read(self.name.copy(), look, reply.copy()?);

@@ -54,6 +54,7 @@ impl<N: Names<Memory = Global>> NodeCore<N> {
     ghost use Rattle.node_events.specs.declared.events.Entry.TheVariants.{Joined as HasJoined};
     ghost use Rattle.term.specs.NodeSets.{IsNodeSet};
     ghost use Rattle.node_core.specs.Held.{IsWithin};
+    ghost use Rattle.exchange.specs.Bodies.{settled_in, fate_in};
     ghost use Rattle.node_core.specs.Joining.{join_by, kill_one, put_names, IsAdmitting, IsWelcomeTo, TellsToAdmit, Welcomes};
     ghost use Rattle.node_core.specs.Seen.{node_of};
     ghost use Rattle.node_events.specs.Seen.{unnumbered};
@@ -317,8 +318,8 @@ impl<N: Names<Memory = Global>> NodeCore<N> {
         admission: &Admission,
     ) -> Result<(), AllocError>
         ensures turn { set_of self.old.world admission.now.joiner ≡ true → OnOk result
-            (Makes (λ n a u. send from.now AnyLetter.Applied (kill n a admission.now.kills.items
-            (with_replica (admitted admission.now.joiner admission.now.puts.items) u))) self.old turn.old self.new turn.new) }
+            (Makes (λ n a u. send from.now AnyLetter.Applied (kill n a (settled_in admission.now).fate.kills
+            (with_replica (admitted admission.now.joiner (settled_in admission.now)) u))) self.old turn.old self.new turn.new) }
         ensures kept { KeepsQueue self.old self.new }
         ensures adds { Adds 0 0 turn.old turn.new }
         ensures room { OnOk result (HasRoom 1 0 0 turn.new) }
@@ -361,7 +362,7 @@ impl<N: Names<Memory = Global>> NodeCore<N> {
         requires { HasRoom 1 0 0 turn.old }
         ensures turn { IsWelcomeTo self.old.world self.old.name body.now → OnOk result
             (Makes (λ n a u. welcome n a unnumbered from.now (set_of body.now.members) body.now.pairs.items
-            (set_of body.now.told) body.now.kills.items u.node.current u) self.old turn.old self.new turn.new) }
+            (set_of body.now.told) (fate_in body.now) u.node.current u) self.old turn.old self.new turn.new) }
         ensures kept { KeepsQueue self.old self.new }
         ensures adds { Adds 0 1 turn.old turn.new }
         ensures room { OnOk result (HasRoom 1 0 0 turn.new) }

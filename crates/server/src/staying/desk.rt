@@ -2,14 +2,22 @@
 ghost use Rattle.std.specs.Prelude.{◌≡◌, OnOk, OnErr};
 ghost use Rattle.server.specs.Staying.{Reseats};
 
-use crate::staying::notes::{Note, tell_note};
-use crossbeam_channel::{Receiver, Sender};
+use crate::staying::lookout::Lookout;
+use crate::staying::memory::resident;
+use crate::staying::notes::{Note, Supply, tell_note};
+use crossbeam_channel::{Receiver, RecvTimeoutError, Sender};
 use name_table::IndexTable;
 use node_threads::{Cluster, ForgottenLog, ForgottenNotes, OpenGate, Seat, SeatFault};
 use std::alloc::Global;
+use std::fs::Files;
 use std::io::Write;
 use std::sync::Wait;
-use term::NodeName;
+use std::sync::atomic::{AtomicU64, Ordering};
+use std::time::{Clock, Duration};
+use term::{NodeName, NodeSet};
+
+/// For how many seconds the desk waits for a message before it looks how things stand.
+const PAUSE: u64 = 10;
 
 /// A cluster that stays: its tables hash, no turn of its nodes is held back, and none of their steps is kept.
 pub(crate) type StayingCluster = Cluster<OpenGate, IndexTable<Global>, ForgottenLog>;
@@ -74,23 +82,65 @@ fn heed<R: Wait, E: Write>(
     }
 }
 
-/// Does what messages ask for, until one asks for the end.
-pub(crate) fn stay<R: Wait, E: Write>(
+/// Waits for a message, for a while and no longer, and does what it asks for: whether the server stays.
+fn attend<R: Wait + Clock, E: Write>(
     rt: &R,
     alloc: Global,
     cluster: &mut StayingCluster,
     messages: &Receiver<Message>,
     errors: &mut E,
+) -> bool
+    ensures { Reseats cluster.old cluster.new }
+{
+    match messages.recv_timeout(rt, Duration::from_secs(PAUSE)) {
+        Ok(message) => heed(rt, alloc, cluster, message, errors),
+        Err(RecvTimeoutError::Timeout) => true,
+        Err(RecvTimeoutError::Disconnected) => false,
+    }
+}
+
+/// Tells of each node whose numbers are nearly spent, once.
+fn look_round<E: Write>(
+    alloc: Global,
+    cluster: &StayingCluster,
+    nodes: &NodeSet,
+    lookout: &mut Lookout,
+    errors: &mut E,
+) {
+    for node in nodes.as_slice() {
+        let Ok(status) = cluster.status(node) else {
+            continue;
+        };
+        let spent = lookout.look(node, &status.numbers);
+        if spent.calls {
+            tell_note(alloc, errors, &Note::Spent(Supply::Calls, node.copy()));
+        }
+        if spent.serials {
+            tell_note(alloc, errors, &Note::Spent(Supply::Serials, node.copy()));
+        }
+    }
+}
+
+/// Does what messages ask for, until one asks for the end. Behind each message, and where none comes for a while, it looks how much memory
+/// the process has, and how far the numbers of these nodes have come.
+pub(crate) fn stay<R: Wait + Clock + Files, E: Write>(
+    rt: &R,
+    alloc: Global,
+    cluster: &mut StayingCluster,
+    nodes: &NodeSet,
+    messages: &Receiver<Message>,
+    memory: &AtomicU64,
+    errors: &mut E,
 )
     ensures { Reseats cluster.old cluster.new }
 {
+    let mut lookout = Lookout::new();
     for _ in rt.forever() {
-        let Ok(message) = messages.recv(rt) else {
-            return;
-        };
-        if !heed(rt, alloc, cluster, message, errors) {
+        if !attend(rt, alloc, cluster, messages, errors) {
             return;
         }
+        memory.store(resident(rt), Ordering::SeqCst);
+        look_round(alloc, cluster, nodes, &mut lookout, errors);
     }
 }
 

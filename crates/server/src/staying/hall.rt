@@ -1,5 +1,5 @@
 //! What the door, the workers and the desk of a server have in common.
-ghost use Rattle.std.specs.Prelude.{◌≡◌, ◌+◌, ◌<◌, ◌^◌, true, false, not, None, Some, set, replicate, if◌then◌else◌, IfOk, MatchBool};
+ghost use Rattle.std.specs.Prelude.{◌≡◌, ◌+◌, ◌-◌, ◌<◌, ◌^◌, length, true, false, not, None, Some, set, replicate, if◌then◌else◌, IfOk, MatchBool};
 
 use crate::staying::stream::Stream;
 use std::alloc::{AllocError, Global};
@@ -68,6 +68,13 @@ impl Hall {
             }
             None => false,
         }
+    }
+
+    /// How many workers aren't free: so many consoles are served.
+    pub(crate) fn served(&self) -> u64
+        ensures { result ≡ length self.now.handles.items - self.now.free }
+    {
+        (self.handles.len() as u64).saturating_sub(u64::from(self.free))
     }
 
     /// The worker that was to take a connection is free again.

@@ -31,6 +31,15 @@ pub(crate) enum Parting {
     Memory,
 }
 
+/// Of what a node gives numbers of 32 bits.
+#[derive(Drop)]
+pub(crate) enum Supply {
+    /// Of its calls.
+    Calls,
+    /// Of the serials of its processes.
+    Serials,
+}
+
 /// What happens at a server.
 #[derive(Drop)]
 pub(crate) enum Note {
@@ -44,6 +53,8 @@ pub(crate) enum Note {
     TooMany,
     /// A connection couldn't be taken.
     AcceptFailed,
+    /// Nine tenths of these numbers of a node are given.
+    Spent(Supply, NodeName),
 }
 
 impl Parting {
@@ -98,6 +109,8 @@ fn push_note(text: &mut String, note: &Note) -> Result<(), AllocError>
         Note::NotAttached(console) => write!(text, "console {console} not_attached"),
         Note::TooMany => text.push_str("too_many_consoles"),
         Note::AcceptFailed => text.push_str("accept failed"),
+        Note::Spent(Supply::Calls, node) => write!(text, "calls of {node}: 90 % spent"),
+        Note::Spent(Supply::Serials, node) => write!(text, "serials of {node}: 90 % spent"),
     }
 }
 

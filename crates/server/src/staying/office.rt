@@ -3,9 +3,11 @@ use crate::staying::desk::{Message, SeatAnswer};
 use crate::staying::hall::{Guest, Hall};
 use crate::staying::notes::Note;
 use crate::staying::options::StayOptions;
+use console::{House, Load};
 use crossbeam_channel::{Receiver, Sender, bounded};
 use node_threads::{Seat, SeatFault};
 use std::alloc::{AllocError, Global};
+use std::sync::atomic::{AtomicU64, Ordering};
 use std::sync::{Arc, Mutex, Wait};
 use term::{NodeName, NodeSet};
 
@@ -18,6 +20,8 @@ pub(crate) struct Office<R: Wait + Drop + Copy> {
     pub(crate) nodes: NodeSet,
     pub(crate) options: Arc<StayOptions, Global>,
     pub(crate) hall: Arc<Mutex<Hall>, Global>,
+    /// How many bytes of memory the process has, as the desk has seen last.
+    pub(crate) memory: Arc<AtomicU64, Global>,
     /// Connections that wait for the worker that was engaged for them.
     pub(crate) guests: Receiver<Guest>,
     pub(crate) desk: Sender<Message>,
@@ -32,6 +36,7 @@ impl<R: Wait + Drop + Copy> Office<R> {
     {
         let options = Arc::try_clone(&self.options)?;
         let hall = Arc::try_clone(&self.hall)?;
+        let memory = Arc::try_clone(&self.memory)?;
         let guests = self.guests.clone()?;
         let desk = self.desk.clone()?;
         Ok(Office {
@@ -40,6 +45,7 @@ impl<R: Wait + Drop + Copy> Office<R> {
             nodes: self.nodes.copy(),
             options,
             hall,
+            memory,
             guests,
             desk,
         })
@@ -65,5 +71,13 @@ impl<R: Wait + Drop + Copy> Office<R> {
             Ok(answer) => answer,
             Err(_) => Err(SeatFault::Closed),
         }
+    }
+}
+
+impl<R: Wait + Drop + Copy> House<R> for Office<R> {
+    fn load(&self, rt: &R) -> Load {
+        let consoles = self.hall.lock(rt).served();
+        let memory = self.memory.load(Ordering::SeqCst);
+        Load { consoles, memory }
     }
 }

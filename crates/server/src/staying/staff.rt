@@ -11,6 +11,7 @@ use crate::staying::worker::Worker;
 use crossbeam_channel::{Receiver, RecvTimeoutError, Sender, bounded};
 use std::alloc::{AllocError, Global};
 use std::io::Write;
+use std::sync::atomic::AtomicU64;
 use std::sync::{Arc, Mutex, Wait};
 use std::thread;
 use std::thread::{JoinHandle, Threads};
@@ -27,6 +28,8 @@ const GRACE: u64 = 1_000;
 #[derive(Drop)]
 pub(crate) struct Staff {
     pub(crate) messages: Receiver<Message>,
+    /// How many bytes of memory the process has, which the desk tells the workers.
+    pub(crate) memory: Arc<AtomicU64, Global>,
     hall: Arc<Mutex<Hall>, Global>,
     threads: Vec<JoinHandle<()>>,
 }
@@ -94,13 +97,15 @@ where
 }
 
 impl Staff {
-    /// Starts the workers of so many consoles, and the door of this entry. Where one can't be had, those that were started have ended.
+    /// Starts the workers of so many consoles, and the door of this entry. So much memory the process has then. Where a thread can't be had,
+    /// those that were started have ended.
     pub(crate) fn start<R>(
         rt: &R,
         alloc: Global,
         entry: Entry,
         nodes: NodeSet,
         options: StayOptions,
+        memory: u64,
     ) -> Result<Self, AllocError>
     where
         R: Threads + Wait + Clock + Drop + Copy + Send + Sync + 'static,
@@ -110,12 +115,14 @@ impl Staff {
         let (desk, messages) = bounded(alloc, MESSAGES)?;
         let (to_workers, guests) = bounded(alloc, workers as usize)?;
         let hall = Arc::new(alloc, Mutex::new(Hall::new(alloc, workers)?))?;
+        let memory = Arc::new(alloc, AtomicU64::new(memory))?;
         let office = Office {
             rt: *rt,
             alloc,
             nodes,
             options: Arc::new(alloc, options)?,
             hall: Arc::try_clone(&hall)?,
+            memory: Arc::try_clone(&memory)?,
             guests,
             desk,
         };
@@ -123,6 +130,7 @@ impl Staff {
         match start_all(office, entry, to_workers, workers, &mut threads) {
             Ok(()) => Ok(Staff {
                 messages,
+                memory,
                 hall,
                 threads,
             }),

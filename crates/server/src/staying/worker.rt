@@ -127,6 +127,7 @@ impl<R: Wait + Clock + Drop + Copy> Worker<R> {
                     writer,
                     seat,
                     stream,
+                    &self.office,
                 );
                 self.office.say(Message::Back(seat));
                 Parting::of(&ended)

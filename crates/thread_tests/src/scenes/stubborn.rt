@@ -29,6 +29,10 @@ impl<const TIMES: u32> Names for Stubborn<TIMES> {
         self.list.get(name)
     }
 
+    fn len(&self) -> usize {
+        self.list.len()
+    }
+
     fn write(&mut self, change: Change) -> Result<(), AllocError> {
         if let Change::Put(name, _) = &change
             && self.left > 0

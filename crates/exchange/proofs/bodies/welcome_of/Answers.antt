@@ -11,8 +11,9 @@ use Rattle.exchange.proofs.bodies.welcome_of.Goals as goal
 
 -- letters of the same parts
 same_letter : (members them told gone : Nodes) (pairs all : Table) (kills dead : List Process) → members ≡ them
-    → pairs ≡ all → told ≡ gone → kills ≡ dead → ◌≡◌ {A = Letter} (Welcome members pairs told kills)
-    (Welcome them all gone dead)
+    → pairs ≡ all → told ≡ gone → kills ≡ dead
+    → ◌≡◌ {A = Letter} (Welcome members pairs told (record { kills = kills }))
+    (Welcome them all gone (record { kills = dead }))
 same_letter members them told gone pairs all kills dead m p t k = cc
 
 pub returns-clause-letter : goal.returns-clause-letter
@@ -22,5 +23,5 @@ returns-clause-letter g c =
     ∙ ap₂ written c.as_slice.ensures.value c.in_ok-after.ensures
     ∙ written-puts c.settled.inside.puts.items t c.settled.invariant
     ∙ ap (λ (s : Settled). put_all s.puts t) c.settled.view_is in
-    let kills = c.in_ok-copied.ensures ∙ c.as_slice-2.ensures.keys ∙ ap (λ (s : Settled). s.kills) c.settled.view_is in
+    let kills = c.in_ok-copied.ensures ∙ c.as_slice-2.ensures.keys ∙ ap (λ (s : Settled). s.fate.kills) c.settled.view_is in
     same_letter _ _ _ _ _ _ _ _ c.with.ensures pairs (ap set_of c.copy-2.ensures) kills

@@ -2,6 +2,7 @@ use Rattle.std.proofs.Common.{ap, sym, ◌∙◌, arith, Result, Ok, Err, OnErr}
 use Rattle.registry_model.specs.Table.{Table, is_rising}
 use Rattle.registry_model.proofs.Tables.{is_rising-put}
 use Rattle.name_table.specs.Places.{place, stands}
+use Rattle.name_table.specs.Index.{pair_of}
 use Rattle.name_table.proofs.Places.{place_within, get-absent, put_stands, put_absent}
 use Rattle.name_table.proofs.list_table.put_in.Goals as goal
 
@@ -19,34 +20,34 @@ insert-requires g c =
 
 pub returns-then-stands_at-clause-ok : goal.returns-then-stands_at-clause-ok
 returns-then-stands_at-clause-ok g c =
-    put_stands c.args.name c.args.owner c.args.pairs.now.items c.place_of-at.result
+    put_stands (pair_of (c.args.name, c.args.owner)) c.args.pairs.now.items c.place_of-at.result
     (c.place_of-at.ensures ∙ ap (place c.args.name) c.as_slice.ensures.value)
     (ap (λ (t : Table). stands c.args.name t c.place_of-at.result) (sym c.as_slice-2.ensures.value)
     ∙ sym c.stands_at.ensures ∙ c.if-stands_at.true)
 
 pub returns-then-stands_at-clause-rising : goal.returns-then-stands_at-clause-rising
 returns-then-stands_at-clause-rising g c =
-    ap is_rising (put_stands c.args.name c.args.owner c.args.pairs.now.items c.place_of-at.result
+    ap is_rising (put_stands (pair_of (c.args.name, c.args.owner)) c.args.pairs.now.items c.place_of-at.result
     (c.place_of-at.ensures ∙ ap (place c.args.name) c.as_slice.ensures.value)
     (ap (λ (t : Table). stands c.args.name t c.place_of-at.result) (sym c.as_slice-2.ensures.value)
     ∙ sym c.stands_at.ensures ∙ c.if-stands_at.true))
-    ∙ is_rising-put c.args.name c.args.owner c.args.pairs.now.items c.requires
+    ∙ is_rising-put (pair_of (c.args.name, c.args.owner)) c.args.pairs.now.items c.requires
 
 pub returns-in_ok-insert-clause-ok : goal.returns-in_ok-insert-clause-ok
 returns-in_ok-insert-clause-ok g c =
-    c.in_ok-insert.ensures.items ∙ put_absent c.args.name c.args.owner c.args.pairs.now.items c.place_of-at.result
+    c.in_ok-insert.ensures.items ∙ put_absent (pair_of (c.args.name, c.args.owner)) c.args.pairs.now.items c.place_of-at.result
     (c.place_of-at.ensures ∙ ap (place c.args.name) c.as_slice.ensures.value)
     (ap (λ (t : Table). stands c.args.name t c.place_of-at.result) (sym c.as_slice-2.ensures.value)
     ∙ sym c.stands_at.ensures ∙ c.if-stands_at.false)
 
 pub returns-in_ok-insert-clause-rising : goal.returns-in_ok-insert-clause-rising
 returns-in_ok-insert-clause-rising g c =
-    ap is_rising (c.in_ok-insert.ensures.items ∙ put_absent c.args.name c.args.owner c.args.pairs.now.items
+    ap is_rising (c.in_ok-insert.ensures.items ∙ put_absent (pair_of (c.args.name, c.args.owner)) c.args.pairs.now.items
     c.place_of-at.result
     (c.place_of-at.ensures ∙ ap (place c.args.name) c.as_slice.ensures.value)
     (ap (λ (t : Table). stands c.args.name t c.place_of-at.result) (sym c.as_slice-2.ensures.value)
     ∙ sym c.stands_at.ensures ∙ c.if-stands_at.false))
-    ∙ is_rising-put c.args.name c.args.owner c.args.pairs.now.items c.requires
+    ∙ is_rising-put (pair_of (c.args.name, c.args.owner)) c.args.pairs.now.items c.requires
 
 pub returns-in_err-insert-clause-absent : goal.returns-in_err-insert-clause-absent
 returns-in_err-insert-clause-absent g c =

@@ -2,6 +2,7 @@ use Rattle.std.proofs.Common.{◌∙◌, sym}
 use Rattle.std.proofs.lemmas.Bool.{not-true, not-false}
 use Rattle.registry_model.specs.Process.{is_process}
 use Rattle.name_table.proofs.Index.{table-put}
+use Rattle.name_table.specs.Index.{pair_of}
 use Rattle.name_table.proofs.Agreement.{agrees-put_over}
 use Rattle.name_table.proofs.Puts.{owner_of-put, owner_of-same, agrees-put_new, agrees-put_same}
 use Rattle.name_table.proofs.index_table.IndexTable.put.Goals as goal
@@ -48,7 +49,7 @@ returns-then-ne-clause-ok g c =
     c.args.name c.copy.result c.args.owner c.copy-2.result c.reserve.ensures.entries c.copy.ensures c.copy-2.ensures
     (rw c.unwrap-before.ensures at c.insert.ensures.updates).0 in
     rw (← c.self.view_is)
-    (table-put c.self.inside.owners.entries c.insert.new.self.entries c.args.name c.args.owner after)
+    (table-put c.self.inside.owners.entries c.insert.new.self.entries (pair_of (c.args.name, c.args.owner)) after)
 
 pub returns-else-ne-clause-ok : goal.returns-else-ne-clause-ok
 returns-else-ne-clause-ok g c =
@@ -56,7 +57,7 @@ returns-else-ne-clause-ok g c =
     c.args.name c.copy.result c.args.owner c.copy-2.result c.reserve.ensures.entries c.copy.ensures c.copy-2.ensures
     (rw c.unwrap-before.ensures at c.insert.ensures.updates).0 in
     rw (← c.self.view_is)
-    (table-put c.self.inside.owners.entries c.insert.new.self.entries c.args.name c.args.owner after)
+    (table-put c.self.inside.owners.entries c.insert.new.self.entries (pair_of (c.args.name, c.args.owner)) after)
 
 pub returns-in_default-clause-ok : goal.returns-in_default-clause-ok
 returns-in_default-clause-ok g c =
@@ -64,4 +65,4 @@ returns-in_default-clause-ok g c =
     c.args.name c.copy.result c.args.owner c.copy-2.result c.reserve.ensures.entries c.copy.ensures c.copy-2.ensures
     (rw c.unwrap-before.ensures at c.insert.ensures.updates).0 in
     rw (← c.self.view_is)
-    (table-put c.self.inside.owners.entries c.insert.new.self.entries c.args.name c.args.owner after)
+    (table-put c.self.inside.owners.entries c.insert.new.self.entries (pair_of (c.args.name, c.args.owner)) after)

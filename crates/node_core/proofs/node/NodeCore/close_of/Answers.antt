@@ -1,4 +1,4 @@
-use Rattle.std.proofs.Common.{Some, ap, sym, ◌∙◌}
+use Rattle.std.proofs.Common.{ap, sym, ◌∙◌}
 use Rattle.std.specs.Option.{option_map}
 use Rattle.lock_calls.specs.Calls.{as_call}
 use Rattle.node_core.proofs.Locking.{whole_taken}

@@ -1,8 +1,8 @@
-use Rattle.std.proofs.Common.{Some, sym, refl}
+use Rattle.std.proofs.Common.{Some}
 use Rattle.lock_calls.specs.Calls.{as_call}
 use Rattle.lock_calls.specs.Standing.{lost}
 use Rattle.node_core.proofs.Locking.{found_within}
-use Rattle.node_core.proofs.CallEnds.{same_found, found_is, whole_stood, lost_within, loses_lock, loses_other}
+use Rattle.node_core.proofs.CallEnds.{same_found, found_is, whole_stood, lost_within, loses_lock}
 use Rattle.node_core.proofs.node.NodeCore.lose_lock.Goals as goal
 
 pub invariant_of-self : goal.invariant_of-self
