@@ -23,6 +23,8 @@ pub struct NodeStatus {
 #[derive(Drop)]
 pub(crate) struct Told {
     joined: AtomicBool,
+    /// How many members it has.
+    many: AtomicUsize,
     /// Whether each node of the cluster is a member, by the place of that node.
     members: [AtomicBool; MOST_NODES],
     names: AtomicUsize,
@@ -59,6 +61,7 @@ impl Told {
     pub(crate) fn new() -> Self {
         Told {
             joined: AtomicBool::new(false),
+            many: AtomicUsize::new(0),
             members: [
                 AtomicBool::new(false),
                 AtomicBool::new(false),
@@ -78,9 +81,15 @@ impl Told {
         }
     }
 
-    /// Tells whether the node is joined, and who of the cluster's nodes are its members.
+    /// Tells whether the node is joined, and who of the cluster's nodes are its members. It is told behind each step, and a step lets one
+    /// node in, or has one go, or has the node itself join others: as long as they are as many as was told, they are the same.
     pub(crate) fn tell_members(&self, nodes: &NodeSet, joined: bool, members: &NodeSet) {
         set_flag(&self.joined, joined);
+        let many = members.len();
+        if self.many.load(Ordering::SeqCst) == many {
+            return;
+        }
+        self.many.store(many, Ordering::SeqCst);
         for (told, node) in self.members.iter().zip(nodes.as_slice()) {
             set_flag(told, members.contains(node));
         }
