@@ -64,6 +64,16 @@ BEGIN {
   } else if (kind == "names_listed") {
     names_held()
     for (i = 0; i < calls; i++) print "names a"
+  } else if (kind ~ /^clashes_/) {
+    # Each name of the joiner is one of the cluster, too, where it has the rule that the case is named for.
+    rule = substr(kind, length("clashes_") + 1)
+    print "cluster a b"; print "lone d"
+    for (i = 0; i < held; i++) { printf "re_register a n%08d a.%d %s\n", i, i + 1, rule; settle(i, 100) }
+    print "settle"
+    for (i = 0; i < held; i++) { printf "re_register d n%08d d.%d\n", i, i + 1; settle(i, 100) }
+    print "settle"
+    if (calls) { print "join d a"; print "settle" }
+    print "table d"
   } else {
     # The names are held; what is measured is the one join, or the one departure, that moves them.
     mixed = kind == "join_of_mixed_names"

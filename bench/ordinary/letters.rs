@@ -1,20 +1,23 @@
 //! What the steps of nodes make: letters, answers, and entries of the history.
 
-use crate::values::{Answer, Claim, NameCall, Names, NodeName, Nodes, Pid};
+use crate::values::{Answer, Claim, NameCall, Names, NodeName, Nodes, Notice, Pid, Standing};
 
 /// A change of a table of names.
 #[derive(Clone)]
 pub(crate) enum Change {
-    Put(String, Pid),
+    Put(String, Standing),
     Remove(String),
     Strike(Pid),
 }
 
-/// What comes of a joiner's names at the table of its sponsor: which are put, and who dies.
+/// What comes of a joiner's names at the table of its sponsor: which are put, which nobody has any more, who dies, and who is told
+/// what.
 #[derive(Clone, Default)]
 pub(crate) struct Settlement {
     pub(crate) puts: Names,
+    pub(crate) removes: Vec<String>,
     pub(crate) kills: Vec<Pid>,
+    pub(crate) notices: Vec<(Pid, Notice)>,
 }
 
 /// What a joiner is told by its sponsor.
@@ -24,6 +27,7 @@ pub(crate) struct Welcome {
     pub(crate) names: Names,
     pub(crate) told: Nodes,
     pub(crate) kills: Vec<Pid>,
+    pub(crate) notices: Vec<(Pid, Notice)>,
 }
 
 /// What a node says to another, or to itself. The number of a join is there for the history.
@@ -62,6 +66,8 @@ pub(crate) enum Entry {
     Found(NodeName, String, Option<Pid>),
     /// All names were looked up at the node.
     Listed(NodeName, Vec<String>),
+    /// What a process was told was looked up at its node.
+    Noted(Pid, Vec<Notice>),
 }
 
 /// What a step of a node makes: letters and to whom they go, answers, and entries of the history.

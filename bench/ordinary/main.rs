@@ -17,9 +17,9 @@ use std::io::{self, BufRead, BufWriter, Write};
 use std::process::ExitCode;
 
 use crate::lines::{Line, LineReader};
-use crate::texts::{read_lock_call, read_nodes, read_owned, read_process, read_text};
-use crate::values::{NameCall, Nodes};
-use crate::words::Refusal;
+use crate::texts::{read_lock_call, read_nodes, read_owned, read_process, read_rule, read_text};
+use crate::values::{NameCall, Nodes, Standing};
+use crate::words::{Refusal, Rule};
 use crate::world::World;
 
 impl World {
@@ -34,12 +34,18 @@ impl World {
                 self.exit(read_process(process)?)?;
                 return Ok(line("ok"));
             }
-            [word @ ("register" | "re_register"), node, name, process] => {
+            [word @ ("register" | "re_register"), node, name, process, ref rule @ ..]
+                if rule.len() < 2 =>
+            {
                 let (node, name) = (read_text(node)?, read_owned(name)?);
                 let owner = read_process(process)?;
+                let rule = rule
+                    .first()
+                    .map_or(Ok(Rule::Exit), |text| read_rule(text))?;
+                let standing = Standing { owner, rule };
                 let call = match word {
-                    "register" => NameCall::Register(name, owner),
-                    _ => NameCall::ReRegister(name, owner),
+                    "register" => NameCall::Register(name, standing),
+                    _ => NameCall::ReRegister(name, standing),
                 };
                 self.call_name(node, call)?;
             }
@@ -52,6 +58,9 @@ impl World {
                 return Ok(owner.map_or(line("undefined"), line));
             }
             ["names", node] => return Ok(list("names", self.names(read_text(node)?)?)),
+            ["notices", process] => {
+                return Ok(list("notices", self.notices(read_process(process)?)?));
+            }
             ["set_lock", process, resource, requester, nodes, retries] => {
                 let texts = [process, resource, requester, nodes, retries];
                 self.call_lock(read_lock_call(texts)?, true)?;
@@ -77,7 +86,7 @@ impl World {
             }
             ["table", node] => {
                 let owners = self.running(read_text(node)?)?.1.table.owners.iter();
-                let pairs = owners.map(|(name, owner)| format!("{name}={owner}"));
+                let pairs = owners.map(|(name, standing)| format!("{name}={standing}"));
                 return Ok(list("table", pairs));
             }
             _ => return Err(Refusal::BadLine),

@@ -3,14 +3,14 @@
 pub(crate) mod lock_calls;
 pub(crate) mod registrar;
 
-use std::collections::{BTreeMap, BTreeSet, HashSet, VecDeque};
+use std::collections::{BTreeMap, BTreeSet, HashMap, HashSet, VecDeque};
 use std::mem;
 
 use crate::letters::{Change, Entry, Letter, Record, Welcome};
 use crate::node::lock_calls::{LockCall, LockPhase, Retries};
 use crate::node::registrar::{Operation, Phase, Request};
 use crate::tables::{LockTable, NameTable};
-use crate::values::{Answer, Claim, Names, NodeName, Nodes, Pid};
+use crate::values::{Answer, Claim, Names, NodeName, Nodes, Notice, Pid, Standing};
 use crate::words::{Refusal, Reply};
 
 /// One node: its replica of the registry, its locks, its processes and calls, and its registrar.
@@ -23,6 +23,8 @@ pub(crate) struct Node {
     /// The nodes that it was told have left.
     told: Nodes,
     pub(crate) table: NameTable,
+    /// What its processes were told, by serial.
+    pub(crate) notices: HashMap<u32, Vec<Notice>>,
     locks: LockTable,
     pub(crate) last_serial: u32,
     pub(crate) dead: HashSet<u32>,
@@ -64,17 +66,29 @@ impl Node {
         self.made.history.push(entry);
     }
 
-    fn put(&mut self, name: String, owner: Pid) {
+    fn put(&mut self, name: String, standing: Standing) {
+        let owner = &standing.owner;
         if owner.node == self.name && self.dead.contains(&owner.serial) {
             self.suspects.insert(owner.serial);
         }
-        self.table.put(name, owner);
+        self.table.put(name, standing);
+    }
+
+    /// Those of these notices that are to processes of this node come behind what they were told.
+    fn note(&mut self, notices: Vec<(Pid, Notice)>) {
+        for (process, notice) in notices {
+            if process.node == self.name {
+                self.notices.entry(process.serial).or_default().push(notice);
+            }
+        }
     }
 
     fn write(&mut self, change: Change) {
         match change {
-            Change::Put(name, owner) if self.told.contains(&owner.node) => self.table.remove(&name),
-            Change::Put(name, owner) => self.put(name, owner),
+            Change::Put(name, standing) if self.told.contains(&standing.owner.node) => {
+                self.table.remove(&name);
+            }
+            Change::Put(name, standing) => self.put(name, standing),
             Change::Remove(name) => self.table.remove(&name),
             Change::Strike(process) => self.table.strike(&process),
         }
@@ -158,9 +172,13 @@ impl Node {
                 if !self.told.contains(&joiner) {
                     self.members.insert(joiner);
                 }
-                for (name, owner) in settlement.puts {
-                    self.write(Change::Put(name, owner));
+                for (name, standing) in settlement.puts {
+                    self.write(Change::Put(name, standing));
                 }
+                for name in settlement.removes {
+                    self.write(Change::Remove(name));
+                }
+                self.note(settlement.notices);
                 self.kill(&settlement.kills);
                 self.made.send(from, Letter::Applied);
             }
@@ -203,11 +221,12 @@ impl Node {
             self.told.extend(welcome.told);
             self.members = welcome.members.difference(&self.told).cloned().collect();
             self.table = NameTable::default();
-            for (name, owner) in welcome.names {
-                if !self.told.contains(&owner.node) {
-                    self.put(name, owner);
+            for (name, standing) in welcome.names {
+                if !self.told.contains(&standing.owner.node) {
+                    self.put(name, standing);
                 }
             }
+            self.note(welcome.notices);
             self.kill(&welcome.kills);
             self.end_join(Answer::new(&self.name, join.number, Reply::Joined));
             self.made.send(from, Letter::Applied);

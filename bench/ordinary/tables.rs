@@ -3,7 +3,8 @@
 use std::collections::{HashMap, HashSet};
 
 use crate::letters::Settlement;
-use crate::values::{Claim, Names, NodeName, Pid};
+use crate::values::{Claim, Names, NodeName, Notice, Pid, Standing};
+use crate::words::Rule;
 
 /// Texts by the process that has them: names by owner, or resources by holder.
 #[derive(Default)]
@@ -53,15 +54,15 @@ pub(crate) struct NameTable {
 }
 
 impl NameTable {
-    pub(crate) fn put(&mut self, name: String, owner: Pid) {
+    pub(crate) fn put(&mut self, name: String, standing: Standing) {
         self.remove(&name);
-        self.by_owner.insert(&owner, name.clone());
-        self.owners.insert(name, owner);
+        self.by_owner.insert(&standing.owner, name.clone());
+        self.owners.insert(name, standing);
     }
 
     pub(crate) fn remove(&mut self, name: &str) {
-        if let Some(owner) = self.owners.remove(name) {
-            self.by_owner.remove(&owner, name);
+        if let Some(standing) = self.owners.remove(name) {
+            self.by_owner.remove(&standing.owner, name);
         }
     }
 
@@ -77,25 +78,45 @@ impl NameTable {
         }
     }
 
-    /// Settles a joiner's names: of two owners the one on the lesser node keeps the name.
+    /// Settles a joiner's names, each by the rule under which the name stands here.
     pub(crate) fn settle(&self, joiner_names: Names) -> Settlement {
         let mut settlement = Settlement::default();
         let mut killed = HashSet::new();
-        for (name, owner) in joiner_names {
-            let loser = match self.owners.get(&name) {
-                Some(present) if present.node <= owner.node => Some(owner),
-                present => {
-                    settlement.puts.insert(name, owner);
-                    present.cloned()
+        for (name, joiner) in joiner_names {
+            match self.owners.get(&name) {
+                None => {
+                    settlement.puts.insert(name, joiner);
                 }
-            };
-            if let Some(loser) = loser {
-                if killed.insert(loser.clone()) {
-                    settlement.kills.push(loser);
+                Some(present) if present.owner == joiner.owner => {}
+                Some(present) if present.rule == Rule::NotifyAll => {
+                    settlement.tell(&present.owner, &name, Some(joiner.owner.clone()));
+                    settlement.tell(&joiner.owner, &name, Some(present.owner.clone()));
+                    settlement.removes.push(name);
+                }
+                Some(present) => {
+                    // Of two owners the one on the lesser node keeps the name, and the present one on the same.
+                    let loser = if present.owner.node <= joiner.owner.node {
+                        joiner.owner
+                    } else {
+                        settlement.puts.insert(name.clone(), joiner);
+                        present.owner.clone()
+                    };
+                    if present.rule == Rule::Notify {
+                        settlement.tell(&loser, &name, None);
+                    } else if killed.insert(loser.clone()) {
+                        settlement.kills.push(loser);
+                    }
                 }
             }
         }
         settlement
+    }
+}
+
+impl Settlement {
+    fn tell(&mut self, process: &Pid, name: &str, other: Option<Pid>) {
+        let name = name.to_string();
+        self.notices.push((process.clone(), Notice { name, other }));
     }
 }
 

@@ -2,7 +2,7 @@
 
 use crate::node::lock_calls::{LockCall, LockPhase, Retries, Target};
 use crate::values::{Claim, Nodes, Pid};
-use crate::words::Refusal;
+use crate::words::{Refusal, Rule};
 
 const LONGEST_TEXT: usize = 64;
 const MOST_NODES: usize = 8;
@@ -40,6 +40,15 @@ pub(crate) fn read_process(text: &str) -> Result<Pid, Refusal> {
     let serial = read_number(serial).filter(|&serial| serial > 0);
     let serial = serial.ok_or(Refusal::BadSerial)?;
     Ok(Pid { node, serial })
+}
+
+pub(crate) fn read_rule(text: &str) -> Result<Rule, Refusal> {
+    match text {
+        "exit" => Ok(Rule::Exit),
+        "notify" => Ok(Rule::Notify),
+        "notify_all" => Ok(Rule::NotifyAll),
+        _ => Err(Refusal::BadRule),
+    }
 }
 
 fn read_retries(text: &str) -> Result<Retries, Refusal> {

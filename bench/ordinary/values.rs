@@ -3,7 +3,7 @@
 use std::collections::{BTreeMap, BTreeSet};
 use std::fmt;
 
-use crate::words::Reply;
+use crate::words::{Reply, Rule};
 
 /// The resource that registrars lock; clients can't.
 pub(crate) const GLOBAL: &str = "global";
@@ -12,8 +12,40 @@ pub(crate) type NodeName = String;
 
 pub(crate) type Nodes = BTreeSet<NodeName>;
 
-/// Names with their owners.
-pub(crate) type Names = BTreeMap<String, Pid>;
+/// Names with what stands under them.
+pub(crate) type Names = BTreeMap<String, Standing>;
+
+/// What stands under a name: who has it, and what becomes of it in a clash.
+#[derive(Clone, Debug, PartialEq, Eq)]
+pub(crate) struct Standing {
+    pub(crate) owner: Pid,
+    pub(crate) rule: Rule,
+}
+
+impl fmt::Display for Standing {
+    fn fmt(&self, f: &mut fmt::Formatter) -> fmt::Result {
+        match self.rule {
+            Rule::Exit => write!(f, "{}", self.owner),
+            rule => write!(f, "{},{rule}", self.owner),
+        }
+    }
+}
+
+/// What a process is told that lost a name and lives: the name, and who else lost it, where nobody has it.
+#[derive(Clone, Debug, PartialEq, Eq)]
+pub(crate) struct Notice {
+    pub(crate) name: String,
+    pub(crate) other: Option<Pid>,
+}
+
+impl fmt::Display for Notice {
+    fn fmt(&self, f: &mut fmt::Formatter) -> fmt::Result {
+        match &self.other {
+            Some(other) => write!(f, "{}={other}", self.name),
+            None => f.write_str(&self.name),
+        }
+    }
+}
 
 /// A process; serial 0 is the registrar of its node.
 #[derive(Clone, Debug, PartialEq, Eq, Hash)]
@@ -39,8 +71,8 @@ pub(crate) struct Claim {
 /// A call that asks a registrar to change who has a name.
 #[derive(Debug, PartialEq, Eq)]
 pub(crate) enum NameCall {
-    Register(String, Pid),
-    ReRegister(String, Pid),
+    Register(String, Standing),
+    ReRegister(String, Standing),
     Unregister(String),
 }
 

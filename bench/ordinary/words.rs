@@ -25,12 +25,19 @@ words! {
     /// Why a line is refused.
     Refusal {
         LineTooLong "line_too_long", NotAscii "not_ascii", BadLine "bad_line", Empty "empty", TooLong "too_long",
-        BadByte "bad_byte", BadSerial "bad_serial", TooManyNodes "too_many_nodes", NoNode "no_node",
+        BadByte "bad_byte", BadSerial "bad_serial", BadRule "bad_rule", TooManyNodes "too_many_nodes", NoNode "no_node",
         SameNode "same_node", NoSuchNode "no_such_node", NodeLeft "node_left", EmptyLink "empty_link",
         NotLive "not_live", Busy "busy", Reserved "reserved", UnknownNode "unknown_node",
         AlreadyJoined "already_joined", NoSuchProcess "no_such_process", AlreadyExited "already_exited",
         SerialsSpent "serials_spent", CallsSpent "calls_spent", NothingToRetry "nothing_to_retry",
         HoldsLock "holds_lock", SettleLimit "settle_limit",
+    }
+}
+
+words! {
+    /// What becomes of a name that a joiner has, too, for another process.
+    Rule {
+        Exit "exit", Notify "notify", NotifyAll "notify_all",
     }
 }
 

@@ -7,7 +7,7 @@ use crate::letters::{Entry, Letter};
 use crate::node::lock_calls::LockCall;
 use crate::node::registrar::{Join, Operation, Phase, Request};
 use crate::node::Node;
-use crate::values::{Answer, NameCall, NodeName, Nodes, Pid, GLOBAL};
+use crate::values::{Answer, NameCall, NodeName, Nodes, Notice, Pid, GLOBAL};
 use crate::words::Refusal;
 
 const SETTLE_LIMIT: u32 = 100_000;
@@ -114,7 +114,8 @@ impl World {
     }
 
     pub(crate) fn whereis(&mut self, node: &str, name: &str) -> Result<Option<Pid>, Refusal> {
-        let owner = self.running(node)?.1.table.owners.get(name).cloned();
+        let standing = self.running(node)?.1.table.owners.get(name);
+        let owner = standing.map(|standing| standing.owner.clone());
         let entry = Entry::Found(node.to_string(), name.to_string(), owner.clone());
         self.history.push(entry);
         Ok(owner)
@@ -126,6 +127,20 @@ impl World {
         let entry = Entry::Listed(node.to_string(), names.clone());
         self.history.push(entry);
         Ok(names)
+    }
+
+    pub(crate) fn notices(&mut self, process: Pid) -> Result<Vec<Notice>, Refusal> {
+        let node = self.running(&process.node)?.1;
+        if process.serial > node.last_serial {
+            return Err(Refusal::NoSuchProcess);
+        }
+        let notices = node
+            .notices
+            .get(&process.serial)
+            .cloned()
+            .unwrap_or_default();
+        self.history.push(Entry::Noted(process, notices.clone()));
+        Ok(notices)
     }
 
     /// The lock call is accepted, and tried at once.

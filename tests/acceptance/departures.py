@@ -1,7 +1,7 @@
 """Departures at any moment: a node leaves within a script, and the others finish all the same.
 
 Each worked row below is played up to each of its events, with each `settle` written out as its deliveries; then one of its nodes
-leaves. Scripts that are made by chance have departures anywhere, joins and clients' locks. Behind each, letters are delivered and
+leaves. Scripts that are made by chance have departures anywhere, joins, rules and clients' locks. Behind each, letters are delivered and
 refused rounds tried again, as often as it may take. Then the joined nodes that are left have the same table, and each other as
 members; all their name calls and joins are answered, once each; and none of them holds the global lock, so each may leave.
 """
@@ -14,7 +14,7 @@ from functools import partial
 
 from .outcomes import Failure, Test
 
-ROWS = ("retry_of_two_requesters", "clash_that_the_cluster_wins", "round_that_a_join_outgrows")
+ROWS = ("retry_of_two_requesters", "clash_that_the_cluster_wins", "clash_that_nobody_wins", "round_that_a_join_outgrows")
 # How often letters are delivered and rounds tried again at the end.
 MOST_TRIES = 100
 # How many scripts are made by chance for each test of them, unless it is said otherwise.
@@ -23,7 +23,7 @@ MADE = 8
 # A line that is no command: its refusal parts what lines print from what the next ones do.
 MARK = "?"
 ANSWER_OF_MARK = "error bad_line"
-SHOWS = {"table", "members", "whereis", "names"}
+SHOWS = {"table", "members", "whereis", "names", "notices"}
 NAME_CALLS = {"register", "re_register", "unregister", "join"}
 LOCK_CALLS = {"set_lock", "del_lock"}
 
@@ -181,10 +181,11 @@ def made_script(seed):
     cluster = [node for node in nodes if node not in lone]
     pid = lambda: f"{chance.choice(nodes)}.{chance.randint(1, 3)}"
     asked = lambda: chance.choice(["all", *(",".join(chance.sample(nodes, chance.randint(1, len(nodes)))) for _ in range(2))])
+    rule = lambda: chance.choice(["", " exit", " notify", " notify_all"])
     kinds = {
         "spawn": lambda node: f"spawn {node}",
-        "register": lambda node: f"register {node} {chance.choice('xyz')} {pid()}",
-        "re_register": lambda node: f"re_register {node} {chance.choice('xyz')} {pid()}",
+        "register": lambda node: f"register {node} {chance.choice('xyz')} {pid()}{rule()}",
+        "re_register": lambda node: f"re_register {node} {chance.choice('xyz')} {pid()}{rule()}",
         "unregister": lambda node: f"unregister {node} {chance.choice('xyz')}",
         "exit": lambda node: f"exit {pid()}",
         "set_lock": lambda node: f"set_lock {pid()} {chance.choice('rs')} {chance.choice('pq')} {asked()} {chance.choice('0 1 2 infinity'.split())}",

@@ -17,6 +17,7 @@ from .scripts import contents
 ROWS = (
     "retry_of_two_requesters",
     "clash_that_the_cluster_wins",
+    "clash_that_nobody_wins",
     "round_that_a_join_outgrows",
     "owners_node_leaves_between_grant_and_write",
     "grants_are_counted",

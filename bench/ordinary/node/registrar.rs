@@ -169,18 +169,19 @@ impl Node {
 
     /// What a name call is answered, and what is written where it is granted.
     fn outcome(&self, call: &NameCall) -> (Reply, Option<Change>) {
-        let (name, owner, is_free) = match call {
+        let (name, standing, is_free) = match call {
             NameCall::Unregister(name) => return (Reply::Ok, Some(Change::Remove(name.clone()))),
-            NameCall::ReRegister(name, owner) => (name, owner, true),
-            NameCall::Register(name, owner) => {
+            NameCall::ReRegister(name, standing) => (name, standing, true),
+            NameCall::Register(name, standing) => {
                 let is_taken = self.table.owners.contains_key(name);
-                (name, owner, !is_taken && !self.table.by_owner.has(owner))
+                let has_name = self.table.by_owner.has(&standing.owner);
+                (name, standing, !is_taken && !has_name)
             }
         };
-        if !self.members.contains(&owner.node) {
+        if !self.members.contains(&standing.owner.node) {
             (Reply::UnknownNode, None)
         } else if is_free {
-            let put = Change::Put(name.clone(), owner.clone());
+            let put = Change::Put(name.clone(), standing.clone());
             (Reply::Yes, Some(put))
         } else {
             (Reply::No, None)
@@ -218,11 +219,15 @@ impl Node {
         awaited.insert(joiner.clone());
         let mut names = self.table.owners.clone();
         names.extend(settlement.puts.clone());
+        for name in &settlement.removes {
+            names.remove(name);
+        }
         let welcome = Letter::Welcome(Welcome {
             members: awaited.clone(),
             names,
             told: self.told.clone(),
             kills: settlement.kills.clone(),
+            notices: settlement.notices.clone(),
         });
         self.made.send(&joiner, welcome);
         let admit = Letter::Admit(joiner, settlement);

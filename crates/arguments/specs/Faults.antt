@@ -1,7 +1,7 @@
 -- The words that are printed for faults of nodes, and the texts for options that don't go together.
 use Rattle.std.specs.Prelude.{codes, ℕ, List, Option, Some, None}
 use Rattle.term.specs.declared.faults.TextFault.{TextFault}
-use Rattle.term.specs.declared.faults.TextFault.TheVariants.{Empty, TooLong, BadByte, BadSerial}
+use Rattle.term.specs.declared.faults.TextFault.TheVariants.{Empty, TooLong, BadByte, BadSerial, BadRule}
 use Rattle.term.specs.declared.faults.TextFault.TheVariants as text
 use Rattle.arguments.specs.declared.faults.ArgFault.{ArgFault}
 use Rattle.arguments.specs.declared.faults.ArgFault.TheVariants.{Options, Words, Text, SameNode, TooManyNodes}
@@ -14,6 +14,7 @@ text_word Empty = codes "empty"
 text_word TooLong = codes "too_long"
 text_word (BadByte place) = codes "bad_byte"
 text_word BadSerial = codes "bad_serial"
+text_word BadRule = codes "bad_rule"
 text_word text.TooManyNodes = codes "too_many_nodes"
 
 -- the text that is printed for an option that doesn't go with the others

@@ -3,29 +3,32 @@ ghost use Rattle.std.specs.Prelude.{◌≡◌, MatchResult, option_map};
 ghost use Rattle.arguments.specs.Nodes.{PlacesNodes, RefusesLone, RefusesPlacing, SpellsLone, shares};
 
 use crate::faults::ArgFault;
-use term::{MOST_NODES, NodeSet, TextFault, parse_nodes};
+use term::{MOST_NODES, NodeNames, TextFault, parse_nodes};
 
 /// Whether some node is in both sets.
-fn share_a_node(cluster: &NodeSet, lone: &NodeSet) -> bool
+fn share_a_node(cluster: &NodeNames, lone: &NodeNames) -> bool
     ensures { result ≡ shares cluster.now lone.now }
 {
     cluster.as_slice().iter().any(|node| lone.contains(node))
 }
 
 /// Reads the list of lone nodes: the empty set where there is no list.
-fn read_lone(list: Option<&str>) -> Result<NodeSet, TextFault>
+fn read_lone(list: Option<&str>) -> Result<NodeNames, TextFault>
     ensures { MatchResult result (SpellsLone (option_map (λ text. text.now) list.entry))
         (RefusesLone (option_map (λ text. text.now) list.entry)) }
 {
     match list {
         Some(text) => parse_nodes(text),
-        None => Ok(NodeSet::empty()),
+        None => Ok(NodeNames::empty()),
     }
 }
 
 /// Reads the list of the joined nodes and that of the lone ones, and gives the two sets. The first list is looked at
 /// first, then the second, then whether they share a node, then whether they are more than eight together.
-pub(crate) fn read_nodes(nodes: &str, lone: Option<&str>) -> Result<(NodeSet, NodeSet), ArgFault>
+pub(crate) fn read_nodes(
+    nodes: &str,
+    lone: Option<&str>,
+) -> Result<(NodeNames, NodeNames), ArgFault>
     ensures { MatchResult result (λ sets. PlacesNodes nodes.now (option_map (λ text. text.now) lone.entry) sets.0 sets.1)
         (RefusesPlacing nodes.now (option_map (λ text. text.now) lone.entry)) }
 {

@@ -3,7 +3,7 @@ ghost use Rattle.std.specs.Prelude.{option_map, string_bytes};
 ghost use Rattle.arguments.specs.Together.{Clashes, NamesSocket};
 
 use crate::faults::OptionFault;
-use term::NodeSet;
+use term::NodeNames;
 
 /// What the address begins with where it is the path of a socket.
 const SOCKET: &str = "unix:";
@@ -23,9 +23,9 @@ pub struct ServeOptions {
     /// The address to listen on, as it was written: one of the network, or `unix:` and the path of a socket.
     pub listen: String,
     /// The nodes that are joined from the start.
-    pub cluster: NodeSet,
+    pub cluster: NodeNames,
     /// The nodes that stand alone at the start. None is one of the others, and all are eight at most.
-    pub lone: NodeSet,
+    pub lone: NodeNames,
     /// How many consoles are taken before the cluster closes, or, where it stays, how many are served at once: from 1 to 64.
     pub consoles: u8,
     /// Whether it stays until it is told to shut down, however many consoles come.

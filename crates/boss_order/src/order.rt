@@ -4,10 +4,10 @@ ghost use Rattle.protocol_model.specs.Round.{greatest};
 ghost use Rattle.term.specs.NodeSets.{IsNodeSet, set_of};
 ghost use Rattle.boss_order.specs.Boss.{boss_of, others_of};
 
-use term::{NodeName, NodeSet};
+use term::{Node, NodeSet};
 
 /// The greatest of these nodes, which are not none.
-pub fn boss(nodes: &NodeSet) -> NodeName
+pub fn boss(nodes: &NodeSet) -> Node
     requires { 0 < length nodes.now }
     ensures value { result ≡ boss_of nodes.now }
     ensures among { Contains nodes.now result }

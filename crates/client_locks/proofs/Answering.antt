@@ -4,7 +4,7 @@ use Rattle.std.specs.Prelude.{not, ◌&&◌, ◌||◌, if◌then◌else◌}
 use Rattle.std.specs.List.{list_any}
 use Rattle.registry_model.specs.Process.{Process}
 use Rattle.registry_model.specs.Table.{get}
-use Rattle.registry_model.specs.Call.{Look, Whereis, RegisteredNames, Reply, True, False, is_reply, reply_to, pid_or_undefined, seen_in}
+use Rattle.registry_model.specs.Call.{Look, Whereis, RegisteredNames, NoticesOf, Reply, True, False, is_reply, reply_to, pid_or_undefined, seen_in}
 use Rattle.registry_model.specs.History.{Entry}
 use Rattle.registry_model.specs.Registry.{Replica}
 use Rattle.protocol_model.specs.Letter.{Global, Letter}
@@ -49,6 +49,7 @@ not_true_look v (Whereis x) = go (get x v.table)
     go None = refl
     go (Some p) = refl
 not_true_look v RegisteredNames = refl
+not_true_look v (NoticesOf p) = refl
 
 fine_not_true : (r : Reply) → not (is_reply r True) ≡ true → is_reply r True ≡ false
 fine_not_true r h = go (is_reply r True) h

@@ -151,8 +151,8 @@ module _ (o : Opening) (a : ℕ) (w : World) (num : Numbers) (P : Proper o w) (o
   clients_keeps (IsAdmitted f j settled) m =
       quietly (taking f (Letter.Admit j settled)) (turn_by o a w (IsAdmitted f j settled)) m.front
       (unread_letter o a f w (Letter.Admit j settled) (λ p c. refl) (λ p c. refl))
-      (quiet_send a v f Letter.Applied (with_replica (admitted j settled) (begun v)) refl
-      (quiet_replica a v (admitted j settled) (begun v) (quiet_begun a v)))
+      (quiet_send a v f Letter.Applied (with_replica (admitted a j settled) (begun v)) refl
+      (quiet_replica a v (admitted a j settled) (begun v) (quiet_begun a v)))
   clients_keeps (IsWelcomed f k members pairs told fate) m =
       quietly (taking f (Letter.Welcome members pairs told fate))
       (turn_by o a w (IsWelcomed f k members pairs told fate)) m.front

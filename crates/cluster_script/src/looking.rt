@@ -12,14 +12,14 @@ use command_lines::{members_line, table_line};
 use name_table::Names;
 use std::alloc::{AllocError, Global};
 use std::io::Write;
-use term::NodeName;
+use term::Node;
 use text_lines::{WriteFault, write_text};
 
 /// The line of a node's table, or none where the world has no such node or it has left.
 fn line_of_table(
     alloc: Global,
     world: &ScriptWorld,
-    node: &NodeName,
+    node: &Node,
 ) -> Result<Option<String>, AllocError>
     ensures { IfOk result (λ line. IsShown world.now node.now (table_of world.now node.now) (option_map string_bytes line)) }
 {
@@ -37,7 +37,7 @@ fn line_of_table(
 fn line_of_members(
     alloc: Global,
     world: &ScriptWorld,
-    node: &NodeName,
+    node: &Node,
 ) -> Result<Option<String>, AllocError>
     ensures { IfOk result (λ line. IsShown world.now node.now (members_of world.now node.now) (option_map string_bytes line)) }
 {
@@ -51,7 +51,7 @@ fn line_of_members(
 }
 
 /// The line for a node that isn't shown.
-fn hidden_line(world: &ScriptWorld, node: &NodeName) -> &'static str
+fn hidden_line(world: &ScriptWorld, node: &Node) -> &'static str
     ensures { result.now ≡ error_line (refusal_word (hidden_by world.now node.now)) }
 {
     if world.has_left(node) {
@@ -65,7 +65,7 @@ fn hidden_line(world: &ScriptWorld, node: &NodeName) -> &'static str
 fn write_shown<W: Write>(
     writer: &mut W,
     world: &ScriptWorld,
-    node: &NodeName,
+    node: &Node,
     line: Result<Option<String>, AllocError>,
 ) -> Result<bool, WriteFault>
     ensures text { Writes (W.contents writer.old) (W.contents writer.new) result
@@ -90,7 +90,7 @@ pub(crate) fn show_table<W: Write>(
     alloc: Global,
     writer: &mut W,
     world: &ScriptWorld,
-    node: &NodeName,
+    node: &Node,
 ) -> Result<bool, WriteFault>
     ensures { PlaysAsked (Ok (TableAt node.now)) world.now world.now (W.contents writer.old) (W.contents writer.new) result }
 {
@@ -102,7 +102,7 @@ pub(crate) fn show_members<W: Write>(
     alloc: Global,
     writer: &mut W,
     world: &ScriptWorld,
-    node: &NodeName,
+    node: &Node,
 ) -> Result<bool, WriteFault>
     ensures { PlaysAsked (Ok (MembersAt node.now)) world.now world.now (W.contents writer.old) (W.contents writer.new) result }
 {

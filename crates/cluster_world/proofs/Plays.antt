@@ -15,7 +15,7 @@ use Rattle.protocol_model.specs.World.{World, WorldEvent as AnyWorldEvent, in_wo
 use Rattle.term.specs.NodeSets.{set_of}
 use Rattle.link.specs.Held.{place, has, closed_at, seen as on_mesh}
 use Rattle.node_core.specs.declared.Answer.{Answer}
-use Rattle.node_core.specs.declared.Call.TheVariants.{Spawn, Whereis, RegisteredNames, Register, ReRegister, Unregister, SetLock, DelLock, Join as JoinBy}
+use Rattle.node_core.specs.declared.Call.TheVariants.{Spawn, Whereis, RegisteredNames, Notices, Register, ReRegister, Unregister, SetLock, DelLock, Join as JoinBy}
 use Rattle.node_core.specs.declared.Call.{Call as ClientCall}
 use Rattle.node_core.specs.declared.Event.TheVariants.{FromPeer}
 use Rattle.node_core.specs.declared.Letter.{Letter}
@@ -46,8 +46,9 @@ own_asks : (nodes : List ℕ) (c : ClientCall) → knows_contact nodes (Call c) 
 own_asks nodes Spawn known = tt
 own_asks nodes (Whereis x) known = tt
 own_asks nodes RegisteredNames known = tt
-own_asks nodes (Register x p) known = tt
-own_asks nodes (ReRegister x p) known = tt
+own_asks nodes (Notices p) known = tt
+own_asks nodes (Register pair) known = tt
+own_asks nodes (ReRegister pair) known = tt
 own_asks nodes (Unregister x) known = tt
 own_asks nodes (SetLock p id asked retries) known = tt
 own_asks nodes (DelLock p id asked) known = tt
@@ -68,8 +69,9 @@ module _ (h : Held) where
   other_inside a (Call Spawn) here known = inside a true here
   other_inside a (Call (Whereis x)) here known = inside a true here
   other_inside a (Call RegisteredNames) here known = inside a true here
-  other_inside a (Call (Register x p)) here known = inside a true here
-  other_inside a (Call (ReRegister x p)) here known = inside a true here
+  other_inside a (Call (Notices p)) here known = inside a true here
+  other_inside a (Call (Register pair)) here known = inside a true here
+  other_inside a (Call (ReRegister pair)) here known = inside a true here
   other_inside a (Call (Unregister x)) here known = inside a true here
   other_inside a (Call (SetLock p id nodes retries)) here known = inside a true here
   other_inside a (Call (DelLock p id nodes)) here known = inside a true here
@@ -84,8 +86,9 @@ module _ (h : Held) where
   other_outside a (Call Spawn) strange = cc
   other_outside a (Call (Whereis x)) strange = cc
   other_outside a (Call RegisteredNames) strange = cc
-  other_outside a (Call (Register x p)) strange = cc
-  other_outside a (Call (ReRegister x p)) strange = cc
+  other_outside a (Call (Notices p)) strange = cc
+  other_outside a (Call (Register pair)) strange = cc
+  other_outside a (Call (ReRegister pair)) strange = cc
   other_outside a (Call (Unregister x)) strange = cc
   other_outside a (Call (SetLock p id nodes retries)) strange = cc
   other_outside a (Call (DelLock p id nodes)) strange = cc

@@ -86,13 +86,14 @@ module _ (nodes cluster : List ℕ) where
               members = λ c. (if b then set_of cluster c else c == a) && true;
               told = nobody;
               joined = b;
+              notices = λ _. [];
             };
           }
       go true = ap (λ (s : Nodes). record (node_of (fresh a nodes cluster true))
-          { replica = record { table = []; members = s; told = nobody; joined = true } })
+          { replica = record { table = []; members = s; told = nobody; joined = true; notices = λ _. [] } })
           (fun_ext (λ c. sym (and-true (set_of cluster c))))
       go false = ap (λ (s : Nodes). record (node_of (fresh a nodes (a ∷ []) false))
-          { replica = record { table = []; members = s; told = nobody; joined = false } })
+          { replica = record { table = []; members = s; told = nobody; joined = false; notices = λ _. [] } })
           (fun_ext (turned a))
 
   node_is : IsWithin nodes cluster → (a : ℕ) → node_with (opening_with nodes cluster) a

@@ -63,3 +63,4 @@ module _ (a k : ℕ) where
       go true (Reply.Pid p) h rest = rest (omega (arith, h))
       go true Reply.Undefined h rest = rest (omega (arith, h))
       go true (Reply.Names xs) h rest = rest (omega (arith, h))
+      go true (Reply.Notices fs) h rest = rest (omega (arith, h))

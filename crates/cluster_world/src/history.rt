@@ -10,7 +10,7 @@ ghost use Rattle.cluster_world.specs.Histories.{number_of, number_at};
 use name_table::Names;
 use node_core::{Entry, NodeCore};
 use std::alloc::Global;
-use term::NodeName;
+use term::Node;
 use world_history::History;
 
 /// The number of a core's join that waits for its contact, or 0 where it has none.
@@ -21,11 +21,11 @@ pub(crate) fn join_of<N: Names<Memory = Global>>(core: &NodeCore<N>) -> u32
 }
 
 /// The same of a node, which is 0 where it has no core.
-fn number_of<N: Names<Memory = Global>>(cores: &[NodeCore<N>], node: &NodeName) -> u32
+fn number_of<N: Names<Memory = Global>>(cores: &[NodeCore<N>], node: &Node) -> u32
     ensures { result ≡ number_of (core_of node.now cores.now) }
 {
     for core in cores {
-        if core.name() == node {
+        if core.node() == node {
             return join_of(core);
         }
     }
@@ -35,9 +35,9 @@ fn number_of<N: Names<Memory = Global>>(cores: &[NodeCore<N>], node: &NodeName) 
 /// The number of the join of a node, when the node `stepped` had the join `own` before its step, and has made it.
 fn number_at<N: Names<Memory = Global>>(
     cores: &[NodeCore<N>],
-    stepped: &NodeName,
+    stepped: &Node,
     own: u32,
-    node: &NodeName,
+    node: &Node,
 ) -> u32
     ensures { result ≡ number_at cores.now stepped.now own node.now }
 {
@@ -52,7 +52,7 @@ fn number_at<N: Names<Memory = Global>>(
 fn number_for<N: Names<Memory = Global>>(
     entry: &Entry,
     cores: &[NodeCore<N>],
-    stepped: &NodeName,
+    stepped: &Node,
     own: u32,
 ) -> u32
     ensures { entry_by (λ _. result) entry.now ≡ entry_by (number_at cores.now stepped.now own) entry.now }
@@ -71,7 +71,7 @@ pub(crate) fn enter_all<N: Names<Memory = Global>>(
     history: &mut History,
     entries: &mut Vec<Entry>,
     cores: &[NodeCore<N>],
-    stepped: &NodeName,
+    stepped: &Node,
     own: u32,
 )
     requires { length entries.old.items ≤ history.old.room }

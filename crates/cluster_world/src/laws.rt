@@ -5,7 +5,7 @@ ghost use Rattle.cluster_world.specs.Leftovers.{EveryWorldLeavesNothing};
 
 /// The headline, of every world and of every list of events: all answers to name calls and joins are those of one sequential registry
 /// that takes the granted operations in lock order, and whenever the lock is free, the tables are that registry's, less the names on
-/// nodes that a node was told have left.
+/// nodes that a node was told have left, and each node keeps for its processes what the registry has sent them.
 pub fn headline_of_every_world()
     ensures { EveryWorldAgrees }
 {}

@@ -14,7 +14,7 @@ pub use run_end::RunEnd;
 pub use seat::{SeatFault, WorldSeat};
 pub use world::World;
 pub use world_events::{
-    Answer, Call, CoreEvent, Event, Letter, Look, NameCall, NameList, NodeCore, Nodes, Opening,
-    Refusal, Reply, Retries, StartFault, StepFault, WorldEvent,
+    Answer, Call, CoreEvent, Event, Letter, Look, NameCall, NameList, NodeCore, Nodes, Notice,
+    NoticeList, Opening, Refusal, Reply, Retries, StartFault, StepFault, WorldEvent,
 };
 pub use world_history::{HistoryEntry, KeptEntry};

@@ -12,7 +12,7 @@ use std::alloc::{AllocError, Global};
 use std::collections::VecDeque;
 use std::marker::Model;
 use std::mem;
-use term::NodeName;
+use term::{Node, NodeName};
 use world_events::Letter;
 
 /// Letters that a node has sent and that memory on their links was refused for, in their order, with their receivers.
@@ -129,11 +129,18 @@ fn earlier(
 }
 
 impl Mail {
+    /// Whether the node of a name was closed out.
+    pub(crate) fn is_closed(&self, name: &NodeName) -> bool
+        ensures { result ≡ (links_of self.now).closed name.now }
+    {
+        self.mesh.is_closed(name)
+    }
+
     /// Whether a node was closed out.
-    pub(crate) fn is_closed(&self, node: &NodeName) -> bool
+    pub(crate) fn has_left(&self, node: &Node) -> bool
         ensures { result ≡ (links_of self.now).closed node.now }
     {
-        self.mesh.is_closed(node)
+        self.is_closed(node.name())
     }
 
     /// Whether nothing is on a link.
@@ -224,11 +231,11 @@ impl Mail {
     }
 
     /// Empties all links towards a node, for good. It takes no memory.
-    pub(crate) fn close_out(&mut self, node: &NodeName)
+    pub(crate) fn close_out(&mut self, node: &Node)
         requires { has node.now self.old.mesh ≡ true }
         ensures nodes { self.new.mesh.nodes ≡ self.old.mesh.nodes }
         ensures links { links_of self.new ≡ closed_out node.now (links_of self.old) }
     {
-        let _ = self.mesh.close_out(node);
+        let _ = self.mesh.close_out(node.name());
     }
 }

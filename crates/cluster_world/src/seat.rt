@@ -8,7 +8,7 @@ ghost use Rattle.cluster_world.specs.Seats.{verdict_to, verdict_in};
 use crate::world::World;
 use name_table::Names;
 use std::alloc::{AllocError, Global};
-use term::{LockId, NodeName, Pid};
+use term::{LockId, Node, Pid};
 use thiserror::Error;
 use transaction::{LockReply, LockSeat, Nodes, Retries};
 use world_events::{Answer, Call, Event, Refusal, Reply, StepFault, WorldEvent};
@@ -48,7 +48,7 @@ impl From<AllocError> for SeatFault {
 }
 
 /// Whether call `number` of the node is granted, if this is the answer to it.
-fn verdict(answer: &Answer, node: &NodeName, number: u64) -> Option<bool>
+fn verdict(answer: &Answer, node: &Node, number: u64) -> Option<bool>
     ensures { result ≡ verdict_to node.now number (answer_of answer.now) }
 {
     if answer.node != *node || u64::from(answer.call) != number {
@@ -62,7 +62,7 @@ fn verdict(answer: &Answer, node: &NodeName, number: u64) -> Option<bool>
 }
 
 /// Whether call `number` of the node is granted, if one of these is the answer to it.
-fn verdict_in(answers: &[Answer], node: &NodeName, number: u64) -> Option<bool>
+fn verdict_in(answers: &[Answer], node: &Node, number: u64) -> Option<bool>
     ensures { result ≡ verdict_in node.now number (map answer_of answers.now) }
 {
     for answer in answers {
@@ -91,7 +91,7 @@ impl<N: Names<Memory = Global>> World<N> {
     ghost use Rattle.cluster_world.specs.Seen.{seen};
 
     /// The number of the node's next numbered call.
-    fn next_number(&self, node: &NodeName) -> u64
+    fn next_number(&self, node: &Node) -> u64
         ensures { result ≡ next_number node.now (seen self.now) }
     {
         let last = match self.core(node) {
@@ -102,7 +102,7 @@ impl<N: Names<Memory = Global>> World<N> {
     }
 
     /// Plays what a call at the node waits for: the delivery that `settle` makes next, or else a retry.
-    fn play_next(&mut self, node: &NodeName) -> Result<Vec<Answer>, Refusal>
+    fn play_next(&mut self, node: &Node) -> Result<Vec<Answer>, Refusal>
         ensures kept { Keeps self.old self.new }
         ensures ok { IfOk result (λ answers. PlaysNext node.now self.old self.new answers.items) }
         ensures refused { IfErr result (λ refusal. RefusesNext node.now self.old refusal) }
@@ -116,7 +116,7 @@ impl<N: Names<Memory = Global>> World<N> {
     }
 
     /// Plays what call `number` of the node waits for, until it is answered.
-    fn wait(&mut self, node: &NodeName, number: u64) -> Result<bool, SeatFault>
+    fn wait(&mut self, node: &Node, number: u64) -> Result<bool, SeatFault>
         ensures kept { Keeps self.old self.new }
         ensures waited { HasWaited node.now number self.old self.new result }
     {

@@ -11,7 +11,7 @@ use crate::history::enter_all;
 use crate::mail::Mail;
 use name_table::Names;
 use std::alloc::Global;
-use term::NodeName;
+use term::Node;
 use world_events::{Answer, NodeCore, Turn};
 use world_history::History;
 
@@ -19,7 +19,7 @@ use world_history::History;
 /// the history. Gives its answers, and the memory of the others for a later step. It takes no memory that can be refused.
 pub(crate) fn take_in<N: Names<Memory = Global>>(
     turn: Turn,
-    node: &NodeName,
+    node: &Node,
     own: u32,
     cores: &[NodeCore<N>],
     links: &mut Mail,
@@ -39,7 +39,7 @@ pub(crate) fn take_in<N: Names<Memory = Global>>(
         answers,
     } = turn;
     let alloc: Global = *answers.allocator();
-    links.post(node, &mut letters);
+    links.post(node.name(), &mut letters);
     enter_all(history, &mut entries, cores, node, own);
     let spare = Turn {
         letters,

@@ -13,7 +13,7 @@ use name_table::Names;
 use std::alloc::{AllocError, Global};
 use std::marker::Model;
 use std::mem;
-use term::{NodeName, NodeSet};
+use term::{Node, NodeName, NodeSet};
 use world_events::{Answer, Cause, Event, NodeCore, Refusal, Turn, WorldEvent};
 use world_history::{History, KeptEntry};
 
@@ -57,7 +57,7 @@ impl<N: Names> Model for World<N> {
 fn is_holder<N: Names<Memory = Global>>(links: &Mail, core: &NodeCore<N>) -> bool
     ensures { result ≡ is_holding links.now core.now }
 {
-    core.is_joined() && core.holds_global() && !links.is_closed(core.name())
+    core.is_joined() && core.holds_global() && !links.has_left(core.node())
 }
 
 /// Makes room for the next step of a core: all that was sent is on its links, and the history has room for the step's entries. What
@@ -74,7 +74,7 @@ fn make_room<N: Names<Memory = Global>>(
     ensures room { OnOk result (min (2 ^ 64 - 1) (most_entries core.now) ≤ history.new.room) }
 {
     links.drain()?;
-    history.reserve(core.most_entries(), core.name())
+    history.reserve(core.most_entries(), core.node())
 }
 
 impl<N: Names<Memory = Global>> World<N> {
@@ -97,7 +97,7 @@ impl<N: Names<Memory = Global>> World<N> {
     ghost use Rattle.cluster_world.specs.Settling.{WaitsOnLink, HasNext, DeliversNext};
 
     /// The place of the node that an event of a node is played at, or why the event is refused. It takes no memory.
-    fn admit_own(&self, node: &NodeName, event: &Event) -> Result<usize, Refusal>
+    fn admit_own(&self, node: &Node, event: &Event) -> Result<usize, Refusal>
         ensures ok { IfOk result (λ place. IsAdmitted place (WorldEvent.At node.now event.now) self.now) }
         ensures refused { IfErr result (λ refusal. RefusedWith refusal (WorldEvent.At node.now event.now) self.now) }
     {
@@ -107,7 +107,7 @@ impl<N: Names<Memory = Global>> World<N> {
         if !event.knows_contact(&self.nodes) {
             return Err(Refusal::NoSuchNode);
         }
-        if self.links.is_closed(node) {
+        if self.links.has_left(node) {
             return Err(Refusal::NodeLeft);
         }
         match self.cores[place].refusal(event.cause()) {
@@ -150,7 +150,7 @@ impl<N: Names<Memory = Global>> World<N> {
     fn happen(
         &mut self,
         place: usize,
-        node: &NodeName,
+        node: &Node,
         event: &Event,
     ) -> Result<Vec<Answer>, AllocError>
         requires { IsAdmitted place (WorldEvent.At node.now event.now) self.old }
@@ -217,6 +217,25 @@ impl<N: Names<Memory = Global>> World<N> {
         ensures few { IfOk result (λ answers. AreFew link.receiver self.old answers.items) }
         ensures as_before { OnErr result (seen self.new ≡ seen self.old) }
     {
+        let sender = Node::first(sender.copy());
+        let receiver = Node::first(receiver.copy());
+        self.read_letter(link, &sender, &receiver)
+    }
+
+    /// The same, by the nodes at its ends.
+    fn read_letter(
+        &mut self,
+        link: LinkPlace,
+        sender: &Node,
+        receiver: &Node,
+    ) -> Result<Vec<Answer>, AllocError>
+        requires sender { place sender.now self.old.nodes ≡ Some link.sender }
+        requires admitted { IsAdmitted link.receiver (WorldEvent.Deliver sender.now receiver.now) self.old }
+        ensures kept { Keeps self.old self.new }
+        ensures ok { IfOk result (λ answers. Played (WorldEvent.Deliver sender.now receiver.now) self.old self.new [] answers.items) }
+        ensures few { IfOk result (λ answers. AreFew link.receiver self.old answers.items) }
+        ensures as_before { OnErr result (seen self.new ≡ seen self.old) }
+    {
         make_room(
             &self.cores[link.receiver],
             &mut self.links,
@@ -267,10 +286,10 @@ impl<N: Names<Memory = Global>> World<N> {
     ///
     /// Whatever was played on a world since it opened, the headline holds behind that and this event: the answers to name
     /// calls and joins are those of one sequential registry that takes the granted operations in lock order, and whenever the
-    /// lock is free, the tables are that registry's, less the names on nodes that a node was told have left. So do the laws of
-    /// clients' locks: at a running node no resource is held under two requesters, and each lock call is answered as these laws
-    /// say (`LockAnswers`). And nothing is left over: once no letter waits, running nodes have the clients' locks that were
-    /// granted and not given back, and no others.
+    /// lock is free, the tables are that registry's, less the names on nodes that a node was told have left, and each node keeps
+    /// for its processes what the registry has sent them. So do the laws of clients' locks: at a running node no resource is held
+    /// under two requesters, and each lock call is answered as these laws say (`LockAnswers`). And nothing is left over: once no
+    /// letter waits, running nodes have the clients' locks that were granted and not given back, and no others.
     pub fn play(&mut self, event: &WorldEvent) -> Result<Vec<Answer>, Refusal>
         ensures kept { Keeps self.old self.new }
         ensures agrees { IfOk result (λ answers. Agrees (event.now ∷ []) answers.items self.old self.new) }
@@ -379,7 +398,7 @@ impl<N: Names<Memory = Global>> World<N> {
     }
 
     /// The core of a node.
-    pub(crate) fn core(&self, node: &NodeName) -> Option<&NodeCore<N>>
+    pub(crate) fn core(&self, node: &Node) -> Option<&NodeCore<N>>
         ensures here { is_some result ≡ set_of self.now.nodes node.now }
         ensures core { option_copied result ≡ core_of node.now self.now.cores }
         ensures world { IfSome result (λ core. core.now.world ≡ self.now.nodes) }
@@ -390,15 +409,15 @@ impl<N: Names<Memory = Global>> World<N> {
     }
 
     /// Whether a node has left this world.
-    pub fn has_left(&self, node: &NodeName) -> bool
+    pub fn has_left(&self, node: &Node) -> bool
         ensures left { result ≡ left (seen self.now) node.now }
         ensures known { result ≡ true → set_of self.now.nodes node.now ≡ true }
     {
-        self.links.is_closed(node)
+        self.links.has_left(node)
     }
 
     /// The table of a node, or `None` where the node isn't of this world. That of one that has left is as it was then.
-    pub fn table(&self, node: &NodeName) -> Option<&N>
+    pub fn table(&self, node: &Node) -> Option<&N>
         ensures here { is_some result ≡ set_of self.now.nodes node.now }
         ensures table { IfSome result (λ table. N.contents table.now ≡ ((seen self.now).node node.now).replica.table) }
     {
@@ -407,7 +426,7 @@ impl<N: Names<Memory = Global>> World<N> {
 
     /// The members of a node, itself among them, or `None` where the node isn't of this world. All are nodes of the world. Those
     /// of one that has left are as they were then.
-    pub fn members(&self, node: &NodeName) -> Option<&NodeSet>
+    pub fn members(&self, node: &Node) -> Option<&NodeSet>
         ensures here { is_some result ≡ set_of self.now.nodes node.now }
         ensures members { IfSome result (λ members. set_of members.now ≡ ((seen self.now).node node.now).replica.members) }
         ensures within { IfSome result (λ members. IsWithin self.now.nodes members.now) }
@@ -416,7 +435,7 @@ impl<N: Names<Memory = Global>> World<N> {
     }
 
     /// The nodes that a node was told have left, or `None` where that node isn't of this world. All are nodes of the world.
-    pub fn told(&self, node: &NodeName) -> Option<&NodeSet>
+    pub fn told(&self, node: &Node) -> Option<&NodeSet>
         ensures here { is_some result ≡ set_of self.now.nodes node.now }
         ensures told { IfSome result (λ told. set_of told.now ≡ ((seen self.now).node node.now).replica.told) }
         ensures within { IfSome result (λ told. IsWithin self.now.nodes told.now) }
@@ -426,18 +445,18 @@ impl<N: Names<Memory = Global>> World<N> {
 
     /// The running joined node that holds the global lock, if one does: from the grant of the last member until what it wrote is
     /// acknowledged by all.
-    pub fn holder(&self) -> Option<NodeName>
+    pub fn holder(&self) -> Option<Node>
         ensures { result ≡ holder (opening_of self.now) (seen self.now) }
     {
         for core in &self.cores {
             if is_holder(&self.links, core) {
-                return Some(core.name().copy());
+                return Some(core.node().copy());
             }
         }
         None
     }
 
-    /// The first link on which a letter waits, as its sender and its receiver; links go by sender and then receiver.
+    /// The first link on which a letter waits, by the names of its sender and its receiver; links go by sender and then receiver.
     pub fn waiting(&self) -> Option<(NodeName, NodeName)>
         ensures { WaitsOn result self.now }
     {

@@ -1,7 +1,9 @@
 -- No line has seven words.
-use Rattle.std.proofs.Common.{List, ℕ, [], ◌∷◌, take, Result, inl, inr}
+use Rattle.std.proofs.Common.{List, ℕ, [], ◌∷◌, ◌<◌, ◌≤◌, ◌⊎◌, arith, length, map, refl, take, Result, Err, inl, inr}
+use denote.Bor.{Bor}
 use Rattle.protocol_model.specs.Script.{Line}
 use Rattle.command_lines.specs.declared.faults.LineFault.{LineFault}
+use Rattle.command_lines.specs.declared.faults.LineFault.TheVariants.{BadLine}
 use Rattle.command_lines.specs.Grammar.{WordsAsk, WordsNameNodes}
 
 -- so more than seven ask for what the first seven do
@@ -14,6 +16,18 @@ first_words_ask (a ∷ b ∷ c ∷ d ∷ []) r h = h
 first_words_ask (a ∷ b ∷ c ∷ d ∷ e ∷ []) r h = h
 first_words_ask (a ∷ b ∷ c ∷ d ∷ e ∷ f ∷ []) r h = h
 first_words_ask (a ∷ b ∷ c ∷ d ∷ e ∷ f ∷ g ∷ words) r h = h
+
+-- no words ask for nothing, nor do seven or more
+pub outside : (words : List (Bor (List ℕ))) → (length words < 1) ⊎ (7 ≤ length words)
+    → WordsAsk (map (λ w. w.now) words) (Err BadLine)
+outside [] h = refl
+outside (a ∷ []) h = absurd (elim h [ inl l ↦ omega (arith, l) | inr l ↦ omega (arith, l) ])
+outside (a ∷ b ∷ []) h = absurd (elim h [ inl l ↦ omega (arith, l) | inr l ↦ omega (arith, l) ])
+outside (a ∷ b ∷ c ∷ []) h = absurd (elim h [ inl l ↦ omega (arith, l) | inr l ↦ omega (arith, l) ])
+outside (a ∷ b ∷ c ∷ d ∷ []) h = absurd (elim h [ inl l ↦ omega (arith, l) | inr l ↦ omega (arith, l) ])
+outside (a ∷ b ∷ c ∷ d ∷ e ∷ []) h = absurd (elim h [ inl l ↦ omega (arith, l) | inr l ↦ omega (arith, l) ])
+outside (a ∷ b ∷ c ∷ d ∷ e ∷ f ∷ []) h = absurd (elim h [ inl l ↦ omega (arith, l) | inr l ↦ omega (arith, l) ])
+outside (a ∷ b ∷ c ∷ d ∷ e ∷ f ∷ g ∷ words) h = refl
 
 -- and name nodes where those do
 pub first_words_named : (words : List (List ℕ)) → WordsNameNodes (take 7 words) → WordsNameNodes words

@@ -2,12 +2,16 @@
 use Rattle.std.specs.Prelude.{ℕ, Bool, true, false, bytes_eq, codes, ◌≡◌, ◌&&◌, ◌⊎◌, List, [], ◌∷◌, Option, Some, None, Result, Ok, Err}
 use Rattle.std.specs.List.{find}
 use Rattle.registry_model.specs.Process.{Process, Text as AText}
-use Rattle.registry_model.specs.Call.{Register, ReRegister, Unregister, Whereis, RegisteredNames}
+use Rattle.registry_model.specs.Table.{Pair}
+use Rattle.registry_model.specs.Call.{Register, ReRegister, Unregister, Whereis, RegisteredNames, NoticesOf}
 use Rattle.protocol_model.specs.Event.{Event, Calling, Retry, Exiting, Leave, Call, Spawn, OnName, LookUp, SetLock, DelLock, JoinBy}
 use Rattle.protocol_model.specs.Node.{Target, Retries as Tries}
 use Rattle.protocol_model.specs.World.{At, Deliver}
 use Rattle.protocol_model.specs.Script.{Line, Play, Settle, TableAt, MembersAt}
 use Rattle.term.specs.declared.faults.TextFault.{TextFault}
+use Rattle.term.specs.declared.rule.Rule.{Rule as ARule}
+use Rattle.term.specs.declared.rule.Rule.TheVariants.{Exit}
+use Rattle.term.specs.Rules.{rule_of, SpellsRule, RefusesRule}
 use Rattle.term.specs.Spelling.{SpellsText, RefusesText, SpellsPid, RefusesPid}
 use Rattle.command_lines.specs.declared.faults.LineFault.{LineFault}
 use Rattle.command_lines.specs.declared.faults.LineFault.TheVariants.{BadLine, Text}
@@ -18,6 +22,7 @@ pub data Kind : Type 0 where
   Node : Kind
   Name : Kind
   Pid : Kind
+  Rule : Kind  -- what becomes of a name in a clash
   Resource : Kind
   Requester : Kind
   Nodes : Kind  -- whom a lock call asks
@@ -28,6 +33,7 @@ abbrev pub Value : Kind → Type 0
 Value Node = ℕ
 Value Name = ℕ
 Value Pid = Process
+Value Rule = ARule
 Value Resource = AText
 Value Requester = AText
 Value Nodes = Target
@@ -38,6 +44,7 @@ abbrev pub Spells : (k : Kind) → List ℕ → Value k → Type 0
 Spells Node text v = SpellsText text v
 Spells Name text v = SpellsText text v
 Spells Pid text v = SpellsPid text v
+Spells Rule text v = SpellsRule text v
 Spells Resource text v = SpellsText text v
 Spells Requester text v = SpellsText text v
 Spells Nodes text v = SpellsTarget text v
@@ -48,6 +55,7 @@ abbrev pub RefusedAs : Kind → List ℕ → TextFault → Type 0
 RefusedAs Node text f = RefusesText text f
 RefusedAs Name text f = RefusesText text f
 RefusedAs Pid text f = RefusesPid text f
+RefusedAs Rule text f = RefusesRule text f
 RefusedAs Resource text f = RefusesText text f
 RefusedAs Requester text f = RefusesText text f
 RefusedAs Nodes text f = RefusesTarget text f
@@ -76,16 +84,23 @@ at_node n e = Play (At n e)
 abbrev pub call_at : ℕ → Call → Line
 call_at n c = at_node n (Calling c)
 
--- all lines of the grammar
+-- a name for a process, under this rule
+abbrev pub pair_for : ℕ → Process → ARule → Pair
+pair_for x p rule = record { name = x; owner = p; rule = rule_of rule }
+
+-- all lines of the grammar; where a line may have a rule and has none, that is `exit`
 abbrev pub grammar : List Row
 grammar =
     row (codes "spawn") (Node ∷ []) (λ n. call_at n Spawn)
     ∷ row (codes "exit") (Pid ∷ []) (λ p. at_node p.node (Exiting p))
-    ∷ row (codes "register") (Node ∷ Name ∷ Pid ∷ []) (λ n x p. call_at n (OnName (Register (record { name = x; owner = p }))))
-    ∷ row (codes "re_register") (Node ∷ Name ∷ Pid ∷ []) (λ n x p. call_at n (OnName (ReRegister (record { name = x; owner = p }))))
+    ∷ row (codes "register") (Node ∷ Name ∷ Pid ∷ []) (λ n x p. call_at n (OnName (Register (pair_for x p Exit))))
+    ∷ row (codes "register") (Node ∷ Name ∷ Pid ∷ Rule ∷ []) (λ n x p r. call_at n (OnName (Register (pair_for x p r))))
+    ∷ row (codes "re_register") (Node ∷ Name ∷ Pid ∷ []) (λ n x p. call_at n (OnName (ReRegister (pair_for x p Exit))))
+    ∷ row (codes "re_register") (Node ∷ Name ∷ Pid ∷ Rule ∷ []) (λ n x p r. call_at n (OnName (ReRegister (pair_for x p r))))
     ∷ row (codes "unregister") (Node ∷ Name ∷ []) (λ n x. call_at n (OnName (Unregister x)))
     ∷ row (codes "whereis") (Node ∷ Name ∷ []) (λ n x. call_at n (LookUp (Whereis x)))
     ∷ row (codes "names") (Node ∷ []) (λ n. call_at n (LookUp RegisteredNames))
+    ∷ row (codes "notices") (Pid ∷ []) (λ p. call_at p.node (LookUp (NoticesOf p)))
     ∷ row (codes "set_lock") (Pid ∷ Resource ∷ Requester ∷ Nodes ∷ Retries ∷ [])
     (λ p r q t n. call_at p.node (SetLock p r q t n))
     ∷ row (codes "del_lock") (Pid ∷ Resource ∷ Requester ∷ Nodes ∷ []) (λ p r q t. call_at p.node (DelLock p r q t))

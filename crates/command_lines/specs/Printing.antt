@@ -3,6 +3,8 @@ use Rattle.std.specs.Prelude.{ℕ, Bool, true, false, codes, ◌==◌, flat_map,
 use Rattle.std.specs.Fmt.{decimal}
 use Rattle.registry_model.specs.Process.{Process}
 use Rattle.registry_model.specs.Call.{Reply}
+use Rattle.registry_model.specs.Settlement.{Notice}
+use Rattle.registry_model.specs.Table.{Pair, Rule}
 use Rattle.protocol_model.specs.Event.{Answer, Refusal}
 use Rattle.protocol_model.specs.Script.{Output, Said, Okay, Error, Settled, SettleLimit, TableIs, MembersAre}
 use Rattle.term.specs.Spelling.{bytes_of, dot}
@@ -22,6 +24,7 @@ word_of (Text text.Empty) = codes "empty"
 word_of (Text text.TooLong) = codes "too_long"
 word_of (Text (text.BadByte place)) = codes "bad_byte"
 word_of (Text text.BadSerial) = codes "bad_serial"
+word_of (Text text.BadRule) = codes "bad_rule"
 word_of (Text text.TooManyNodes) = codes "too_many_nodes"
 word_of (Start start.NoNode) = codes "no_node"
 word_of (Start start.SameNode) = codes "same_node"
@@ -63,6 +66,29 @@ pid_text p = bytes_of p.node ++ dot ∷ decimal p.serial
 abbrev pub names_text : List ℕ → List ℕ
 names_text names = codes "names" ++ flat_map (λ x. 32 ∷ bytes_of x) names
 
+-- what stands in a table's line behind a process for the name's rule: nothing for `exit`
+abbrev pub rule_text : Rule → List ℕ
+rule_text Rule.Exit = []
+rule_text Rule.Notify = codes ",notify"
+rule_text Rule.NotifyAll = codes ",notify_all"
+
+-- a name, its process, and its rule unless that is `exit`
+abbrev pub pair_text : Pair → List ℕ
+pair_text e = bytes_of e.name ++ 61 ∷ pid_text e.owner ++ rule_text e.rule
+
+-- the other process of a notice, if it has one
+abbrev pub other_text : Option Process → List ℕ
+other_text None = []
+other_text (Some p) = 61 ∷ pid_text p
+
+-- a notice: the name that was lost, and behind it the process that lost it too, where nobody has it
+abbrev pub notice_text : Notice → List ℕ
+notice_text n = bytes_of n.name ++ other_text n.other
+
+-- notices, in the order in which they came
+abbrev pub notices_text : List Notice → List ℕ
+notices_text notices = codes "notices" ++ flat_map (λ n. 32 ∷ notice_text n) notices
+
 -- a reply
 abbrev pub reply_text : Reply → List ℕ
 reply_text Reply.Yes = codes "yes"
@@ -77,6 +103,7 @@ reply_text Reply.ContactLeft = codes "contact_left"
 reply_text (Reply.Pid p) = pid_text p
 reply_text Reply.Undefined = codes "undefined"
 reply_text (Reply.Names names) = names_text names
+reply_text (Reply.Notices notices) = notices_text notices
 
 -- an answer: the reply, and before that of a numbered call the node, `#` and the number
 abbrev pub answer_text : Answer → List ℕ
@@ -103,7 +130,7 @@ output_line Okay = ended (codes "ok")
 output_line (Error r) = error_line (refusal_word r)
 output_line Settled = ended (codes "settled")
 output_line SettleLimit = error_line (codes "settle_limit")
-output_line (TableIs table) = ended (codes "table" ++ flat_map (λ e. 32 ∷ bytes_of e.name ++ 61 ∷ pid_text e.owner) table)
+output_line (TableIs table) = ended (codes "table" ++ flat_map (λ e. 32 ∷ pair_text e) table)
 output_line (MembersAre members) = ended (codes "members" ++ flat_map (λ a. 32 ∷ bytes_of a) members)
 
 abbrev pub shown_line : Shown → List ℕ

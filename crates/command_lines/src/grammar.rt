@@ -1,20 +1,23 @@
 //! The lines that are read: an arm for each. They stand by the number of their texts.
 ghost use Rattle.std.specs.Prelude.{◌≡◌, ◌≢◌, map, ◌∷◌, [], Err, true, is_some, MatchResult, IfOk, OnErr};
-ghost use Rattle.protocol_model.specs.Event.{Exiting, SetLock, DelLock};
-ghost use Rattle.term.specs.Spelling.{SpellsText, SpellsPid};
+ghost use Rattle.protocol_model.specs.Event.{Exiting, LookUp, SetLock, DelLock};
+ghost use Rattle.registry_model.specs.Call.{NoticesOf};
+ghost use Rattle.term.specs.Rules.{SpellsRule};
+ghost use Rattle.term.specs.Spelling.{SpellsText, RefusesText, SpellsPid};
 ghost use Rattle.transaction.specs.Calls.{target_of, retries_of};
 ghost use Rattle.world_events.specs.NodeEventsSeen.{call_of};
 ghost use Rattle.command_lines.specs.Commands.{asked_by, line_in};
 ghost use Rattle.command_lines.specs.declared.faults.LineFault.TheVariants.{Memory};
 ghost use Rattle.command_lines.specs.LockTexts.{SpellsTarget, NamesSome, target_in};
-ghost use Rattle.command_lines.specs.Grammar.{WordsAsk, WordsNameNodes, FirstRefused, at_node, call_at, Node as ANode, Name as AName, Pid as APid, Resource as AResource, Requester as ARequester, Nodes as SomeNodes};
+ghost use Rattle.command_lines.specs.Grammar.{WordsAsk, WordsNameNodes, FirstRefused, at_node, call_at, pair_for as a_pair_for, Node as ANode, Name as AName, Pid as APid, Rule as ARule, Resource as AResource, Requester as ARequester, Nodes as SomeNodes};
 
 use crate::faults::LineFault;
 use crate::lock_texts::{parse_retries, parse_target};
+use name_table::Pair;
 use std::alloc::{AllocError, Global};
 use term::{
-    LockId, Name, NodeName, NodeSet, Pid, TextFault, parse_name, parse_node, parse_pid,
-    parse_requester, parse_resource,
+    LockId, Name, Node, NodeNames, Pid, Rule, TextFault, parse_name, parse_node, parse_pid,
+    parse_requester, parse_resource, parse_rule,
 };
 use transaction::{Nodes, Retries};
 use world_events::{Call, Event, WorldEvent};
@@ -27,16 +30,30 @@ pub enum Task {
     /// Letters are delivered until none waits.
     Settle,
     /// The table of a node is shown.
-    Table(NodeName),
+    Table(Node),
     /// The members of a node are shown.
-    Members(NodeName),
+    Members(Node),
+}
+
+/// Reads the name of a node, for the first node of that name.
+fn first_node(text: &str) -> Result<Node, TextFault>
+    ensures { MatchResult result (SpellsText text.now) (RefusesText text.now) }
+{
+    Ok(Node::first(parse_node(text)?))
 }
 
 /// A call at a node.
-fn call(node: NodeName, call: Call) -> Task
+fn call(node: Node, call: Call) -> Task
     ensures { line_in result ≡ call_at node (call_of call) }
 {
     Task::Play(WorldEvent::At(node, Event::Call(call)))
+}
+
+/// A name for a process, under this rule.
+fn pair_for(name: Name, owner: Pid, rule: Rule) -> Pair
+    ensures { result ≡ a_pair_for name owner rule }
+{
+    Pair { name, owner, rule }
 }
 
 /// The exit of a process, at its node.
@@ -46,8 +63,15 @@ fn exit(process: Pid) -> Task
     Task::Play(WorldEvent::At(process.node.copy(), Event::Exit(process)))
 }
 
+/// A look-up of what a process was sent, at its node.
+fn notices(process: Pid) -> Task
+    ensures { line_in result ≡ call_at process.node (LookUp (NoticesOf process)) }
+{
+    call(process.node.copy(), Call::Notices(process))
+}
+
 /// The nodes that a lock call asks: those that it names, or all members.
-fn nodes_of(alloc: Global, named: Option<NodeSet>) -> Result<Nodes, AllocError>
+fn nodes_of(alloc: Global, named: Option<NodeNames>) -> Result<Nodes, AllocError>
     requires { NamesSome named }
     ensures ok { IfOk result (λ nodes. target_of nodes ≡ target_in named) }
     ensures memory { OnErr result (is_some named ≡ true) }
@@ -63,7 +87,7 @@ fn set_lock(
     alloc: Global,
     holder: Pid,
     id: LockId,
-    named: Option<NodeSet>,
+    named: Option<NodeNames>,
     retries: Retries,
 ) -> Result<Task, AllocError>
     requires { NamesSome named }
@@ -83,7 +107,7 @@ fn del_lock(
     alloc: Global,
     holder: Pid,
     id: LockId,
-    named: Option<NodeSet>,
+    named: Option<NodeNames>,
 ) -> Result<Task, AllocError>
     requires { NamesSome named }
     ensures ok { IfOk result (λ task. line_in task ≡ call_at holder.node (DelLock holder id.resource id.requester (target_in named))) }
@@ -94,11 +118,30 @@ fn del_lock(
 }
 
 /// The values of three texts, or the fault of the first that spells none.
-fn node_name_and_pid(node: &str, name: &str, pid: &str) -> Result<(NodeName, Name, Pid), TextFault>
+fn node_name_and_pid(node: &str, name: &str, pid: &str) -> Result<(Node, Name, Pid), TextFault>
     ensures { MatchResult result (λ v. SpellsText node.now v.0 × SpellsText name.now v.1 × SpellsPid pid.now v.2)
         (FirstRefused (ANode ∷ AName ∷ APid ∷ []) (node.now ∷ name.now ∷ pid.now ∷ [])) }
 {
-    Ok((parse_node(node)?, parse_name(name)?, parse_pid(pid)?))
+    Ok((first_node(node)?, parse_name(name)?, parse_pid(pid)?))
+}
+
+/// The same, and the rule that stands behind them.
+fn node_name_pid_and_rule(
+    node: &str,
+    name: &str,
+    pid: &str,
+    rule: &str,
+) -> Result<(Node, Name, Pid, Rule), TextFault>
+    ensures { MatchResult result
+        (λ v. SpellsText node.now v.0 × SpellsText name.now v.1 × SpellsPid pid.now v.2 × SpellsRule rule.now v.3)
+        (FirstRefused (ANode ∷ AName ∷ APid ∷ ARule ∷ []) (node.now ∷ name.now ∷ pid.now ∷ rule.now ∷ [])) }
+{
+    Ok((
+        first_node(node)?,
+        parse_name(name)?,
+        parse_pid(pid)?,
+        parse_rule(rule)?,
+    ))
 }
 
 /// The holder, the id and the named nodes of a lock call, or the fault of the first text that spells none.
@@ -107,7 +150,7 @@ fn holder_id_and_nodes(
     resource: &str,
     requester: &str,
     nodes: &str,
-) -> Result<(Pid, LockId, Option<NodeSet>), TextFault>
+) -> Result<(Pid, LockId, Option<NodeNames>), TextFault>
     ensures { MatchResult result
         (λ v. SpellsPid holder.now v.0 × SpellsText resource.now v.1.resource × SpellsText requester.now v.1.requester
         × SpellsTarget nodes.now (target_in v.2))
@@ -137,13 +180,14 @@ fn with_one(word: &str, text: &str) -> Result<Task, LineFault>
     ensures { WordsAsk (word.now ∷ text.now ∷ []) (asked_by result) }
 {
     match word {
-        "spawn" => Ok(call(parse_node(text)?, Call::Spawn)),
+        "spawn" => Ok(call(first_node(text)?, Call::Spawn)),
         "exit" => Ok(exit(parse_pid(text)?)),
-        "names" => Ok(call(parse_node(text)?, Call::RegisteredNames)),
-        "retry" => Ok(Task::Play(WorldEvent::At(parse_node(text)?, Event::Retry))),
-        "leave" => Ok(Task::Play(WorldEvent::At(parse_node(text)?, Event::Leave))),
-        "members" => Ok(Task::Members(parse_node(text)?)),
-        "table" => Ok(Task::Table(parse_node(text)?)),
+        "names" => Ok(call(first_node(text)?, Call::RegisteredNames)),
+        "notices" => Ok(notices(parse_pid(text)?)),
+        "retry" => Ok(Task::Play(WorldEvent::At(first_node(text)?, Event::Retry))),
+        "leave" => Ok(Task::Play(WorldEvent::At(first_node(text)?, Event::Leave))),
+        "members" => Ok(Task::Members(first_node(text)?)),
+        "table" => Ok(Task::Table(first_node(text)?)),
         _ => Err(LineFault::BadLine),
     }
 }
@@ -153,9 +197,9 @@ fn with_two(word: &str, text: &str, next: &str) -> Result<Task, LineFault>
     ensures { WordsAsk (word.now ∷ text.now ∷ next.now ∷ []) (asked_by result) }
 {
     match word {
-        "unregister" => Ok(call(parse_node(text)?, Call::Unregister(parse_name(next)?))),
-        "whereis" => Ok(call(parse_node(text)?, Call::Whereis(parse_name(next)?))),
-        "join" => Ok(call(parse_node(text)?, Call::Join(parse_node(next)?))),
+        "unregister" => Ok(call(first_node(text)?, Call::Unregister(parse_name(next)?))),
+        "whereis" => Ok(call(first_node(text)?, Call::Whereis(parse_name(next)?))),
+        "join" => Ok(call(first_node(text)?, Call::Join(first_node(next)?))),
         "deliver" => Ok(Task::Play(WorldEvent::Deliver(parse_node(text)?, parse_node(next)?))),
         _ => Err(LineFault::BadLine),
     }
@@ -168,11 +212,11 @@ fn with_three(word: &str, text: &str, next: &str, last: &str) -> Result<Task, Li
     match word {
         "register" => {
             let (node, name, owner) = node_name_and_pid(text, next, last)?;
-            Ok(call(node, Call::Register(name, owner)))
+            Ok(call(node, Call::Register(pair_for(name, owner, Rule::Exit))))
         }
         "re_register" => {
             let (node, name, owner) = node_name_and_pid(text, next, last)?;
-            Ok(call(node, Call::ReRegister(name, owner)))
+            Ok(call(node, Call::ReRegister(pair_for(name, owner, Rule::Exit))))
         }
         _ => Err(LineFault::BadLine),
     }
@@ -182,17 +226,25 @@ fn with_three(word: &str, text: &str, next: &str, last: &str) -> Result<Task, Li
 fn with_four(
     alloc: Global,
     word: &str,
-    holder: &str,
-    resource: &str,
-    requester: &str,
-    nodes: &str,
+    text: &str,
+    next: &str,
+    third: &str,
+    last: &str,
 ) -> Result<Task, LineFault>
-    ensures asks { result ≢ Err Memory → WordsAsk (word.now ∷ holder.now ∷ resource.now ∷ requester.now ∷ nodes.now ∷ []) (asked_by result) }
-    ensures memory { result ≡ Err Memory → WordsNameNodes (word.now ∷ holder.now ∷ resource.now ∷ requester.now ∷ nodes.now ∷ []) }
+    ensures asks { result ≢ Err Memory → WordsAsk (word.now ∷ text.now ∷ next.now ∷ third.now ∷ last.now ∷ []) (asked_by result) }
+    ensures memory { result ≡ Err Memory → WordsNameNodes (word.now ∷ text.now ∷ next.now ∷ third.now ∷ last.now ∷ []) }
 {
     match word {
+        "register" => {
+            let (node, name, owner, rule) = node_name_pid_and_rule(text, next, third, last)?;
+            Ok(call(node, Call::Register(pair_for(name, owner, rule))))
+        }
+        "re_register" => {
+            let (node, name, owner, rule) = node_name_pid_and_rule(text, next, third, last)?;
+            Ok(call(node, Call::ReRegister(pair_for(name, owner, rule))))
+        }
         "del_lock" => {
-            let (holder, id, named) = holder_id_and_nodes(holder, resource, requester, nodes)?;
+            let (holder, id, named) = holder_id_and_nodes(text, next, third, last)?;
             Ok(del_lock(alloc, holder, id, named)?)
         }
         _ => Err(LineFault::BadLine),
@@ -236,9 +288,7 @@ pub fn read_words(alloc: Global, words: &[&str]) -> Result<Task, LineFault>
         [word, text] => with_one(word, text),
         [word, text, next] => with_two(word, text, next),
         [word, text, next, last] => with_three(word, text, next, last),
-        [word, holder, resource, requester, nodes] => {
-            with_four(alloc, word, holder, resource, requester, nodes)
-        }
+        [word, text, next, third, last] => with_four(alloc, word, text, next, third, last),
         [word, holder, resource, requester, nodes, retries] => with_five(
             alloc, word, holder, resource, requester, nodes, retries,
         ),

@@ -4,12 +4,12 @@ ghost use Rattle.std.specs.Int.{is_in_range};
 ghost use Rattle.transaction.specs.Calls.{retries_of};
 ghost use Rattle.command_lines.specs.LockTexts.{target_in, SpellsTarget, RefusesTarget, SpellsCount, SpellsRetries, SpellsNoRetries};
 
-use term::{NodeSet, TextFault, parse_nodes};
+use term::{NodeNames, TextFault, parse_nodes};
 use transaction::Retries;
 
 /// Reads which nodes a lock call names: none for `all`, which asks all members, else names of nodes parted by commas. A node
 /// that is called `all` is named beside another one, or twice.
-pub fn parse_target(text: &str) -> Result<Option<NodeSet>, TextFault>
+pub fn parse_target(text: &str) -> Result<Option<NodeNames>, TextFault>
     ensures { MatchResult result (λ named. SpellsTarget text.now (target_in named)) (RefusesTarget text.now) }
 {
     if text == "all" {

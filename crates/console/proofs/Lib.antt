@@ -1,4 +1,5 @@
 mod Heeding
 mod Leaving
+mod LockCalls
 pub mod Meaning
 mod Talking

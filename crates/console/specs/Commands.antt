@@ -1,12 +1,13 @@
 -- What a line of a console says.
 use Rattle.std.specs.Prelude.{ℕ, Bool, true, false, ◌≡◌, ◌≢◌, ◌||◌, bytes_eq, codes, if◌then◌else◌, List, [], ◌∷◌, Option, Some, None, Result, Ok, Err}
-use Rattle.registry_model.specs.Call.{Register, ReRegister, Unregister, RegisteredNames, Whereis as LooksUp}
+use Rattle.registry_model.specs.Call.{Register, ReRegister, Unregister, RegisteredNames, NoticesOf, Whereis as LooksUp}
 use Rattle.protocol_model.specs.Event.{Event, Calling, Exiting, Leave as Leaving, Spawn, OnName, LookUp, JoinBy}
 use Rattle.protocol_model.specs.Script.{Line}
+use Rattle.term.specs.declared.rule.Rule.TheVariants as rule
 use Rattle.command_lines.specs.NodeEventsSeen.{call_of}
 use Rattle.command_lines.specs.declared.faults.LineFault.{LineFault}
 use Rattle.command_lines.specs.declared.faults.LineFault.TheVariants.{BadLine}
-use Rattle.command_lines.specs.Grammar.{Node, Name, Pid, Row, row, row_of, at_node, call_at, AsksBy, WordsAsk}
+use Rattle.command_lines.specs.Grammar.{Node, Name, Pid, Rule, Row, row, row_of, at_node, call_at, pair_for, AsksBy, WordsAsk}
 use Rattle.command_lines.specs.Commands.{unread}
 use Rattle.text_lines.specs.Words.{words}
 use Rattle.console.specs.declared.orders.Order.{Order}
@@ -26,13 +27,17 @@ abbrev pub asked_of : ℕ → Result Order LineFault → Result Line LineFault
 asked_of n (Ok o) = Ok (at_node n (event_in o))
 asked_of n (Err f) = Err f
 
--- the lines that a console has of its own: each asks its node n, which none names
+-- the lines that a console has of its own: each asks its node n, which none names. Where a name may have a rule and has none, that is
+-- `exit`
 abbrev pub own_lines : ℕ → List Row
 own_lines n =
     row (codes "spawn") [] (call_at n Spawn)
     ∷ row (codes "exit") (Pid ∷ []) (λ p. at_node n (Exiting p))
-    ∷ row (codes "register") (Name ∷ Pid ∷ []) (λ x p. call_at n (OnName (Register (record { name = x; owner = p }))))
-    ∷ row (codes "re_register") (Name ∷ Pid ∷ []) (λ x p. call_at n (OnName (ReRegister (record { name = x; owner = p }))))
+    ∷ row (codes "notices") (Pid ∷ []) (λ p. call_at n (LookUp (NoticesOf p)))
+    ∷ row (codes "register") (Name ∷ Pid ∷ []) (λ x p. call_at n (OnName (Register (pair_for x p rule.Exit))))
+    ∷ row (codes "register") (Name ∷ Pid ∷ Rule ∷ []) (λ x p r. call_at n (OnName (Register (pair_for x p r))))
+    ∷ row (codes "re_register") (Name ∷ Pid ∷ []) (λ x p. call_at n (OnName (ReRegister (pair_for x p rule.Exit))))
+    ∷ row (codes "re_register") (Name ∷ Pid ∷ Rule ∷ []) (λ x p r. call_at n (OnName (ReRegister (pair_for x p r))))
     ∷ row (codes "unregister") (Name ∷ []) (λ x. call_at n (OnName (Unregister x)))
     ∷ row (codes "whereis") (Name ∷ []) (λ x. call_at n (LookUp (LooksUp x)))
     ∷ row (codes "names") [] (call_at n (LookUp RegisteredNames))
@@ -73,7 +78,7 @@ WordsAskNode (word ∷ texts) r = AsksFor (is_lock_word word) word texts r
 
 -- a process stands first behind this word
 abbrev pub process_first : List ℕ → Bool
-process_first word = bytes_eq word (codes "exit") || is_lock_word word
+process_first word = bytes_eq word (codes "exit") || bytes_eq word (codes "notices") || is_lock_word word
 
 -- a process stands second behind it
 abbrev pub process_second : List ℕ → Bool

@@ -178,7 +178,8 @@ fn exit_all<H, A: Attendant<H>>(rt: &H, attendant: &mut A, links: &Links)
 }
 
 /// Reads lines until `quit` or the end of the input, and answers each with one line: how the console ended. In a console of a
-/// server that stays `shutdown` is answered `ok` and ends it, too, and `status` tells how the node and the server stand. It answers `most` lines at most.
+/// server that stays `shutdown` is answered `ok` and ends it, too, and `status` tells how the node and the server stand. It answers
+/// `most` lines at most.
 ///
 /// A line that asks something is asked of the attendant, and answered with the text of the reply or the word of the refusal;
 /// any other is refused, an empty one too. Each answer is handed on before the next line is read. `Read` and `TooManyLines`:

@@ -8,7 +8,7 @@ use crate::orders::Order;
 use crate::status::Status;
 use command_lines::Reply;
 use node_seats::SeatFault;
-use term::NodeName;
+use term::Node;
 
 /// Who answers what lines ask: a seat, or whatever stands for one. It is given what it waits with, of the type `H`.
 pub trait Attendant<H> {
@@ -21,7 +21,7 @@ pub trait Attendant<H> {
     ghost answers: { Self.State → AnyOrder → Result AnyReply AnyFault → Self.State → Type 0 };
 
     /// The node that it speaks for.
-    fn node(&self) -> &NodeName;
+    fn node(&self) -> &Node;
 
     /// Has an order carried out, and gives the reply, or why it is refused. Where the order is `linked` it is the call of a process that
     /// exits with the console: once the console's input has ended, it needn't be waited for.

@@ -1,20 +1,38 @@
 //! What the lines of a console say: an arm for each.
-ghost use Rattle.std.specs.Prelude.{◌≡◌, ◌≢◌, ◌∷◌, [], ℕ, List, Some, true, map, take, IfOk, MatchBool};
+ghost use Rattle.std.specs.Prelude.{◌≡◌, ◌≢◌, ◌∷◌, [], ℕ, List, Some, true, map, take, IfOk, MatchBool, MatchResult};
 ghost use Rattle.std.specs.Option.{option_map};
 ghost use Rattle.text_lines.specs.Lines.{IsKept};
 ghost use Rattle.text_lines.specs.Words.{words as words_in};
 ghost use Rattle.command_lines.specs.Commands.{asked_by};
-ghost use Rattle.command_lines.specs.Grammar.{WordsAsk};
+ghost use Rattle.term.specs.Rules.{SpellsRule};
+ghost use Rattle.term.specs.Spelling.{SpellsText, SpellsPid};
+ghost use Rattle.command_lines.specs.Grammar.{WordsAsk, FirstRefused, Name as AName, Pid as APid, Rule as ARule};
 ghost use Rattle.console.specs.Commands.{LineSays, WordsAskNode, WordsSay, SaysAtStaying, SaysElse, AsksOwn, AsksAsScript, OwnAsk, begins_lock, process_first, process_second, is_lock_word as any_lock_word, meant, meant_by, quit, shutdown, spawn_link, status};
 ghost use Rattle.console.specs.Links.{linked_in, own_text};
 
 use crate::links::Links;
 use crate::orders::{Command, Order};
 use arrayvec::ArrayVec;
-use command_lines::{Call, Event, LineFault, Task, WorldEvent, ran_out, read_words, text_of};
+use command_lines::{Call, Event, LineFault, Pair, Task, WorldEvent, ran_out, read_words, text_of};
 use std::alloc::{AllocError, Global};
-use term::{parse_name, parse_node, parse_pid};
+use term::{Name, Node, Pid, Rule, TextFault, parse_name, parse_node, parse_pid, parse_rule};
 use text_lines::{Line, MOST_WORDS, first_words};
+
+/// The values of two texts, or the fault of the first that spells none.
+fn name_and_pid(name: &str, pid: &str) -> Result<(Name, Pid), TextFault>
+    ensures { MatchResult result (λ v. SpellsText name.now v.0 × SpellsPid pid.now v.1)
+        (FirstRefused (AName ∷ APid ∷ []) (name.now ∷ pid.now ∷ [])) }
+{
+    Ok((parse_name(name)?, parse_pid(pid)?))
+}
+
+/// The same behind which a rule stands.
+fn name_pid_and_rule(name: &str, pid: &str, rule: &str) -> Result<(Name, Pid, Rule), TextFault>
+    ensures { MatchResult result (λ v. SpellsText name.now v.0 × SpellsPid pid.now v.1 × SpellsRule rule.now v.2)
+        (FirstRefused (AName ∷ APid ∷ ARule ∷ []) (name.now ∷ pid.now ∷ rule.now ∷ [])) }
+{
+    Ok((parse_name(name)?, parse_pid(pid)?, parse_rule(rule)?))
+}
 
 /// What a word alone asks.
 fn bare(word: &str) -> Result<Order, LineFault>
@@ -34,9 +52,10 @@ fn with_one(word: &str, text: &str) -> Result<Order, LineFault>
 {
     match word {
         "exit" => Ok(Order::Exit(parse_pid(text)?)),
+        "notices" => Ok(Order::Call(Call::Notices(parse_pid(text)?))),
         "unregister" => Ok(Order::Call(Call::Unregister(parse_name(text)?))),
         "whereis" => Ok(Order::Whereis(parse_name(text)?)),
-        "join" => Ok(Order::Call(Call::Join(parse_node(text)?))),
+        "join" => Ok(Order::Call(Call::Join(Node::first(parse_node(text)?)))),
         _ => Err(LineFault::BadLine),
     }
 }
@@ -46,8 +65,33 @@ fn with_two(word: &str, text: &str, next: &str) -> Result<Order, LineFault>
     ensures { AsksOwn word.now (text.now ∷ next.now ∷ []) result }
 {
     match word {
-        "register" => Ok(Order::Call(Call::Register(parse_name(text)?, parse_pid(next)?))),
-        "re_register" => Ok(Order::Call(Call::ReRegister(parse_name(text)?, parse_pid(next)?))),
+        "register" => {
+            let (name, owner) = name_and_pid(text, next)?;
+            let rule = Rule::Exit;
+            Ok(Order::Call(Call::Register(Pair { name, owner, rule })))
+        }
+        "re_register" => {
+            let (name, owner) = name_and_pid(text, next)?;
+            let rule = Rule::Exit;
+            Ok(Order::Call(Call::ReRegister(Pair { name, owner, rule })))
+        }
+        _ => Err(LineFault::BadLine),
+    }
+}
+
+/// What a word with three texts asks.
+fn with_three(word: &str, text: &str, next: &str, last: &str) -> Result<Order, LineFault>
+    ensures { AsksOwn word.now (text.now ∷ next.now ∷ last.now ∷ []) result }
+{
+    match word {
+        "register" => {
+            let (name, owner, rule) = name_pid_and_rule(text, next, last)?;
+            Ok(Order::Call(Call::Register(Pair { name, owner, rule })))
+        }
+        "re_register" => {
+            let (name, owner, rule) = name_pid_and_rule(text, next, last)?;
+            Ok(Order::Call(Call::ReRegister(Pair { name, owner, rule })))
+        }
         _ => Err(LineFault::BadLine),
     }
 }
@@ -60,11 +104,13 @@ fn read_own(words: &[&str]) -> Result<Order, LineFault>
         [word] => bare(word),
         [word, text] => with_one(word, text),
         [word, text, next] => with_two(word, text, next),
+        [word, text, next, last] => with_three(word, text, next, last),
         _ => Err(LineFault::BadLine),
     }
 }
 
 /// What a lock call asks that was read as one of a script.
+#[tactic(auto, using(crate::proofs::LockCalls::lock_calls_call))]
 fn order_of(task: Result<Task, LineFault>) -> Result<Order, LineFault>
     ensures { (word : List ℕ) (texts : List (List ℕ)) → any_lock_word word ≡ true → WordsAsk (word ∷ texts) (asked_by task)
         → AsksAsScript word texts result }
@@ -189,7 +235,7 @@ fn read_said(
 fn takes_process_first(word: &str) -> bool
     ensures { result ≡ process_first word.now }
 {
-    matches!(word, "exit" | "set_lock" | "del_lock")
+    matches!(word, "exit" | "notices" | "set_lock" | "del_lock")
 }
 
 /// Whether a process stands second behind this word.

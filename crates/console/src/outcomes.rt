@@ -6,7 +6,7 @@ ghost use Rattle.console.specs.Outcomes.{outcome_text, seat_word};
 use command_lines::{Answer, Reply, answer_line, step_line};
 use node_seats::SeatFault;
 use std::alloc::{AllocError, Global};
-use term::NodeName;
+use term::Node;
 
 /// The line that is printed where a seat refuses what it is asked.
 pub(crate) fn seat_line(fault: &SeatFault) -> &'static str
@@ -25,7 +25,7 @@ pub(crate) fn seat_line(fault: &SeatFault) -> &'static str
 /// The line of a reply by this node, or of a refusal. A reply has no number here: who asks has one call at a time.
 pub(crate) fn outcome_line(
     alloc: Global,
-    node: &NodeName,
+    node: &Node,
     outcome: Result<Reply, SeatFault>,
 ) -> Result<String, AllocError>
     ensures { IfOk result (λ line. string_bytes line ≡ outcome_text outcome) }

@@ -19,7 +19,7 @@ use std::alloc::Global;
 use std::io::{BufReader, Read, Write};
 use std::sync::Wait;
 use std::time::Clock;
-use term::{Name, NodeName, Pid};
+use term::{Name, Node, Pid};
 use text_lines::{MOST_LINES, StreamFault};
 
 /// How many lines a console of a server that stays may have: more than come.
@@ -64,7 +64,7 @@ impl<H: Wait + Clock, T: Notes> Attendant<H> for Seat<T> {
 
     ghost answers = { SeatAnswers };
 
-    fn node(&self) -> &NodeName {
+    fn node(&self) -> &Node {
         Seat::<T>::node(self)
     }
 
@@ -153,7 +153,7 @@ where
 
     ghost answers = { SeatAnswers };
 
-    fn node(&self) -> &NodeName {
+    fn node(&self) -> &Node {
         self.seat.node()
     }
 

@@ -7,12 +7,12 @@ use node_seats::{NodeStatus, Numbers, SeatFault};
 use std::alloc::{AllocError, Global};
 use std::fmt::Write as _;
 
-/// What a server bears at this moment.
+/// What a server bears.
 #[derive(Clone, Copy, Debug, PartialEq, Eq)]
 pub struct Load {
     /// How many consoles it serves.
     pub consoles: u64,
-    /// How many bytes of memory it has; 0 where the system doesn't tell.
+    /// How many bytes of memory it had when it last looked; 0 where the system doesn't tell.
     pub memory: u64,
 }
 
@@ -27,7 +27,7 @@ pub struct Status {
 
 /// A server that serves consoles until one asks for its end, as it tells of itself. It is given what it waits with, of the type `H`.
 pub trait House<H> {
-    /// What it bears at this moment.
+    /// What it bears: the consoles of this moment, and the memory of its last look.
     fn load(&self, rt: &H) -> Load;
 }
 

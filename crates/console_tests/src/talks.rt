@@ -3,7 +3,7 @@ use console::{Attendant, ConsoleEnd, ConsoleFault, Load, Order, Status, answer_l
 use node_threads::{NodeStatus, Numbers, Reply, SeatFault};
 use std::alloc::Global;
 use std::io::{BufReader, Read, Write};
-use term::{NodeName, NodeSet, Pid, TextFault, parse_node, parse_pid};
+use term::{Node, NodeSet, Pid, TextFault, parse_node, parse_pid};
 
 mod clients;
 mod cookies;
@@ -11,6 +11,7 @@ mod faults;
 mod greetings;
 mod links;
 mod refusals;
+mod rules;
 mod seats;
 mod staying;
 mod streams;
@@ -22,7 +23,7 @@ const MOST_LINES: u64 = 1_000_000;
 /// An attendant at the node a that answers with the process a.1, and counts what it was asked.
 #[derive(Drop)]
 pub(crate) struct Clerk {
-    node: NodeName,
+    node: Node,
     process: Pid,
     /// What it answers once, before that.
     fault: Option<SeatFault>,
@@ -33,7 +34,7 @@ impl Clerk {
     /// An attendant that refuses what it is asked first, where there is a fault.
     pub(crate) fn new(fault: Option<SeatFault>) -> Result<Self, TextFault> {
         Ok(Clerk {
-            node: parse_node("a")?,
+            node: Node::first(parse_node("a")?),
             process: parse_pid("a.1")?,
             fault,
             asked: 0,
@@ -50,7 +51,7 @@ impl<H> Attendant<H> for Clerk {
 
     ghost answers = { λ _ _ _ _. ⊤ };
 
-    fn node(&self) -> &NodeName {
+    fn node(&self) -> &Node {
         &self.node
     }
 
@@ -68,7 +69,7 @@ impl<H> Attendant<H> for Clerk {
 }
 
 /// How a lone node stands that has been in service for a while, and its server.
-fn status_of(node: &NodeName) -> Status {
+fn status_of(node: &Node) -> Status {
     Status {
         node: NodeStatus {
             node: node.copy(),

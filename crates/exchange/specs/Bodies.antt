@@ -7,7 +7,11 @@ use Rattle.exchange.specs.declared.bodies.Welcome.{Welcome}
 
 -- what is settled, as a member is told
 abbrev pub settled_in : Admission → Settled
-settled_in a = record { puts = a.puts.items; fate = record { kills = a.kills.items } }
+settled_in a = record {
+  puts = a.puts.items;
+  removes = a.removes.items;
+  fate = record { kills = a.kills.items; notices = a.notices.items };
+}
 
 -- the letter to a member
 abbrev pub admit_letter : Admission → Letter
@@ -15,7 +19,7 @@ admit_letter a = Letter.Admit a.joiner (settled_in a)
 
 -- what becomes of processes, as the joiner is told
 abbrev pub fate_in : Welcome → Fate
-fate_in w = record { kills = w.kills.items }
+fate_in w = record { kills = w.kills.items; notices = w.notices.items }
 
 -- the letter to the joiner
 abbrev pub welcome_letter : Welcome → Letter

@@ -1,9 +1,11 @@
-//! The joins of lone nodes: whose names stand in the cluster afterwards and which processes die (`settle`), and what the
+//! The joins of lone nodes: whose names stand in the cluster afterwards, who dies and who is sent what (`settle`), and what the
 //! sponsor says of that to the members (`Admission`) and to the joiner (`Welcome`).
 #![tactic(auto)]
 
 mod bodies;
+mod notices;
 mod settled;
 
 pub use bodies::{Admission, Welcome, admit_of, welcome_of};
+pub use notices::{Noted, Notice, copied_notices};
 pub use settled::{Settled, settle};

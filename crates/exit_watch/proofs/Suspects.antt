@@ -7,8 +7,8 @@ use Rattle.std.specs.BTreeSet.{contains}
 use Rattle.std.proofs.lemmas.Bool.{eq-eqb, eqb-true, and_parts}
 use Rattle.std.proofs.lemmas.List.Folds.{list_any-append}
 use Rattle.std.proofs.Math.Bool.{or-true}
-use Rattle.registry_model.specs.Process.{Text, Process, is_process}
-use Rattle.registry_model.specs.Table.{Table, owns, put}
+use Rattle.registry_model.specs.Process.{Process, is_process}
+use Rattle.registry_model.specs.Table.{Pair, Table, owns, put}
 use Rattle.protocol_model.specs.Watch.{Watch, is_dead, with_dead, owed}
 use Rattle.exit_watch.specs.Held.{Held, process_of, is_suspect, AreSuspected, AreDead, KeepsSuspects}
 use Rattle.exit_watch.proofs.Sets.{any-inserted}
@@ -114,24 +114,26 @@ module _ (h k : Held) (s : ℕ) (n : IsNoted h k s) where
       | inr e ↦ was q e
     ])
 
-    pub noted-put : (p : Process) → p.serial ≡ s → (x : Text) (t : Table) → AreSuspected h t →
-        AreSuspected k (put (record { name = x; owner = p }) t)
-    noted-put p i x t sus q dead o = go (is_process p (process_of k q)) refl
+    pub noted-put : (p : Process) → p.serial ≡ s → (e : Pair) (t : Table) → e.owner ≡ p → AreSuspected h t →
+        AreSuspected k (put e t)
+    noted-put p i e t for sus q dead o = go (is_process p (process_of k q)) refl
       where
         go : (b : Bool) → is_process p (process_of k q) ≡ b → is_suspect k q ≡ true
-        go true e =
-            let (a, j) = and_parts (p.node == k.node) (p.serial == q) e in
+        go true same =
+            let (a, j) = and_parts (p.node == k.node) (p.serial == q) same in
             subst (λ (r : ℕ). is_suspect k r ≡ true) (sym i ∙ eqb-true p.serial q j) joins
-        go false e = noted-keeps t sus q dead (owns-put (process_of k q) (record { name = x; owner = p }) t e o)
+        go false other = noted-keeps t sus q dead
+            (owns-put (process_of k q) e t (ap (λ (r : Process). is_process r (process_of k q)) for ∙ other) o)
 
 -- a put for another process than the dead of this node makes no suspect
 pub put-keeps : (h : Held) (p : Process) → ((p.node == h.node) && is_dead h.watch p.serial) ≡ false →
-    (x : Text) (t : Table) → AreSuspected h t → AreSuspected h (put (record { name = x; owner = p }) t)
-put-keeps h p other x t sus q dead o = go (is_process p (process_of h q)) refl
+    (e : Pair) (t : Table) → e.owner ≡ p → AreSuspected h t → AreSuspected h (put e t)
+put-keeps h p other e t for sus q dead o = go (is_process p (process_of h q)) refl
   where
     go : (b : Bool) → is_process p (process_of h q) ≡ b → is_suspect h q ≡ true
-    go true e =
-        let (a, i) = and_parts (p.node == h.node) (p.serial == q) e in
+    go true same =
+        let (a, i) = and_parts (p.node == h.node) (p.serial == q) same in
         let d : is_dead h.watch p.serial ≡ true = ap (is_dead h.watch) (eqb-true p.serial q i) ∙ dead in
         absurd (cc (d, rw a at other))
-    go false e = sus q dead (owns-put (process_of h q) (record { name = x; owner = p }) t e o)
+    go false another = sus q dead
+        (owns-put (process_of h q) e t (ap (λ (r : Process). is_process r (process_of h q)) for ∙ another) o)

@@ -3,8 +3,7 @@ ghost use Rattle.std.specs.Prelude.{◌≡◌, true, false, nat_eq, nat_lt, Some
 ghost use Rattle.std.specs.Option.{option_map};
 ghost use Rattle.std.specs.Set.{distinct_count};
 ghost use Rattle.spans.specs.Spans.{ends};
-ghost use Rattle.registry_model.specs.Table.{Table, put};
-ghost use Rattle.registry_model.specs.Process.{Text};
+ghost use Rattle.registry_model.specs.Table.{Pair, Table, put};
 ghost use Rattle.protocol_model.specs.Watch.{is_live, is_dead, is_issued, next_serial, with_spawned, with_dead, owed};
 ghost use Rattle.protocol_model.specs.Event.{Calling, Exiting, Spawn, last_u32};
 ghost use Rattle.exit_watch.specs.Faults.{Refuses, refusal_of, cause_of};
@@ -17,12 +16,12 @@ use spans::Dead;
 use std::alloc::{AllocError, Global};
 use std::collections::BTreeSet;
 use std::marker::Model;
-use term::{NodeName, Pid};
+use term::{Node, Pid};
 
 /// The watch of one node over its processes.
 #[derive(Drop)]
 pub struct Watch {
-    node: NodeName,
+    node: Node,
     /// The greatest serial given; 0 before the first.
     last_serial: u32,
     /// The serials of the dead, in the order of their deaths. One may be dead before it is given.
@@ -51,7 +50,7 @@ impl Model for Watch {
 
 impl Watch {
     /// The watch of a node whose processes are all to come. It takes no memory.
-    pub fn new(alloc: Global, node: NodeName) -> Self
+    pub fn new(alloc: Global, node: Node) -> Self
         ensures { result ≡ watch_from node 0 }
     {
         Watch::resume(alloc, node, 0)
@@ -59,7 +58,7 @@ impl Watch {
 
     /// The watch of a node that has given the serials up to the last; their processes count as live. It takes no
     /// memory.
-    pub fn resume(alloc: Global, node: NodeName, last_serial: u32) -> Self
+    pub fn resume(alloc: Global, node: Node, last_serial: u32) -> Self
         ensures { result ≡ watch_from node last_serial }
     {
         Watch {
@@ -109,7 +108,7 @@ impl Watch {
     }
 
     /// Whether it is a process of this node that was given its serial, or whose serial was passed over.
-    fn is_issued(&self, process: &Pid) -> bool
+    pub fn is_issued(&self, process: &Pid) -> bool
         ensures { result ≡ is_issued self.now.node self.now.watch process.now }
     {
         process.node == self.node && process.serial != 0 && process.serial <= self.last_serial
@@ -217,8 +216,8 @@ impl Watch {
     pub fn note_owner(&mut self, owner: &Pid) -> Result<(), AllocError>
         ensures node { self.new.node ≡ self.old.node }
         ensures watch { self.new.watch ≡ self.old.watch }
-        ensures ok { OnOk result ((x : Text) (t : Table) → AreSuspected self.old t
-            → AreSuspected self.new (put (record { name = x; owner = owner.now }) t)) }
+        ensures ok { OnOk result ((e : Pair) (t : Table) → e.owner ≡ owner.now → AreSuspected self.old t
+            → AreSuspected self.new (put e t)) }
         ensures suspected { KeepsSuspects self.old self.new }
         ensures unchanged { OnErr result (self.new ≡ self.old) }
         ensures refused { OnErr result (is_unnoted self.old owner.now ≡ true) }

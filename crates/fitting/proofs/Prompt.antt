@@ -5,7 +5,7 @@ use Rattle.std.proofs.lemmas.List.{append-nil, append_assoc}
 use Rattle.std.proofs.lemmas.List.Elements.{filter-append}
 use Rattle.registry_model.specs.Process.{Process, Nodes}
 use Rattle.registry_model.specs.Table.{Table, get}
-use Rattle.registry_model.specs.Call.{NameCall, Register, ReRegister, Unregister, Look, Whereis, RegisteredNames, Reply, Yes, No, Ok, UnknownNode, False, pid_or_undefined, is_grant, reply_to, seen_in}
+use Rattle.registry_model.specs.Call.{NameCall, Register, ReRegister, Unregister, Look, Whereis, RegisteredNames, NoticesOf, Reply, Yes, No, Ok, UnknownNode, False, pid_or_undefined, is_grant, reply_to, seen_in}
 use Rattle.registry_model.specs.History.{Entry, Standing, hold_at, after}
 use Rattle.registry_model.specs.Registry.{Replica}
 use Rattle.protocol_model.specs.Node.{Op, Current}
@@ -42,6 +42,7 @@ seen_in-prompt a k v (Whereis x) = go (get x v.table)
     go None = refl
     go (Some p) = refl
 seen_in-prompt a k v RegisteredNames = refl
+seen_in-prompt a k v (NoticesOf p) = refl
 
 grant-prompt : (a k : ℕ) (r : Reply) → is_grant r ≡ true → is_prompt (answer_to a k r) ≡ true
 grant-prompt a k Yes e = refl

@@ -3,7 +3,7 @@ use Rattle.std.proofs.Common.{ℕ, Bool, true, false, ◌≡◌, ◌==◌, Optio
 use Rattle.std.specs.Prelude.{◌&&◌, not, if◌then◌else◌, filter, flat_map, is_some}
 use Rattle.std.proofs.lemmas.List.{append-nil}
 use Rattle.std.proofs.lemmas.Bool.{cases_eq, eq-eqb, ne_eqb}
-use Rattle.registry_model.specs.Call.{NameCall, Register, ReRegister, Unregister, Look, Whereis, RegisteredNames, Reply, Yes, No, Ok, UnknownNode, Pid, True, False, Joined, NotMember, ContactLeft, pid_or_undefined, is_grant, reply_to, seen_in}
+use Rattle.registry_model.specs.Call.{NameCall, Register, ReRegister, Unregister, Look, Whereis, RegisteredNames, NoticesOf, Reply, Yes, No, Ok, UnknownNode, Pid, True, False, Joined, NotMember, ContactLeft, pid_or_undefined, is_grant, reply_to, seen_in}
 use Rattle.registry_model.specs.Table.{Table, get}
 use Rattle.registry_model.specs.History.{Entry}
 use Rattle.registry_model.specs.Registry.{Replica}
@@ -49,6 +49,7 @@ seen_in-word v (Whereis x) = go (get x v.table)
     go None = refl
     go (Some p) = refl
 seen_in-word v RegisteredNames = refl
+seen_in-word v (NoticesOf p) = refl
 
 pub grant_word : (r : Reply) → is_grant r ≡ true → is_word r ≡ true
 grant_word Yes e = refl

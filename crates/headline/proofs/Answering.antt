@@ -4,7 +4,7 @@ use Rattle.std.specs.Prelude.{◌&&◌, not, if◌then◌else◌, is_some}
 use Rattle.std.specs.List.{list_any}
 use Rattle.registry_model.specs.Process.{Process, is_process, Nodes, at}
 use Rattle.registry_model.specs.Table.{get}
-use Rattle.registry_model.specs.Call.{Look, Whereis, RegisteredNames, Reply, Yes, Joined, NotMember, Pid, is_reply, is_grant, reply_to, change_of, pid_or_undefined, seen_in}
+use Rattle.registry_model.specs.Call.{Look, Whereis, RegisteredNames, NoticesOf, Reply, Yes, Joined, NotMember, Pid, is_reply, is_grant, reply_to, change_of, pid_or_undefined, seen_in}
 use Rattle.registry_model.specs.Settlement.{settle}
 use Rattle.registry_model.specs.History.{Entry}
 use Rattle.registry_model.specs.Registry.{Replica}
@@ -27,6 +27,7 @@ use Rattle.headline.proofs.Turns.{is_yes, begins, Tame, push_none, tame_same, ta
 -- no look-up is answered `yes`
 pub seen_in-yes : (v : Replica) (look : Look) → is_reply (seen_in v look) Yes ≡ false
 seen_in-yes v RegisteredNames = refl
+seen_in-yes v (NoticesOf p) = refl
 seen_in-yes v (Whereis x) = go (get x v.table)
   where
     go : (p : Option Process) → is_reply (pid_or_undefined p) Yes ≡ false
@@ -226,11 +227,11 @@ module _ (n a : ℕ) (number : ℕ → ℕ) where
       go (Current.Writing op asked awaited reply) = tame_none u e.answers
   tame_read f (Letter.Admit i settled) u e =
       tame_none (read n a number f (Letter.Admit i settled) u)
-      (kill-answers settled.fate.kills (with_replica (admitted i settled) u) ∙ e.answers)
+      (kill-answers settled.fate.kills (with_replica (admitted a i settled) u) ∙ e.answers)
   tame_read f (Letter.Welcome members pairs told fate) u e = go u.node.current
     where
       v : Turn
-      v = kill n a fate.kills (with_replica (welcomed members pairs told) u)
+      v = kill n a fate.kills (with_replica (welcomed a members pairs told fate) u)
 
       go : (c : Current) → Tame (welcome n a number f members pairs told fate c u)
       go (Current.Joining k m) = ends (m == f)
@@ -238,7 +239,7 @@ module _ (n a : ℕ) (number : ℕ → ℕ) where
           ends : (b : Bool) → Tame (if b then send f Letter.Applied
               (reply_with a k Joined (at_work Current.Free v)) else u)
           ends true = tame_idle (send f Letter.Applied (reply_with a k Joined (at_work Current.Free v))) refl
-              (ap (list_any begins) (kill-entries fate.kills (with_replica (welcomed members pairs told) u)) ∙ e.none)
+              (ap (list_any begins) (kill-entries fate.kills (with_replica (welcomed a members pairs told fate) u)) ∙ e.none)
           ends false = tame_none u e.answers
       go Current.Free = tame_none u e.answers
       go (Current.Asking op r) = tame_none u e.answers

@@ -1,16 +1,18 @@
 -- Which of the causes of an event is the first, and which events have which.
 use Rattle.std.proofs.Common.{ℕ, zero, suc, Bool, true, false, ◌≡◌, ◌==◌, ◌<◌, Some, None, List, [], ◌∷◌, ◌++◌, refl, sym, ap, ◌∙◌, arith}
-use Rattle.std.specs.Prelude.{◌&&◌, not, is_some, Contains, if◌then◌else◌}
+use Rattle.std.specs.Prelude.{◌&&◌, ◌||◌, not, is_some, Contains, if◌then◌else◌}
 use Rattle.std.specs.List.{list_any, list_all}
 use Rattle.std.proofs.lemmas.Bool.{ne_eqb}
 use Rattle.registry_model.specs.Process.{Text, Process, Nodes}
 use Rattle.registry_model.proofs.Lists.{Contains-front, Contains-behind}
-use Rattle.protocol_model.specs.Node.{Target, Retries, call_of}
-use Rattle.protocol_model.specs.Event.{Call, Event, Refusal, NoSuchNode, NodeLeft, NotLive, Busy, Reserved, UnknownNode, NoSuchProcess, AlreadyExited, SerialsSpent, AlreadyJoined, CallsSpent, last_u32, has_joined, Cause, cause, first_cause, lock_causes, calls_spent, names_members, global_resource}
+use Rattle.registry_model.specs.Call.{Look, Whereis, RegisteredNames, NoticesOf}
+use Rattle.protocol_model.specs.Watch.{is_dead, is_issued}
+use Rattle.protocol_model.specs.Node.{Node, Target, Retries, call_of}
+use Rattle.protocol_model.specs.Event.{Call, Event, Refusal, NoSuchNode, NodeLeft, NotLive, Busy, Reserved, UnknownNode, NoSuchProcess, AlreadyExited, SerialsSpent, AlreadyJoined, CallsSpent, last_u32, has_joined, Cause, cause, first_cause, lock_causes, look_causes, calls_spent, names_members, global_resource}
 use Rattle.protocol_model.specs.Fit.{is_numbered}
 use Rattle.protocol_model.specs.World.{World, WorldEvent, At, Deliver, local_causes}
-use Rattle.moves.proofs.Indices.{neither}
-use Rattle.protocol_model.specs.Refusals.{IsLockCall, Sets, Deletes}
+use Rattle.moves.proofs.Indices.{neither, not_true}
+use Rattle.protocol_model.specs.Refusals.{IsLockCall, Sets, Deletes, NeedsProcess, Exits, Looks}
 use Rattle.headline.proofs.Making.{item_passes}
 
 -- the refusals in the order in which they come
@@ -32,17 +34,12 @@ rank _ = 11
 abbrev pub is_kind : ℕ → Refusal → Bool
 is_kind k r = rank r == k
 
--- those that only lock calls have, and those that only exits have
+-- those that only lock calls have
 abbrev pub of_lock : Refusal → Bool
 of_lock (NotLive p) = true
 of_lock (Busy p) = true
 of_lock Reserved = true
 of_lock _ = false
-
-abbrev pub of_exit : Refusal → Bool
-of_exit NoSuchProcess = true
-of_exit AlreadyExited = true
-of_exit _ = false
 
 -- some of these refusals is of this kind
 abbrev pub has_cause : (Refusal → Bool) → List Cause → Bool
@@ -107,12 +104,20 @@ stranger_in s xs c h f = go (list_all s xs) refl
     go true e = cc (item_passes s xs c e h, f)
     go false e = refl
 
+-- a look-up is refused for its process alone
+look_kind : (kind : Refusal → Bool) → kind NoSuchProcess ≡ false → (a : ℕ) (v : Node) (look : Look)
+    → has_cause kind (look_causes a v look) ≡ false
+look_kind kind n a v (Whereis x) = refl
+look_kind kind n a v RegisteredNames = refl
+look_kind kind n a v (NoticesOf p) = ap (λ (b : Bool). b || false) n
+
 -- no event has a refusal of the world behind the first two
 pub local_world : (w : World) (e : WorldEvent) → (has_cause (is_kind 0) (local_causes w e) ≡ false)
     × (has_cause (is_kind 1) (local_causes w e) ≡ false)
 local_world w (Deliver f t) = (refl, refl)
 local_world w (At a (Event.Calling Call.Spawn)) = (refl, refl)
-local_world w (At a (Event.Calling (Call.LookUp look))) = (refl, refl)
+local_world w (At a (Event.Calling (Call.LookUp look))) =
+    (look_kind (is_kind 0) refl a (w.node a) look, look_kind (is_kind 1) refl a (w.node a) look)
 local_world w (At a (Event.Calling (Call.OnName c))) = (refl, refl)
 local_world w (At a (Event.Calling (Call.SetLock p r q target retries))) = (refl, refl)
 local_world w (At a (Event.Calling (Call.DelLock p r q target))) = (refl, refl)
@@ -153,36 +158,63 @@ module _ (w : World) where
   }
 
   -- an event with a refusal of lock calls is one, one with a refusal of exits is one, and one with a refusal of
-  -- `set_lock`s is one
+  -- `set_lock`s is one; one that is refused for a process that isn't needs one
   pub only_locks : (e : WorldEvent) (q : Refusal) → of_lock q ≡ true → first_cause (local_causes w e) ≡ Some q
       → (a : ℕ) × (p : Process) × (r : Text) × IsLockCall a p r e
   only_locks (Deliver f t) q k h = absurd (never_caused of_lock (local_causes w (Deliver f t)) q refl k h)
   only_locks (At a (Event.Calling (Call.SetLock p r z target retries))) q k h = (a, p, r, Sets z target retries)
   only_locks (At a (Event.Calling (Call.DelLock p r z target))) q k h = (a, p, r, Deletes z target)
+  only_locks (At a (Event.Calling (Call.LookUp look))) q k h = absurd (never_caused of_lock
+      (look_causes a (w.node a) look) q (look_kind of_lock refl a (w.node a) look) k h)
   only_locks (At a (Event.Calling c)) q k h =
       absurd (never_caused of_lock (local_causes w (At a (Event.Calling c))) q refl k h)
   only_locks (At a e) q k h = absurd (never_caused of_lock (local_causes w (At a e)) q refl k h)
 
-  pub only_exits : (e : WorldEvent) (q : Refusal) → of_exit q ≡ true → first_cause (local_causes w e) ≡ Some q
+  pub only_exits : (e : WorldEvent) → first_cause (local_causes w e) ≡ Some AlreadyExited
       → (a : ℕ) × (p : Process) × (e ≡ At a (Event.Exiting p))
-  only_exits (Deliver f t) q k h = absurd (never_caused of_exit (local_causes w (Deliver f t)) q refl k h)
-  only_exits (At a (Event.Exiting p)) q k h = (a, p, refl)
-  only_exits (At a (Event.Calling c)) q k h =
-      absurd (never_caused of_exit (local_causes w (At a (Event.Calling c))) q (go c) k h)
-    where
-      go : (c : Call) → has_cause of_exit (local_causes w (At a (Event.Calling c))) ≡ false
-      go Call.Spawn = refl
-      go (Call.LookUp look) = refl
-      go (Call.OnName c) = refl
-      go (Call.SetLock p r q target retries) = refl
-      go (Call.DelLock p r q target) = refl
-      go (Call.JoinBy m) = refl
-  only_exits (At a e) q k h = absurd (never_caused of_exit (local_causes w (At a e)) q refl k h)
+  only_exits (Deliver f t) h = absurd (never_caused (is_kind 7) (local_causes w (Deliver f t)) AlreadyExited refl refl h)
+  only_exits (At a (Event.Exiting p)) h = (a, p, refl)
+  only_exits (At a (Event.Calling (Call.LookUp look))) h = absurd (never_caused (is_kind 7) (look_causes a (w.node a) look)
+      AlreadyExited (look_kind (is_kind 7) refl a (w.node a) look) refl h)
+  only_exits (At a (Event.Calling c)) h =
+      absurd (never_caused (is_kind 7) (local_causes w (At a (Event.Calling c))) AlreadyExited refl refl h)
+  only_exits (At a e) h = absurd (never_caused (is_kind 7) (local_causes w (At a e)) AlreadyExited refl refl h)
+
+  pub only_needs : (e : WorldEvent) → first_cause (local_causes w e) ≡ Some NoSuchProcess
+      → (a : ℕ) × (p : Process) × NeedsProcess a p e × (is_issued a (w.node a).watch p ≡ false)
+  only_needs (Deliver f t) h = absurd (never_caused (is_kind 6) (local_causes w (Deliver f t)) NoSuchProcess refl refl h)
+  only_needs (At a (Event.Exiting p)) h = (
+    a,
+    p,
+    Exits,
+    not_true _
+        (cause_here (is_kind 6) (not (is_issued a (w.node a).watch p)) NoSuchProcess
+        (cause (is_dead (w.node a).watch p.serial) AlreadyExited ∷ []) NoSuchProcess refl refl h).0,
+  )
+  only_needs (At a (Event.Calling (Call.LookUp (NoticesOf p)))) h = (
+    a,
+    p,
+    Looks,
+    not_true _
+        (cause_here (is_kind 6) (not (is_issued a (w.node a).watch p)) NoSuchProcess [] NoSuchProcess refl refl h).0,
+  )
+  only_needs (At a (Event.Calling c)) h =
+      absurd (never_caused (is_kind 6) (local_causes w (At a (Event.Calling c))) NoSuchProcess refl refl h)
+  only_needs (At a e) h = absurd (never_caused (is_kind 6) (local_causes w (At a e)) NoSuchProcess refl refl h)
+
+  -- such an event is refused so where its process wasn't issued
+  pub unissued : (a : ℕ) (p : Process) (e : WorldEvent) → NeedsProcess a p e → is_issued a (w.node a).watch p ≡ false
+      → first_cause (local_causes w e) ≡ Some NoSuchProcess
+  unissued a p e Exits i = cause_hits (not (is_issued a (w.node a).watch p)) NoSuchProcess
+      (cause (is_dead (w.node a).watch p.serial) AlreadyExited ∷ []) (ap not i)
+  unissued a p e Looks i = cause_hits (not (is_issued a (w.node a).watch p)) NoSuchProcess [] (ap not i)
 
   pub only_sets : (e : WorldEvent) → first_cause (local_causes w e) ≡ Some UnknownNode
       → (a : ℕ) × (p : Process) × (r z : Text) × (target : Target) × (retries : Retries)
       × (e ≡ At a (Event.Calling (Call.SetLock p r z target retries)))
   only_sets (At a (Event.Calling (Call.SetLock p r z target retries))) h = (a, p, r, z, target, retries, refl)
+  only_sets (At a (Event.Calling (Call.LookUp look))) h = absurd (never_caused (is_kind 5) (look_causes a (w.node a) look)
+      UnknownNode (look_kind (is_kind 5) refl a (w.node a) look) refl h)
   only_sets (At a (Event.Calling c)) h =
       absurd (never_caused (is_kind 5) (local_causes w (At a (Event.Calling c))) UnknownNode refl refl h)
   only_sets (At a e) h = absurd (never_caused (is_kind 5) (local_causes w (At a e)) UnknownNode refl refl h)
@@ -192,6 +224,8 @@ module _ (w : World) where
   pub only_spawns : (e : WorldEvent) → first_cause (local_causes w e) ≡ Some SerialsSpent
       → (a : ℕ) × (e ≡ At a (Event.Calling Call.Spawn))
   only_spawns (At a (Event.Calling Call.Spawn)) h = (a, refl)
+  only_spawns (At a (Event.Calling (Call.LookUp look))) h = absurd (never_caused (is_kind 8) (look_causes a (w.node a) look)
+      SerialsSpent (look_kind (is_kind 8) refl a (w.node a) look) refl h)
   only_spawns (At a (Event.Calling c)) h =
       absurd (never_caused (is_kind 8) (local_causes w (At a (Event.Calling c))) SerialsSpent refl refl h)
   only_spawns (At a e) h = absurd (never_caused (is_kind 8) (local_causes w (At a e)) SerialsSpent refl refl h)
@@ -200,6 +234,8 @@ module _ (w : World) where
   pub only_joins : (e : WorldEvent) → first_cause (local_causes w e) ≡ Some AlreadyJoined
       → (a : ℕ) × (m : ℕ) × (e ≡ At a (Event.Calling (Call.JoinBy m)))
   only_joins (At a (Event.Calling (Call.JoinBy m))) h = (a, m, refl)
+  only_joins (At a (Event.Calling (Call.LookUp look))) h = absurd (never_caused (is_kind 9) (look_causes a (w.node a) look)
+      AlreadyJoined (look_kind (is_kind 9) refl a (w.node a) look) refl h)
   only_joins (At a (Event.Calling c)) h =
       absurd (never_caused (is_kind 9) (local_causes w (At a (Event.Calling c))) AlreadyJoined refl refl h)
   only_joins (At a e) h = absurd (never_caused (is_kind 9) (local_causes w (At a e)) AlreadyJoined refl refl h)
@@ -254,7 +290,7 @@ module _ (w : World) where
     where
       none : (call : Call) → is_numbered call ≡ false → has_cause (is_kind 10) (local_causes w (At a (Event.Calling call))) ≡ false
       none Call.Spawn n = refl
-      none (Call.LookUp look) n = refl
+      none (Call.LookUp look) n = look_kind (is_kind 10) refl a (w.node a) look
       none _ n = cc
 
       go : (b : Bool) → is_numbered call ≡ b

@@ -7,10 +7,11 @@ use Rattle.std.proofs.Math.Path.{fun_ext}
 use Rattle.std.proofs.lemmas.Bool.{eq-eqb, and_from}
 use Rattle.std.proofs.lemmas.List.Folds.{list_all-append}
 use Rattle.std.proofs.Math.Bool.{and-true}
-use Rattle.registry_model.specs.Process.{Nodes, nobody, at}
+use Rattle.registry_model.specs.Process.{Process, Nodes, nobody, at}
 use Rattle.registry_model.specs.Table.{Table, without, changed, StrikeOwner}
 use Rattle.registry_model.specs.Call.{is_grant, change_of}
-use Rattle.registry_model.specs.Registry.{Registry, Replica, with_table, replica_of}
+use Rattle.registry_model.specs.Settlement.{Notice}
+use Rattle.registry_model.specs.Registry.{Registry, Replica, with_table, process_of, replica_of}
 use Rattle.registry_model.specs.History.{Entry, Name, Strike, Join, Done, Exit, Left, Told, Read, Standing, effect, after, nothing_yet}
 use Rattle.registry_model.specs.Legal.{is_legal, all_legal, IsLegal}
 use Rattle.registry_model.proofs.HistoryParts.{registry-after}
@@ -131,11 +132,12 @@ all_settled (Exit p ∷ es) l h = all_settled es l h
 all_settled (Told n d ∷ es) l h = all_settled es l h
 all_settled (Read n look reply ∷ es) l h = all_settled es l h
 
--- the cluster is that of the opening, nobody has left and nobody is told of a departure
+-- the cluster is that of the opening, nobody has left, nobody is told of a departure, and nobody was sent anything
 pub record IsFixed (cluster : Nodes) (r : Registry) : Type 0 where
   pub joined : (c : ℕ) → r.joined c ≡ cluster c
   pub left : (c : ℕ) → r.left c ≡ false
   pub told : (n d : ℕ) → r.told n d ≡ false
+  pub notices : (p : Process) → r.notices p ≡ []
 
 fixed_table : (cluster : Nodes) (n : ℕ) (f : Table → Table) (r : Registry) → IsFixed cluster r
     → IsFixed cluster (with_table n f r)
@@ -143,8 +145,8 @@ fixed_table cluster n f r F = go (r.joined n)
   where
     go : (b : Bool) → IsFixed cluster
         (if b then record r { table = f r.table } else record r { lone = at r.lone n (f (r.lone n)) })
-    go true = record { joined = F.joined; left = F.left; told = F.told }
-    go false = record { joined = F.joined; left = F.left; told = F.told }
+    go true = record { joined = F.joined; left = F.left; told = F.told; notices = F.notices }
+    go false = record { joined = F.joined; left = F.left; told = F.told; notices = F.notices }
 
 fixed_after : (cluster : Nodes) (s : Standing) (e : Entry) → IsFixed cluster s.registry → is_legal s e ≡ true
     → is_settled e ≡ true → IsFixed cluster (effect e s.registry)
@@ -156,7 +158,7 @@ fixed_after cluster s (Name n k call reply) F l i = go (is_grant reply)
 fixed_after cluster s (Strike p) F l i = fixed_table cluster p.node (changed (StrikeOwner p)) s.registry F
 fixed_after cluster s (Join j k m reply) F l i = cc
 fixed_after cluster s (Done n) F l i = F
-fixed_after cluster s (Exit p) F l i = record { joined = F.joined; left = F.left; told = F.told }
+fixed_after cluster s (Exit p) F l i = record { joined = F.joined; left = F.left; told = F.told; notices = F.notices }
 fixed_after cluster s (Left d) F l i = cc
 fixed_after cluster s (Told n d) F l i = cc (F.left d, l)
 fixed_after cluster s (Read n look reply) F l i = F
@@ -182,7 +184,7 @@ without_none gone (e ∷ t) none = ap (λ (b : Bool). if not b then e ∷ withou
 
 -- what a node of a fixed cluster shows
 fixed_replica : (cluster : Nodes) (r : Registry) → IsFixed cluster r → (a : ℕ) → cluster a ≡ true
-    → replica_of r a ≡ record { table = r.table; members = cluster; told = nobody; joined = true }
+    → replica_of r a ≡ record { table = r.table; members = cluster; told = nobody; joined = true; notices = λ serial. [] }
 fixed_replica cluster r F a inside = go (without (r.told a) (if r.joined a then r.table else r.lone a))
     (ap (λ (b : Bool). without (r.told a) (if b then r.table else r.lone a)) joined
     ∙ without_none (r.told a) r.table (F.told a))
@@ -190,17 +192,27 @@ fixed_replica cluster r F a inside = go (without (r.told a) (if r.joined a then 
     (fun_ext (λ c. ap (λ (b : Bool). (if b then r.joined c else c == a) && not (r.told a c)) joined
     ∙ ap (λ (b : Bool). r.joined c && not b) (F.told a c) ∙ and-true (r.joined c) ∙ F.joined c))
     (r.told a) (fun_ext (F.told a)) (r.joined a) joined
+    (λ serial. r.notices (process_of a serial)) (fun_ext (λ serial. F.notices (process_of a serial)))
   where
     joined : r.joined a ≡ true
     joined = F.joined a ∙ inside
 
     go : (t : Table) → t ≡ r.table → (m : Nodes) → m ≡ cluster → (g : Nodes) → g ≡ nobody → (j : Bool) → j ≡ true
-        → ◌≡◌ {A = Replica} (record { table = t; members = m; told = g; joined = j })
-        (record { table = r.table; members = cluster; told = nobody; joined = true })
-    go t te m me g ge j je = ap (λ (x : Table). record { table = x; members = m; told = g; joined = j }) te
-        ∙ ap (λ (x : Nodes). record { table = r.table; members = x; told = g; joined = j }) me
-        ∙ ap (λ (x : Nodes). record { table = r.table; members = cluster; told = x; joined = j }) ge
-        ∙ ap (λ (x : Bool). record { table = r.table; members = cluster; told = nobody; joined = x }) je
+        → (ns : ℕ → List Notice) → ns ≡ (λ serial. [])
+        → ◌≡◌ {A = Replica} (record { table = t; members = m; told = g; joined = j; notices = ns })
+        (record { table = r.table; members = cluster; told = nobody; joined = true; notices = λ serial. [] })
+    go t te m me g ge j je ns ne =
+        ap (λ (x : Table). record { table = x; members = m; told = g; joined = j; notices = ns }) te
+        ∙ ap (λ (x : Nodes). record { table = r.table; members = x; told = g; joined = j; notices = ns }) me
+        ∙ ap (λ (x : Nodes). record { table = r.table; members = cluster; told = x; joined = j; notices = ns }) ge
+        ∙ ap (λ (x : Bool). record { table = r.table; members = cluster; told = nobody; joined = x; notices = ns }) je
+        ∙ ap (λ (x : ℕ → List Notice). record {
+          table = r.table;
+          members = cluster;
+          told = nobody;
+          joined = true;
+          notices = x;
+        }) ne
 
 -- the headline without joins and departures
 pub fixed_membership : FixedAgreement
@@ -233,6 +245,6 @@ fixed_membership o es h = record {
 
     fixed : IsFixed (in_cluster o) (so_far o es).registry
     fixed = fixed_along (in_cluster o) (entries_of ps) (nothing_yet (in_cluster o))
-        (record { joined = λ c. refl; left = λ c. refl; told = λ n d. refl })
+        (record { joined = λ c. refl; left = λ c. refl; told = λ n d. refl; notices = λ p. refl })
         (subst (λ (es : List Entry). IsLegal (in_cluster o) es) (history_grows o es) (history_is_legal o es))
         (all_settled (entries_of ps) (fits.departures ∙ no_leave ps held) names)

@@ -7,9 +7,9 @@ use Rattle.protocol_model.specs.Watch.{is_dead, is_live, is_issued}
 use Rattle.protocol_model.specs.Event.{Event, Refusal, NoSuchNode, NodeLeft, NotLive, NoSuchProcess, AlreadyExited, cause, first_cause}
 use Rattle.protocol_model.specs.World.{Opening, in_world, World, WorldEvent, At, place, other, left, refusal, local_causes}
 use Rattle.protocol_model.specs.Course.{Played, Seen, standing, seen}
-use Rattle.protocol_model.specs.Refusals.{FindsItsNode, IsLockCall, IsLiveAt, IsIssuedBy, IsNowhere, IsLate, IsOfNobody, IsExitOfNone, IsExitOfDead}
+use Rattle.protocol_model.specs.Refusals.{FindsItsNode, IsLockCall, IsLiveAt, IsIssuedBy, NeedsProcess, IsNowhere, IsLate, IsOfNobody, IsOfNone, IsExitOfDead}
 use Rattle.moves.proofs.Indices.{neither, both, not_true, not_false}
-use Rattle.headline.proofs.Causes.{is_kind, of_lock, second, cause_behind, cause_here, cause_past, cause_hits, above_zero, not_zero, local_world, Locking, locking, only_locks, only_exits}
+use Rattle.headline.proofs.Causes.{is_kind, of_lock, second, cause_behind, cause_here, cause_past, cause_hits, above_zero, not_zero, local_world, Locking, locking, only_locks, only_exits, only_needs, unissued}
 use Rattle.headline.proofs.Spawning.{serial_at}
 use Rattle.headline.proofs.NextSerial.{last_at, Spawned}
 
@@ -107,7 +107,7 @@ module _ (o : Opening) (ps : List Played) (w : World) (departed : (d : ℕ) → 
       least : p.serial ≤ serial_at w a
       least = ltb-false (serial_at w a) p.serial (not_true _ parts.1)
 
-  seen_issued : (a : ℕ) (p : Process) → IsIssuedBy ps a p → is_issued a (w.node a).watch p ≡ true
+  pub seen_issued : (a : ℕ) (p : Process) → IsIssuedBy ps a p → is_issued a (w.node a).watch p ≡ true
   seen_issued a p I = and_from _ _ (and_from _ _ (eq-eqb p.node a I.home) (not_zero p.serial I.serial))
       (ap not (go (nat_lt (serial_at w a) p.serial) refl))
     where
@@ -210,35 +210,22 @@ module _ (o : Opening) (ps : List Played) (w : World) (departed : (d : ℕ) → 
       ∙ cause_hits (not (is_live N.node (w.node N.node).watch p)) (NotLive p) (second w N.node p N.resource L.more)
       (ap not (not_seen N.node p N.nobody))
 
-  -- of an exit: as one of a process that isn't
-  pub to_none : (e : WorldEvent) → refusal o w e ≡ Some NoSuchProcess → IsExitOfNone o ps now e
-  to_none e h = record {
-    found = F.0;
-    node = x.0;
-    process = x.1;
-    exit = x.2;
-    none = λ I. cc (
-      seen_issued x.0 x.1 I,
-      not_true (is_issued x.0 (w.node x.0).watch x.1)
-          (cause_here (is_kind 6) (not (is_issued x.0 (w.node x.0).watch x.1)) NoSuchProcess
-          (cause (is_dead (w.node x.0).watch x.1.serial) AlreadyExited ∷ []) NoSuchProcess refl refl
-          (ap (λ (e : WorldEvent). first_cause (local_causes w e)) (sym x.2) ∙ F.1)).0,
-    );
-  }
+  -- of an exit, or a look at notices: as of a process that isn't
+  pub to_none : (e : WorldEvent) → refusal o w e ≡ Some NoSuchProcess → IsOfNone o ps now e
+  to_none e h =
+      record { found = F.0; node = x.0; process = x.1; needs = x.2; none = λ I. cc (seen_issued x.0 x.1 I, x.3) }
     where
       F : Found e × (first_cause (local_causes w e) ≡ Some NoSuchProcess)
       F = found (is_kind 6) e NoSuchProcess refl refl refl h
 
-      x : (a : ℕ) × (p : Process) × (e ≡ At a (Event.Exiting p))
-      x = only_exits w e NoSuchProcess refl F.1
+      x : (a : ℕ) × (p : Process) × NeedsProcess a p e × (is_issued a (w.node a).watch p ≡ false)
+      x = only_needs w e F.1
 
-  pub from_none : (e : WorldEvent) → IsExitOfNone o ps now e → refusal o w e ≡ Some NoSuchProcess
-  from_none e N = as_local e N.found ∙ ap (λ (e : WorldEvent). first_cause (local_causes w e)) N.exit
-      ∙ cause_hits (not (is_issued N.node (w.node N.node).watch N.process)) NoSuchProcess
-      (cause (is_dead (w.node N.node).watch N.process.serial) AlreadyExited ∷ [])
-      (ap not (not_issued N.node N.process N.none))
+  pub from_none : (e : WorldEvent) → IsOfNone o ps now e → refusal o w e ≡ Some NoSuchProcess
+  from_none e N =
+      as_local e N.found ∙ unissued w N.node N.process e N.needs (not_issued N.node N.process N.none)
 
-  -- and as one of a dead process
+  -- of an exit: as one of a dead process
   pub to_dead : (e : WorldEvent) → refusal o w e ≡ Some AlreadyExited → IsExitOfDead o ps now e
   to_dead e h = record {
     found = F.0;
@@ -254,7 +241,7 @@ module _ (o : Opening) (ps : List Played) (w : World) (departed : (d : ℕ) → 
       F = found (is_kind 7) e AlreadyExited refl refl refl h
 
       x : (a : ℕ) × (p : Process) × (e ≡ At a (Event.Exiting p))
-      x = only_exits w e AlreadyExited refl F.1
+      x = only_exits w e F.1
 
       B : (not (is_issued x.0 (w.node x.0).watch x.1) ≡ false)
           × (first_cause (cause (is_dead (w.node x.0).watch x.1.serial) AlreadyExited ∷ []) ≡ Some AlreadyExited)

@@ -3,14 +3,14 @@ use Rattle.std.proofs.Common.{ℕ, Bool, true, false, ◌==◌, ◌≡◌, List,
 use Rattle.std.specs.Prelude.{not}
 use Rattle.std.proofs.lemmas.Bool.{eq-eqb, and_from}
 use Rattle.registry_model.specs.Process.{Nodes}
-use Rattle.registry_model.specs.Table.{Pair}
-use Rattle.registry_model.specs.Call.{NameCall, Look, Whereis, RegisteredNames}
+use Rattle.registry_model.specs.Table.{Rule, Pair}
+use Rattle.registry_model.specs.Call.{NameCall, Look, Whereis, RegisteredNames, NoticesOf}
 use Rattle.registry_model.specs.Registry.{Replica}
 use Rattle.registry_model.specs.History.{Entry}
 use Rattle.registry_model.proofs.Lists.{is_process-same}
 use Rattle.protocol_model.specs.Event.{Answer}
 use Rattle.protocol_model.specs.Fit.{Numbered, NameAs, JoinAs, IsPrefix}
-use Rattle.protocol_model.specs.Tests.{is_truth, are_nodes, is_list, is_prefix, is_pair, is_replica, is_call, is_numbered_call, is_look, is_answer, is_entry, are_entries}
+use Rattle.protocol_model.specs.Tests.{is_truth, are_nodes, is_list, is_prefix, is_rule, is_pair, is_replica, is_call, is_numbered_call, is_look, is_answer, is_entry, are_entries}
 use Rattle.moves.proofs.Indices.{is_empty_from}
 use Rattle.replicas.proofs.Granting.{is_reply-same}
 
@@ -54,8 +54,13 @@ pub prefix_of : {A : Type 0} (is : A → A → Bool) → ((x : A) → is x x ≡
 prefix_of {A} is same xs ys (zs, e) =
     subst (λ (us : List A). is_prefix is xs us ≡ true) (sym e) (prefix is same xs zs)
 
+pub rule : (r : Rule) → is_rule r r ≡ true
+rule Rule.Exit = refl
+rule Rule.Notify = refl
+rule Rule.NotifyAll = refl
+
 pub pair : (f : Pair) → is_pair f f ≡ true
-pair f = and_from (f.name == f.name) _ (number f.name) (is_process-same f.owner)
+pair f = and_from _ _ (and_from (f.name == f.name) _ (number f.name) (is_process-same f.owner)) (rule f.rule)
 
 pub replica : (n : ℕ) (v : Replica) → is_replica n v v ≡ true
 replica n v = and_from _ _ (and_from _ _ (and_from _ _ (list is_pair pair v.table)
@@ -73,6 +78,7 @@ numbered_call (JoinAs k m) = and_from _ _ (number k) (number m)
 pub look : (l : Look) → is_look l l ≡ true
 look (Whereis x) = number x
 look RegisteredNames = refl
+look (NoticesOf p) = is_process-same p
 
 pub answer : (s : Answer) → is_answer s s ≡ true
 answer s = and_from _ _ (and_from _ _ (number s.node) (number s.number)) (is_reply-same s.reply)

@@ -4,14 +4,14 @@ use Rattle.std.specs.Prelude.{◌&&◌}
 use Rattle.std.proofs.Math.Path.{ap₂}
 use Rattle.std.proofs.lemmas.Bool.{eqb-true, and_parts}
 use Rattle.registry_model.specs.Process.{Text, Process, is_process, Nodes}
-use Rattle.registry_model.specs.Table.{Pair, Table}
-use Rattle.registry_model.specs.Call.{NameCall, Look, Whereis, RegisteredNames, Reply, is_reply}
+use Rattle.registry_model.specs.Table.{Rule, Pair, Table}
+use Rattle.registry_model.specs.Call.{NameCall, Look, Whereis, RegisteredNames, NoticesOf, Reply, is_reply}
 use Rattle.registry_model.specs.History.{Entry}
 use Rattle.registry_model.proofs.Lists.{is_process-true}
 use Rattle.registry_model.proofs.Legality.{is_reply-true}
 use Rattle.protocol_model.specs.Event.{Answer}
 use Rattle.protocol_model.specs.Fit.{Numbered, NameAs, JoinAs, IsPrefix}
-use Rattle.protocol_model.specs.Tests.{is_truth, are_nodes, is_list, is_prefix, is_pair, is_table, is_call, is_numbered_call, is_look, is_answer, is_entry, are_entries}
+use Rattle.protocol_model.specs.Tests.{is_truth, are_nodes, is_list, is_prefix, is_rule, is_pair, is_table, is_call, is_numbered_call, is_look, is_answer, is_entry, are_entries}
 use Rattle.moves.proofs.Indices.{empty_at, not_false}
 
 pub number : (a b : ℕ) → (a == b) ≡ true → a ≡ b
@@ -48,11 +48,21 @@ prefix {A} is one (x ∷ xs) (y ∷ ys) e =
     let first : x ≡ y = one x y parts.0 in
     (zs, ap₂ (λ (z : A) (us : List A). z ∷ us) (sym first) i)
 
+pub rule : (r s : Rule) → is_rule r s ≡ true → r ≡ s
+rule Rule.Exit Rule.Exit e = refl
+rule Rule.Notify Rule.Notify e = refl
+rule Rule.NotifyAll Rule.NotifyAll e = refl
+rule _ _ e = cc
+
 pub pair : (f g : Pair) → is_pair f g ≡ true → f ≡ g
 pair f g e =
-    let parts : ((f.name == g.name) ≡ true) × (is_process f.owner g.owner ≡ true) = and_parts _ _ e in
-    ap₂ (λ (x : Text) (p : Process). let h : Pair = record { name = x; owner = p } in
-    h) (number f.name g.name parts.0) (is_process-true f.owner g.owner parts.1)
+    let one : ((f.name == g.name) && is_process f.owner g.owner ≡ true) × (is_rule f.rule g.rule ≡ true) =
+    and_parts _ _ e in
+    let two : ((f.name == g.name) ≡ true) × (is_process f.owner g.owner ≡ true) = and_parts _ _ one.0 in
+    ap₂ (λ (x : Text) (p : Process). let h : Pair = record { name = x; owner = p; rule = f.rule } in
+    h) (number f.name g.name two.0) (is_process-true f.owner g.owner two.1)
+    ∙ ap (λ (r : Rule). let h : Pair = record { name = g.name; owner = g.owner; rule = r } in
+    h) (rule f.rule g.rule one.1)
 
 pub table : (t u : Table) → is_table t u ≡ true → t ≡ u
 table t u e = list is_pair pair t u e
@@ -75,6 +85,7 @@ numbered_call _ _ e = cc
 pub look : (l k : Look) → is_look l k ≡ true → l ≡ k
 look (Whereis x) (Whereis y) e = ap Whereis (number x y e)
 look RegisteredNames RegisteredNames e = refl
+look (NoticesOf p) (NoticesOf q) e = ap NoticesOf (is_process-true p q e)
 look _ _ e = cc
 
 -- an answer by its parts

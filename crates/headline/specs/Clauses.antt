@@ -10,7 +10,7 @@ use Rattle.protocol_model.specs.World.{Opening, in_cluster, World, WorldEvent, A
 use Rattle.protocol_model.specs.Course.{Played, Seen, entries_of, course, seen}
 use Rattle.protocol_model.specs.Fit.{IsPrefix, IsMadeIn, Fits}
 use Rattle.protocol_model.specs.Answers.{answer_to, answers_at, entered_at, is_unnumbered, AnswersInTime, LooksUpOnce, IsNextProcess, AnswersCalls, JoinerIsAnswered}
-use Rattle.protocol_model.specs.Refusals.{SaysWhy}
+use Rattle.protocol_model.specs.Refusals.{MayLookUp, SaysWhy}
 use Rattle.protocol_model.specs.Headline.{standing, Shows, IsRunning, GroupShows, DecidedUnderLock, EachStep}
 
 module _ (o : Opening) (es : List WorldEvent) where
@@ -62,9 +62,10 @@ IsDecidedUnderLock = (o : Opening) (es : List WorldEvent) → DecidedUnderLock o
 abbrev pub EachLookUpOnce : Type 0
 EachLookUpOnce = (o : Opening) (es : List WorldEvent) (p : Played) → Contains (events o es) p → LooksUpOnce p
 
--- a look-up is answered what its node shows
+-- a look-up is answered what its node shows; that of notices, where the process was spawned
 abbrev pub LookUpsReadTheTable : Type 0
 LookUpsReadTheTable = (o : Opening) (es : List WorldEvent) (a : ℕ) (look : Look) → IsRunning o (so_far o es) a →
+    MayLookUp (events o es) a look →
     filter is_unnumbered ((now o es).answers (At a (Event.Calling (Call.LookUp look))))
     ≡ answer_to a 0 (seen_in ((now o es).node a) look) ∷ []
 

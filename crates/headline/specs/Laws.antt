@@ -121,13 +121,14 @@ pub record FixedMembership (o : Opening) (es : List WorldEvent) : Type 0 where
   pub cluster : (c : ℕ) → (so_far o es).registry.joined c ≡ in_cluster o c
   pub stays : (c : ℕ) → (so_far o es).registry.left c ≡ false
   -- while no operation of the cluster holds, each of its nodes shows the registry's table, with the whole cluster as
-  -- members
+  -- members, and nobody was sent anything
   pub shows : (a : ℕ) → in_cluster o a ≡ true → (so_far o es).held ≡ None →
       (now o es).node a ≡ record {
         table = (so_far o es).registry.table;
         members = in_cluster o;
         told = nobody;
         joined = true;
+        notices = λ serial. [];
       }
 
 -- The headline for every list of events without joins and departures

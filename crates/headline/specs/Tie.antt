@@ -1,6 +1,6 @@
 -- The test that rows are checked by asks the headline, and no more; and where it passes, the headline stands as far as the nodes
 -- below the bound tell. It doesn't ask `exited` and `welcomed`, nor what a node would answer or refuse next, but for leaves: that
--- is `reads`, `spawns` and `refusals`.
+-- is `reads`, `spawns` and `refusals`; nor, of what a node shows, the notices.
 use mathlib.Core.Logic.{◌⊎◌}
 use Rattle.std.specs.Prelude.{ℕ, true, ◌==◌, ◌≡◌, ◌<◌, IsTrue, Contains, Some, None, option_map, filter, flat_map, fold, List, [], ◌∷◌, ◌++◌, if◌then◌else◌}
 use Rattle.registry_model.specs.Call.{Yes}
@@ -22,14 +22,14 @@ abbrev pub TestAsksTheHeadline : Type 0
 TestAsksTheHeadline = (o : Opening) (es : List WorldEvent) → ((first : List WorldEvent) → IsPrefix first es → Headline o (events o first) (now o first)) →
     keeps_headline o es ≡ true
 
--- two replicas are one, as far as the nodes below n tell
+-- two replicas are one, as far as the nodes below n tell, but for their notices
 pub record IsReplicaBelow (n : ℕ) (v u : Replica) : Type 0 where
   pub table : v.table ≡ u.table
   pub members : (c : ℕ) → c < n → v.members c ≡ u.members c
   pub told : (c : ℕ) → c < n → v.told c ≡ u.told c
   pub joined : v.joined ≡ u.joined
 
--- node a shows the registry, as far as the nodes below the bound tell
+-- node a shows the registry, as far as the nodes below the bound tell, but for notices
 abbrev pub ShowsBelow : Opening → Registry → ℕ → Seen → Type 0
 ShowsBelow o r a now = IsReplicaBelow o.bound (now.node a) (replica_of r a)
 

@@ -59,7 +59,7 @@ pub fn looks_up_once()
     ensures { EachLookUpOnce }
 {}
 
-/// A look-up is answered from the table that its node shows.
+/// A look-up is answered what its node shows.
 pub fn look_ups_read_the_table()
     ensures { LookUpsReadTheTable }
 {}
@@ -176,8 +176,8 @@ pub fn test_asks_the_headline()
     ensures { TestAsksTheHeadline }
 {}
 
-/// Where the test passes, the headline stands as far as the nodes below the bound tell: so the test asks all of its clauses but
-/// `exited`, `welcomed` and those of what a node would answer or refuse next, `reads`, `spawns` and `refusals`.
+/// Where the test passes, the headline stands as far as the nodes below the bound tell, but for notices: so the test asks all of its
+/// clauses but `exited`, `welcomed` and those of what a node would answer or refuse next, `reads`, `spawns` and `refusals`.
 pub fn headline_where_test_passes()
     ensures { HeadlineWhereTestPasses }
 {}

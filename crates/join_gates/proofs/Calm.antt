@@ -1,9 +1,9 @@
 -- The rules that move no gate: what they send and take, and what they make of their node.
 use Rattle.std.proofs.Common.{ℕ, Bool, true, false, ◌≡◌, ◌==◌, ◌+◌, Option, Some, None, List, [], ◌∷◌, ◌++◌, refl, sym, ap, ◌∙◌, subst}
-use Rattle.std.specs.Prelude.{◌&&◌, ◌||◌, not, if◌then◌else◌, fold}
+use Rattle.std.specs.Prelude.{◌&&◌, ◌||◌, not, if◌then◌else◌}
 use Rattle.std.proofs.lemmas.List.{append-nil}
 use Rattle.registry_model.specs.Process.{nodes_of, at}
-use Rattle.registry_model.specs.Table.{Table, Put, StrikeOwner}
+use Rattle.registry_model.specs.Table.{Table, StrikeOwner}
 use Rattle.registry_model.specs.Call.{Reply, change_of}
 use Rattle.registry_model.specs.Registry.{Replica}
 use Rattle.registry_model.specs.History.{Entry}
@@ -11,7 +11,7 @@ use Rattle.registry_model.specs.Settlement.{Settled}
 use Rattle.protocol_model.specs.Round.{Round, opens, rest, asked, answer}
 use Rattle.protocol_model.specs.Letter.{Letter, Global}
 use Rattle.protocol_model.specs.LockTable.{is_free_for}
-use Rattle.protocol_model.specs.Node.{Node, Op, Current, wrote, targets}
+use Rattle.protocol_model.specs.Node.{Node, Op, Current, targets}
 use Rattle.protocol_model.specs.Event.{is_join, is_joining}
 use Rattle.protocol_model.specs.Client.{is_spent}
 use Rattle.protocol_model.specs.Reading.{with_member, admitted}
@@ -20,6 +20,7 @@ use Rattle.protocol_model.specs.Turn.{Turn, begun, enter, send_all}
 use Rattle.protocol_model.specs.World.{Opening, World, in_world}
 use Rattle.moves.proofs.Rules
 use Rattle.moves.proofs.Indices.{neither, not_true}
+use Rattle.moves.proofs.Writes.{wrote_all-keeps}
 use Rattle.join_gates.proofs.Tokens.{are_plain, are_plain-append, are_plain-each, admissions, admissions-append, asked_for}
 use Rattle.join_gates.proofs.Gates.{OnceIn, has_join, has_one}
 use Rattle.join_gates.proofs.Turns.{Quietly, quiet_same, quiet_work, is_plain_taken}
@@ -186,17 +187,12 @@ once_tail b c d op ops e O = record {
   queue = tail_one op ops O.queue;
 }
 
-along : (puts : Table) (v : Replica) → ((fold (λ x e. wrote (Put e) x) v puts).joined ≡ v.joined)
-    × ((fold (λ x e. wrote (Put e) x) v puts).told ≡ v.told)
-along [] v = (refl, refl)
-along (e ∷ puts) v = along puts (wrote (Put e) v)
-
 -- an admission leaves who is joined and who was told
-pub admitted-same : (j : ℕ) (settled : Settled) (v : Replica)
-    → ((admitted j settled v).joined ≡ v.joined) × ((admitted j settled v).told ≡ v.told)
-admitted-same j settled v = (
-  (along settled.puts (with_member j v)).0 ∙ (member (v.told j)).0,
-  (along settled.puts (with_member j v)).1 ∙ (member (v.told j)).1,
+pub admitted-same : (a j : ℕ) (settled : Settled) (v : Replica)
+    → ((admitted a j settled v).joined ≡ v.joined) × ((admitted a j settled v).told ≡ v.told)
+admitted-same a j settled v = (
+  (wrote_all-keeps settled (with_member j v)).joined ∙ (member (v.told j)).0,
+  (wrote_all-keeps settled (with_member j v)).told ∙ (member (v.told j)).1,
 )
   where
     member : (b : Bool) → ((if b then v else record v { members = at v.members j true }).joined ≡ v.joined)
@@ -330,8 +326,8 @@ quietly o a w (Rules.Finishes op them awaited reply) e M =
     same : (answer_op o.bound a op reply (enter (Entry.Done a) (begun v))).node ≡ v
     same = node-answer_op o.bound a op reply (enter (Entry.Done a) (begun v))
 quietly o a w (Rules.IsAdmitted f j settled) e M =
-    quiet_same (w.node a) _ refl refl (admitted-same j settled (w.node a).replica).0
-    (admitted-same j settled (w.node a).replica).1
+    quiet_same (w.node a) _ refl refl (admitted-same a j settled (w.node a).replica).0
+    (admitted-same a j settled (w.node a).replica).1
 quietly o a w (Rules.Judges f id p) e M = quiet-if (is_free_for id p (w.node a).locks) (w.node a) _ (begun (w.node a))
     (quiet_same (w.node a) _ refl refl refl refl) (quiet_same (w.node a) _ refl refl refl refl)
 quietly o a w (Rules.TakesBack f id p ack) e M = quiet-if ack (w.node a) _ _

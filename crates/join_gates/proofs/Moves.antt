@@ -4,9 +4,9 @@ use Rattle.std.specs.Prelude.{◌||◌, if◌then◌else◌, fold}
 use Rattle.std.proofs.lemmas.Bool.{eq-eqb, ne_eqb}
 use Rattle.std.proofs.lemmas.List.{append-nil, append_assoc}
 use Rattle.registry_model.specs.Process.{Nodes, nodes_of, at}
-use Rattle.registry_model.specs.Table.{Table, put_all}
+use Rattle.registry_model.specs.Table.{Table}
 use Rattle.registry_model.specs.Call.{Joined}
-use Rattle.registry_model.specs.Settlement.{Fate, Settled, settle}
+use Rattle.registry_model.specs.Settlement.{Fate, Settled, with_settled, settle}
 use Rattle.registry_model.specs.History.{Entry, Standing, is_holding, after}
 use Rattle.registry_model.specs.Legal.{is_legal, all_legal}
 use Rattle.protocol_model.specs.Letter.{Letter}
@@ -336,7 +336,7 @@ admits o a w gate j pairs r R2 M G = moved o w v gate j a Entering (knocks_on w 
     admit = Letter.Admit j s
 
     welcome : Letter
-    welcome = Letter.Welcome (at (w.node a).replica.members j true) (put_all s.puts (w.node a).replica.table)
+    welcome = Letter.Welcome (at (w.node a).replica.members j true) (with_settled s (w.node a).replica.table)
         (w.node a).replica.told s.fate
 
     to_members : List Send

@@ -61,11 +61,11 @@ find_write o w P (Letter.JoinRefused ∷ ls) e E =
 find_write o w P (_ ∷ ls) e E = find_write o w P ls e E.1
 
 -- but for a welcome it leaves open who is joined
-acts-joined : (o : Opening) (w : World) (l : Letter) (v : Replica) → is_welcome l ≡ false
-    → (acts o w l v).joined ≡ v.joined
-acts-joined o w (Letter.Welcome members pairs told fate) v e = cc
-acts-joined o w (Letter.Admit j settled) v e = (admitted-same j settled v).0
-acts-joined o w _ v e = refl
+acts-joined : (o : Opening) (w : World) (a : ℕ) (l : Letter) (v : Replica) → is_welcome l ≡ false
+    → (acts o w a l v).joined ≡ v.joined
+acts-joined o w a (Letter.Welcome members pairs told fate) v e = cc
+acts-joined o w a (Letter.Admit j settled) v e = (admitted-same a j settled v).0
+acts-joined o w a _ v e = refl
 
 -- a welcome on a link belongs to a join that is let in
 pub let_in : (g : Gate) (b c : List Bool) → returns_of g ≡ b ++ true ∷ c → is_away g ≡ false
@@ -122,10 +122,10 @@ lone_shown o w gate a P R own G up free lone = go (is_pending o w a) refl
                 absurd (cc (sym free ∙ waits.1))
             go false is_none =
                 let note : (k : Hold) × (hold_at s a ≡ Some k) × (k.node ≡ h.node) × IsUp o w h.node
-                × (acts o w x.0 (replica_of (old s a) a) ≡ replica_of s.registry a)
+                × (acts o w a x.0 (replica_of (old s a) a) ≡ replica_of s.registry a)
                 = x.2 x.1 in
                 let alone : s.registry.joined a ≡ false = sym (ap (λ (v : Replica). v.joined) note.4)
-                ∙ acts-joined o w x.0 (replica_of (old s a) a) is_none
+                ∙ acts-joined o w a x.0 (replica_of (old s a) a) is_none
                 ∙ sym (ap (λ (v : Replica). v.joined) shows) ∙ lone in
                 let here : h.node ≡ a = lone_holds (in_cluster o) w.history a h
                 (sym (ap (λ (b : Bool). if b then s.held else s.lone_held a) alone) ∙ is) in

@@ -1,17 +1,16 @@
 -- Each running node was told of each node that has left, and has no grant of its processes, or `Down` is on its way.
 use mathlib.Core.Logic.{◌⊎◌}
 use Rattle.std.proofs.Common.{ℕ, Bool, true, false, ◌==◌, ◌≡◌, Option, Some, None, List, [], ◌∷◌, ◌++◌, refl, sym, ap, ◌∙◌, subst, inl, inr}
-use Rattle.std.specs.Prelude.{not, ◌&&◌, ◌||◌, nat_lt, fold, if◌then◌else◌}
+use Rattle.std.specs.Prelude.{not, ◌&&◌, ◌||◌, nat_lt, if◌then◌else◌}
 use Rattle.std.specs.List.{list_any}
 use Rattle.std.proofs.lemmas.Bool.{cases_eq, eq-eqb, ne_eqb, eqb-true}
 use Rattle.registry_model.specs.Process.{Process, Nodes, at}
-use Rattle.registry_model.specs.Table.{Table, Put}
 use Rattle.registry_model.specs.Registry.{Replica}
 use Rattle.registry_model.specs.Settlement.{Settled}
 use Rattle.protocol_model.specs.Letter.{Id, Letter, is_down}
 use Rattle.protocol_model.specs.Links.{Links, posted}
 use Rattle.protocol_model.specs.LockTable.{Locks, is_free_for, grant, drop_node}
-use Rattle.protocol_model.specs.Node.{Node, wrote}
+use Rattle.protocol_model.specs.Node.{Node}
 use Rattle.protocol_model.specs.Turn.{sent_to}
 use Rattle.protocol_model.specs.Reading.{with_member, admitted}
 use Rattle.protocol_model.specs.World.{Opening, in_world, World, left, opening_world}
@@ -23,7 +22,7 @@ use Rattle.moves.proofs.Sends.{sent_to-all}
 use Rattle.moves.proofs.Invariants.{IsUp}
 use Rattle.lock_sessions.proofs.Base.{popped_queue, popped, after_turn, is_leave, effect-turn, letters_from, taken_first, popped-other}
 use Rattle.client_locks.proofs.Serving.{front_named}
-use Rattle.walk.proofs.Killing.{puts-members}
+use Rattle.moves.proofs.Writes.{wrote_all-keeps}
 use Rattle.leftovers.proofs.Grounds.{Base}
 use Rattle.leftovers.proofs.Parts.{replica_by, locks_by, parts}
 use Rattle.leftovers.proofs.GrantLists.{all_grants, all_filter, all_kept, all_grant, all_give_back}
@@ -106,29 +105,25 @@ down_posted a ls q d c h = go (d == a && not (q.closed c))
     go true = down_more (q.queue d c) (ls c) h
     go false = h
 
--- puts tell nothing
-puts_told : (puts : Table) (v : Replica) → (fold (λ x e. wrote (Put e) x) v puts).told ≡ v.told
-puts_told [] v = refl
-puts_told (e ∷ puts) v = puts_told puts (wrote (Put e) v)
+-- an admission lets one node in, and tells nothing
+pub admitted-group : (a j : ℕ) (settled : Settled) (v : Replica)
+    → (admitted a j settled v).members ≡ (if v.told j then v else record v { members = at v.members j true }).members
+admitted-group a j settled v = (wrote_all-keeps settled (with_member j v)).members
 
-pub admitted-group : (j : ℕ) (settled : Settled) (v : Replica)
-    → (admitted j settled v).members ≡ (if v.told j then v else record v { members = at v.members j true }).members
-admitted-group j settled v = puts-members settled.puts (with_member j v)
-
-pub admitted-told : (j : ℕ) (settled : Settled) (v : Replica) → (admitted j settled v).told ≡ v.told
-admitted-told j settled v = puts_told settled.puts (with_member j v) ∙ go (v.told j)
+pub admitted-told : (a j : ℕ) (settled : Settled) (v : Replica) → (admitted a j settled v).told ≡ v.told
+admitted-told a j settled v = (wrote_all-keeps settled (with_member j v)).told ∙ go (v.told j)
   where
     go : (t : Bool) → (if t then v else record v { members = at v.members j true }).told ≡ v.told
     go true = refl
     go false = refl
 
 -- who is told stays told
-pub told_by_rule : (r : Rule) (v : Replica) (d : ℕ) → v.told d ≡ true → (replica_by r v).told d ≡ true
-told_by_rule (Rules.IsAdmitted f j settled) v d h = ap (λ (s : Nodes). s d) (admitted-told j settled v) ∙ h
-told_by_rule (Rules.IsWelcomed f k members pairs told fate) v d h = ap (λ (b : Bool). b || told d) h
-told_by_rule (Rules.IsTold f) v d h = by_test f (λ x t. v.told x ≡ true → (if t then true else v.told x) ≡ true)
+pub told_by_rule : (a : ℕ) (r : Rule) (v : Replica) (d : ℕ) → v.told d ≡ true → (replica_by a r v).told d ≡ true
+told_by_rule a (Rules.IsAdmitted f j settled) v d h = ap (λ (s : Nodes). s d) (admitted-told a j settled v) ∙ h
+told_by_rule a (Rules.IsWelcomed f k members pairs told fate) v d h = ap (λ (b : Bool). b || told d) h
+told_by_rule a (Rules.IsTold f) v d h = by_test f (λ x t. v.told x ≡ true → (if t then true else v.told x) ≡ true)
     (λ k. refl) (λ x ne k. k) d h
-told_by_rule _ v d h = h
+told_by_rule a _ v d h = h
 
 module _ (o : Opening) (a : ℕ) (w : World) (B : Base o w) where
   -- who asks for a lock is of the sender
@@ -154,7 +149,7 @@ module _ (o : Opening) (a : ℕ) (w : World) (B : Base o w) where
 
   rid_after : (r : Rule) → Rules.May o a w r → (d : ℕ) → IsRid d (w.node a) → IsRid d (Rules.turn_by o a w r).node
   rid_after r m d R = (
-    ap (λ (v : Replica). v.told d) (parts o a w r).replica ∙ told_by_rule r (w.node a).replica d R.0,
+    ap (λ (v : Replica). v.told d) (parts o a w r).replica ∙ told_by_rule a r (w.node a).replica d R.0,
     ap (none_of d) (parts o a w r).locks ∙ rid_stays r m d R.0 R.1,
   )
 

@@ -24,7 +24,6 @@ use Rattle.protocol_model.specs.Reading.{admitted, welcomed, judge, take_back, r
 use Rattle.protocol_model.specs.World.{Opening, in_world, in_cluster, World, left, WorldEvent, At, Deliver, join_number, turn_of, accepted}
 use Rattle.moves.proofs.Indices.{both}
 use Rattle.moves.proofs.Rules
-use Rattle.moves.proofs.Rules.{kills_in}
 use Rattle.moves.proofs.Invariants
 use Rattle.moves.proofs.Invariants.{IsUp, Each, is_welcome}
 use Rattle.leftovers.proofs.Grounds.{Base, replicas, heard_joins, base_keeps}
@@ -123,7 +122,7 @@ module _ (o : Opening) (w : World) (B : Base o w) (f t : ℕ) (up : IsUp o w t) 
           → is_dead (if b && true then begun (w.node t)
           else read o.bound t (join_number w) f (Letter.Admit j settled) (begun (w.node t))).node.watch p.serial ≡ true
       go true e = cc (B.all.proper.told_left t f up.1 e, sender.1)
-      go false e = kill_kills o.bound t p home client settled.fate.kills (with_replica (admitted j settled) (begun (w.node t))) h
+      go false e = kill_kills o.bound t p home client settled.fate.kills (with_replica (admitted t j settled) (begun (w.node t))) h
   letter_dead (Letter.Welcome members pairs told fate) ls front p home client h =
       ap (λ (x : Watch). is_dead x p.serial)
       (start-watch o.bound t (if (w.node t).replica.told f && true then begun (w.node t)
@@ -138,10 +137,10 @@ module _ (o : Opening) (w : World) (B : Base o w) (f t : ℕ) (up : IsUp o w t) 
           ((heard_joins o w B).welcome f t up)).0 refl
 
       welcomed_now : (b : Bool) → (f == f) ≡ b → is_dead (if b then send f Letter.Applied (reply_with t waits.0 Joined
-          (at_work Current.Free (kill o.bound t fate.kills (with_replica (welcomed members pairs told)
+          (at_work Current.Free (kill o.bound t fate.kills (with_replica (welcomed t members pairs told fate)
           (begun (w.node t)))))) else begun (w.node t)).node.watch p.serial ≡ true
       welcomed_now true e = kill_kills o.bound t p home client fate.kills
-          (with_replica (welcomed members pairs told) (begun (w.node t))) h
+          (with_replica (welcomed t members pairs told fate) (begun (w.node t))) h
       welcomed_now false e = cc (eq-eqb f f refl, e)
 
       go : (b : Bool) → (w.node t).replica.told f ≡ b
@@ -362,25 +361,25 @@ module _ (o : Opening) (w : World) (B : Base o w) (f t : ℕ) (up : IsUp o w t) 
       go (Current.Joining k m) = contact k m (m == f)
       go _ = inl (adds_none (begun v))
   read_result known (Letter.Admit j settled) ls front = inl (adds_then (begun v)
-      (kill o.bound t settled.fate.kills (with_replica (admitted j settled) (begun v)))
+      (kill o.bound t settled.fate.kills (with_replica (admitted t j settled) (begun v)))
       (read o.bound t (join_number w) f (Letter.Admit j settled) (begun v))
-      (adds_then (begun v) (with_replica (admitted j settled) (begun v))
-      (kill o.bound t settled.fate.kills (with_replica (admitted j settled) (begun v)))
-      (adds_same (begun v) (with_replica (admitted j settled) (begun v)) refl refl)
-      (add_kill o.bound t settled.fate.kills (with_replica (admitted j settled) (begun v))))
-      (add_send o.bound t f Letter.Applied (kill o.bound t settled.fate.kills (with_replica (admitted j settled) (begun v)))))
+      (adds_then (begun v) (with_replica (admitted t j settled) (begun v))
+      (kill o.bound t settled.fate.kills (with_replica (admitted t j settled) (begun v)))
+      (adds_same (begun v) (with_replica (admitted t j settled) (begun v)) refl refl)
+      (add_kill o.bound t settled.fate.kills (with_replica (admitted t j settled) (begun v))))
+      (add_send o.bound t f Letter.Applied (kill o.bound t settled.fate.kills (with_replica (admitted t j settled) (begun v)))))
   read_result known (Letter.Welcome members pairs told fate) ls front = go v.current
     where
       killed : Turn
-      killed = kill o.bound t fate.kills (with_replica (welcomed members pairs told) (begun v))
+      killed = kill o.bound t fate.kills (with_replica (welcomed t members pairs told fate) (begun v))
 
       contact : (k m : ℕ) (b : Bool) → Result (if b then send f Letter.Applied (reply_with t k Joined
           (at_work Current.Free killed)) else begun v)
       contact k m true = inl (adds_then (begun v) killed
           (send f Letter.Applied (reply_with t k Joined (at_work Current.Free killed)))
-          (adds_then (begun v) (with_replica (welcomed members pairs told) (begun v)) killed
-          (adds_same (begun v) (with_replica (welcomed members pairs told) (begun v)) refl refl)
-          (add_kill o.bound t fate.kills (with_replica (welcomed members pairs told) (begun v))))
+          (adds_then (begun v) (with_replica (welcomed t members pairs told fate) (begun v)) killed
+          (adds_same (begun v) (with_replica (welcomed t members pairs told fate) (begun v)) refl refl)
+          (add_kill o.bound t fate.kills (with_replica (welcomed t members pairs told fate) (begun v))))
           (adds_sends killed (send f Letter.Applied (reply_with t k Joined (at_work Current.Free killed)))
           (_ ∷ []) refl refl))
       contact k m false = inl (adds_none (begun v))

@@ -16,7 +16,7 @@ use Rattle.registry_model.proofs.Updates.{by_test, at_same, at_other}
 use Rattle.moves.proofs.Indices.{greatest_in, some_of, neither}
 use Rattle.moves.proofs.Sends.{sent_to-one, sent_to-all}
 use Rattle.moves.proofs.Rules
-use Rattle.moves.proofs.Rules.{Rule, Taken}
+use Rattle.moves.proofs.Rules.{Rule}
 use Rattle.moves.proofs.Invariants.{IsUp, Each, IsProper}
 use Rattle.walk.proofs.Killing.{admitted-members}
 use Rattle.lock_sessions.proofs.Base.{popped, after_turn, effect-turn}
@@ -59,8 +59,8 @@ module _ (o : Opening) (b : ℕ) (w : World) (B : Base o w) (N : Near w) where
 
   -- who runs and is a member stays one
   pub members_stay : (r : Rule) → Rules.May o b w r → (x : ℕ) → left w x ≡ false → v.replica.members x ≡ true
-      → (replica_by r v.replica).members x ≡ true
-  members_stay (Rules.IsAdmitted f j settled) m x up h = admitted-members j settled v.replica x h
+      → (replica_by b r v.replica).members x ≡ true
+  members_stay (Rules.IsAdmitted f j settled) m x up h = admitted-members b j settled v.replica x h
   members_stay (Rules.IsWelcomed f k members pairs told fate) m x up h =
       wide o w B f b k members pairs told fate m.front.1.0 m.inside m.running m.tested.0 m.tested.1 m.front.1.1 x h
   members_stay (Rules.IsTold f) m x up h = at_other v.replica.members f false x (λ e. cc (ap (left w) e, gone, up)) ∙ h
@@ -187,7 +187,7 @@ module _ (o : Opening) (b : ℕ) (w : World) (B : Base o w) (N : Near w) where
           (λ h. known (v.replica.members x) refl (sym (ap (λ (z : Replica). z.members x) (parts o b w r).replica) ∙ h))
           (λ y ne h. h) a none
         where
-          known : (t : Bool) → v.replica.members x ≡ t → (replica_by r v.replica).members x ≡ false → t ≡ false
+          known : (t : Bool) → v.replica.members x ≡ t → (replica_by b r v.replica).members x ≡ false → t ≡ false
           known true e h = cc (members_stay r m x ux.1 e, h)
           known false e h = refl
 

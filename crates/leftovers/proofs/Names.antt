@@ -22,7 +22,7 @@ use Rattle.protocol_model.specs.Leftovers.{world, Always, IsQuiet, DeparturesAre
 use Rattle.leftovers.proofs.Grounds.{replicas}
 use Rattle.leftovers.proofs.Rest.{WorkRests}
 use Rattle.leftovers.proofs.Started.{Idle}
-use Rattle.leftovers.proofs.Owners.{joined_owners}
+use Rattle.leftovers.proofs.Owners.{joined_owner}
 use Rattle.leftovers.proofs.Families.{Whole, whole}
 use Rattle.leftovers.proofs.Quiet.{rid, at_ease, registrars}
 use Rattle.client_locks.proofs.Ids.{is_process_self}
@@ -31,7 +31,7 @@ pub departures_are_told : Always DeparturesAreTold
 departures_are_told o es c d quiet up gone = (rid o (world o es) (whole o es) quiet c d up gone).0
 
 -- what is kept of a filtered list passes, and was there before
-pub kept_of : {A : Type 0} (keep : A → Bool) (xs : List A) (x : A) → Contains (filter keep xs) x
+kept_of : {A : Type 0} (keep : A → Bool) (xs : List A) (x : A) → Contains (filter keep xs) x
     → (keep x ≡ true) × Contains xs x
 kept_of keep [] x h = absurd (Contains-nil x h)
 kept_of {A} keep (y ∷ xs) x h = go (keep y) refl h (kept_of keep xs x)
@@ -44,7 +44,7 @@ kept_of {A} keep (y ∷ xs) x h = go (keep y) refl h (kept_of keep xs x)
     ]
     go false e k more = ((more k).0, Contains-behind y xs x (more k).1)
 
-pub all_at : {A : Type 0} (test : A → Bool) (xs : List A) (x : A) → list_all test xs ≡ true → Contains xs x
+all_at : {A : Type 0} (test : A → Bool) (xs : List A) (x : A) → list_all test xs ≡ true → Contains xs x
     → test x ≡ true
 all_at test [] x h c = absurd (Contains-nil x c)
 all_at {A} test (y ∷ xs) x h c =
@@ -195,9 +195,7 @@ module _ (o : Opening) (w : World) (W : Whole o w) (Q : IsQuiet o w) where
           (λ (z : Pair). not ((standing_at o w).registry.told c z.owner.node)) (standing_at o w).registry.table pair
           (subst (λ (t : Bool). Contains (without ((standing_at o w).registry.told c)
           (if t then (standing_at o w).registry.table else (standing_at o w).registry.lone c)) pair) e here)).1 in
-          there true (all_at (λ (z : Pair). (standing_at o w).registry.joined z.owner.node)
-          (standing_at o w).registry.table pair
-          (joined_owners (in_cluster o) w.history (replicas o w W.base).legal) listed_here) listed_here
+          there true (joined_owner (in_cluster o) w.history (replicas o w W.base).legal pair listed_here) listed_here
       go false e =
           let listed_here : Contains ((standing_at o w).registry.lone c) pair = (kept_of
           (λ (z : Pair). not ((standing_at o w).registry.told c z.owner.node)) ((standing_at o w).registry.lone c) pair
@@ -222,8 +220,7 @@ module _ (o : Opening) (w : World) (W : Whole o w) (Q : IsQuiet o w) where
 
       go : (b : Bool) → (standing_at o w).registry.joined c ≡ b → in_world o pair.owner.node ≡ true
       go true e = (replicas o w W.base).joined_inside pair.owner.node
-          (all_at (λ (z : Pair). (standing_at o w).registry.joined z.owner.node) (standing_at o w).registry.table pair
-          (joined_owners (in_cluster o) w.history (replicas o w W.base).legal) (there true e))
+          (joined_owner (in_cluster o) w.history (replicas o w W.base).legal pair (there true e))
       go false e = ap (in_world o) (eqb-true pair.owner.node c
           (all_at (λ (z : Pair). z.owner.node == c) ((standing_at o w).registry.lone c) pair
           (States.lone_owners o w (replicas o w W.base) c e) (there false e))) ∙ up.0

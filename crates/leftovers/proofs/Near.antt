@@ -70,20 +70,20 @@ told_near v x h = go (v.members x) (v.told x) h
 module _ (o : Opening) (a : ℕ) (w : World) (B : Base o w) where
   -- who is near stays near
   near_stays : (r : Rule) → Rules.May o a w r → (x : ℕ) → is_near (w.node a).replica x ≡ true
-      → is_near (replica_by r (w.node a).replica) x ≡ true
+      → is_near (replica_by a r (w.node a).replica) x ≡ true
   near_stays (Rules.IsAdmitted f j settled) m x h = or_by ((w.node a).replica.members x) ((w.node a).replica.told x)
-      ((admitted j settled (w.node a).replica).members x) ((admitted j settled (w.node a).replica).told x) h
-      (λ e. member_near (admitted j settled (w.node a).replica) x (admitted-members j settled (w.node a).replica x e))
-      (λ e. told_near (admitted j settled (w.node a).replica) x
-      (told_by_rule (Rules.IsAdmitted f j settled) (w.node a).replica x e))
+      ((admitted a j settled (w.node a).replica).members x) ((admitted a j settled (w.node a).replica).told x) h
+      (λ e. member_near (admitted a j settled (w.node a).replica) x (admitted-members a j settled (w.node a).replica x e))
+      (λ e. told_near (admitted a j settled (w.node a).replica) x
+      (told_by_rule a (Rules.IsAdmitted f j settled) (w.node a).replica x e))
   near_stays (Rules.IsWelcomed f k members pairs told fate) m x h =
       or_by ((w.node a).replica.members x) ((w.node a).replica.told x)
-      ((welcomed members pairs told (w.node a).replica).members x)
-      ((welcomed members pairs told (w.node a).replica).told x) h
-      (λ e. member_near (welcomed members pairs told (w.node a).replica) x
+      ((welcomed a members pairs told fate (w.node a).replica).members x)
+      ((welcomed a members pairs told fate (w.node a).replica).told x) h
+      (λ e. member_near (welcomed a members pairs told fate (w.node a).replica) x
       (wide o w B f a k members pairs told fate m.front.1.0 m.inside m.running m.tested.0 m.tested.1 m.front.1.1 x e))
-      (λ e. told_near (welcomed members pairs told (w.node a).replica) x
-      (told_by_rule (Rules.IsWelcomed f k members pairs told fate) (w.node a).replica x e))
+      (λ e. told_near (welcomed a members pairs told fate (w.node a).replica) x
+      (told_by_rule a (Rules.IsWelcomed f k members pairs told fate) (w.node a).replica x e))
   near_stays (Rules.IsTold f) m x h = by_test f
       (λ y t. ((w.node a).replica.members y || (w.node a).replica.told y) ≡ true
       → ((if t then false else (w.node a).replica.members y) || (if t then true else (w.node a).replica.told y)) ≡ true)
@@ -117,7 +117,7 @@ module _ (o : Opening) (a : ℕ) (w : World) (B : Base o w) where
 
   near_turn : (r : Rule) → Rules.May o a w r → NearAt (w.node a) → NearAt (Rules.turn_by o a w r).node
   near_turn r m N p c e = subst (λ (u : Replica). NearIn u c.phase) (sym (parts o a w r).replica)
-      (near_along v (replica_by r v) (near_stays r m) c.phase
+      (near_along v (replica_by a r v) (near_stays r m) c.phase
       (phases_stepped (NearIn v) a (w.node a).calls (B.ordered a) (step_of o.bound (w.node a) r)
       (put_home o a w (B.ordered a) r m.tested) (put_near r m N) N p c
       (sym (ap (call_of p) (calls_turn o a w r)) ∙ e)))

@@ -15,12 +15,12 @@ use Rattle.protocol_model.specs.World.{Opening, World}
 use Rattle.moves.proofs.Rules
 use Rattle.moves.proofs.Rules.{Rule}
 
-abbrev pub replica_by : Rule → Replica → Replica
-replica_by (Rules.Writes f change) v = wrote change v
-replica_by (Rules.IsAdmitted f j settled) v = admitted j settled v
-replica_by (Rules.IsWelcomed f k members pairs told fate) v = welcomed members pairs told v
-replica_by (Rules.IsTold f) v = bereft f v
-replica_by _ v = v
+abbrev pub replica_by : ℕ → Rule → Replica → Replica
+replica_by a (Rules.Writes f change) v = wrote change v
+replica_by a (Rules.IsAdmitted f j settled) v = admitted a j settled v
+replica_by a (Rules.IsWelcomed f k members pairs told fate) v = welcomed a members pairs told fate v
+replica_by a (Rules.IsTold f) v = bereft f v
+replica_by a _ v = v
 
 abbrev pub locks_by : Rule → Locks → Locks
 locks_by (Rules.Judges f id p) t = if is_free_for id p t then grant id p t else t
@@ -35,9 +35,9 @@ watch_by (Rules.Exits p) v = with_dead p.serial v
 watch_by (Rules.Kills f l p receivers) v = with_dead p.serial v
 watch_by _ v = v
 
--- the parts of a node
-pub record Parts (r : Rule) (v u : Node) : Type 0 where
-  pub replica : u.replica ≡ replica_by r v.replica
+-- the parts of node a
+pub record Parts (a : ℕ) (r : Rule) (v u : Node) : Type 0 where
+  pub replica : u.replica ≡ replica_by a r v.replica
   pub locks : u.locks ≡ locks_by r v.locks
   pub watch : u.watch ≡ watch_by r v.watch
 
@@ -45,17 +45,17 @@ module _ (o : Opening) (a : ℕ) (w : World) where
   abbrev v : Node
   v = w.node a
 
-  pub parts : (r : Rule) → Parts r v (Rules.turn_by o a w r).node
+  pub parts : (r : Rule) → Parts a r v (Rules.turn_by o a w r).node
   parts (Rules.HearsAnswer f id granted op r) = go (opens f granted r)
     where
-      go : (t : Bool) → Parts (Rules.HearsAnswer f id granted op r) v (at_work (Current.Asking op (answer f granted r))
+      go : (t : Bool) → Parts a (Rules.HearsAnswer f id granted op r) v (at_work (Current.Asking op (answer f granted r))
           (if t then send_all o.bound (λ y. rest r y && not (v.replica.told y)) (Letter.SetLock (Global a) (registrar a))
           (begun v) else begun v)).node
       go true = record { replica = refl; locks = refl; watch = refl }
       go false = record { replica = refl; locks = refl; watch = refl }
   parts (Rules.HearsLock f id granted c r) = go (opens f granted r)
     where
-      go : (t : Bool) → Parts (Rules.HearsLock f id granted c r) v
+      go : (t : Bool) → Parts a (Rules.HearsLock f id granted c r) v
           (keep_call (in_phase (LockPhase.Asking (answer f granted r)) c)
           (if t then send_all o.bound (λ y. rest r y && not (v.replica.told y)) (Letter.SetLock c.id c.holder)
           (begun v) else begun v)).node
@@ -63,14 +63,14 @@ module _ (o : Opening) (a : ℕ) (w : World) where
       go false = record { replica = refl; locks = refl; watch = refl }
   parts (Rules.GivesUpLock c r granted) = go (is_spent c.retries)
     where
-      go : (t : Bool) → Parts (Rules.GivesUpLock c r granted) v
+      go : (t : Bool) → Parts a (Rules.GivesUpLock c r granted) v
           (if t then close_call o.bound a c false (give_lock o.bound a c granted (begun v))
           else keep_call (in_phase LockPhase.Waiting c) (give_lock o.bound a c granted (begun v))).node
       go true = record { replica = refl; locks = refl; watch = refl }
       go false = record { replica = refl; locks = refl; watch = refl }
   parts (Rules.Judges f id p) = go (is_free_for id p v.locks) refl
     where
-      go : (t : Bool) → is_free_for id p v.locks ≡ t → Parts (Rules.Judges f id p) v
+      go : (t : Bool) → is_free_for id p v.locks ≡ t → Parts a (Rules.Judges f id p) v
           (send f (Letter.LockAnswer id p t) (if t then with_locks (grant id p) (begun v) else begun v)).node
       go true e = record { replica = refl; locks = rw e refl; watch = refl }
       go false e = record { replica = refl; locks = rw e refl; watch = refl }

@@ -8,7 +8,7 @@ use Rattle.registry_model.specs.Table.{Table}
 use Rattle.registry_model.specs.Registry.{Replica}
 use Rattle.registry_model.specs.Call.{NotMember, Joined}
 use Rattle.registry_model.specs.History.{Entry}
-use Rattle.registry_model.specs.Settlement.{Settled}
+use Rattle.registry_model.specs.Settlement.{Fate, Settled}
 use Rattle.protocol_model.specs.Round.{Round, asked, is_out, Mark, Out}
 use Rattle.protocol_model.specs.Letter.{Letter, is_down}
 use Rattle.protocol_model.specs.LockTable.{is_free_for}
@@ -25,7 +25,7 @@ use Rattle.protocol_model.proofs.Waiting.{accepted-node}
 use Rattle.registry_model.proofs.Updates.{by_test, at_other}
 use Rattle.moves.proofs.Indices.{both, not_true}
 use Rattle.moves.proofs.Invariants
-use Rattle.moves.proofs.Invariants.{IsUp, Each, Proper, is_down_last}
+use Rattle.moves.proofs.Invariants.{Each}
 use Rattle.walk.proofs.Joins.{joining_lone}
 use Rattle.walk.proofs.Welcomes.{lone_alone}
 use Rattle.walk.proofs.Events.{Accepted, accepted_of, lock_tested, live_own}
@@ -75,19 +75,19 @@ module _ (o : Opening) (w : World) (B : Base o w) (a : ℕ) (here : in_world o a
 
   -- another node is let in
   admitted-rests : (j : ℕ) (settled : Settled) → in_world o j ≡ true
-      → V (with_replica (admitted j settled) (begun v))
+      → V (with_replica (admitted a j settled) (begun v))
   admitted-rests j settled inside = record {
     sides = record {
       group = record {
-        apart = λ x h. ap (λ (s : Nodes). s x) (admitted-told j settled v.replica)
-            ∙ apart (v.replica.told j) refl x (sym (ap (λ (s : Nodes). s x) (admitted-group j settled v.replica)) ∙ h);
-        itself = ap (λ (s : Nodes). s a) (admitted-group j settled v.replica) ∙ itself (v.replica.told j);
+        apart = λ x h. ap (λ (s : Nodes). s x) (admitted-told a j settled v.replica)
+            ∙ apart (v.replica.told j) refl x (sym (ap (λ (s : Nodes). s x) (admitted-group a j settled v.replica)) ∙ h);
+        itself = ap (λ (s : Nodes). s a) (admitted-group a j settled v.replica) ∙ itself (v.replica.told j);
         inside = λ x h. within (v.replica.told j) x
-            (sym (ap (λ (s : Nodes). s x) (admitted-group j settled v.replica)) ∙ h);
+            (sym (ap (λ (s : Nodes). s x) (admitted-group a j settled v.replica)) ∙ h);
       };
-      calls = subst (λ (s : Nodes). CallsRest o a s v.calls []) (sym (admitted-told j settled v.replica)) R.sides.calls;
+      calls = subst (λ (s : Nodes). CallsRest o a s v.calls []) (sym (admitted-told a j settled v.replica)) R.sides.calls;
     };
-    work = subst (λ (s : Nodes). WorkRests o s v.current) (sym (admitted-told j settled v.replica)) R.work;
+    work = subst (λ (s : Nodes). WorkRests o s v.current) (sym (admitted-told a j settled v.replica)) R.work;
   }
     where
       G : Grouped o a v.replica
@@ -114,10 +114,10 @@ module _ (o : Opening) (w : World) (B : Base o w) (a : ℕ) (here : in_world o a
           (λ k. inside) (λ y ne k. G.inside y k) x h
 
   -- this node is welcomed
-  welcomed-sides : NearAt v → (f k : ℕ) (members : Nodes) (pairs : Table) (told : Nodes) → v.current ≡ Current.Joining k f
-      → members a ≡ true → ((c : ℕ) → members c ≡ true → in_world o c ≡ true)
-      → ((d : ℕ) → told d ≡ true → left w d ≡ true) → Sides o a (welcomed members pairs told v.replica) v.calls []
-  welcomed-sides N f k members pairs told waits own inside gone = record {
+  welcomed-sides : NearAt v → (f k : ℕ) (members : Nodes) (pairs : Table) (told : Nodes) (fate : Fate)
+      → v.current ≡ Current.Joining k f → members a ≡ true → ((c : ℕ) → members c ≡ true → in_world o c ≡ true)
+      → ((d : ℕ) → told d ≡ true → left w d ≡ true) → Sides o a (welcomed a members pairs told fate v.replica) v.calls []
+  welcomed-sides N f k members pairs told fate waits own inside gone = record {
     group = record {
       apart = λ x h. not_true (v.replica.told x || told x) (both (members x) (not (v.replica.told x || told x)) h).1;
       itself = all (members a) (v.replica.told a) (told a) own untold_self (stays (told a) (gone a));
@@ -296,26 +296,26 @@ module _ (o : Opening) (w : World) (B : Base o w) (a : ℕ) (here : in_world o a
         go (Current.Joining k m) = contact k m (m == f)
         go _ = R
     read-rests (Letter.Admit j settled) ls front known_letter =
-        let after : V (kill o.bound a settled.fate.kills (with_replica (admitted j settled) (begun v))) =
-        kill_by o a V died settled.fate.kills (with_replica (admitted j settled) (begun v)) (admitted-rests j settled known_letter) in
+        let after : V (kill o.bound a settled.fate.kills (with_replica (admitted a j settled) (begun v))) =
+        kill_by o a V died settled.fate.kills (with_replica (admitted a j settled) (begun v)) (admitted-rests j settled known_letter) in
         record { sides = after.sides; work = after.work }
     read-rests (Letter.Welcome members pairs told fate) ls front known_letter = go v.current refl
       where
         joined : (k m : ℕ) → v.current ≡ Current.Joining k m → m ≡ f
             → V (send f Letter.Applied (reply_with a k Joined (at_work Current.Free
-            (kill o.bound a fate.kills (with_replica (welcomed members pairs told) (begun v))))))
+            (kill o.bound a fate.kills (with_replica (welcomed a members pairs told fate) (begun v))))))
         joined k m e same = record {
           sides = kill_by o a (λ u. Sides o a u.node.replica u.node.calls [])
               (λ p u s. record { group = s.group; calls = die-calls o a p u u.node.replica.told s.calls }) fate.kills
-              (with_replica (welcomed members pairs told) (begun v))
-              (welcomed-sides N f k members pairs told (e ∙ ap (λ (x : ℕ). Current.Joining k x) same) known_letter.0
+              (with_replica (welcomed a members pairs told fate) (begun v))
+              (welcomed-sides N f k members pairs told fate (e ∙ ap (λ (x : ℕ). Current.Joining k x) same) known_letter.0
               known_letter.1 known_letter.2);
           work = tt;
         }
 
         contact : (k m : ℕ) → v.current ≡ Current.Joining k m → (b : Bool) → (m == f) ≡ b
             → V (if b then send f Letter.Applied (reply_with a k Joined (at_work Current.Free
-            (kill o.bound a fate.kills (with_replica (welcomed members pairs told) (begun v))))) else begun v)
+            (kill o.bound a fate.kills (with_replica (welcomed a members pairs told fate) (begun v))))) else begun v)
         contact k m e true q = joined k m e (eqb-true m f q)
         contact k m e false q = R
 

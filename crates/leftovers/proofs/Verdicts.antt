@@ -1,22 +1,25 @@
 -- What a round of the registrar comes to: nobody dies by it, or a node is let in, and who dies by that is written to.
 use mathlib.Core.Logic.{◌⊎◌}
-use Rattle.std.proofs.Common.{ℕ, Bool, true, false, ◌==◌, ◌≡◌, Option, Some, None, List, [], ◌∷◌, ◌++◌, refl, sym, ap, ◌∙◌, subst, inl, inr}
+use Rattle.std.proofs.Common.{ℕ, Bool, true, false, ◌≡◌, Some, None, List, [], ◌∷◌, ◌++◌, refl, sym, ap, ◌∙◌, subst, inl, inr}
 use Rattle.std.specs.Prelude.{not, ◌&&◌, nat_lt, fold, Contains, if◌then◌else◌}
 use Rattle.std.specs.List.{list_any}
-use Rattle.std.proofs.lemmas.Bool.{eq-eqb, eqb-true}
+use Rattle.std.proofs.lemmas.Bool.{eq-eqb}
 use Rattle.std.proofs.lemmas.List.{append_assoc}
-use Rattle.registry_model.specs.Process.{Process, is_process, Nodes, nodes_of, with_node}
-use Rattle.registry_model.specs.Table.{Pair, Table, get, put_all, StrikeOwner}
+use Rattle.registry_model.specs.Process.{Text, Process, is_process, Nodes, nodes_of, with_node}
+use Rattle.registry_model.specs.Table.{Table, get, StrikeOwner}
 use Rattle.registry_model.specs.Call.{Joined, Reply, is_grant, reply_to, change_of}
-use Rattle.registry_model.specs.Settlement.{Settled, unsettled, settle}
-use Rattle.registry_model.specs.Registry.{Registry, Replica, replica_of, view}
+use Rattle.registry_model.specs.Settlement.{Settled, with_settled, settle}
+use Rattle.registry_model.specs.Registry.{Registry, Replica, replica_of, table_of, view}
 use Rattle.registry_model.specs.History.{Entry, effect, hold_at, registry_of}
 use Rattle.registry_model.specs.Legal.{IsLegal}
-use Rattle.registry_model.proofs.Lists.{Contains-nil, Contains-front, Contains-behind, list_any-Contains}
+use Rattle.registry_model.proofs.Lists.{list_any-Contains}
 use Rattle.registry_model.proofs.HistoryParts.{registry-standing_of, registry_of-append, is_legal-at}
 use Rattle.registry_model.proofs.Legality.{JoinIsLegal, join_is_legal}
 use Rattle.registry_model.proofs.Deaths.{Kills, ByJoin, dead-cases}
-use Rattle.registry_model.proofs.Settling.{loser, LosesOne, kills-settle_from}
+use Rattle.registry_model.proofs.Rising.{is_rising-table_of, is_rising-view}
+use Rattle.registry_model.proofs.Groups.{get-seen}
+use Rattle.registry_model.proofs.OwnerNodes.{IsGood, IsGood-standing_of}
+use Rattle.registry_model.proofs.Untold.{HasName, name_of_killed}
 use Rattle.protocol_model.specs.Round.{Round, asked, is_over, Ending, Held, GiveBack, ending}
 use Rattle.protocol_model.specs.Letter.{Letter}
 use Rattle.protocol_model.specs.Node.{Op, Current}
@@ -30,8 +33,6 @@ use Rattle.moves.proofs.Sends.{sent_to-append, sent_to-one, sent_to-all, to_each
 use Rattle.replicas.proofs.States
 use Rattle.replicas.proofs.Legality
 use Rattle.leftovers.proofs.Grounds.{Base, replicas, heard_joins}
-use Rattle.leftovers.proofs.Owners.{joined_owners}
-use Rattle.leftovers.proofs.Names.{kept_of, all_at}
 use Rattle.leftovers.proofs.Extends.{harmless_append, is_deadly, are_harmless, has_kill, kill_more, kill_later, Adds, adds_none, adds_then, adds_same, adds_sends, adds_entry, add_finish}
 
 -- a node was let in: its entry, and whom the letters go to by which others die
@@ -78,7 +79,7 @@ module _ (n a : ℕ) (number : ℕ → ℕ) where
 
       z : Letter
       z = Letter.Welcome (with_node j u.node.replica.members)
-          (put_all (settle u.node.replica.table pairs).puts u.node.replica.table) u.node.replica.told
+          (with_settled (settle u.node.replica.table pairs) u.node.replica.table) u.node.replica.told
           (settle u.node.replica.table pairs).fate
 
       kills : list_any (is_process p) (settle u.node.replica.table pairs).fate.kills ≡ true
@@ -182,17 +183,6 @@ killed_by_join : (r : Registry) (p : Process) (j k m : ℕ) → Kills r p (Entry
     → Contains (settle (view r m) (r.lone j)).fate.kills p
 killed_by_join r p j k m (ByJoin x y z c) = c
 
--- the owner of a name is listed
-get_listed : (x : ℕ) (p : Process) (t : Table) → get x t ≡ Some p → (e : Pair) × Contains t e × (e.owner ≡ p)
-get_listed x p [] h = cc
-get_listed x p (e ∷ t) h = go (e.name == x) h (get_listed x p t)
-  where
-    go : (b : Bool) → (if b then Some e.owner else get x t) ≡ Some p
-        → (get x t ≡ Some p → (d : Pair) × Contains t d × (d.owner ≡ p)) → (d : Pair) × Contains (e ∷ t) d × (d.owner ≡ p)
-    go true k more = (e, Contains-front e t, let i : e.owner ≡ p = cc k in i)
-    go false k more = let z : (d : Pair) × Contains t d × (d.owner ≡ p) = more k in
-        (z.0, Contains-behind e t z.0 z.1, z.2)
-
 -- who dies where a node is let in: a process of a member, or of the joiner
 pub admitted_dead : (o : Opening) (w : World) → Base o w → (a j k : ℕ) (pairs : Table) (r : Round) (more : List Entry)
     → IsUp o w a → (w.node a).current ≡ Current.Asking (Op.Admission j pairs) r
@@ -234,56 +224,29 @@ admitted_dead o w B a j k pairs r0 more up asks legal calm p running dead =
     kills c = (
       subst (λ (t : Table). Contains (settle t pairs).fate.kills p) (sym (ap (λ (v : Replica). v.table) shows))
           (subst (λ (t : Table). Contains (settle (view (standing_at o w).registry a) t).fate.kills p) sent_pairs here),
-      elim ((kills-settle_from (view (standing_at o w).registry a) ((standing_at o w).registry.lone j)
-          unsettled p).0 here) [
-            | inl i ↦ absurd (Contains-nil p i)
-            | inr i ↦ loses i
-          ],
+      whose (name_of_killed (view (standing_at o w).registry a) ((standing_at o w).registry.lone j)
+          (is_rising-view (standing_at o w).registry good.rises a) (good.rises.lone j) p here),
     )
       where
+        good : IsGood (standing_at o w).registry
+        good = IsGood-standing_of (in_cluster o) w.history (replicas o w B).legal
+
         here : Contains (settle (view (standing_at o w).registry a) ((standing_at o w).registry.lone j)).fate.kills p
         here = subst (λ (q : Registry). Contains (settle (view q a) (q.lone j)).fate.kills p) same c
 
-        member : (e : Pair) → Contains (view (standing_at o w).registry a) e → e.owner ≡ p
-            → (w.node a).replica.members p.node ≡ true
-        member e l i =
-            let k2 : (not ((standing_at o w).registry.told a e.owner.node) ≡ true)
-            × Contains (if (standing_at o w).registry.joined a then (standing_at o w).registry.table
-            else (standing_at o w).registry.lone a) e =
-            kept_of (λ (z : Pair). not ((standing_at o w).registry.told a z.owner.node)) _ e l in
-            let listed : Contains (standing_at o w).registry.table e = subst
-            (λ (b : Bool). Contains (if b then (standing_at o w).registry.table
-            else (standing_at o w).registry.lone a) e) rule.contact k2.1 in
-            let joined : (standing_at o w).registry.joined e.owner.node ≡ true =
-            all_at (λ (z : Pair). (standing_at o w).registry.joined z.owner.node) (standing_at o w).registry.table e
-            (joined_owners (in_cluster o) w.history (replicas o w B).legal) listed in
-            ap (λ (v : Replica). v.members p.node) shows
-            ∙ subst (λ (q : Process). ((if (standing_at o w).registry.joined a
-            then (standing_at o w).registry.joined q.node else q.node == a)
-            && not ((standing_at o w).registry.told a q.node)) ≡ true) i
-            (rw (rule.contact, joined, k2.0) refl)
+        -- an owner that the contact sees is on a member
+        member : (x : Text) → get x (view (standing_at o w).registry a) ≡ Some p → (w.node a).replica.members p.node ≡ true
+        member x h =
+            let seen : (get x (table_of (standing_at o w).registry a) ≡ Some p)
+            × ((standing_at o w).registry.told a p.node ≡ false) =
+            get-seen ((standing_at o w).registry.told a) (table_of (standing_at o w).registry a)
+            (is_rising-table_of (standing_at o w).registry good.rises a) x p h in
+            let joined : (standing_at o w).registry.joined p.node ≡ true = good.joined_owners.owner x p
+            (subst (λ (b : Bool). get x (if b then (standing_at o w).registry.table
+            else (standing_at o w).registry.lone a) ≡ Some p) rule.contact seen.0) in
+            ap (λ (v : Replica). v.members p.node) shows ∙ rw (rule.contact, joined, seen.1) refl
 
-        loses : LosesOne (view (standing_at o w).registry a) ((standing_at o w).registry.lone j) p
+        whose : HasName (view (standing_at o w).registry a) ((standing_at o w).registry.lone j) p
             → ((w.node a).replica.members p.node ≡ true) ⊎ (p.node ≡ j)
-        loses (e, listed, i) = by (get e.name (view (standing_at o w).registry a)) refl i
-          where
-            own : e.owner ≡ p → p.node ≡ j
-            own k2 = ap (λ (q : Process). q.node) (sym k2)
-                ∙ eqb-true e.owner.node j
-                (all_at (λ (z : Pair). z.owner.node == j) ((standing_at o w).registry.lone j) e
-                (States.lone_owners o w (replicas o w B) j rule.lone) listed)
-
-            by : (x : Option Process) → get e.name (view (standing_at o w).registry a) ≡ x → loser e x ≡ Some p
-                → ((w.node a).replica.members p.node ≡ true) ⊎ (p.node ≡ j)
-            by None g l = cc l
-            by (Some q) g l = cases (nat_lt e.owner.node q.node) (is_process e.owner q) l
-              where
-                cases : (b c : Bool) → (if b then Some q else (if c then None else Some e.owner)) ≡ Some p
-                    → ((w.node a).replica.members p.node ≡ true) ⊎ (p.node ≡ j)
-                cases true c m =
-                    let i2 : q ≡ p = cc m in
-                    let d : (z : Pair) × Contains (view (standing_at o w).registry a) z × (z.owner ≡ q) =
-                    get_listed e.name q (view (standing_at o w).registry a) g in
-                    inl (member d.0 d.1 (d.2 ∙ i2))
-                cases false true m = cc m
-                cases false false m = let i2 : e.owner ≡ p = cc m in inr (own i2)
+        whose (x, inl h) = inl (member x h)
+        whose (x, inr h) = inr ((good.owners.own j rule.lone).owner x p h)

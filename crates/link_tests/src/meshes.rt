@@ -1,7 +1,7 @@
 //! Meshes of a few nodes and their ends, row by row.
 use link::{Inbox, LinkFault, Mesh, Post, Unsent, are_rising};
 use std::alloc::{AllocError, Global};
-use term::{MOST_NODES, NodeName, NodeSet, parse_node, parse_nodes};
+use term::{MOST_NODES, NodeName, NodeNames, parse_node, parse_nodes};
 
 /// What is asked of a mesh, and what comes of it.
 #[derive(Clone, Copy)]
@@ -181,7 +181,7 @@ fn holds(alloc: Global, mesh: &mut Mesh<u32>, row: Row<'_>) -> bool {
 }
 
 /// A mesh of these nodes.
-fn mesh_of(alloc: Global, nodes: &NodeSet) -> Option<Mesh<u32>> {
+fn mesh_of(alloc: Global, nodes: &NodeNames) -> Option<Mesh<u32>> {
     let nodes = nodes.as_slice();
     if nodes.len() > MOST_NODES || !are_rising(nodes) {
         return None;
@@ -191,7 +191,7 @@ fn mesh_of(alloc: Global, nodes: &NodeSet) -> Option<Mesh<u32>> {
 
 /// The first row that doesn't hold, in a mesh of these nodes.
 fn first_wrong<'a>(alloc: Global, list: &str, script: &'a str) -> Option<&'a str> {
-    let nodes = parse_nodes(list).unwrap_or(NodeSet::empty());
+    let nodes = parse_nodes(list).unwrap_or(NodeNames::empty());
     let Some(mut mesh) = mesh_of(alloc, &nodes) else {
         return Some("no mesh");
     };

@@ -146,10 +146,10 @@ module _ (o : Opening) (a : ℕ) (w : World) (B : Base o w) where
     where
       go : (r : Rule) → is_notice r ≡ false → Rules.May o a w r
           → call_of p (Rules.turn_by o a w r).node.calls ≡ Some c
-          → ClearIn (replica_by r (w.node a).replica).told c.phase
+          → ClearIn (replica_by a r (w.node a).replica).told c.phase
       go (Rules.IsTold f) q m e = cc
       go (Rules.IsAdmitted f j settled) q m e = subst (λ (s : Nodes). ClearIn s c.phase)
-          (sym (admitted-told j settled (w.node a).replica)) (stepped_clear (Rules.IsAdmitted f j settled) m C p c e)
+          (sym (admitted-told a j settled (w.node a).replica)) (stepped_clear (Rules.IsAdmitted f j settled) m C p c e)
       go (Rules.IsWelcomed f k members pairs told fate) q m e = welcomed_clear f k members pairs told c.phase
           m.tested.1 (m.inside, m.running) letter.2 (N a p c e)
           (stepped_clear (Rules.IsWelcomed f k members pairs told fate) m C p c e)

@@ -7,7 +7,7 @@ use Rattle.std.proofs.lemmas.List.Elements.{filter-append}
 use Rattle.std.proofs.lemmas.Grind.{flat_map-append}
 use Rattle.std.proofs.lemmas.Bool.{eqb-true, eq-eqb}
 use Rattle.registry_model.specs.Process.{Process, is_process}
-use Rattle.registry_model.specs.Call.{Reply, Yes, No, Ok, UnknownNode, True, False, Joined, NotMember, ContactLeft, Pid, Undefined, Names}
+use Rattle.registry_model.specs.Call.{Reply, Yes, No, Ok, UnknownNode, True, False, Joined, NotMember, ContactLeft, Pid, Undefined, Names, Notices}
 use Rattle.registry_model.proofs.Lists.{Contains-split, by_push}
 use Rattle.protocol_model.specs.Event.{Call, Event, Answer, Refusal, calls_spent}
 use Rattle.protocol_model.specs.Fit.{calls_in}
@@ -159,6 +159,7 @@ only_true (Call.DelLock p r q target) reply h m = go reply m
     go (Pid process) k = cc
     go Undefined k = cc
     go (Names names) k = cc
+    go (Notices notices) k = cc
 only_true Call.Spawn reply h m = cc
 only_true (Call.LookUp look) reply h m = cc
 only_true (Call.OnName c) reply h m = cc

@@ -269,11 +269,11 @@ module _ (n a : ℕ) (number : ℕ → ℕ) where
   read_silent : (f : ℕ) (l : Letter) (u : Turn) → spares l ≡ false → list_any is_lock_answer u.answers ≡ false
       → list_any is_lock_answer (read n a number f l u).answers ≡ false
   read_silent f (Letter.Admit j settled) u h e =
-      ap (list_any is_lock_answer) (kill-answers settled.fate.kills (with_replica (admitted j settled) u)) ∙ e
+      ap (list_any is_lock_answer) (kill-answers settled.fate.kills (with_replica (admitted a j settled) u)) ∙ e
   read_silent f (Letter.Welcome members pairs told fate) u h e = go u.node.current
     where
       v : Turn
-      v = kill n a fate.kills (with_replica (welcomed members pairs told) u)
+      v = kill n a fate.kills (with_replica (welcomed a members pairs told fate) u)
 
       go : (c : Current)
           → list_any is_lock_answer (welcome n a number f members pairs told fate c u).answers ≡ false
@@ -282,7 +282,7 @@ module _ (n a : ℕ) (number : ℕ → ℕ) where
           ends : (t : Bool) → list_any is_lock_answer (if t then send f Letter.Applied
               (reply_with a k Joined (at_work Current.Free v)) else u).answers ≡ false
           ends true = push_none is_lock_answer v.answers (answer_to a k Joined) refl
-              ∙ ap (list_any is_lock_answer) (kill-answers fate.kills (with_replica (welcomed members pairs told) u)) ∙ e
+              ∙ ap (list_any is_lock_answer) (kill-answers fate.kills (with_replica (welcomed a members pairs told fate) u)) ∙ e
           ends false = e
       go _ = e
   read_silent f _ u h e = cc

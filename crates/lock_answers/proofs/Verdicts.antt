@@ -5,7 +5,7 @@ use Rattle.std.specs.Prelude.{Contains, if◌then◌else◌}
 use Rattle.std.specs.List.{list_all}
 use Rattle.std.proofs.lemmas.List.Elements.{Contains-append_cases}
 use Rattle.registry_model.specs.Process.{Process, Nodes}
-use Rattle.registry_model.specs.Call.{Look, Whereis, RegisteredNames, Reply, True, False, pid_or_undefined, reply_to, seen_in}
+use Rattle.registry_model.specs.Call.{Look, Whereis, RegisteredNames, NoticesOf, Reply, True, False, pid_or_undefined, reply_to, seen_in}
 use Rattle.registry_model.proofs.Lists.{Contains-cases, Contains-nil}
 use Rattle.protocol_model.specs.Round.{Round, is_over, asked, GiveBack, ending}
 use Rattle.protocol_model.specs.Node.{Op, Current, LockPhase, LockCall}
@@ -43,6 +43,7 @@ look_no_verdict v (Whereis x) = go (get x v.table)
     go None = refl
     go (Some p) = refl
 look_no_verdict v RegisteredNames = refl
+look_no_verdict v (NoticesOf p) = refl
 
 -- s is the `false` of an open call whose retries are spent, and whose round at node a has failed
 pub record GaveUp (o : Opening) (a : ℕ) (w : World) (s : Answer) : Type 0 where

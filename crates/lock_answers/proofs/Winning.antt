@@ -77,9 +77,9 @@ module _ (o : Opening) (a : ℕ) where
 
   -- members stay, but for those whose departure is told
   member_by : (w : World) → Ground o w → (r : Rule) → is_notice r ≡ false → Rules.May o a w r → (x : ℕ)
-      → (w.node a).replica.members x ≡ true → (replica_by r (w.node a).replica).members x ≡ true
+      → (w.node a).replica.members x ≡ true → (replica_by a r (w.node a).replica).members x ≡ true
   member_by w G (Rules.IsTold f) q m x h = cc
-  member_by w G (Rules.IsAdmitted f j settled) q m x h = admitted-members j settled (w.node a).replica x h
+  member_by w G (Rules.IsAdmitted f j settled) q m x h = admitted-members a j settled (w.node a).replica x h
   member_by w G (Rules.IsWelcomed f k members pairs told fate) q m x h =
       wide o w G.base f a k members pairs told fate m.front.1.0 m.inside m.running m.tested.0 m.tested.1 m.front.1.1 x
       h

@@ -15,13 +15,13 @@ use locker::Round;
 use std::alloc::{AllocError, Global};
 use std::collections::BTreeMap;
 use std::marker::Model;
-use term::{NodeName, Pid};
+use term::{Node, Pid};
 
 /// The unanswered lock calls of one node, by the serials of the processes that made them.
 #[derive(Drop)]
 pub struct LockCalls {
     alloc: Global,
-    node: NodeName,
+    node: Node,
     calls: BTreeMap<u32, KeptCall>,
 }
 
@@ -38,7 +38,7 @@ impl Model for LockCalls {
 
 impl LockCalls {
     /// No call of this node. It takes no memory yet.
-    pub fn new(alloc: Global, node: NodeName) -> Self
+    pub fn new(alloc: Global, node: Node) -> Self
         ensures { result ≡ none_at node }
     {
         LockCalls {
@@ -109,7 +109,7 @@ impl LockCalls {
     }
 
     /// Tells the round of a process's call, where the process has a call whose round asks, of a node's answer. It takes no memory.
-    pub fn answer(&mut self, holder: &Pid, from: &NodeName, granted: bool)
+    pub fn answer(&mut self, holder: &Pid, from: &Node, granted: bool)
         ensures node { self.new.node ≡ self.old.node }
         ensures calls { seen self.new ≡ stands_by (answered from.now granted) (call_of holder.now (seen self.old)) (seen self.old) }
     {
@@ -124,7 +124,7 @@ impl LockCalls {
 
     /// Tells the round of a process's call, where the process has a call whose round asks, that a node has gone down. It takes
     /// no memory.
-    pub fn lose(&mut self, holder: &Pid, gone: &NodeName)
+    pub fn lose(&mut self, holder: &Pid, gone: &Node)
         ensures node { self.new.node ≡ self.old.node }
         ensures calls { seen self.new ≡ stands_by (lost gone.now) (call_of holder.now (seen self.old)) (seen self.old) }
     {
@@ -167,7 +167,7 @@ impl LockCalls {
 
     /// Tells the deletion of a process's call, where the process has a call that is one, that a node has given the lock up. It
     /// takes no memory.
-    pub fn give_up(&mut self, holder: &Pid, from: &NodeName)
+    pub fn give_up(&mut self, holder: &Pid, from: &Node)
         ensures node { self.new.node ≡ self.old.node }
         ensures calls { seen self.new ≡ stands_by (given_up from.now) (call_of holder.now (seen self.old)) (seen self.old) }
     {

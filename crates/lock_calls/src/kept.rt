@@ -10,7 +10,7 @@ use crate::call::{CallPhase, LockCall};
 use locker::Round;
 use std::alloc::{AllocError, Global};
 use std::marker::Model;
-use term::NodeName;
+use term::Node;
 
 /// A call in memory of its own: it is large, and a map moves what it has.
 #[derive(Drop)]
@@ -51,7 +51,7 @@ impl KeptCall {
     }
 
     /// Tells the round of the call, where it asks, of a node's answer.
-    pub(crate) fn answer(&mut self, from: &NodeName, granted: bool)
+    pub(crate) fn answer(&mut self, from: &Node, granted: bool)
         ensures { as_call self.new ≡ in_phase (answered from.now granted (as_call self.old).phase) (as_call self.old) }
     {
         if let CallPhase::Asking(round) = &mut self.call.phase {
@@ -60,7 +60,7 @@ impl KeptCall {
     }
 
     /// Tells the round of the call, where it asks, that a node has gone down.
-    pub(crate) fn lose(&mut self, gone: &NodeName)
+    pub(crate) fn lose(&mut self, gone: &Node)
         ensures { as_call self.new ≡ in_phase (lost gone.now (as_call self.old).phase) (as_call self.old) }
     {
         if let CallPhase::Asking(round) = &mut self.call.phase {
@@ -84,7 +84,7 @@ impl KeptCall {
     }
 
     /// Tells the call, where it is a deletion, that a node has given the lock up.
-    pub(crate) fn give_up(&mut self, from: &NodeName)
+    pub(crate) fn give_up(&mut self, from: &Node)
         ensures { self.new ≡ record self.old { phase = with_one_less from.now self.old.phase } }
     {
         if let CallPhase::Deleting(owing) = &mut self.call.phase {

@@ -1,12 +1,12 @@
 -- Each rule keeps what is known of departures, members and letters by themselves.
 use Rattle.std.proofs.Common.{ℕ, Bool, true, false, ◌==◌, ◌≡◌, Option, Some, List, [], ◌∷◌, ◌++◌, refl, sym, ap, ◌∙◌, subst, inl, inr}
-use Rattle.std.specs.Prelude.{not, ◌&&◌, ◌||◌, nat_lt, if◌then◌else◌, fold}
+use Rattle.std.specs.Prelude.{not, ◌&&◌, ◌||◌, nat_lt, if◌then◌else◌}
 use Rattle.std.proofs.lemmas.Bool.{cases_eq, eq-eqb, eqb-true}
 use Rattle.registry_model.specs.Process.{Nodes, nodes_of, at}
-use Rattle.registry_model.specs.Table.{Table, Put, Change, StrikeOwner, put_all}
+use Rattle.registry_model.specs.Table.{Table, Change, StrikeOwner}
 use Rattle.registry_model.specs.Call.{Reply, change_of}
 use Rattle.registry_model.specs.Registry.{Replica}
-use Rattle.registry_model.specs.Settlement.{Settled, settle}
+use Rattle.registry_model.specs.Settlement.{Fate, Settled, with_settled, settle}
 use Rattle.protocol_model.specs.Round.{asked, answer, rest, opens}
 use Rattle.protocol_model.specs.Letter.{Global, Letter, is_down}
 use Rattle.protocol_model.specs.LockTable.{is_free_for}
@@ -15,11 +15,12 @@ use Rattle.protocol_model.specs.Node.{Op, Current, LockPhase, wrote, targets}
 use Rattle.protocol_model.specs.Turn.{Turn, sent_to, begun, at_work, keep_call, send_all}
 use Rattle.protocol_model.specs.Registrar.{registrar, done}
 use Rattle.protocol_model.specs.Client.{is_spent, in_phase, close_call, give_lock}
-use Rattle.protocol_model.specs.Reading.{with_member, welcomed, bereft, judge, take_back}
+use Rattle.protocol_model.specs.Reading.{with_member, wrote_all, admitted, welcomed, bereft, judge, take_back}
 use Rattle.protocol_model.specs.World.{Opening, in_world, in_cluster, World, left, join_number, opening_world}
 use Rattle.moves.proofs.Rules.{Rule, Taken, takes, turn_by, May, effect}
 use Rattle.registry_model.proofs.Updates.{by_test, at_same, at_other}
 use Rattle.moves.proofs.Indices.{both}
+use Rattle.moves.proofs.Writes.{IsAsideTable, wrote_all-keeps}
 use Rattle.moves.proofs.Sends.{to_each, sent_to-append, sent_to-all}
 use Rattle.moves.proofs.Invariants.{Each, is_down_last, IsUp, IsProper, IsProperOp, AreProperOps, IsProperCurrent, Proper}
 use Rattle.lock_sessions.proofs.Base.{not_both, is_leave, others, farewell, ran_before, popped_queue, popped, after_turn, posted-here, posted-other, each-append, each-map, each-popped, each-posted, each-one, each-all, down_last-append, down_last-none, down_last-popped}
@@ -145,12 +146,6 @@ module _ (o : Opening) (a : ℕ) (w : World) (I : Proper o w) (up : IsUp o w a) 
   wrote_fine : (change : Change) (v : Replica) → FineReplica v → FineReplica (wrote change v)
   wrote_fine change v F = record { told = F.told; itself = F.itself; inside = F.inside }
 
-  -- so do many writes
-  puts_fine : (puts : Table) (v : Replica) → FineReplica v
-      → FineReplica (fold (λ x e. wrote (Put e) x) v puts)
-  puts_fine [] v F = F
-  puts_fine (e ∷ puts) v F = puts_fine puts (wrote (Put e) v) (wrote_fine (Put e) v F)
-
   -- a node of the world may become a member
   with_member_fine : (j : ℕ) → in_world o j ≡ true → FineReplica (with_member j (w.node a).replica)
   with_member_fine j isin = go ((w.node a).replica.told j)
@@ -167,11 +162,29 @@ module _ (o : Opening) (a : ℕ) (w : World) (I : Proper o w) (up : IsUp o w a) 
             (λ h. isin) (λ c ne h. own.inside c h);
       }
 
+  -- and what was settled is written, with its notices
+  admitted_fine : (j : ℕ) (settled : Settled) → in_world o j ≡ true
+      → FineReplica (admitted a j settled (w.node a).replica)
+  admitted_fine j settled isin = record {
+    told = λ d h. fine_member.told d (sym (ap (λ (x : Nodes). x d) same.told) ∙ h);
+    itself = ap (λ (x : Nodes). x a) same.members ∙ fine_member.itself;
+    inside = λ c h. fine_member.inside c (sym (ap (λ (x : Nodes). x c) same.members) ∙ h);
+  }
+    where
+      with_j : Replica
+      with_j = with_member j (w.node a).replica
+
+      fine_member : FineReplica with_j
+      fine_member = with_member_fine j isin
+
+      same : IsAsideTable (wrote_all settled with_j) with_j
+      same = wrote_all-keeps settled with_j
+
   -- a welcome leaves no node that runs
-  welcomed_fine : (members : Nodes) (pairs : Table) (told : Nodes) → members a ≡ true
+  welcomed_fine : (members : Nodes) (pairs : Table) (told : Nodes) (fate : Fate) → members a ≡ true
       → ((c : ℕ) → members c ≡ true → in_world o c ≡ true)
-      → ((d : ℕ) → told d ≡ true → left w d ≡ true) → FineReplica (welcomed members pairs told (w.node a).replica)
-  welcomed_fine members pairs told me isin gone = record {
+      → ((d : ℕ) → told d ≡ true → left w d ≡ true) → FineReplica (welcomed a members pairs told fate (w.node a).replica)
+  welcomed_fine members pairs told fate me isin gone = record {
     told = λ d. either d ((w.node a).replica.told d) refl;
     itself = ap (λ (b : Bool). b && not ((w.node a).replica.told a || told a)) me
         ∙ here ((w.node a).replica.told a) (told a) refl refl;
@@ -296,7 +309,7 @@ module _ (o : Opening) (a : ℕ) (w : World) (I : Proper o w) (up : IsUp o w a) 
       admission = Letter.Admit j s
 
       welcome : Letter
-      welcome = Letter.Welcome (at (w.node a).replica.members j true) (put_all s.puts (w.node a).replica.table)
+      welcome = Letter.Welcome (at (w.node a).replica.members j true) (with_settled s (w.node a).replica.table)
           (w.node a).replica.told s.fate
 
       is_fine : (n : ℕ) → j ≡ n → IsProper o w a n welcome
@@ -335,14 +348,13 @@ module _ (o : Opening) (a : ℕ) (w : World) (I : Proper o w) (up : IsUp o w a) 
       plain _ refl refl (I.currents a) (to_one f Letter.JoinRefused (λ n e. tt))
   fine_turn (Rule.EndsJoin f k) e m = plain _ refl refl tt (λ n. tt)
   fine_turn (Rule.IsAdmitted f j settled) e m = record {
-    replica = puts_fine settled.puts (with_member j (w.node a).replica)
-        (with_member_fine j (front_is f (Letter.Admit j settled) m.front.1.0 m.front.1.1));
+    replica = admitted_fine j settled (front_is f (Letter.Admit j settled) m.front.1.0 m.front.1.1);
     queue = I.queues a;
     current = I.currents a;
     sends = λ n run. to_one f Letter.Applied (λ n e. tt) n;
   }
   fine_turn (Rule.IsWelcomed f k members pairs told fate) e m = record {
-    replica = welcomed_fine members pairs told known.0 known.1 known.2;
+    replica = welcomed_fine members pairs told fate known.0 known.1 known.2;
     queue = I.queues a;
     current = tt;
     sends = λ n run. to_one f Letter.Applied (λ n e. tt) n;

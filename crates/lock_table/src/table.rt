@@ -15,7 +15,7 @@ use indexmap::IndexMap;
 use std::alloc::{AllocError, Global};
 use std::collections::BTreeMap;
 use std::marker::Model;
-use term::{LockId, NodeName, Pid, Requester, Resource};
+use term::{LockId, Node, Pid, Requester, Resource};
 
 /// Who has which locks at one node, and how often. Holders that ask in the name of one requester share a resource;
 /// another requester is kept from it until they have given back all that they had.
@@ -194,7 +194,7 @@ impl LockTable {
     }
 
     /// What the first grant of a node's first holder is filed under, if any of its processes has one.
-    fn first_on(&self, node: &NodeName) -> Option<Key>
+    fn first_on(&self, node: &Node) -> Option<Key>
         ensures some { IfSome result (λ key. IsListedUnder key self.now × (key.holder.node ≡ node.now)) }
         ensures none { IfNone result (All (λ g. (g.holder.node == node.now) ≡ false) self.now) }
     {
@@ -220,7 +220,7 @@ impl LockTable {
     }
 
     /// Takes all locks of a node's processes away.
-    pub fn drop_node(&mut self, node: &NodeName)
+    pub fn drop_node(&mut self, node: &Node)
         ensures { self.new ≡ drop_node node.now self.old }
     {
         while let Some(first) = self.first_on(node) {

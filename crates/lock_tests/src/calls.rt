@@ -4,11 +4,11 @@ ghost use Rattle.std.specs.Prelude.{◌≡◌, ◌<◌};
 use lock_calls::{CallPhase, LockCall, LockCalls};
 use locker::Round;
 use std::alloc::Global;
-use term::{LockId, NodeName, NodeSet, Pid, parse_node};
+use term::{LockId, Node, NodeNames, NodeSet, Pid, parse_node};
 use transaction::{Nodes, Retries};
 
 /// The process of a node that has this serial.
-fn process(node: &NodeName, serial: u32) -> Pid
+fn process(node: &Node, serial: u32) -> Pid
     ensures { result ≡ record { node = node.now; serial = serial } }
 {
     Pid {
@@ -62,7 +62,7 @@ fn are_holders(alloc: Global, calls: &LockCalls, first: &Pid, second: &Pid) -> b
 }
 
 /// Whether the calls of a node keep one call of each of two processes.
-fn keep_one(alloc: Global, node: &NodeName, other: &NodeName) -> bool {
+fn keep_one(alloc: Global, node: &Node, other: &Node) -> bool {
     let (p, q) = (process(node, 1), process(node, 2));
     let mut calls = LockCalls::new(alloc, node.copy());
     puts(&mut calls, &q, 1, CallPhase::Waiting)
@@ -78,7 +78,7 @@ fn keep_one(alloc: Global, node: &NodeName, other: &NodeName) -> bool {
 }
 
 /// Whether the calls of a node tell that one waits, and none where one deletes and another asks.
-fn tell_waiting(alloc: Global, node: &NodeName) -> bool {
+fn tell_waiting(alloc: Global, node: &Node) -> bool {
     let members = NodeSet::one(node.copy());
     let (p, q) = (process(node, 1), process(node, 2));
     let mut calls = LockCalls::new(alloc, node.copy());
@@ -104,7 +104,7 @@ fn is_copied(call: &LockCall) -> bool {
 
 /// Whether a call that names its node is copied.
 fn copies(alloc: Global, holder: &Pid) -> bool {
-    match Nodes::named(alloc, NodeSet::one(holder.node.copy())) {
+    match Nodes::named(alloc, NodeNames::of(&NodeSet::one(holder.node.copy()))) {
         Ok(Some(nodes)) => {
             let mut call = call_of(holder, 1, CallPhase::Waiting);
             call.nodes = nodes;
@@ -115,7 +115,7 @@ fn copies(alloc: Global, holder: &Pid) -> bool {
 }
 
 /// Whether a copy of calls keeps a call that is taken out of them.
-fn copy_keeps(alloc: Global, node: &NodeName) -> bool {
+fn copy_keeps(alloc: Global, node: &Node) -> bool {
     let holder = process(node, 1);
     let mut calls = LockCalls::new(alloc, node.copy());
     if !puts(&mut calls, &holder, 1, CallPhase::Waiting) {
@@ -133,7 +133,7 @@ fn copy_keeps(alloc: Global, node: &NodeName) -> bool {
 }
 
 /// Whether a call that waits asks again, loses its node and waits again.
-fn asks_again(alloc: Global, node: &NodeName) -> bool {
+fn asks_again(alloc: Global, node: &Node) -> bool {
     let holder = process(node, 1);
     let mut calls = LockCalls::new(alloc, node.copy());
     if !puts(&mut calls, &holder, 1, CallPhase::Waiting) {
@@ -150,6 +150,7 @@ fn asks_again(alloc: Global, node: &NodeName) -> bool {
 fn keeps_one_call_of_a_process(rt: HostRuntime) {
     match (parse_node("a"), parse_node("b")) {
         (Ok(a), Ok(b)) => {
+            let (a, b) = (Node::first(a), Node::first(b));
             assert!(rt; keep_one(rt.alloc(), &a, &b));
             assert!(rt; tell_waiting(rt.alloc(), &a));
             assert!(rt; copies(rt.alloc(), &process(&a, 1)));

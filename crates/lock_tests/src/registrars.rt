@@ -1,15 +1,16 @@
 //! A registrar that works its queue off.
 use name_table::{Change, Pair};
 use std::alloc::Global;
-use term::{NodeName, NodeSet, Pid, parse_name, parse_node, parse_nodes, parse_pid};
+use term::{Node, NodeSet, Rule, parse_name, parse_node, parse_nodes, parse_pid};
 use transaction::{NameCall, Op, Registrar};
 
-/// The call that registers a name for `a.1`.
-fn register(name: &str) -> Option<NameCall> {
-    match (parse_name(name), parse_pid("a.1")) {
-        (Ok(name), Ok(owner)) => Some(NameCall::Register(name, owner)),
-        _ => None,
-    }
+/// The name `x` of a process, which is told if it loses the name.
+fn pair(owner: &str) -> Option<Pair> {
+    Some(Pair {
+        name: parse_name("x").ok()?,
+        owner: parse_pid(owner).ok()?,
+        rule: Rule::Notify,
+    })
 }
 
 /// Whether the operation of a call of this number is current.
@@ -32,7 +33,7 @@ fn starts(registrar: &mut Registrar, call: &NameCall) -> bool {
 }
 
 /// Whether the current operation is done once both nodes have carried it out, each once.
-fn awaits(registrar: &mut Registrar, both: &NodeSet, a: &NodeName, b: &NodeName) -> bool {
+fn awaits(registrar: &mut Registrar, both: &NodeSet, a: &Node, b: &Node) -> bool {
     if registrar.current().is_none() {
         return false;
     }
@@ -71,22 +72,19 @@ fn is_copied(op: &Op) -> bool {
 
 /// Whether an admission with a name is its copy.
 fn admission_is_copied(alloc: Global) -> bool {
-    match (parse_node("b"), parse_name("x"), parse_pid("b.1")) {
-        (Ok(joiner), Ok(name), Ok(owner)) => {
+    match (parse_node("b"), pair("b.1")) {
+        (Ok(joiner), Some(pair)) => {
+            let joiner = Node::first(joiner);
             let mut pairs = Vec::new(alloc);
-            pairs.push(Pair { name, owner }).is_ok() && is_copied(&Op::Admission(joiner, pairs))
+            pairs.push(pair).is_ok() && is_copied(&Op::Admission(joiner, pairs))
         }
         _ => false,
     }
 }
 
-/// Whether a call is its copy, and puts the name.
-fn is_put(call: &NameCall) -> bool {
-    call.copy() == *call
-        && match (parse_name("x"), parse_pid("a.1")) {
-            (Ok(name), Ok(owner)) => call.change() == Change::Put(name, owner),
-            _ => false,
-        }
+/// Whether a call is its copy, and puts the pair.
+fn is_put(call: &NameCall, pair: &Pair) -> bool {
+    call.copy() == *call && call.change() == Change::Put(pair.copy())
 }
 
 /// Whether a new registrar carries out two calls, one after the other.
@@ -94,8 +92,9 @@ fn carries_out(alloc: Global, call: &NameCall) -> bool {
     let mut registrar = Registrar::new(alloc);
     match (parse_nodes("a,b"), parse_node("a"), parse_node("b")) {
         (Ok(both), Ok(a), Ok(b)) => {
+            let both = NodeSet::first_of(&both);
             starts(&mut registrar, call)
-                && awaits(&mut registrar, &both, &a, &b)
+                && awaits(&mut registrar, &both, &Node::first(a), &Node::first(b))
                 && copy_goes_on(&registrar, call)
                 && goes_on(&mut registrar, call)
         }
@@ -105,9 +104,10 @@ fn carries_out(alloc: Global, call: &NameCall) -> bool {
 
 #[test]
 fn carries_out_what_waits(rt: HostRuntime) {
-    match register("x") {
-        Some(call) => {
-            assert!(rt; is_put(&call));
+    match pair("a.1") {
+        Some(pair) => {
+            let call = NameCall::Register(pair.copy());
+            assert!(rt; is_put(&call, &pair));
             assert!(rt; carries_out(rt.alloc(), &call));
             assert!(rt; admission_is_copied(rt.alloc()));
         }

@@ -1,11 +1,11 @@
 //! Rounds over a few nodes, row by row, and the boss of a set.
 use boss_order::{boss, rest};
 use locker::{Ending, Round};
-use term::{NodeName, NodeSet, parse_node, parse_nodes};
+use term::{Node, NodeNames, NodeSet, parse_node, parse_nodes};
 
 /// The nodes of a list, or none where it is no list.
 fn nodes_of(list: &str) -> NodeSet {
-    parse_nodes(list).unwrap_or(NodeSet::empty())
+    NodeSet::first_of(&parse_nodes(list).unwrap_or(NodeNames::empty()))
 }
 
 /// Whether `true` or `false` was told.
@@ -22,7 +22,7 @@ fn ends(round: &Round, members: &str, wanted: &str) -> bool {
 }
 
 /// Whether a round takes what happens to a node, or tells of it what a row says.
-fn node_holds(round: &mut Round, word: &str, node: &NodeName, wanted: &str) -> bool {
+fn node_holds(round: &mut Round, word: &str, node: &Node, wanted: &str) -> bool {
     match word {
         "grants" => round.answer(node, true),
         "refuses" => round.answer(node, false),
@@ -54,7 +54,7 @@ fn holds(round: &mut Round, row: &str) -> bool {
         return ends(round, of, wanted);
     }
     match parse_node(of) {
-        Ok(node) => node_holds(round, word, &node, wanted),
+        Ok(node) => node_holds(round, word, &Node::first(node), wanted),
         Err(_) => false,
     }
 }
@@ -128,7 +128,7 @@ fn ends_by_the_answers(rt: HostRuntime) {
 /// Whether this is the boss of the nodes of a list, and these are the rest.
 fn has_boss(list: &str, wanted: &str, others: &str) -> bool {
     let nodes = nodes_of(list);
-    !nodes.is_empty() && boss(&nodes).as_str() == wanted && rest(&nodes) == nodes_of(others)
+    !nodes.is_empty() && boss(&nodes).name().as_str() == wanted && rest(&nodes) == nodes_of(others)
 }
 
 /// Whether the nodes of two lists have these in common.

@@ -4,7 +4,7 @@ ghost use Rattle.transaction.specs.Counts.{set_replies, deletion_replies};
 
 use std::alloc::Global;
 use std::test::Fail;
-use term::{LockId, NodeSet, parse_node};
+use term::{LockId, Node, NodeNames, parse_node, parse_nodes};
 use transaction::{LockReply, LockSeat, Nodes, Outcome, Retries, TransFault, trans};
 
 /// A seat that is told beforehand what its calls come to.
@@ -126,7 +126,7 @@ fn nests(alloc: Global, id: &LockId) -> bool {
 
 #[test]
 fn works_under_the_lock(rt: HostRuntime) -> Result<(), Fail> {
-    let id = LockId::global(&parse_node("a")?);
+    let id = LockId::global(&Node::first(parse_node("a")?));
     assert!(rt; works(rt.alloc(), &id));
     assert!(rt; aborts(rt.alloc(), &id));
     assert!(rt; fails(rt.alloc(), &id));
@@ -137,10 +137,10 @@ fn works_under_the_lock(rt: HostRuntime) -> Result<(), Fail> {
 
 /// Whether nodes of a set of one are that one, and so are their copy.
 fn names_one(alloc: Global, text: &str) -> bool {
-    let Ok(node) = parse_node(text) else {
+    let (Ok(node), Ok(names)) = (parse_node(text), parse_nodes(text)) else {
         return false;
     };
-    match Nodes::named(alloc, NodeSet::one(node.copy())) {
+    match Nodes::named(alloc, names) {
         Ok(Some(Nodes::Named(nodes))) => {
             nodes.as_set().contains(&node)
                 && match nodes.copy() {
@@ -154,7 +154,7 @@ fn names_one(alloc: Global, text: &str) -> bool {
 
 #[test]
 fn names_at_least_one_node(rt: HostRuntime) {
-    assert!(rt; matches!(Nodes::named(rt.alloc(), NodeSet::empty()), Ok(None)));
+    assert!(rt; matches!(Nodes::named(rt.alloc(), NodeNames::empty()), Ok(None)));
     assert!(rt; names_one(rt.alloc(), "a"));
     assert!(rt; Retries::Times(3).copy() == Retries::Times(3));
 }

@@ -1,7 +1,7 @@
 //! Lock tables, row by row.
 use lock_table::{LockTable, Verdict};
 use std::alloc::Global;
-use term::{LockId, Pid, parse_node, parse_pid, parse_requester, parse_resource};
+use term::{LockId, Node, Pid, parse_node, parse_pid, parse_requester, parse_resource};
 
 /// What is done to a table, and what it answers. A lock is a resource and a requester.
 #[derive(Clone, Copy)]
@@ -67,7 +67,7 @@ fn holds(table: &mut LockTable, row: Row<'_>) -> bool {
     match (parse_pid(row.holder), parse_node(row.holder)) {
         (Ok(holder), _) => serves(table, holder, row),
         (Err(_), Ok(node)) => {
-            table.drop_node(&node);
+            table.drop_node(&Node::first(node));
             row.word == "down"
         }
         _ => false,

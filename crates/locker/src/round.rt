@@ -8,7 +8,7 @@ use crate::ending::Ending;
 use crate::mark::Mark;
 use boss_order::boss;
 use std::marker::Model;
-use term::{MOST_NODES, NodeName, NodeSet};
+use term::{MOST_NODES, Node, NodeSet};
 
 /// A round over a set of nodes: which of them are asked so far, and what each answered. No call on it takes memory.
 #[derive(Drop)]
@@ -84,7 +84,7 @@ impl Round {
     }
 
     /// The place of a node among those that are asked.
-    fn place(&self, node: &NodeName) -> Option<usize>
+    fn place(&self, node: &Node) -> Option<usize>
         ensures value { result ≡ place node.now self.now.nodes }
         ensures within { IfSome result (λ i. i < MOST_NODES) }
     {
@@ -92,7 +92,7 @@ impl Round {
     }
 
     /// What is known of a node that is asked.
-    fn mark_of(&self, node: &NodeName) -> Option<Mark>
+    fn mark_of(&self, node: &Node) -> Option<Mark>
         ensures { as_known result ≡ (seen self.now).mark node.now }
     {
         match self.place(node) {
@@ -102,7 +102,7 @@ impl Round {
     }
 
     /// Whether the node is the boss.
-    fn is_boss(&self, node: &NodeName) -> bool
+    fn is_boss(&self, node: &Node) -> bool
         ensures { result ≡ (node.now == boss_of self.now.nodes) }
     {
         match self.nodes.greatest() {
@@ -150,21 +150,21 @@ impl Round {
     }
 
     /// Whether the node owes an answer.
-    pub fn owes(&self, node: &NodeName) -> bool
+    pub fn owes(&self, node: &Node) -> bool
         ensures { result ≡ protocol.owes (seen self.now) node.now }
     {
         matches!(self.mark_of(node), Some(Mark::Owes))
     }
 
     /// Whether this answer is the boss's grant, which opens the round to the rest.
-    pub fn opens(&self, node: &NodeName, granted: bool) -> bool
+    pub fn opens(&self, node: &Node, granted: bool) -> bool
         ensures { result ≡ protocol.opens node.now granted (seen self.now) }
     {
         granted && self.is_boss(node) && matches!(self.boss_mark(), Mark::Owes)
     }
 
     /// Takes the answer of a node in. One that isn't owed changes nothing.
-    pub fn answer(&mut self, node: &NodeName, granted: bool)
+    pub fn answer(&mut self, node: &Node, granted: bool)
         ensures nodes { self.new.nodes ≡ self.old.nodes }
         ensures protocol { seen self.new ≡ protocol.answer node.now granted (seen self.old) }
     {
@@ -180,7 +180,7 @@ impl Round {
     }
 
     /// Takes in that a node has gone down.
-    pub fn down(&mut self, node: &NodeName)
+    pub fn down(&mut self, node: &Node)
         ensures nodes { self.new.nodes ≡ self.old.nodes }
         ensures protocol { seen self.new ≡ protocol.down node.now (seen self.old) }
     {
@@ -236,7 +236,7 @@ impl Round {
     }
 
     /// Whether the node has granted and not gone down.
-    fn has_grant(&self, node: &NodeName) -> bool
+    fn has_grant(&self, node: &Node) -> bool
         ensures { result ≡ protocol.granted (seen self.now) node.now }
     {
         matches!(self.mark_of(node), Some(Mark::Granted))

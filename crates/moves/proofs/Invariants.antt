@@ -97,12 +97,12 @@ module _ (o : Opening) (w : World) where
   is_write (Letter.Welcome members pairs told fate) = true
   is_write _ = false
 
-  -- what it makes of a replica
-  abbrev pub acts : Letter → Replica → Replica
-  acts (Letter.Apply change) v = wrote change v
-  acts (Letter.Admit j settled) v = admitted j settled v
-  acts (Letter.Welcome members pairs told fate) v = welcomed members pairs told v
-  acts _ v = v
+  -- what it makes of the replica of node c
+  abbrev pub acts : ℕ → Letter → Replica → Replica
+  acts c (Letter.Apply change) v = wrote change v
+  acts c (Letter.Admit j settled) v = admitted c j settled v
+  acts c (Letter.Welcome members pairs told fate) v = welcomed c members pairs told fate v
+  acts c _ v = v
 
   -- whether c hasn't carried out the operation that holds in its group
   abbrev pub is_behind : ℕ → Option Hold → Bool
@@ -129,7 +129,7 @@ module _ (o : Opening) (w : World) where
   abbrev pub IsOnItsWay : ℕ → ℕ → Letter → Type 0
   IsOnItsWay f c l = is_write l ≡ true →
       (h : Hold) × (hold_at standing_at c ≡ Some h) × (h.node ≡ f) × IsUp f
-      × (acts l (replica_of (old standing_at c) c) ≡ replica_of standing_at.registry c)
+      × (acts c l (replica_of (old standing_at c) c) ≡ replica_of standing_at.registry c)
 
   abbrev pub AllDead : List Process → Type 0
   AllDead [] = Unit {0}

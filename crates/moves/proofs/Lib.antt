@@ -3,3 +3,4 @@ pub mod Indices
 pub mod Sends
 pub mod SendTests
 pub mod Invariants
+pub mod Writes

@@ -210,10 +210,10 @@ module _ (o : Opening) (a : ℕ) where
   made number (RefusesJoin f pairs) u = send f Letter.JoinRefused (enter (Entry.Join f (number f) a NotMember) u)
   made number (EndsJoin f k) u = reply_with a k NotMember (at_work Current.Free u)
   made number (Kills f l p receivers) u = die_to o.bound receivers p u
-  made number (IsAdmitted f j settled) u = send f Letter.Applied (with_replica (admitted j settled) u)
+  made number (IsAdmitted f j settled) u = send f Letter.Applied (with_replica (admitted a j settled) u)
   made number (IsWelcomed f k members pairs told fate) u =
       send f Letter.Applied (reply_with a k Joined (at_work Current.Free
-      (with_replica (welcomed members pairs told) u)))
+      (with_replica (welcomed a members pairs told fate) u)))
   made number (IsTold f) u = told_of o.bound a number f u
   made number (LosesContact k m) u = contact_left o.bound a k m (at_work Current.Free u)
   made number (Ignores f l) u = u

@@ -7,7 +7,7 @@ use Rattle.std.specs.List.{list_any}
 use Rattle.std.proofs.lemmas.Bool.{eqb-true}
 use Rattle.registry_model.specs.Process.{Text, Process, is_process}
 use Rattle.registry_model.proofs.Lists.{is_process-true}
-use Rattle.name_table.specs.Index.{Owners, Owned, owner_of, names_of, is_owner, is_among, is_listed, HaveNames, Agrees, Lists, Unlists, Forgets}
+use Rattle.name_table.specs.Index.{Owners, Owned, standing, owner_under, owner_of, names_of, is_owner, is_among, is_listed, HaveNames, Agrees, Lists, Unlists, Forgets}
 
 -- a set that has a name isn't empty
 pub some_from_contains : (names : BTreeSet Text) (x : Text) → contains nat_cmp names x ≡ true → 0 < length names.keys
@@ -131,27 +131,32 @@ agrees-put_over owners after owned between later x p o a h l u n had other = rec
 -- what a process owns is what is listed under it: so its names forgotten are those struck
 pub struck : (owners after : Owners) (owned : Owned) (p : Process) (names : BTreeSet Text) → Agrees owners owned →
     names_of p owned ≡ Some names → Forgets names owners after → (y : Text) →
-    owner_of y after ≡ (if is_owner p (owner_of y owners) then None else owner_of y owners)
+    standing y after ≡ (if is_owner p (owner_of y owners) then None else standing y owners)
 struck owners after owned p names a k f y =
-    f y ∙ ap (λ (b : Bool). if b then None else owner_of y owners) (ap (is_among y) (sym k) ∙ a.same y p)
+    f y ∙ ap (λ (b : Bool). if b then None else standing y owners) (ap (is_among y) (sym k) ∙ a.same y p)
 
 -- who has no names is struck already
 pub struck_none : (owners : Owners) (owned : Owned) (p : Process) → Agrees owners owned → names_of p owned ≡ None →
-    (y : Text) → owner_of y owners ≡ (if is_owner p (owner_of y owners) then None else owner_of y owners)
+    (y : Text) → standing y owners ≡ (if is_owner p (owner_of y owners) then None else standing y owners)
 struck_none owners owned p a k y =
-    ap (λ (b : Bool). if b then None else owner_of y owners) (ap (is_among y) (sym k) ∙ a.same y p)
+    ap (λ (b : Bool). if b then None else standing y owners) (ap (is_among y) (sym k) ∙ a.same y p)
 
 -- a process struck
 pub agrees-strike : (owners after : Owners) (owned later : Owned) (p : Process) → Agrees owners owned →
     Writes p None owned later →
-    ((y : Text) → owner_of y after ≡ (if is_owner p (owner_of y owners) then None else owner_of y owners)) →
+    ((y : Text) → standing y after ≡ (if is_owner p (owner_of y owners) then None else standing y owners)) →
     Agrees after later
 agrees-strike owners after owned later p a w h = record {
   same = λ y q. listed owned later p None w y q ∙ ap (λ (b : Bool). if is_process p q then false else b) (a.same y q)
-      ∙ go q (owner_of y owners) ∙ ap (is_owner q) (sym (h y));
+      ∙ go q (owner_of y owners) ∙ ap (is_owner q) (left y (is_owner p (owner_of y owners)) ∙ sym (ap owner_under (h y)));
   named = have_names owned later p None w (λ kept i. cc) a.named;
 }
   where
+    left : (y : Text) (b : Bool) →
+        (if b then None else owner_of y owners) ≡ owner_under (if b then None else standing y owners)
+    left y true = refl
+    left y false = refl
+
     go : (q : Process) (o : Option Process) → (if is_process p q then false else is_owner q o)
         ≡ is_owner q (if is_owner p o then None else o)
     go q None = at (is_process p q)

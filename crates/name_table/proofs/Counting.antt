@@ -4,8 +4,8 @@ use Rattle.std.specs.Prelude.{if◌then◌else◌, nat_lt}
 use Rattle.std.specs.List.{IsDistinct}
 use Rattle.std.specs.Map.{keys_of}
 use Rattle.registry_model.specs.Table.{Pair, Table, get, put}
-use Rattle.name_table.specs.Index.{Owners, pair_of, table_of}
-use Rattle.name_table.proofs.Index.{get-table_of, owner_of-absent}
+use Rattle.name_table.specs.Index.{Owners, owner_under, pair_of, table_of}
+use Rattle.name_table.proofs.Index.{get-table_of, standing-absent}
 
 -- a name that nobody had is one more
 length-put : (new : Pair) (t : Table) → get new.name t ≡ None → length (put new t) ≡ suc (length t)
@@ -29,4 +29,4 @@ unfolding IsDistinct
 counted [] d = refl
 counted (e ∷ es) d =
     ap suc (counted es d.1)
-    ∙ sym (length-put (pair_of e) (table_of es) (get-table_of es e.0 ∙ owner_of-absent e.0 es d.0))
+    ∙ sym (length-put (pair_of e) (table_of es) (get-table_of es e.0 ∙ ap owner_under (standing-absent e.0 es d.0)))

@@ -60,7 +60,7 @@ owner_kept d q (Some r) = go (is_process r q) (r.node == d) refl refl
 
 -- both sides agree when the node is gone
 pub agrees-without : (owners after : Owners) (owned later : Owned) (d : ℕ) → IsDistinct (λ x y. x == y) (keys_of owners) →
-    after ≡ filter (λ e. not (e.1.node == d)) owners → later ≡ filter (λ e. not (e.0.node == d)) owned →
+    after ≡ filter (λ e. not (e.1.owner.node == d)) owners → later ≡ filter (λ e. not (e.0.node == d)) owned →
     Agrees owners owned → Agrees after later
 agrees-without owners after owned later d u f l a = record {
   same = λ y q. ap (is_among y) (left q) ∙ listed y q (q.node == d)

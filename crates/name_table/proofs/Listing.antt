@@ -9,7 +9,8 @@ use Rattle.std.proofs.Math.Path.{ap₂}
 use Rattle.std.proofs.lemmas.Bool.{eqb-true}
 use Rattle.std.proofs.lemmas.Map.Steps.{set_value_same}
 use Rattle.registry_model.specs.Process.{Text, Process, is_process}
-use Rattle.name_table.specs.Index.{Owners, Owned, owner_of, names_of, is_among, HaveNames, Lists, Unlists, Gains, Loses}
+use Rattle.name_table.specs.declared.change.Entry.{Entry}
+use Rattle.name_table.specs.Index.{Owners, Owned, standing, names_of, is_among, HaveNames, Lists, Unlists, Gains, Loses}
 use Rattle.name_table.proofs.Agreement.{Writes, some_from_contains, lists_by, unlists_by, have_names}
 use Rattle.name_table.proofs.NameSets.{is_at-name, gained}
 
@@ -86,18 +87,18 @@ some_left names r h e kept i =
     go [] h = absurd (let t = h refl in cc)
     go (k ∷ ks) h = omega arith
 
--- one of the names is done, and has no owner: what is to have no owner in the end stays the same
+-- one of the names is done, and nothing stands under it: what is to stand nowhere in the end stays the same
 pub forget_one : (names later : BTreeSet Text) (old new : Owners) (x : Text) → contains nat_cmp names x ≡ true →
-    Loses x names later → ((y : Text) → owner_of y new ≡ (if x == y then None else owner_of y old)) → (y : Text) →
-    (if contains nat_cmp later y then None else owner_of y new)
-    ≡ (if contains nat_cmp names y then None else owner_of y old)
+    Loses x names later → ((y : Text) → standing y new ≡ (if x == y then None else standing y old)) → (y : Text) →
+    (if contains nat_cmp later y then None else standing y new)
+    ≡ (if contains nat_cmp names y then None else standing y old)
 forget_one names later old new x h u w y =
-    ap₂ (λ (b : Bool) (o : Option Process). if b then None else o)
+    ap₂ (λ (b : Bool) (o : Option Entry). if b then None else o)
     (u y) (w y) ∙ go (x == y) refl
   where
     go : (b : Bool) → (x == y) ≡ b →
-        (if not b && contains nat_cmp names y then None else (if b then None else owner_of y old))
-        ≡ (if contains nat_cmp names y then None else owner_of y old)
-    go true i = ap (λ (b : Bool). if b then None else owner_of y old)
+        (if not b && contains nat_cmp names y then None else (if b then None else standing y old))
+        ≡ (if contains nat_cmp names y then None else standing y old)
+    go true i = ap (λ (b : Bool). if b then None else standing y old)
         (sym (ap (λ (z : Text). contains nat_cmp names z) (sym (eqb-true x y i)) ∙ h))
     go false i = refl

@@ -4,9 +4,9 @@ use Rattle.std.specs.Prelude.{if◌then◌else◌, nat_lt, insert}
 use Rattle.std.specs.List.{slice_get, remove as remove_at}
 use Rattle.std.proofs.lemmas.Option.{slice_get-get_or, slice_get_within, get_or_from_slice_get}
 use Rattle.std.proofs.lemmas.Bool.{cases_order, eqb-true, eq-eqb, ne_eqb, lt-ltb, le-ltb, ltb-true}
-use Rattle.registry_model.specs.Process.{Text, Process}
-use Rattle.registry_model.specs.Table.{Pair, Table, get, put, remove, is_below, is_rising}
-use Rattle.registry_model.proofs.Tables.{is_rising-parts, get-below, is_below-less}
+use Rattle.registry_model.specs.Process.{Text}
+use Rattle.registry_model.specs.Table.{Pair, Table, Exit, get, entry, put, remove, is_below, is_rising}
+use Rattle.registry_model.proofs.Tables.{is_rising-parts, entry-below, is_below-less, name-entry, get_from_none}
 use Rattle.name_table.specs.Places.{place, is_name_of, stands}
 
 -- before its place all names are less
@@ -41,24 +41,23 @@ place_within x (e ∷ t) = go (nat_lt e.name x) (place_within x t)
     go true l = omega arith
     go false l = omega arith
 
--- who has a name is to be seen at its place
-pub get-place : (x : Text) (t : Table) → is_rising t ≡ true
-    → get x t ≡ elim (slice_get t (place x t)) [ None ↦ None | Some e ↦ if e.name == x then Some e.owner else None ]
-get-place x [] r = refl
-get-place x (e ∷ t) r = go (nat_lt e.name x) refl (get-place x t (is_rising-parts e t r).1)
+-- what stands under a name is to be seen at its place
+entry-place : (x : Text) (t : Table) → is_rising t ≡ true
+    → entry x t ≡ elim (slice_get t (place x t)) [ None ↦ None | Some e ↦ if e.name == x then Some e else None ]
+entry-place x [] r = refl
+entry-place x (e ∷ t) r = go (nat_lt e.name x) refl (entry-place x t (is_rising-parts e t r).1)
   where
-    found : Option Pair → Option Process
-    found o = elim o [ None ↦ None | Some d ↦ if d.name == x then Some d.owner else None ]
+    found : Option Pair → Option Pair
+    found o = elim o [ None ↦ None | Some d ↦ if d.name == x then Some d else None ]
 
-    go : (b : Bool) → nat_lt e.name x ≡ b → get x t ≡ found (slice_get t (place x t))
-        → (if e.name == x then Some e.owner else get x t) ≡ found (slice_get (e ∷ t) (if b then suc (place x t) else 0))
+    go : (b : Bool) → nat_lt e.name x ≡ b → entry x t ≡ found (slice_get t (place x t))
+        → (if e.name == x then Some e else entry x t) ≡ found (slice_get (e ∷ t) (if b then suc (place x t) else 0))
     go true q h = rw (ne_eqb e.name x (λ i. absurd (omega (arith, ltb-true e.name x q)))) h
     go false q h = same (e.name == x) refl
       where
-        same : (b : Bool) → (e.name == x) ≡ b → (if b then Some e.owner else get x t)
-            ≡ (if b then Some e.owner else None)
+        same : (b : Bool) → (e.name == x) ≡ b → (if b then Some e else entry x t) ≡ (if b then Some e else None)
         same true i = refl
-        same false i = get-below x t (is_rising-parts e t r).1 (below i)
+        same false i = entry-below x t (is_rising-parts e t r).1 (below i)
           where
             below : (e.name == x) ≡ false → is_below x t ≡ true
             below i = elim (cases_order x e.name) [
@@ -67,7 +66,7 @@ get-place x (e ∷ t) r = go (nat_lt e.name x) refl (get-place x t (is_rising-pa
               | inr (inr g) ↦ absurd (cc (lt-ltb e.name x g, q))
             ]
 
--- where the name stands it gets the new owner
+-- where the name stands the new pair takes its place
 pub put-here : (new : Pair) (t : Table) (d : Pair) → place new.name t < length t
     → (get_or t (place new.name t) d).name ≡ new.name → put new t ≡ set t (place new.name t) new
 put-here new [] d l e = absurd (omega arith)
@@ -146,26 +145,36 @@ pub stands_not : (x : Text) (t : Table) (i : ℕ) (d : Pair) → stands x t i �
 stands_not x t i d h l e =
     cc (sym (ap (is_name_of x) (slice_get-get_or t i d l)) ∙ h, eq-eqb (get_or t i d).name x e)
 
--- what stands at its place is the owner
-pub get-stands : (x : Text) (t : Table) (d : Pair) → is_rising t ≡ true → stands x t (place x t) ≡ true
-    → get x t ≡ Some (get_or t (place x t) d).owner
-get-stands x t d r h = get-place x t r ∙ go (slice_get t (place x t)) refl h
+-- what stands at its place stands under it
+pub entry-stands : (x : Text) (t : Table) (d : Pair) → is_rising t ≡ true → stands x t (place x t) ≡ true
+    → entry x t ≡ Some (get_or t (place x t) d)
+entry-stands x t d r h = entry-place x t r ∙ go (slice_get t (place x t)) refl h
   where
     go : (o : Option Pair) → slice_get t (place x t) ≡ o → is_name_of x o ≡ true
-        → (elim o [ None ↦ None | Some e ↦ if e.name == x then Some e.owner else None ])
-        ≡ Some (get_or t (place x t) d).owner
+        → (elim o [ None ↦ None | Some e ↦ if e.name == x then Some e else None ]) ≡ Some (get_or t (place x t) d)
     go None q h = cc
-    go (Some e) q h = rw h (ap (λ (f : Pair). Some f.owner) (sym (get_or_from_slice_get t (place x t) e d q)))
+    go (Some e) q h = rw h (ap (λ (f : Pair). Some f) (sym (get_or_from_slice_get t (place x t) e d q)))
 
-pub get-absent : (x : Text) (t : Table) → is_rising t ≡ true → stands x t (place x t) ≡ false → get x t ≡ None
-get-absent x t r h = get-place x t r ∙ go (slice_get t (place x t)) h
+pub entry-absent : (x : Text) (t : Table) → is_rising t ≡ true → stands x t (place x t) ≡ false → entry x t ≡ None
+entry-absent x t r h = entry-place x t r ∙ go (slice_get t (place x t)) h
   where
-    found : Option Pair → Option Process
-    found o = elim o [ None ↦ None | Some e ↦ if e.name == x then Some e.owner else None ]
+    found : Option Pair → Option Pair
+    found o = elim o [ None ↦ None | Some e ↦ if e.name == x then Some e else None ]
 
     go : (o : Option Pair) → is_name_of x o ≡ false → found o ≡ None
     go None h = refl
     go (Some e) h = rw h refl
+
+pub get-absent : (x : Text) (t : Table) → is_rising t ≡ true → stands x t (place x t) ≡ false → get x t ≡ None
+get-absent x t r h = get_from_none x t (entry-absent x t r h)
+
+-- the pair at its place, told by the name and by what the pair has else
+pub entry-told : (x : Text) (t : Table) (d e : Pair) → is_rising t ≡ true → stands x t (place x t) ≡ true
+    → e ≡ get_or t (place x t) d → Some (record { name = x; owner = e.owner; rule = e.rule }) ≡ entry x t
+entry-told x t d e r h i =
+    let there : entry x t ≡ Some e = entry-stands x t d r h ∙ ap (λ (f : Pair). Some f) (sym i) in
+    ap (λ (y : Text). let f : Pair = record { name = y; owner = e.owner; rule = e.rule } in Some f) (sym (name-entry x t e there))
+    ∙ sym there
 
 -- a search that divides the names at i has found the place
 pub place_at : (x : Text) (t : Table) (i : ℕ) → i ≤ length t
@@ -184,7 +193,7 @@ place_at x t i l before behind = elim (cases_order i (place x t)) [
 ]
   where
     nothing : Pair
-    nothing = record { name = 0; owner = record { node = 0; serial = 0 } }
+    nothing = record { name = 0; owner = record { node = 0; serial = 0 }; rule = Exit }
 
 -- who stands below all names of a rising table is less than each
 all_above : (y : Text) (t : Table) → is_rising t ≡ true → is_below y t ≡ true → (j : ℕ) (d : Pair) → j < length t

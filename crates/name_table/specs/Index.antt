@@ -1,37 +1,48 @@
--- An index from processes to their names, beside a map from names to processes.
+-- An index from processes to their names, beside a map from names to what stands under them.
 use Rattle.std.specs.Prelude.{◌≡◌, ◌<◌, Bool, false, not, ◌&&◌, ◌||◌, ◌==◌, Option, Some, None, List, [], ◌∷◌, length, map, if◌then◌else◌}
 use Rattle.std.specs.Map.{lookup}
 use Rattle.std.specs.Ordering.{nat_cmp}
 use Rattle.std.specs.BTreeSet.{BTreeSet, contains}
 use Rattle.registry_model.specs.Process.{Text, Process, is_process}
 use Rattle.registry_model.specs.Table.{Pair, Table, put}
+use Rattle.term.specs.Rules.{rule_of}
+use Rattle.name_table.specs.declared.change.Entry.{Entry}
 
--- the owner of each name, in any order
+-- what stands under each name, in any order
 abbrev pub Owners : Type 0
-Owners = List (Text × Process)
+Owners = List (Text × Entry)
 
 -- the names of each process, in any order
 abbrev pub Owned : Type 0
 Owned = List (Process × BTreeSet Text)
 
+-- what stands under the name
+abbrev pub standing : Text → Owners → Option Entry
+standing x owners = lookup (λ y. x == y) owners
+
+-- the owner in what stands under a name
+abbrev pub owner_under : Option Entry → Option Process
+owner_under None = None
+owner_under (Some e) = Some e.owner
+
 -- who owns the name
 abbrev pub owner_of : Text → Owners → Option Process
-owner_of x owners = lookup (λ y. x == y) owners
+owner_of x owners = owner_under (standing x owners)
 
 -- the names that are listed under p
 abbrev pub names_of : Process → Owned → Option (BTreeSet Text)
 names_of p owned = lookup (is_process p) owned
 
--- a name and its owner as a pair
-abbrev pub pair_of : Text × Process → Pair
-pair_of e = record { name = e.0; owner = e.1 }
+-- a name and what stands under it as a pair
+abbrev pub pair_of : Text × Entry → Pair
+pair_of e = record { name = e.0; owner = e.1.owner; rule = rule_of e.1.rule }
 
--- the table of these names and their owners
+-- the table of these names and what stands under them
 abbrev pub table_of : Owners → Table
 table_of [] = []
 table_of (e ∷ es) = put (pair_of e) (table_of es)
 
--- the pairs of these names and their owners, in this order
+-- the pairs of these names and what stands under them, in this order
 abbrev pub pairs_of : Owners → Table
 pairs_of owners = map pair_of owners
 
@@ -67,9 +78,9 @@ abbrev pub Unlists : Process → Text → Owned → Owned → Type 0
 Unlists p x old new = (y : Text) (q : Process) →
     is_listed y q new ≡ (not (is_process p q && (x == y)) && is_listed y q old)
 
--- nobody has these names, and each other name has whom it had
+-- nothing stands under these names, and under each other name what stood there
 abbrev pub Forgets : BTreeSet Text → Owners → Owners → Type 0
-Forgets names old new = (y : Text) → owner_of y new ≡ (if contains nat_cmp names y then None else owner_of y old)
+Forgets names old new = (y : Text) → standing y new ≡ (if contains nat_cmp names y then None else standing y old)
 
 -- the set has this name too, and all others as before
 abbrev pub Gains : Text → BTreeSet Text → BTreeSet Text → Type 0

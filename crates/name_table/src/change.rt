@@ -3,25 +3,28 @@ ghost use Rattle.std.specs.Prelude.{◌≡◌, IfOk};
 
 use std::alloc::{AllocError, Global};
 use std::marker::Model;
-use term::{Name, Pid};
+use term::{Name, Pid, Rule};
 
-/// A name and the process that owns it.
+/// A name, the process that owns it, and what becomes of it in a clash.
 #[derive(Debug, PartialEq, Eq, Drop)]
 pub struct Pair {
     /// The name.
     pub name: Name,
     /// Its owner.
     pub owner: Pid,
+    /// Its rule, which decides where it stands in the cluster's table, and a joiner has the name too.
+    pub rule: Rule,
 }
 
 impl Model for Pair {
-    ghost use Rattle.registry_model.specs.Table.{Pair as Entry};
+    ghost use Rattle.registry_model.specs.Table.{Pair as Owned};
+    ghost use Rattle.term.specs.Rules.{rule_of, rule_in};
 
-    ghost Value = { Entry };
+    ghost Value = { Owned };
 
-    ghost view = { λ p. record { name = p.name; owner = p.owner } };
+    ghost view = { λ p. record { name = p.name; owner = p.owner; rule = rule_of p.rule } };
 
-    ghost inverse = { λ p. record { name = p.name; owner = p.owner } };
+    ghost inverse = { λ p. record { name = p.name; owner = p.owner; rule = rule_in p.rule } };
 }
 
 impl Pair {
@@ -32,6 +35,28 @@ impl Pair {
         Pair {
             name: self.name.copy(),
             owner: self.owner.copy(),
+            rule: self.rule,
+        }
+    }
+}
+
+/// What stands in a table under a name.
+#[derive(Clone, Debug, PartialEq, Eq, Drop)]
+pub struct Entry {
+    /// The process that owns the name.
+    pub owner: Pid,
+    /// The name's rule.
+    pub rule: Rule,
+}
+
+impl Entry {
+    /// The same entry. It takes no memory.
+    pub fn copy(&self) -> Self
+        ensures { result ≡ self.now }
+    {
+        Entry {
+            owner: self.owner.copy(),
+            rule: self.rule,
         }
     }
 }
@@ -47,8 +72,8 @@ pub fn copied_pairs(pairs: &Vec<Pair>) -> Result<Vec<Pair>, AllocError>
 /// A change of a table.
 #[derive(Debug, PartialEq, Eq, Drop)]
 pub enum Change {
-    /// The process has the name, and nobody else does.
-    Put(Name, Pid),
+    /// The process has the name, under this rule, and nobody else does.
+    Put(Pair),
     /// Nobody has the name.
     Remove(Name),
     /// The process has no name.
@@ -61,7 +86,7 @@ impl Change {
         ensures { result ≡ self.now }
     {
         match self {
-            Change::Put(name, owner) => Change::Put(name.copy(), owner.copy()),
+            Change::Put(pair) => Change::Put(pair.copy()),
             Change::Remove(name) => Change::Remove(name.copy()),
             Change::StrikeOwner(owner) => Change::StrikeOwner(owner.copy()),
         }

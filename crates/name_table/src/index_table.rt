@@ -1,25 +1,25 @@
 //! A table that is found by hashing.
 ghost use Rattle.std.specs.Prelude.{◌≡◌, [], map, IfOk, OnOk, OnErr};
 ghost use Rattle.registry_model.specs.Table.{put, remove, strike, names};
-ghost use Rattle.name_table.specs.Index.{table_of, pairs_of, HaveNames, Lists, Unlists, Forgets};
+ghost use Rattle.name_table.specs.Index.{table_of, pair_of, HaveNames, Lists, Unlists, Forgets};
 
-use crate::change::{Change, Pair};
+use crate::change::{Change, Entry, Pair};
 use crate::name_set::NameSet;
 use crate::names::Names;
 use indexmap::IndexMap;
 use std::alloc::{AllocError, Allocator};
 use std::hash::{BuildHasherDefault, FoldHasher};
 use std::marker::Model;
-use term::{Name, NodeName, Pid};
+use term::{Name, Node, Pid};
 
-/// The owner of each name.
-type Owners<A> = IndexMap<Name, Pid, BuildHasherDefault<FoldHasher>, A>;
+/// What stands under each name.
+type Owners<A> = IndexMap<Name, Entry, BuildHasherDefault<FoldHasher>, A>;
 
 /// The names of each process that owns one.
 type Owned<A> = IndexMap<Pid, NameSet<A>, BuildHasherDefault<FoldHasher>, A>;
 
-/// A name with its owner, where they stand in a map.
-type Entry<'a> = (&'a Name, &'a Pid);
+/// A name with what stands under it, where they lie in a map.
+type Standing<'a> = (&'a Name, &'a Entry);
 
 /// A table of names that finds a name, and the names of a process, by hashing: what a look-up or a change of one
 /// name costs doesn't grow with the table, but that a put whose map has no room left moves the whole map, as rarely as a
@@ -73,7 +73,7 @@ fn unlist<A: Allocator + Copy + Drop>(owned: &mut Owned<A>, owner: &Pid, name: &
     }
 }
 
-/// These names have no owner from now on. It takes no memory.
+/// Nothing stands under these names from now on. It takes no memory.
 fn forget<A: Allocator + Copy + Drop>(owners: &mut Owners<A>, mut names: NameSet<A>)
     ensures { Forgets names owners.old.entries owners.new.entries }
 {
@@ -83,30 +83,33 @@ fn forget<A: Allocator + Copy + Drop>(owners: &mut Owners<A>, mut names: NameSet
 }
 
 /// The entries of a map, rising by name. They are sorted where they stand: only what leads to them is moved.
-fn sorted<'a, A: Allocator + Copy>(owners: &'a Owners<A>) -> Result<Vec<Entry<'a>, A>, AllocError>
-    ensures { IfOk result (λ sorted. map (λ e. record { name = e.0.now; owner = e.1.now }) sorted.items ≡ table_of owners.now.entries) }
+fn sorted<'a, A: Allocator + Copy>(
+    owners: &'a Owners<A>,
+) -> Result<Vec<Standing<'a>, A>, AllocError>
+    ensures { IfOk result (λ sorted. map (λ e. pair_of (e.0.now, e.1.now)) sorted.items ≡ table_of owners.now.entries) }
 {
-    let mut sorted: Vec<Entry<'a>, A> = owners.iter().collect(*owners.allocator())?;
+    let mut sorted: Vec<Standing<'a>, A> = owners.iter().collect(*owners.allocator())?;
     sorted.sort_by(|left, right| left.0.cmp(right.0))?;
     Ok(sorted)
 }
 
 /// The names of these entries.
-fn names_in<A: Allocator>(alloc: A, entries: &[Entry<'_>]) -> Result<Vec<Name, A>, AllocError>
+fn names_in<A: Allocator>(alloc: A, entries: &[Standing<'_>]) -> Result<Vec<Name, A>, AllocError>
     ensures { IfOk result (λ list. list.items ≡ map (λ e. e.0.now) entries.now) }
 {
     entries.iter().map(|entry| entry.0.copy()).collect(alloc)
 }
 
 /// The pairs of these entries.
-fn pairs_in<A: Allocator>(alloc: A, entries: &[Entry<'_>]) -> Result<Vec<Pair, A>, AllocError>
-    ensures { IfOk result (λ pairs. pairs.items ≡ map (λ e. record { name = e.0.now; owner = e.1.now }) entries.now) }
+fn pairs_in<A: Allocator>(alloc: A, entries: &[Standing<'_>]) -> Result<Vec<Pair, A>, AllocError>
+    ensures { IfOk result (λ pairs. pairs.items ≡ map (λ e. pair_of (e.0.now, e.1.now)) entries.now) }
 {
     entries
         .iter()
         .map(|entry| Pair {
             name: entry.0.copy(),
-            owner: entry.1.copy(),
+            owner: entry.1.owner.copy(),
+            rule: entry.1.rule,
         })
         .collect(alloc)
 }
@@ -122,17 +125,17 @@ impl<A: Allocator + Copy + Drop> IndexTable<A> {
         }
     }
 
-    /// The name has this owner from now on. Behind the listing nothing can be refused, so a refusal changes nothing.
-    fn put(&mut self, name: Name, owner: Pid) -> Result<(), AllocError>
-        ensures ok { OnOk result (self.new ≡ put (record { name = name; owner = owner }) self.old) }
+    /// This stands under the name from now on. Behind the listing nothing can be refused, so a refusal changes nothing.
+    fn put(&mut self, name: Name, entry: Entry) -> Result<(), AllocError>
+        ensures ok { OnOk result (self.new ≡ put (pair_of (name, entry)) self.old) }
         ensures err { OnErr result (self.new ≡ self.old) }
     {
         self.owners.reserve(1)?;
-        list(&mut self.owned, &owner, &name)?;
-        let before = self.owners.insert(name.copy(), owner.copy()).unwrap();
+        list(&mut self.owned, &entry.owner, &name)?;
+        let before = self.owners.insert(name.copy(), entry.copy()).unwrap();
         if let Some(before) = before {
-            if before != owner {
-                unlist(&mut self.owned, &before, &name);
+            if before.owner != entry.owner {
+                unlist(&mut self.owned, &before.owner, &name);
             }
         }
         Ok(())
@@ -142,8 +145,8 @@ impl<A: Allocator + Copy + Drop> IndexTable<A> {
     fn remove(&mut self, name: &Name)
         ensures { self.new ≡ remove name.now self.old }
     {
-        if let Some(owner) = self.owners.swap_remove(name) {
-            unlist(&mut self.owned, &owner, name);
+        if let Some(before) = self.owners.swap_remove(name) {
+            unlist(&mut self.owned, &before.owner, name);
         }
     }
 
@@ -166,9 +169,14 @@ impl<A: Allocator + Copy + Drop> Names for IndexTable<A> {
         IndexTable::new(memory)
     }
 
-    fn get(&self, name: &Name) -> Option<Pid> {
-        let owner = self.owners.get(name)?;
-        Some(owner.copy())
+    fn get(&self, name: &Name) -> Option<Entry> {
+        let entry = self.owners.get(name)?;
+        Some(entry.copy())
+    }
+
+    fn owner(&self, name: &Name) -> Option<Pid> {
+        let entry = self.owners.get(name)?;
+        Some(entry.owner.copy())
     }
 
     fn len(&self) -> usize {
@@ -177,17 +185,23 @@ impl<A: Allocator + Copy + Drop> Names for IndexTable<A> {
 
     fn write(&mut self, change: Change) -> Result<(), AllocError> {
         match change {
-            Change::Put(name, owner) => self.put(name, owner)?,
+            Change::Put(pair) => self.put(
+                pair.name,
+                Entry {
+                    owner: pair.owner,
+                    rule: pair.rule,
+                },
+            )?,
             Change::Remove(name) => self.remove(&name),
             Change::StrikeOwner(owner) => self.strike(&owner),
         }
         Ok(())
     }
 
-    fn drop_node(&mut self, node: &NodeName) {
+    fn drop_node(&mut self, node: &Node) {
         // A name has one entry: the proof has this from `len`.
         let _owners = self.owners.len();
-        self.owners.retain(|_name, owner| owner.node != *node);
+        self.owners.retain(|_name, entry| entry.owner.node != *node);
         self.owned.retain(|owner, _names| owner.node != *node);
     }
 

@@ -1,14 +1,15 @@
 //! A table as a sorted list.
 ghost use Rattle.std.specs.Prelude.{◌≡◌, ◌==◌, ◌≤◌, true, [], is_some, length, vec_len, vec_capacity, OnOk, OnErr, IfOk};
-ghost use Rattle.registry_model.specs.Table.{get, owns, put, remove, strike, without, names, is_rising};
+ghost use Rattle.registry_model.specs.Table.{get, entry, owns, put, remove, strike, without, names, is_rising};
+ghost use Rattle.name_table.specs.Changes.{pair_under};
 ghost use Rattle.name_table.specs.Owners.{name_of};
 ghost use Rattle.name_table.specs.Places.{place, stands};
 
-use crate::change::{Change, Pair};
+use crate::change::{Change, Entry, Pair};
 use crate::names::Names;
 use std::alloc::{AllocError, Allocator};
 use std::marker::Model;
-use term::{Name, NodeName, Pid};
+use term::{Name, Node, Pid};
 
 /// A table of names that keeps its pairs in one list, rising by name. Finding a name halves the list again and again; a
 /// change moves what stands behind it, and the least name of a process is sought from the front on.
@@ -46,34 +47,46 @@ fn stands_at(pairs: &[Pair], at: usize, name: &Name) -> bool
     }
 }
 
-/// The owner of a name.
-fn owner_in(pairs: &[Pair], name: &Name) -> Option<Pid>
+/// What stands under a name.
+fn entry_in(pairs: &[Pair], name: &Name) -> Option<Entry>
     requires { is_rising pairs.now ≡ true }
-    ensures { result ≡ get name.now pairs.now }
+    ensures { pair_under name.now result ≡ entry name.now pairs.now }
 {
     let at = place_of(pairs, name);
     if stands_at(pairs, at, name) {
         let pair = &pairs[at];
-        Some(pair.owner.copy())
+        Some(Entry {
+            owner: pair.owner.copy(),
+            rule: pair.rule,
+        })
     } else {
         None
     }
 }
 
-/// The name has this owner from now on. Memory is refused only for a new name where the list has no room left.
-fn put_in<A: Allocator>(pairs: &mut Vec<Pair, A>, name: Name, owner: Pid) -> Result<(), AllocError>
+/// The owner of a name.
+fn owner_in(pairs: &[Pair], name: &Name) -> Option<Pid>
+    requires { is_rising pairs.now ≡ true }
+    ensures { result ≡ get name.now pairs.now }
+{
+    let entry = entry_in(pairs, name)?;
+    Some(entry.owner)
+}
+
+/// The pair stands under its name from now on. Memory is refused only for a new name where the list has no room left.
+fn put_in<A: Allocator>(pairs: &mut Vec<Pair, A>, pair: Pair) -> Result<(), AllocError>
     requires { is_rising pairs.old.items ≡ true }
-    ensures ok { OnOk result (pairs.new.items ≡ put (record { name = name; owner = owner }) pairs.old.items) }
+    ensures ok { OnOk result (pairs.new.items ≡ put pair pairs.old.items) }
     ensures err { OnErr result (pairs.new.items ≡ pairs.old.items) }
-    ensures absent { OnErr result (get name pairs.old.items ≡ None) }
+    ensures absent { OnErr result (get pair.name pairs.old.items ≡ None) }
     ensures full { OnErr result (vec_capacity pairs.old ≤ vec_len pairs.old) }
     ensures rising { is_rising pairs.new.items ≡ true }
 {
-    let at = place_of(pairs.as_slice(), &name);
-    if stands_at(pairs.as_slice(), at, &name) {
-        pairs[at] = Pair { name, owner };
+    let at = place_of(pairs.as_slice(), &pair.name);
+    if stands_at(pairs.as_slice(), at, &pair.name) {
+        pairs[at] = pair;
     } else {
-        pairs.insert(at, Pair { name, owner })?;
+        pairs.insert(at, pair)?;
     }
     Ok(())
 }
@@ -138,7 +151,11 @@ impl<A: Allocator + Drop> Names for ListTable<A> {
         }
     }
 
-    fn get(&self, name: &Name) -> Option<Pid> {
+    fn get(&self, name: &Name) -> Option<Entry> {
+        entry_in(self.pairs.as_slice(), name)
+    }
+
+    fn owner(&self, name: &Name) -> Option<Pid> {
         owner_in(self.pairs.as_slice(), name)
     }
 
@@ -148,14 +165,14 @@ impl<A: Allocator + Drop> Names for ListTable<A> {
 
     fn write(&mut self, change: Change) -> Result<(), AllocError> {
         match change {
-            Change::Put(name, owner) => put_in(&mut self.pairs, name, owner)?,
+            Change::Put(pair) => put_in(&mut self.pairs, pair)?,
             Change::Remove(name) => remove_from(&mut self.pairs, &name),
             Change::StrikeOwner(owner) => strike_in(&mut self.pairs, &owner),
         }
         Ok(())
     }
 
-    fn drop_node(&mut self, node: &NodeName) {
+    fn drop_node(&mut self, node: &Node) {
         self.pairs.retain(|pair| pair.owner.node != *node);
     }
 

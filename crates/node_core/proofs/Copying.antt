@@ -4,6 +4,7 @@ use Rattle.std.specs.Prelude.{All, true, if◌then◌else◌}
 use Rattle.std.specs.Option.{option_map}
 use Rattle.std.proofs.lemmas.List.Elements.{All-head, All-tail, All-cons, All-nil}
 use Rattle.registry_model.specs.Table.{Table}
+use Rattle.registry_model.specs.Settlement.{Notice}
 use Rattle.protocol_model.specs.Event.{is_join}
 use Rattle.protocol_model.specs.LockTable.{Locks}
 use Rattle.protocol_model.specs.Node.{Op as AnyOp, Current}
@@ -105,6 +106,7 @@ pub record IsAlike (h k : Held) : Type 0 where
   pub told : k.told ≡ h.told
   pub joined : k.joined ≡ h.joined
   pub table : k.table ≡ h.table
+  pub notices : k.notices ≡ h.notices
   pub locks : k.locks ≡ h.locks
   pub watch : k.watch ≡ h.watch
   pub work : IsCopyOf h.registrar k.registrar
@@ -118,33 +120,38 @@ with_work h k = record h { registrar = k.registrar; phase = k.phase }
 
 is_with_work : (h k : Held) → IsAlike h k → with_work h k ≡ k
 is_with_work h k a =
-    ap (λ (n : ℕ). with_parts n h.world h.members h.told h.joined h.table h.locks h.watch h.calls h.last_call) (sym a.name)
-    ∙ ap (λ (w : List ℕ). with_parts k.name w h.members h.told h.joined h.table h.locks h.watch h.calls h.last_call)
+    ap (λ (x : ℕ). with_parts x h.world h.members h.told h.joined h.table h.notices h.locks h.watch h.calls h.last_call)
+    (sym a.name)
+    ∙ ap (λ (x : List ℕ). with_parts k.name x h.members h.told h.joined h.table h.notices h.locks h.watch h.calls h.last_call)
     (sym a.world)
-    ∙ ap (λ (m : List ℕ). with_parts k.name k.world m h.told h.joined h.table h.locks h.watch h.calls h.last_call)
+    ∙ ap (λ (x : List ℕ). with_parts k.name k.world x h.told h.joined h.table h.notices h.locks h.watch h.calls h.last_call)
     (sym a.members)
-    ∙ ap (λ (d : List ℕ). with_parts k.name k.world k.members d h.joined h.table h.locks h.watch h.calls h.last_call)
+    ∙ ap (λ (x : List ℕ). with_parts k.name k.world k.members x h.joined h.table h.notices h.locks h.watch h.calls h.last_call)
     (sym a.told)
-    ∙ ap (λ (j : Bool). with_parts k.name k.world k.members k.told j h.table h.locks h.watch h.calls h.last_call)
+    ∙ ap (λ (x : Bool). with_parts k.name k.world k.members k.told x h.table h.notices h.locks h.watch h.calls h.last_call)
     (sym a.joined)
-    ∙ ap (λ (t : Table). with_parts k.name k.world k.members k.told k.joined t h.locks h.watch h.calls h.last_call)
+    ∙ ap (λ (x : Table). with_parts k.name k.world k.members k.told k.joined x h.notices h.locks h.watch h.calls h.last_call)
     (sym a.table)
-    ∙ ap (λ (l : Locks). with_parts k.name k.world k.members k.told k.joined k.table l h.watch h.calls h.last_call)
+    ∙ ap (λ (x : List (ℕ × List Notice)). with_parts k.name k.world k.members k.told k.joined k.table x h.locks h.watch h.calls h.last_call)
+    (sym a.notices)
+    ∙ ap (λ (x : Locks). with_parts k.name k.world k.members k.told k.joined k.table k.notices x h.watch h.calls h.last_call)
     (sym a.locks)
-    ∙ ap (λ (w : Watch). with_parts k.name k.world k.members k.told k.joined k.table k.locks w h.calls h.last_call)
+    ∙ ap (λ (x : Watch). with_parts k.name k.world k.members k.told k.joined k.table k.notices k.locks x h.calls h.last_call)
     (sym a.watch)
-    ∙ ap (λ (c : LockCalls). with_parts k.name k.world k.members k.told k.joined k.table k.locks k.watch c h.last_call)
+    ∙ ap (λ (x : LockCalls). with_parts k.name k.world k.members k.told k.joined k.table k.notices k.locks k.watch x h.last_call)
     (sym a.calls)
-    ∙ ap (with_parts k.name k.world k.members k.told k.joined k.table k.locks k.watch k.calls) (sym a.last_call)
+    ∙ ap (λ (x : ℕ). with_parts k.name k.world k.members k.told k.joined k.table k.notices k.locks k.watch k.calls x)
+    (sym a.last_call)
   where
-    with_parts : ℕ → List ℕ → List ℕ → List ℕ → Bool → Table → Locks → Watch → LockCalls → ℕ → Held
-    with_parts n w m d j t l x c i = record {
+    with_parts : ℕ → List ℕ → List ℕ → List ℕ → Bool → Table → List (ℕ × List Notice) → Locks → Watch → LockCalls → ℕ → Held
+    with_parts n w m d j t s l x c i = record {
       name = n;
       world = w;
       members = m;
       told = d;
       joined = j;
       table = t;
+      notices = s;
       locks = l;
       watch = x;
       registrar = k.registrar;

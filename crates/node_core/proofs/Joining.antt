@@ -1,6 +1,6 @@
 -- The rules of joins, one by one.
 use Rattle.std.proofs.Common.{ℕ, Bool, true, false, ◌==◌, ◌≡◌, ◌<◌, ◌≤◌, ◌+◌, Option, Some, None, List, [], ◌∷◌, ◌++◌, length, get_or, take, arith, refl, sym, ap, ◌∙◌, subst}
-use Rattle.std.specs.Prelude.{not, ◌&&◌, ◌||◌, if◌then◌else◌, filter}
+use Rattle.std.specs.Prelude.{not, ◌&&◌, ◌||◌, if◌then◌else◌, filter, fold}
 use Rattle.std.specs.Option.{option_map}
 use Rattle.std.proofs.Math.Path.{fun_ext}
 use Rattle.std.proofs.lemmas.Bool.{eq-eqb, eqb-true}
@@ -8,11 +8,11 @@ use Rattle.std.specs.List.Sorted.{IsStrictlyIncreasing}
 use Rattle.std.proofs.lemmas.List.{map-append}
 use Rattle.std.proofs.lemmas.List.Sums.{length-filter, count_by-le-length}
 use Rattle.std.proofs.lemmas.Grind.{take_at_read, fold-append}
-use Rattle.registry_model.specs.Process.{Text, Process, Nodes, with_node}
-use Rattle.registry_model.specs.Table.{Pair, Table, Put, put_all, without, is_rising}
+use Rattle.registry_model.specs.Process.{Process, Nodes, with_node}
+use Rattle.registry_model.specs.Table.{Table, Change, without, is_rising}
 use Rattle.registry_model.specs.Call.{Joined}
-use Rattle.registry_model.specs.Registry.{Replica}
-use Rattle.registry_model.specs.Settlement.{Settled, settle}
+use Rattle.registry_model.specs.Registry.{process_of, Replica}
+use Rattle.registry_model.specs.Settlement.{Noted, Notice, notices_to, Fate, Settled, with_settled, settle}
 use Rattle.registry_model.specs.History.{Entry as AnyEntry}
 use Rattle.protocol_model.specs.Event.{Answer as AnyAnswer}
 use Rattle.protocol_model.specs.Letter.{Letter as AnyLetter}
@@ -20,7 +20,7 @@ use Rattle.protocol_model.specs.Node.{Node, Op as AnyOp, Current, LockCall, drop
 use Rattle.protocol_model.specs.Watch.{Watch as AnyWatch, is_live, with_dead}
 use Rattle.protocol_model.specs.Turn.{Turn, become, with_replica, at_work, send, send_all, enter, reply_with}
 use Rattle.protocol_model.specs.Calling.{die, kill}
-use Rattle.protocol_model.specs.Reading.{welcomed, welcome}
+use Rattle.protocol_model.specs.Reading.{with_member, noted, admitted, joined_with, welcomed, welcome}
 use Rattle.protocol_model.specs.Deciding.{admit, held}
 use Rattle.protocol_model.specs.Registrar.{finish}
 use Rattle.term.specs.NodeSets.{IsNodeSet, set_of, without_node, with_node as and_node, most_nodes}
@@ -33,7 +33,9 @@ use Rattle.lock_calls.specs.Held.{Held as LockCalls, seen}
 use Rattle.transaction.specs.declared.op.Op.{Op}
 use Rattle.transaction.specs.Ops.{op_of}
 use Rattle.transaction.specs.Work.{Work}
-use Rattle.exchange.specs.Bodies.{fate_in}
+use Rattle.notice_lists.specs.Lists.{list_under}
+use Rattle.exchange.specs.Bodies.{settled_in, fate_in}
+use Rattle.exchange.specs.declared.bodies.Admission.{Admission}
 use Rattle.exchange.specs.declared.bodies.Welcome.{Welcome}
 use Rattle.node_events.specs.declared.events.Answer.{Answer}
 use Rattle.node_events.specs.declared.events.Entry.TheVariants.{Joined as HasJoined}
@@ -43,7 +45,7 @@ use Rattle.node_events.specs.declared.events.Reply.TheVariants.{Joined as IsJoin
 use Rattle.node_core.specs.declared.node.Phase.TheVariants.{Writing}
 use Rattle.node_events.specs.Made.{Made, sent, SendsAll, entered, answered}
 use Rattle.node_core.specs.Held.{Held, IsWhole, IsWithin, bound_of}
-use Rattle.node_core.specs.Joining.{Welcomes, TellsToAdmit, join_by, kill_one, put_names, IsAdmitting, IsWelcomeTo}
+use Rattle.node_core.specs.Joining.{Welcomes, TellsToAdmit, join_by, kill_one, put_names, remove_names, IsAdmitting, IsWelcomeTo}
 use Rattle.node_events.specs.Letters.{letter_of}
 use Rattle.node_core.specs.Seen.{node_of, turn_of, current_of}
 use Rattle.node_events.specs.Seen.{answer_of, reply_of, unnumbered}
@@ -93,28 +95,41 @@ kills_one h k w cs t u p r lived whole same set is_so lived_is killed dropped re
     live : is_live k.name k.watch.watch p ≡ true
     live = ap (λ (a : ℕ). is_live a k.watch.watch p) (sym whole.watch) ∙ sym lived_is ∙ is_so
 
--- one pair more is put
-pub puts_next : (h k m : Held) (t : Made) (pairs : Table) (i : ℕ) (e d : Pair) (x : Text) (p : Process)
-    → i < length pairs → e ≡ get_or pairs i e → d ≡ e → x ≡ d.name → p ≡ d.owner
-    → Makes (λ n a. with_replica (put_names (take i pairs))) h t k t
-    → Makes (λ n a. with_replica (wrote (Put (record { name = x; owner = p })))) k t m t
-    → Makes (λ n a. with_replica (put_names (take (i + 1) pairs))) h t m t
-puts_next h k m t pairs i e d x p l is same named owned before next =
+-- one more of the changes that are written in turn
+pub writes_next : {A : Type 0} (to : A → Change) (h k m : Held) (t : Made) (items : List A) (i : ℕ) (e d f : A)
+    → i < length items → e ≡ get_or items i e → d ≡ e → f ≡ d
+    → Makes (λ n a. with_replica (λ v. fold (λ replica b. wrote (to b) replica) v (take i items))) h t k t
+    → Makes (λ n a. with_replica (wrote (to f))) k t m t
+    → Makes (λ n a. with_replica (λ v. fold (λ replica b. wrote (to b) replica) v (take (i + 1) items))) h t m t
+writes_next {A} to h k m t items i e d f l is same copied before next =
     made_as (followed before next) (ap (λ (v : Replica). become (record node { replica = v }) (turn_of h t))
-    (ap (λ (y : Text). wrote (Put (record { name = y; owner = p })) (first node.replica)) (named ∙ ap (λ (f : Pair). f.name) same)
-    ∙ ap (λ (q : Process). wrote (Put (record { name = e.name; owner = q })) (first node.replica)) (owned ∙ ap (λ (f : Pair). f.owner) same)
-    ∙ sym (fold-append write node.replica (take i pairs) (e ∷ []))
-    ∙ ap (λ (ps : Table). put_names ps node.replica) (ap (λ (f : Pair). take i pairs ++ f ∷ []) is
-    ∙ sym (take_at_read pairs i e l).1)))
+    (ap (λ (g : A). wrote (to g) (write_all (take i items))) (copied ∙ same)
+    ∙ sym (fold-append write node.replica (take i items) (e ∷ []))
+    ∙ ap (λ (bs : List A). write_all bs) (ap (λ (b : A). take i items ++ b ∷ []) is
+    ∙ sym (take_at_read items i e l).1)))
   where
     node : Node
     node = node_of h
 
-    first : Replica → Replica
-    first = put_names (take i pairs)
+    write : Replica → A → Replica
+    write v b = wrote (to b) v
 
-    write : Replica → Pair → Replica
-    write v f = wrote (Put f) v
+    write_all : List A → Replica
+    write_all bs = fold write node.replica bs
+
+-- the node adds notices to those of its processes
+pub notes : (h h1 : Held) (t : Made) (lists : List (ℕ × List Notice)) (fate : Fate) (notices : List Noted) → h ≡ h1
+    → ((serial : ℕ) → list_under serial lists ≡ list_under serial h.notices ++ notices_to (process_of h.name serial) notices)
+    → fate.notices ≡ notices → Makes (λ n a. with_replica (noted a fate)) h1 t (record h { notices = lists }) t
+notes h h1 t lists fate notices same more is =
+    subst (λ (x : Held). Makes (λ n a. with_replica (noted a fate)) x t (record h { notices = lists }) t) same (record {
+      name = refl;
+      world = refl;
+      turn = ap (λ (ns : ℕ → List Notice). record (turn_of h t) {
+        node = record (node_of h) { replica = record (node_of h).replica { notices = ns } };
+      }) (fun_ext (λ serial. more serial
+          ∙ ap (λ (ns : List Noted). list_under serial h.notices ++ notices_to (process_of h.name serial) ns) (sym is)));
+    })
 
 -- h is the node, which is told by its welcome of members and of nodes that have left. either: those that one of the two
 -- was told of; told: these without the node itself; rest: the members that haven't left
@@ -224,10 +239,11 @@ module _ (h : Held) (body : Welcome) (either told rest members : List ℕ) (tabl
     -- the node has moved in
     pub moves_in : (h1 : Held) (t : Made) → h ≡ h1 → v.watch ≡ h.watch.watch
         → (is_rising body.pairs.items ≡ true → table ≡ without (set_of told) body.pairs.items)
-        → Makes (λ n a. with_replica (welcomed (set_of body.members) body.pairs.items (set_of body.told))) h1 t moved t
+        → Makes (λ n a. with_replica (joined_with (set_of body.members) body.pairs.items
+        (λ c. set_of h1.told c || set_of body.told c))) h1 t moved t
     moves_in h1 t same watch pairs =
-        subst (λ (x : Held). Makes (λ n a. with_replica
-        (welcomed (set_of body.members) body.pairs.items (set_of body.told))) x t moved t) same (record {
+        subst (λ (x : Held). Makes (λ n a. with_replica (joined_with (set_of body.members) body.pairs.items
+        (λ c. set_of x.told c || set_of body.told c))) x t moved t) same (record {
           name = refl;
           world = refl;
           turn = ap (λ (w : AnyWatch). known w table (set_of members) (set_of told)) watch
@@ -241,7 +257,7 @@ module _ (h : Held) (body : Welcome) (either told rest members : List ℕ) (tabl
         known : AnyWatch → Table → Nodes → Nodes → Turn
         known w x m g = record (turn_of h t) {
           node = record (node_of h) {
-            replica = record { table = x; members = m; told = g; joined = true };
+            replica = record (node_of h).replica { table = x; members = m; told = g; joined = true };
             watch = w;
           };
         }
@@ -271,10 +287,18 @@ joining_is f k (Current.Asking op r) e = cc
 joining_is f k (Current.Waiting op) e = cc
 joining_is f k (Current.Writing op asked awaited reply) e = cc
 
+-- a node that moves in and then adds notices to those of its processes is welcomed
+pub arrives : (h m k : Held) (t : Made) (members : Nodes) (pairs : Table) (told : Nodes) (fate : Fate)
+    → Makes (λ n a. with_replica (joined_with members pairs (λ d. set_of h.told d || told d))) h t m t
+    → Makes (λ n a. with_replica (noted a fate)) m t k t
+    → Makes (λ n a. with_replica (welcomed a members pairs told fate)) h t k t
+arrives h m k t members pairs told fate M N =
+    let both = followed M N in record { name = both.name; world = both.world; turn = both.turn }
+
 -- a join is granted: the registrar is free, the node moves in, those that clash die, and it is answered
 pub welcomes : (h0 h m k : Held) (t u v x : Made) (f d k0 : ℕ) (w : Work) (body : Welcome) (s : Answer) (number : ℕ → ℕ)
     → h0 ≡ h → Some k0 ≡ join_by f (node_of h).current → w ≡ record h0.registrar { current = None; awaited = [] }
-    → Makes (λ n a. with_replica (welcomed (set_of body.members) body.pairs.items (set_of body.told)))
+    → Makes (λ n a. with_replica (welcomed a (set_of body.members) body.pairs.items (set_of body.told) (fate_in body)))
     (record h0 { registrar = w }) t m t
     → Makes (λ n a. kill n a body.kills.items) m t k u
     → s ≡ record { node = k.name; call = k0; reply = IsJoined } → v ≡ answered s u → d ≡ f → x ≡ sent d Applied v
@@ -306,16 +330,36 @@ welcomes h0 h m k t u v x f d k0 w body s number same waits free M K answer answ
     a = h0.name
 
     both : Makes (λ i c y. kill i c body.kills.items
-        (with_replica (welcomed (set_of body.members) body.pairs.items (set_of body.told)) y))
+        (with_replica (welcomed c (set_of body.members) body.pairs.items (set_of body.told) (fate_in body)) y))
         (record h0 { registrar = w }) t k u
     both = followed M K
 
     moving : Turn → Turn
-    moving = with_replica (welcomed (set_of body.members) body.pairs.items (set_of body.told))
+    moving = with_replica (welcomed a (set_of body.members) body.pairs.items (set_of body.told) (fate_in body))
 
     granted : Turn
     granted = send f AnyLetter.Applied (reply_with a k0 Joined
         (at_work Current.Free (kill n a body.kills.items (moving (turn_of h0 t)))))
+
+-- a joiner is admitted: it is a member, the names are put, others are removed, notices are added, those that clash die, and it is
+-- acknowledged
+pub admits : (h h1 h2 h3 h4 k : Held) (t u x : Made) (f d : ℕ) (body : Admission)
+    → Makes (λ n a. with_replica (with_member body.joiner)) h t h1 t
+    → Makes (λ n a. with_replica (put_names body.puts.items)) h1 t h2 t
+    → Makes (λ n a. with_replica (remove_names body.removes.items)) h2 t h3 t
+    → Makes (λ n a. with_replica (noted a (settled_in body).fate)) h3 t h4 t
+    → Makes (λ n a. kill n a body.kills.items) h4 t k u → d ≡ f → x ≡ sent d Applied u
+    → Makes (λ n a y. send f AnyLetter.Applied (kill n a (settled_in body).fate.kills
+    (with_replica (admitted a body.joiner (settled_in body)) y))) h t k x
+admits h h1 h2 h3 h4 k t u x f d body M P R N K to sending =
+    let all = followed (followed (followed (followed M P) R) N) K in
+    record {
+      name = all.name;
+      world = all.world;
+      turn = ap (turn_of k) sending ∙ sent_is k u d Applied
+          ∙ ap (λ (c : ℕ). send c AnyLetter.Applied (turn_of k u)) to
+          ∙ ap (send f AnyLetter.Applied) all.turn;
+    }
 
 -- there is room for a node of the world beside others of it
 pub room_for : (world members : List ℕ) (j : ℕ) → IsNodeSet world → IsNodeSet members → IsWithin world members
@@ -357,7 +401,7 @@ writes (Some x) op asked all e =
 
 -- a joiner is sent all that a node has
 pub welcomed_by : (h0 h : Held) (j k : ℕ) (s : Settled) (t u : Made) (m : Letter) → h0 ≡ h → letter_of m
-    ≡ AnyLetter.Welcome (with_node j (set_of h0.members)) (put_all s.puts h0.table) (set_of h0.told) s.fate
+    ≡ AnyLetter.Welcome (with_node j (set_of h0.members)) (with_settled s h0.table) (set_of h0.told) s.fate
     → k ≡ j → u ≡ sent k m t → Welcomes h j s t u
 welcomed_by h0 h j k s t u m same is to sends =
     subst (λ (x : Held). Welcomes x j s t u) same (m, is, sends ∙ ap (λ (c : ℕ). sent c m t) to)
@@ -374,7 +418,7 @@ pub lets_in : (h0 h : Held) (t u v x : Made) (w : Work) (asked all : List ℕ) (
     → w ≡ record h0.registrar { awaited = all } → j1 ≡ j → a ≡ h0.name → u ≡ entered (HasJoined j1 a) t
     → letter_of l ≡ AnyLetter.Admit j s → SendsAll h0.members l u v
     → letter_of m
-    ≡ AnyLetter.Welcome (with_node j (set_of h0.members)) (put_all s.puts h0.table) (set_of h0.told) s.fate
+    ≡ AnyLetter.Welcome (with_node j (set_of h0.members)) (with_settled s h0.table) (set_of h0.told) s.fate
     → j2 ≡ j → x ≡ sent j2 m v → IsAdmitting h j pairs
     → Makes (λ n b. admit n b unnumbered j pairs (set_of asked) s) h t
     (record h0 { registrar = w; phase = Writing asked None }) x
@@ -410,7 +454,7 @@ lets_in h0 h t u v x w asked all a j j1 j2 l m s pairs same whole of set are awa
 
     welcome_letter : AnyLetter
     welcome_letter =
-        AnyLetter.Welcome (with_node j (set_of h0.members)) (put_all s.puts h0.table) (set_of h0.told) s.fate
+        AnyLetter.Welcome (with_node j (set_of h0.members)) (with_settled s h0.table) (set_of h0.told) s.fate
 
 -- j, which has not left, is let in
 pub lets_pass : (h0 h k : Held) (t u : Made) (asked : List ℕ) (j : ℕ) (pairs : Table) (s : Settled) → h0 ≡ h

@@ -131,7 +131,7 @@ module _ (h0 : Held) (f : ℕ) (members told : List ℕ) (table : Table) (locks 
       at_state : Nodes → Nodes → Table → Locks → Turn
       at_state m g x l = record (enter (AnyEntry.Told h0.name f) (turn_of h0 t)) {
         node = record (node_of h0) {
-          replica = record { table = x; members = m; told = g; joined = h0.joined };
+          replica = record (node_of h0).replica { table = x; members = m; told = g };
           locks = l;
         };
       }

@@ -1,5 +1,6 @@
 pub mod Bounds
 mod Whole
+mod Writing
 mod Sends
 mod Rooms
 mod Copying

@@ -5,10 +5,10 @@ use Rattle.std.specs.Prelude.{◌&&◌, not, fold, if◌then◌else◌}
 use Rattle.std.proofs.Math.Path.{fun_ext}
 use Rattle.std.proofs.lemmas.List.{map-append}
 use Rattle.registry_model.specs.Process.{Process, is_process, Nodes, with_node, without_node}
-use Rattle.registry_model.specs.Table.{Table, StrikeOwner, put_all}
+use Rattle.registry_model.specs.Table.{Table, StrikeOwner}
 use Rattle.registry_model.specs.Call.{NameCall, Look, Reply as AnyReply, Joined, NotMember, ContactLeft, is_grant, change_of, reply_to, seen_in}
 use Rattle.registry_model.specs.History.{Entry as AnyEntry}
-use Rattle.registry_model.specs.Settlement.{Fate, Settled, settle}
+use Rattle.registry_model.specs.Settlement.{with_settled, Fate, Settled, settle}
 use Rattle.protocol_model.specs.Letter.{Letter as AnyLetter, Id, Global, is_down}
 use Rattle.protocol_model.specs.LockTable.{is_free_for, drop_node}
 use Rattle.protocol_model.specs.Event.{Call as AnyCall, Event as AnyEvent}
@@ -233,7 +233,7 @@ module _ (n a : ℕ) (number : ℕ → ℕ) where
   lets_in : (j : ℕ) (ps : Table) (s : Nodes) (w : Settled)
       → AreNumbered (admit n a unnumbered j ps s w) (admit n a number j ps s w)
   lets_in j ps s w u = ap (λ (v : Turn). send j
-      (AnyLetter.Welcome (with_node j u.node.replica.members) (put_all w.puts u.node.replica.table)
+      (AnyLetter.Welcome (with_node j u.node.replica.members) (with_settled w u.node.replica.table)
       u.node.replica.told w.fate)
       (send_all n u.node.replica.members (AnyLetter.Admit j w)
       (at_work (Current.Writing (AnyOp.Admission j ps) s (with_node j u.node.replica.members) None) v)))
@@ -318,8 +318,8 @@ module _ (n a : ℕ) (number : ℕ → ℕ) where
       → AreNumbered (welcome n a unnumbered f members pairs gone fate cur)
       (welcome n a number f members pairs gone fate cur)
   welcomes f members pairs gone fate (Current.Joining k m) u = where_so (m == f)
-      (λ v. joined (kill n a fate.kills (with_replica (welcomed members pairs gone) v)))
-      (λ v. ap joined (kills fate.kills (with_replica (welcomed members pairs gone) v))) u
+      (λ v. joined (kill n a fate.kills (with_replica (welcomed a members pairs gone fate) v)))
+      (λ v. ap joined (kills fate.kills (with_replica (welcomed a members pairs gone fate) v))) u
     where
       joined : Turn → Turn
       joined v = send f AnyLetter.Applied (reply_with a k Joined (at_work Current.Free v))
@@ -351,7 +351,7 @@ module _ (n a : ℕ) (number : ℕ → ℕ) where
   reads f (AnyLetter.JoinAsk ps) u = asks_to_join f ps u
   reads f AnyLetter.JoinRefused u = refuses_join f u.node.current u
   reads f (AnyLetter.Admit j settled) u =
-      ap (send f AnyLetter.Applied) (kills settled.fate.kills (with_replica (admitted j settled) u))
+      ap (send f AnyLetter.Applied) (kills settled.fate.kills (with_replica (admitted a j settled) u))
   reads f (AnyLetter.Welcome members pairs gone fate) u = welcomes f members pairs gone fate u.node.current u
   reads f AnyLetter.Down u = bereaves f u
 

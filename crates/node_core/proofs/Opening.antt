@@ -4,6 +4,7 @@ use Rattle.std.specs.Prelude.{not, ◌&&◌, if◌then◌else◌}
 use Rattle.std.proofs.Math.Path.{fun_ext}
 use Rattle.registry_model.specs.Process.{Nodes, nobody}
 use Rattle.registry_model.specs.Table.{Table, without}
+use Rattle.registry_model.specs.Settlement.{Notice}
 use Rattle.protocol_model.specs.LockTable.{Locks}
 use Rattle.protocol_model.specs.Node.{Node, opening_node}
 use Rattle.term.specs.NodeSets.{set_of}
@@ -28,7 +29,7 @@ opens a world members joined own is =
 
     with_members : Nodes → Node
     with_members s = record (node_of (fresh a world members true))
-        { replica = record { table = []; members = s; told = nobody; joined = true } }
+        { replica = record { table = []; members = s; told = nobody; joined = true; notices = λ serial. [] } }
 
     with_own : Bool → Node
     with_own b = record (node_of (fresh a world members true)) {
@@ -37,13 +38,14 @@ opens a world members joined own is =
         members = λ c. (if b then set_of members c else c == a) && not (nobody c);
         told = nobody;
         joined = b;
+        notices = λ serial. [];
       };
     }
 
 -- the same of what is made for it
-pub opened : (h : Held) (a : ℕ) (world members w m d : List ℕ) (joined : Bool) (t : Table) (locks : Locks) (v : Watch)
+pub opened : (h : Held) (a : ℕ) (world members w m d : List ℕ) (joined : Bool) (t : Table) (ns : List (ℕ × List Notice)) (locks : Locks) (v : Watch)
     (r : Work) (cs : LockCalls)
-    → w ≡ world → m ≡ members → d ≡ [] → t ≡ [] → locks ≡ [] → v ≡ watch_from a 0 → r ≡ idle → cs ≡ none_at a
+    → w ≡ world → m ≡ members → d ≡ [] → t ≡ [] → ns ≡ [] → locks ≡ [] → v ≡ watch_from a 0 → r ≡ idle → cs ≡ none_at a
     → h ≡ record {
       name = a;
       world = w;
@@ -51,6 +53,7 @@ pub opened : (h : Held) (a : ℕ) (world members w m d : List ℕ) (joined : Boo
       told = d;
       joined = joined;
       table = t;
+      notices = ns;
       locks = locks;
       watch = v;
       registrar = r;
@@ -59,7 +62,7 @@ pub opened : (h : Held) (a : ℕ) (world members w m d : List ℕ) (joined : Boo
       last_call = 0;
     }
     → set_of members a ≡ true → joined ≡ true → node_of h ≡ opening_node (set_of members) a
-opened h a world members w m d joined t locks v r cs e1 e2 e0 e3 e4 e5 e6 e7 e own is = ap node_of same
+opened h a world members w m d joined t ns locks v r cs e1 e2 e0 e3 e8 e4 e5 e6 e7 e own is = ap node_of same
     ∙ opens a world members joined own is
   where
     same : h ≡ fresh a world members joined

@@ -112,6 +112,24 @@ module _ (f h : Held) (s t : Made) (w : Work) (at : IsAtQueue f s h t) (begun : 
             else ask_join n0 f.name i m (with_queue (map op_of b.0) (turn_of h t))) (sym gone) ∙ b.1.turn;
       }
 
+  -- a join whose contact hasn't left begins, and the loop ends
+  pub asks_at : (k : Held) (u : Made) (i m : ℕ) → starts None h.registrar ≡ true → w.current ≡ Some (Join i m)
+      → set_of h.told m ≡ false → Makes (λ n a. ask_join n a i m) (node_at w) t k u
+      → Makes (λ n a v. start_queue n a v.node.queue v) f s k u
+  asks_at k u i m some cur here M =
+      let b = begins some (Join i m) cur in
+      record {
+        name = M.name ∙ at.name;
+        world = M.world ∙ at.world;
+        turn = M.turn
+            ∙ ap (λ (ws : List ℕ). ask_join (bound_of ws) h.name i m (turn_of (node_at w) t)) at.world
+            ∙ ap (λ (a : ℕ). ask_join n0 a i m (turn_of (node_at w) t)) at.name
+            ∙ ap (λ (x : Work). ask_join n0 f.name i m (turn_of (node_at x) t)) b.1.work
+            ∙ ap (λ (y : Bool). if y
+            then start_queue n0 f.name (map op_of b.0) (contact_left n0 f.name i m (turn_of h t))
+            else ask_join n0 f.name i m (with_queue (map op_of b.0) (turn_of h t))) (sym here) ∙ b.1.turn;
+      }
+
 -- of what was started, all is of the world
 started_within : (h : Held) (w : Work) → IsWhole h → w ≡ started None h.registrar → IsWorkWithin h.world w
 started_within h w whole begun = subst (IsWorkWithin h.world) (sym begun)

@@ -24,7 +24,7 @@ use Rattle.transaction.specs.declared.op.Op.TheVariants.{Name as NameOp, Strike,
 use Rattle.transaction.specs.Ops.{op_of}
 use Rattle.transaction.specs.Calls.{target_of, retries_of}
 use Rattle.node_events.specs.declared.events.Call.{Call}
-use Rattle.node_events.specs.declared.events.Call.TheVariants.{Spawn, Whereis, RegisteredNames, Register, ReRegister, Unregister, SetLock as SetsLock, DelLock as DeletesLock, Join as JoinBy}
+use Rattle.node_events.specs.declared.events.Call.TheVariants.{Spawn, Whereis, RegisteredNames, Notices, Register, ReRegister, Unregister, SetLock as SetsLock, DelLock as DeletesLock, Join as JoinBy}
 use Rattle.node_events.specs.declared.events.Event.{Event}
 use Rattle.node_events.specs.declared.events.Event.TheVariants.{Call as Calls, FromPeer, Retry, Exit, Leave}
 use Rattle.node_events.specs.declared.events.Letter.{Letter}
@@ -60,10 +60,11 @@ module _ {n a : ℕ} {world : Nodes} where
   calls_for k Spawn u of W = W
   calls_for k (Whereis x) u of W = W
   calls_for k RegisteredNames u of W = W
+  calls_for k (Notices p) u of W = W
   calls_for k (JoinBy m) u of W = queues W (u.node.queue ++ AnyOp.Join k m ∷ [])
       (ops-push world u.node.queue (AnyOp.Join k m) W.queue of)
-  calls_for k (Register x p) u of W = numbers k (NameCall.Register (record { name = x; owner = p })) u W
-  calls_for k (ReRegister x p) u of W = numbers k (NameCall.ReRegister (record { name = x; owner = p })) u W
+  calls_for k (Register e) u of W = numbers k (NameCall.Register e) u W
+  calls_for k (ReRegister e) u of W = numbers k (NameCall.ReRegister e) u W
   calls_for k (Unregister x) u of W = numbers k (NameCall.Unregister x) u W
   calls_for k (SetsLock p id nodes retries) u of W =
       tries (new_call n a k p id.resource id.requester (target_of nodes) (retries_of retries)) (count_call u) W
@@ -225,8 +226,9 @@ module _ (h : Held) (whole : IsWhole h) (rising : is_rising h.table ≡ true) wh
   asked_of Spawn of = tt
   asked_of (Whereis x) of = tt
   asked_of RegisteredNames of = tt
-  asked_of (Register x p) of = tt
-  asked_of (ReRegister x p) of = tt
+  asked_of (Notices p) of = tt
+  asked_of (Register e) of = tt
+  asked_of (ReRegister e) of = tt
   asked_of (Unregister x) of = tt
   asked_of (SetsLock p id nodes retries) of = tt
   asked_of (DeletesLock p id nodes) of = tt

@@ -3,7 +3,7 @@ use Rattle.std.proofs.Common.{ℕ, Bool, true, false, ◌==◌, ◌≡◌, Optio
 use Rattle.std.specs.Prelude.{◌&&◌, ◌||◌, not, if◌then◌else◌, fold}
 use Rattle.std.proofs.lemmas.List.Elements.{All-filter}
 use Rattle.registry_model.specs.Process.{Process, is_process, Nodes, with_node, without_node}
-use Rattle.registry_model.specs.Table.{Table, Put as AnyPut, is_rising}
+use Rattle.registry_model.specs.Table.{Table, Change as AnyChange, Put as AnyPut, Remove as AnyRemove, is_rising}
 use Rattle.registry_model.specs.Registry.{Replica}
 use Rattle.registry_model.specs.Call.{Joined, NotMember}
 use Rattle.registry_model.specs.History.{Entry as AnyEntry}
@@ -18,7 +18,7 @@ use Rattle.protocol_model.specs.Registrar.{registrar}
 use Rattle.protocol_model.specs.Watch.{is_live}
 use Rattle.protocol_model.specs.Client.{hear_lock, owe_less}
 use Rattle.protocol_model.specs.Deciding.{hear_answer}
-use Rattle.protocol_model.specs.Reading.{with_member, admitted, welcomed, bereft, asked_to_admit, refused_join, welcome, judge, hear, take_back, told_of, lose_join, lose_current, bereave, read, receive}
+use Rattle.protocol_model.specs.Reading.{with_member, noted, admitted, welcomed, bereft, asked_to_admit, refused_join, welcome, judge, hear, take_back, told_of, lose_join, lose_current, bereave, read, receive}
 use Rattle.protocol_model.specs.Calling.{die, kill, queued}
 use Rattle.term.specs.NodeSets.{set_of}
 use Rattle.lock_table.specs.Ids.{id_of}
@@ -32,13 +32,18 @@ use Rattle.node_core.proofs.Receivers.{AreOf, IsCallOf, Knows, IsWithin, ops-pus
 use Rattle.node_core.proofs.ReceiversOfLocks.{hears_lock, owes_less, loses_calls}
 use Rattle.node_core.proofs.ReceiversOfOperations.{awaits, starts, hears, loses_contact, loses}
 
--- names are put
-puts_names : {n a : ℕ} {world : Nodes} {ops : List AnyOp} {cur : Current} {locks : List LockCall} {ss : List Send}
-    (names : Table) (v : Replica) → Knows n a world v ops cur locks ss
-    → Knows n a world (fold (λ replica pair. wrote (AnyPut pair) replica) v names) ops cur locks ss
-puts_names [] v W = W
-puts_names (pair ∷ names) v W =
-    puts_names names (wrote (AnyPut pair) v) (writes_one W (AnyPut pair))
+-- changes are written
+writes_all : {n a : ℕ} {world : Nodes} {ops : List AnyOp} {cur : Current} {locks : List LockCall} {ss : List Send}
+    {A : Type 0} (to : A → AnyChange) (items : List A) (v : Replica) → Knows n a world v ops cur locks ss
+    → Knows n a world (fold (λ replica b. wrote (to b) replica) v items) ops cur locks ss
+writes_all to [] v W = W
+writes_all to (b ∷ items) v W = writes_all to items (wrote (to b) v) (writes_one W (to b))
+
+-- notices are added
+adds_notices : {n a : ℕ} {world : Nodes} {ops : List AnyOp} {cur : Current} {locks : List LockCall} {ss : List Send}
+    (c : ℕ) (fate : Fate) (v : Replica) → Knows n a world v ops cur locks ss
+    → Knows n a world (noted c fate v) ops cur locks ss
+adds_notices c fate v W = shows W (noted c fate v) W.members W.told W.rising W.boss
 
 -- the members of a welcome that haven't left
 abbrev pub staying : Nodes → Nodes → Turn → Nodes
@@ -85,9 +90,10 @@ module _ {n a : ℕ} {world : Nodes} where
   -- j is admitted, where the members with it have a boss
   admits : (f j : ℕ) (settled : Settled) (u : Turn) → world f ≡ true → world j ≡ true
       → world (greatest n (with_node j u.node.replica.members)) ≡ true → IsWithin n a world u
-      → IsWithin n a world (send f AnyLetter.Applied (kill n a settled.fate.kills (with_replica (admitted j settled) u)))
-  admits f j settled u e here boss W = sends (kills settled.fate.kills (with_replica (admitted j settled) u)
-      (puts_names settled.puts (with_member j u.node.replica) (go (u.node.replica.told j)))) f AnyLetter.Applied e tt
+      → IsWithin n a world (send f AnyLetter.Applied (kill n a settled.fate.kills (with_replica (admitted a j settled) u)))
+  admits f j settled u e here boss W = sends (kills settled.fate.kills (with_replica (admitted a j settled) u)
+      (adds_notices a settled.fate _ (writes_all AnyRemove settled.removes _
+      (writes_all AnyPut settled.puts (with_member j u.node.replica) (go (u.node.replica.told j)))))) f AnyLetter.Applied e tt
     where
       go : (b : Bool) → Knows n a world
           (if b then u.node.replica else record u.node.replica { members = with_node j u.node.replica.members })
@@ -173,14 +179,14 @@ module _ {n a : ℕ} {world : Nodes} where
     is_welcome f members pairs gone fate (Current.Joining k m) u e of left rising boss W = go (m == f)
       where
         v : Turn
-        v = with_replica (welcomed members pairs gone) u
+        v = with_replica (welcomed a members pairs gone fate) u
 
         either_of : (c : ℕ) (b d : Bool) → u.node.replica.told c ≡ b → gone c ≡ d → (b || d) ≡ true → world c ≡ true
         either_of c true d told away q = W.told c told
         either_of c false d told away q = left c (away ∙ q)
 
         V : IsWithin n a world v
-        V = shows W (welcomed members pairs gone u.node.replica)
+        V = shows W (welcomed a members pairs gone fate u.node.replica)
             (λ c q. of c (first (members c) (not (u.node.replica.told c || gone c)) q))
             (λ c q. either_of c (u.node.replica.told c) (gone c) refl refl q)
             (is_rising-without (λ c. u.node.replica.told c || gone c) pairs rising) boss

@@ -3,11 +3,11 @@ use Rattle.std.proofs.Common.{ℕ, Bool, true, false, ◌==◌, ◌≡◌, Optio
 use Rattle.std.specs.Prelude.{◌&&◌, not, if◌then◌else◌}
 use Rattle.std.proofs.lemmas.Bool.{eq-eqb}
 use Rattle.registry_model.specs.Process.{Nodes, with_node}
-use Rattle.registry_model.specs.Table.{Change as AnyChange, StrikeOwner, put_all}
-use Rattle.registry_model.specs.Settlement.{Settled, settle}
+use Rattle.registry_model.specs.Table.{Change as AnyChange, StrikeOwner}
+use Rattle.registry_model.specs.Settlement.{Settled, with_settled, settle}
 use Rattle.registry_model.specs.Call.{Reply as AnyReply, is_grant, change_of as change_of_call, reply_to}
 use Rattle.registry_model.specs.History.{Entry as AnyEntry}
-use Rattle.registry_model.proofs.Tables.{is_rising-put_all}
+use Rattle.registry_model.proofs.Tables.{is_rising-with_settled}
 use Rattle.protocol_model.specs.Letter.{Letter as AnyLetter, Global}
 use Rattle.protocol_model.specs.Node.{Op as AnyOp, Current}
 use Rattle.protocol_model.specs.Round.{Round, begin, greatest, asked, granted, owes, answer, down, is_over, is_empty, Ending, is_held}
@@ -126,13 +126,13 @@ module _ {n a : ℕ} {world : Nodes} where
         go false here = sends (sends_all
             (works W (Current.Writing (AnyOp.Admission j ps) s (with_node j u.node.replica.members) None) of)
             u.node.replica.members (AnyLetter.Admit j settled) (λ c e. (W.members c e, fits))) j
-            (AnyLetter.Welcome (with_node j u.node.replica.members) (put_all settled.puts u.node.replica.table)
+            (AnyLetter.Welcome (with_node j u.node.replica.members) (with_settled settled u.node.replica.table)
             u.node.replica.told settled.fate) fits (
               and_one_of world u.node.replica.members j W.members fits,
               W.told,
               ap (λ (b : Bool). if b then true else u.node.replica.members j) (eq-eqb j j refl),
               here,
-              is_rising-put_all settled.puts u.node.replica.table W.rising,
+              is_rising-with_settled settled u.node.replica.table W.rising,
             )
 
     ends : (op : AnyOp) (r : Round) (u : Turn) → IsOpOf world op → AreOf world (asked r) → IsWithin n a world u

@@ -8,7 +8,7 @@ use Rattle.protocol_model.specs.Letter.{Letter as AnyLetter, Global}
 use Rattle.protocol_model.specs.Node.{Op as AnyOp, Current}
 use Rattle.protocol_model.specs.Round.{Round, begin, greatest, rest, opens, owes, answer, down, is_over, asked as asked_by, granted as granted_of, ending, Ending as AnyEnding, Held as IsHeld, GiveBack as GiveBackTo}
 use Rattle.protocol_model.specs.Turn.{Turn, at_work, send, send_all}
-use Rattle.protocol_model.specs.Registrar.{registrar, ask_global, ask_rest, start_next, start, give_up}
+use Rattle.protocol_model.specs.Registrar.{registrar, ask_global, ask_rest, start_queue, start_next, start_free, start, give_up}
 use Rattle.protocol_model.specs.Deciding.{held, end_by, end_round, hear_answer, lose}
 use Rattle.protocol_model.specs.Reading.{lose_current}
 use Rattle.protocol_model.specs.Watch.{Watch as AnyWatch, owed}
@@ -30,7 +30,7 @@ use Rattle.node_core.specs.declared.node.Phase.TheVariants.{Asking}
 use Rattle.node_events.specs.Made.{Made, sent, SendsAll}
 use Rattle.node_core.specs.Held.{Held, bound_of, IsWithin, IsPhaseWithin}
 use Rattle.node_events.specs.Letters.{letter_of}
-use Rattle.node_core.specs.Seen.{turn_of, current_of, phase_of}
+use Rattle.node_core.specs.Seen.{node_of, turn_of, current_of, phase_of}
 use Rattle.node_core.specs.Steps.{Makes, Works}
 use Rattle.node_core.proofs.Bounds.{all_below}
 use Rattle.node_core.proofs.Sends.{sent_is, sent_all_is}
@@ -156,6 +156,42 @@ module _ (h0 h : Held) (t : Made) (w : Work) (v : Watch) (strike : Option Proces
       go None ops free_ yes_ V =
           let M = next owed_serial ops yes_ V in record { name = M.name; world = M.world; turn = M.turn }
       go (Some op) ops free_ yes_ V = cc
+
+-- there is nothing
+is_nothing : {A : Type 0} (o : Option A) → is_some o ≡ false → o ≡ None
+is_nothing None e = refl
+is_nothing (Some x) e = cc
+
+-- the watch was asked for an owed strike, and there was none: a free registrar begins what waits
+pub starts_waiting : (h0 h k : Held) (t u : Made) (v : Watch) (strike : Option Process) → h0 ≡ h → v.watch ≡ h0.watch.watch
+    → strike ≡ option_map (process_of h0.watch) (owed h0.watch.node h0.table h0.watch.watch) → h0.watch.node ≡ h0.name
+    → is_some strike ≡ false → is_some h0.registrar.current ≡ false
+    → Makes (λ n a x. start_queue n a x.node.queue x) (record h0 { watch = v }) t k u → Makes start h t k u
+starts_waiting h0 h k t u v strike same watch owes_it own nothing free M =
+    subst (λ (x : Held). Makes start x t k u) same (record {
+      name = M.name;
+      world = M.world;
+      turn = M.turn
+          ∙ ap (λ (x : AnyWatch). start_queue n h0.name (node_of h0).queue
+          (record (turn_of h0 t) { node = record (node_of h0) { watch = x } })) watch
+          ∙ ap (λ (o : Option ℕ). start_next n h0.name o (turn_of h0 t)) (sym (none owed_serial at_name))
+          ∙ ap (λ (o : Option Op). start_free n h0.name (current_of o h0.registrar.awaited h0.phase) (turn_of h0 t))
+          (sym (is_nothing h0.registrar.current free));
+    })
+  where
+    n : ℕ
+    n = bound_of h0.world
+
+    owed_serial : Option ℕ
+    owed_serial = owed h0.name h0.table h0.watch.watch
+
+    at_name : is_some (option_map (process_of h0.watch) owed_serial) ≡ false
+    at_name = ap (λ (a : ℕ). is_some (option_map (process_of h0.watch) (owed a h0.table h0.watch.watch))) (sym own)
+        ∙ ap is_some (sym owes_it) ∙ nothing
+
+    none : (o : Option ℕ) → is_some (option_map (process_of h0.watch) o) ≡ false → o ≡ None
+    none None e = refl
+    none (Some serial) e = cc
 
 -- the end is that the lock is held
 pub held_end : (x : AnyEnding) → EndsAs Holds x → x ≡ IsHeld

@@ -5,7 +5,7 @@ use Rattle.std.proofs.lemmas.Bool.{and_from, ne_eqb, le-ltb, ltb-true}
 use Rattle.std.proofs.lemmas.Grind.{take_at_read}
 use Rattle.std.proofs.lemmas.List.{append-nil}
 use Rattle.std.proofs.lemmas.List.Elements.{filter-append}
-use Rattle.registry_model.specs.Process.{Text, Process, Nodes}
+use Rattle.registry_model.specs.Process.{Text, Nodes}
 use Rattle.registry_model.specs.Table.{Pair, Table, put, without, is_below, is_rising}
 use Rattle.registry_model.proofs.Tables.{is_rising-parts}
 use Rattle.exit_watch.specs.Held.{Held as Watch, AreSuspected, KeepsSuspects}
@@ -96,18 +96,18 @@ passes_over w v v2 pairs gone i t t2 e d has l is same same_watch same_table lef
     }))
 
 -- and where it hasn't: the watch is told of the owner, and the pair is put
-pub takes_pair : (w v v1 v2 : Watch) (pairs : Table) (gone : Nodes) (i : ℕ) (t t1 t2 : Table) (e d : Pair) (x : Text)
-    (p : Process) → HasFirst w v pairs gone i t → i < length pairs → e ≡ get_or pairs i e → d ≡ e → v2 ≡ v1 → t2 ≡ t1
+pub takes_pair : (w v v1 v2 : Watch) (pairs : Table) (gone : Nodes) (i : ℕ) (t t1 t2 : Table) (e d f : Pair)
+    → HasFirst w v pairs gone i t → i < length pairs → e ≡ get_or pairs i e → d ≡ e → v2 ≡ v1 → t2 ≡ t1
     → gone d.owner.node ≡ false → v1.node ≡ v.node → v1.watch ≡ v.watch
-    → ((y : Text) (u : Table) → AreSuspected v u → AreSuspected v1 (put (record { name = y; owner = d.owner }) u)) → KeepsSuspects v v1
-    → x ≡ d.name → p ≡ d.owner → t1 ≡ put (record { name = x; owner = p }) t → HasFirst w v2 pairs gone (i + 1) t2
-takes_pair w v v1 v2 pairs gone i t t1 t2 e d x p has l is same same_watch same_table here node watch told kept named
-    owned written =
+    → ((y : Pair) (u : Table) → y.owner ≡ d.owner → AreSuspected v u → AreSuspected v1 (put y u)) → KeepsSuspects v v1
+    → f ≡ d → t1 ≡ put f t → HasFirst w v2 pairs gone (i + 1) t2
+takes_pair w v v1 v2 pairs gone i t t1 t2 e d f has l is same same_watch same_table here node watch told kept copied
+    written =
     subst (λ (y : Watch). HasFirst w y pairs gone (i + 1) t2) (sym same_watch)
     (subst (λ (y : Table). HasFirst w v1 pairs gone (i + 1) y) (sym (same_table ∙ put_is)) (record {
       node = node ∙ has.node;
       watch = watch ∙ has.watch;
-      suspected = told d.name t has.suspected;
+      suspected = told d t refl has.suspected;
       kept = λ u sus. kept u (has.kept u sus);
       table = λ r. ap (put d) (has.table r)
           ∙ ap (λ (f : Pair). put f (without gone (take i pairs))) same
@@ -115,6 +115,4 @@ takes_pair w v v1 v2 pairs gone i t t1 t2 e d x p has l is same same_watch same_
     }))
   where
     put_is : t1 ≡ put d t
-    put_is =
-        written ∙ ap (λ (y : Text). put (record { name = y; owner = p }) t) named
-        ∙ ap (λ (q : Process). put (record { name = d.name; owner = q }) t) owned
+    put_is = written ∙ ap (λ (y : Pair). put y t) copied

@@ -2,6 +2,7 @@
 use Rattle.std.specs.Prelude.{ℕ, Bool, nat_eq, true, false, ◌+◌, ◌≡◌, ◌<◌, All, max, List, [], ◌∷◌, Option, Some, None}
 use Rattle.std.specs.Set.{distinct_count}
 use Rattle.registry_model.specs.Table.{Table}
+use Rattle.registry_model.specs.Settlement.{Notice}
 use Rattle.protocol_model.specs.LockTable.{Locks}
 use Rattle.term.specs.NodeSets.{set_of}
 use Rattle.exit_watch.specs.Spans.{ends}
@@ -23,6 +24,7 @@ pub record Held : Type 0 where
   pub told : List ℕ  -- the nodes that it was told have left
   pub joined : Bool
   pub table : Table
+  pub notices : List (ℕ × List Notice)  -- what its processes were sent, by serial
   pub locks : Locks
   pub watch : Watch
   pub registrar : Work
@@ -96,6 +98,7 @@ fresh a world members joined = record {
   told = [];
   joined = joined;
   table = [];
+  notices = [];
   locks = [];
   watch = watch_from a 0;
   registrar = idle;

@@ -1,10 +1,10 @@
 -- The rules of joins: what a node needs to know of whom it hears.
 use Rattle.std.specs.Prelude.{ℕ, fold, ◌==◌, ◌≡◌, true, false, Option, Some, None, List, if◌then◌else◌}
 use Rattle.std.specs.Option.{option_map}
-use Rattle.registry_model.specs.Table.{Table, Put, is_rising, put_all}
-use Rattle.registry_model.specs.Process.{Process, with_node}
+use Rattle.registry_model.specs.Table.{Table, Put, Remove, is_rising}
+use Rattle.registry_model.specs.Process.{Text, Process, with_node}
 use Rattle.registry_model.specs.Registry.{Replica}
-use Rattle.registry_model.specs.Settlement.{Settled}
+use Rattle.registry_model.specs.Settlement.{Settled, with_settled}
 use Rattle.protocol_model.specs.Letter.{Letter as AnyLetter}
 use Rattle.protocol_model.specs.Node.{Op, Current, wrote}
 use Rattle.protocol_model.specs.Turn.{Turn}
@@ -47,7 +47,7 @@ TellsToAdmit h j s t u = (l : Letter) × (letter_of l ≡ AnyLetter.Admit j s) �
 -- j is sent all that the node has, and what is settled
 abbrev pub Welcomes : Held → ℕ → Settled → Made → Made → Type 0
 Welcomes h j s t u = (m : Letter)
-    × (letter_of m ≡ AnyLetter.Welcome (with_node j (set_of h.members)) (put_all s.puts h.table) (set_of h.told) s.fate)
+    × (letter_of m ≡ AnyLetter.Welcome (with_node j (set_of h.members)) (with_settled s h.table) (set_of h.told) s.fate)
     × (u ≡ sent j m t)
 
 -- p dies, if it lives here
@@ -57,3 +57,7 @@ kill_one n a p u = if is_live a u.node.watch p then die n a p u else u
 -- these names are put, in order
 abbrev pub put_names : Table → Replica → Replica
 put_names puts v = fold (λ replica pair. wrote (Put pair) replica) v puts
+
+-- nobody has these names
+abbrev pub remove_names : List Text → Replica → Replica
+remove_names xs v = fold (λ replica x. wrote (Remove x) replica) v xs

@@ -6,7 +6,7 @@ use Rattle.transaction.specs.Work.{begins_with_join}
 use Rattle.node_events.specs.declared.events.Event.{Event}
 use Rattle.node_events.specs.declared.events.Event.TheVariants.{Call, FromPeer}
 use Rattle.node_events.specs.declared.events.Call.{Call as ClientCall}
-use Rattle.node_events.specs.declared.events.Call.TheVariants.{Spawn, Whereis, RegisteredNames, SetLock, DelLock, Join as JoinBy}
+use Rattle.node_events.specs.declared.events.Call.TheVariants.{Spawn, Whereis, RegisteredNames, Notices, SetLock, DelLock, Join as JoinBy}
 use Rattle.node_events.specs.declared.events.Letter.{Letter}
 use Rattle.node_events.specs.declared.events.Letter.TheVariants.{LockAnswer, GivenBack, Applied, JoinAsk, JoinRefused, Admit, Welcome, Down}
 use Rattle.node_events.specs.Made.{Made, HasRoom}
@@ -75,6 +75,7 @@ abbrev pub HasRoomToCall : ClientCall → Made → Type 0
 HasRoomToCall Spawn m = HasRoom 1 0 1 m
 HasRoomToCall (Whereis x) m = HasRoom 1 1 1 m
 HasRoomToCall RegisteredNames m = HasRoom 1 1 1 m
+HasRoomToCall (Notices p) m = HasRoom 1 1 1 m
 HasRoomToCall (SetLock p id nodes retries) m = HasRoom 2 0 1 m
 HasRoomToCall (DelLock p id nodes) m = HasRoom 9 0 1 m
 HasRoomToCall _ m = HasRoom 1 0 0 m

@@ -14,6 +14,7 @@ use Rattle.node_core.specs.declared.node.Phase.{Phase}
 use Rattle.node_core.specs.declared.node.Phase.TheVariants.{Asking, Waiting, Writing, Joining}
 use Rattle.node_events.specs.Letters.{send_of}
 use Rattle.node_events.specs.Made.{Made}
+use Rattle.notice_lists.specs.Lists.{list_under}
 use Rattle.node_core.specs.Held.{Held}
 use Rattle.node_events.specs.Seen.{reply_of, answer_of, entry_by, entry_of}
 
@@ -32,7 +33,13 @@ current_of (Some op) awaited p = phase_of op awaited p
 -- the node
 abbrev pub node_of : Held → Node
 node_of h = record {
-  replica = record { table = h.table; members = set_of h.members; told = set_of h.told; joined = h.joined };
+  replica = record {
+    table = h.table;
+    members = set_of h.members;
+    told = set_of h.told;
+    joined = h.joined;
+    notices = λ serial. list_under serial h.notices;
+  };
   locks = h.locks;
   watch = h.watch.watch;
   queue = map op_of h.registrar.queue;

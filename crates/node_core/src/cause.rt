@@ -3,7 +3,7 @@ ghost use Rattle.std.specs.Prelude.{◌≡◌};
 ghost use Rattle.node_core.specs.Causes.{event_by};
 
 use node_events::{Call, Event, Letter};
-use term::{NodeName, Pid};
+use term::{Node, Pid};
 
 /// What a node takes a step for. What may take memory to copy is lent.
 #[derive(Clone, Copy, Debug)]
@@ -11,7 +11,7 @@ pub enum Cause<'a> {
     /// A client calls.
     Call(&'a Call),
     /// A letter from a node is read.
-    FromPeer(&'a NodeName, &'a Letter),
+    FromPeer(&'a Node, &'a Letter),
     /// Refused rounds are tried again.
     Retry,
     /// A process of the node dies.

@@ -17,9 +17,10 @@ use lock_table::LockTable;
 use locker::Round;
 use name_table::Names;
 use node_events::{Answer, Call, Event, Letter, Reply, StepFault, Turn};
+use notice_lists::NoticeLists;
 use std::alloc::{AllocError, Global};
 use std::marker::Model;
-use term::{NodeName, NodeSet, Pid};
+use term::{Node, NodeName, NodeSet, Pid};
 use transaction::{Op, Registrar};
 
 /// Where the current operation stands. Where there is none, this says nothing.
@@ -33,7 +34,7 @@ pub(crate) enum Phase {
     /// has one, comes then.
     Writing(NodeSet, Option<Reply>),
     /// It is a join, under this number, that waits for its contact.
-    Joining(u32, NodeName),
+    Joining(u32, Node),
 }
 
 impl Phase {
@@ -58,13 +59,15 @@ impl Phase {
 #[derive(Drop)]
 pub struct NodeCore<N: Names> {
     alloc: Global,
-    name: NodeName,
+    node: Node,
     world: NodeSet,
     members: NodeSet,
     /// The nodes of the world that it was told have left.
     told: NodeSet,
     joined: bool,
     table: N,
+    /// What its processes were sent.
+    notices: NoticeLists,
     locks: LockTable,
     watch: Watch,
     registrar: Registrar,
@@ -81,12 +84,13 @@ impl<N: Names> Model for NodeCore<N> {
     ghost Value = { Held };
 
     ghost view = { λ c. record {
-      name = c.name;
+      name = c.node;
       world = c.world;
       members = c.members;
       told = c.told;
       joined = c.joined;
       table = N.contents c.table;
+      notices = c.notices;
       locks = c.locks;
       watch = c.watch;
       registrar = c.registrar;
@@ -96,12 +100,13 @@ impl<N: Names> Model for NodeCore<N> {
     } };
 
     ghost invariant = { λ c. IsWhole (record {
-      name = c.name;
+      name = c.node;
       world = c.world;
       members = c.members;
       told = c.told;
       joined = c.joined;
       table = N.contents c.table;
+      notices = c.notices;
       locks = c.locks;
       watch = c.watch;
       registrar = c.registrar;
@@ -131,8 +136,8 @@ impl<N: Names<Memory = Global>> NodeCore<N> {
     ghost use Rattle.protocol_model.specs.Client.{retry_locks};
     ghost use Rattle.registry_model.specs.Table.{is_rising};
 
-    /// Takes the step of a cause, and gives what it makes: letters, each with its receiver, entries of the history, and answers.
-    /// The letters go to nodes of its world and say what their readers rely on, where what it reads does. A refused cause
+    /// Takes the step of a cause, and gives what it makes: letters, each with the name of its receiver, entries of the history, and
+    /// answers. The letters go to nodes of its world and say what their readers rely on, where what it reads does. A refused cause
     /// changes nothing; where `Memory` is refused the node is as before, as the protocol sees it, and the cause may be given again.
     /// Of what no node of the world says (a departure of this node or of a stranger, a join of a stranger) no clause says what it does.
     pub fn turn(&mut self, cause: Cause<'_>) -> Result<Turn, StepFault>
@@ -153,8 +158,8 @@ impl<N: Names<Memory = Global>> NodeCore<N> {
         }
     }
 
-    /// Takes the step of an event, as `turn` does: gives its answers, and puts its letters, each with its receiver, behind those
-    /// that are there. Its entries of the history it doesn't give, and `turn` does. A refused event changes nothing, and puts no
+    /// Takes the step of an event, as `turn` does: gives its answers, and puts its letters, each with the name of its receiver, behind
+    /// those that are there. Its entries of the history it doesn't give, and `turn` does. A refused event changes nothing, and puts no
     /// letter there, also where memory is refused: so the step is taken by a copy of the node, which `turn` mostly needn't.
     pub fn step(
         &mut self,
@@ -296,12 +301,13 @@ impl<N: Names<Memory = Global>> NodeCore<N> {
     {
         Ok(NodeCore {
             alloc: self.alloc,
-            name: self.name.copy(),
+            node: self.node.copy(),
             world: self.world.copy(),
             members: self.members.copy(),
             told: self.told.copy(),
             joined: self.joined,
             table: self.table.copy(self.alloc)?,
+            notices: self.notices.copy()?,
             locks: self.locks.copy()?,
             watch: self.watch.copy()?,
             registrar: self.registrar.copy()?,
@@ -405,12 +411,12 @@ impl<N: Names<Memory = Global>> NodeCore<N> {
         }
     }
 
-    /// Its name.
-    pub fn name(&self) -> &NodeName
+    /// Which node it is of.
+    pub fn node(&self) -> &Node
         ensures name { result.now ≡ self.now.name }
         ensures whole { IsWhole self.now }
     {
-        &self.name
+        &self.node
     }
 
     /// The operation that its registrar is at, if there is one.
@@ -535,28 +541,23 @@ impl<N: Names<Memory = Global>> NodeCore<N> {
 
     /// A node at its beginning: one of the world's, with its members, and without names, processes and operations. It takes no
     /// memory.
-    pub fn new(
-        alloc: Global,
-        name: NodeName,
-        world: &NodeSet,
-        members: &NodeSet,
-        joined: bool,
-    ) -> Self
-        requires own { set_of members.now name ≡ true }
+    pub fn new(alloc: Global, node: Node, world: &NodeSet, members: &NodeSet, joined: bool) -> Self
+        requires own { set_of members.now node ≡ true }
         requires members { IsWithin world.now members.now }
-        ensures fresh { result ≡ fresh name world.now members.now joined }
-        ensures opening { joined ≡ true → node_of result ≡ opening_node (set_of members.now) name }
+        ensures fresh { result ≡ fresh node world.now members.now joined }
+        ensures opening { joined ≡ true → node_of result ≡ opening_node (set_of members.now) node }
     {
-        let watch = Watch::new(alloc, name.copy());
-        let calls = LockCalls::new(alloc, name.copy());
+        let watch = Watch::new(alloc, node.copy());
+        let calls = LockCalls::new(alloc, node.copy());
         NodeCore {
             alloc,
-            name,
+            node,
             world: world.copy(),
             members: members.copy(),
             told: NodeSet::empty(),
             joined,
             table: N::empty(alloc),
+            notices: NoticeLists::new(alloc),
             locks: LockTable::new(alloc),
             watch,
             registrar: Registrar::new(alloc),

@@ -13,6 +13,7 @@ use Rattle.node_events.specs.declared.events.Call.TheVariants.{
   Spawn,
   Whereis,
   RegisteredNames,
+  Notices,
   Register,
   ReRegister,
   Unregister,
@@ -34,7 +35,11 @@ use Rattle.node_events.specs.declared.events.Entry.TheVariants.{
   ContactLeft as LostContact,
 }
 use Rattle.node_events.specs.declared.events.Look.{Look}
-use Rattle.node_events.specs.declared.events.Look.TheVariants.{Whereis as LooksUp, RegisteredNames as LooksAtAll}
+use Rattle.node_events.specs.declared.events.Look.TheVariants.{
+  Whereis as LooksUp,
+  RegisteredNames as LooksAtAll,
+  Notices as LooksAtNotices,
+}
 use Rattle.node_events.specs.declared.events.Reply.{Reply}
 use Rattle.node_events.specs.declared.events.Reply.TheVariants.{
   Yes,
@@ -49,6 +54,7 @@ use Rattle.node_events.specs.declared.events.Reply.TheVariants.{
   Pid,
   Undefined,
   Names,
+  Notices as HasNotices,
 }
 use Rattle.node_events.specs.declared.events.StepFault.{StepFault}
 use Rattle.node_events.specs.declared.events.StepFault.TheVariants.{
@@ -79,15 +85,18 @@ reply_of ContactLeft = AnyReply.ContactLeft
 reply_of (Pid p) = AnyReply.Pid p
 reply_of Undefined = AnyReply.Undefined
 reply_of (Names list) = AnyReply.Names list.names.items
+reply_of (HasNotices list) = AnyReply.Notices list.notices.items
 
--- it is a list of names, so a copy takes memory
+-- it is a list, so a copy takes memory
 abbrev pub is_list : Reply → Bool
 is_list (Names list) = true
+is_list (HasNotices list) = true
 is_list _ = false
 
 abbrev pub look_of : Look → AnyLook
 look_of (LooksUp x) = AnyLook.Whereis x
 look_of LooksAtAll = AnyLook.RegisteredNames
+look_of (LooksAtNotices p) = AnyLook.NoticesOf p
 
 abbrev pub answer_of : Answer → AnyAnswer
 answer_of s = record { node = s.node; number = s.call; reply = reply_of s.reply }
@@ -116,8 +125,9 @@ abbrev pub call_of : Call → AnyCall
 call_of Spawn = AnyCall.Spawn
 call_of (Whereis x) = AnyCall.LookUp (AnyLook.Whereis x)
 call_of RegisteredNames = AnyCall.LookUp AnyLook.RegisteredNames
-call_of (Register x p) = AnyCall.OnName (AnyNameCall.Register (record { name = x; owner = p }))
-call_of (ReRegister x p) = AnyCall.OnName (AnyNameCall.ReRegister (record { name = x; owner = p }))
+call_of (Notices p) = AnyCall.LookUp (AnyLook.NoticesOf p)
+call_of (Register pair) = AnyCall.OnName (AnyNameCall.Register pair)
+call_of (ReRegister pair) = AnyCall.OnName (AnyNameCall.ReRegister pair)
 call_of (Unregister x) = AnyCall.OnName (AnyNameCall.Unregister x)
 call_of (SetsLock p id nodes retries) =
     AnyCall.SetLock p id.resource id.requester (target_of nodes) (retries_of retries)

@@ -2,11 +2,12 @@
 ghost use Rattle.std.specs.Prelude.{◌≡◌, true, IfOk, OnErr};
 
 use crate::name_list::NameList;
+use crate::notice_list::NoticeList;
 use exchange::{Admission, Welcome};
 use exit_watch::WatchFault;
 use name_table::{Change, Pair, copied_pairs};
 use std::alloc::{AllocError, Global};
-use term::{LockId, Name, NodeName, Pid};
+use term::{LockId, Name, Node, Pid};
 use thiserror::Error;
 use transaction::{NameCall, Nodes, Retries};
 
@@ -76,6 +77,8 @@ pub enum Look {
     Whereis(Name),
     /// Which names are there?
     RegisteredNames,
+    /// What was this process sent?
+    Notices(Pid),
 }
 
 /// What a client may call at a node.
@@ -87,12 +90,15 @@ pub enum Call {
     Whereis(Name),
     /// All names, by the node's own table: answered at once by `Names`.
     RegisteredNames,
-    /// The process is to own the name. The call is numbered at its node, from 1 on, and answered by `Yes` when it was written
+    /// What a process of the node was sent, by the node's own list: answered at once by `Notices`. It must have been spawned, and may
+    /// have died.
+    Notices(Pid),
+    /// The process is to own the name, under this rule. The call is numbered at its node, from 1 on, and answered by `Yes` when it was written
     /// at every member, or by `No` or `UnknownNode` when it was decided.
-    Register(Name, Pid),
-    /// The process is to own the name, whoever owns it now. Numbered as `Register` is, and answered by `Yes` or
+    Register(Pair),
+    /// The process is to own the name, under this rule, whoever owns it now. Numbered as `Register` is, and answered by `Yes` or
     /// `UnknownNode`.
-    ReRegister(Name, Pid),
+    ReRegister(Pair),
     /// Nobody is to own the name. Numbered as `Register` is, and answered by `Ok`, whether it was owned or not.
     Unregister(Name),
     /// The process asks for a lock, or for one grant more of it, of these nodes, and may be refused so often. Numbered as
@@ -103,7 +109,7 @@ pub enum Call {
     DelLock(Pid, LockId, Nodes),
     /// The node, which is lone, joins the cluster of this node. Numbered as `Register` is, and answered by `Joined`, or by
     /// `NotMember` or `ContactLeft` where that node isn't joined itself or has left.
-    Join(NodeName),
+    Join(Node),
 }
 
 /// What may happen at a node.
@@ -112,7 +118,7 @@ pub enum Event {
     /// A client calls.
     Call(Call),
     /// A letter from a node is read.
-    FromPeer(NodeName, Letter),
+    FromPeer(Node, Letter),
     /// The operation whose round was refused asks again, and so does each lock call whose round was.
     Retry,
     /// A process of the node dies: its locks are released at once, and its names are struck under the global lock.
@@ -148,13 +154,15 @@ pub enum Reply {
     Undefined,
     /// All names.
     Names(NameList),
+    /// What a process was sent, in the order in which it came.
+    Notices(NoticeList),
 }
 
 impl Reply {
     ghost use Rattle.std.specs.Prelude.{true, IfOk, OnErr};
     ghost use Rattle.node_events.specs.Seen.{reply_of, is_list};
 
-    /// The same reply. Only a list of names takes memory.
+    /// The same reply. Only a list takes memory.
     pub fn copy(&self) -> Result<Self, AllocError>
         ensures copy { IfOk result (λ copy. reply_of copy ≡ reply_of self.now) }
         ensures refused { OnErr result (is_list self.now ≡ true) }
@@ -172,6 +180,7 @@ impl Reply {
             Reply::Pid(process) => Reply::Pid(process.copy()),
             Reply::Undefined => Reply::Undefined,
             Reply::Names(names) => Reply::Names(names.copy()?),
+            Reply::Notices(notices) => Reply::Notices(notices.copy()?),
         })
     }
 }
@@ -180,7 +189,7 @@ impl Reply {
 #[derive(Debug, PartialEq, Eq, Drop)]
 pub struct Answer {
     /// The node that answers.
-    pub node: NodeName,
+    pub node: Node,
     /// The number of the call at that node: from 1 on, and 0 for `Spawn` and look-ups.
     pub call: u32,
     /// The reply.
@@ -191,26 +200,26 @@ pub struct Answer {
 #[derive(Debug, PartialEq, Eq, Drop)]
 pub enum Entry {
     /// A name call was decided: its node, its number there, the call and the reply.
-    Name(NodeName, u32, NameCall, Reply),
+    Name(Node, u32, NameCall, Reply),
     /// A dead process was granted the strike of its names.
     Strike(Pid),
     /// A process died.
     Exit(Pid),
     /// The operation of the node that was written is done.
-    Done(NodeName),
+    Done(Node),
     /// A look-up was answered.
-    Read(NodeName, Look, Reply),
+    Read(Node, Look, Reply),
     /// A node left.
-    Left(NodeName),
+    Left(Node),
     /// A node was told that another has left: itself, and the other.
-    Told(NodeName, NodeName),
+    Told(Node, Node),
     /// A node was let in: the joiner, and the node that it joined by. Neither this entry nor the next has the number of the
     /// joiner's call, which only the joiner knows.
-    Joined(NodeName, NodeName),
+    Joined(Node, Node),
     /// A node wasn't let in: it, and the node that it asked, which isn't joined itself.
-    NotMember(NodeName, NodeName),
+    NotMember(Node, Node),
     /// The contact of a join has left: the node that was to join, the number of its call, and the contact.
-    ContactLeft(NodeName, u32, NodeName),
+    ContactLeft(Node, u32, Node),
 }
 
 /// Why a node doesn't take a step.

@@ -4,13 +4,13 @@ ghost use Rattle.std.specs.Prelude.{◌≡◌, false, OnOk, OnErr};
 use crate::events::{Answer, Entry, Letter};
 use std::alloc::{AllocError, Global};
 use std::marker::Model;
-use term::{NodeName, NodeSet};
+use term::{Node, NodeName, NodeSet};
 
 /// What one step of a node has made so far: the letters that it sends, its entries of the history, and its answers, in order.
 /// Room for them is had before the step changes its node, so that nothing can be refused behind a change.
 #[derive(Drop)]
 pub struct Turn {
-    /// The letters, each with its receiver.
+    /// The letters, each with the name of its receiver.
     pub letters: Vec<(NodeName, Letter)>,
     /// What is entered into the history.
     pub entries: Vec<Entry>,
@@ -78,12 +78,12 @@ impl Turn {
     }
 
     /// A letter to a node. It takes no memory, since there is room.
-    pub fn send(&mut self, to: NodeName, letter: Letter)
+    pub fn send(&mut self, to: Node, letter: Letter)
         requires { HasRoom 1 0 0 self.old }
         ensures made { self.new ≡ sent to letter self.old }
         ensures spends { Spends 1 0 0 self.old self.new }
     {
-        self.letters.push_reserved((to, letter));
+        self.letters.push_reserved((to.name().copy(), letter));
     }
 
     /// A letter without lists to each of these nodes, in their order. It takes no memory, since there is room.

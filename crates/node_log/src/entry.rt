@@ -1,6 +1,6 @@
 //! Entries of a log.
 use std::mem::size_of;
-use term::NodeName;
+use term::Node;
 use world_events::{Answer, WorldEvent};
 
 /// An event, and the seat that it came from, if it did.
@@ -33,7 +33,7 @@ const _: () = prove!(size_of::<KeptEntry>() == 48);
 #[derive(Clone, Copy, Debug)]
 pub enum LoggedEvent<'a> {
     /// The oldest letter from this node was delivered to the log's own.
-    Delivery(&'a NodeName),
+    Delivery(&'a Node),
     /// Another event.
     Other(&'a WorldEvent),
 }

@@ -6,7 +6,7 @@ use crate::record::Record;
 use past::Log as History;
 use std::alloc::{AllocError, Global};
 use std::marker::Model;
-use term::{NodeName, NodeSet};
+use term::{Node, NodeSet};
 use world_events::{Answer, WorldEvent};
 
 /// The step that was put last, which may still be answered.
@@ -22,7 +22,7 @@ pub(crate) struct LastStep {
 /// Contracts see all steps, as they do of a log.
 #[derive(Drop)]
 pub struct ForgottenLog {
-    node: NodeName,
+    node: Node,
     alloc: Global,
     count: u64,
     last: Option<LastStep>,
@@ -66,7 +66,7 @@ impl ForgottenLog {
 impl Record for ForgottenLog {
     ghost logged = { λ l. l };
 
-    fn new(alloc: Global, node: NodeName, _world: &NodeSet) -> Self {
+    fn new(alloc: Global, node: Node, _world: &NodeSet) -> Self {
         ForgottenLog {
             node,
             alloc,
@@ -76,7 +76,7 @@ impl Record for ForgottenLog {
         }
     }
 
-    fn node(&self) -> &NodeName {
+    fn node(&self) -> &Node {
         &self.node
     }
 
@@ -101,8 +101,8 @@ impl Record for ForgottenLog {
         });
     }
 
-    fn put_delivery(&mut self, stamp: u64, sender: &NodeName) {
-        let event = WorldEvent::Deliver(sender.copy(), self.node.copy());
+    fn put_delivery(&mut self, stamp: u64, sender: &Node) {
+        let event = WorldEvent::Deliver(sender.name().copy(), self.node.name().copy());
         self.put(stamp, None, event);
     }
 

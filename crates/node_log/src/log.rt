@@ -9,13 +9,13 @@ use crate::entry::{Asked, KeptEntry, KeptEvent, LoggedEntry, LoggedEvent};
 use crate::record::Record;
 use std::alloc::{AllocError, Global};
 use std::marker::Model;
-use term::{NodeName, NodeSet};
+use term::{Node, NodeSet};
 use world_events::{Answer, WorldEvent};
 
 /// The log of a node: all its steps, the oldest first. Contracts see them as a list, and whether there is room for one more.
 #[derive(Debug, Drop)]
 pub struct Log {
-    node: NodeName,
+    node: Node,
     /// The nodes whose deliveries are kept by their places.
     nodes: NodeSet,
     entries: Vec<KeptEntry>,
@@ -40,7 +40,7 @@ impl Model for Log {
 }
 
 /// The place of a node among these, if it is one of them.
-fn place_of(nodes: &NodeSet, node: &NodeName) -> Option<u8>
+fn place_of(nodes: &NodeSet, node: &Node) -> Option<u8>
     ensures { IfSome result (λ place. IsPlaceOf nodes.now place node.now) }
 {
     let place = nodes.position(node)?;
@@ -51,7 +51,7 @@ fn place_of(nodes: &NodeSet, node: &NodeName) -> Option<u8>
 }
 
 /// Sees to it that there is memory for an event. Where it is refused there was none, and is none.
-fn provide(spare: &mut Option<Box<Asked>>, alloc: Global, node: &NodeName) -> Result<(), AllocError>
+fn provide(spare: &mut Option<Box<Asked>>, alloc: Global, node: &Node) -> Result<(), AllocError>
     ensures ok { OnOk result (is_some spare.new ≡ true) }
     ensures none { OnErr result (is_some spare.old ≡ false) }
     ensures still { OnErr result (is_some spare.new ≡ false) }
@@ -59,14 +59,14 @@ fn provide(spare: &mut Option<Box<Asked>>, alloc: Global, node: &NodeName) -> Re
     if spare.is_some() {
         return Ok(());
     }
-    let event = WorldEvent::Deliver(node.copy(), node.copy());
+    let event = WorldEvent::Deliver(node.name().copy(), node.name().copy());
     *spare = Some(Box::new(alloc, Asked { seat: None, event })?);
     Ok(())
 }
 
 impl Log {
     /// The log of a node of this world, without a step and without room for one. It takes no memory.
-    pub fn new(alloc: Global, node: NodeName, world: &NodeSet) -> Self
+    pub fn new(alloc: Global, node: Node, world: &NodeSet) -> Self
         ensures { result ≡ record { node = node; entries = []; has_room = false } }
     {
         Log {
@@ -78,7 +78,7 @@ impl Log {
     }
 
     /// Whose log it is.
-    pub fn node(&self) -> &NodeName
+    pub fn node(&self) -> &Node
         ensures { result.now ≡ self.now.node }
     {
         &self.node
@@ -151,13 +151,13 @@ impl Log {
 
     /// Puts a step at the end that has no answers yet: that of the delivery of the oldest letter from a node. It takes no
     /// memory, since there is room.
-    pub fn put_delivery(&mut self, stamp: u64, sender: &NodeName)
+    pub fn put_delivery(&mut self, stamp: u64, sender: &Node)
         requires { self.old.has_room ≡ true }
         ensures node { self.new.node ≡ self.old.node }
         ensures entries { self.new.entries ≡ self.old.entries ++ record { stamp = stamp; seat = None; event = Deliver sender.now self.old.node; answers = [] } ∷ [] }
     {
         let Some(place) = place_of(&self.nodes, sender) else {
-            let event = WorldEvent::Deliver(sender.copy(), self.node.copy());
+            let event = WorldEvent::Deliver(sender.name().copy(), self.node.name().copy());
             self.put(stamp, None, event);
             return;
         };
@@ -186,7 +186,7 @@ impl Log {
     }
 
     /// Does what `put_delivery` does, with room that it makes. Where memory is refused nothing changes.
-    pub fn begin_delivery(&mut self, stamp: u64, sender: &NodeName) -> Result<(), AllocError>
+    pub fn begin_delivery(&mut self, stamp: u64, sender: &Node) -> Result<(), AllocError>
         ensures node { self.new.node ≡ self.old.node }
         ensures ok { OnOk result (self.new.entries ≡ self.old.entries ++ record { stamp = stamp; seat = None; event = Deliver sender.now self.old.node; answers = [] } ∷ []) }
         ensures err { OnErr result (self.new ≡ self.old) }
@@ -225,11 +225,11 @@ impl Log {
 impl Record for Log {
     ghost logged = { λ l. l };
 
-    fn new(alloc: Global, node: NodeName, world: &NodeSet) -> Self {
+    fn new(alloc: Global, node: Node, world: &NodeSet) -> Self {
         Log::new(alloc, node, world)
     }
 
-    fn node(&self) -> &NodeName {
+    fn node(&self) -> &Node {
         Log::node(self)
     }
 
@@ -245,7 +245,7 @@ impl Record for Log {
         Log::put(self, stamp, seat, event);
     }
 
-    fn put_delivery(&mut self, stamp: u64, sender: &NodeName) {
+    fn put_delivery(&mut self, stamp: u64, sender: &Node) {
         Log::put_delivery(self, stamp, sender);
     }
 

@@ -1,7 +1,6 @@
 //! What a node's thread gives back.
 use crate::log::Log;
-use name_table::Names;
-use term::NodeName;
+use world_events::Names;
 
 /// What the thread of a node gives back when it ends.
 #[derive(Debug, Drop)]

@@ -5,7 +5,7 @@ ghost use Rattle.node_log.specs.Entries.{Logged};
 ghost use Rattle.node_log.specs.Logs.{answered};
 
 use std::alloc::{AllocError, Global};
-use term::{NodeName, NodeSet};
+use term::{Node, NodeSet};
 use world_events::{Answer, WorldEvent};
 
 /// A record of the steps of a node: a log, or one of which no step is kept. Contracts see all steps, whether they are kept or not.
@@ -14,12 +14,12 @@ pub trait Record: Sized + Drop {
     ghost logged: { Self → Logged };
 
     /// That of a node of this world, without a step. It takes no memory.
-    fn new(alloc: Global, node: NodeName, world: &NodeSet) -> Self
+    fn new(alloc: Global, node: Node, world: &NodeSet) -> Self
         ensures node { (logged result).node ≡ node }
         ensures entries { (logged result).entries ≡ [] };
 
     /// Whose it is.
-    fn node(&self) -> &NodeName
+    fn node(&self) -> &Node
         ensures { result.now ≡ (logged self.now).node };
 
     /// How many steps there were.
@@ -42,7 +42,7 @@ pub trait Record: Sized + Drop {
 
     /// Puts a step at the end that has no answers yet: that of the delivery of the oldest letter from a node. It takes no memory, since
     /// there is room.
-    fn put_delivery(&mut self, stamp: u64, sender: &NodeName)
+    fn put_delivery(&mut self, stamp: u64, sender: &Node)
         requires { (logged self.old).has_room ≡ true }
         ensures node { (logged self.new).node ≡ (logged self.old).node }
         ensures entries { (logged self.new).entries ≡ (logged self.old).entries ++ record { stamp = stamp; seat = None; event = Deliver sender.now (logged self.old).node; answers = [] } ∷ [] };

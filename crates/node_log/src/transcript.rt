@@ -1,5 +1,5 @@
 //! What a seat was answered.
-use term::NodeName;
+use term::Node;
 use world_events::{Answer, WorldEvent};
 
 /// One event of a seat that was accepted, and the answer to it, if it is a call.
@@ -17,7 +17,7 @@ pub struct Transcript {
     /// The number of the seat; seats are numbered from 0 on as they are made.
     pub seat: u32,
     /// The node of the seat.
-    pub node: NodeName,
+    pub node: Node,
     /// The events that were answered.
     pub entries: Vec<SeatEntry>,
 }

@@ -14,7 +14,7 @@ use Rattle.closings.specs.Alone.{Stamped as StampedLetter, Entry as SeenEntry, M
 use Rattle.closings.specs.Guarded.{SaysFit, ReadsIfFit, DoesIfFit}
 use Rattle.term.specs.NodeSets.{set_of}
 use Rattle.node_log.specs.declared.Call.{Call as ClientCall}
-use Rattle.node_log.specs.declared.Call.TheVariants.{Spawn, Whereis, RegisteredNames, Register, ReRegister, Unregister, SetLock, DelLock, Join as JoinBy}
+use Rattle.node_log.specs.declared.Call.TheVariants.{Spawn, Whereis, RegisteredNames, Notices, Register, ReRegister, Unregister, SetLock, DelLock, Join as JoinBy}
 use Rattle.node_log.specs.declared.CoreEvent.TheVariants.{FromPeer}
 use Rattle.node_log.specs.declared.Event.{Event}
 use Rattle.node_log.specs.declared.Event.TheVariants.{Call, Retry, Exit, Leave}
@@ -53,8 +53,9 @@ asks : (nodes : List ℕ) (c : ClientCall) → knows_contact nodes (Call c) ≡ 
 asks nodes Spawn known = tt
 asks nodes (Whereis x) known = tt
 asks nodes RegisteredNames known = tt
-asks nodes (Register x p) known = tt
-asks nodes (ReRegister x p) known = tt
+asks nodes (Notices p) known = tt
+asks nodes (Register pair) known = tt
+asks nodes (ReRegister pair) known = tt
 asks nodes (Unregister x) known = tt
 asks nodes (SetLock p id asked retries) known = tt
 asks nodes (DelLock p id asked) known = tt
@@ -84,8 +85,9 @@ module _ (o : Opening) (h : Held) (I : IsNodeOf o h) where
   other_inside (Call Spawn) known = here
   other_inside (Call (Whereis x)) known = here
   other_inside (Call RegisteredNames) known = here
-  other_inside (Call (Register x p)) known = here
-  other_inside (Call (ReRegister x p)) known = here
+  other_inside (Call (Notices p)) known = here
+  other_inside (Call (Register pair)) known = here
+  other_inside (Call (ReRegister pair)) known = here
   other_inside (Call (Unregister x)) known = here
   other_inside (Call (SetLock p id asked retries)) known = here
   other_inside (Call (DelLock p id asked)) known = here

@@ -113,7 +113,7 @@ one_more n before mid after e at more same =
 -- Behind a step the table is that of the protocol's
 module _ (h k : Held) (made : Turn) where
   pub behind_letter_read : (f : ℕ) (l : Letter) → Steps (FromPeer f l) h k made → IsSaidBy h.world h.name f l
-      → k.table ≡ (behind f (letter_of l) (node_of h)).table
+      → k.table ≡ (behind h.name f (letter_of l) (node_of h)).table
   behind_letter_read f l step said =
       ap (λ (u : AnyTurn). u.node.replica.table) (step.turn (λ _. 0) said)
       ∙ ap (λ (v : Replica). v.table) (letters_write (bound_of h.world) h.name (λ _. 0) f (letter_of l) (node_of h))
@@ -216,7 +216,7 @@ module _ (f : ℕ) (h : Held) where
   known = set_of h.world f && not (f == h.name)
 
   noted_as : (note : Note) (l : Letter) → suits note l known ≡ true → IsSaidBy h.world h.name f l
-      → ((e : Edition) → Does note (showing h.table e) (showing (behind f (letter_of l) (node_of h)).table e)) → NotedBy note f l h
+      → ((e : Edition) → Does note (showing h.table e) (showing (behind h.name f (letter_of l) (node_of h)).table e)) → NotedBy note f l h
   noted_as note l fits said does = record {
     fits = fits;
     does = λ e k made step. subst (λ (t : Table). Does note (showing h.table e) (showing t e))
@@ -228,7 +228,7 @@ module _ (f : ℕ) (h : Held) where
   dropped c told = noted_as Nothing (Apply c) refl tt (λ e. λ j. showing (at (set_of h.told f) told j) e)
     where
       at : (b : Bool) → b ≡ true
-          → (if b && true then (node_of h).replica else behind_letter f (letter_of (Apply c)) (node_of h).current (node_of h).replica).table ≡ h.table
+          → (if b && true then (node_of h).replica else behind_letter h.name f (letter_of (Apply c)) (node_of h).current (node_of h).replica).table ≡ h.table
       at true q = refl
       at false q = cc
 
@@ -238,7 +238,7 @@ module _ (f : ℕ) (h : Held) where
       (λ e. λ j. showing ((at (set_of h.told f) told ∙ ap (λ x. changed x h.table) (sym is)) j) e)
     where
       at : (b : Bool) → b ≡ false
-          → (if b && true then (node_of h).replica else behind_letter f (letter_of (Apply c)) (node_of h).current (node_of h).replica).table
+          → (if b && true then (node_of h).replica else behind_letter h.name f (letter_of (Apply c)) (node_of h).current (node_of h).replica).table
           ≡ changed (unless_told (set_of h.told) (change_of c)) h.table
       at true q = cc
       at false q = refl
@@ -247,18 +247,18 @@ module _ (f : ℕ) (h : Held) where
   gone inside other = noted_as (One (edit.Departure f)) Down refl (inside, other) (λ e. λ j. showing (at (set_of h.told f) j) e)
     where
       at : (b : Bool)
-          → (if b && false then (node_of h).replica else behind_letter f AnyLetter.Down (node_of h).current (node_of h).replica).table
+          → (if b && false then (node_of h).replica else behind_letter h.name f AnyLetter.Down (node_of h).current (node_of h).replica).table
           ≡ without (λ d. d == f) h.table
       at true = refl
       at false = refl
 
   -- what writes nothing leaves the table, whether it is read or dropped
   still : (l : Letter) → IsSaidBy h.world h.name f l
-      → behind_letter f (letter_of l) (node_of h).current (node_of h).replica ≡ (node_of h).replica → NotedBy Nothing f l h
+      → behind_letter h.name f (letter_of l) (node_of h).current (node_of h).replica ≡ (node_of h).replica → NotedBy Nothing f l h
   still l said same = noted_as Nothing l refl said (λ e. λ j. showing (at (set_of h.told f && not (is_down (letter_of l))) j).table e)
     where
       at : (b : Bool)
-          → (if b then (node_of h).replica else behind_letter f (letter_of l) (node_of h).current (node_of h).replica) ≡ (node_of h).replica
+          → (if b then (node_of h).replica else behind_letter h.name f (letter_of l) (node_of h).current (node_of h).replica) ≡ (node_of h).replica
       at true = refl
       at false = same
 

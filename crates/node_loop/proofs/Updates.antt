@@ -1,8 +1,7 @@
 -- What is taken off to be shown.
 use Rattle.std.proofs.Common.{◌≡◌, ◌<◌, true, Vec, Global, Option, Some, None, [], refl, sym, ap, subst, ◌∙◌}
-use Rattle.registry_model.specs.Process.{Process}
-use Rattle.registry_model.specs.Table.{Table, is_rising, get, put_all}
-use Rattle.registry_model.proofs.Tables.{or_else, same_table, get-put_all, is_rising-put_all}
+use Rattle.registry_model.specs.Table.{Pair as Owned, Table, is_rising, entry, put_all}
+use Rattle.registry_model.proofs.Tables.{or_else, same_table, entry-put_all, is_rising-put_all}
 use Rattle.name_table.specs.declared.change.Pair.{Pair}
 use Rattle.node_loop.specs.declared.edit.Edit.{Edit}
 use Rattle.node_loop.specs.declared.edit.Edit.TheVariants as edit
@@ -15,11 +14,11 @@ use Rattle.node_loop.specs.Held.{Looping}
 
 -- a table is that of its pairs, put one behind the other
 rebuilt : (t : Table) → is_rising t ≡ true → put_all t [] ≡ t
-rebuilt t r = same_table (put_all t []) t (is_rising-put_all t [] refl) r (λ y. get-put_all t [] r y ∙ alone (get y t))
+rebuilt t r = same_table (put_all t []) t (is_rising-put_all t [] refl) r (λ y. entry-put_all t [] r y ∙ alone (entry y t))
   where
-    alone : (o : Option Process) → or_else o None ≡ o
+    alone : (o : Option Owned) → or_else o None ≡ o
     alone None = refl
-    alone (Some p) = refl
+    alone (Some e) = refl
 
 module _ (a b : Looping) (taken : b ≡ record a { owed = record a.owed { note = Nothing } }) where
   same_shown : shown_by a ≡ shown_by b

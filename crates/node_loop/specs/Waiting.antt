@@ -3,7 +3,7 @@ use Rattle.std.specs.Prelude.{ℕ, Bool, false, ◌==◌, not, if◌then◌else�
 use Rattle.registry_model.specs.Process.{Process}
 use Rattle.protocol_model.specs.Node.{call_of}
 use Rattle.node_log.specs.declared.Call.{Call as ClientCall}
-use Rattle.node_log.specs.declared.Call.TheVariants.{Spawn, Whereis, RegisteredNames, Register, ReRegister, Unregister, SetLock, DelLock, Join}
+use Rattle.node_log.specs.declared.Call.TheVariants.{Spawn, Whereis, RegisteredNames, Notices, Register, ReRegister, Unregister, SetLock, DelLock, Join}
 use Rattle.node_log.specs.declared.Event.{Event}
 use Rattle.node_log.specs.declared.Event.TheVariants.{Call, Retry, Exit, Leave}
 use Rattle.node_log.specs.NodeCoreHeld.{Held}
@@ -18,8 +18,9 @@ abbrev pub course_of_call : ClientCall → Course
 course_of_call Spawn = AtOnce
 course_of_call (Whereis x) = AtOnce
 course_of_call RegisteredNames = AtOnce
-course_of_call (Register x p) = Numbered
-course_of_call (ReRegister x p) = Numbered
+course_of_call (Notices p) = AtOnce
+course_of_call (Register pair) = Numbered
+course_of_call (ReRegister pair) = Numbered
 course_of_call (Unregister x) = Numbered
 course_of_call (SetLock p id nodes retries) = OfHolder p
 course_of_call (DelLock p id nodes) = OfHolder p

@@ -5,7 +5,7 @@ ghost use Rattle.node_loop.specs.Held.{most_turns};
 use crate::ring::Ring;
 use node_log::Letter;
 use std::marker::Model;
-use term::{LockId, NodeName, NodeSet, Resource};
+use term::{LockId, Node, NodeSet, Resource};
 
 /// For so many empty turns a refused round waits at most.
 const MOST_TURNS: u32 = 1_024;
@@ -50,7 +50,7 @@ fn is_global(id: &LockId) -> bool {
 }
 
 /// The place of a node. A stranger has none, and counts as one behind all others.
-fn place_in(world: &NodeSet, node: &NodeName) -> usize {
+fn place_in(world: &NodeSet, node: &Node) -> usize {
     world.position(node).unwrap_or(world.len())
 }
 
@@ -193,7 +193,7 @@ impl Courtesy {
     }
 
     /// A letter is about to be read that came from this node of the world.
-    pub(crate) fn hear(&mut self, world: &NodeSet, from: &NodeName, letter: &Letter)
+    pub(crate) fn hear(&mut self, world: &NodeSet, from: &Node, letter: &Letter)
         ensures { self.new ≤ most_turns }
     {
         // What is heard of no lock leaves the wait as it is, which is known to have its bound once a field is read.

@@ -29,7 +29,7 @@ impl Model for Desk {
     ghost view = { λ d. record { calls = d.calls.items; leaves = d.leaves.items; replies = d.replies } };
 }
 
-/// The same reply, if there is memory, which only a list of names takes.
+/// The same reply, if there is memory, which only a list of names or notices takes.
 fn copied_reply(reply: &Reply) -> Result<Reply, AllocError>
     ensures { IfOk result (λ copy. reply_of copy ≡ reply_of reply.now) }
 {
@@ -41,7 +41,7 @@ fn copied_reply(reply: &Reply) -> Result<Reply, AllocError>
     Err(AllocError)
 }
 
-/// The same answer. Only a list of names takes memory.
+/// The same answer. Only a list of names or notices takes memory.
 fn copied(answer: &Answer) -> Result<Answer, AllocError>
     ensures { IfOk result (λ copy. answer_of copy ≡ answer_of answer.now) }
 {

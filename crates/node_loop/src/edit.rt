@@ -11,7 +11,7 @@ use node_log::{Letter, NodeCore};
 use std::alloc::Global;
 use std::collections::LinkedList;
 use std::mem;
-use term::{NodeName, NodeSet};
+use term::{Node, NodeSet};
 
 /// What a step does to what its node shows.
 #[derive(Drop)]
@@ -19,7 +19,7 @@ pub enum Edit {
     /// One change is written.
     Write(Change),
     /// The names of this node's processes go.
-    Departure(NodeName),
+    Departure(Node),
     /// From now on these pairs, put one behind the other, are the table, and this says whether the node has left.
     Whole(Vec<Pair>, bool),
     /// The node leaves.
@@ -38,7 +38,7 @@ pub struct Update {
 /// What contracts see of what a node shows. No value of it is made.
 pub struct Edition {
     /// The node.
-    pub node: NodeName,
+    pub node: Node,
     /// Its table.
     pub table: LinkedList<Pair>,
     /// How long its log was behind the last step that changed what it shows.
@@ -86,7 +86,7 @@ fn written_for(told: &NodeSet, change: &Change) -> Change
     ensures { change_of result ≡ unless_told (set_of told.now) (change_of change.now) }
 {
     match change {
-        Change::Put(name, owner) if told.contains(&owner.node) => Change::Remove(name.copy()),
+        Change::Put(pair) if told.contains(&pair.owner.node) => Change::Remove(pair.name.copy()),
         other => other.copy(),
     }
 }
@@ -94,13 +94,13 @@ fn written_for(told: &NodeSet, change: &Change) -> Change
 /// What a node shows otherwise behind a letter, as far as that is known before it is read.
 pub(crate) fn note_of<N: Names<Memory = Global>>(
     core: &NodeCore<N>,
-    from: &NodeName,
+    from: &Node,
     letter: &Letter,
 ) -> Note
     ensures { NotedBy result from.now letter.now core.now }
 {
     let is_known = core.world().contains(from);
-    let is_own = from == core.name();
+    let is_own = from == core.node();
     match letter {
         Letter::Apply(_) if core.told().contains(from) => Note::Nothing,
         Letter::Apply(change) => Note::One(Edit::Write(written_for(core.told(), change))),

@@ -1,7 +1,7 @@
 //! What holds a node's turns back.
 ghost use Rattle.std.specs.Prelude.{ℕ, ◌≡◌};
 
-use term::NodeName;
+use term::Node;
 
 /// It is asked before each turn of a node.
 pub trait Gate: Sync {
@@ -9,7 +9,7 @@ pub trait Gate: Sync {
     ghost held: { Self → ℕ → Type 0 };
 
     /// Returns where the turn of this node may go on. It may wait.
-    fn hold(&self, node: &NodeName)
+    fn hold(&self, node: &Node)
         ensures { held self.now node.now };
 }
 
@@ -17,13 +17,13 @@ pub trait Gate: Sync {
 #[derive(Drop)]
 pub(crate) struct Permit<'g, G: Gate> {
     gate: &'g G,
-    node: NodeName,
+    node: Node,
     ghost held: { ∥ G.held gate.now node ∥₁ },
 }
 
 impl<'g, G: Gate> Permit<'g, G> {
     /// Asks the gate, and returns where the turn of this node may go on. It may wait.
-    pub(crate) fn ask(gate: &'g G, node: NodeName) -> Self
+    pub(crate) fn ask(gate: &'g G, node: Node) -> Self
         ensures node { result.node ≡ node }
         ensures held { G.held gate.now node }
     {
@@ -39,5 +39,5 @@ pub struct OpenGate;
 impl Gate for OpenGate {
     ghost held = { λ gate node. Unit {0} };
 
-    fn hold(&self, _node: &NodeName) {}
+    fn hold(&self, _node: &Node) {}
 }

@@ -24,8 +24,8 @@ pub use gate::{Gate, OpenGate};
 pub use item::{Item, Stamped, Task, Ticket};
 pub use laws::{threads_are_consistent, told_leaves_are_logged};
 pub use node_log::{
-    Answer, Call, Event, ForgottenLog, Log, NameList, NodeCore, NodeEnd, Nodes, Opening, Record,
-    Reply, Retries, SeatEntry, StartFault, StepFault, Transcript, WorldEvent,
+    Answer, Call, Event, ForgottenLog, Log, NameList, NodeCore, NodeEnd, Nodes, Notice, NoticeList,
+    Opening, Record, Reply, Retries, SeatEntry, StartFault, StepFault, Transcript, WorldEvent,
 };
 pub use node_loop::NodeLoop;
 pub use numbers::Numbers;

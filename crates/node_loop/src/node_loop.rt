@@ -25,7 +25,7 @@ use node_log::{Log, NodeCore, NodeEnd, Record};
 use std::alloc::{AllocError, Global};
 use std::marker::Model;
 use std::mem;
-use term::{NodeName, NodeSet};
+use term::{Node, NodeSet};
 use tray::Tray;
 
 /// What a node's thread works on: the node's core, the record of its steps, which is a log unless it says otherwise, the letters that it has
@@ -83,9 +83,9 @@ impl<N: Names<Memory = Global>, L: Record> NodeLoop<N, L> {
         ensures sound { IfOk result (BeginsSound core) }
     {
         let world = core.world().copy();
-        let log = L::new(alloc, core.name().copy(), &world);
+        let log = L::new(alloc, core.node().copy(), &world);
         let tray = Tray::new(alloc, &world)?;
-        let own = world.position(core.name()).unwrap_or(0);
+        let own = world.position(core.node()).unwrap_or(0);
         let courtesy = Courtesy::new(Ring::new(world.len(), own));
         Ok(NodeLoop {
             core,
@@ -122,7 +122,7 @@ impl<N: Names<Memory = Global>, L: Record> NodeLoop<N, L> {
         ensures sound { KeepsSound E.posts E.takes self.old (E.state end.old) result self.new (E.state end.new) }
         ensures owing { KeepsOwing self.old self.new }
     {
-        let permit = Permit::ask(gate, self.core.name().copy());
+        let permit = Permit::ask(gate, self.core.node().copy());
         self.go(end, permit)
     }
 
@@ -143,11 +143,11 @@ impl<N: Names<Memory = Global>, L: Record> NodeLoop<N, L> {
         let Some((from, item)) = found else {
             return self.idle();
         };
-        self.work(from, item)
+        self.work(Node::first(from), item)
     }
 
     /// Its node.
-    pub fn node(&self) -> &NodeName
+    pub fn node(&self) -> &Node
         ensures { result.now ≡ self.now.log.node }
     {
         self.log.node()

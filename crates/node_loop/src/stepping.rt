@@ -19,7 +19,7 @@ use crate::waiting::Course;
 use name_table::Names;
 use node_log::{Cause, Event, NodeCore, Record, StepFault, Turn, WorldEvent};
 use std::alloc::{AllocError, Global};
-use term::NodeName;
+use term::Node;
 
 /// What came of trying a step.
 #[derive(Debug, Drop)]
@@ -149,7 +149,7 @@ impl<N: Names<Memory = Global>, L: Record> NodeLoop<N, L> {
         let Ok(turn) = step(&mut self.core, &mut self.log, cause) else {
             return Tried::Ended(TurnFault::Memory);
         };
-        let event = WorldEvent::At(self.core.name().copy(), event);
+        let event = WorldEvent::At(self.core.node().copy(), event);
         self.log.put(stamp, seat_of(own), event);
         match self.conclude(stamp, own, course, turn) {
             Ok(()) => Tried::Made,
@@ -158,7 +158,7 @@ impl<N: Names<Memory = Global>, L: Record> NodeLoop<N, L> {
     }
 
     /// A letter is read. A node that has left drops it.
-    fn read(&mut self, from: NodeName, stamped: Stamped) -> Result<(), TurnFault>
+    fn read(&mut self, from: Node, stamped: Stamped) -> Result<(), TurnFault>
         ensures { Reads from stamped self.old result self.new }
     {
         if self.left {
@@ -213,7 +213,7 @@ impl<N: Names<Memory = Global>, L: Record> NodeLoop<N, L> {
     }
 
     /// An item is handled.
-    fn handle(&mut self, from: NodeName, item: Item) -> Result<(), TurnFault>
+    fn handle(&mut self, from: Node, item: Item) -> Result<(), TurnFault>
         ensures { Handles from item self.old result self.new }
     {
         match item {
@@ -223,7 +223,7 @@ impl<N: Names<Memory = Global>, L: Record> NodeLoop<N, L> {
     }
 
     /// A letter may tell how long a refused round has to wait.
-    fn hear(&mut self, from: &NodeName, item: &Item)
+    fn hear(&mut self, from: &Node, item: &Item)
         ensures { Hears item.now self.old self.new }
     {
         if let Item::Letter(stamped) = item {
@@ -233,7 +233,7 @@ impl<N: Names<Memory = Global>, L: Record> NodeLoop<N, L> {
 
     /// An item was taken: it is handled. Where it is a task the turn is one of the wait of a refused round, and else a leave that waits
     /// is tried.
-    pub(crate) fn work(&mut self, from: NodeName, item: Item) -> Result<(), TurnFault>
+    pub(crate) fn work(&mut self, from: Node, item: Item) -> Result<(), TurnFault>
         ensures { Works from item self.old result self.new }
     {
         self.worked = true;

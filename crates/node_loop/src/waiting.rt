@@ -44,7 +44,9 @@ impl Course {
             Event::Retry | Event::Exit(_) => return Course::Accepted,
         };
         match call {
-            Call::Spawn | Call::Whereis(_) | Call::RegisteredNames => Course::AtOnce,
+            Call::Spawn | Call::Whereis(_) | Call::RegisteredNames | Call::Notices(_) => {
+                Course::AtOnce
+            }
             Call::SetLock(holder, ..) | Call::DelLock(holder, ..) => {
                 Course::OfHolder(holder.copy())
             }

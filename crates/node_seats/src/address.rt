@@ -9,12 +9,12 @@ use crate::parcel::Parcel;
 use link::{INBOX_ROOM, Mailbox, Root, compare, open};
 use std::alloc::{AllocError, Global};
 use std::marker::Model;
-use term::NodeName;
+use term::Node;
 
 /// Where a node's inbox is reached: what makes the lines to it. Contracts see whose it is, how many were made, and the inbox.
 #[derive(Drop)]
 pub struct Address<L: Drop> {
-    node: NodeName,
+    node: Node,
     root: Root<Parcel<L>>,
     bell: Bell,
 }
@@ -39,7 +39,7 @@ impl<L: Drop> Model for Address<L> {
 /// Opens the inbox of a node, whose thread yields so often at most before it sleeps.
 pub(crate) fn open_inbox<L: Drop>(
     alloc: Global,
-    node: NodeName,
+    node: Node,
     yields: u32,
 ) -> Result<Entrance<L>, AllocError>
     ensures address { IfOk result (λ opened. opened.address ≡ record { node = node; lines = 0; room = mailbox_room opened.mailbox }) }
@@ -59,7 +59,7 @@ pub(crate) fn open_inbox<L: Drop>(
 
 impl<L: Drop> Address<L> {
     /// Whose inbox it is.
-    pub fn node(&self) -> &NodeName
+    pub fn node(&self) -> &Node
         ensures { result.now ≡ self.now.node }
     {
         &self.node

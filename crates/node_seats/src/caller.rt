@@ -21,7 +21,7 @@ use shared_table::{Effect, Event, Item, Lookup, TableReader, Task, TaskFault, Ti
 use std::alloc::{AllocError, Global};
 use std::sync::{Arc, Wait};
 use std::time::Clock;
-use term::{Name, NodeName, Pid};
+use term::{Name, Node, Pid};
 
 /// Asks the thread of one node, one event after another, and waits for each reply; and looks names up in the node's table. Contracts see
 /// the node, its place among the seats, the nodes of the cluster, the events that it has put into the node's inbox, and what it has seen of
@@ -30,7 +30,7 @@ use term::{Name, NodeName, Pid};
 pub struct Caller {
     /// Which seat's it is, or which of the cluster's own, and the slot of its replies.
     place: Place,
-    node: NodeName,
+    node: Node,
     line: Line<Item>,
     /// The number of its next event.
     next: u64,
@@ -111,7 +111,7 @@ impl Caller {
     }
 
     /// The node that it asks.
-    pub(crate) fn node(&self) -> &NodeName
+    pub(crate) fn node(&self) -> &Node
         ensures { result.now ≡ name_of self.now }
     {
         &self.node

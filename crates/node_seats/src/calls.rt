@@ -12,8 +12,9 @@ pub(crate) fn copied_call(call: &Call) -> Result<Call, AllocError>
         Call::Spawn => Call::Spawn,
         Call::Whereis(name) => Call::Whereis(name.copy()),
         Call::RegisteredNames => Call::RegisteredNames,
-        Call::Register(name, owner) => Call::Register(name.copy(), owner.copy()),
-        Call::ReRegister(name, owner) => Call::ReRegister(name.copy(), owner.copy()),
+        Call::Notices(process) => Call::Notices(process.copy()),
+        Call::Register(pair) => Call::Register(pair.copy()),
+        Call::ReRegister(pair) => Call::ReRegister(pair.copy()),
         Call::Unregister(name) => Call::Unregister(name.copy()),
         Call::SetLock(holder, id, nodes, retries) => {
             Call::SetLock(holder.copy(), id.copy(), nodes.copy()?, retries.copy())

@@ -25,7 +25,7 @@ pub enum SeatFault {
     /// The node refused the event.
     #[error("{0}")]
     Step(StepFault),
-    /// Memory was refused: before anything was asked, or for the copy of a reply that is a list of names.
+    /// Memory was refused: before anything was asked, or for the copy of a reply that is a list of names or notices.
     #[error("memory")]
     Memory,
 }

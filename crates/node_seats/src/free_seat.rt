@@ -26,11 +26,13 @@ impl Model for FreeSeat {
     ghost view = { λ f. map (λ caller. sitting caller []) f.callers.items };
 }
 
-/// The place of the first of these callers that asks a node.
+/// The place of the first of these callers that asks the node of this name.
 fn place_of(callers: &[Caller], node: &NodeName) -> Option<usize>
     ensures { result ≡ position (λ caller. name_of caller == node.now) callers.now }
 {
-    callers.iter().position(|caller| caller.node() == node)
+    callers
+        .iter()
+        .position(|caller| caller.node().name() == node)
 }
 
 impl FreeSeat {
@@ -52,7 +54,7 @@ impl FreeSeat {
         Ok(())
     }
 
-    /// The seat at a node. Where it can't be there, it is given back.
+    /// The seat at the node of this name. Where it can't be there, it is given back.
     pub fn at(self, alloc: Global, node: &NodeName) -> Result<Seat, Self>
         ensures ok { IfOk result (λ seat. first_at node.now self ≡ Some seat) }
         ensures err { IfErr result (λ free. (free ≡ self) × (first_at node.now self ≡ None)) }

@@ -6,12 +6,12 @@ ghost use Rattle.node_seats.specs.Replies.{IsTold, IsToldTo, is_late};
 use name_table::Names;
 use shared_table::{Effect, NodeLoop, Record, TaskFault, TaskReply, Ticket};
 use std::alloc::Global;
-use term::NodeName;
+use term::Node;
 
 /// A reply that the loop of a node told, behind what its readers were shown.
 #[derive(Drop)]
 pub(crate) struct Laid {
-    node: NodeName,
+    node: Node,
     reply: TaskReply,
     /// The length of the node's log up to which its readers were shown all then.
     length: u64,
@@ -64,11 +64,7 @@ impl Laid {
     }
 
     /// What it says, where this node told it to the owner of this ticket. Any other is one to a call that was given up.
-    pub(crate) fn outcome(
-        self,
-        node: &NodeName,
-        ticket: Ticket,
-    ) -> Option<Result<Effect, TaskFault>>
+    pub(crate) fn outcome(self, node: &Node, ticket: Ticket) -> Option<Result<Effect, TaskFault>>
         ensures { IfSome result (λ outcome. IsToldTo node.now ticket outcome self.length) }
     {
         let Laid {

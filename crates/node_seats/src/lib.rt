@@ -40,7 +40,7 @@ pub use parcel::Parcel;
 pub use place::{MOST_SEATS, Place, SEAT_NUMBERS};
 pub use seat::Seat;
 pub use shared_table::{
-    Call, Effect, KeptPublisher, NameList, Nodes, Numbers, Publisher, ReaderFactory, Reply,
-    Retries, StepFault, Transcript,
+    Call, Effect, KeptPublisher, NameList, Nodes, Notice, NoticeList, Numbers, Publisher,
+    ReaderFactory, Reply, Retries, StepFault, Transcript,
 };
 pub use told::NodeStatus;

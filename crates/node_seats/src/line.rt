@@ -9,12 +9,12 @@ use crate::parcel::Parcel;
 use link::{LinkFault, Port, Unsent};
 use std::marker::Model;
 use std::sync::Wait;
-use term::NodeName;
+use term::Node;
 
 /// One sender's way into the inbox of a node, with a bell of that node's thread.
 #[derive(Drop)]
 pub struct Line<L: Drop> {
-    receiver: NodeName,
+    receiver: Node,
     port: Port<Parcel<L>>,
     bell: Bell,
 }
@@ -30,7 +30,7 @@ impl<L: Drop> Model for Line<L> {
 
 impl<L: Drop> Line<L> {
     /// A line to this node, by a port of its inbox.
-    pub(crate) fn new(receiver: NodeName, port: Port<Parcel<L>>, bell: Bell) -> Self
+    pub(crate) fn new(receiver: Node, port: Port<Parcel<L>>, bell: Bell) -> Self
         ensures { result ≡ record { receiver = receiver; number = number_of port; room = port_room port; parcels = put port } }
     {
         Line {
@@ -41,7 +41,7 @@ impl<L: Drop> Line<L> {
     }
 
     /// The node that it leads to.
-    pub fn receiver(&self) -> &NodeName
+    pub fn receiver(&self) -> &Node
         ensures { result.now ≡ self.now.receiver }
     {
         &self.receiver

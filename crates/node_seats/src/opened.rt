@@ -15,7 +15,7 @@ use link::Mailbox;
 use shared_table::{Item, ReaderFactory};
 use std::alloc::{AllocError, Global};
 use std::sync::Arc;
-use term::NodeName;
+use term::Node;
 
 /// A node whose thread is yet to start.
 #[derive(Drop)]
@@ -35,7 +35,7 @@ pub struct Opened {
 pub fn open_node(
     alloc: Global,
     hub: &Arc<Hub, Global>,
-    node: NodeName,
+    node: Node,
     index: u32,
     yields: u32,
     readers: ReaderFactory,

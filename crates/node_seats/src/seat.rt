@@ -20,7 +20,7 @@ use std::alloc::Global;
 use std::marker::Model;
 use std::sync::Wait;
 use std::time::Clock;
-use term::{Name, NodeName, Pid};
+use term::{Name, Node, Pid};
 
 /// One caller's place at a node, with the transcript of what it was answered. It may go to another thread. Contracts see its
 /// number and its slot, its node and the inbox of that, the nodes of its cluster, the events that it has asked the node for, what it
@@ -65,16 +65,16 @@ impl<T: Notes> Seat<T> {
     }
 
     /// Its node.
-    pub fn node(&self) -> &NodeName
+    pub fn node(&self) -> &Node
         ensures { result.now ≡ self.now.node }
     {
         self.caller.node()
     }
 
     /// Calls the node, once, and waits for the reply, which the node's loop told this seat. The call and its answer then stand last in
-    /// the transcript, which nothing else changes. `Memory`: nothing was asked, or it was and the reply is a list of names. `NodeLeft`:
-    /// the node has left. `NoSuchNode`: the contact of a join isn't of the cluster. `Step`: the node refuses the call. `Closed`: the
-    /// node's thread ended without a leave, or the cluster was closed; whether the call was made then isn't known.
+    /// the transcript, which nothing else changes. `Memory`: nothing was asked, or it was and the reply is a list of names or
+    /// notices. `NodeLeft`: the node has left. `NoSuchNode`: the contact of a join isn't of the cluster. `Step`: the node refuses the call.
+    /// `Closed`: the node's thread ended without a leave, or the cluster was closed; whether the call was made then isn't known.
     pub fn call<R: Wait + Clock>(&mut self, rt: &R, call: Call) -> Result<Reply, SeatFault>
         ensures ok { IfOk result (λ reply. Answered call reply self.old self.new) }
         ensures err { IfErr result (λ fault. Unanswered fault (Calls call) self.old self.new) }

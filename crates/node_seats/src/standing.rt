@@ -7,7 +7,7 @@ use name_table::Names;
 use shared_table::{NodeLoop, ReaderFactory, Record, TableReader};
 use std::alloc::{AllocError, Global};
 use std::sync::atomic::{AtomicBool, Ordering};
-use term::{NodeName, NodeSet};
+use term::{Node, NodeSet};
 
 /// What the thread of a node has told of itself, and by what its table is read.
 #[derive(Drop)]
@@ -49,7 +49,7 @@ impl Standing {
     }
 
     /// How the node stands, one of a cluster of these nodes.
-    pub(crate) fn status(&self, node: &NodeName, nodes: &NodeSet) -> NodeStatus
+    pub(crate) fn status(&self, node: &Node, nodes: &NodeSet) -> NodeStatus
         ensures { result.node ≡ node.now }
     {
         self.told.status(node, nodes)

@@ -3,13 +3,13 @@ ghost use Rattle.std.specs.Prelude.{◌≡◌};
 
 use shared_table::Numbers;
 use std::sync::atomic::{AtomicBool, AtomicU32, AtomicU64, AtomicUsize, Ordering};
-use term::{MOST_NODES, NodeName, NodeSet};
+use term::{MOST_NODES, Node, NodeSet};
 
 /// How a node stands: each of these as it was told behind one of the last turns of the node's thread.
 #[derive(Debug, PartialEq, Eq, Drop)]
 pub struct NodeStatus {
     /// Its name.
-    pub node: NodeName,
+    pub node: Node,
     /// Whether it is joined with the cluster.
     pub joined: bool,
     /// Its members, itself among them.
@@ -130,7 +130,7 @@ impl Told {
     }
 
     /// How a node of this cluster stands, as it was told.
-    pub(crate) fn status(&self, node: &NodeName, nodes: &NodeSet) -> NodeStatus
+    pub(crate) fn status(&self, node: &Node, nodes: &NodeSet) -> NodeStatus
         ensures { result.node ≡ node.now }
     {
         NodeStatus {

@@ -1,16 +1,17 @@
 //! One node by itself, whose letters to itself are read to it, and some that another node sends. One function owns a core; what is
 //! played at it borrows it, since a proof grows with what may be dropped where a function ends.
-use name_table::{ListTable, Names};
+use name_table::{ListTable, Names, Pair};
 use node_core::{
-    Answer, Call, Cause, Entry, Event, Letter, NodeCore, Nodes, Op, Reply, Retries, StepFault,
+    Answer, Call, Cause, Entry, Event, Letter, NodeCore, Nodes, Notice, NoticeList, Op, Reply,
+    Retries, StepFault,
 };
 use std::alloc::Global;
 use std::fmt::Write;
 use std::process::Abort;
 use std::test::Fail;
 use term::{
-    LockId, NodeName, NodeSet, parse_name, parse_node, parse_nodes, parse_pid, parse_requester,
-    parse_resource,
+    LockId, Node, NodeName, NodeSet, Pid, Rule, parse_name, parse_node, parse_nodes, parse_pid,
+    parse_requester, parse_resource,
 };
 
 type Core = NodeCore<ListTable<Global>>;
@@ -23,6 +24,7 @@ fn core(alloc: Global, joined: bool) -> Option<Core> {
     let (Ok(a), Ok(world)) = (parse_node("a"), parse_nodes("a,b")) else {
         return None;
     };
+    let (a, world) = (Node::first(a), NodeSet::first_of(&world));
     let members = NodeSet::one(a.copy());
     if !members.contains(&a) || !world.contains(&a) {
         return None;
@@ -47,7 +49,8 @@ fn read(
 ) -> bool {
     let mut given = false;
     for (to, letter) in letters {
-        if to == *core.name() {
+        let to = Node::first(to);
+        if to == *core.node() {
             let answers = core.step(&Event::FromPeer(to, letter), sent);
             given |= answers.is_ok_and(|answers| gives(&answers, reply));
         }
@@ -99,20 +102,29 @@ fn leaves(core: &mut Core) -> bool {
     })
 }
 
+/// A process is to have a name under this rule.
+fn pair(name: &str, owner: &str, rule: Rule) -> Option<Pair> {
+    let (Ok(name), Ok(owner)) = (parse_name(name), parse_pid(owner)) else {
+        return None;
+    };
+    Some(Pair { name, owner, rule })
+}
+
 /// Calls for names, and the exit of their owner.
 fn plays_names(rt: &impl Abort, alloc: Global, core: &mut Core) -> bool {
-    let (Ok(a), Ok(x)) = (parse_pid("a.1"), parse_name("x")) else {
+    let Some(owned) = pair("x", "a.1", Rule::Exit) else {
         return false;
     };
+    let (a, x) = (owned.owner.copy(), owned.name.copy());
     let found = Reply::Pid(a.copy());
     assert!(rt; is_answered(alloc, core, &Call::Spawn, &found));
-    let register = Call::Register(x.copy(), a.copy());
+    let register = Call::Register(owned.copy());
     assert!(rt; is_answered(alloc, core, &register, &Reply::Yes));
     let look = Call::Whereis(x.copy());
     assert!(rt; is_answered(alloc, core, &look, &found));
     assert!(rt; looks(core, &look));
     assert!(rt; is_answered(alloc, core, &Call::Unregister(x.copy()), &Reply::Ok));
-    let register = Call::ReRegister(x.copy(), a.copy());
+    let register = Call::ReRegister(owned);
     assert!(rt; is_answered(alloc, core, &register, &Reply::Yes));
     assert!(rt; core.table().get(&x).is_some() && core.last_call() == 3);
     assert!(rt; !comes_to(alloc, core, Cause::Exit(&a), &Reply::Ok));
@@ -150,15 +162,70 @@ fn plays_locks(rt: &impl Abort, alloc: Global, core: &mut Core) -> bool {
     is_answered(alloc, core, &delete, &Reply::True)
 }
 
-/// Another node is let in, has written what that says, and leaves. Then the node itself does.
-fn plays_an_admission(rt: &impl Abort, alloc: Global, core: &mut Core) -> bool {
-    let Ok(b) = parse_node("b") else {
+/// Whether a process was sent these notices.
+fn was_sent(alloc: Global, core: &mut Core, process: &Pid, notices: Vec<Notice>) -> bool {
+    let list = Reply::Notices(NoticeList::new(notices));
+    is_answered(alloc, core, &Call::Notices(process.copy()), &list)
+}
+
+/// The notice that another process has lost this name, too.
+fn lost_to_both(alloc: Global, lost: &Pair) -> Option<Vec<Notice>> {
+    let mut notices = Vec::new(alloc);
+    let notice = Notice {
+        name: lost.name.copy(),
+        other: Some(lost.owner.copy()),
+    };
+    match notices.push(notice) {
+        Ok(()) => Some(notices),
+        Err(_) => None,
+    }
+}
+
+/// A name of a process of the node, under `notify_all`.
+fn plays_a_name_for_nobody(rt: &impl Abort, alloc: Global, core: &mut Core) -> bool {
+    let Some(ours) = pair("y", "a.2", Rule::NotifyAll) else {
         return false;
     };
-    let ask = Letter::JoinAsk(Vec::new(alloc));
+    let process = ours.owner.copy();
+    assert!(rt; is_answered(alloc, core, &Call::Register(ours), &Reply::Yes));
+    was_sent(alloc, core, &process, Vec::new(alloc))
+}
+
+/// What a node asks with that is to join, and has that name, too.
+fn ask(alloc: Global, theirs: &Pair) -> Option<Letter> {
+    let mut pairs = Vec::new(alloc);
+    match pairs.push(theirs.copy()) {
+        Ok(()) => Some(Letter::JoinAsk(pairs)),
+        Err(_) => None,
+    }
+}
+
+/// Whether the process lost its name with that of the joiner, and a process that wasn't spawned has no notices.
+fn has_lost_its_name(alloc: Global, core: &mut Core, theirs: &Pair) -> bool {
+    let (Ok(ours), Ok(strange)) = (parse_pid("a.2"), parse_pid("a.4")) else {
+        return false;
+    };
+    let Some(notices) = lost_to_both(alloc, theirs) else {
+        return false;
+    };
+    core.table().get(&theirs.name).is_none()
+        && was_sent(alloc, core, &ours, notices)
+        && core.refusal(Cause::Call(&Call::Notices(strange))) == Some(StepFault::NoSuchProcess)
+}
+
+/// Another node is let in, has written what that says, and leaves. Then the node itself does.
+fn plays_an_admission(rt: &impl Abort, alloc: Global, core: &mut Core) -> bool {
+    let (Ok(b), Some(theirs)) = (parse_node("b"), pair("y", "b.1", Rule::Exit)) else {
+        return false;
+    };
+    let Some(ask) = ask(alloc, &theirs) else {
+        return false;
+    };
+    let b = Node::first(b);
     assert!(rt; !comes_to(alloc, core, Cause::FromPeer(&b, &ask), &Reply::Joined));
     assert!(rt; core.members().contains(&b) && core.holds_global());
     assert!(rt; matches!(core.current(), Some(Op::Admission(..))));
+    assert!(rt; has_lost_its_name(alloc, core, &theirs));
     let applied = Cause::FromPeer(&b, &Letter::Applied);
     assert!(rt; !comes_to(alloc, core, applied, &Reply::Joined));
     assert!(rt; core.current().is_none() && !core.holds_global());
@@ -173,6 +240,7 @@ fn plays_a_join(rt: &impl Abort, alloc: Global, core: &mut Core) -> bool {
     let Ok(b) = parse_node("b") else {
         return false;
     };
+    let b = Node::first(b);
     assert!(rt; core.world().contains(&b) && !core.is_joined());
     assert!(rt; !is_answered(alloc, core, &Call::Join(b.copy()), &Reply::Joined));
     assert!(rt; core.join_number() == Some(1));
@@ -188,6 +256,7 @@ fn plays(rt: &impl Abort, alloc: Global, joined: bool) -> bool {
     let played = if joined {
         plays_names(rt, alloc, &mut core)
             && plays_locks(rt, alloc, &mut core)
+            && plays_a_name_for_nobody(rt, alloc, &mut core)
             && plays_an_admission(rt, alloc, &mut core)
     } else {
         plays_a_join(rt, alloc, &mut core)

@@ -88,13 +88,14 @@ module _ (nodes cluster : List ℕ) where
               members = λ c. (if b then set_of cluster c else c == a) && true;
               told = nobody;
               joined = b;
+              notices = λ serial. [];
             };
           }
       go true = ap (λ (s : Nodes). record (node_of (fresh a nodes cluster true))
-          { replica = record { table = []; members = s; told = nobody; joined = true } })
+          { replica = record { table = []; members = s; told = nobody; joined = true; notices = λ serial. [] } })
           (fun_ext (λ c. sym (and-true (set_of cluster c))))
       go false = ap (λ (s : Nodes). record (node_of (fresh a nodes (a ∷ []) false))
-          { replica = record { table = []; members = s; told = nobody; joined = false } })
+          { replica = record { table = []; members = s; told = nobody; joined = false; notices = λ serial. [] } })
           (fun_ext (alone a))
 
   within_is : ((c : ℕ) → set_of cluster c ≡ true → set_of nodes c ≡ true) → in_cluster (opening_with nodes cluster) ≡ set_of cluster

@@ -4,7 +4,7 @@ use Rattle.std.specs.List.{position, remove}
 use Rattle.link.specs.declared.faults.LinkFault.{LinkFault}
 use Rattle.link.specs.declared.faults.LinkFault.TheVariants.{NoSuchNode, Full}
 use Rattle.node_loop.specs.declared.Call.{Call}
-use Rattle.node_loop.specs.declared.Call.TheVariants.{Spawn, Whereis, RegisteredNames}
+use Rattle.node_loop.specs.declared.Call.TheVariants.{Spawn, Whereis, RegisteredNames, Notices}
 use Rattle.node_loop.specs.declared.Event.{Event}
 use Rattle.node_loop.specs.declared.Event.TheVariants.{Call as Calls}
 use Rattle.node_loop.specs.declared.item.Item.{Item}
@@ -45,6 +45,7 @@ abbrev pub is_asked : Call → Bool
 is_asked Spawn = false
 is_asked (Whereis x) = false
 is_asked RegisteredNames = false
+is_asked (Notices p) = false
 is_asked c = true
 
 -- for other events none are

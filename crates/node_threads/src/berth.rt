@@ -16,7 +16,7 @@ use std::marker::Model;
 use std::sync::{Arc, Wait};
 use std::thread::Threads;
 use std::time::Clock;
-use term::NodeName;
+use term::Node;
 
 /// A node whose thread is yet to start: where it is reached, and what its thread is to work with. Contracts see its inbox, how many
 /// lines lead there, the core that it opens with, and its own lines.
@@ -57,7 +57,7 @@ impl<G: Gate + Drop, N: Names, L: Record, R: Wait + Drop> Model for Berth<G, N, 
 fn publish<R: Wait + Drop + Copy>(
     rt: &R,
     alloc: Global,
-    node: &NodeName,
+    node: &Node,
 ) -> Result<(KeptPublisher<R>, ReaderFactory), AllocError>
     ensures { IfOk result (λ made. made.0.publisher ≡ record { node = node.now; editions = []; waiting = []; length = 0 }) }
 {
@@ -84,7 +84,7 @@ where
         alloc: Global,
         shared: &Shared<G>,
         opening: &Opening,
-        node: &NodeName,
+        node: &Node,
         index: u32,
     ) -> Result<Self, AllocError>
         requires known { set_of opening.now.nodes node.now ≡ true }

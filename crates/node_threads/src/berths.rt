@@ -13,9 +13,9 @@ use node_loop::{Gate, Item, Opening, Record};
 use node_seats::Line;
 use std::alloc::{AllocError, Global};
 use std::sync::Wait;
-use term::NodeName;
+use term::{Node, NodeName};
 
-/// Opens the inboxes of these nodes, behind those that were opened before.
+/// Opens the inboxes of the first nodes of these names, behind those that were opened before.
 fn open_all<G, N, L, R>(
     rt: &R,
     alloc: Global,
@@ -37,7 +37,8 @@ where
 {
     for node in nodes {
         let place = berths.len() as u32;
-        berths.push(Berth::open(rt, alloc, shared, opening, node, place)?)?;
+        let own = Node::first(node.copy());
+        berths.push(Berth::open(rt, alloc, shared, opening, &own, place)?)?;
     }
     Ok(())
 }

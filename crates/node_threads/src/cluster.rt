@@ -72,21 +72,21 @@ impl<G: Gate + Drop, N: Names, L: Record> Model for Cluster<G, N, L> {
         × ((n : ℕ) → set_of (nodes_at c.shared.hub.value) n ≡ set_of (c.cluster.items ++ c.lone.items) n) };
 }
 
-/// The same nodes, in memory of their own.
+/// The same names, in memory of their own.
 fn copied(alloc: Global, nodes: &[NodeName]) -> Result<Vec<NodeName>, AllocError>
     ensures { IfOk result (λ copy. copy.items ≡ nodes.now) }
 {
     nodes.iter().map(|node| node.copy()).collect(alloc)
 }
 
-/// The index of a node among those that run.
+/// The index of the node of this name among those that run.
 fn index_of<N: Names<Memory = Global> + Send + 'static, L: Record + Send + 'static>(
     running: &[Running<N, L>],
     node: &NodeName,
 ) -> Option<usize>
     ensures { result ≡ position (λ one. one.inbox.node == node.now) running.now }
 {
-    running.iter().position(|one| one.node() == node)
+    running.iter().position(|one| one.node().name() == node)
 }
 
 impl<G, N, L> Cluster<G, N, L>
@@ -160,7 +160,7 @@ where
         })
     }
 
-    /// The caller of a new seat at a node.
+    /// The caller of a new seat at the node of this name.
     fn caller_at(&mut self, node: &NodeName) -> Result<Caller, SeatFault>
         ensures ok { IfOk result (λ caller. first_at node.now (next_seats self.old) ≡ Some (sitting caller [])) }
         ensures made { OnOk result (self.new ≡ seats_more self.old) }
@@ -178,8 +178,8 @@ where
         Ok(caller)
     }
 
-    /// A new seat at a node, also at one that has left. Seats are numbered from 0 on as they are made, and no number is used again.
-    /// `NoSuchNode`: the node isn't of the cluster. `SeatsSpent`: 64 seats were made and not given back, or no number is left.
+    /// A new seat at the node of this name, also at one that has left. Seats are numbered from 0 on as they are made, and no number is
+    /// used again. `NoSuchNode`: the node isn't of the cluster. `SeatsSpent`: 64 seats were made and not given back, or no number is left.
     pub fn seat(&mut self, node: &NodeName) -> Result<Seat, SeatFault>
         ensures ok { IfOk result (λ seat. first_at node.now (next_seats self.old) ≡ Some seat) }
         ensures made { OnOk result (self.new ≡ seats_more self.old) }
@@ -190,7 +190,7 @@ where
         Ok(Seat::new(self.alloc, caller))
     }
 
-    /// A new seat at a node that keeps no transcript. It is made, numbered and refused as `seat` says.
+    /// A new seat at the node of this name that keeps no transcript. It is made, numbered and refused as `seat` says.
     pub fn forgetful_seat(&mut self, node: &NodeName) -> Result<Seat<ForgottenNotes>, SeatFault>
         ensures ok { IfOk result (λ seat. first_at node.now (next_seats self.old) ≡ Some seat) }
         ensures made { OnOk result (self.new ≡ seats_more self.old) }
@@ -225,8 +225,9 @@ where
         Ok(free)
     }
 
-    /// A node leaves. It waits until that is so, and the node's log says it, behind the hold of the global lock where the node holds
-    /// it. `NoSuchNode`: the node isn't of the cluster. `NodeLeft`: it has left before. `Closed`: its thread ended without a leave.
+    /// The node of this name leaves. It waits until that is so, and the node's log says it, behind the hold of the global lock where the
+    /// node holds it. `NoSuchNode`: the node isn't of the cluster. `NodeLeft`: it has left before. `Closed`: its thread ended without a
+    /// leave.
     pub fn leave<R: Wait + Clock>(&mut self, rt: &R, node: &NodeName) -> Result<(), SeatFault>
         ensures same { self.new ≡ self.old }
         ensures stranger { set_of (nodes_in self.old) node.now ≡ false → result ≡ Err NoSuchNode }
@@ -238,8 +239,8 @@ where
         self.running[index].leave(rt)
     }
 
-    /// How a node stands, as its thread told last. It asks the node for nothing, and waits for nobody. `NoSuchNode`: the node isn't of the
-    /// cluster. `NodeLeft`: it has left. `Closed`: its thread has ended.
+    /// How the node of this name stands, as its thread told last. It asks the node for nothing, and waits for nobody. `NoSuchNode`: the
+    /// node isn't of the cluster. `NodeLeft`: it has left. `Closed`: its thread has ended.
     pub fn status(&self, node: &NodeName) -> Result<NodeStatus, SeatFault>
         ensures { set_of (nodes_in self.now) node.now ≡ false → result ≡ Err NoSuchNode }
     {

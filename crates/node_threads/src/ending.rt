@@ -6,7 +6,7 @@ ghost use Rattle.node_threads.specs.Ending.{Adds, IsUntold, IsWhy, TellsOf};
 use name_table::Names;
 use node_loop::{NodeEnd, Record};
 use std::alloc::Global;
-use term::NodeName;
+use term::Node;
 use thiserror::Error;
 
 /// What a cluster came to: its run was one of the world's.
@@ -15,7 +15,7 @@ pub struct EndedCluster<N: Names> {
     /// How many steps the run had.
     pub events: u64,
     /// The last table of each node.
-    pub tables: Vec<(NodeName, N)>,
+    pub tables: Vec<(Node, N)>,
 }
 
 /// Why it isn't told what a cluster came to.
@@ -23,7 +23,7 @@ pub struct EndedCluster<N: Names> {
 pub enum EndFault {
     /// The thread of this node ended without a leave and without being asked to.
     #[error("left_in_hold {0}")]
-    LeftInHold(NodeName),
+    LeftInHold(Node),
     /// Memory was refused, or there were more steps than a `u64` can tell.
     #[error("memory")]
     Memory,

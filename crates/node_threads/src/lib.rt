@@ -10,7 +10,8 @@
 //!     let mut first = three.seat(&nodes[0])?;
 //!     let mut last = three.seat(&nodes[2])?;
 //!     if let Reply::Pid(process) = first.call(rt, Call::Spawn)? {
-//!         first.call(rt, Call::Register(name.copy(), process))?;
+//!         let pair = Pair { name: name.copy(), owner: process, rule: Rule::Exit };
+//!         first.call(rt, Call::Register(pair))?;
 //!     }
 //!     last.whereis(name)?;
 //!     Ok([first.into_transcript(), last.into_transcript()])
@@ -40,8 +41,8 @@ pub use ending::{EndFault, EndedCluster};
 pub use node_loop::{ForgottenLog, Gate, Log, OpenGate, Record, StartFault};
 pub use node_seats::{
     Beside, Call, ForgottenNotes, FreeSeat, HolderSeat, KeptNotes, Line, NameList, Nobody,
-    NodeStatus, Nodes, Notes, Numbers, Parcel, Reply, Retries, Seat, SeatFault, StepFault,
-    Transcript,
+    NodeStatus, Nodes, Notes, Notice, NoticeList, Numbers, Parcel, Reply, Retries, Seat, SeatFault,
+    StepFault, Transcript,
 };
-pub use replay::{CloseFault, Closed};
+pub use replay::{CloseFault, Closed, HistoryEntry, KeptEntry};
 pub use ruled_end::{RuledEnd, Traffic};

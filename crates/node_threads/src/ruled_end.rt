@@ -13,7 +13,7 @@ use std::collections::{LinkedList, VecDeque};
 use std::marker::Model;
 use std::snapshot::Snapshot;
 use std::sync::Wait;
-use term::NodeName;
+use term::{Node, NodeName};
 
 /// How many letters are taken in a row while a task waits.
 const MOST_LETTERS: u32 = 64;
@@ -24,7 +24,7 @@ const MOST_LETTERS: u32 = 64;
 #[derive(Drop)]
 pub struct RuledEnd<R: Wait + Drop> {
     rt: R,
-    node: NodeName,
+    node: Node,
     lines: Vec<Line<Item>>,
     mailbox: Mailbox<Parcel<Item>>,
     /// The tasks that stood before a letter, the oldest first.
@@ -60,10 +60,10 @@ impl<R: Wait + Drop> Model for RuledEnd<R> {
 /// What the sends and takings of an end change: its lines, what came off its inbox, and which of the tasks among that wait. No value
 /// of it is made.
 pub struct Traffic {
-    node: NodeName,
+    node: Node,
     first: Mailbox<Parcel<Item>>,
     lines: LinkedList<Line<Item>>,
-    /// The letters of nodes, each with its sender.
+    /// The letters of nodes, each with the name of its sender.
     letters: LinkedList<(NodeName, Item)>,
     tasks: LinkedList<Task>,
     waiting: LinkedList<Task>,
@@ -72,7 +72,7 @@ pub struct Traffic {
 /// What one look into an inbox finds.
 #[derive(Drop)]
 enum Found {
-    /// A letter from this node.
+    /// A letter from the node of this name.
     Heard(NodeName, Stamped),
     /// A task, which waits now, or a letter under a number that no node has.
     Other,
@@ -80,14 +80,16 @@ enum Found {
     Nothing,
 }
 
-/// The place of the line to a node.
+/// The place of the line to the node of this name.
 fn place_of(lines: &[Line<Item>], receiver: &NodeName) -> Option<usize>
     ensures { result ≡ place receiver.now lines.now }
 {
-    lines.iter().position(|line| line.receiver() == receiver)
+    lines
+        .iter()
+        .position(|line| line.receiver().name() == receiver)
 }
 
-/// The node whose line into an inbox has this number there. The cluster asks under number 0, and seats behind the nodes.
+/// The name of the node whose line into an inbox has this number there. The cluster asks under number 0, and seats behind the nodes.
 fn node_under(lines: &[Line<Item>], number: u64) -> Option<NodeName>
     ensures { result ≡ node_under number (receivers lines.now) }
 {
@@ -95,7 +97,7 @@ fn node_under(lines: &[Line<Item>], number: u64) -> Option<NodeName>
         return None;
     }
     let line = lines.get((number - 1) as usize)?;
-    Some(line.receiver().copy())
+    Some(line.receiver().name().copy())
 }
 
 /// Whether it is a call for which other nodes are asked, and so takes longer than what a node does alone.
@@ -103,7 +105,8 @@ fn asks_nodes(task: &Task) -> bool
     ensures { result ≡ asks_nodes task.now }
 {
     match &task.event {
-        Event::Call(Call::Spawn | Call::Whereis(_) | Call::RegisteredNames) => false,
+        Event::Call(Call::Spawn | Call::Whereis(_) | Call::RegisteredNames | Call::Notices(_)) =>
+            false,
         Event::Call(_) => true,
         Event::Retry | Event::Exit(_) | Event::Leave => false,
     }
@@ -127,7 +130,7 @@ impl<R: Wait + Drop> RuledEnd<R> {
     pub(crate) fn new(
         rt: R,
         alloc: Global,
-        node: NodeName,
+        node: Node,
         lines: Vec<Line<Item>>,
         mailbox: Mailbox<Parcel<Item>>,
     ) -> Self
@@ -265,7 +268,7 @@ impl<R: Wait + Drop> Inbox<Item> for RuledEnd<R> {
             return Ok(Some((from, Item::Letter(stamped))));
         }
         match self.next_task() {
-            Some(task) => Ok(Some((self.node.copy(), Item::Task(task)))),
+            Some(task) => Ok(Some((self.node.name().copy(), Item::Task(task)))),
             None => Ok(None),
         }
     }

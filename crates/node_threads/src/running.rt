@@ -25,7 +25,7 @@ use std::sync::{Arc, Wait};
 use std::thread;
 use std::thread::{Promise, PromisedHandle, Threads};
 use std::time::Clock;
-use term::NodeName;
+use term::Node;
 
 /// What a thread gives back: what its node left behind, its lines, and its end of its inbox.
 #[derive(Drop)]
@@ -276,7 +276,7 @@ impl<N: Names<Memory = Global> + Send + 'static, L: Record + Send + 'static> Run
     }
 
     /// Its node.
-    pub(crate) fn node(&self) -> &NodeName
+    pub(crate) fn node(&self) -> &Node
         ensures { result.now ≡ name_of self.now }
     {
         self.address.node()

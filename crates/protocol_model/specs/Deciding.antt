@@ -2,9 +2,9 @@
 -- n: above all nodes of the world. a: this node. number j: the number of j's current join, for the history alone.
 use Rattle.std.specs.Prelude.{ℕ, Bool, None, if◌then◌else◌}
 use Rattle.registry_model.specs.Process.{Nodes, with_node}
-use Rattle.registry_model.specs.Table.{Table, StrikeOwner, put_all}
+use Rattle.registry_model.specs.Table.{Table, StrikeOwner}
 use Rattle.registry_model.specs.Call.{Joined, reply_to}
-use Rattle.registry_model.specs.Settlement.{Settled, settle}
+use Rattle.registry_model.specs.Settlement.{Settled, with_settled, settle}
 use Rattle.registry_model.specs.History.{Entry}
 use Rattle.protocol_model.specs.Round.{Round, owes, asked, answer, down, is_over, Ending, ending}
 use Rattle.protocol_model.specs.Letter.{Global, Letter}
@@ -18,7 +18,7 @@ module _ (n a : ℕ) (number : ℕ → ℕ) where
   admit j pairs asked s u =
       send j
       (Letter.Welcome (with_node j u.node.replica.members)
-      (put_all s.puts u.node.replica.table) u.node.replica.told s.fate)
+      (with_settled s u.node.replica.table) u.node.replica.told s.fate)
       (send_all n u.node.replica.members (Letter.Admit j s)
       (at_work (Current.Writing (Op.Admission j pairs) asked (with_node j u.node.replica.members) None)
       (enter (Entry.Join j (number j) a Joined) u)))

@@ -2,7 +2,7 @@
 use Rattle.std.specs.Prelude.{ℕ, Bool, true, false, not, ◌||◌, ◌==◌, nat_lt, Option, Some, None, is_some, List, [], ◌∷◌, ◌++◌, if◌then◌else◌}
 use Rattle.std.specs.List.{list_any, list_all}
 use Rattle.registry_model.specs.Process.{Text, text_of, Process}
-use Rattle.registry_model.specs.Call.{NameCall, Look, Reply}
+use Rattle.registry_model.specs.Call.{NameCall, Look, NoticesOf, Reply}
 use Rattle.protocol_model.specs.Watch.{is_live, is_issued, is_dead, next_serial}
 use Rattle.protocol_model.specs.Node.{Node, Op, Current, LockPhase, Target, Named, Retries, call_of, holds_global}
 
@@ -110,10 +110,15 @@ lock_causes a v p resource =
     cause (not (is_live a v.watch p)) (NotLive p) ∷ cause (is_some (call_of p v.calls)) (Busy p)
     ∷ cause (resource == global_resource) Reserved ∷ []
 
+-- why node a refuses a look-up: the notices of a process that was not issued there
+abbrev pub look_causes : ℕ → Node → Look → List Cause
+look_causes a v (NoticesOf p) = cause (not (is_issued a v.watch p)) NoSuchProcess ∷ []
+look_causes a v _ = []
+
 -- why node a refuses a call, in order
 abbrev pub call_causes : ℕ → Node → Call → List Cause
 call_causes a v Spawn = cause (nat_lt last_u32 (next_serial v.watch)) SerialsSpent ∷ []
-call_causes a v (LookUp look) = []
+call_causes a v (LookUp look) = look_causes a v look
 call_causes a v (OnName call) = calls_spent v ∷ []
 call_causes a v (SetLock p r q target retries) =
     lock_causes a v p r ++ cause (not (names_members v target)) UnknownNode ∷ calls_spent v ∷ []

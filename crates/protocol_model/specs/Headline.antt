@@ -14,9 +14,10 @@ use Rattle.protocol_model.specs.Course.{Played, Seen, entries_of, course, seen}
 pub use Rattle.protocol_model.specs.Course.{standing, IsRunning}
 use Rattle.protocol_model.specs.Fit.{IsPrefix, IsMadeIn, Fits}
 use Rattle.protocol_model.specs.Answers.{answer_to, answers_at, entered_at, is_unnumbered, AnswersInTime, LooksUpOnce, IsNextProcess, AnswersCalls, JoinerIsAnswered}
-use Rattle.protocol_model.specs.Refusals.{SaysWhy}
+use Rattle.protocol_model.specs.Refusals.{MayLookUp, SaysWhy}
 
--- node a shows all that the registry has for it: its table, its members, whom it was told has left, whether it is joined
+-- node a shows all that the registry has for it: its table, its members, whom it was told has left, whether it is joined, and what
+-- its processes were sent
 abbrev pub Shows : Registry → ℕ → Seen → Type 0
 Shows r a now = now.node a ≡ replica_of r a
 
@@ -54,8 +55,8 @@ pub record Headline (o : Opening) (ps : List Played) (now : Seen) : Type 0 where
   pub decided : DecidedUnderLock o ps now
   -- a look-up is entered once and answered once
   pub looks : (p : Played) → Contains ps p → LooksUpOnce p
-  -- and it is answered what its node shows
-  pub reads : (a : ℕ) (look : Look) → IsRunning o (standing o ps) a →
+  -- and it is answered what its node shows; that of notices, where the process was spawned
+  pub reads : (a : ℕ) (look : Look) → IsRunning o (standing o ps) a → MayLookUp ps a look →
       filter is_unnumbered (now.answers (At a (Event.Calling (Call.LookUp look))))
       ≡ answer_to a 0 (seen_in (now.node a) look) ∷ []
   -- a `spawn` gives the next process

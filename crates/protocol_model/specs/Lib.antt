@@ -34,3 +34,4 @@ pub mod ExitRows
 pub mod LockRows
 pub mod DepartureRows
 pub mod JoinRows
+pub mod RuleRows

@@ -1,11 +1,11 @@
 -- A step of a node that a letter makes.
 -- n: above all nodes of the world. a: this node. number j: the number of j's current join, for the history alone.
-use Rattle.std.specs.Prelude.{ℕ, Bool, true, not, ◌&&◌, ◌||◌, ◌==◌, fold, if◌then◌else◌}
+use Rattle.std.specs.Prelude.{ℕ, Bool, true, not, ◌&&◌, ◌||◌, ◌==◌, ◌++◌, fold, if◌then◌else◌}
 use Rattle.registry_model.specs.Process.{Process, is_process, Nodes, with_node, without_node}
-use Rattle.registry_model.specs.Table.{Table, Put, without}
+use Rattle.registry_model.specs.Table.{Table, Put, Remove, without}
 use Rattle.registry_model.specs.Call.{Joined, NotMember}
-use Rattle.registry_model.specs.Settlement.{Fate, Settled}
-use Rattle.registry_model.specs.Registry.{Replica}
+use Rattle.registry_model.specs.Settlement.{notices_to, Fate, Settled}
+use Rattle.registry_model.specs.Registry.{process_of, Replica}
 use Rattle.registry_model.specs.History.{Entry}
 use Rattle.protocol_model.specs.Letter.{Id, Letter, is_down}
 use Rattle.protocol_model.specs.LockTable.{is_free_for, grant, give_back, drop_holder, drop_node}
@@ -20,18 +20,28 @@ use Rattle.protocol_model.specs.Calling.{kill, queued}
 abbrev pub with_member : ℕ → Replica → Replica
 with_member j v = if v.told j then v else record v { members = with_node j v.members }
 
--- j is admitted: it is a member, and its names are written
-abbrev pub admitted : ℕ → Settled → Replica → Replica
-admitted j settled v = fold (λ replica pair. wrote (Put pair) replica) (with_member j v) settled.puts
+-- what was settled is written: the pairs, then the names that nobody has
+abbrev pub wrote_all : Settled → Replica → Replica
+wrote_all settled v =
+    fold (λ replica x. wrote (Remove x) replica) (fold (λ replica pair. wrote (Put pair) replica) v settled.puts)
+    settled.removes
 
--- what a joined node has of these members and this table, where it was told that these have left
-abbrev pub joined_with : Nodes → Table → Nodes → Replica
-joined_with members pairs gone =
-    record { table = without gone pairs; members = λ c. members c && not (gone c); told = gone; joined = true }
+-- the notices to processes of node a are added to theirs
+abbrev pub noted : ℕ → Fate → Replica → Replica
+noted a fate v = record v { notices = λ serial. v.notices serial ++ notices_to (process_of a serial) fate.notices }
 
--- a lone node is welcomed with what its sponsor has, less what either was told has left
-abbrev pub welcomed : Nodes → Table → Nodes → Replica → Replica
-welcomed members pairs told v = joined_with members pairs (λ d. v.told d || told d)
+-- at node a, j is admitted: it is a member, what was settled is written, and the notices are added
+abbrev pub admitted : ℕ → ℕ → Settled → Replica → Replica
+admitted a j settled v = noted a settled.fate (wrote_all settled (with_member j v))
+
+-- what a node has that has joined these members, with this table, where it was told that these have left
+abbrev pub joined_with : Nodes → Table → Nodes → Replica → Replica
+joined_with members pairs gone v =
+    record v { table = without gone pairs; members = λ c. members c && not (gone c); told = gone; joined = true }
+
+-- node a, which was lone, is welcomed with what its sponsor has, less what either was told has left
+abbrev pub welcomed : ℕ → Nodes → Table → Nodes → Fate → Replica → Replica
+welcomed a members pairs told fate v = noted a fate (joined_with members pairs (λ d. v.told d || told d) v)
 
 -- d is told to have left: it is no member, and what is owned on it goes
 abbrev pub bereft : ℕ → Replica → Replica
@@ -67,12 +77,12 @@ module _ (n a : ℕ) (number : ℕ → ℕ) where
   refused_join f (Current.Joining k m) u = if m == f then reply_with a k NotMember (at_work Current.Free u) else u
   refused_join f _ u = u
 
-  -- a join by f is granted, and who lost a name by it dies
+  -- a join by f is granted, the notices to processes of this node are added, and who dies of it dies
   abbrev pub welcome : ℕ → Nodes → Table → Nodes → Fate → Current → Turn → Turn
   welcome f members pairs told fate (Current.Joining k m) u =
       if m == f
       then send f Letter.Applied (reply_with a k Joined
-      (at_work Current.Free (kill n a fate.kills (with_replica (welcomed members pairs told) u))))
+      (at_work Current.Free (kill n a fate.kills (with_replica (welcomed a members pairs told fate) u))))
       else u
   welcome f members pairs told fate _ u = u
 
@@ -104,7 +114,7 @@ module _ (n a : ℕ) (number : ℕ → ℕ) where
   read f (Letter.JoinAsk pairs) u = asked_to_admit f pairs u
   read f Letter.JoinRefused u = refused_join f u.node.current u
   read f (Letter.Admit j settled) u =
-      send f Letter.Applied (kill n a settled.fate.kills (with_replica (admitted j settled) u))
+      send f Letter.Applied (kill n a settled.fate.kills (with_replica (admitted a j settled) u))
   read f (Letter.Welcome members pairs told fate) u = welcome f members pairs told fate u.node.current u
   read f Letter.Down u = bereave f u
 

@@ -6,6 +6,7 @@ use mathlib.Core.Logic.{◌⊎◌}
 use Rattle.std.specs.Prelude.{ℕ, true, false, ◌-◌, ◌≡◌, ◌<◌, ◌≤◌, ◌↔◌, Contains, Some, length, List, []}
 use Rattle.std.specs.List.{slice_get}
 use Rattle.registry_model.specs.Process.{Text, Process}
+use Rattle.registry_model.specs.Call.{Look, Whereis, RegisteredNames, NoticesOf}
 use Rattle.protocol_model.specs.Node.{Target, Named, Retries}
 use Rattle.protocol_model.specs.Event.{Call, Event, Refusal, NoSuchNode, NodeLeft, NotLive, Busy, Reserved, UnknownNode, AlreadyJoined, NoSuchProcess, AlreadyExited, SerialsSpent, CallsSpent, last_u32, global_resource}
 use Rattle.protocol_model.specs.World.{Opening, in_world, WorldEvent, At, place, other}
@@ -34,6 +35,17 @@ pub record IsIssuedBy (ps : List Played) (a : ℕ) (p : Process) : Type 0 where
   pub beside : last.node ≡ a
   pub spawned : WasSpawned ps last
   pub least : p.serial ≤ last.serial
+
+-- the event is the exit of p at a, or a look at its notices there
+pub data NeedsProcess (a : ℕ) (p : Process) : WorldEvent → Type 0 where
+  Exits : NeedsProcess a p (At a (Event.Exiting p))
+  Looks : NeedsProcess a p (At a (Event.Calling (Call.LookUp (NoticesOf p))))
+
+-- a look-up that a takes: of names, or of the notices of a process with the serial of one that was spawned there, or a lesser one
+pub data MayLookUp (ps : List Played) (a : ℕ) : Look → Type 0 where
+  OfName : (x : Text) → MayLookUp ps a (Whereis x)
+  OfNames : MayLookUp ps a RegisteredNames
+  OfNotices : (p : Process) → IsIssuedBy ps a p → MayLookUp ps a (NoticesOf p)
 
 -- a node is named that isn't among the members that a shows
 pub record NamesStranger (now : Seen) (a : ℕ) (target : Target) : Type 0 where
@@ -124,12 +136,12 @@ module _ (o : Opening) (ps : List Played) (now : Seen) (e : WorldEvent) where
     pub call : e ≡ At node (Event.Calling (Call.JoinBy contact))
     pub joined : ((now.node node).joined ≡ true) ⊎ WaitsToJoin ps node
 
-  -- the exit of what isn't a process of its node, or wasn't spawned yet
-  pub record IsExitOfNone : Type 0 where
+  -- the exit of what isn't a process of its node, or wasn't spawned yet, or a look at its notices
+  pub record IsOfNone : Type 0 where
     pub found : FindsItsNode
     pub node : ℕ
     pub process : Process
-    pub exit : e ≡ At node (Event.Exiting process)
+    pub needs : NeedsProcess node process e
     pub none : IsIssuedBy ps node process → ⊥
 
   -- the exit of a process that is dead
@@ -169,7 +181,7 @@ pub record SaysWhy (o : Opening) (ps : List Played) (now : Seen) : Type 0 where
   pub reserved : (e : WorldEvent) → (now.refusal e ≡ Some Reserved) ↔ IsForGlobal o ps now e
   pub unknown_node : (e : WorldEvent) → (now.refusal e ≡ Some UnknownNode) ↔ IsForStranger o ps now e
   pub already_joined : (e : WorldEvent) → (now.refusal e ≡ Some AlreadyJoined) ↔ IsJoinOfJoined o ps now e
-  pub no_such_process : (e : WorldEvent) → (now.refusal e ≡ Some NoSuchProcess) ↔ IsExitOfNone o ps now e
+  pub no_such_process : (e : WorldEvent) → (now.refusal e ≡ Some NoSuchProcess) ↔ IsOfNone o ps now e
   pub already_exited : (e : WorldEvent) → (now.refusal e ≡ Some AlreadyExited) ↔ IsExitOfDead o ps now e
   pub serials_spent : (e : WorldEvent) → (now.refusal e ≡ Some SerialsSpent) ↔ IsBeyondSerials o ps now e
   pub calls_spent : (e : WorldEvent) → (now.refusal e ≡ Some CallsSpent) ↔ IsBeyondCalls o ps now e

@@ -1,9 +1,10 @@
 -- The words in which rows are written.
-use Rattle.std.specs.Prelude.{ℕ, ◌==◌, List, ◌∷◌, ◌++◌}
+use Rattle.std.specs.Prelude.{ℕ, ◌==◌, Some, None, List, ◌∷◌, ◌++◌}
 use Rattle.std.specs.List.{list_any}
 use Rattle.registry_model.specs.Process.{Text, Process}
-use Rattle.registry_model.specs.Table.{Table}
-use Rattle.registry_model.specs.Call.{NameCall, Reply, Whereis, RegisteredNames}
+use Rattle.registry_model.specs.Table.{Rule, Table}
+use Rattle.registry_model.specs.Call.{NameCall, Reply, Whereis, RegisteredNames, NoticesOf}
+use Rattle.registry_model.specs.Settlement.{Notice}
 use Rattle.protocol_model.specs.Node.{All, Named, Retries, Times}
 use Rattle.protocol_model.specs.Event.{Call, Event}
 use Rattle.protocol_model.specs.World.{Opening, At, Deliver}
@@ -87,11 +88,18 @@ call n deed = Play (At n (Event.Calling deed))
 abbrev pub spawn : ℕ → Line
 spawn n = call n Call.Spawn
 
-abbrev pub register : ℕ → Text → Process → Line
-register n name owner = call n (Call.OnName (NameCall.Register (record { name = name; owner = owner })))
+abbrev pub register_under : ℕ → Text → Process → Rule → Line
+register_under n name owner rule =
+    call n (Call.OnName (NameCall.Register (record { name = name; owner = owner; rule = rule })))
 
+-- a `register` under the usual rule
+abbrev pub register : ℕ → Text → Process → Line
+register n name owner = register_under n name owner Rule.Exit
+
+-- a `re_register` under the usual rule
 abbrev pub re_register : ℕ → Text → Process → Line
-re_register n name owner = call n (Call.OnName (NameCall.ReRegister (record { name = name; owner = owner })))
+re_register n name owner =
+    call n (Call.OnName (NameCall.ReRegister (record { name = name; owner = owner; rule = Rule.Exit })))
 
 abbrev pub unregister : ℕ → Text → Line
 unregister n name = call n (Call.OnName (NameCall.Unregister name))
@@ -101,6 +109,9 @@ whereis n name = call n (Call.LookUp (Whereis name))
 
 abbrev pub names : ℕ → Line
 names n = call n (Call.LookUp RegisteredNames)
+
+abbrev pub notices : Process → Line
+notices process = call process.node (Call.LookUp (NoticesOf process))
 
 -- a `set_lock` of all members, with this many retries
 abbrev pub set_lock : Process → Text → Text → ℕ → Line
@@ -152,6 +163,22 @@ shown n reply = said n 0 reply
 abbrev pub given : Process → Output
 given process = shown process.node (Reply.Pid process)
 
+-- the process was sent these
+abbrev pub sent : Process → List Notice → Output
+sent process notices = shown process.node (Reply.Notices notices)
+
+-- it lost the name to another process
+abbrev pub lost : Text → Notice
+lost name = record { name = name; other = None }
+
+-- it lost the name, and so did the other
+abbrev pub lost_as : Text → Process → Notice
+lost_as name other = record { name = name; other = Some other }
+
 -- the table with one pair in front
+abbrev pub owned_under : Text → Process → Rule → Table → Table
+owned_under name owner rule table = record { name = name; owner = owner; rule = rule } ∷ table
+
+-- one under the usual rule
 abbrev pub owned : Text → Process → Table → Table
-owned name owner table = record { name = name; owner = owner } ∷ table
+owned name owner table = owned_under name owner Rule.Exit table

@@ -1,8 +1,8 @@
 -- Tests that tell whether two values are one, for the checks of rows.
 use Rattle.std.specs.Prelude.{ℕ, Bool, true, false, not, ◌&&◌, ◌==◌, List, [], ◌∷◌}
 use Rattle.registry_model.specs.Process.{is_process, Nodes}
-use Rattle.registry_model.specs.Table.{Pair, Table}
-use Rattle.registry_model.specs.Call.{NameCall, Look, Whereis, RegisteredNames, is_reply}
+use Rattle.registry_model.specs.Table.{Rule, Exit, Notify, NotifyAll, Pair, Table}
+use Rattle.registry_model.specs.Call.{NameCall, Look, Whereis, RegisteredNames, NoticesOf, is_reply}
 use Rattle.registry_model.specs.Registry.{Replica}
 use Rattle.registry_model.specs.History.{Entry}
 use Rattle.protocol_model.specs.Round.{is_empty}
@@ -30,15 +30,23 @@ is_prefix is [] ys = true
 is_prefix is (x ∷ xs) [] = false
 is_prefix is (x ∷ xs) (y ∷ ys) = is x y && is_prefix is xs ys
 
+-- whether two rules are one
+abbrev pub is_rule : Rule → Rule → Bool
+is_rule Exit Exit = true
+is_rule Notify Notify = true
+is_rule NotifyAll NotifyAll = true
+is_rule _ _ = false
+
 -- whether two pairs of a table are one
 abbrev pub is_pair : Pair → Pair → Bool
-is_pair f g = (f.name == g.name) && is_process f.owner g.owner
+is_pair f g = (f.name == g.name) && is_process f.owner g.owner && is_rule f.rule g.rule
 
 -- whether two tables are one
 abbrev pub is_table : Table → Table → Bool
 is_table t u = is_list is_pair t u
 
--- whether two replicas are one, as far as the nodes below n
+-- whether two replicas are one, as far as the nodes below n; but for notices, of which there is a list for each serial: look-ups show
+-- them
 abbrev pub is_replica : ℕ → Replica → Replica → Bool
 is_replica n v u =
     is_table v.table u.table && are_nodes n v.members u.members && are_nodes n v.told u.told
@@ -61,6 +69,7 @@ is_numbered_call _ _ = false
 abbrev pub is_look : Look → Look → Bool
 is_look (Whereis x) (Whereis y) = x == y
 is_look RegisteredNames RegisteredNames = true
+is_look (NoticesOf p) (NoticesOf q) = is_process p q
 is_look _ _ = false
 
 -- whether two answers are one

@@ -12,6 +12,7 @@ ghost use Rattle.protocol_model.specs.ExitRows.{second_name_and_both_struck, own
 ghost use Rattle.protocol_model.specs.LockRows.{holders_are_counted, retries_and_a_dead_holder, one_lock_call_at_a_time, locks_at_named_nodes, retries_without_end, set_twice_deleted_twice, refused_lock_call_gives_all_back, two_requesters_at_once, all_members_are_asked, retry_asks_the_members_of_now, asked_behind_a_deletion};
 ghost use Rattle.protocol_model.specs.DepartureRows.{boss_leaves_while_asked, owner_leaves_between_grant_and_write, no_leave_in_a_hold, departed_holder_keeps_nothing, one_notice_ends_many_rounds, no_node_left_to_ask, round_goes_on_without_a_departed_node, boss_leaves_after_its_grant, deletion_goes_on_without_a_departed_node};
 ghost use Rattle.protocol_model.specs.JoinRows.{cluster_wins_the_clash, joiner_wins_the_clash, members_grow_during_a_round, refused_joins, owner_leaves_during_an_admission, member_joins_again, welcome_on_its_way, joiner_leaves_early, killed_holder_keeps_no_lock, killed_before_it_was_spawned, departure_learnt_by_a_welcome, contact_known_to_have_left, departed_node_is_not_read, one_join_at_a_time, admitted_joiner_has_left};
+ghost use Rattle.protocol_model.specs.RuleRows.{loser_is_notified, both_are_notified, winner_keeps_its_rule, notices_of_who_isnt_there, name_goes_at_each_member};
 
 /// What calls on names answer, and what look-ups see of them.
 pub fn names_are_those_of_one_registry()
@@ -93,6 +94,15 @@ pub fn lone_nodes_join()
     ensures departed_node_is_not_read { Computes departed_node_is_not_read }
     ensures one_join_at_a_time { Computes one_join_at_a_time }
     ensures admitted_joiner_has_left { Computes admitted_joiner_has_left }
+{}
+
+/// What becomes of a name that a joiner and the cluster have, by the rule of the cluster's entry.
+pub fn rules_decide_clashes()
+    ensures loser_is_notified { Computes loser_is_notified }
+    ensures both_are_notified { Computes both_are_notified }
+    ensures winner_keeps_its_rule { Computes winner_keeps_its_rule }
+    ensures notices_of_who_isnt_there { Computes notices_of_who_isnt_there }
+    ensures name_goes_at_each_member { Computes name_goes_at_each_member }
 {}
 
 /// How often each holder has its lock at a node, behind the lines of two rows.

@@ -8,36 +8,32 @@ use Rattle.registry_model.specs.Registry.{Registry, in_group, table_of, with_tab
 use Rattle.registry_model.proofs.Updates.{at_same, at_other}
 use Rattle.registry_model.proofs.Tables.{if_kept, get-without}
 
--- a change of a table leaves who is joined
-pub joined-with_table : (m : ℕ) (f : Table → Table) (r : Registry) → (with_table m f r).joined ≡ r.joined
-joined-with_table m f r = go (r.joined m)
-  where
-    go : (b : Bool) → (if b then record r { table = f r.table } else record r {
-      lone =
-          at r.lone m (f (r.lone m));
-    }).joined ≡ r.joined
-    go true = refl
-    go false = refl
-
--- and who was told what
-pub told-with_table : (m : ℕ) (f : Table → Table) (r : Registry) → (with_table m f r).told ≡ r.told
-told-with_table m f r = go (r.joined m)
-  where
-    go : (b : Bool) → (if b then record r { table = f r.table } else record r {
-      lone =
-          at r.lone m (f (r.lone m));
-    }).told ≡ r.told
-    go true = refl
-    go false = refl
-
--- and who has left
-pub left-with_table : (m : ℕ) (f : Table → Table) (r : Registry) → (with_table m f r).left ≡ r.left
-left-with_table m f r = go (r.joined m)
+-- what a change of a table leaves alone, whichever table it is
+keeps-with_table : {A : Type 0} (part : Registry → A) (m : ℕ) (f : Table → Table) (r : Registry)
+    → part (record r { table = f r.table }) ≡ part r → part (record r { lone = at r.lone m (f (r.lone m)) }) ≡ part r
+    → part (with_table m f r) ≡ part r
+keeps-with_table part m f r joined lone = go (r.joined m)
   where
     go : (b : Bool) →
-        (if b then record r { table = f r.table } else record r { lone = at r.lone m (f (r.lone m)) }).left ≡ r.left
-    go true = refl
-    go false = refl
+        part (if b then record r { table = f r.table } else record r { lone = at r.lone m (f (r.lone m)) }) ≡ part r
+    go true = joined
+    go false = lone
+
+-- who is joined
+pub joined-with_table : (m : ℕ) (f : Table → Table) (r : Registry) → (with_table m f r).joined ≡ r.joined
+joined-with_table m f r = keeps-with_table (λ (s : Registry). s.joined) m f r refl refl
+
+-- who was told what
+pub told-with_table : (m : ℕ) (f : Table → Table) (r : Registry) → (with_table m f r).told ≡ r.told
+told-with_table m f r = keeps-with_table (λ (s : Registry). s.told) m f r refl refl
+
+-- who has left
+pub left-with_table : (m : ℕ) (f : Table → Table) (r : Registry) → (with_table m f r).left ≡ r.left
+left-with_table m f r = keeps-with_table (λ (s : Registry). s.left) m f r refl refl
+
+-- who was sent what
+pub notices-with_table : (m : ℕ) (f : Table → Table) (r : Registry) → (with_table m f r).notices ≡ r.notices
+notices-with_table m f r = keeps-with_table (λ (s : Registry). s.notices) m f r refl refl
 
 -- a node is of its group
 pub in_group-itself : (r : Registry) (n : ℕ) → in_group r n n ≡ true

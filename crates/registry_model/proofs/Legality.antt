@@ -5,12 +5,13 @@ use Rattle.std.proofs.lemmas.Bool.{and_parts, not-true}
 use Rattle.std.proofs.lemmas.Slice.Eq.{bytes_eq-Decides}
 use Rattle.registry_model.specs.Process.{Text, Process, Nodes}
 use Rattle.registry_model.specs.Table.{Pair, Table, get, owns}
-use Rattle.registry_model.specs.Call.{NameCall, Register, ReRegister, Reply, Yes, No, Ok, UnknownNode, True, False, Joined, NotMember, ContactLeft, Pid, Undefined, Names, is_reply, is_grant, reply_to}
+use Rattle.registry_model.specs.Call.{NameCall, Register, ReRegister, Reply, Yes, No, Ok, UnknownNode, True, False, Joined, NotMember, ContactLeft, Pid, Undefined, Names, Notices, is_reply, is_grant, reply_to}
+use Rattle.registry_model.specs.Settlement.{Notice}
 use Rattle.registry_model.specs.Registry.{view, members}
 use Rattle.registry_model.specs.History.{Entry, Name, Strike, Join, Done, Exit, Left, Told, Read, Standing, is_free}
 use Rattle.registry_model.specs.Legal.{is_legal, is_legal_name, is_legal_admission, may_decide}
 use Rattle.registry_model.specs.HistoryLaws.{decided_by}
-use Rattle.registry_model.proofs.Lists.{is_process-true}
+use Rattle.registry_model.proofs.Lists.{is_process-true, are_notices-true}
 
 -- replies that pass the test are one
 pub is_reply-true : (r s : Reply) → is_reply r s ≡ true → r ≡ s
@@ -26,6 +27,7 @@ is_reply-true ContactLeft ContactLeft e = refl
 is_reply-true (Pid p) (Pid q) e = ap (λ (r : Process). Pid r) (is_process-true p q e)
 is_reply-true Undefined Undefined e = refl
 is_reply-true (Names xs) (Names ys) e = ap (λ (zs : List Text). Names zs) ((bytes_eq-Decides xs ys).0 e)
+is_reply-true (Notices fs) (Notices gs) e = ap (λ (hs : List Notice). Notices hs) (are_notices-true fs gs e)
 is_reply-true _ _ e = cc
 
 -- a legal name call

@@ -7,12 +7,14 @@ pub mod Changes
 pub mod Replies
 pub mod LookUps
 pub mod Settling
+pub mod Settlements
 pub mod HistoryParts
 pub mod Rising
 pub mod Groups
 pub mod Legality
 pub mod Deaths
 pub mod Holding
-pub mod LoneOwners
+pub mod OwnerNodes
+pub mod Untold
 pub mod NamesStand
 pub mod Outcomes

@@ -1,11 +1,13 @@
 -- Lists: what they contain, induction from their ends, and processes as elements.
-use Rattle.std.proofs.Common.{ℕ, zero, suc, Bool, true, false, ◌==◌, ◌≡◌, List, [], ◌∷◌, ◌++◌, refl, sym, subst, ap, inl, inr, arith}
+use Rattle.std.proofs.Common.{ℕ, zero, suc, Bool, true, false, ◌==◌, ◌≡◌, Option, Some, None, List, [], ◌∷◌, ◌++◌, refl, sym, subst, ap, inl, inr, arith}
 use Rattle.std.specs.Prelude.{◌⊎◌, ◌||◌, Contains}
 use Rattle.std.specs.List.{list_any}
 use Rattle.std.proofs.Math.Path.{ap₂}
 use Rattle.std.proofs.lemmas.List.{append_assoc, append-nil}
 use Rattle.std.proofs.lemmas.Bool.{eq-eqb, eqb-true, and_parts, and_from, false_from_ne_true}
-use Rattle.registry_model.specs.Process.{Process, is_process}
+use Rattle.registry_model.specs.Process.{Text, Process, is_process}
+use Rattle.registry_model.specs.Settlement.{Notice}
+use Rattle.registry_model.specs.Call.{is_other, is_notice, are_notices}
 
 -- what a list contains is its front or behind it
 pub Contains-cases : {X : Type 0} (y : X) (xs : List X) (x : X) → Contains (y ∷ xs) x → (y ≡ x) ⊎ Contains xs x
@@ -96,3 +98,36 @@ Contains-list_any p (q ∷ ps) e = go (is_process p q) refl (Contains-list_any p
         (b || list_any (is_process p) ps) ≡ true → Contains (q ∷ ps) p
     go true k h e = subst (λ (r : Process). Contains (r ∷ ps) p) (is_process-true p q k) (Contains-front p ps)
     go false k h e = Contains-behind q ps p (h e)
+
+-- two processes that pass the test are one, if there are any
+is_other-true : (p q : Option Process) → is_other p q ≡ true → p ≡ q
+is_other-true None None e = refl
+is_other-true (Some p) (Some q) e = ap (λ (r : Process). let o : Option Process = Some r in o) (is_process-true p q e)
+is_other-true _ _ e = cc
+
+-- notices that pass the test are one
+is_notice-true : (f g : Notice) → is_notice f g ≡ true → f ≡ g
+is_notice-true f g e =
+    let both : (f.name == g.name ≡ true) × (is_other f.other g.other ≡ true) =
+    and_parts (f.name == g.name) (is_other f.other g.other) e in
+    ap₂ (λ (x : Text) (o : Option Process). let n : Notice = record { name = x; other = o } in
+    n) (eqb-true f.name g.name both.0) (is_other-true f.other g.other both.1)
+
+-- and so are lists of them
+pub are_notices-true : (fs gs : List Notice) → are_notices fs gs ≡ true → fs ≡ gs
+are_notices-true [] [] e = refl
+are_notices-true (f ∷ fs) (g ∷ gs) e =
+    let both : (is_notice f g ≡ true) × (are_notices fs gs ≡ true) = and_parts (is_notice f g) (are_notices fs gs) e in
+    ap₂ (λ (h : Notice) (hs : List Notice). h ∷ hs) (is_notice-true f g both.0) (are_notices-true fs gs both.1)
+are_notices-true _ _ e = cc
+
+-- a process is the other that it is
+is_other-same : (p : Option Process) → is_other p p ≡ true
+is_other-same None = refl
+is_other-same (Some p) = is_process-same p
+
+-- lists of notices are themselves
+pub are_notices-same : (fs : List Notice) → are_notices fs fs ≡ true
+are_notices-same [] = refl
+are_notices-same (f ∷ fs) =
+    and_from _ _ (and_from (f.name == f.name) _ (eq-eqb f.name f.name refl) (is_other-same f.other)) (are_notices-same fs)

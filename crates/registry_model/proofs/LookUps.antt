@@ -7,10 +7,10 @@ use Rattle.std.proofs.lemmas.List.Kept.{AllPairs-cons}
 use Rattle.std.proofs.lemmas.List.Elements.{Contains-get_or}
 use Rattle.registry_model.specs.Process.{Text, Process}
 use Rattle.registry_model.specs.Table.{Table, is_below, is_rising, get, names}
-use Rattle.registry_model.specs.Call.{Look, Whereis, RegisteredNames, Reply, Names, pid_or_undefined, seen_in}
+use Rattle.registry_model.specs.Call.{Look, Whereis, RegisteredNames, NoticesOf, Reply, Names, pid_or_undefined, seen_in}
 use Rattle.registry_model.specs.Registry.{Replica}
 use Rattle.registry_model.specs.SharedLaws.{AreNames, IsSeenIn}
-use Rattle.registry_model.specs.SharedLaws.IsSeenIn.{OwnerOf, NoOwnerOf, AllNames}
+use Rattle.registry_model.specs.SharedLaws.IsSeenIn.{OwnerOf, NoOwnerOf, AllNames, SentTo}
 use Rattle.registry_model.proofs.Lists.{Contains-cases, Contains-front, Contains-behind, Contains-nil}
 use Rattle.registry_model.proofs.Tables.{is_rising-parts, is_below-less, get-front, get-behind}
 
@@ -127,6 +127,7 @@ pub seen_in-from_words : (v : Replica) (look : Look) (r : Reply) → is_rising v
 seen_in-from_words v look r rises (OwnerOf x p h) = rw h refl
 seen_in-from_words v look r rises (NoOwnerOf x h) = rw h refl
 seen_in-from_words v look r rises (AllNames xs a) = ap (λ (ys : List Text). Names ys) (names-AreNames v.table xs rises a)
+seen_in-from_words v look r rises (SentTo p) = refl
 
 -- the function's reply in words
 pub seen_in_words : (v : Replica) (look : Look) → is_rising v.table ≡ true → IsSeenIn v look (seen_in v look)
@@ -136,6 +137,7 @@ seen_in_words v (Whereis x) rises = go (get x v.table) refl
     go None h = NoOwnerOf x h
     go (Some p) h = OwnerOf x p h
 seen_in_words v RegisteredNames rises = AllNames (names v.table) (AreNames-names v.table rises)
+seen_in_words v (NoticesOf p) rises = SentTo p
 
 -- each look-up has one reply
 pub look_law : (v : Replica) (look : Look) (r : Reply) → is_rising v.table ≡ true → IsSeenIn v look r ↔ (r ≡ seen_in v look)

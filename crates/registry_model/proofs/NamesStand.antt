@@ -1,27 +1,27 @@
 -- A name that a node sees stands until an entry takes it.
-use Rattle.std.proofs.Common.{ℕ, Bool, true, false, ◌≡◌, Some, None, List, [], ◌∷◌, ◌++◌, refl, sym, subst, ap, ◌∙◌, inl, inr}
-use Rattle.std.specs.Prelude.{◌⊎◌, if◌then◌else◌, not, ◌||◌}
+use Rattle.std.proofs.Common.{ℕ, Bool, true, false, ◌==◌, ◌≡◌, ◌<◌, ◌≤◌, Option, Some, None, List, [], ◌∷◌, ◌++◌, refl, sym, subst, ap, ◌∙◌, inl, inr, arith}
+use Rattle.std.specs.Prelude.{◌⊎◌, if◌then◌else◌, not, ◌||◌, nat_lt}
 use Rattle.std.proofs.Math.Path.{ap₂}
-use Rattle.std.proofs.lemmas.Bool.{cases_eq, cases_lt, ne_eqb, lt-ltb, le-ltb, or_from}
+use Rattle.std.proofs.lemmas.Bool.{cases_eq, cases_lt, eq-eqb, ne_eqb, lt-ltb, le-ltb, or_from, or_left, or_right}
 use Rattle.registry_model.specs.Process.{Text, Process, is_process, Nodes, at}
-use Rattle.registry_model.specs.Table.{Table, Change, get, put_all, without, changed, Put, Remove, StrikeOwner}
+use Rattle.registry_model.specs.Table.{Rule, Exit, Notify, NotifyAll, Pair, Table, Change, get, entry, without, changed, Put, Remove, StrikeOwner}
 use Rattle.registry_model.specs.Call.{NameCall, Register, ReRegister, Unregister, Reply, Yes, Joined, is_grant, change_of}
-use Rattle.registry_model.specs.Settlement.{settle}
+use Rattle.registry_model.specs.Settlement.{with_settled, settle}
 use Rattle.registry_model.specs.Registry.{Registry, in_group, table_of, with_table, view, members}
-use Rattle.registry_model.specs.History.{Entry, Name, Strike, Join, Done, Exit, Left, Told, Read, effect, registry_of, Standing, standing_of}
+use Rattle.registry_model.specs.History.{Entry, Name, Strike, Join, Done, Left, Told, Read, effect, registry_of, Standing, standing_of}
 use Rattle.registry_model.specs.Legal.{is_legal, IsLegal}
 use Rattle.registry_model.specs.HistoryLaws.{Takes, NamesStand, IsFreeFor, YesToTheFree}
-use Rattle.registry_model.specs.HistoryLaws.Takes.{GivenUp, Replaced, Struck, Departed, Retaken, LostToJoiner, RetakenByJoiner, LostToCluster}
-use Rattle.registry_model.proofs.Lists.{cases_process, is_process-other}
+use Rattle.registry_model.specs.HistoryLaws.Takes.{GivenUp, Replaced, Struck, Departed, Retaken, LostToJoiner, RetakenByJoiner, LostToCluster, LostToBoth}
+use Rattle.registry_model.proofs.Lists.{cases_process, is_process-eq, is_process-other}
 use Rattle.registry_model.proofs.Updates.{at_same, at_other}
-use Rattle.registry_model.proofs.Tables.{pair, if_kept, or_else, get-put, get-remove, get-strike, is_rising-changed, is_rising-put_all}
-use Rattle.registry_model.proofs.Changes.{cases_owner}
-use Rattle.registry_model.proofs.Settling.{wins, get-settled}
+use Rattle.registry_model.proofs.Tables.{if_kept, owner_in, get-entry, get_from_entry, get_from_none, entry_from_get, get-put, get-remove, get-strike, is_rising-changed, is_rising-with_settled}
+use Rattle.registry_model.proofs.Changes.{cases_option}
+use Rattle.registry_model.proofs.Settling.{wins_under, goes_under, behind, entry-settled}
 use Rattle.registry_model.proofs.HistoryParts.{registry_of-push, registry-standing_of, is_legal-at, IsLegal-front}
 use Rattle.registry_model.proofs.Rising.{Rises, is_rising-table_of}
 use Rattle.registry_model.proofs.Groups.{told-with_table, table_of-group, table_of-with_table, table_of-with_table_other, get-seen, seen-get, get-unseen}
 use Rattle.registry_model.proofs.Legality.{NameIsLegal, name_is_legal, JoinIsLegal, join_is_legal, YesToRegister, yes_to_register, granted_register, granted_re_register}
-use Rattle.registry_model.proofs.LoneOwners.{IsGood, IsGood-standing_of}
+use Rattle.registry_model.proofs.OwnerNodes.{IsGood, IsGood-standing_of}
 
 -- n sees p under the name still, or the entry takes it
 abbrev pub Stands : Registry → ℕ → Text → Process → Entry → Type 0
@@ -134,15 +134,45 @@ stands-told r m d n x p g h = elim (cases_eq n m) [
 
 -- who has a name in the cluster's table once j has joined
 pub get-joined : (r : Registry) (j m : ℕ) → Rises r → (x : Text) →
-    get x (put_all (settle (view r m) (r.lone j)).puts r.table)
-    ≡ or_else (if_kept (λ q. wins (pair x q) (get x (view r m))) (get x (r.lone j))) (get x r.table)
-get-joined r j m g x = get-settled r.table (view r m) (r.lone j) (g.lone j) x
+    get x (with_settled (settle (view r m) (r.lone j)) r.table)
+    ≡ owner_in (behind (entry x (r.lone j)) (entry x (view r m)) (entry x r.table))
+get-joined r j m g x =
+    get-entry x (with_settled (settle (view r m) (r.lone j)) r.table)
+    ∙ ap owner_in (entry-settled r.table (view r m) (r.lone j) (g.lone j) x)
+
+-- how a name of both goes on: to one of both whose process is the other's, or on the lesser node, or to nobody under `notify_all`
+pub data Clash (e own : Pair) (over : Option Pair) : Type 0 where
+  JoinerHas : behind (Some e) (Some own) over ≡ Some e → e.owner.node < own.owner.node → Clash e own over
+  ClusterHas : behind (Some e) (Some own) over ≡ over → own.owner.node ≤ e.owner.node → Clash e own over
+  NobodyHas : own.rule ≡ NotifyAll → Clash e own over
+
+-- one of these
+pub cases_clash : (e own : Pair) (over : Option Pair) → Clash e own over
+cases_clash e own over = go (cases_process e.owner own.owner)
+  where
+    go : (e.owner ≡ own.owner) ⊎ (e.owner ≡ own.owner → ⊥) → Clash e own over
+    go (inl i) = ClusterHas (rw (is_process-eq e.owner own.owner i) refl)
+        (let n : e.owner.node ≡ own.owner.node = ap (λ (p : Process). p.node) i in omega (arith, n))
+    go (inr ne) = by own.rule refl (cases_lt e.owner.node own.owner.node)
+      where
+        under : (rule : Rule) → own.rule ≡ rule → (b : Bool) → nat_lt e.owner.node own.owner.node ≡ b →
+            behind (Some e) (Some own) over
+            ≡ (if goes_under rule then None else (if wins_under rule b then Some e else over))
+        under rule k b l = rw (is_process-other e.owner own.owner ne) (rw (k, l) refl)
+
+        by : (rule : Rule) → own.rule ≡ rule → (e.owner.node < own.owner.node) ⊎ (own.owner.node ≤ e.owner.node) →
+            Clash e own over
+        by NotifyAll k l = NobodyHas k
+        by Exit k (inl l) = JoinerHas (under Exit k true (lt-ltb e.owner.node own.owner.node l)) l
+        by Exit k (inr l) = ClusterHas (under Exit k false (le-ltb e.owner.node own.owner.node l)) l
+        by Notify k (inl l) = JoinerHas (under Notify k true (lt-ltb e.owner.node own.owner.node l)) l
+        by Notify k (inr l) = ClusterHas (under Notify k false (le-ltb e.owner.node own.owner.node l)) l
 
 -- a join, as the joiner sees it
 pub stands-own_join : (s : Standing) (j k m : ℕ) (x : Text) (p : Process) → JoinIsLegal s j m → IsGood s.registry →
     get x (view s.registry j) ≡ Some p →
     Stands s.registry j x p (Join j k m Joined)
-stands-own_join s j k m x p l g h = go (cases_owner (get x (view r m)))
+stands-own_join s j k m x p l g h = go (cases_option (entry x (view r m)))
   where
     r : Registry
     r = s.registry
@@ -157,7 +187,7 @@ stands-own_join s j k m x p l g h = go (cases_owner (get x (view r m)))
     own = (g.owners.own j l.lone).owner x p had
 
     written : Table
-    written = put_all (settle (view r m) (r.lone j)).puts r.table
+    written = with_settled (settle (view r m) (r.lone j)) r.table
 
     told : Nodes
     told d = r.told j d || r.told m d
@@ -170,14 +200,26 @@ stands-own_join s j k m x p l g h = go (cases_owner (get x (view r m)))
         ap₂ (λ (b : Bool) (gone : Nodes). get x (without gone (if b then written else at r.lone j [] j)))
         (at_same r.joined j true) (at_same r.told j told)
         ∙ seen-get told written
-        (is_rising-put_all (settle (view r m) (r.lone j)).puts r.table g.rises.table) x p w untold
+        (is_rising-with_settled (settle (view r m) (r.lone j)) r.table g.rises.table) x p w untold
 
-    go : ((q : Process) × (get x (view r m) ≡ Some q)) ⊎ (get x (view r m) ≡ None) → Stands r j x p (Join j k m Joined)
-    go (inl (q, e)) = elim (cases_lt p.node q.node) [
-      | inl less ↦ inl (keeps (get-joined r j m g.rises x ∙ rw (had, e) (rw (lt-ltb p.node q.node less) refl)))
-      | inr more ↦ inr (LostToCluster k m q e more)
+    mine : (e : Pair) × (entry x (r.lone j) ≡ Some e) × (e.owner ≡ p) × (e.name ≡ x)
+    mine = entry_from_get x (r.lone j) p had
+
+    node : mine.0.owner.node ≡ p.node
+    node = ap (λ (p : Process). p.node) mine.2
+
+    behind_is : (o : Option Pair) → entry x (view r m) ≡ o →
+        get x written ≡ owner_in (behind (Some mine.0) o (entry x r.table))
+    behind_is o h = get-joined r j m g.rises x ∙ rw (mine.1, h) refl
+
+    go : ((theirs : Pair) × (entry x (view r m) ≡ Some theirs)) ⊎ (entry x (view r m) ≡ None) → Stands r j x p (Join j k m Joined)
+    go (inl (theirs, e)) = elim (cases_clash mine.0 theirs (entry x r.table)) [
+      | JoinerHas b less ↦ inl (keeps (behind_is (Some theirs) e ∙ ap owner_in b
+          ∙ ap (λ (q : Process). let o : Option Process = Some q in o) mine.2))
+      | ClusterHas b more ↦ inr (LostToCluster k m theirs.owner (get_from_entry x (view r m) theirs e) (omega (arith, node, more)))
+      | NobodyHas i ↦ inr (LostToBoth j k m p theirs (or_right (r.joined j) (j == j) (eq-eqb j j refl)) had e i)
     ]
-    go (inr e) = inl (keeps (get-joined r j m g.rises x ∙ rw (had, e) refl))
+    go (inr e) = inl (keeps (behind_is None e ∙ ap (λ (q : Process). let o : Option Process = Some q in o) mine.2))
 
 -- a join, as another node sees it
 pub stands-other_join : (s : Standing) (j k m n : ℕ) (x : Text) (p : Process) → (n ≡ j → ⊥) → JoinIsLegal s j m →
@@ -189,7 +231,7 @@ stands-other_join s j k m n x p ne l g h = go (r.joined n) refl
     r = s.registry
 
     written : Table
-    written = put_all (settle (view r m) (r.lone j)).puts r.table
+    written = with_settled (settle (view r m) (r.lone j)) r.table
 
     told : Nodes
     told d = r.told j d || r.told m d
@@ -203,7 +245,7 @@ stands-other_join s j k m n x p ne l g h = go (r.joined n) refl
 
     go : (b : Bool) → r.joined n ≡ b → Stands r n x p (Join j k m Joined)
     go false i = inl (same ∙ rw i (rw i at h))
-    go true i = by (cases_owner (get x (r.lone j))) (cases_owner (get x (view r m)))
+    go true i = by (cases_option (entry x (r.lone j))) (cases_option (entry x (view r m)))
       where
         seen : (get x r.table ≡ Some p) × (r.told n p.node ≡ false)
         seen = get-seen (r.told n) r.table g.rises.table x p (rw i at h)
@@ -211,28 +253,35 @@ stands-other_join s j k m n x p ne l g h = go (r.joined n) refl
         keeps : get x written ≡ Some p → get x (view (effect (Join j k m Joined) r) n) ≡ Some p
         keeps w = same ∙ rw i
             (seen-get (r.told n) written
-            (is_rising-put_all (settle (view r m) (r.lone j)).puts r.table g.rises.table) x p w seen.1)
+            (is_rising-with_settled (settle (view r m) (r.lone j)) r.table g.rises.table) x p w seen.1)
 
-        by : ((q : Process) × (get x (r.lone j) ≡ Some q)) ⊎ (get x (r.lone j) ≡ None) →
-            ((q : Process) × (get x (view r m) ≡ Some q)) ⊎ (get x (view r m) ≡ None) →
+        stays : owner_in (entry x r.table) ≡ Some p
+        stays = sym (get-entry x r.table) ∙ seen.0
+
+        contact_sees : (o : Option Process) → get x (view r m) ≡ o → get x (without (r.told m) r.table) ≡ o
+        contact_sees o f = ap (λ (b : Bool). get x (without (r.told m) (if b then r.table else r.lone m))) (sym l.contact) ∙ f
+
+        by : ((e : Pair) × (entry x (r.lone j) ≡ Some e)) ⊎ (entry x (r.lone j) ≡ None) →
+            ((own : Pair) × (entry x (view r m) ≡ Some own)) ⊎ (entry x (view r m) ≡ None) →
             Stands r n x p (Join j k m Joined)
-        by (inr e) o = inl (keeps (get-joined r j m g.rises x ∙ rw e seen.0))
-        by (inl (q, e)) (inr f) = inr (RetakenByJoiner j k m q i e
+        by (inr e) o = inl (keeps (get-joined r j m g.rises x ∙ rw e stays))
+        by (inl (e, h)) (inr f) = inr (RetakenByJoiner j k m e.owner i (get_from_entry x (r.lone j) e h)
             (get-unseen (r.told m) r.table g.rises.table x p
-            (ap (λ (b : Bool). get x (without (r.told m) (if b then r.table else r.lone m))) (sym l.contact)
-            ∙ f) seen.0))
-        by (inl (q, e)) (inl (a, f)) = elim (cases_lt q.node p.node) [
-          | inl less ↦ inr (LostToJoiner j k m q i e less)
-          | inr more ↦ inl (keeps (get-joined r j m g.rises x
-              ∙ rw (e, seen_by_contact) (rw (le-ltb q.node p.node more) seen.0)))
+            (contact_sees None (get_from_none x (view r m) f)) seen.0))
+        by (inl (e, h)) (inl (own, f)) = elim (cases_clash e own (entry x r.table)) [
+          | JoinerHas b less ↦ inr (LostToJoiner j k m e.owner i (get_from_entry x (r.lone j) e h)
+              (omega (arith, less, node)))
+          | ClusterHas b more ↦ inl (keeps (get-joined r j m g.rises x ∙ rw (h, f) (ap owner_in b ∙ stays)))
+          | NobodyHas a ↦ inr (LostToBoth j k m e.owner own (or_left (r.joined n) (n == j) i) (get_from_entry x (r.lone j) e h) f a)
         ]
           where
-            at_contact : (get x r.table ≡ Some a) × (r.told m a.node ≡ false)
-            at_contact = get-seen (r.told m) r.table g.rises.table x a
-                (ap (λ (b : Bool). get x (without (r.told m) (if b then r.table else r.lone m))) (sym l.contact) ∙ f)
+            at_contact : (get x r.table ≡ Some own.owner) × (r.told m own.owner.node ≡ false)
+            at_contact = get-seen (r.told m) r.table g.rises.table x own.owner
+                (contact_sees (Some own.owner) (get_from_entry x (view r m) own f))
 
-            seen_by_contact : get x (view r m) ≡ Some p
-            seen_by_contact = f ∙ sym at_contact.0 ∙ seen.0
+            node : own.owner.node ≡ p.node
+            node = let k : ◌≡◌ {A = Option Process} (Some own.owner) (Some p) = sym at_contact.0 ∙ seen.0 in
+                let o : own.owner ≡ p = cc in ap (λ (q : Process). q.node) o
 
 -- a join
 pub stands-join : (s : Standing) (j k m n : ℕ) (x : Text) (p : Process) → JoinIsLegal s j m → IsGood s.registry →
@@ -265,7 +314,7 @@ stands s (Strike q) n x p l g h = stands-strike s.registry q n x p g.rises h
 stands s (Join j k m Joined) n x p l g h = stands-join s j k m n x p (join_is_legal s j m l) g h
 stands s (Join j k m _) n x p l g h = inl h
 stands s (Done m) n x p l g h = inl h
-stands s (Exit q) n x p l g h = inl h
+stands s (Entry.Exit q) n x p l g h = inl h
 stands s (Left d) n x p l g h = inl h
 stands s (Told m d) n x p l g h = stands-told s.registry m d n x p g.rises h
 stands s (Read m look reply) n x p l g h = inl h

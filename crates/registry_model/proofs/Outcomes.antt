@@ -14,7 +14,7 @@ use Rattle.registry_model.specs.HistoryLaws.{IsDecided, CallsAreCarriedOut}
 use Rattle.registry_model.proofs.Changes.{change_law}
 use Rattle.registry_model.proofs.Replies.{reply_law}
 use Rattle.registry_model.proofs.HistoryParts.{registry_of-push, registry-standing_of, is_legal-at}
-use Rattle.registry_model.proofs.Groups.{joined-with_table, told-with_table, left-with_table, table_of-with_table, table_of-with_table_other}
+use Rattle.registry_model.proofs.Groups.{joined-with_table, told-with_table, left-with_table, notices-with_table, table_of-with_table, table_of-with_table_other}
 use Rattle.registry_model.proofs.Rising.{Rises, Rises-registry_of, is_rising-table_of}
 use Rattle.registry_model.proofs.Legality.{NameIsLegal, name_is_legal}
 use Rattle.registry_model.proofs.Deaths.{dead-with_table}
@@ -39,12 +39,12 @@ given_law call reply t c IsSo l to from = record {
 
 -- `register` gives the name
 given_by_register : (new : Pair) (t u : Table) → IsOutcome (Register new) Yes t u →
-    IsGiven new.name (Some new.owner) t u
+    IsGiven new.name (Some new) t u
 given_by_register new t u (Registered e g) = g
 
 -- `re_register` gives the name
 given_by_re_register : (new : Pair) (t u : Table) → IsOutcome (ReRegister new) Yes t u →
-    IsGiven new.name (Some new.owner) t u
+    IsGiven new.name (Some new) t u
 given_by_re_register new t u (Reregistered e g) = g
 
 -- `unregister` gives it to nobody
@@ -71,10 +71,10 @@ outcome_law members view t call r rises (OfUsedName e q m g) =
 outcome_law members view t call r rises (ForOwner e m o) =
     record { rises = rises; so = Refused call refl; alone = λ u s h. same_by_no call t u h }
 outcome_law members view t call r rises (OfFreeName e m g f) =
-    given_law (Register e) Yes t (Put e) (IsGiven e.name (Some e.owner) t) (change_law (Put e) t rises)
+    given_law (Register e) Yes t (Put e) (IsGiven e.name (Some e) t) (change_law (Put e) t rises)
     (λ u g. Registered e g) (given_by_register e t)
 outcome_law members view t call r rises (OfAnyName e m) =
-    given_law (ReRegister e) Yes t (Put e) (IsGiven e.name (Some e.owner) t) (change_law (Put e) t rises)
+    given_law (ReRegister e) Yes t (Put e) (IsGiven e.name (Some e) t) (change_law (Put e) t rises)
     (λ u g. Reregistered e g) (given_by_re_register e t)
 outcome_law members view t call r rises (ToGiveUp x) =
     given_law (Unregister x) Ok t (Remove x) (IsGiven x None t) (change_law (Remove x) t rises)
@@ -102,6 +102,7 @@ decided r n k call reply g said = go (is_grant reply) refl
       left = refl;
       told = refl;
       dead = refl;
+      notices = refl;
     }
     go true k = record {
       answer = said;
@@ -112,6 +113,7 @@ decided r n k call reply g said = go (is_grant reply) refl
       left = left-with_table n (changed (change_of call)) r;
       told = told-with_table n (changed (change_of call)) r;
       dead = dead-with_table n (changed (change_of call)) r;
+      notices = notices-with_table n (changed (change_of call)) r;
     }
 
 -- each name call of a legal history

@@ -1,46 +1,48 @@
 -- The pairs of a table, and who has a name.
 use Rattle.std.proofs.Common.{Bool, true, false, ◌≡◌, Option, Some, None, [], ◌∷◌, refl, sym, subst, ap, ◌∙◌, inl, inr}
 use Rattle.std.specs.Prelude.{◌⊎◌, ◌||◌, Contains}
-use Rattle.std.proofs.Math.Path.{ap₂}
 use Rattle.std.proofs.lemmas.Bool.{cases_eq, false_from_ne_true}
 use Rattle.registry_model.specs.Process.{Text, Process, is_process}
-use Rattle.registry_model.specs.Table.{Pair, Table, is_below, is_rising, get, owns}
+use Rattle.registry_model.specs.Table.{Pair, Table, is_below, is_rising, get, entry, owns}
 use Rattle.registry_model.specs.SharedLaws.{HasAName}
 use Rattle.registry_model.proofs.Lists.{Contains-cases, Contains-front, Contains-behind, Contains-nil, is_process-true, is_process-eq}
-use Rattle.registry_model.proofs.Tables.{pair, is_rising-parts, get-below, get-front, get-behind}
+use Rattle.registry_model.proofs.Tables.{is_rising-parts, entry-below, entry-front, entry-behind, get_from_entry}
 
--- who has a name stands in the table with it
-pub Contains-get : (t : Table) (y : Text) (p : Process) → get y t ≡ Some p → Contains t (pair y p)
-Contains-get [] y p h = absurd cc
-Contains-get (e ∷ t) y p h = go (cases_eq e.name y) (Contains-get t y p)
+-- what stands under a name stands in the table
+pub Contains-entry : (t : Table) (y : Text) (e : Pair) → entry y t ≡ Some e → Contains t e
+Contains-entry [] y e h = absurd cc
+Contains-entry (d ∷ t) y e h = go (cases_eq d.name y) (Contains-entry t y e)
   where
-    go : (e.name ≡ y) ⊎ (e.name ≡ y → ⊥) → (get y t ≡ Some p → Contains t (pair y p)) → Contains (e ∷ t) (pair y p)
+    go : (d.name ≡ y) ⊎ (d.name ≡ y → ⊥) → (entry y t ≡ Some e → Contains t e) → Contains (d ∷ t) e
     go (inl i) later =
-        let k : ◌≡◌ {A = Option Process} (Some e.owner) (Some p) = sym (get-front e t)
-        ∙ ap (λ (x : Text). get x (e ∷ t)) i ∙ h in
-        let o : e.owner ≡ p = cc in
-        subst (λ (f : Pair). Contains (e ∷ t) f) (ap₂ pair i o) (Contains-front e t)
-    go (inr ne) later = Contains-behind e t (pair y p) (later (sym (get-behind e t y ne) ∙ h))
+        let k : ◌≡◌ {A = Option Pair} (Some d) (Some e) = sym (entry-front d t)
+        ∙ ap (λ (x : Text). entry x (d ∷ t)) i ∙ h in
+        let o : d ≡ e = cc in
+        subst (λ (f : Pair). Contains (d ∷ t) f) o (Contains-front d t)
+    go (inr ne) later = Contains-behind d t e (later (sym (entry-behind d t y ne) ∙ h))
 
--- a pair of a rising table has its name
-pub get-Contains : (t : Table) → is_rising t ≡ true → (e : Pair) → Contains t e → get e.name t ≡ Some e.owner
-get-Contains [] r e c = absurd (Contains-nil e c)
-get-Contains (d ∷ t) r e c = go (Contains-cases d t e c) (get-Contains t tail.1 e)
+-- a pair of a rising table stands under its name
+pub entry-Contains : (t : Table) → is_rising t ≡ true → (e : Pair) → Contains t e → entry e.name t ≡ Some e
+entry-Contains [] r e c = absurd (Contains-nil e c)
+entry-Contains (d ∷ t) r e c = go (Contains-cases d t e c) (entry-Contains t tail.1 e)
   where
     tail : (is_below d.name t ≡ true) × (is_rising t ≡ true)
     tail = is_rising-parts d t r
 
-    go : (d ≡ e) ⊎ Contains t e → (Contains t e → get e.name t ≡ Some e.owner) → get e.name (d ∷ t) ≡ Some e.owner
-    go (inl i) later = subst (λ (f : Pair). get f.name (d ∷ t) ≡ Some f.owner) i (get-front d t)
+    go : (d ≡ e) ⊎ Contains t e → (Contains t e → entry e.name t ≡ Some e) → entry e.name (d ∷ t) ≡ Some e
+    go (inl i) later = subst (λ (f : Pair). entry f.name (d ∷ t) ≡ Some f) i (entry-front d t)
     go (inr k) later = go2 (cases_eq d.name e.name) (later k)
       where
-        go2 : (d.name ≡ e.name) ⊎ (d.name ≡ e.name → ⊥) → get e.name t ≡ Some e.owner →
-            get e.name (d ∷ t) ≡ Some e.owner
+        go2 : (d.name ≡ e.name) ⊎ (d.name ≡ e.name → ⊥) → entry e.name t ≡ Some e → entry e.name (d ∷ t) ≡ Some e
         go2 (inl i) h =
-            let n : get e.name t ≡ None =
-            get-below e.name t tail.1 (subst (λ (z : Text). is_below z t ≡ true) i tail.0) in
+            let n : entry e.name t ≡ None =
+            entry-below e.name t tail.1 (subst (λ (z : Text). is_below z t ≡ true) i tail.0) in
             absurd cc
-        go2 (inr ne) h = get-behind d t e.name ne ∙ h
+        go2 (inr ne) h = entry-behind d t e.name ne ∙ h
+
+-- so its owner has that name
+pub get-Contains : (t : Table) → is_rising t ≡ true → (e : Pair) → Contains t e → get e.name t ≡ Some e.owner
+get-Contains t r e c = get_from_entry e.name t e (entry-Contains t r e c)
 
 -- who owns a name is found by the test
 pub owns-from_pair : (p : Process) (t : Table) (e : Pair) → Contains t e → e.owner ≡ p → owns p t ≡ true

@@ -1,17 +1,16 @@
 -- In the tables of each registry the names rise, so no name has two owners.
 use Rattle.std.proofs.Common.{ℕ, Bool, true, false, ◌≡◌, Option, Some, List, [], refl, sym, ap, ◌∙◌}
 use Rattle.std.specs.Prelude.{if◌then◌else◌}
-use Rattle.std.proofs.Math.Path.{ap₂}
-use Rattle.registry_model.specs.Process.{Text, Process, Nodes, at}
-use Rattle.registry_model.specs.Table.{Table, is_rising, get, StrikeOwner, changed}
+use Rattle.registry_model.specs.Process.{Text, Nodes, at}
+use Rattle.registry_model.specs.Table.{Pair, Table, is_rising, entry, StrikeOwner, changed}
 use Rattle.registry_model.specs.Call.{Joined, is_grant, change_of}
 use Rattle.registry_model.specs.Settlement.{Settled, settle}
 use Rattle.registry_model.specs.Registry.{Registry, table_of, with_table, view, with_joiner}
 use Rattle.registry_model.specs.History.{Entry, Name, Strike, Join, Done, Exit, Left, Told, Read, effect, registry_of}
 use Rattle.registry_model.specs.HistoryLaws.{HasOneOwner, OneOwner}
 use Rattle.registry_model.proofs.Updates.{by_test}
-use Rattle.registry_model.proofs.Tables.{pair, is_rising-changed, is_rising-put_all, is_rising-without}
-use Rattle.registry_model.proofs.Owners.{get-Contains}
+use Rattle.registry_model.proofs.Tables.{is_rising-changed, is_rising-with_settled, is_rising-without}
+use Rattle.registry_model.proofs.Owners.{entry-Contains}
 use Rattle.registry_model.proofs.HistoryParts.{registry_keeps}
 
 -- the names of all tables rise
@@ -36,7 +35,7 @@ Rises-with_table n f r keeps g = go (r.joined n)
 -- a node joins
 pub Rises-with_joiner : (j m : ℕ) (s : Settled) (r : Registry) → Rises r → Rises (with_joiner j m s r)
 Rises-with_joiner j m s r g = record {
-  table = is_rising-put_all s.puts r.table g.table;
+  table = is_rising-with_settled s r.table g.table;
   lone = by_test j (λ x t. is_rising (if t then [] else r.lone x) ≡ true) refl (λ x ne. g.lone x);
 }
 
@@ -77,11 +76,10 @@ is_rising-view r g n = is_rising-without (r.told n) (table_of r n) (is_rising-ta
 pub one_owner_of : (t : Table) → is_rising t ≡ true → HasOneOwner t
 one_owner_of t r = record {
   owner = λ e d c k i.
-      let a : get e.name t ≡ Some e.owner = get-Contains t r e c in
-      let b : get d.name t ≡ Some d.owner = get-Contains t r d k in
-      let s : ◌≡◌ {A = Option Process} (Some e.owner) (Some d.owner) = sym a ∙ ap (λ (x : Text). get x t) i ∙ b in
-      let o : e.owner ≡ d.owner = cc in
-      ap₂ pair i o;
+      let a : entry e.name t ≡ Some e = entry-Contains t r e c in
+      let b : entry d.name t ≡ Some d = entry-Contains t r d k in
+      let s : ◌≡◌ {A = Option Pair} (Some e) (Some d) = sym a ∙ ap (λ (x : Text). entry x t) i ∙ b in
+      cc;
   rises = r;
 }
 

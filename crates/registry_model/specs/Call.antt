@@ -1,7 +1,8 @@
 -- Calls that change or read a table, and what is answered.
-use Rattle.std.specs.Prelude.{Bool, true, false, not, ◌||◌, bytes_eq, Option, Some, None, is_some, List, if◌then◌else◌}
+use Rattle.std.specs.Prelude.{Bool, true, false, not, ◌&&◌, ◌||◌, ◌==◌, bytes_eq, Option, Some, None, is_some, List, [], ◌∷◌, if◌then◌else◌}
 use Rattle.registry_model.specs.Process.{Text, Process, is_process, Nodes}
 use Rattle.registry_model.specs.Table.{Pair, Table, get, owns, names, Change, Put, Remove}
+use Rattle.registry_model.specs.Settlement.{Notice}
 use Rattle.registry_model.specs.Registry.{Replica}
 
 -- a call that goes through the registry
@@ -10,10 +11,11 @@ pub data NameCall : Type 0 where
   ReRegister : (pair : Pair) → NameCall
   Unregister : (name : Text) → NameCall
 
--- a look-up at one node: of one name, or of all names
+-- a look-up at one node: of one name, of all names, or of what a process of it was sent
 pub data Look : Type 0 where
   Whereis : (name : Text) → Look
   RegisteredNames : Look
+  NoticesOf : (process : Process) → Look
 
 -- all replies, those to lock calls and to `spawn` among them
 pub data Reply : Type 0 where
@@ -29,10 +31,27 @@ pub data Reply : Type 0 where
   Pid : (process : Process) → Reply
   Undefined : Reply
   Names : (names : List Text) → Reply
+  Notices : (notices : List Notice) → Reply
 
 -- whether two lists of texts are one
 abbrev pub are_texts : List Text → List Text → Bool
 are_texts = bytes_eq
+
+-- whether two processes are one, if there are any
+abbrev pub is_other : Option Process → Option Process → Bool
+is_other None None = true
+is_other (Some p) (Some q) = is_process p q
+is_other _ _ = false
+
+-- whether two notices are one
+abbrev pub is_notice : Notice → Notice → Bool
+is_notice f g = (f.name == g.name) && is_other f.other g.other
+
+-- whether two lists of notices are one
+abbrev pub are_notices : List Notice → List Notice → Bool
+are_notices [] [] = true
+are_notices (f ∷ fs) (g ∷ gs) = is_notice f g && are_notices fs gs
+are_notices _ _ = false
 
 -- whether two replies are one
 abbrev pub is_reply : Reply → Reply → Bool
@@ -48,6 +67,7 @@ is_reply ContactLeft ContactLeft = true
 is_reply (Pid p) (Pid q) = is_process p q
 is_reply Undefined Undefined = true
 is_reply (Names xs) (Names ys) = are_texts xs ys
+is_reply (Notices fs) (Notices gs) = are_notices fs gs
 is_reply _ _ = false
 
 -- the replies that grant a name call: only then it has its effect
@@ -80,3 +100,4 @@ pid_or_undefined (Some p) = Pid p
 abbrev pub seen_in : Replica → Look → Reply
 seen_in shown (Whereis x) = pid_or_undefined (get x shown.table)
 seen_in shown RegisteredNames = Names (names shown.table)
+seen_in shown (NoticesOf p) = Notices (shown.notices p.serial)

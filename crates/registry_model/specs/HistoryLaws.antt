@@ -1,7 +1,7 @@
 -- What holds of histories. before, middle, later: parts of a history, the oldest first.
-use Rattle.std.specs.Prelude.{ℕ, true, false, ◌≡◌, ◌<◌, ◌≤◌, ◌↔◌, ◌⊎◌, IsTrue, Contains, Option, Some, None, List, [], ◌∷◌, ◌++◌}
+use Rattle.std.specs.Prelude.{ℕ, true, false, ◌||◌, ◌==◌, ◌≡◌, ◌<◌, ◌≤◌, ◌↔◌, ◌⊎◌, IsTrue, Contains, Option, Some, None, List, [], ◌∷◌, ◌++◌}
 use Rattle.registry_model.specs.Process.{Text, Process, Nodes}
-use Rattle.registry_model.specs.Table.{Pair, Table, is_rising, get, owns}
+use Rattle.registry_model.specs.Table.{NotifyAll, Pair, Table, is_rising, get, entry, owns}
 use Rattle.registry_model.specs.Call.{NameCall, Register, ReRegister, Unregister, Reply, Yes, Ok, Joined}
 use Rattle.registry_model.specs.Settlement.{settle}
 use Rattle.registry_model.specs.Registry.{Registry, in_group, table_of, view, members}
@@ -38,6 +38,7 @@ pub record IsDecided (before after : Registry) (n : ℕ) (call : NameCall) (repl
   pub left : after.left ≡ before.left
   pub told : after.told ≡ before.told
   pub dead : after.dead ≡ before.dead
+  pub notices : after.notices ≡ before.notices
 
 -- Each name call is carried out in the group of its node, and in no other
 abbrev pub CallsAreCarriedOut : Nodes → List Entry → Type 0
@@ -66,6 +67,9 @@ pub data Takes (r : Registry) (n : ℕ) (x : Text) (p : Process) : Entry → Typ
   -- n joins, and its contact sees the name of a process on no greater node
   LostToCluster : (k m : ℕ) (q : Process) → get x (view r m) ≡ Some q → q.node ≤ p.node →
       Takes r n x p (Join n k m Joined)
+  -- a joiner and its contact have the name, and the contact under `notify_all`
+  LostToBoth : (j k m : ℕ) (q : Process) (own : Pair) → IsTrue (r.joined n || (n == j)) → get x (r.lone j) ≡ Some q →
+      entry x (view r m) ≡ Some own → own.rule ≡ NotifyAll → Takes r n x p (Join j k m Joined)
 
 -- A name that a node sees stands until an entry takes it
 abbrev pub NamesStand : Nodes → List Entry → Type 0

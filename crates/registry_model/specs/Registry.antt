@@ -1,9 +1,9 @@
 -- The registry: one table for the cluster, and one for each lone node. It knows no letters and no locks.
-use Rattle.std.specs.Prelude.{ℕ, Bool, false, not, ◌&&◌, ◌||◌, ◌==◌, [], if◌then◌else◌}
+use Rattle.std.specs.Prelude.{ℕ, Bool, false, not, ◌&&◌, ◌||◌, ◌==◌, List, [], ◌++◌, if◌then◌else◌}
 use Rattle.std.specs.List.{list_any}
 use Rattle.registry_model.specs.Process.{Process, is_process, Nodes, nobody, at, with_node}
-use Rattle.registry_model.specs.Table.{Table, without, put_all}
-use Rattle.registry_model.specs.Settlement.{Settled}
+use Rattle.registry_model.specs.Table.{Table, without}
+use Rattle.registry_model.specs.Settlement.{Notice, notices_to, Settled, with_settled}
 
 -- the state of the registry
 pub record Registry : Type 0 where
@@ -13,6 +13,7 @@ pub record Registry : Type 0 where
   pub left : Nodes
   pub told : ℕ → Nodes  -- told n d: n was told that d left
   pub dead : Process → Bool
+  pub notices : Process → List Notice  -- what each was sent, dead or not
 
 -- the nodes of the cluster are joined, and all else is empty
 abbrev pub opening : Nodes → Registry
@@ -23,6 +24,7 @@ opening cluster = record {
   left = nobody;
   told = λ n. nobody;
   dead = λ p. false;
+  notices = λ p. [];
 }
 
 -- the group of n: all joined nodes where n is joined, else n alone
@@ -45,24 +47,36 @@ view r n = without (r.told n) (table_of r n)
 abbrev pub members : Registry → ℕ → Nodes
 members r n c = in_group r n c && not (r.told n c)
 
+-- the process of node n with this serial
+abbrev pub process_of : ℕ → ℕ → Process
+process_of n serial = record { node = n; serial = serial }
+
 -- what a node keeps and shows of the registry
 pub record Replica : Type 0 where
   pub table : Table
   pub members : Nodes
   pub told : Nodes
   pub joined : Bool
+  pub notices : ℕ → List Notice  -- what its own processes were sent, by serial
 
 -- what n has to keep and show
 abbrev pub replica_of : Registry → ℕ → Replica
-replica_of r n = record { table = view r n; members = members r n; told = r.told n; joined = r.joined n }
+replica_of r n = record {
+  table = view r n;
+  members = members r n;
+  told = r.told n;
+  joined = r.joined n;
+  notices = λ serial. r.notices (process_of n serial);
+}
 
 -- j joins by its contact m: the settlement is carried out, and j is told of all that m was told
 abbrev pub with_joiner : ℕ → ℕ → Settled → Registry → Registry
 with_joiner j m s r = record {
-  table = put_all s.puts r.table;
+  table = with_settled s r.table;
   joined = with_node j r.joined;
   lone = at r.lone j [];
   left = r.left;
   told = at r.told j (λ d. r.told j d || r.told m d);
   dead = λ p. r.dead p || list_any (is_process p) s.fate.kills;
+  notices = λ p. r.notices p ++ notices_to p s.fate.notices;
 }

@@ -1,7 +1,7 @@
 -- One history in which most kinds of entry stand: legal histories exist.
 use Rattle.std.specs.Prelude.{ℕ, nat_lt, false, ◌≡◌, IsTrue, None, List, [], ◌∷◌, ◌++◌}
 use Rattle.registry_model.specs.Process.{Text, Process, Nodes}
-use Rattle.registry_model.specs.Table.{Pair, get}
+use Rattle.registry_model.specs.Table.{Rule, Pair, get}
 use Rattle.registry_model.specs.Call.{Register, ReRegister, Unregister, Whereis, Yes, No, Ok, UnknownNode, Pid, Undefined, Joined, NotMember, ContactLeft}
 use Rattle.registry_model.specs.Registry.{view}
 use Rattle.registry_model.specs.History.{Entry, Name, Strike, Join, Done, Exit, Left, Told, Read, registry_of, standing_of, is_free, nothing_yet}
@@ -17,7 +17,7 @@ process_at n = record { node = n; serial = 1 }
 
 -- a name and the process of that node
 abbrev pub named : Text → ℕ → Pair
-named x n = record { name = x; owner = process_at n }
+named x n = record { name = x; owner = process_at n; rule = Rule.Exit }
 
 -- Node 0 gives the name 7 to a process of node 1, and node 2, which is lone, to one of its own; node 2 joins, and its
 -- process dies. The other process exits and is struck; node 1 leaves; what is then free is given again

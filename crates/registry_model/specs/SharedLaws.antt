@@ -1,9 +1,9 @@
 -- What the functions that registry and protocol share mean: relations by cases, and not by the functions' recursions.
 use Rattle.std.specs.Prelude.{ℕ, true, false, ◌≡◌, ◌<◌, ◌≤◌, ◌↔◌, IsTrue, Contains, AllPairs, Option, Some, None, List, ◌∷◌, ◌++◌}
 use Rattle.registry_model.specs.Process.{Text, Process, Nodes}
-use Rattle.registry_model.specs.Table.{Pair, Table, is_rising, get, put_all, Change, Put, Remove, StrikeOwner}
-use Rattle.registry_model.specs.Call.{NameCall, Register, ReRegister, Unregister, Look, Whereis, RegisteredNames, Reply, Yes, No, Ok, UnknownNode, Pid, Undefined, Names}
-use Rattle.registry_model.specs.Settlement.{Settled}
+use Rattle.registry_model.specs.Table.{Rule, Exit, Notify, NotifyAll, Pair, Table, is_rising, get, entry, Change, Put, Remove, StrikeOwner}
+use Rattle.registry_model.specs.Call.{NameCall, Register, ReRegister, Unregister, Look, Whereis, RegisteredNames, NoticesOf, Reply, Yes, No, Ok, UnknownNode, Pid, Undefined, Names, Notices}
+use Rattle.registry_model.specs.Settlement.{Notice, Noted, Settled, with_settled}
 use Rattle.registry_model.specs.Registry.{Replica}
 
 -- p has a name in this table
@@ -42,42 +42,43 @@ pub data IsSeenIn (shown : Replica) : Look → Reply → Type 0 where
   OwnerOf : (x : Text) (p : Process) → get x shown.table ≡ Some p → IsSeenIn shown (Whereis x) (Pid p)
   NoOwnerOf : (x : Text) → get x shown.table ≡ None → IsSeenIn shown (Whereis x) Undefined
   AllNames : (xs : List Text) → AreNames shown.table xs → IsSeenIn shown RegisteredNames (Names xs)
+  SentTo : (p : Process) → IsSeenIn shown (NoticesOf p) (Notices (shown.notices p.serial))
 
--- x is given to o, and each other name has whom it had
-pub record IsGiven (x : Text) (o : Option Process) (before after : Table) : Type 0 where
-  pub here : get x after ≡ o
-  pub elsewhere : (y : Text) → (y ≡ x → ⊥) → get y after ≡ get y before
+-- o stands under x, and under each other name what stood there
+pub record IsGiven (x : Text) (o : Option Pair) (before after : Table) : Type 0 where
+  pub here : entry x after ≡ o
+  pub elsewhere : (y : Text) → (y ≡ x → ⊥) → entry y after ≡ entry y before
 
--- nobody has the names that p had, and each other name has whom it had
+-- nobody has the names that p had, and under each other name stands what stood there
 pub record IsStruck (p : Process) (before after : Table) : Type 0 where
-  pub lost : (y : Text) → get y before ≡ Some p → get y after ≡ None
-  pub kept : (y : Text) → (get y before ≡ Some p → ⊥) → get y after ≡ get y before
+  pub lost : (y : Text) → get y before ≡ Some p → entry y after ≡ None
+  pub kept : (y : Text) → (get y before ≡ Some p → ⊥) → entry y after ≡ entry y before
 
 -- what each change does
 abbrev pub IsChanged : Change → Table → Table → Type 0
-IsChanged (Put e) = IsGiven e.name (Some e.owner)
+IsChanged (Put e) = IsGiven e.name (Some e)
 IsChanged (Remove x) = IsGiven x None
 IsChanged (StrikeOwner p) = IsStruck p
 
--- What a name call with this reply makes of the table of its group: `yes` gives the name to the owner, `ok` to nobody,
+-- What a name call with this reply makes of the table of its group: `yes` gives the name to the owner, under its rule, `ok` to nobody,
 -- and all that is refused leaves the table
 pub data IsCarriedOut (before after : Table) : NameCall → Reply → Type 0 where
-  Registered : (e : Pair) → IsGiven e.name (Some e.owner) before after → IsCarriedOut before after (Register e) Yes
-  Reregistered : (e : Pair) → IsGiven e.name (Some e.owner) before after → IsCarriedOut before after (ReRegister e) Yes
+  Registered : (e : Pair) → IsGiven e.name (Some e) before after → IsCarriedOut before after (Register e) Yes
+  Reregistered : (e : Pair) → IsGiven e.name (Some e) before after → IsCarriedOut before after (ReRegister e) Yes
   Unregistered : (x : Text) → IsGiven x None before after → IsCarriedOut before after (Unregister x) Ok
   Refused : (call : NameCall) → after ≡ before → IsCarriedOut before after call No
   OwnerUnknown : (call : NameCall) → after ≡ before → IsCarriedOut before after call UnknownNode
 
--- nobody has the names whose owners were on these nodes, and each other name has whom it had
+-- nobody has the names whose owners were on these nodes, and under each other name stands what stood there
 pub record IsWithout (gone : Nodes) (before after : Table) : Type 0 where
-  pub lost : (y : Text) (p : Process) → get y before ≡ Some p → gone p.node ≡ true → get y after ≡ None
-  pub kept : (y : Text) (p : Process) → get y before ≡ Some p → gone p.node ≡ false → get y after ≡ Some p
-  pub free : (y : Text) → get y before ≡ None → get y after ≡ None
+  pub lost : (y : Text) (e : Pair) → entry y before ≡ Some e → gone e.owner.node ≡ true → entry y after ≡ None
+  pub kept : (y : Text) (e : Pair) → entry y before ≡ Some e → gone e.owner.node ≡ false → entry y after ≡ Some e
+  pub free : (y : Text) → entry y before ≡ None → entry y after ≡ None
 
--- the names of these pairs have whom the pairs say, and each other name has whom it had
+-- these pairs stand under their names, and under each other name what stood there
 pub record IsWrittenOver (pairs before after : Table) : Type 0 where
-  pub written : (y : Text) (p : Process) → get y pairs ≡ Some p → get y after ≡ Some p
-  pub kept : (y : Text) → get y pairs ≡ None → get y after ≡ get y before
+  pub written : (y : Text) (e : Pair) → entry y pairs ≡ Some e → entry y after ≡ Some e
+  pub kept : (y : Text) → entry y pairs ≡ None → entry y after ≡ entry y before
 
 -- the table rises and is so, and no other rising table is
 pub record IsTheTable (IsSo : Table → Type 0) (table : Table) : Type 0 where
@@ -85,27 +86,58 @@ pub record IsTheTable (IsSo : Table → Type 0) (table : Table) : Type 0 where
   pub so : IsSo table
   pub alone : (other : Table) → IsTrue (is_rising other) → IsSo other → other ≡ table
 
--- p loses the name y in a settlement: another process has it too and is on a lesser node, or on the same one and in the
--- cluster's table
-pub data Loses (table pairs : Table) (y : Text) (p : Process) : Type 0 where
-  OfJoiner : (q : Process) → get y pairs ≡ Some p → get y table ≡ Some q → q.node ≤ p.node → (p ≡ q → ⊥) →
-      Loses table pairs y p
-  OfCluster : (q : Process) → get y pairs ≡ Some q → get y table ≡ Some p → q.node < p.node → Loses table pairs y p
+-- both have this name, for two processes; e: the joiner's pair, own: the cluster's
+pub record Clashes (table pairs : Table) (e own : Pair) : Type 0 where
+  pub joiner : entry e.name pairs ≡ Some e
+  pub cluster : entry e.name table ≡ Some own
+  pub apart : e.owner ≡ own.owner → ⊥
 
--- The settlement of a joiner's pairs against the cluster's table: who has each name once it is written, and who dies
+-- p loses the name y to another process, where the cluster has it under this rule: that process is on a lesser node, or on the
+-- same one and the cluster's
+pub data Loses (table pairs : Table) (rule : Rule) : Process → Text → Type 0 where
+  OfJoiner : (e own : Pair) → Clashes table pairs e own → own.rule ≡ rule → own.owner.node ≤ e.owner.node →
+      Loses table pairs rule e.owner e.name
+  OfCluster : (e own : Pair) → Clashes table pairs e own → own.rule ≡ rule → e.owner.node < own.owner.node →
+      Loses table pairs rule own.owner e.name
+
+-- p is sent this notice: it loses a name under `notify`, or it had one that nobody has under `notify_all`
+pub data IsSent (table pairs : Table) : Process → Notice → Type 0 where
+  OfLoss : (p : Process) (y : Text) → Loses table pairs Notify p y → IsSent table pairs p (record { name = y; other = None })
+  OfJoiners : (e own : Pair) → Clashes table pairs e own → own.rule ≡ NotifyAll →
+      IsSent table pairs own.owner (record { name = e.name; other = Some e.owner })
+  OfClusters : (e own : Pair) → Clashes table pairs e own → own.rule ≡ NotifyAll →
+      IsSent table pairs e.owner (record { name = e.name; other = Some own.owner })
+
+-- one notice is sent before another: of a lesser name, or of the same one, to the cluster's process, and then to the joiner's
+pub data IsSentBefore (table pairs : Table) (first second : Noted) : Type 0 where
+  OfLesser : first.notice.name < second.notice.name → IsSentBefore table pairs first second
+  OfCluster : first.notice.name ≡ second.notice.name → get first.notice.name table ≡ Some first.process →
+      get second.notice.name pairs ≡ Some second.process → IsSentBefore table pairs first second
+
+-- The settlement of a joiner's pairs against the cluster's table: what stands under each name once it is written, who dies, and who
+-- is sent what
 pub record Settles (table pairs : Table) (settled : Settled) : Type 0 where
-  -- a name that one side alone has stays with its owner
-  pub of_cluster : (y : Text) → get y pairs ≡ None → get y (put_all settled.puts table) ≡ get y table
-  pub of_joiner : (y : Text) (p : Process) → get y pairs ≡ Some p → get y table ≡ None →
-      get y (put_all settled.puts table) ≡ Some p
-  -- a name of both goes to the process on the lesser node, and to the cluster's where the nodes are one
-  pub to_joiner : (y : Text) (p q : Process) → get y pairs ≡ Some p → get y table ≡ Some q → p.node < q.node →
-      get y (put_all settled.puts table) ≡ Some p
-  pub to_cluster : (y : Text) (p q : Process) → get y pairs ≡ Some p → get y table ≡ Some q → q.node ≤ p.node →
-      get y (put_all settled.puts table) ≡ Some q
+  -- a name that one side alone has stays with its owner, under its rule
+  pub of_cluster : (y : Text) → entry y pairs ≡ None → entry y (with_settled settled table) ≡ entry y table
+  pub of_joiner : (e : Pair) → entry e.name pairs ≡ Some e → entry e.name table ≡ None →
+      entry e.name (with_settled settled table) ≡ Some e
+  -- one that both have for one process stays under the cluster's rule
+  pub of_both : (e own : Pair) → entry e.name pairs ≡ Some e → entry e.name table ≡ Some own → e.owner ≡ own.owner →
+      entry e.name (with_settled settled table) ≡ Some own
+  -- one that both have for two goes to the process on the lesser node, and to the cluster's where the nodes are one; it keeps its rule
+  pub to_joiner : (e own : Pair) → Clashes table pairs e own → (own.rule ≡ NotifyAll → ⊥) → e.owner.node < own.owner.node →
+      entry e.name (with_settled settled table) ≡ Some e
+  pub to_cluster : (e own : Pair) → Clashes table pairs e own → (own.rule ≡ NotifyAll → ⊥) → own.owner.node ≤ e.owner.node →
+      entry e.name (with_settled settled table) ≡ Some own
+  -- but where the cluster has it under `notify_all` nobody has it
+  pub to_nobody : (e own : Pair) → Clashes table pairs e own → own.rule ≡ NotifyAll →
+      entry e.name (with_settled settled table) ≡ None
   -- only names of the joiner are written, rising
   pub rises : IsTrue (is_rising settled.puts)
-  pub written : (y : Text) (p : Process) → get y settled.puts ≡ Some p → get y pairs ≡ Some p
-  -- who loses a name dies, nobody else does, and each of them once
-  pub killed : (p : Process) → Contains settled.fate.kills p ↔ ((y : Text) × Loses table pairs y p)
+  pub written : (y : Text) (e : Pair) → entry y settled.puts ≡ Some e → entry y pairs ≡ Some e
+  -- who loses a name under `exit` dies, nobody else does, and each of them once
+  pub killed : (p : Process) → Contains settled.fate.kills p ↔ ((y : Text) × Loses table pairs Exit p y)
   pub once : (before later : List Process) (p : Process) → settled.fate.kills ≡ before ++ p ∷ later → Contains before p → ⊥
+  -- who loses one under another rule is sent a notice, nobody else is, and in order: so each of them once
+  pub told : (n : Noted) → Contains settled.fate.notices n ↔ IsSent table pairs n.process n.notice
+  pub in_order : AllPairs (IsSentBefore table pairs) settled.fate.notices

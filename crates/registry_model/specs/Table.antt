@@ -1,12 +1,19 @@
--- Tables: finite maps from names to processes. A table lists its names once each, rising, so each map is one list.
+-- Tables: finite maps from names to processes, each with a rule. A table lists its names once each, rising, so each map is one list.
 use Rattle.std.specs.Prelude.{Bool, true, not, ◌&&◌, ◌==◌, nat_lt, Option, Some, None, List, [], ◌∷◌, map, filter, fold, if◌then◌else◌}
 use Rattle.std.specs.List.{list_any}
 use Rattle.registry_model.specs.Process.{Text, Process, is_process, Nodes}
 
--- a name and its owner
+-- what becomes of a name when a lone node joins that has it too, for another process: the rule of the cluster's pair decides
+pub data Rule : Type 0 where
+  Exit : Rule  -- the process on the lesser node has it, and the other dies
+  Notify : Rule  -- the process on the lesser node has it, and the other is sent a notice
+  NotifyAll : Rule  -- nobody has it, and both are sent notices
+
+-- a name, its owner, and the rule for a clash
 pub record Pair : Type 0 where
   pub name : Text
   pub owner : Process
+  pub rule : Rule
 
 -- rising strictly by name
 abbrev pub Table : Type 0
@@ -27,7 +34,12 @@ abbrev pub get : Text → Table → Option Process
 get x [] = None
 get x (pair ∷ t) = if pair.name == x then Some pair.owner else get x t
 
--- the pair's owner has its name, and nobody else does
+-- the pair that stands under the name
+abbrev pub entry : Text → Table → Option Pair
+entry x [] = None
+entry x (pair ∷ t) = if pair.name == x then Some pair else entry x t
+
+-- the pair stands under its name, and no other does
 abbrev pub put : Pair → Table → Table
 put new [] = new ∷ []
 put new (pair ∷ t) =
@@ -42,6 +54,10 @@ put_all pairs t = fold (λ u pair. put pair u) t pairs
 -- nobody has the name x
 abbrev pub remove : Text → Table → Table
 remove x t = filter (λ pair. not (pair.name == x)) t
+
+-- nobody has these names
+abbrev pub remove_all : List Text → Table → Table
+remove_all xs t = fold (λ u x. remove x u) t xs
 
 -- p has no name
 abbrev pub strike : Process → Table → Table

@@ -3,7 +3,7 @@ use Rattle.std.specs.Prelude.{ℕ, Bool, false, ◌+◌, ◌==◌, ◌&&◌, ◌
 use Rattle.std.specs.Option.{option_map}
 use Rattle.protocol_model.specs.Event.{Answer as AnyAnswer}
 use Rattle.node_log.specs.declared.Call.{Call}
-use Rattle.node_log.specs.declared.Call.TheVariants.{Spawn, Whereis, RegisteredNames}
+use Rattle.node_log.specs.declared.Call.TheVariants.{Spawn, Whereis, RegisteredNames, Notices}
 use Rattle.node_log.specs.NodeEventsSeen.{answer_of}
 use Rattle.node_log.specs.declared.Event.TheVariants.{Call as Calls}
 use Rattle.node_log.specs.declared.WorldEvent.{WorldEvent}
@@ -26,6 +26,7 @@ abbrev pub answering_of_call : Call → Answering
 answering_of_call Spawn = AtOnce
 answering_of_call (Whereis x) = AtOnce
 answering_of_call RegisteredNames = AtOnce
+answering_of_call (Notices p) = AtOnce
 answering_of_call _ = Later
 
 abbrev pub answering : WorldEvent → Answering

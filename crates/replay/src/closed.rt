@@ -6,7 +6,7 @@ ghost use Rattle.cluster_world.specs.Seen.{seen};
 use cluster_world::{KeptEntry, World};
 use name_table::Names;
 use std::alloc::Global;
-use term::NodeName;
+use term::Node;
 
 /// What the run of a closed cluster came to.
 #[derive(Drop)]
@@ -26,7 +26,7 @@ impl<N: Names<Memory = Global>> Closed<N> {
     }
 
     /// The last table of a node, or `None` where the node isn't of the cluster.
-    pub fn table(&self, node: &NodeName) -> Option<&N>
+    pub fn table(&self, node: &Node) -> Option<&N>
         ensures here { is_some result ≡ set_of self.now.world.nodes node.now }
         ensures table { IfSome result (λ table. N.contents table.now ≡ ((seen self.now.world).node node.now).replica.table) }
     {

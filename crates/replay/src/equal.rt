@@ -4,13 +4,35 @@ ghost use Rattle.std.specs.Option.{option_map};
 ghost use Rattle.node_log.specs.NodeEventsSeen.{reply_of, answer_of};
 
 use name_table::Pair;
-use node_log::{Answer, NameList, Reply};
+use node_log::{Answer, NameList, Notice, Reply};
 
 /// Whether two lists of names are the same.
 fn same_names(some: &NameList, others: &NameList) -> bool
     ensures { IsTrue result ↔ (some.now.names.items ≡ others.now.names.items) }
 {
     *some.as_slice() == *others.as_slice()
+}
+
+/// Whether two notices are the same.
+fn same_notice(one: &Notice, other: &Notice) -> bool
+    ensures { IsTrue result ↔ (one.now ≡ other.now) }
+{
+    *one == *other
+}
+
+/// Whether two lists of notices are the same.
+fn same_notices(some: &[Notice], others: &[Notice]) -> bool
+    ensures { IsTrue result ↔ (some.now ≡ others.now) }
+{
+    if some.len() != others.len() {
+        return false;
+    }
+    for (place, one) in some.iter().enumerate() {
+        if !same_notice(one, &others[place]) {
+            return false;
+        }
+    }
+    true
 }
 
 /// Whether two replies are the same.
@@ -20,6 +42,9 @@ fn same_reply(one: &Reply, other: &Reply) -> bool
     match (one, other) {
         (Reply::Pid(one), Reply::Pid(other)) => *one == *other,
         (Reply::Names(some), Reply::Names(others)) => same_names(some, others),
+        (Reply::Notices(some), Reply::Notices(others)) => {
+            same_notices(some.as_slice(), others.as_slice())
+        }
         (Reply::Yes, Reply::Yes)
         | (Reply::No, Reply::No)
         | (Reply::Ok, Reply::Ok)

@@ -2,7 +2,7 @@
 ghost use Rattle.std.specs.Prelude.{◌≡◌};
 
 use std::alloc::AllocError;
-use term::NodeName;
+use term::Node;
 use thiserror::Error;
 
 /// Why a cluster's run isn't one of the world's, in the order in which the causes are looked for.
@@ -14,14 +14,14 @@ pub enum CloseFault {
     #[error("torn {node} {at}")]
     Torn {
         /// The node.
-        node: NodeName,
+        node: Node,
         /// The place in its log.
         at: usize,
     },
     /// The thread of this node, the least such, ended without an accepted leave and without being asked to. It is looked for
     /// before anything is played.
     #[error("left_in_hold {0}")]
-    LeftInHold(NodeName),
+    LeftInHold(Node),
     /// All was played, and a transcript of this seat, the least such, has an entry that isn't, in its order, among what the run gave
     /// the seat; or it is the seat's second transcript.
     #[error("stranger {0}")]

@@ -11,6 +11,7 @@ mod tables;
 mod transcripts;
 
 pub use closed::Closed;
+pub use cluster_world::{HistoryEntry, KeptEntry, World};
 pub use faults::CloseFault;
 pub use node_log::{Answer, Call, Event, Log, NodeEnd, Reply, SeatEntry, Transcript, WorldEvent};
 pub use run::replay;

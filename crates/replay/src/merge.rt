@@ -10,7 +10,7 @@ ghost use Rattle.replay.specs.Reading.{head_of, goes_first, StandBehind};
 use name_table::Names;
 use node_log::{Log, LoggedEntry, NodeEnd};
 use std::alloc::{AllocError, Global};
-use term::NodeName;
+use term::Node;
 
 /// A log, and how many of its entries were read.
 #[derive(Drop)]
@@ -21,7 +21,7 @@ pub(crate) struct Reader<'a> {
 
 impl<'a> Reader<'a> {
     /// Whose log it is.
-    pub(crate) fn node(&self) -> &'a NodeName
+    pub(crate) fn node(&self) -> &'a Node
         ensures { result.now ≡ self.now.log.now.node }
     {
         self.log.node()

@@ -18,21 +18,22 @@ use cluster_world::{Refusal, StepFault, World};
 use name_table::Names;
 use node_log::{Answer, LoggedEntry, LoggedEvent, WorldEvent};
 use std::alloc::{AllocError, Global};
-use term::NodeName;
+use term::Node;
 
 /// Whether an event is one of this node.
-fn is_own(node: &NodeName, event: &WorldEvent) -> bool
+fn is_own(node: &Node, event: &WorldEvent) -> bool
     ensures { result ≡ (place (event_of event.now) == node.now) }
 {
     match event {
-        WorldEvent::At(place, _) | WorldEvent::Deliver(_, place) => *place == *node,
+        WorldEvent::At(place, _) => *place == *node,
+        WorldEvent::Deliver(_, receiver) => *receiver == *node.name(),
     }
 }
 
 /// Plays the event of a step.
 fn play_logged<N: Names<Memory = Global>>(
     world: &mut World<N>,
-    node: &NodeName,
+    node: &Node,
     event: &LoggedEvent<'_>,
 ) -> Result<Vec<Answer>, Refusal>
     ensures kept { Keeps world.old world.new }
@@ -43,14 +44,14 @@ fn play_logged<N: Names<Memory = Global>>(
 {
     match event {
         LoggedEvent::Delivery(sender) => {
-            world.play(&WorldEvent::Deliver(sender.copy(), node.copy()))
+            world.play(&WorldEvent::Deliver(sender.name().copy(), node.name().copy()))
         }
         LoggedEvent::Other(event) => world.play(event),
     }
 }
 
 /// Whether an event in the log of a node is one of that node.
-fn is_own_logged(node: &NodeName, event: &LoggedEvent<'_>) -> bool
+fn is_own_logged(node: &Node, event: &LoggedEvent<'_>) -> bool
     ensures { result ≡ (place (event_of (logged_event node.now event.now)) == node.now) }
 {
     match event {
@@ -62,7 +63,7 @@ fn is_own_logged(node: &NodeName, event: &LoggedEvent<'_>) -> bool
 /// Plays a step of a node, and tells whether it is one that the world takes. What the world is where it isn't, isn't said.
 fn takes<N: Names<Memory = Global>>(
     world: &mut World<N>,
-    node: &NodeName,
+    node: &Node,
     entry: &LoggedEntry<'_>,
 ) -> Result<bool, AllocError>
     ensures { IfOk result (λ taken. MatchBool taken

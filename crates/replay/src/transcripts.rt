@@ -13,7 +13,7 @@ use name_table::Names;
 use node_log::{
     Answer, Call, Event, Log, LoggedEntry, LoggedEvent, NodeEnd, SeatEntry, Transcript, WorldEvent,
 };
-use term::NodeName;
+use term::Node;
 
 /// How an event is answered.
 #[derive(Clone, Copy)]
@@ -31,16 +31,17 @@ fn how_answered(event: &WorldEvent) -> Answering
     ensures { result ≡ answering event.now }
 {
     match event {
-        WorldEvent::At(_, Event::Call(Call::Spawn | Call::Whereis(_) | Call::RegisteredNames)) => {
-            Answering::AtOnce
-        }
+        WorldEvent::At(
+            _,
+            Event::Call(Call::Spawn | Call::Whereis(_) | Call::RegisteredNames | Call::Notices(_)),
+        ) => Answering::AtOnce,
         WorldEvent::At(_, Event::Call(_)) => Answering::Later,
         WorldEvent::At(_, _) | WorldEvent::Deliver(_, _) => Answering::Never,
     }
 }
 
 /// How the event of a step in the log of a node is answered.
-fn how_logged(node: &NodeName, event: &LoggedEvent<'_>) -> Answering
+fn how_logged(node: &Node, event: &LoggedEvent<'_>) -> Answering
     ensures { result ≡ answering (event_of node.now event.now) }
 {
     let _node = node;
@@ -51,20 +52,20 @@ fn how_logged(node: &NodeName, event: &LoggedEvent<'_>) -> Answering
 }
 
 /// Whether the event of a step in the log of a node is this one.
-fn is_event(node: &NodeName, event: &LoggedEvent<'_>, other: &WorldEvent) -> bool
+fn is_event(node: &Node, event: &LoggedEvent<'_>, other: &WorldEvent) -> bool
     ensures { IsTrue result ↔ (event_of node.now event.now ≡ other.now) }
 {
     match (event, other) {
         (LoggedEvent::Other(event), _) => **event == *other,
         (LoggedEvent::Delivery(sender), WorldEvent::Deliver(from, to)) => {
-            **sender == *from && *node == *to
+            *sender.name() == *from && *node.name() == *to
         }
         (LoggedEvent::Delivery(_), WorldEvent::At(_, _)) => false,
     }
 }
 
 /// The first of these answers that a node gave to the call of this number.
-fn find_answer<'a>(answers: &'a [Answer], node: &NodeName, number: u64) -> Option<&'a Answer>
+fn find_answer<'a>(answers: &'a [Answer], node: &Node, number: u64) -> Option<&'a Answer>
     ensures { option_map (λ s. answer_of s.now) result ≡ find (answers_call node.now number) (map answer_of answers.now) }
 {
     for answer in answers {
@@ -189,7 +190,7 @@ fn follows(log: &Log, transcript: &Transcript) -> bool
 }
 
 /// The log of a node.
-fn log_at<'a, N: Names>(ends: &'a [NodeEnd<N>], node: &NodeName) -> Option<&'a Log>
+fn log_at<'a, N: Names>(ends: &'a [NodeEnd<N>], node: &Node) -> Option<&'a Log>
     ensures { MatchOption result (log_of node.now (logs_of (map (end_of N.contents) ends.now)) ≡ [])
         (λ log. (log.now.node ≡ node.now) × (log_of node.now (logs_of (map (end_of N.contents) ends.now)) ≡ log.now.entries)) }
 {

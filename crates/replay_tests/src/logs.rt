@@ -2,10 +2,10 @@
 use node_log::{LoggedEntry, LoggedEvent};
 use replay::{Answer, Call, Event, Log, Reply, WorldEvent};
 use std::alloc::Global;
-use term::{NodeName, NodeSet, Pid, parse_node, parse_nodes};
+use term::{Node, NodeSet, Pid, parse_node, parse_nodes};
 
 /// The answer to the spawn of the first process of a node.
-fn spawned(node: &NodeName) -> Answer {
+fn spawned(node: &Node) -> Answer {
     let process = Pid {
         node: node.copy(),
         serial: 1,
@@ -28,7 +28,7 @@ fn answers(alloc: Global, log: &mut Log, answer: Answer) -> bool {
 }
 
 /// Puts the spawn of a process from seat 3 at the end of a node's log, and two deliveries, of which the second is taken back.
-fn logs(alloc: Global, log: &mut Log, a: &NodeName, b: &NodeName) -> bool {
+fn logs(alloc: Global, log: &mut Log, a: &Node, b: &Node) -> bool {
     let spawn = WorldEvent::At(b.copy(), Event::Call(Call::Spawn));
     if log.begin(1, Some(3), spawn).is_err()
         || !answers(alloc, log, spawned(b))
@@ -42,7 +42,7 @@ fn logs(alloc: Global, log: &mut Log, a: &NodeName, b: &NodeName) -> bool {
 }
 
 /// Whether a step is the spawn.
-fn is_spawn(entry: LoggedEntry<'_>, node: &NodeName) -> bool {
+fn is_spawn(entry: LoggedEntry<'_>, node: &Node) -> bool {
     let is_call = match entry.event {
         LoggedEvent::Other(WorldEvent::At(at, Event::Call(Call::Spawn))) => *at == *node,
         _ => false,
@@ -55,7 +55,7 @@ fn is_spawn(entry: LoggedEntry<'_>, node: &NodeName) -> bool {
 }
 
 /// Whether a step is a delivery from this node.
-fn is_delivery(entry: LoggedEntry<'_>, sender: &NodeName) -> bool {
+fn is_delivery(entry: LoggedEntry<'_>, sender: &Node) -> bool {
     let is_from = match entry.event {
         LoggedEvent::Delivery(from) => *from == *sender,
         LoggedEvent::Other(_) => false,
@@ -64,7 +64,7 @@ fn is_delivery(entry: LoggedEntry<'_>, sender: &NodeName) -> bool {
 }
 
 /// Whether a log has the spawn and the first delivery.
-fn has_both(log: &Log, a: &NodeName, b: &NodeName) -> bool {
+fn has_both(log: &Log, a: &Node, b: &Node) -> bool {
     match (log.get(0), log.get(1), log.get(2)) {
         (Some(first), Some(second), None) => is_spawn(first, b) && is_delivery(second, a),
         _ => false,
@@ -72,7 +72,7 @@ fn has_both(log: &Log, a: &NodeName, b: &NodeName) -> bool {
 }
 
 /// Whether a new log keeps its steps in order.
-fn keeps_order(alloc: Global, world: &NodeSet, a: &NodeName, b: &NodeName) -> bool {
+fn keeps_order(alloc: Global, world: &NodeSet, a: &Node, b: &Node) -> bool {
     let mut log = Log::new(alloc, b.copy(), world);
     log.is_empty()
         && log.get(0).is_none()
@@ -83,15 +83,16 @@ fn keeps_order(alloc: Global, world: &NodeSet, a: &NodeName, b: &NodeName) -> bo
 }
 
 /// Whether a step is a delivery between these nodes that is kept with their names.
-fn is_strange(entry: LoggedEntry<'_>, sender: &NodeName, receiver: &NodeName) -> bool {
+fn is_strange(entry: LoggedEntry<'_>, sender: &Node, receiver: &Node) -> bool {
     match entry.event {
-        LoggedEvent::Other(WorldEvent::Deliver(from, to)) => *from == *sender && *to == *receiver,
+        LoggedEvent::Other(WorldEvent::Deliver(from, to)) => *from == *sender.name()
+            && *to == *receiver.name(),
         _ => false,
     }
 }
 
 /// Whether a new log keeps a delivery from a node that its world doesn't have.
-fn keeps_stranger(alloc: Global, world: &NodeSet, a: &NodeName, c: &NodeName) -> bool {
+fn keeps_stranger(alloc: Global, world: &NodeSet, a: &Node, c: &Node) -> bool {
     let mut log = Log::new(alloc, a.copy(), world);
     log.begin_delivery(1, c).is_ok()
         && match log.get(0) {
@@ -104,6 +105,8 @@ fn keeps_stranger(alloc: Global, world: &NodeSet, a: &NodeName, c: &NodeName) ->
 fn keeps_steps_in_order(rt: HostRuntime) {
     match (parse_nodes("a,b"), parse_node("a"), parse_node("b")) {
         (Ok(world), Ok(a), Ok(b)) => {
+            let world = NodeSet::first_of(&world);
+            let (a, b) = (Node::first(a), Node::first(b));
             assert!(rt; keeps_order(rt.alloc(), &world, &a, &b));
             assert!(rt; keeps_stranger(rt.alloc(), &NodeSet::one(a.copy()), &a, &b));
         }

@@ -1,10 +1,10 @@
 //! The same steps in a log and in a record that keeps none.
 use node_log::{Call, Event, ForgottenLog, Log, Record, WorldEvent};
 use std::alloc::Global;
-use term::{NodeName, NodeSet, parse_node, parse_nodes};
+use term::{Node, NodeSet, parse_node, parse_nodes};
 
 /// Whether a new record of the first node takes a spawn and the delivery of a letter from the second, and counts both.
-fn counts_both<L: Record>(alloc: Global, world: &NodeSet, a: &NodeName, b: &NodeName) -> bool {
+fn counts_both<L: Record>(alloc: Global, world: &NodeSet, a: &Node, b: &Node) -> bool {
     let mut record = L::new(alloc, a.copy(), world);
     if record.count() != 0 || record.reserve().is_err() {
         return false;
@@ -22,6 +22,8 @@ fn counts_both<L: Record>(alloc: Global, world: &NodeSet, a: &NodeName, b: &Node
 fn are_counted_alike(rt: HostRuntime) {
     match (parse_nodes("a,b"), parse_node("a"), parse_node("b")) {
         (Ok(world), Ok(a), Ok(b)) => {
+            let world = NodeSet::first_of(&world);
+            let (a, b) = (Node::first(a), Node::first(b));
             assert!(rt; counts_both::<Log>(rt.alloc(), &world, &a, &b));
             assert!(rt; counts_both::<ForgottenLog>(rt.alloc(), &world, &a, &b));
         }

@@ -5,10 +5,10 @@ use Rattle.std.specs.List.{list_any}
 use Rattle.std.proofs.Math.Path.{ap₂}
 use Rattle.std.proofs.lemmas.Bool.{eq-eqb, ne_eqb, and_from, or_right}
 use Rattle.registry_model.specs.Process.{Process, is_process, Nodes, nodes_of, at}
-use Rattle.registry_model.specs.Table.{Table, put_all}
-use Rattle.registry_model.specs.Settlement.{Settled, settle}
+use Rattle.registry_model.specs.Table.{Table}
+use Rattle.registry_model.specs.Settlement.{notices_to, Settled, with_settled, settle}
 use Rattle.registry_model.specs.Call.{Joined}
-use Rattle.registry_model.specs.Registry.{Registry, in_group, view, Replica, replica_of, with_joiner}
+use Rattle.registry_model.specs.Registry.{Registry, in_group, view, process_of, Replica, replica_of, with_joiner}
 use Rattle.registry_model.specs.History.{Entry, Join, Hold, Standing, hold_at}
 use Rattle.registry_model.specs.Legal.{is_legal}
 use Rattle.protocol_model.specs.Round.{Round}
@@ -35,6 +35,9 @@ use Rattle.registry_model.proofs.HistoryParts.{registry-after}
 use Rattle.replicas.proofs.Deciding.{hold_at-begun, stepped-begun, may_decide_now, shown, free_now, is_member, no_member, group_below}
 use Rattle.registry_model.proofs.Lists.{is_process-same}
 use Rattle.registry_model.proofs.Deaths.{dead_stays}
+use Rattle.registry_model.proofs.OwnerNodes.{IsGood-standing_of}
+use Rattle.registry_model.proofs.Untold.{untold-join}
+use Rattle.replicas.proofs.Beside.{same_settlement}
 
 -- all that die by a settlement are dead
 all_dead : (q : Registry) (all ps : List Process)
@@ -116,7 +119,7 @@ module _ (o : Opening) (w : World) (P : Proper o w) (X : Exclusive o w) (J : Joi
   admit_letter = Letter.Admit j st
 
   abbrev welcome_letter : Letter
-  welcome_letter = Letter.Welcome (at v.members j true) (put_all st.puts v.table) v.told st.fate
+  welcome_letter = Letter.Welcome (at v.members j true) (with_settled st v.table) v.told st.fate
 
   abbrev new : ℕ → List Letter
   new c = (if nat_lt c o.bound && v.members c then admit_letter ∷ [] else []) ++
@@ -153,9 +156,9 @@ module _ (o : Opening) (w : World) (P : Proper o w) (X : Exclusive o w) (J : Joi
               ∙ none (nat_lt j o.bound) ∙ ap (λ (b : Bool). if b then welcome_letter ∷ [] else []) (eq-eqb j j refl);
           carries = refl;
           kills = killed;
-          leads = ap (λ (x : Settled). welcomed (at v.members j true) (put_all x.puts v.table) v.told
+          leads = ap (λ (x : Settled). welcomed j (at v.members j true) (with_settled x v.table) v.told x.fate
               (replica_of s.registry j)) same_settled
-              ∙ ap (λ (x : Replica). welcomed (at x.members j true) (put_all st_now.puts x.table) x.told
+              ∙ ap (λ (x : Replica). welcomed j (at x.members j true) (with_settled st_now x.table) x.told st_now.fate
               (replica_of s.registry j)) is_shown
               ∙ sym (replica_of-welcomed s.registry j a st_now (sound o w P X J I).rises member);
         },
@@ -174,7 +177,7 @@ module _ (o : Opening) (w : World) (P : Proper o w) (X : Exclusive o w) (J : Joi
               (ne_eqb j c (λ i. ne (sym i)));
           carries = refl;
           kills = killed;
-          leads = ap (λ (x : Settled). admitted j x (replica_of s.registry c)) same_settled
+          leads = ap (λ (x : Settled). admitted c j x (replica_of s.registry c)) same_settled
               ∙ sym (replica_of-admitted s.registry j a st_now (sound o w P X J I).rises c k ne);
         },
         is,
@@ -204,6 +207,12 @@ module _ (o : Opening) (w : World) (P : Proper o w) (X : Exclusive o w) (J : Joi
       none true = refl
       none false = refl
 
+  -- and its processes are told nothing
+  untold : (c : ℕ) → s.registry.joined c ≡ false → (c ≡ j → ⊥) → (serial : ℕ)
+      → notices_to (process_of c serial) st_now.fate.notices ≡ []
+  untold c k ne serial =
+      untold-join s.registry (IsGood-standing_of (in_cluster o) w.history I.legal) j a c member lone k ne serial
+
   Beginning-admission : Beginning o S a q group e new (Op.Admission j pairs) awaited None
   Beginning-admission = record {
     runs = up;
@@ -221,11 +230,14 @@ module _ (o : Opening) (w : World) (P : Proper o w) (X : Exclusive o w) (J : Joi
     spared = λ c g k. spared c (sym (joined_now c) ∙ k);
     apart = λ c k.
         let x : (c ≡ j → ⊥) × (s.registry.joined c ≡ false) = left_out c (sym (joined_now c) ∙ k) in
-        replica_of-apart s.registry j a st_now (sound o w P X J I).rises c x.1 x.0;
+        replica_of-apart s.registry j a st_now (sound o w P X J I).rises c x.1 x.0 (untold c x.1 x.0);
     apart_before = λ c h k hk.
         let x : (c ≡ j → ⊥) × (s.registry.joined c ≡ false) = left_out c (sym (joined_now c) ∙ k) in
         replica_of-apart h.old j a (settle (view h.old a) (h.old.lone j)) ((groups o w P X J I).within c h hk).rises c
-        ((groups o w P X J I).lone c h hk x.1).1 x.0;
+        ((groups o w P X J I).lone c h hk x.1).1 x.0
+        (λ serial. ap (λ (st : Settled). notices_to (process_of c serial) st.fate.notices)
+        (same_settlement c h.old s.registry ((groups o w P X J I).beside c h hk x.1) j a (λ i. x.0 (sym i)) member)
+        ∙ untold c x.1 x.0 serial);
   }
 
   mine-new : (y : ℕ) → mine (sent_to y (turn_by o a w (Admits j pairs r)).sends) ≡ new y

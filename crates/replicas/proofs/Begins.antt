@@ -26,7 +26,7 @@ pub record IsWrittenTo (r q : Registry) (c : ℕ) (new : List Letter) : Type 0 w
   pub alone : new ≡ letter ∷ []
   pub carries : carries letter ≡ true
   pub kills : AllDead q (kills_in letter)
-  pub leads : carried letter (replica_of r c) ≡ replica_of q c
+  pub leads : carried c letter (replica_of r c) ≡ replica_of q c
 
 module _ (o : Opening) (S : Scene) (a : ℕ) (q : Registry) (group : Nodes) (e : Entry) (new : ℕ → List Letter)
     (op : Op) (awaited : Nodes) (reply : Option Reply) where
@@ -147,23 +147,23 @@ module _ (o : Opening) (S : Scene) (a : ℕ) (q : Registry) (group : Nodes) (e :
                 hold_here c m,
                 sym i,
                 subst (Runs o T) (sym i) B.runs,
-                ap (λ (h : Option Hold). carried W.letter (replica_of (old_or q h) c)) (hold_here c m) ∙ W.leads,
+                ap (λ (h : Option Hold). carried c W.letter (replica_of (old_or q h) c)) (hold_here c m) ∙ W.leads,
               )),
               tt,
             ))
         go false m = Each-sent a S.gone new S.mail (Leads o T f c) f c
             (Each-map (Leads o S f c) (Leads o T f c) (S.mail f c)
             (λ l n k. let x : (h : Hold) × (S.hold c ≡ Some h) × (h.node ≡ f) × Runs o S f
-            × (carried l (replica_of (before o S c) c) ≡ replica_of S.registry c) = n k in
+            × (carried c l (replica_of (before o S c) c) ≡ replica_of S.registry c) = n k in
             let held : T.hold c ≡ Some (record x.0 { old = effect e x.0.old }) =
             hold_there c m ∙ ap (with_effect_on e) x.1 in (
               record x.0 { old = effect e x.0.old },
               held,
               x.2,
               x.3,
-              ap (λ (h : Option Hold). carried l (replica_of (old_or q h) c)) held
-                  ∙ ap (carried l) (B.apart_before c x.0 m x.1)
-                  ∙ ap (λ (h : Option Hold). carried l (replica_of (old_or S.registry h) c)) (sym x.1)
+              ap (λ (h : Option Hold). carried c l (replica_of (old_or q h) c)) held
+                  ∙ ap (carried c l) (B.apart_before c x.0 m x.1)
+                  ∙ ap (λ (h : Option Hold). carried c l (replica_of (old_or S.registry h) c)) (sym x.1)
                   ∙ x.4 ∙ sym (B.apart c m),
             )) (K.notes f c g))
             (λ i. subst (Each (Leads o T f c)) (sym (B.spared c g m).0) tt)

@@ -88,7 +88,7 @@ module _ (o : Opening) (S : Scene) (K : Kept o S) (G : Groups S.registry S.hold)
     -- the scene after it
     abbrev pub carried_scene : Scene
     carried_scene = record S {
-      replica = at S.replica a (carried l (S.replica a));
+      replica = at S.replica a (carried a l (S.replica a));
       mail = sent a S.gone answer_to (took f a rest S.mail);
     }
 
@@ -115,7 +115,7 @@ module _ (o : Opening) (S : Scene) (K : Kept o S) (G : Groups S.registry S.hold)
 
       -- the letter of an operation, with what holds
       led : (h : Hold) × (S.hold a ≡ Some h) × (h.node ≡ f) × Runs o S f
-          × (carried l (replica_of (before o S a) a) ≡ replica_of S.registry a)
+          × (carried a l (replica_of (before o S a) a) ≡ replica_of S.registry a)
       led = note is
 
       session : 1 + count_of carries rest + count_of is_applied (S.mail a f) ≡ one_if (awaits_node (S.doing f) a)
@@ -146,11 +146,11 @@ module _ (o : Opening) (S : Scene) (K : Kept o S) (G : Groups S.registry S.hold)
           (no_carrier c)
           ∙ ap (list_any carries) (took-to f a rest S.mail h.node c ne))
 
-      facts : (c : ℕ) → Runs o S c → at S.replica a (carried l (S.replica a)) c
+      facts : (c : ℕ) → Runs o S c → at S.replica a (carried a l (S.replica a)) c
           ≡ replica_of (if is_late o T c (S.hold c) then before o S c else S.registry) c
-      facts c = by_test a (λ c t. Runs o S c → (if t then carried l (S.replica a) else S.replica c)
+      facts c = by_test a (λ c t. Runs o S c → (if t then carried a l (S.replica a) else S.replica c)
           ≡ replica_of (if is_late o T c (S.hold c) then before o S c else S.registry) c)
-          (λ u. ap (carried l)
+          (λ u. ap (carried a l)
           (K.facts a u ∙ ap (λ (b : Bool). replica_of (if b then before o S a else S.registry) a) was_late)
           ∙ led.4 ∙ ap (λ (b : Bool). replica_of (if b then before o S a else S.registry) a) (sym not_late))
           (λ c ne u. K.facts c u ∙ ap (λ (b : Bool). replica_of (if b then before o S c else S.registry) c)

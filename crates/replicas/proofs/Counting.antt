@@ -238,12 +238,12 @@ module _ (o : Opening) (S : Scene) (K : Kept o S) (G : Groups S.registry S.hold)
         ]
         go false m = Each-map (Leads o S x y) (Leads o D x y) (S.mail x y)
             (λ l n k. let z : (h : Hold) × (S.hold y ≡ Some h) × (h.node ≡ x) × Runs o S x
-            × (carried l (replica_of (before o S y) y) ≡ replica_of S.registry y) = n k in (
+            × (carried y l (replica_of (before o S y) y) ≡ replica_of S.registry y) = n k in (
               z.0,
               same_out y m ∙ z.1,
               z.2,
               z.3,
-              ap (λ (h : Option Hold). carried l
+              ap (λ (h : Option Hold). carried y l
                   (replica_of (old_or S.registry h) y)) (same_out y m) ∙ z.4,
             )) (K.notes x y g)
 

@@ -4,7 +4,7 @@ use Rattle.std.specs.Prelude.{not, ◌&&◌}
 use Rattle.std.proofs.Math.Path.{ap₂}
 use Rattle.registry_model.specs.Process.{Nodes, at}
 use Rattle.registry_model.specs.Table.{Table, without}
-use Rattle.registry_model.specs.Registry.{Registry, in_group, table_of, Replica, replica_of}
+use Rattle.registry_model.specs.Registry.{Registry, in_group, table_of, process_of, Replica, replica_of}
 use Rattle.registry_model.specs.History.{Told, effect}
 use Rattle.protocol_model.specs.Reading.{bereft}
 use Rattle.registry_model.proofs.Updates.{at_same, at_other}
@@ -19,12 +19,19 @@ shown_less r c gone = record {
       λ x. in_group r c x && not (gone x);
   told = gone;
   joined = r.joined c;
+  notices = λ serial. r.notices (process_of c serial);
 }
 
 shown_less-at : (r : Registry) (n d : ℕ) → shown_less r n (at (r.told n) d true) ≡ bereft d (replica_of r n)
 shown_less-at r n d =
     ap₂ (λ (t : Table) (m : Nodes). let v : Replica =
-    record { table = t; members = m; told = at (r.told n) d true; joined = r.joined n } in v)
+    record {
+      table = t;
+      members = m;
+      told = at (r.told n) d true;
+      joined = r.joined n;
+      notices = λ serial. r.notices (process_of n serial);
+    } in v)
     (without-at (r.told n) d (table_of r n)) (members-at (in_group r n) (r.told n) d)
 
 -- a node that is told of a departure shows it

@@ -5,7 +5,7 @@ use Rattle.std.proofs.lemmas.Bool.{and_from}
 use Rattle.std.proofs.lemmas.Slice.Eq.{bytes_eq-Decides}
 use Rattle.registry_model.specs.Process.{Process}
 use Rattle.registry_model.specs.Table.{StrikeOwner, changed}
-use Rattle.registry_model.specs.Call.{NameCall, Reply, Pid, Names, is_reply, change_of, reply_to}
+use Rattle.registry_model.specs.Call.{NameCall, Reply, Pid, Names, Notices, is_reply, change_of, reply_to}
 use Rattle.registry_model.specs.Registry.{with_table, view, members, Replica}
 use Rattle.registry_model.specs.History.{Name, Strike, Standing, set_hold, with_effect}
 use Rattle.registry_model.specs.Legal.{is_legal, may_decide}
@@ -14,7 +14,7 @@ use Rattle.protocol_model.specs.Node.{Op, Current}
 use Rattle.protocol_model.specs.World.{Opening, in_cluster, World}
 use Rattle.moves.proofs.Rules.{Grants, Strikes, IsHeld, May, turn_by, effect}
 use Rattle.moves.proofs.Invariants.{IsUp, Proper, Exclusive, JoinsKnown}
-use Rattle.registry_model.proofs.Lists.{is_process-same}
+use Rattle.registry_model.proofs.Lists.{is_process-same, are_notices-same}
 use Rattle.replicas.proofs.Histories.{IsLegal-append, after-granted}
 use Rattle.replicas.proofs.Scenes.{doing_of, struck_by, struck_of, scene_of, AreStruck, Kept}
 use Rattle.replicas.proofs.Steps.{scene_of-effect}
@@ -26,6 +26,7 @@ use Rattle.replicas.proofs.Deciding.{may_decide_now, shown, free_now, Kept-writt
 pub is_reply-same : (x : Reply) → is_reply x x ≡ true
 is_reply-same (Pid p) = is_process-same p
 is_reply-same (Names xs) = (bytes_eq-Decides xs xs).1 refl
+is_reply-same (Notices fs) = are_notices-same fs
 is_reply-same _ = refl
 
 module _ (o : Opening) (w : World) (P : Proper o w) (X : Exclusive o w) (J : JoinsKnown o w) (I : Known o w) where

@@ -6,6 +6,7 @@ use Rattle.registry_model.specs.Registry.{Registry, in_group}
 use Rattle.registry_model.specs.History.{Hold, Standing, hold_at}
 use Rattle.registry_model.proofs.Groups.{in_group-itself}
 use Rattle.registry_model.proofs.Holding.{hold_at-group}
+use Rattle.replicas.proofs.Beside.{IsAlikeBut}
 use Rattle.replicas.proofs.Soundness.{Within, WithinCluster, WithinLone, Sound}
 use Rattle.replicas.proofs.Legality.{hold_at-lone, hold_at-joined}
 
@@ -16,6 +17,8 @@ pub record Groups (r : Registry) (hold : ℕ → Option Hold) : Type 0 where
   pub joined : (c : ℕ) (h : Hold) → hold c ≡ Some h → r.joined c ≡ true
       → (r.joined h.node ≡ true) × (h.old.joined h.node ≡ true)
   pub lone : (c : ℕ) (h : Hold) → hold c ≡ Some h → r.joined c ≡ false → (h.node ≡ c) × (h.old.joined c ≡ false)
+  -- what holds at a lone node concerns its own names alone
+  pub beside : (c : ℕ) (h : Hold) → hold c ≡ Some h → r.joined c ≡ false → IsAlikeBut c h.old r
 
 -- so it stands of every legal history
 pub Groups-sound : (s : Standing) → Sound s → Groups s.registry (hold_at s)
@@ -26,6 +29,7 @@ Groups-sound s S = record {
       (C.node, C.before);
   lone = λ c h e j. let L : WithinLone s.registry c h = S.alone c h (sym (hold_at-lone s c j) ∙ e) in
       (L.node, L.before);
+  beside = λ c h e j. (S.alone c h (sym (hold_at-lone s c j) ∙ e)).alike;
 }
   where
     within : (c : ℕ) (h : Hold) → hold_at s c ≡ Some h → (b : Bool) → s.registry.joined c ≡ b → Within s.registry h

@@ -74,7 +74,7 @@ module _ (o : Opening) (w : World) (P : Proper o w) (X : Exclusive o w) (J : Joi
     shows = λ r c. by_test a (λ c t. replica_of (effect_of (Told a f) r) c
         ≡ (if t then bereft f (replica_of r c) else replica_of r c))
         (replica_of-told r a f) (λ c ne. replica_of-untold r a f c ne) c;
-    commutes = λ c l x rises. go (c == a) l x rises;
+    commutes = λ c l x rises. go c (c == a) l x rises;
     left = I.kept.departed;
     all_dead = I.kept.dead;
     stays = λ c g. g;
@@ -82,10 +82,10 @@ module _ (o : Opening) (w : World) (P : Proper o w) (X : Exclusive o w) (J : Joi
     same_mail = λ x y g. refl;
   }
     where
-      go : (b : Bool) (l : Letter) (x : Replica) → is_rising x.table ≡ true
-          → carried l (if b then bereft f x else x) ≡ (if b then bereft f (carried l x) else carried l x)
-      go true l x rises = carried-bereft l f x rises
-      go false l x rises = refl
+      go : (c : ℕ) (b : Bool) (l : Letter) (x : Replica) → is_rising x.table ≡ true
+          → carried c l (if b then bereft f x else x) ≡ (if b then bereft f (carried c l x) else carried c l x)
+      go c true l x rises = carried-bereft c l f x rises
+      go c false l x rises = refl
 
   -- a notice of a departure is taken in
   pub Known-told : (f : ℕ) → May o a w (IsTold f) → Known o (effect o a (IsTold f) w)

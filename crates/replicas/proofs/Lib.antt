@@ -3,6 +3,7 @@ pub mod Mail
 pub mod Departures
 pub mod Admissions
 pub mod Histories
+pub mod Beside
 pub mod Soundness
 pub mod Legality
 pub mod Scenes

@@ -1,17 +1,18 @@
 -- Letters that carry operations out, and what each makes of a replica.
-use Rattle.std.proofs.Common.{ℕ, Bool, true, false, ◌≡◌, ◌==◌, refl, sym, ap, ◌∙◌, [], ◌∷◌}
+use Rattle.std.proofs.Common.{ℕ, Bool, true, false, ◌≡◌, ◌==◌, refl, sym, ap, ◌∙◌, List, [], ◌∷◌}
 use Rattle.std.specs.Prelude.{if◌then◌else◌, not, ◌&&◌, ◌||◌, fold}
 use Rattle.std.proofs.Math.Path.{ap₂, fun_ext}
 use Rattle.std.proofs.lemmas.Bool.{eqb-true, eq-eqb}
-use Rattle.registry_model.specs.Process.{Nodes, at}
+use Rattle.registry_model.specs.Process.{Text, Nodes, at}
 use Rattle.registry_model.specs.Table.{Table, is_rising, put, remove, without, Change, Put, Remove, StrikeOwner, changed}
 use Rattle.registry_model.specs.Registry.{Replica}
-use Rattle.registry_model.specs.Settlement.{Settled}
+use Rattle.registry_model.specs.Settlement.{Notice, Fate, Settled}
 use Rattle.registry_model.proofs.Tables.{without-remove, without-strike, without-put, is_rising-changed, without-at}
 use Rattle.protocol_model.specs.Letter.{Letter}
 use Rattle.protocol_model.specs.Node.{unless_told, wrote}
 use Rattle.moves.proofs.Invariants.{is_welcome}
-use Rattle.protocol_model.specs.Reading.{with_member, admitted, joined_with, welcomed, bereft}
+use Rattle.protocol_model.specs.Reading.{with_member, wrote_all, noted, admitted, joined_with, welcomed, bereft}
+use Rattle.moves.proofs.Writes.{wrote_all-keeps}
 
 -- a letter that carries an operation out
 abbrev pub carries : Letter → Bool
@@ -25,19 +26,19 @@ abbrev pub is_applied : Letter → Bool
 is_applied Letter.Applied = true
 is_applied _ = false
 
--- what it makes of a replica
-abbrev pub carried : Letter → Replica → Replica
-carried (Letter.Apply change) v = wrote change v
-carried (Letter.Admit j settled) v = admitted j settled v
-carried (Letter.Welcome members pairs told fate) v = welcomed members pairs told v
-carried _ v = v
+-- what it makes of the replica of node c
+abbrev pub carried : ℕ → Letter → Replica → Replica
+carried c (Letter.Apply change) v = wrote change v
+carried c (Letter.Admit j settled) v = admitted c j settled v
+carried c (Letter.Welcome members pairs told fate) v = welcomed c members pairs told fate v
+carried c _ v = v
 
 -- a replica is told by its parts
-same_replica : {t s : Table} {m k : Nodes} (told : Nodes) (joined : Bool) → t ≡ s → m ≡ k
-    → ◌≡◌ {A = Replica} (record { table = t; members = m; told = told; joined = joined })
-    (record { table = s; members = k; told = told; joined = joined })
-same_replica told joined e f = ap₂ (λ (t : Table) (m : Nodes). let v : Replica =
-    record { table = t; members = m; told = told; joined = joined } in v) e f
+same_replica : {t s : Table} {m k : Nodes} (told : Nodes) (joined : Bool) (notices : ℕ → List Notice) → t ≡ s → m ≡ k
+    → ◌≡◌ {A = Replica} (record { table = t; members = m; told = told; joined = joined; notices = notices })
+    (record { table = s; members = k; told = told; joined = joined; notices = notices })
+same_replica told joined notices e f = ap₂ (λ (t : Table) (m : Nodes). let v : Replica =
+    record { table = t; members = m; told = told; joined = joined; notices = notices } in v) e f
 
 -- less d, a table is written as if d were told
 without-written : (d : ℕ) (told : Nodes) (ch : Change) (t : Table) → is_rising t ≡ true
@@ -59,7 +60,7 @@ without-written d told (StrikeOwner p) t r = sym (without-strike (λ c. c == d) 
 
 wrote-bereft : (d : ℕ) (ch : Change) (v : Replica) → is_rising v.table ≡ true
     → wrote ch (bereft d v) ≡ bereft d (wrote ch v)
-wrote-bereft d ch v r = same_replica (at v.told d true) v.joined (without-written d v.told ch v.table r) refl
+wrote-bereft d ch v r = same_replica (at v.told d true) v.joined v.notices (without-written d v.told ch v.table r) refl
 
 -- one node more is told
 pub members-at : (s told : Nodes) (d : ℕ)
@@ -93,9 +94,9 @@ with_member-bereft d j v = go (v.told j) (j == d) refl
         ≡ bereft d (if b then v else record v { members = at v.members j true })
     go true true e = refl
     go true false e = refl
-    go false true e = same_replica (at v.told d true) v.joined refl
+    go false true e = same_replica (at v.told d true) v.joined v.notices refl
         (fun_ext (λ x. both_told x (x == d) (x == j) (ap (λ (y : ℕ). x == y) (eqb-true j d e))))
-    go false false e = same_replica (at v.told d true) v.joined refl
+    go false false e = same_replica (at v.told d true) v.joined v.notices refl
         (fun_ext (λ x. apart x (x == d) (x == j)
         (λ i k. absurd (cc (eq-eqb j d (sym (eqb-true x j k) ∙ eqb-true x d i), e)))))
 
@@ -109,21 +110,37 @@ puts-bereft d (e ∷ puts) v r = ap (λ (x : Replica). fold (λ x e. wrote (Put 
     ∙ puts-bereft d puts (wrote (Put e) v)
     (is_rising-changed (unless_told v.told (Put e)) v.table r)
 
-admitted-bereft : (d j : ℕ) (settled : Settled) (v : Replica) → is_rising v.table ≡ true
-    → admitted j settled (bereft d v) ≡ bereft d (admitted j settled v)
-admitted-bereft d j settled v r = ap (λ (x : Replica). fold (λ x e. wrote (Put e) x) x settled.puts)
+-- names that are removed one after another
+removes-bereft : (d : ℕ) (xs : List Text) (v : Replica)
+    → fold (λ x y. wrote (Remove y) x) (bereft d v) xs
+    ≡ bereft d (fold (λ x y. wrote (Remove y) x) v xs)
+removes-bereft d [] v = refl
+removes-bereft d (y ∷ xs) v = ap (λ (x : Replica). fold (λ x y. wrote (Remove y) x) x xs)
+    (same_replica (at v.told d true) v.joined v.notices (sym (without-remove (λ c. c == d) y v.table)) refl)
+    ∙ removes-bereft d xs (wrote (Remove y) v)
+
+wrote_all-bereft : (d : ℕ) (settled : Settled) (v : Replica) → is_rising v.table ≡ true
+    → wrote_all settled (bereft d v) ≡ bereft d (wrote_all settled v)
+wrote_all-bereft d settled v r =
+    ap (λ (x : Replica). fold (λ x y. wrote (Remove y) x) x settled.removes) (puts-bereft d settled.puts v r)
+    ∙ removes-bereft d settled.removes (fold (λ x e. wrote (Put e) x) v settled.puts)
+
+admitted-bereft : (d a j : ℕ) (settled : Settled) (v : Replica) → is_rising v.table ≡ true
+    → admitted a j settled (bereft d v) ≡ bereft d (admitted a j settled v)
+admitted-bereft d a j settled v r = ap (λ (x : Replica). noted a settled.fate (wrote_all settled x))
     (with_member-bereft d j v)
-    ∙ puts-bereft d settled.puts (with_member j v) (go (v.told j))
+    ∙ ap (noted a settled.fate) (wrote_all-bereft d settled (with_member j v) (go (v.told j)))
   where
     go : (b : Bool) → is_rising (if b then v else record v { members = at v.members j true }).table ≡ true
     go true = r
     go false = r
 
-welcomed-bereft : (d : ℕ) (members : Nodes) (pairs : Table) (told : Nodes) (v : Replica)
-    → welcomed members pairs told (bereft d v) ≡ bereft d (welcomed members pairs told v)
-welcomed-bereft d members pairs told v =
-    ap (joined_with members pairs) (fun_ext (λ c. go (c == d) (v.told c) (told c)))
-    ∙ same_replica (at gone d true) true (without-at gone d pairs) (members-at members gone d)
+welcomed-bereft : (d a : ℕ) (members : Nodes) (pairs : Table) (told : Nodes) (fate : Fate) (v : Replica)
+    → welcomed a members pairs told fate (bereft d v) ≡ bereft d (welcomed a members pairs told fate v)
+welcomed-bereft d a members pairs told fate v =
+    ap (λ (gone : Nodes). noted a fate (joined_with members pairs gone v))
+    (fun_ext (λ c. go (c == d) (v.told c) (told c)))
+    ∙ same_replica (at gone d true) true (noted a fate v).notices (without-at gone d pairs) (members-at members gone d)
   where
     gone : Nodes
     gone c = v.told c || told c
@@ -133,26 +150,21 @@ welcomed-bereft d members pairs told v =
     go false t u = refl
 
 -- what a letter carries out and a departure may change places
-pub carried-bereft : (l : Letter) (d : ℕ) (v : Replica) → is_rising v.table ≡ true
-    → carried l (bereft d v) ≡ bereft d (carried l v)
-carried-bereft (Letter.Apply change) d v r = wrote-bereft d change v r
-carried-bereft (Letter.Admit j settled) d v r = admitted-bereft d j settled v r
-carried-bereft (Letter.Welcome members pairs told fate) d v r = welcomed-bereft d members pairs told v
-carried-bereft _ d v r = refl
+pub carried-bereft : (a : ℕ) (l : Letter) (d : ℕ) (v : Replica) → is_rising v.table ≡ true
+    → carried a l (bereft d v) ≡ bereft d (carried a l v)
+carried-bereft a (Letter.Apply change) d v r = wrote-bereft d change v r
+carried-bereft a (Letter.Admit j settled) d v r = admitted-bereft d a j settled v r
+carried-bereft a (Letter.Welcome members pairs told fate) d v r = welcomed-bereft d a members pairs told fate v
+carried-bereft a _ d v r = refl
 
--- only a welcome changes whether a node is joined
-puts-joined : (puts : Table) (v : Replica) → (fold (λ x e. wrote (Put e) x) v puts).joined ≡ v.joined
-puts-joined [] v = refl
-puts-joined (e ∷ puts) v = puts-joined puts (wrote (Put e) v)
-
--- so a letter that is no welcome leaves it
-pub carried-joined : (l : Letter) (v : Replica) → carries l ≡ true → is_welcome l ≡ false
-    → (carried l v).joined ≡ v.joined
-carried-joined (Letter.Apply change) v e f = refl
-carried-joined (Letter.Admit j settled) v e f = puts-joined settled.puts (with_member j v) ∙ go (v.told j)
+-- only a welcome changes whether a node is joined: a letter that is none leaves it
+pub carried-joined : (a : ℕ) (l : Letter) (v : Replica) → carries l ≡ true → is_welcome l ≡ false
+    → (carried a l v).joined ≡ v.joined
+carried-joined a (Letter.Apply change) v e f = refl
+carried-joined a (Letter.Admit j settled) v e f = (wrote_all-keeps settled (with_member j v)).joined ∙ go (v.told j)
   where
     go : (b : Bool) → (if b then v else record v { members = at v.members j true }).joined ≡ v.joined
     go true = refl
     go false = refl
-carried-joined (Letter.Welcome members pairs told fate) v e f = cc
-carried-joined _ v e f = cc
+carried-joined a (Letter.Welcome members pairs told fate) v e f = cc
+carried-joined a _ v e f = cc

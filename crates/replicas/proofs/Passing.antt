@@ -33,7 +33,7 @@ module _ (o : Opening) (S : Scene) (e : Entry) (turns : ℕ → Replica → Repl
     pub joined : (effect e S.registry).joined ≡ S.registry.joined
     pub shows : (r : Registry) (c : ℕ) → replica_of (effect e r) c ≡ turns c (replica_of r c)
     pub commutes : (c : ℕ) (l : Letter) (v : Replica) → is_rising v.table ≡ true
-        → carried l (turns c v) ≡ turns c (carried l v)
+        → carried c l (turns c v) ≡ turns c (carried c l v)
     pub left : (d : ℕ) → (effect e S.registry).left d ≡ gone d
     pub all_dead : (a s : ℕ) → list_any (λ d. d == s) (dead a) ≡ true
         → (effect e S.registry).dead (record { node = a; serial = s }) ≡ true
@@ -85,17 +85,17 @@ module _ (o : Opening) (S : Scene) (e : Entry) (turns : ℕ → Replica → Repl
     notes x y g = subst (Each (Leads o T x y)) (sym (P.same_mail x y g))
         (Each-map (Leads o S x y) (Leads o T x y) (S.mail x y) (λ l n k.
         let z : (h : Hold) × (S.hold y ≡ Some h) × (h.node ≡ x) × Runs o S x
-        × (carried l (replica_of (before o S y) y) ≡ replica_of S.registry y) = n k in
+        × (carried y l (replica_of (before o S y) y) ≡ replica_of S.registry y) = n k in
         let stays : is_busy (S.doing x) ≡ true =
         ap (λ (q : ℕ). is_busy (S.doing q)) (sym z.2) ∙ holder_busy o S K G y z.0 z.1 in (
           behind e z.0,
           ap (with_effect_on e) z.1,
           z.2,
           (z.3.0, P.busy x stays),
-          ap (λ (q : Option Hold). carried l (replica_of (old_or (effect e S.registry) (with_effect_on e q)) y)) z.1
-              ∙ ap (carried l) (P.shows z.0.old y)
+          ap (λ (q : Option Hold). carried y l (replica_of (old_or (effect e S.registry) (with_effect_on e q)) y)) z.1
+              ∙ ap (carried y l) (P.shows z.0.old y)
               ∙ P.commutes y l (replica_of z.0.old y) (is_rising-view z.0.old (G.within y z.0 z.1).rises y)
-              ∙ ap (turns y) (ap (λ (q : Option Hold). carried l (replica_of (old_or S.registry q) y)) (sym z.1)
+              ∙ ap (turns y) (ap (λ (q : Option Hold). carried y l (replica_of (old_or S.registry q) y)) (sym z.1)
               ∙ z.4)
               ∙ sym (P.shows S.registry y),
         )) (K.notes x y (P.stays y g)))

@@ -47,7 +47,7 @@ module _ (o : Opening) (w : World) (P : Proper o w) (X : Exclusive o w) (J : Joi
 
     -- a turn that carries the operation of the letter out
     Kept-turn : (up : Runs o S a) (is : carries l ≡ true) (u : Turn) → u.entries ≡ []
-        → u.node.replica ≡ carried l (w.node a).replica
+        → u.node.replica ≡ carried a l (w.node a).replica
         → doing_of u.node.current ≡ doing_of (w.node a).current
         → struck_by u.node.current ++ struck_of u.node.queue
         ≡ struck_by (w.node a).current ++ struck_of (w.node a).queue

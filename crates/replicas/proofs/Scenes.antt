@@ -128,7 +128,7 @@ module _ (o : Opening) (S : Scene) where
   abbrev pub Leads : ℕ → ℕ → Letter → Type 0
   Leads f c l = carries l ≡ true →
       (h : Hold) × (S.hold c ≡ Some h) × (h.node ≡ f) × Runs f
-      × (carried l (replica_of (before c) c) ≡ replica_of S.registry c)
+      × (carried c l (replica_of (before c) c) ≡ replica_of S.registry c)
 
   -- who is to be struck is a dead process of the node
   abbrev pub AreStruck : ℕ → List Process → Type 0

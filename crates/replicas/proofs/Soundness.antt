@@ -13,8 +13,9 @@ use Rattle.registry_model.proofs.Tables.{is_rising-parts, get-below, get-front, 
 use Rattle.registry_model.proofs.Groups.{told-with_table}
 use Rattle.registry_model.proofs.Rising.{Rises, Rises-effect}
 use Rattle.registry_model.proofs.Deaths.{joined-effect, joined_stays}
-use Rattle.registry_model.proofs.LoneOwners.{IsOwn}
+use Rattle.registry_model.proofs.OwnerNodes.{IsOwn}
 use Rattle.registry_model.proofs.Updates.{by_test, at_same}
+use Rattle.replicas.proofs.Beside.{IsAlikeBut}
 
 -- all owners are of node n
 abbrev pub are_on : ℕ → Table → Bool
@@ -52,6 +53,7 @@ pub record WithinLone (r : Registry) (n : ℕ) (h : Hold) : Type 0 where
   pub node : h.node ≡ n
   pub lone : r.joined n ≡ false
   pub before : h.old.joined n ≡ false
+  pub alike : IsAlikeBut n h.old r
 
 -- what holds is within its group
 pub record Grouped (s : Standing) : Type 0 where

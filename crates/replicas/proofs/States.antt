@@ -257,10 +257,10 @@ module _ (o : Opening) (w : World) (R : Replicas o w) (J : JoinsKnown o w) where
           (λ l. is_welcome l ≡ true → (k : ℕ) × ((w.node a).current ≡ Current.Joining k h.node))
           (w.links.queue h.node a) k (R.notes h.node a u.1) (J.welcome h.node a u) in
           let y : (g : Hold) × (hold_at (standing_at o w) a ≡ Some g) × (g.node ≡ h.node) × IsUp o w h.node
-          × (carried x.0 (replica_of (old (standing_at o w) a) a) ≡ replica_of (standing_at o w).registry a) = x.2 x.1
+          × (carried a x.0 (replica_of (old (standing_at o w) a) a) ≡ replica_of (standing_at o w).registry a) = x.2 x.1
           in
           ap (λ (q : Option Hold). (old_or (standing_at o w).registry q).joined a) (sym e)
-          ∙ sym (carried-joined x.0 (replica_of (old (standing_at o w) a) a) x.1
+          ∙ sym (carried-joined a x.0 (replica_of (old (standing_at o w) a) a) x.1
           (no_welcome h.node x.0 (is_welcome x.0) refl x.3))
           ∙ ap (λ (v : Replica). v.joined) y.4
       late h e false k = refl

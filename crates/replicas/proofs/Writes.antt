@@ -22,7 +22,7 @@ without-changed gone (Remove x) t r = without-remove gone x t
 without-changed gone (StrikeOwner p) t r = without-strike gone p t
 
 -- a replica with another table
-abbrev with_rows : Replica → Table → Replica
+abbrev pub with_rows : Replica → Table → Replica
 with_rows v t = record v { table = t }
 
 -- a node of the group shows the write

@@ -74,7 +74,7 @@ impl Write for Shut {
 }
 
 /// Plays what a reader gives.
-fn play<R: Read + Drop, W: Write>(
+pub(crate) fn play<R: Read + Drop, W: Write>(
     alloc: Global,
     reader: R,
     writer: &mut W,

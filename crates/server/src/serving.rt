@@ -16,33 +16,33 @@ use std::net::TcpListener;
 use std::sync::Wait;
 use std::thread::Threads;
 use std::time::Clock;
-use term::{NodeName, NodeSet};
+use term::{Node, NodeName, NodeNames, NodeSet};
 use text_lines::tell;
 
 /// How often a node's thread, or a seat, that finds nothing to do yields at most before it sleeps. That mostly takes longer than a
 /// registration, so a node is awake when its next letter comes.
 pub(crate) const YIELDS: u32 = 500;
 
-/// Puts these nodes into a set. Where it has no room for all of them, some are left out.
+/// Puts the first nodes of these names into a set. Where it has no room for all of them, some are left out.
 fn put_all(set: &mut NodeSet, nodes: &[NodeName])
     ensures all { length set.old + length nodes.now ≤ most_nodes
         → (c : ℕ) → set_of set.new c ≡ (set_of set.old c || set_of nodes.now c) }
     ensures room { length set.new ≤ length set.old + length nodes.now }
 {
     for node in nodes {
-        let _ = set.insert(node.copy());
+        let _ = set.insert(Node::first(node.copy()));
     }
 }
 
-/// The set of all these nodes, of which there are eight at most.
-pub(crate) fn set_of_all(cluster: &[NodeName], lone: &[NodeName]) -> NodeSet
+/// The set of all these names, of which there are eight at most.
+pub(crate) fn set_of_all(cluster: &[NodeName], lone: &[NodeName]) -> NodeNames
     ensures { length cluster.now + length lone.now ≤ most_nodes
         → (c : ℕ) → set_of result c ≡ (set_of cluster.now c || set_of lone.now c) }
 {
     let mut set = NodeSet::empty();
     put_all(&mut set, cluster);
     put_all(&mut set, lone);
-    set
+    NodeNames::of(&set)
 }
 
 /// Closes a cluster with these transcripts, and tells what it closed with.

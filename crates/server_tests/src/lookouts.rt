@@ -1,10 +1,10 @@
 //! What is told of numbers that are nearly spent.
 use server::{Lookout, Numbers, Spent};
 use std::test::Fail;
-use term::{NodeName, parse_node};
+use term::{Node, parse_node};
 
 /// What is told of a node where these were the last numbers that it gave.
-fn look(lookout: &mut Lookout, node: &NodeName, calls: u32, serials: u32) -> Spent {
+fn look(lookout: &mut Lookout, node: &Node, calls: u32, serials: u32) -> Spent {
     let numbers = Numbers {
         names: 0,
         locks: 0,
@@ -18,8 +18,8 @@ fn look(lookout: &mut Lookout, node: &NodeName, calls: u32, serials: u32) -> Spe
 
 #[test]
 fn nine_tenths_are_told_once(rt: HostRuntime) -> Result<(), Fail> {
-    let node = parse_node("a")?;
-    let other = parse_node("b")?;
+    let node = Node::first(parse_node("a")?);
+    let other = Node::first(parse_node("b")?);
     let mut lookout = Lookout::new();
     let nothing = Spent {
         calls: false,

@@ -192,13 +192,16 @@ fn one_console_too_many(rt: HostRuntime) -> Result<(), Fail> {
     Ok(())
 }
 
-/// Two consoles that wait for nothing, while a third asks for the end.
+/// Two consoles that wait for nothing, while a third asks for the end. Each has said a line before, so that it has its seat by then:
+/// one that is told `ok` and has none yet may hear that the cluster is closed.
 fn idle<R>(rt: &R, alloc: Global, address: SocketAddr) -> io::Result<[Vec<u8>; 3]>
 where
     R: Net<Listener = TcpListener, Stream = TcpStream>,
 {
     let first = attach(rt, address)?;
     let second = attach(rt, address)?;
+    ask(&first, b"whereis x\n", &mut [0u8; 10])?;
+    ask(&second, b"whereis x\n", &mut [0u8; 10])?;
     let third = converse(rt, alloc, address, b"attach a\nshutdown\n")?;
     Ok([hear(alloc, &first)?, hear(alloc, &second)?, third])
 }

@@ -66,6 +66,97 @@ fn a_console_names_a_process(rt: HostRuntime) -> Result<(), Fail> {
     Ok(())
 }
 
+/// Serves a cluster of the node a, and the lone node d, to two consoles.
+fn serve_both<R, W>(
+    rt: &R,
+    alloc: Global,
+    listener: TcpListener,
+    writer: &mut W,
+) -> Result<bool, ServeFault>
+where
+    R: Threads + Wait + Clock + Drop + Copy + Send + Sync + 'static,
+    W: Write,
+{
+    let (Ok(a), Ok(d)) = (parse_node("a"), parse_node("d")) else {
+        return Err(ServeFault::Memory);
+    };
+    run_serve(
+        rt,
+        alloc,
+        listener,
+        slice::from_ref(&a),
+        slice::from_ref(&d),
+        2,
+        writer,
+    )
+}
+
+/// A console at the node a that names a process, and then one at the lone node d that has the name, too, and joins.
+fn clash(
+    alloc: Global,
+    first: &TcpStream,
+    second: &TcpStream,
+    rule: &[u8],
+) -> io::Result<(Vec<u8>, Vec<u8>)> {
+    let mut lines = Vec::new(alloc);
+    lines.extend_from_slice(b"attach a\nspawn\nregister x a.1 ")?;
+    lines.extend_from_slice(rule)?;
+    lines.extend_from_slice(b"\nquit\n")?;
+    let first = converse(alloc, first, lines.as_slice())?;
+    let lines =
+        b"attach d\nspawn\nregister x d.1\njoin a\nwhereis x\nnotices d.1\nnotices a.1\nquit\n";
+    let second = converse(alloc, second, lines)?;
+    Ok((first, second))
+}
+
+/// Whether, where the cluster's name has this rule, its console is answered so, and then that of the lone node behind `joined`.
+fn clashes_so<R>(
+    rt: &R,
+    alloc: Global,
+    rule: &[u8],
+    answer: &[u8],
+    behind: &[u8],
+) -> io::Result<bool>
+where
+    R: Threads
+        + Wait
+        + Clock
+        + Net<Listener = TcpListener, Stream = TcpStream>
+        + Drop
+        + Copy
+        + Send
+        + Sync
+        + 'static,
+{
+    let listener = TcpListener::bind(rt, "127.0.0.1:0")?;
+    let address = listener.local_addr()?;
+    let first = TcpStream::connect(rt, address)?;
+    let second = TcpStream::connect(rt, address)?;
+    let mut written = Vec::new(alloc);
+    let (result, heard) = join(
+        rt,
+        || serve_both(rt, alloc, listener, &mut written),
+        || clash(alloc, &first, &second, rule),
+    );
+    let (first, second) = heard?;
+    let is_closed = result == Ok(true) && written.as_slice().starts_with(b"closed ");
+    Ok(is_closed && first.as_slice().ends_with(answer) && second.as_slice().ends_with(behind))
+}
+
+#[test]
+fn rules_decide_clashes(rt: HostRuntime) -> Result<(), Fail> {
+    let alloc = rt.alloc();
+    let behind = b"\njoined\na.1\nnotices\nerror no_such_process\nok\n".as_slice();
+    assert!(rt; clashes_so(&rt, alloc, b"exit", b"\na.1\nyes\nok\n", behind)?);
+    let behind = b"\njoined\na.1\nnotices x\nerror no_such_process\nok\n".as_slice();
+    assert!(rt; clashes_so(&rt, alloc, b"notify", b"\na.1\nyes\nok\n", behind)?);
+    let behind = b"\njoined\nundefined\nnotices x=a.1\nerror no_such_process\nok\n".as_slice();
+    assert!(rt; clashes_so(&rt, alloc, b"notify_all", b"\na.1\nyes\nok\n", behind)?);
+    let behind = b"\njoined\nd.1\nnotices\nerror no_such_process\nok\n".as_slice();
+    assert!(rt; clashes_so(&rt, alloc, b"loud", b"\na.1\nerror bad_rule\nok\n", behind)?);
+    Ok(())
+}
+
 /// A writer that takes a part of a line, and then fails.
 #[derive(Drop)]
 struct Shut {

@@ -12,9 +12,9 @@ mod shown;
 
 pub use kept::KeptPublisher;
 pub use node_loop::{
-    Answer, Call, Edit, Edition, Effect, Event, Item, NameList, NodeEnd, NodeLoop, Nodes, Numbers,
-    Record, Reply, Retries, SeatEntry, StepFault, Task, TaskFault, TaskReply, Ticket, Transcript,
-    Update, WorldEvent,
+    Answer, Call, Edit, Edition, Effect, Event, Item, NameList, NodeEnd, NodeLoop, Nodes, Notice,
+    NoticeList, Numbers, Record, Reply, Retries, SeatEntry, StepFault, Task, TaskFault, TaskReply,
+    Ticket, Transcript, Update, WorldEvent,
 };
 pub use publisher::Publisher;
 pub use reader::{Lookup, ReaderFactory, TableReader};

@@ -14,7 +14,7 @@ use node_loop::{NodeLoop, Record, Update};
 use std::alloc::{AllocError, Global};
 use std::marker::Model;
 use std::sync::Wait;
-use term::NodeName;
+use term::Node;
 
 /// The writer of a node's table.
 type TableWriter = Writer<Shown, Update, Editions, Published>;
@@ -23,7 +23,7 @@ type TableWriter = Writer<Shown, Update, Editions, Published>;
 /// published, the updates that wait, and the length of the node's log behind the last of these.
 pub struct Publisher {
     alloc: Global,
-    node: NodeName,
+    node: Node,
     writer: TableWriter,
     length: u64,
 }
@@ -48,7 +48,7 @@ impl Model for Publisher {
 fn publish_pending<R: Wait>(
     rt: &R,
     alloc: Global,
-    node: NodeName,
+    node: Node,
     writer: TableWriter,
     length: u64,
 ) -> (Publisher, Result<(), AllocError>)
@@ -72,7 +72,7 @@ fn publish_pending<R: Wait>(
 
 impl Publisher {
     /// Makes room for so many readers at once, of the empty table of a node. Nothing is published yet.
-    pub fn new(alloc: Global, node: &NodeName, places: usize) -> Result<Self, AllocError>
+    pub fn new(alloc: Global, node: &Node, places: usize) -> Result<Self, AllocError>
         requires { (0 < places) × (places < 2 ^ 32) }
         ensures { IfOk result (λ new. new ≡ record { node = node.now; editions = []; waiting = []; length = 0 }) }
     {

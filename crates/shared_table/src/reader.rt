@@ -11,7 +11,7 @@ use left_right::reader::{Factory, Reader};
 use name_table::Names;
 use std::alloc::{AllocError, Global};
 use std::marker::Model;
-use term::{Name, NodeName, Pid};
+use term::{Name, Node, Pid};
 
 /// A reader that keeps the rule of the table.
 type RuledReader = Reader<Shown, Editions, Published>;
@@ -73,7 +73,7 @@ struct Entry {
 }
 
 /// Enters, looks a name up, and leaves. It finds nothing where nothing is published any more.
-fn enter(node: &NodeName, reader: RuledReader, name: &Name) -> (RuledReader, Option<Entry>)
+fn enter(node: &Node, reader: RuledReader, name: &Name) -> (RuledReader, Option<Entry>)
     ensures later { IfSome result.1 (λ e. StartsWith (view result.0.place) (view reader.place)) }
     ensures found { IfSome result.1 (λ e. e.own ≡ true → IsFound e name.now (latest node.now (view result.0.place))) }
     ensures gone { IfNone result.1 (view result.0.place ≡ view reader.place) }
@@ -85,7 +85,7 @@ fn enter(node: &NodeName, reader: RuledReader, name: &Name) -> (RuledReader, Opt
     let shown = reading.get();
     let entry = Entry {
         own: shown.node == *node,
-        owner: shown.table.get(name),
+        owner: shown.table.owner(name),
         length: shown.length,
         left: shown.left,
     };
@@ -114,7 +114,7 @@ impl TableReader {
 
     /// Looks a name up in the table of the node as it was after a number of its steps: no fewer than the reader was told of, and than
     /// it has seen before. The node is the one whose reader it is. It waits for nobody.
-    pub fn whereis(&mut self, node: &NodeName, name: &Name) -> Lookup
+    pub fn whereis(&mut self, node: &Node, name: &Name) -> Lookup
         ensures { Finds result node.now name.now self.old self.new }
     {
         let Some(reader) = self.reader.take() else {

@@ -8,12 +8,12 @@ use left_right::Absorb;
 use name_table::{Change, IndexTable, Names, Pair};
 use node_loop::{Edit, Edition, Update};
 use std::alloc::{AllocError, Global};
-use term::NodeName;
+use term::Node;
 
 /// A copy of a node's table, the length of the node's log then, and whether the node had left.
 #[derive(Drop)]
 pub struct Shown {
-    pub(crate) node: NodeName,
+    pub(crate) node: Node,
     pub(crate) table: IndexTable<Global>,
     pub(crate) alloc: Global,
     pub(crate) length: u64,
@@ -26,14 +26,14 @@ fn table_of(alloc: Global, pairs: &[Pair]) -> Result<IndexTable<Global>, AllocEr
 {
     let mut table = IndexTable::empty(alloc);
     for pair in pairs {
-        table.write(Change::Put(pair.name.copy(), pair.owner.copy()))?;
+        table.write(Change::Put(pair.copy()))?;
     }
     Ok(table)
 }
 
 impl Shown {
     /// What a node shows before its first step. It takes no memory.
-    pub(crate) fn new(alloc: Global, node: &NodeName) -> Self
+    pub(crate) fn new(alloc: Global, node: &Node) -> Self
         ensures { edition_of result ≡ opening node.now }
     {
         Shown {

@@ -38,15 +38,15 @@ module _ (n a : ℕ) where
 
   module _ (number : ℕ → ℕ) where
     welcomes : (f : ℕ) (members : Nodes) (pairs : Table) (told : Nodes) (fate : Fate) (now : Current) (u : Turn)
-        → Keeping.replica_in (Reading.welcome n a number f members pairs told fate now u) ≡ behind_welcome f members pairs told now (Keeping.replica_in u)
+        → Keeping.replica_in (Reading.welcome n a number f members pairs told fate now u) ≡ behind_welcome a f members pairs told fate now (Keeping.replica_in u)
     welcomes f members pairs told fate (Current.Joining k m) u = at (m == f)
       where
         granted : Turn
-        granted = Calling.kill n a fate.kills (with_replica (Reading.welcomed members pairs told) u)
+        granted = Calling.kill n a fate.kills (with_replica (Reading.welcomed a members pairs told fate) u)
 
         at : (b : Bool) → Keeping.replica_in (cond b (send f Letter.Applied (reply_with a k Joined (at_work Current.Free granted))) u)
-            ≡ cond b (Reading.welcomed members pairs told (Keeping.replica_in u)) (Keeping.replica_in u)
-        at true = Keeping.kill n a fate.kills (with_replica (Reading.welcomed members pairs told) u)
+            ≡ cond b (Reading.welcomed a members pairs told fate (Keeping.replica_in u)) (Keeping.replica_in u)
+        at true = Keeping.kill n a fate.kills (with_replica (Reading.welcomed a members pairs told fate) u)
         at false = refl
     welcomes f members pairs told fate Current.Free u = refl
     welcomes f members pairs told fate (Current.Asking op r) u = refl
@@ -75,7 +75,7 @@ module _ (n a : ℕ) where
         unjoined = Reading.lose_join n a number d told
 
     reads : (f : ℕ) (l : Letter) (u : Turn)
-        → Keeping.replica_in (Reading.read n a number f l u) ≡ behind_letter f l u.node.current (Keeping.replica_in u)
+        → Keeping.replica_in (Reading.read n a number f l u) ≡ behind_letter a f l u.node.current (Keeping.replica_in u)
     reads f (Letter.SetLock id p) u = judged (is_free_for id p u.node.locks)
       where
         judged : (b : Bool) → Keeping.replica_in (Reading.judge n a number f id p b u) ≡ Keeping.replica_in u
@@ -89,7 +89,7 @@ module _ (n a : ℕ) where
     reads f Letter.Applied u = Keeping.await_less n a f u.node.current u
     reads f (Letter.JoinAsk pairs) u = Keeping.either u.node.replica.joined _ _ u refl refl
     reads f Letter.JoinRefused u = refused_join f u.node.current u
-    reads f (Letter.Admit j settled) u = Keeping.kill n a settled.fate.kills (with_replica (Reading.admitted j settled) u)
+    reads f (Letter.Admit j settled) u = Keeping.kill n a settled.fate.kills (with_replica (Reading.admitted a j settled) u)
     reads f (Letter.Welcome members pairs told fate) u = welcomes f members pairs told fate u.node.current u
     reads f Letter.Down u = bereaved f u
 
@@ -100,7 +100,7 @@ letters_write n a number f l v = Keeping.start n a (cond unread (begun v) (Readi
     unread = v.replica.told f && not (is_down l)
 
     at : (b : Bool) → Keeping.replica_in (cond b (begun v) (Reading.read n a number f l (begun v)))
-        ≡ cond b v.replica (behind_letter f l v.current v.replica)
+        ≡ cond b v.replica (behind_letter a f l v.current v.replica)
     at true = refl
     at false = reads n a number f l (begun v)
 

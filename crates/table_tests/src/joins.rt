@@ -1,11 +1,9 @@
 //! Worked joins, row by row.
-use crate::reading::{pairs_of, processes_of};
+use crate::reading::{names_of, notices_of, pairs_of, processes_of};
 use exchange::{Admission, Settled, Welcome, admit_of, settle, welcome_of};
-use name_table::{Change, ListTable, Names, Pair};
+use name_table::{Change, IndexTable, ListTable, Names, Pair};
 use std::alloc::Global;
-use term::{MOST_NODES, NodeName, NodeSet, parse_node, parse_nodes};
-
-type Table = ListTable<Global>;
+use term::{MOST_NODES, Node, NodeNames, NodeSet, parse_node, parse_nodes};
 
 /// A join to b and c, which e has left, and what is told of it.
 #[derive(Clone, Copy)]
@@ -14,9 +12,12 @@ struct Join<'a> {
     /// The joiner's names, and the cluster's.
     lone: &'a str,
     cluster: &'a str,
-    /// What each member puts, and who dies.
+    /// What each member puts, and the names that it removes.
     puts: &'a str,
+    removes: &'a str,
+    /// Who dies, and who is sent what.
     kills: &'a str,
+    notices: &'a str,
     /// The members with the joiner, and the names that it is told.
     members: &'a str,
     table: &'a str,
@@ -30,17 +31,18 @@ fn join_of(row: &str) -> Join<'_> {
         lone: parts.next().unwrap_or(""),
         cluster: parts.next().unwrap_or(""),
         puts: parts.next().unwrap_or(""),
+        removes: parts.next().unwrap_or(""),
         kills: parts.next().unwrap_or(""),
+        notices: parts.next().unwrap_or(""),
         members: parts.next().unwrap_or(""),
         table: parts.next().unwrap_or(""),
     }
 }
 
 /// Puts each of these names.
-fn put_all(table: &mut Table, pairs: &[Pair]) -> bool {
+fn put_all<N: Names>(table: &mut N, pairs: &[Pair]) -> bool {
     for pair in pairs {
-        let change = Change::Put(pair.name.copy(), pair.owner.copy());
-        if table.write(change).is_err() {
+        if table.write(Change::Put(pair.copy())).is_err() {
             return false;
         }
     }
@@ -54,9 +56,11 @@ fn is_admission(alloc: Global, told: &Admission, join: Join<'_>) -> bool {
         Err(_) => false,
     };
     is_copied
-        && told.joiner.as_str() == join.joiner
+        && told.joiner.name().as_str() == join.joiner
         && told.puts == pairs_of(alloc, join.puts)
+        && told.removes == names_of(alloc, join.removes)
         && told.kills == processes_of(alloc, join.kills)
+        && told.notices == notices_of(alloc, join.notices)
 }
 
 /// Whether a welcome is that of a join, and its copy too.
@@ -66,14 +70,15 @@ fn is_welcome(alloc: Global, told: &Welcome, join: Join<'_>) -> bool {
         Err(_) => false,
     };
     is_copied
-        && parse_nodes(join.members).is_ok_and(|members| members == told.members)
-        && parse_nodes("e").is_ok_and(|left| left == told.told)
+        && parse_nodes(join.members).is_ok_and(|members| members == NodeNames::of(&told.members))
+        && parse_nodes("e").is_ok_and(|left| left == NodeNames::of(&told.told))
         && told.pairs == pairs_of(alloc, join.table)
         && told.kills == processes_of(alloc, join.kills)
+        && told.notices == notices_of(alloc, join.notices)
 }
 
 /// Whether the members are told what the join says.
-fn admits(alloc: Global, joiner: &NodeName, settled: &Settled, join: Join<'_>) -> bool {
+fn admits(alloc: Global, joiner: &Node, settled: &Settled, join: Join<'_>) -> bool {
     match admit_of(alloc, joiner, settled) {
         Ok(told) => is_admission(alloc, &told, join),
         Err(_) => false,
@@ -82,10 +87,10 @@ fn admits(alloc: Global, joiner: &NodeName, settled: &Settled, join: Join<'_>) -
 
 /// Whether the joiner is told what the join says.
 #[tactic(auto, using(crate::proofs::Members::one_more_at_most))]
-fn welcomes(
+fn welcomes<N: Names<Memory = Global>>(
     alloc: Global,
-    joiner: &NodeName,
-    table: &Table,
+    joiner: &Node,
+    table: &N,
     members: &NodeSet,
     left: &NodeSet,
     settled: &Settled,
@@ -101,13 +106,20 @@ fn welcomes(
 }
 
 /// Whether both are told what the join says.
-fn tells(alloc: Global, table: &Table, settled: &Settled, join: Join<'_>) -> bool {
+fn tells<N: Names<Memory = Global>>(
+    alloc: Global,
+    table: &N,
+    settled: &Settled,
+    join: Join<'_>,
+) -> bool {
     match (
         parse_node(join.joiner),
         parse_nodes("b,c"),
         parse_nodes("e"),
     ) {
         (Ok(joiner), Ok(members), Ok(left)) => {
+            let joiner = Node::first(joiner);
+            let (members, left) = (NodeSet::first_of(&members), NodeSet::first_of(&left));
             admits(alloc, &joiner, settled, join)
                 && welcomes(alloc, &joiner, table, &members, &left, settled, join)
         }
@@ -115,9 +127,8 @@ fn tells(alloc: Global, table: &Table, settled: &Settled, join: Join<'_>) -> boo
     }
 }
 
-/// Whether a join is settled as it says.
-fn settles(alloc: Global, join: Join<'_>) -> bool {
-    let mut table: Table = Names::empty(alloc);
+/// Whether a join is settled as it says, where the cluster's names are put into this table.
+fn settles<N: Names<Memory = Global>>(alloc: Global, mut table: N, join: Join<'_>) -> bool {
     let lone = pairs_of(alloc, join.lone);
     put_all(&mut table, pairs_of(alloc, join.cluster).as_slice())
         && match settle(alloc, &table, lone.as_slice()) {
@@ -128,18 +139,39 @@ fn settles(alloc: Global, join: Join<'_>) -> bool {
 
 /// In turn: the cluster's process wins, the joiner's does, one dies for two names and another has its name in both, two die
 /// for two names, two have a name on one node, and nobody has any.
-const ROWS: &str = "\
-d | x=d.1 z=d.2 | x=b.1 | z=d.2 | d.1 | b,c,d | x=b.1 z=d.2
-a | x=a.1 | x=b.1 y=b.1 | x=a.1 | b.1 | a,b,c | x=a.1 y=b.1
-d | w=d.1 x=d.1 y=b.1 z=d.2 | w=b.1 x=c.1 y=b.1 | z=d.2 | d.1 | b,c,d | w=b.1 x=c.1 y=b.1 z=d.2
-a | x=a.1 y=a.2 | x=c.1 y=b.1 | x=a.1 y=a.2 | c.1 b.1 | a,b,c | x=a.1 y=a.2
-d | x=d.1 | x=d.2 | - | d.1 | b,c,d | x=d.2
-d | - | - | - | - | b,c,d | -
+const DEATHS: &str = "\
+d | x=d.1 z=d.2 | x=b.1 | z=d.2 | - | d.1 | - | b,c,d | x=b.1 z=d.2
+a | x=a.1 | x=b.1 y=b.1 | x=a.1 | - | b.1 | - | a,b,c | x=a.1 y=b.1
+d | w=d.1 x=d.1 y=b.1 z=d.2 | w=b.1 x=c.1 y=b.1 | z=d.2 | - | d.1 | - | b,c,d | w=b.1 x=c.1 y=b.1 z=d.2
+a | x=a.1 y=a.2 | x=c.1 y=b.1 | x=a.1 y=a.2 | - | c.1 b.1 | - | a,b,c | x=a.1 y=a.2
+d | x=d.1 | x=d.2 | - | - | d.1 | - | b,c,d | x=d.2
+d | - | - | - | - | - | - | b,c,d | -
+";
+
+/// The cluster's rule decides. In turn: under `notify` the cluster's process wins, then the joiner's, and a name stays with its process
+/// under the cluster's rule; under `notify_all` nobody wins; and there is a name under each rule. One that wins keeps its own rule.
+const RULES: &str = "\
+d | x=d.1:notify_all z=d.1:notify | x=b.1:notify | z=d.1:notify | - | - | x:d.1 | b,c,d | x=b.1:notify z=d.1:notify
+a | x=a.1:notify_all | x=b.1:notify | x=a.1:notify_all | - | - | x:b.1 | a,b,c | x=a.1:notify_all
+d | x=b.1:notify_all y=d.1:notify | x=b.1 y=b.1 | - | - | d.1 | - | b,c,d | x=b.1 y=b.1
+d | x=d.1 y=d.2 | w=c.1 x=b.1:notify_all y=d.1:notify_all | - | x y | - | x:b.1:d.1 x:d.1:b.1 y:d.1:d.2 y:d.2:d.1 | b,c,d | w=c.1
+a | w=a.1 x=a.1 y=a.2 | w=b.1 x=b.1:notify y=c.1:notify_all | w=a.1 x=a.1 | y | b.1 | x:b.1 y:c.1:a.2 y:a.2:c.1 | a,b,c | w=a.1 x=a.1
 ";
 
 #[test]
 fn settles_joins(rt: HostRuntime) {
-    for row in ROWS.lines() {
-        assert!(rt; settles(rt.alloc(), join_of(row)), "{row}");
+    for row in DEATHS.lines() {
+        let table: ListTable<Global> = Names::empty(rt.alloc());
+        assert!(rt; settles(rt.alloc(), table, join_of(row)), "{row}");
+    }
+}
+
+#[test]
+fn settles_by_rules(rt: HostRuntime) {
+    for row in RULES.lines() {
+        let list: ListTable<Global> = Names::empty(rt.alloc());
+        let index: IndexTable<Global> = Names::empty(rt.alloc());
+        assert!(rt; settles(rt.alloc(), list, join_of(row)), "{row}");
+        assert!(rt; settles(rt.alloc(), index, join_of(row)), "{row}");
     }
 }

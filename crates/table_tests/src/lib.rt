@@ -1,10 +1,13 @@
-//! Tests of tables of names, of the watch over the processes that own them, of spans of the dead, and of joins of tables.
+//! Tests of tables of names, of the watch over the processes that own them, of spans of the dead, of joins of tables, and of the
+//! notices that processes are sent.
 #![tactic(auto)]
 
 #[cfg(test)]
 mod deaths;
 #[cfg(test)]
 mod joins;
+#[cfg(test)]
+mod notices;
 #[cfg(test)]
 mod owed;
 #[cfg(test)]

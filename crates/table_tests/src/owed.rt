@@ -2,10 +2,10 @@
 ghost use Rattle.exit_watch.specs.Held.{AreSuspected};
 
 use exit_watch::Watch;
-use name_table::{Change, ListTable, Names};
+use name_table::{Change, ListTable, Names, Pair};
 use std::alloc::Global;
 use std::test::Fail;
-use term::{Name, Pid, parse_name, parse_node, parse_pid};
+use term::{Name, Node, Pid, Rule, parse_name, parse_node, parse_pid};
 
 type Table = ListTable<Global>;
 
@@ -14,8 +14,13 @@ fn put(watch: &mut Watch, table: &mut Table, name: Name, owner: Pid) -> bool
     requires { AreSuspected watch.old table.old }
     ensures { AreSuspected watch.new table.new }
 {
-    match watch.note_owner(&owner) {
-        Ok(()) => table.write(Change::Put(name, owner)).is_ok(),
+    let pair = Pair {
+        name,
+        owner,
+        rule: Rule::Exit,
+    };
+    match watch.note_owner(&pair.owner) {
+        Ok(()) => table.write(Change::Put(pair)).is_ok(),
         Err(_) => false,
     }
 }
@@ -103,7 +108,7 @@ fn is_copied(watch: &Watch, table: &Table, wanted: &str) -> bool
 
 #[test]
 fn owes_strikes_of_the_dead(rt: HostRuntime) -> Result<(), Fail> {
-    let mut watch = Watch::resume(rt.alloc(), parse_node("a")?, 9);
+    let mut watch = Watch::resume(rt.alloc(), Node::first(parse_node("a")?), 9);
     let mut table: Table = Names::empty(rt.alloc());
     assert!(rt; plays(&mut watch, &mut table));
     assert!(rt; is_copied(&watch, &table, "a.4"));

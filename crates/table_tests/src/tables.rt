@@ -1,14 +1,14 @@
 //! Tables of names, row by row; and the two of them side by side.
-use crate::reading::{are_pairs, pairs_of};
+use crate::reading::{are_pairs, entry_of, pair_of, pairs_of};
 use name_table::{Change, IndexTable, ListTable, Names, Pair};
 use std::alloc::Global;
-use term::{Name, parse_name, parse_node, parse_pid};
+use term::{Name, Node, parse_name, parse_node, parse_pid};
 
-/// Puts the name of a text such as `x=a.1` for its owner.
-fn put<N: Names>(table: &mut N, name: &str, owner: &str) -> bool {
-    match (parse_name(name), parse_pid(owner)) {
-        (Ok(name), Ok(owner)) => table.write(Change::Put(name, owner)).is_ok(),
-        _ => false,
+/// Puts a name for the owner and under the rule of a text such as `a.1:notify`.
+fn put<N: Names>(table: &mut N, name: &str, text: &str) -> bool {
+    match pair_of(name, text) {
+        Some(pair) => table.write(Change::Put(pair)).is_ok(),
+        None => false,
     }
 }
 
@@ -32,21 +32,21 @@ fn strike<N: Names>(table: &mut N, owner: &str) -> bool {
 fn drop_node<N: Names>(table: &mut N, node: &str) -> bool {
     match parse_node(node) {
         Ok(node) => {
-            table.drop_node(&node);
+            table.drop_node(&Node::first(node));
             true
         }
         Err(_) => false,
     }
 }
 
-/// Whether a name is owned by this process, or by none where the text is no process.
-fn is_owner<N: Names>(table: &N, name: &str, owner: &str) -> bool {
+/// Whether this stands under a name and its owner is found so, or nothing does where the text is empty.
+fn stands<N: Names>(table: &N, name: &str, text: &str) -> bool {
     let Ok(name) = parse_name(name) else {
         return false;
     };
-    match (table.get(&name), parse_pid(owner)) {
-        (Some(found), Ok(wanted)) => found == wanted,
-        (None, Err(_)) => true,
+    match (table.get(&name), table.owner(&name), entry_of(text)) {
+        (Some(found), Some(owner), Some(wanted)) => found == wanted && owner == wanted.owner,
+        (None, None, None) => true,
         _ => false,
     }
 }
@@ -91,7 +91,7 @@ fn is_copied<N: Names<Memory = Global>>(alloc: Global, table: &N, node: &str, te
     }
 }
 
-/// Whether a table takes a row: `put NAME OWNER`, `remove NAME`, `strike OWNER`, `drop NODE`, or what it answers.
+/// Whether a table takes a row: `put NAME OWNER` or `put NAME OWNER:RULE`, `remove NAME`, `strike OWNER`, `drop NODE`, or what it answers.
 fn takes<N: Names<Memory = Global>>(alloc: Global, table: &mut N, row: &str) -> bool {
     let Some((word, rest)) = row.split_once(' ') else {
         return false;
@@ -102,7 +102,7 @@ fn takes<N: Names<Memory = Global>>(alloc: Global, table: &mut N, row: &str) -> 
         "remove" => remove(table, first),
         "strike" => strike(table, first),
         "drop" => drop_node(table, first),
-        "get" => is_owner(table, first, second),
+        "get" => stands(table, first, second),
         "least" => is_least(table, first, second),
         "has" => has_pairs(alloc, table, pairs_of(alloc, rest).as_slice()),
         "copy" => is_copied(alloc, table, first, second),
@@ -110,32 +110,36 @@ fn takes<N: Names<Memory = Global>>(alloc: Global, table: &mut N, row: &str) -> 
     }
 }
 
-/// A name has the process that it was put for last; of a process the least name is told. What a copy loses the table keeps.
+/// A name has the process that it was put for last, and the rule; of a process the least name is told. What a copy loses the table
+/// keeps.
 const ROWS: &str = "\
 has none
+put x a.1:notify
+get x a.1:notify
 put x a.1
-put b b.2
-put m a.1
+get x a.1
+put b b.2:notify_all
+put m a.1:notify
 put x c.3
 put m b.2
-get b b.2
+get b b.2:notify_all
 get m b.2
 get x c.3
 get a
 get bb
 least b.2 b
 least a.1
-has b=b.2 m=b.2 x=c.3
-copy c b=b.2 m=b.2 x=c.3
+has b=b.2:notify_all m=b.2 x=c.3
+copy c b=b.2:notify_all m=b.2 x=c.3
 remove c
-has b=b.2 m=b.2 x=c.3
+has b=b.2:notify_all m=b.2 x=c.3
 remove m
-has b=b.2 x=c.3
+has b=b.2:notify_all x=c.3
 strike c.1
-has b=b.2 x=c.3
+has b=b.2:notify_all x=c.3
 put a c.3
 strike c.3
-has b=b.2
+has b=b.2:notify_all
 put y a.1
 put z b.1
 drop b
@@ -158,8 +162,8 @@ fn index_table_keeps_names(rt: HostRuntime) {
     }
 }
 
-/// A name and a process of a few, by a number.
-fn picked(number: u32) -> (&'static str, &'static str) {
+/// A name, a process, and the process with a rule, of a few, by a number.
+fn picked(number: u32) -> (&'static str, &'static str, &'static str) {
     let name = match number % 6 {
         0 => "x",
         1 => "b",
@@ -168,30 +172,33 @@ fn picked(number: u32) -> (&'static str, &'static str) {
         4 => "yy",
         _ => "a",
     };
-    let owner = match (number / 6) % 4 {
-        0 => "a.1",
-        1 => "b.2",
-        2 => "a.3",
-        _ => "c.1",
+    let (owner, text) = match (number / 6) % 5 {
+        0 => ("a.1", "a.1"),
+        1 => ("b.2", "b.2:notify"),
+        2 => ("a.3", "a.3:notify_all"),
+        3 => ("c.1", "c.1"),
+        _ => ("c.1", "c.1:notify"),
     };
-    (name, owner)
+    (name, owner, text)
 }
 
 /// Makes the change that a number stands for: puts are the most. At each 32nd turn node a is lost.
 fn change<N: Names>(table: &mut N, turn: u32, number: u32) -> bool {
-    let (name, owner) = picked(number / 8);
+    let (name, owner, text) = picked(number / 8);
     let is_changed = match number % 8 {
         0 | 1 => remove(table, name),
         2 => strike(table, owner),
-        _ => put(table, name, owner),
+        _ => put(table, name, text),
     };
     is_changed && (turn % 32 != 31 || drop_node(table, "a"))
 }
 
-/// Whether both tables give a name the same owner.
-fn have_same_owner<N: Names, M: Names>(list: &N, index: &M, name: &str) -> bool {
+/// Whether the same stands under a name in both tables.
+fn have_same_entry<N: Names, M: Names>(list: &N, index: &M, name: &str) -> bool {
     match parse_name(name) {
-        Ok(name) => list.get(&name) == index.get(&name),
+        Ok(name) => {
+            list.get(&name) == index.get(&name) && list.owner(&name) == index.owner(&name)
+        }
         Err(_) => false,
     }
 }
@@ -208,7 +215,7 @@ fn have_same_least<N: Names, M: Names>(list: &N, index: &M, owner: &str) -> bool
 fn answer_alike<N: Names, M: Names>(list: &N, index: &M) -> bool {
     "x b m d yy a"
         .split(' ')
-        .all(|name| have_same_owner(list, index, name))
+        .all(|name| have_same_entry(list, index, name))
         && "a.1 b.2 a.3 c.1"
             .split(' ')
             .all(|owner| have_same_least(list, index, owner))

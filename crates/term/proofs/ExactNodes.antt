@@ -10,7 +10,7 @@ use Rattle.std.proofs.lemmas.Slice.Zip.{AllZip-long}
 use Rattle.std.specs.List.{All, AllZip}
 use Rattle.std.specs.List.Sorted.{IsStrictlyIncreasing}
 use Rattle.term.specs.declared.faults.TextFault.{TextFault}
-use Rattle.term.specs.declared.faults.TextFault.TheVariants.{Empty, TooLong, BadByte, BadSerial, TooManyNodes}
+use Rattle.term.specs.declared.faults.TextFault.TheVariants.{Empty, TooLong, BadByte, BadSerial, BadRule, TooManyNodes}
 use Rattle.term.specs.Laws.{IsDecided}
 use Rattle.term.specs.NodeLists.{ListsNodes, SpellsNodes, RefusesPart, RefusesNodes, ListsTooMany, parts_of, comma, list_of}
 use Rattle.term.specs.NodeSets.{set_of, with_node, most_nodes}
@@ -113,6 +113,7 @@ node-refused bytes Empty r = inr r
 node-refused bytes TooLong r = inr r
 node-refused bytes (BadByte p) r = inr r
 node-refused bytes BadSerial r = absurd r
+node-refused bytes BadRule r = absurd r
 
 -- a text that spells a set is refused for no fault
 never_both : (bytes nodes : List ℕ) (f : TextFault) → SpellsNodes bytes nodes → RefusesNodes bytes f → ⊥

@@ -5,7 +5,7 @@ use Rattle.std.proofs.lemmas.List.Sums.{split_at_first, passes_at_first}
 use Rattle.std.specs.List.{after_first, position_or_len}
 use Rattle.registry_model.specs.Process.{Process}
 use Rattle.term.specs.declared.faults.TextFault.{TextFault}
-use Rattle.term.specs.declared.faults.TextFault.TheVariants.{Empty, TooLong, BadByte, BadSerial, TooManyNodes}
+use Rattle.term.specs.declared.faults.TextFault.TheVariants.{Empty, TooLong, BadByte, BadSerial, BadRule, TooManyNodes}
 use Rattle.term.specs.Laws.{IsExact}
 use Rattle.term.specs.Spelling.{IsText, SpellsText, RefusesText, SpellsSerial, SpellsPid, RefusesPid, node_part, dot}
 use Rattle.term.proofs.ExactTexts as texts
@@ -53,6 +53,7 @@ one_text bytes others p s t =
 never_both : (bytes : List ℕ) (p : Process) (f : TextFault) → SpellsPid bytes p → RefusesPid bytes f → ⊥
 never_both bytes p BadSerial s r = r.1 p s
 never_both bytes p TooManyNodes s r = r
+never_both bytes p BadRule s r = r
 never_both bytes p Empty s r = texts.never_both (node_part bytes) p.node Empty (node_part-spells bytes p s) r
 never_both bytes p TooLong s r = texts.never_both (node_part bytes) p.node TooLong (node_part-spells bytes p s) r
 never_both bytes p (BadByte k) s r = texts.never_both (node_part bytes) p.node (BadByte k) (node_part-spells bytes p s)
@@ -66,6 +67,7 @@ part-refused bytes Empty r = inr r
 part-refused bytes TooLong r = inr r
 part-refused bytes (BadByte k) r = inr r
 part-refused bytes TooManyNodes r = absurd r
+part-refused bytes BadRule r = absurd r
 
 -- a text is refused as a process for one fault
 one_fault : (bytes : List ℕ) (f g : TextFault) → RefusesPid bytes f → RefusesPid bytes g → f ≡ g
@@ -88,6 +90,7 @@ refused-part bytes Empty r = r
 refused-part bytes TooLong r = r
 refused-part bytes (BadByte k) r = r
 refused-part bytes TooManyNodes r = r
+refused-part bytes BadRule r = r
 
 -- a text with a dot is its two parts
 parts-split : (bytes : List ℕ) → position_or_len is_dot bytes < length bytes

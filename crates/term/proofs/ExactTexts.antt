@@ -6,7 +6,7 @@ use Rattle.std.proofs.lemmas.List.Sums.{fails_before_first, passes_at_first}
 use Rattle.std.specs.List.{AllPass, position_or_len}
 use Rattle.registry_model.specs.Process.{longest, text_of}
 use Rattle.term.specs.declared.faults.TextFault.{TextFault}
-use Rattle.term.specs.declared.faults.TextFault.TheVariants.{Empty, TooLong, BadByte, BadSerial, TooManyNodes}
+use Rattle.term.specs.declared.faults.TextFault.TheVariants.{Empty, TooLong, BadByte, BadSerial, BadRule, TooManyNodes}
 use Rattle.term.specs.Laws.{IsExact, KeepsByteOrder}
 use Rattle.term.specs.Spelling.{IsText, IsFirstBad, SpellsText, RefusesText, is_allowed}
 use Rattle.term.proofs.Texts.{nat_cmp-text_of, text_of-injective}
@@ -43,6 +43,7 @@ never_both bytes v TooLong s r = omega (arith, s.text.fits, r)
 never_both bytes v (BadByte p) s r = cc (s.text.allowed p 0 r.1.inside, r.1.bad)
 never_both bytes v BadSerial s r = r
 never_both bytes v TooManyNodes s r = r
+never_both bytes v BadRule s r = r
 
 -- a text is refused for no fault
 pub text-refused : (bytes : List ℕ) (f : TextFault) → IsText bytes → RefusesText bytes f → ⊥
@@ -64,9 +65,13 @@ one_fault bytes Empty BadSerial r t = absurd t
 one_fault bytes TooLong BadSerial r t = absurd t
 one_fault bytes (BadByte p) BadSerial r t = absurd t
 one_fault bytes TooManyNodes g r t = absurd r
+one_fault bytes BadRule g r t = absurd r
 one_fault bytes Empty TooManyNodes r t = absurd t
+one_fault bytes Empty BadRule r t = absurd t
 one_fault bytes TooLong TooManyNodes r t = absurd t
+one_fault bytes TooLong BadRule r t = absurd t
 one_fault bytes (BadByte p) TooManyNodes r t = absurd t
+one_fault bytes (BadByte p) BadRule r t = absurd t
 
 -- whether a byte is bad
 abbrev is_bad : ℕ → Bool

@@ -13,7 +13,7 @@ use Rattle.std.specs.List.{All, AllZip}
 use Rattle.std.specs.List.Sorted.{IsStrictlyIncreasing}
 use Rattle.std.specs.Result.{is_err}
 use Rattle.term.specs.declared.faults.TextFault.{TextFault}
-use Rattle.term.specs.declared.faults.TextFault.TheVariants.{Empty, TooLong, BadByte, BadSerial, TooManyNodes}
+use Rattle.term.specs.declared.faults.TextFault.TheVariants.{Empty, TooLong, BadByte, BadSerial, BadRule, TooManyNodes}
 use Rattle.term.specs.NodeLists.{ListsNodes, SpellsNodes, RefusesPart, RefusesNodes, ListsTooMany, parts_of}
 use Rattle.term.specs.NodeSets.{IsNodeSet, HasNoRoom, set_of, with_node, most_nodes}
 use Rattle.term.specs.Spelling.{IsText, SpellsText, RefusesText}
@@ -226,6 +226,7 @@ refused-nodes bytes Empty r = r
 refused-nodes bytes TooLong r = r
 refused-nodes bytes (BadByte p) r = r
 refused-nodes bytes BadSerial r = r.refused
+refused-nodes bytes BadRule r = r.refused
 refused-nodes bytes TooManyNodes r = absurd r.refused
 
 -- the part that comes is no name, and those before it are

@@ -2,4 +2,5 @@ pub mod Laws
 pub mod LockIds
 pub mod NodeLists
 pub mod NodeSets
+pub mod Rules
 pub mod Spelling

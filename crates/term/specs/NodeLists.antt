@@ -3,7 +3,7 @@ use Rattle.std.specs.Prelude.{◌≡◌, ℕ, ◌==◌, ◌<◌, ◌≤◌, List
 use Rattle.std.specs.List.{slice_split, All, AllZip, join_by}
 use Rattle.std.specs.List.Sorted.{IsStrictlyIncreasing}
 use Rattle.term.specs.declared.faults.TextFault.{TextFault}
-use Rattle.term.specs.declared.faults.TextFault.TheVariants.{Empty, TooLong, BadByte, BadSerial, TooManyNodes}
+use Rattle.term.specs.declared.faults.TextFault.TheVariants.{Empty, TooLong, BadByte, BadSerial, BadRule, TooManyNodes}
 use Rattle.term.specs.NodeSets.{set_of, most_nodes}
 use Rattle.term.specs.Spelling.{IsText, SpellsText, RefusesText, bytes_of}
 
@@ -47,6 +47,7 @@ RefusesNodes bytes Empty = RefusesPart bytes Empty
 RefusesNodes bytes TooLong = RefusesPart bytes TooLong
 RefusesNodes bytes (BadByte place) = RefusesPart bytes (BadByte place)
 RefusesNodes bytes BadSerial = ⊥
+RefusesNodes bytes BadRule = ⊥
 
 -- the bytes that list these nodes
 abbrev pub list_of : List ℕ → List ℕ

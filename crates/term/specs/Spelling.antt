@@ -5,7 +5,7 @@ use Rattle.std.specs.Fmt.{decimal}
 use Rattle.std.specs.List.{AllPass, before_first}
 use Rattle.registry_model.specs.Process.{Process, longest, text_of}
 use Rattle.term.specs.declared.faults.TextFault.{TextFault}
-use Rattle.term.specs.declared.faults.TextFault.TheVariants.{Empty, TooLong, BadByte, BadSerial, TooManyNodes}
+use Rattle.term.specs.declared.faults.TextFault.TheVariants.{Empty, TooLong, BadByte, BadSerial, BadRule, TooManyNodes}
 
 -- whether a byte may stand in a text: an ASCII letter, a digit, '_', '-' or '@'
 abbrev pub is_allowed : ℕ → Bool
@@ -43,6 +43,7 @@ RefusesText bytes Empty = length bytes ≡ 0
 RefusesText bytes TooLong = longest < length bytes
 RefusesText bytes (BadByte place) = (length bytes ≤ longest) × IsFirstBad bytes place
 RefusesText bytes BadSerial = ⊥
+RefusesText bytes BadRule = ⊥
 RefusesText bytes TooManyNodes = ⊥
 
 -- a dot, which parts the name of a node from a serial
@@ -73,4 +74,5 @@ RefusesPid bytes BadSerial = IsText (node_part bytes) × ((p : Process) → Spel
 RefusesPid bytes Empty = RefusesText (node_part bytes) Empty
 RefusesPid bytes TooLong = RefusesText (node_part bytes) TooLong
 RefusesPid bytes (BadByte place) = RefusesText (node_part bytes) (BadByte place)
+RefusesPid bytes BadRule = ⊥
 RefusesPid bytes TooManyNodes = ⊥

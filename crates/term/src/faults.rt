@@ -16,6 +16,9 @@ pub enum TextFault {
     /// No serial of a process follows the name of its node.
     #[error("bad_serial")]
     BadSerial,
+    /// It is no rule.
+    #[error("bad_rule")]
+    BadRule,
     /// There are more than eight nodes.
     #[error("too_many_nodes")]
     TooManyNodes,

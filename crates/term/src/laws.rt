@@ -7,6 +7,7 @@ ghost use Rattle.term.specs.NodeLists.{SpellsNodes, RefusesNodes, list_of};
 ghost use Rattle.term.specs.Spelling.{SpellsText, RefusesText, SpellsPid, RefusesPid, bytes_of};
 
 use crate::name::Name;
+use crate::node::Node;
 use crate::node_name::NodeName;
 use crate::pid::Pid;
 
@@ -40,10 +41,12 @@ pub fn names_keep_their_bytes()
 /// Names are compared by their numbers, and processes by node and then by serial.
 pub fn comparisons_are_by_number()
     ensures same_name { (v w : ℕ) → ⟦<Name as PartialEq>⟧.eq v w ≡ (v == w) }
-    ensures same_node { (v w : ℕ) → ⟦<NodeName as PartialEq>⟧.eq v w ≡ (v == w) }
+    ensures same_node { (v w : ℕ) → ⟦<Node as PartialEq>⟧.eq v w ≡ (v == w) }
+    ensures same_node_name { (v w : ℕ) → ⟦<NodeName as PartialEq>⟧.eq v w ≡ (v == w) }
     ensures same_process { (p q : Process) → ⟦<Pid as PartialEq>⟧.eq p q ≡ is_process p q }
     ensures names { (v w : ℕ) → ⟦<Name as Ord>⟧.cmp v w ≡ nat_cmp v w }
-    ensures nodes { (v w : ℕ) → ⟦<NodeName as Ord>⟧.cmp v w ≡ nat_cmp v w }
+    ensures nodes { (v w : ℕ) → ⟦<Node as Ord>⟧.cmp v w ≡ nat_cmp v w }
+    ensures node_names { (v w : ℕ) → ⟦<NodeName as Ord>⟧.cmp v w ≡ nat_cmp v w }
     ensures processes { (p q : Process) → ⟦<Pid as Ord>⟧.cmp p q
         ≡ ordering_then (nat_cmp p.node q.node) (nat_cmp p.serial q.serial) }
 {}

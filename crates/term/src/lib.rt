@@ -1,4 +1,4 @@
-//! The texts of the product: names of nodes, names, processes, and ids of locks.
+//! The texts of the product: names of nodes, names, processes, rules, and ids of locks. And nodes, and sets of nodes and of their names.
 #![tactic(auto)]
 
 mod faults;
@@ -6,11 +6,14 @@ mod laws;
 mod lock_id;
 mod lock_laws;
 mod name;
+mod node;
 mod node_name;
+mod node_names;
 mod node_set;
 mod pid;
 mod requester;
 mod resource;
+mod rule;
 mod set_algebra;
 mod text;
 
@@ -22,8 +25,11 @@ pub use laws::{
 pub use lock_id::LockId;
 pub use lock_laws::{global_is_spelled_so, lock_ids_are_compared_by_number};
 pub use name::{Name, parse_name, print_name};
+pub use node::Node;
 pub use node_name::{NodeName, parse_node, print_node};
-pub use node_set::{MOST_NODES, NodeSet, parse_nodes, print_nodes};
+pub use node_names::{NodeNames, parse_nodes, print_nodes};
+pub use node_set::{MOST_NODES, NodeSet};
 pub use pid::{Pid, parse_pid, print_pid};
 pub use requester::{Requester, parse_requester, print_requester};
 pub use resource::{Resource, parse_resource, print_resource};
+pub use rule::{Rule, parse_rule};

@@ -2,7 +2,7 @@
 ghost use Rattle.std.specs.Prelude.{◌≡◌};
 ghost use Rattle.term.specs.LockIds.{global_text};
 
-use crate::node_name::NodeName;
+use crate::node::Node;
 use crate::requester::Requester;
 use crate::resource::Resource;
 
@@ -18,7 +18,7 @@ pub struct LockId {
 
 impl LockId {
     /// The id under which the registrar of a node asks for the resource `global`. It takes no memory.
-    pub fn global(node: &NodeName) -> Self
+    pub fn global(node: &Node) -> Self
         ensures resource { result.resource ≡ global_text }
         ensures requester { result.requester ≡ node.now }
     {

@@ -1,14 +1,15 @@
 //! Sets of nodes.
-ghost use Rattle.std.specs.Prelude.{◌≡◌, ℕ, ◌-◌, ◌<◌, ◌==◌, ◌||◌, not, [], ◌∷◌, length, Some, IfOk, OnOk, OnErr, MatchResult, slice_get, string_bytes};
+ghost use Rattle.std.specs.Prelude.{◌≡◌, ℕ, ◌-◌, ◌<◌, ◌==◌, ◌||◌, not, [], ◌∷◌, length, Some, OnOk, OnErr, MatchResult, slice_get};
 ghost use Rattle.std.specs.List.{position as place_of};
 ghost use Rattle.std.specs.Option.{option_copied};
 ghost use Rattle.term.specs.NodeSets.{IsNodeSet, HasNoRoom, set_of, with_node, without_node};
-ghost use Rattle.term.specs.NodeLists.{SpellsNodes, RefusesNodes, list_of};
+ghost use Rattle.term.specs.NodeLists.{list_of};
 
 use crate::faults::TextFault;
-use crate::node_name::{Blank, NodeName, parse_node};
+use crate::node::Node;
+use crate::node_name::{Blank, NodeName};
+use crate::node_names::NodeNames;
 use arrayvec::ArrayVec;
-use std::alloc::{AllocError, Allocator};
 use std::fmt;
 use std::marker::Model;
 
@@ -18,7 +19,7 @@ pub const MOST_NODES: usize = 8;
 /// A set of up to eight nodes, held in place. No call on it takes memory.
 #[derive(Debug, PartialEq, Eq, Drop)]
 pub struct NodeSet {
-    nodes: ArrayVec<NodeName, MOST_NODES, Blank>,
+    nodes: ArrayVec<Node, MOST_NODES, Blank>,
 }
 
 impl Model for NodeSet {
@@ -45,7 +46,7 @@ impl NodeSet {
     }
 
     /// The set of one node.
-    pub fn one(node: NodeName) -> Self
+    pub fn one(node: Node) -> Self
         ensures { result ≡ node ∷ [] }
     {
         let mut nodes = ArrayVec::new_in(Blank);
@@ -60,6 +61,17 @@ impl NodeSet {
         let mut nodes = ArrayVec::new_in(Blank);
         for node in self.as_slice() {
             nodes.push(node.copy());
+        }
+        NodeSet { nodes }
+    }
+
+    /// The first node of each of these names.
+    pub fn first_of(names: &NodeNames) -> Self
+        ensures { result ≡ names.now }
+    {
+        let mut nodes = ArrayVec::new_in(Blank);
+        for name in names.as_slice() {
+            nodes.push(Node::first(name.copy()));
         }
         NodeSet { nodes }
     }
@@ -80,7 +92,7 @@ impl NodeSet {
     }
 
     /// Its nodes, rising.
-    pub fn as_slice(&self) -> &[NodeName]
+    pub fn as_slice(&self) -> &[Node]
         ensures nodes { result.now ≡ self.now }
         ensures set { IsNodeSet self.now }
     {
@@ -88,21 +100,28 @@ impl NodeSet {
     }
 
     /// Whether it holds the node.
-    pub fn contains(&self, node: &NodeName) -> bool
+    pub fn contains(&self, node: &Node) -> bool
         ensures { result ≡ set_of self.now node.now }
     {
         self.nodes.contains(node)
     }
 
+    /// Whether it holds a node of the name.
+    pub fn has_name(&self, name: &NodeName) -> bool
+        ensures { result ≡ set_of self.now name.now }
+    {
+        self.nodes.as_slice().iter().any(|node| node.name() == name)
+    }
+
     /// The place of the node in the rising order, counted from 0.
-    pub fn position(&self, node: &NodeName) -> Option<usize>
+    pub fn position(&self, node: &Node) -> Option<usize>
         ensures { result ≡ place_of (λ m. m == node.now) self.now }
     {
         self.nodes.binary_search(node).ok()
     }
 
     /// The last of its nodes.
-    pub fn greatest(&self) -> Option<&NodeName>
+    pub fn greatest(&self) -> Option<&Node>
         ensures { option_copied result ≡ slice_get self.now (length self.now - 1) }
     {
         self.nodes.last()
@@ -110,7 +129,7 @@ impl NodeSet {
 
     /// Puts a node in, and tells whether it is new. The set stays as it was, and the node is refused, where eight
     /// others stand.
-    pub fn insert(&mut self, node: NodeName) -> Result<bool, TextFault>
+    pub fn insert(&mut self, node: Node) -> Result<bool, TextFault>
         ensures inserted { MatchResult result
             (λ is_new. (self.new ≡ with_node self.old node) × (is_new ≡ not (set_of self.old node)))
             (HasNoRoom self.old node) }
@@ -129,7 +148,7 @@ impl NodeSet {
     }
 
     /// Takes a node out, and tells whether it was there.
-    pub fn remove(&mut self, node: &NodeName) -> bool
+    pub fn remove(&mut self, node: &Node) -> bool
         ensures others { self.new ≡ without_node self.old node.now }
         ensures held { result ≡ set_of self.old node.now }
         ensures set { IsNodeSet self.new }
@@ -144,39 +163,6 @@ impl NodeSet {
     }
 }
 
-/// Reads a set of nodes: names parted by commas, in any order; one that is named again counts once. A text that spells
-/// none is refused as its first part that is no name is, else for more than eight different nodes.
-pub fn parse_nodes(text: &str) -> Result<NodeSet, TextFault>
-    ensures { MatchResult result (SpellsNodes text.now) (RefusesNodes text.now) }
-{
-    let mut nodes = NodeSet::empty();
-    let mut is_over = false;
-    for part in text.split(',') {
-        let node = parse_node(part)?;
-        is_over |= nodes.insert(node).is_err();
-    }
-    if is_over {
-        return Err(TextFault::TooManyNodes);
-    }
-    Ok(nodes)
-}
-
-/// The text of a set that is not empty: the names of its nodes, rising, parted by commas.
-pub fn print_nodes<A: Allocator>(alloc: A, nodes: &NodeSet) -> Result<String<A>, AllocError>
-    requires { 0 < length nodes.now }
-    ensures spelled { IfOk result (λ text. SpellsNodes (string_bytes text) nodes.now) }
-    ensures bytes { IfOk result (λ text. string_bytes text ≡ list_of nodes.now) }
-{
-    let mut text = String::new(alloc);
-    let mut separator = "";
-    for node in nodes.as_slice() {
-        text.push_str(separator)?;
-        text.push_str(node.as_str())?;
-        separator = ",";
-    }
-    Ok(text)
-}
-
 impl fmt::Display for NodeSet {
     ghost output = { λ s. Some (list_of s) };
 
@@ -184,7 +170,7 @@ impl fmt::Display for NodeSet {
         let mut separator = "";
         for node in self.as_slice() {
             f.write_str(separator)?;
-            f.write_str(node.as_str())?;
+            f.write_str(node.name().as_str())?;
             separator = ",";
         }
         Ok(())

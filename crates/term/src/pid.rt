@@ -5,7 +5,8 @@ ghost use Rattle.term.specs.Spelling.{SpellsSerial, SpellsPid, RefusesPid, bytes
 ghost use Rattle.std.specs.Fmt.{decimal};
 
 use crate::faults::TextFault;
-use crate::node_name::{NodeName, parse_node};
+use crate::node::Node;
+use crate::node_name::parse_node;
 use std::alloc::{AllocError, Allocator};
 use std::fmt;
 use std::marker::Model;
@@ -15,7 +16,7 @@ use std::marker::Model;
 #[derive(Clone, Debug, PartialEq, Eq, PartialOrd, Ord, Hash, Drop)]
 pub struct Pid {
     /// The node that the process lives on.
-    pub node: NodeName,
+    pub node: Node,
     /// Its serial at that node.
     pub serial: u32,
 }
@@ -72,7 +73,10 @@ pub fn parse_pid(text: &str) -> Result<Pid, TextFault>
     };
     let node = parse_node(node)?;
     match parse_serial(digits) {
-        Some(serial) => Ok(Pid { node, serial }),
+        Some(serial) => Ok(Pid {
+            node: Node::first(node),
+            serial,
+        }),
         None => Err(TextFault::BadSerial),
     }
 }
@@ -82,7 +86,7 @@ pub fn print_pid<A: Allocator>(alloc: A, pid: &Pid) -> Result<String<A>, AllocEr
     requires { 1 ≤ pid.now.serial }
     ensures { IfOk result (λ text. SpellsPid (string_bytes text) pid.now) }
 {
-    let node = pid.node.as_str();
+    let node = pid.node.name().as_str();
     let serial = pid.serial;
     format!(in alloc; "{node}.{serial}")
 }

@@ -3,7 +3,7 @@ ghost use Rattle.std.specs.Prelude.{◌≡◌, IfOk, Some, MatchResult, string_b
 ghost use Rattle.term.specs.Spelling.{SpellsText, RefusesText, bytes_of};
 
 use crate::faults::TextFault;
-use crate::node_name::NodeName;
+use crate::node::Node;
 use crate::text::ShortText;
 use std::alloc::{AllocError, Allocator};
 use std::fmt;
@@ -28,11 +28,11 @@ impl Model for Requester {
 
 impl Requester {
     /// The requester of a node's registrar, which is the name of the node. It takes no memory.
-    pub fn of_node(node: &NodeName) -> Self
+    pub fn of_node(node: &Node) -> Self
         ensures { result ≡ node.now }
     {
         Requester {
-            text: node.short_text(),
+            text: node.name().short_text(),
         }
     }
 

@@ -3,7 +3,9 @@ ghost use Rattle.std.specs.Prelude.{◌≡◌, ℕ, ◌≤◌, ◌==◌, ◌&&�
 ghost use Rattle.registry_model.specs.Process.{with_node};
 ghost use Rattle.term.specs.NodeSets.{set_of, most_nodes, with_node as and_node};
 
+use crate::node::Node;
 use crate::node_name::NodeName;
+use crate::node_names::NodeNames;
 use crate::node_set::NodeSet;
 
 impl NodeSet {
@@ -18,6 +20,19 @@ impl NodeSet {
             }
         }
         common
+    }
+
+    /// Those of its nodes whose names are in the set.
+    pub fn named(&self, names: &NodeNames) -> NodeSet
+        ensures { (c : ℕ) → set_of result c ≡ (set_of self.now c && set_of names.now c) }
+    {
+        let mut named = self.copy();
+        for node in self.as_slice() {
+            if !names.contains(node.name()) {
+                named.remove(node);
+            }
+        }
+        named
     }
 
     /// Those of its nodes that aren't in the other set.
@@ -39,7 +54,7 @@ impl NodeSet {
     }
 
     /// Its nodes and one more, as far as they are of another set. All of them have room, as the other is a set.
-    pub fn with_within(&self, node: &NodeName, world: &NodeSet) -> NodeSet
+    pub fn with_within(&self, node: &Node, world: &NodeSet) -> NodeSet
         ensures { (c : ℕ) → set_of result c ≡ (set_of world.now c && (set_of self.now c || (c == node.now))) }
     {
         let mut others = world.difference(self);
@@ -48,7 +63,7 @@ impl NodeSet {
     }
 
     /// Its nodes and one more, for which there is room.
-    pub fn with(&self, node: &NodeName) -> NodeSet
+    pub fn with(&self, node: &Node) -> NodeSet
         requires { length (and_node self.now node.now) ≤ most_nodes }
         ensures { set_of result ≡ with_node node.now (set_of self.now) }
     {

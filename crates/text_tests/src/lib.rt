@@ -10,4 +10,6 @@ mod nodes;
 #[cfg(test)]
 mod reading;
 #[cfg(test)]
+mod rules;
+#[cfg(test)]
 mod words;

@@ -3,7 +3,7 @@ use crate::reading::{are_rising, is_refused, is_text};
 use std::alloc::Global;
 use std::test::Fail;
 use term::{
-    LockId, NodeName, Requester, Resource, parse_node, parse_requester, parse_resource,
+    LockId, Node, Requester, Resource, parse_node, parse_requester, parse_resource,
     print_requester, print_resource,
 };
 
@@ -48,7 +48,7 @@ fn reads_and_prints(rt: HostRuntime) {
 }
 
 /// Whether the registrar of a node of this name asks for `global` in that name.
-fn asks_for_global(node: &NodeName, text: &str) -> bool {
+fn asks_for_global(node: &Node, text: &str) -> bool {
     let id = LockId::global(node);
     id.resource.as_str() == "global"
         && id.requester.as_str() == text
@@ -57,7 +57,7 @@ fn asks_for_global(node: &NodeName, text: &str) -> bool {
 }
 
 /// Whether the id of the lock of a node's registrar equals its copy and its clone.
-fn is_copied(node: &NodeName) -> bool {
+fn is_copied(node: &Node) -> bool {
     let id = LockId::global(node);
     id.copy() == id
         && id.clone().is_ok_and(|clone| clone == id)
@@ -67,8 +67,8 @@ fn is_copied(node: &NodeName) -> bool {
 
 #[test]
 fn names_the_registrars_lock(rt: HostRuntime) -> Result<(), Fail> {
-    let first = parse_node("n1@host")?;
-    let second = parse_node("n2@host")?;
+    let first = Node::first(parse_node("n1@host")?);
+    let second = Node::first(parse_node("n2@host")?);
     assert!(rt; asks_for_global(&first, "n1@host") && is_copied(&first));
     assert!(rt; LockId::global(&first) != LockId::global(&second));
     Ok(())

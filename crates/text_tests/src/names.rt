@@ -30,7 +30,7 @@ fn is_node(alloc: Global, text: &str) -> bool {
 fn is_process(alloc: Global, text: &str, node: &str, serial: u32) -> bool {
     match parse_pid(text) {
         Ok(pid) => {
-            pid.node.as_str() == node
+            pid.node.name().as_str() == node
                 && pid.serial == serial
                 && serial != 0
                 && is_text(print_pid(alloc, &pid), text)

@@ -2,22 +2,24 @@
 use crate::reading::{is_refused, is_text};
 use std::alloc::Global;
 use std::test::Fail;
-use term::{MOST_NODES, NodeName, NodeSet, TextFault, parse_node, parse_nodes, print_nodes};
+use term::{MOST_NODES, Node, NodeNames, NodeSet, TextFault, parse_node, parse_nodes, print_nodes};
 
 /// Whether a list is read as this set.
-fn spells(list: &str, nodes: &NodeSet) -> bool {
+fn spells(list: &str, nodes: &NodeNames) -> bool {
     match parse_nodes(list) {
         Ok(read) => read == *nodes,
         Err(_) => false,
     }
 }
 
-/// Whether a set is shown and printed so, and read from that again.
+/// Whether a set is shown so, and that of its names is printed so, has as many and is read from that again.
 fn is_shown(alloc: Global, nodes: &NodeSet, wanted: &str) -> bool {
-    !nodes.is_empty()
-        && is_text(print_nodes(alloc, nodes), wanted)
+    let names = NodeNames::of(nodes);
+    !names.is_empty()
+        && names.len() == nodes.len()
+        && is_text(print_nodes(alloc, &names), wanted)
         && is_text(format!(in alloc; "{nodes}"), wanted)
-        && spells(wanted, nodes)
+        && spells(wanted, &names)
 }
 
 /// Lists, and how the sets of them are shown.
@@ -36,7 +38,7 @@ fn is_list(alloc: Global, row: &str) -> bool {
         return false;
     };
     match parse_nodes(list) {
-        Ok(nodes) => is_shown(alloc, &nodes, shown),
+        Ok(names) => is_shown(alloc, &NodeSet::first_of(&names), shown),
         Err(_) => false,
     }
 }
@@ -78,7 +80,7 @@ fn refuses_lists(rt: HostRuntime) {
 
 /// What comes of putting a node in: whether it is new, or why it is refused.
 fn insert(nodes: &mut NodeSet, node: &str) -> Result<bool, TextFault> {
-    nodes.insert(parse_node(node)?)
+    nodes.insert(Node::first(parse_node(node)?))
 }
 
 /// Puts eight nodes into an empty set: whether each of them is new.
@@ -94,7 +96,10 @@ fn fills(nodes: &mut NodeSet) -> bool {
 /// Whether a node is at this place of a set, and in it.
 fn is_at(nodes: &NodeSet, node: &str, place: usize) -> bool {
     match parse_node(node) {
-        Ok(node) => nodes.position(&node) == Some(place) && nodes.contains(&node),
+        Ok(name) => {
+            let node = Node::first(name.copy());
+            nodes.position(&node) == Some(place) && nodes.contains(&node) && nodes.has_name(&name)
+        }
         Err(_) => false,
     }
 }
@@ -102,15 +107,19 @@ fn is_at(nodes: &NodeSet, node: &str, place: usize) -> bool {
 /// Whether a node is not in a set.
 fn is_absent(nodes: &NodeSet, node: &str) -> bool {
     match parse_node(node) {
-        Ok(node) => nodes.position(&node).is_none() && !nodes.contains(&node),
+        Ok(name) => {
+            let is_named = nodes.has_name(&name) || NodeNames::of(nodes).contains(&name);
+            let node = Node::first(name);
+            nodes.position(&node).is_none() && !nodes.contains(&node) && !is_named
+        }
         Err(_) => false,
     }
 }
 
 /// Whether a node is this one.
-fn is_node(node: Option<&NodeName>, wanted: &str) -> bool {
+fn is_node(node: Option<&Node>, wanted: &str) -> bool {
     match node {
-        Some(node) => node.as_str() == wanted,
+        Some(node) => node.name().as_str() == wanted,
         None => false,
     }
 }
@@ -129,7 +138,7 @@ fn holds_eight_nodes(rt: HostRuntime) {
 }
 
 /// Whether a set of eight nodes loses its first once, is then another than its copy, and has room for a ninth.
-fn loses(nodes: &mut NodeSet, first: &NodeName) -> bool {
+fn loses(nodes: &mut NodeSet, first: &Node) -> bool {
     let before = nodes.copy();
     before == *nodes
         && nodes.remove(first)
@@ -140,10 +149,31 @@ fn loses(nodes: &mut NodeSet, first: &NodeName) -> bool {
 
 #[test]
 fn takes_nodes_out(rt: HostRuntime) -> Result<(), Fail> {
-    let first = parse_node("a")?;
+    let first = Node::first(parse_node("a")?);
     let mut nodes = NodeSet::empty();
     assert!(rt; fills(&mut nodes) && loses(&mut nodes, &first));
     assert!(rt; is_node(nodes.as_slice().first(), "b") && is_absent(&nodes, "a"));
-    assert!(rt; spells("a", &NodeSet::one(first)));
+    assert!(rt; spells("a", &NodeNames::of(&NodeSet::one(first))));
     Ok(())
+}
+
+/// Whether of the nodes of one list these are named by another.
+fn are_named(list: &str, names: &str, wanted: &str) -> bool {
+    match (parse_nodes(list), parse_nodes(names)) {
+        (Ok(nodes), Ok(names)) => {
+            let named = NodeSet::first_of(&nodes).named(&names.copy());
+            match parse_nodes(wanted) {
+                Ok(wanted) => NodeNames::of(&named) == wanted,
+                Err(_) => named.is_empty() && wanted.is_empty(),
+            }
+        }
+        _ => false,
+    }
+}
+
+#[test]
+fn names_some_nodes(rt: HostRuntime) {
+    assert!(rt; are_named("a,b,c", "d,c,a", "a,c"));
+    assert!(rt; are_named("a,b", "c", ""));
+    assert!(rt; NodeSet::first_of(&NodeNames::empty()).is_empty());
 }

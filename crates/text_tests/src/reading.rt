@@ -11,6 +11,7 @@ fn is_fault(fault: TextFault, wanted: &str) -> bool {
         TextFault::BadByte(1) => wanted == "bad_byte 1",
         TextFault::BadByte(_) => false,
         TextFault::BadSerial => wanted == "bad_serial",
+        TextFault::BadRule => wanted == "bad_rule",
         TextFault::TooManyNodes => wanted == "too_many_nodes",
     }
 }
@@ -50,6 +51,14 @@ fn shows_faults_as_words(rt: HostRuntime) {
         TextFault::TooLong,
         TextFault::TooManyNodes,
     );
-    let shown = format!(in rt.alloc(); "{empty} {too_long} {bad_byte} {bad_serial} {too_many}");
-    assert!(rt; is_text(shown, "empty too_long bad_byte bad_serial too_many_nodes"));
+    let bad_rule = TextFault::BadRule;
+    let shown = format!(in rt.alloc();
+        "{empty} {too_long} {bad_byte} {bad_serial} {bad_rule} {too_many}"
+    );
+    assert!(rt;
+        is_text(
+            shown,
+            "empty too_long bad_byte bad_serial bad_rule too_many_nodes"
+        )
+    );
 }

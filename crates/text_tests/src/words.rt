@@ -2,7 +2,7 @@
 use crate::reading::is_text;
 use arguments::{ArgFault, ServeOptions, Task, read_args};
 use std::alloc::{AllocError, Global};
-use term::{NodeSet, parse_nodes};
+use term::{NodeNames, parse_nodes};
 
 /// Puts a word behind the others, if there is memory.
 fn push(alloc: Global, words: &mut Vec<String>, word: &str) -> bool {
@@ -24,7 +24,7 @@ fn read(alloc: Global, line: &str) -> Result<Task, ArgFault> {
 }
 
 /// Whether these are the nodes of a list, or none.
-fn are_nodes(nodes: &NodeSet, list: &str) -> bool {
+fn are_nodes(nodes: &NodeNames, list: &str) -> bool {
     match parse_nodes(list) {
         Ok(wanted) => wanted == *nodes,
         Err(_) => list.is_empty() && nodes.is_empty(),

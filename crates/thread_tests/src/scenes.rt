@@ -4,7 +4,8 @@ use leaves::Ending;
 use meeting::{Flags, Meeting};
 use name_table::ListTable;
 use node_threads::{
-    Call, CloseFault, Closed, Cluster, FreeSeat, Gate, Reply, Seat, SeatFault, Transcript,
+    Call, CloseFault, Closed, Cluster, FreeSeat, Gate, HistoryEntry, KeptEntry, Reply, Seat,
+    SeatFault, Transcript,
 };
 use std::alloc::Global;
 use std::sync::{Arc, Wait};
@@ -12,11 +13,11 @@ use std::test::Fail;
 use std::thread::Threads;
 use std::time::Clock;
 use stubborn::Stubborn;
-use term::{NodeName, NodeSet, parse_node, parse_nodes};
+use term::{Node, NodeName, NodeNames, NodeSet, parse_node, parse_nodes};
 use transaction::NameCall;
-use world_history::{HistoryEntry, KeptEntry};
 
 mod beside;
+mod clashes;
 mod crowds;
 mod forgetful;
 mod given_up;
@@ -119,7 +120,7 @@ fn held(alloc: Global, nodes: NodeSet, yields: u32) -> Option<Arc<Flags, Global>
 }
 
 /// Starts a cluster of these nodes, with the gate of these flags.
-fn start<R>(rt: &R, alloc: Global, nodes: &NodeSet, flags: &Arc<Flags, Global>) -> Option<Small>
+fn start<R>(rt: &R, alloc: Global, nodes: &NodeNames, flags: &Arc<Flags, Global>) -> Option<Small>
 where
     R: Threads + Wait + Clock + Drop + Copy + Send + 'static,
 {
@@ -161,7 +162,7 @@ fn transcribe(seats: Vec<Seat>, transcripts: &mut Vec<Transcript>) -> bool {
 fn events<R>(
     rt: &R,
     alloc: Global,
-    nodes: &NodeSet,
+    nodes: &NodeNames,
     at: &str,
     flags: &Arc<Flags, Global>,
     scene: Scene,
@@ -199,6 +200,12 @@ fn a_node_answers_and_its_run_is_replayed(rt: HostRuntime) {
 #[test]
 fn seats_read_beside_their_nodes(rt: HostRuntime) {
     assert!(rt; beside::plays(&rt, rt.alloc()));
+}
+
+/// The close replays the run, and compares what each seat was told of notices.
+#[test]
+fn who_loses_a_name_is_sent_a_notice(rt: HostRuntime) {
+    assert!(rt; clashes::plays(&rt, rt.alloc()));
 }
 
 #[test]
@@ -245,7 +252,7 @@ fn who_sleeps_is_woken(rt: HostRuntime) {
 #[test]
 fn eight_nodes_step_at_once(rt: HostRuntime) -> Result<(), Fail> {
     let all = parse_nodes("a,b,c,d,e,f,g,h")?;
-    let Some(flags) = held(rt.alloc(), all.copy(), 1_000_000) else {
+    let Some(flags) = held(rt.alloc(), NodeSet::first_of(&all), 1_000_000) else {
         return Err(Fail::from("no memory"));
     };
     let events = events(
@@ -270,7 +277,8 @@ fn eight_names_are_registered_once(rt: HostRuntime) {
 /// The gate holds `b` until the scene has come, too, as `z`.
 #[test]
 fn nothing_is_lost_before_a_full_inbox(rt: HostRuntime) -> Result<(), Fail> {
-    let Some(flags) = held(rt.alloc(), parse_nodes("b,z")?, 100_000_000) else {
+    let held_up = NodeSet::first_of(&parse_nodes("b,z")?);
+    let Some(flags) = held(rt.alloc(), held_up, 100_000_000) else {
         return Err(Fail::from("no memory"));
     };
     let events = events(
@@ -305,7 +313,7 @@ fn is_first_at<R: Wait + Clock>(
     let Ok(mut seat) = free.at(alloc, node) else {
         return false;
     };
-    seat.number() == 0 && seat.node() == node && spawns(rt, &mut seat)
+    seat.number() == 0 && seat.node().name() == node && spawns(rt, &mut seat)
 }
 
 /// Chooses the second of two nodes for a free seat.
@@ -341,13 +349,13 @@ fn spends<R>(rt: &R, alloc: Global) -> bool
 where
     R: Threads + Wait + Clock + Drop + Copy + Send + Sync + 'static,
 {
-    let (Ok(a), Ok(b)) = (parse_node("a"), parse_node("b")) else {
+    let (Ok(nodes), Ok(a), Ok(b)) = (parse_nodes("a"), parse_node("a"), parse_node("b")) else {
         return false;
     };
     let Some(flags) = held(alloc, NodeSet::empty(), 0) else {
         return false;
     };
-    let Some(mut cluster) = start(rt, alloc, &NodeSet::one(a.copy()), &flags) else {
+    let Some(mut cluster) = start(rt, alloc, &nodes, &flags) else {
         return false;
     };
     let mut seats = Vec::new(alloc);
@@ -378,7 +386,7 @@ fn a_step_that_is_refused_is_tried_again(rt: HostRuntime) {
 
 #[test]
 fn a_node_that_is_refused_three_times_ends_alone(rt: HostRuntime) -> Result<(), Fail> {
-    let fault = CloseFault::LeftInHold(parse_node("a")?);
+    let fault = CloseFault::LeftInHold(Node::first(parse_node("a")?));
     assert!(rt; refusals::ends::<Stubborn<3>, _>(&rt, rt.alloc(), Err(SeatFault::Closed), &fault));
     Ok(())
 }

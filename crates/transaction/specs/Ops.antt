@@ -8,8 +8,8 @@ use Rattle.transaction.specs.declared.op.Op.{Op}
 use Rattle.transaction.specs.declared.op.Op.TheVariants.{Name, Strike, Join, Admission}
 
 abbrev pub name_call_of : NameCall → AnyNameCall
-name_call_of (Register x p) = AnyNameCall.Register (record { name = x; owner = p })
-name_call_of (ReRegister x p) = AnyNameCall.ReRegister (record { name = x; owner = p })
+name_call_of (Register pair) = AnyNameCall.Register pair
+name_call_of (ReRegister pair) = AnyNameCall.ReRegister pair
 name_call_of (Unregister x) = AnyNameCall.Unregister x
 
 abbrev pub op_of : Op → AnyOp

@@ -9,12 +9,13 @@ ghost use Rattle.transaction.specs.Calls.{is_named, retries_of};
 
 use std::alloc::{AllocError, Global};
 use std::marker::Model;
-use term::NodeSet;
+use term::NodeNames;
 
-/// The nodes that a lock call names, at least one. A set of nodes is large and few calls name one, so it lies in memory of its own.
+/// The names of the nodes that a lock call names, at least one. A set of names is large and few calls have one, so it lies in memory
+/// of its own.
 #[derive(Debug, Drop)]
 pub struct NamedNodes {
-    nodes: Box<NodeSet>,
+    names: Box<NodeNames>,
 }
 
 impl Model for NamedNodes {
@@ -22,28 +23,28 @@ impl Model for NamedNodes {
 
     ghost Value = { List ℕ };
 
-    ghost view = { λ n. n.nodes.value };
+    ghost view = { λ n. n.names.value };
 
-    ghost invariant = { λ n. 0 < length n.nodes.value };
+    ghost invariant = { λ n. 0 < length n.names.value };
 }
 
 impl NamedNodes {
-    /// The same nodes, in memory of their own.
+    /// The same names, in memory of their own.
     pub fn copy(&self) -> Result<Self, AllocError>
         ensures { IfOk result (λ copy. copy ≡ self.now) }
     {
-        let alloc = *Box::allocator(&self.nodes);
+        let alloc = *Box::allocator(&self.names);
         Ok(NamedNodes {
-            nodes: Box::new(alloc, self.nodes.as_ref().copy())?,
+            names: Box::new(alloc, self.names.as_ref().copy())?,
         })
     }
 
     /// The set of them, which isn't empty.
-    pub fn as_set(&self) -> &NodeSet
-        ensures nodes { result.now ≡ self.now }
+    pub fn as_set(&self) -> &NodeNames
+        ensures names { result.now ≡ self.now }
         ensures some { 0 < length self.now }
     {
-        self.nodes.as_ref()
+        self.names.as_ref()
     }
 }
 
@@ -71,16 +72,16 @@ pub enum Nodes {
 }
 
 impl Nodes {
-    /// The nodes of a set. `None`: the set is empty, which takes no memory.
-    pub fn named(alloc: Global, nodes: NodeSet) -> Result<Option<Self>, AllocError>
-        ensures named { IfOk result (λ named. named ≡ (if length nodes == 0 then None else Some (Named nodes))) }
-        ensures refused { OnErr result (0 < length nodes) }
+    /// The nodes of these names. `None`: there are none, which takes no memory.
+    pub fn named(alloc: Global, names: NodeNames) -> Result<Option<Self>, AllocError>
+        ensures named { IfOk result (λ named. named ≡ (if length names == 0 then None else Some (Named names))) }
+        ensures refused { OnErr result (0 < length names) }
     {
-        if nodes.is_empty() {
+        if names.is_empty() {
             return Ok(None);
         }
         Ok(Some(Nodes::Named(NamedNodes {
-            nodes: Box::new(alloc, nodes)?,
+            names: Box::new(alloc, names)?,
         })))
     }
 

@@ -6,15 +6,15 @@ ghost use Rattle.transaction.specs.Ops.{name_call_of, op_of, is_admission};
 
 use name_table::{Change, Pair, copied_pairs};
 use std::alloc::AllocError;
-use term::{Name, NodeName, Pid};
+use term::{Name, Node, Pid};
 
 /// A call that goes through the registry.
 #[derive(Debug, PartialEq, Eq, Drop)]
 pub enum NameCall {
-    /// The process is to own the name, where nobody owns it and the process owns none.
-    Register(Name, Pid),
-    /// The process is to own the name, whoever owns it, and whatever else the process owns.
-    ReRegister(Name, Pid),
+    /// The process is to own the name, under this rule, where nobody owns it and the process owns none.
+    Register(Pair),
+    /// The process is to own the name, under this rule, whoever owns it, and whatever else the process owns.
+    ReRegister(Pair),
     /// Nobody is to own the name.
     Unregister(Name),
 }
@@ -25,8 +25,8 @@ impl NameCall {
         ensures { result ≡ self.now }
     {
         match self {
-            NameCall::Register(name, owner) => NameCall::Register(name.copy(), owner.copy()),
-            NameCall::ReRegister(name, owner) => NameCall::ReRegister(name.copy(), owner.copy()),
+            NameCall::Register(pair) => NameCall::Register(pair.copy()),
+            NameCall::ReRegister(pair) => NameCall::ReRegister(pair.copy()),
             NameCall::Unregister(name) => NameCall::Unregister(name.copy()),
         }
     }
@@ -36,9 +36,7 @@ impl NameCall {
         ensures { change_of result ≡ change_of_call (name_call_of self.now) }
     {
         match self {
-            NameCall::Register(name, owner) | NameCall::ReRegister(name, owner) => {
-                Change::Put(name.copy(), owner.copy())
-            }
+            NameCall::Register(pair) | NameCall::ReRegister(pair) => Change::Put(pair.copy()),
             NameCall::Unregister(name) => Change::Remove(name.copy()),
         }
     }
@@ -52,9 +50,9 @@ pub enum Op {
     /// A dead process of this node loses all its names.
     Strike(Pid),
     /// This node joins by a contact, under the number of the call at the node.
-    Join(u32, NodeName),
+    Join(u32, Node),
     /// A lone node is let in, with the names that it has, rising.
-    Admission(NodeName, Vec<Pair>),
+    Admission(Node, Vec<Pair>),
 }
 
 impl Op {

@@ -7,7 +7,7 @@ use crate::op::Op;
 use crate::queue::Queue;
 use std::alloc::{AllocError, Global};
 use std::marker::Model;
-use term::{NodeName, NodeSet, Pid};
+use term::{Node, NodeSet, Pid};
 
 /// The operations of one node: those that wait, the oldest first, the current one, and the nodes that haven't yet said that
 /// they carried it out.
@@ -128,7 +128,7 @@ impl Registrar {
 
     /// A node has carried out the current operation, and is awaited no longer. Tells whether it was awaited; where it wasn't,
     /// nothing changes.
-    pub fn applied(&mut self, node: &NodeName) -> bool
+    pub fn applied(&mut self, node: &Node) -> bool
         ensures state { self.new ≡ record self.old { awaited = without_node self.old.awaited node.now } }
         ensures was { result ≡ set_of self.old.awaited node.now }
         ensures unchanged { set_of self.old.awaited node.now ≡ false → self.new ≡ self.old }

@@ -42,7 +42,7 @@ impl<L: Drop> Tray<L> {
     {
         let mut slots = Vec::new(alloc);
         for receiver in receivers.as_slice() {
-            slots.push(Slot::new(alloc, receiver.copy()))?;
+            slots.push(Slot::new(alloc, receiver.name().copy()))?;
         }
         Ok(Tray { slots })
     }

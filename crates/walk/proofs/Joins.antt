@@ -1,15 +1,14 @@
 -- A node asks to join at most once, and only while it is lone.
 use Rattle.std.proofs.Common.{ℕ, Bool, true, false, ◌≡◌, ◌+◌, ◌<◌, Some, None, List, [], ◌∷◌, ◌++◌, refl, sym, subst, ap, ◌∙◌, arith}
-use Rattle.std.specs.Prelude.{◌&&◌, ◌||◌, not, fold, if◌then◌else◌}
+use Rattle.std.specs.Prelude.{◌&&◌, ◌||◌, not, if◌then◌else◌}
 use Rattle.std.specs.List.{list_any}
 use Rattle.registry_model.specs.Process.{at}
-use Rattle.registry_model.specs.Table.{Table, Put}
 use Rattle.registry_model.specs.Registry.{Replica}
 use Rattle.registry_model.specs.Settlement.{Settled}
 use Rattle.protocol_model.specs.Round.{answer, opens, rest}
 use Rattle.protocol_model.specs.Letter.{Letter, Global}
 use Rattle.protocol_model.specs.LockTable.{is_free_for, grant}
-use Rattle.protocol_model.specs.Node.{Node, Op, Current, LockPhase, wrote}
+use Rattle.protocol_model.specs.Node.{Node, Op, Current, LockPhase}
 use Rattle.protocol_model.specs.Event.{is_join, is_joining}
 use Rattle.protocol_model.specs.Turn.{begun, at_work, with_locks, keep_call, send_all}
 use Rattle.protocol_model.specs.Registrar.{registrar}
@@ -19,6 +18,7 @@ use Rattle.protocol_model.specs.World.{Opening, World, in_cluster, join_number, 
 use Rattle.registry_model.proofs.Updates.{by_test}
 use Rattle.moves.proofs.Rules
 use Rattle.moves.proofs.Rules.{Rule}
+use Rattle.moves.proofs.Writes.{wrote_all-keeps}
 use Rattle.walk.proofs.Orders.{effect-node}
 
 -- one where it is so
@@ -53,14 +53,9 @@ joins_of-none (op ∷ ops) e = go (is_join op) (list_any is_join ops) e (joins_o
     go true s q h = cc
     go false s q h = omega (arith, h q)
 
--- puts join nobody
-puts-joined : (puts : Table) (v : Replica) → (fold (λ x e. wrote (Put e) x) v puts).joined ≡ v.joined
-puts-joined [] v = refl
-puts-joined (e ∷ puts) v = puts-joined puts (wrote (Put e) v)
-
 -- who admits another is joined, or not, as before
-pub admitted-joined : (j : ℕ) (settled : Settled) (v : Replica) → (admitted j settled v).joined ≡ v.joined
-admitted-joined j settled v = puts-joined settled.puts (with_member j v) ∙ go (v.told j)
+pub admitted-joined : (a j : ℕ) (settled : Settled) (v : Replica) → (admitted a j settled v).joined ≡ v.joined
+admitted-joined a j settled v = (wrote_all-keeps settled (with_member j v)).joined ∙ go (v.told j)
   where
     go : (t : Bool) → (if t then v else record v { members = at v.members j true }).joined ≡ v.joined
     go true = refl
@@ -128,7 +123,7 @@ module _ (o : Opening) (a : ℕ) (w : World) where
   joins_turn number (Rules.LosesContact k m) v h t = calm v h
   joins_turn number (Rules.IsAdmitted f j settled) v h t =
       subst (λ (b : Bool). one_if (is_joining v.current) + joins_of v.queue + one_if b < 2)
-      (sym (admitted-joined j settled v.replica)) h
+      (sym (admitted-joined a j settled v.replica)) h
   joins_turn number (Rules.IsWelcomed f k members pairs told fate) v h t =
       let waits : one_if (is_joining v.current) ≡ 1 = ap (λ (c : Current). one_if (is_joining c)) t.1 in
       omega (arith, h, waits)

@@ -5,19 +5,19 @@ use Rattle.std.specs.Prelude.{fold, Contains, if◌then◌else◌}
 use Rattle.std.specs.List.{All}
 use Rattle.std.proofs.lemmas.List.Elements.{All-head, All-tail}
 use Rattle.registry_model.specs.Process.{Process, Nodes, at}
-use Rattle.registry_model.specs.Table.{Table, Put}
 use Rattle.registry_model.specs.Registry.{Replica}
 use Rattle.registry_model.specs.Settlement.{Settled}
 use Rattle.protocol_model.specs.Letter.{Letter}
 use Rattle.protocol_model.specs.Watch.{is_live}
-use Rattle.protocol_model.specs.Node.{Node, wrote}
+use Rattle.protocol_model.specs.Node.{Node}
 use Rattle.protocol_model.specs.Turn.{Turn, with_replica}
 use Rattle.protocol_model.specs.Calling.{die, kill}
 use Rattle.protocol_model.specs.Reading.{with_member, admitted}
 use Rattle.protocol_model.specs.World.{Opening, in_world, World, left}
 use Rattle.registry_model.proofs.Updates.{by_test}
 use Rattle.moves.proofs.Rules
-use Rattle.moves.proofs.Rules.{Rule, die_to, kills_in, awaits}
+use Rattle.moves.proofs.Rules.{die_to, kills_in, awaits}
+use Rattle.moves.proofs.Writes.{wrote_all-keeps}
 use Rattle.walk.proofs.Worlds.{stays_front}
 use Rattle.walk.proofs.ChainKinds.{Hearing}
 use Rattle.walk.proofs.Chains.{Chain, chain_more}
@@ -64,15 +64,11 @@ kill_to-current n a s (p ∷ ps) u = go (is_live a u.node.watch p) (kill_to-curr
     go true h = h (die_to n s p u)
     go false h = h u
 
--- puts change no members
-pub puts-members : (puts : Table) (v : Replica) → (fold (λ x e. wrote (Put e) x) v puts).members ≡ v.members
-puts-members [] v = refl
-puts-members (e ∷ puts) v = puts-members puts (wrote (Put e) v)
-
 -- who is a member is one after an admission
-pub admitted-members : (j : ℕ) (settled : Settled) (v : Replica) (c : ℕ) → v.members c ≡ true
-    → (admitted j settled v).members c ≡ true
-admitted-members j settled v c m = ap (λ (s : Nodes). s c) (puts-members settled.puts (with_member j v)) ∙ go (v.told j)
+pub admitted-members : (a j : ℕ) (settled : Settled) (v : Replica) (c : ℕ) → v.members c ≡ true
+    → (admitted a j settled v).members c ≡ true
+admitted-members a j settled v c m =
+    ap (λ (s : Nodes). s c) (wrote_all-keeps settled (with_member j v)).members ∙ go (v.told j)
   where
     go : (t : Bool) → (if t then v else record v { members = at v.members j true }).members c ≡ true
     go true = m

@@ -20,7 +20,7 @@ use Rattle.protocol_model.specs.Calling.{kill, queued}
 use Rattle.protocol_model.specs.Reading.{admitted, welcomed, asked_to_admit, refused_join, welcome}
 use Rattle.protocol_model.specs.World.{Opening, in_world, World, left, Deliver, number_in, join_number, apply, letter_taken}
 use Rattle.moves.proofs.Rules
-use Rattle.moves.proofs.Rules.{Rule, taking, is_ordered, awaits, is_heard, is_heard_in, is_owed_in, is_awaited, is_joining_by, some_call, Ordered}
+use Rattle.moves.proofs.Rules.{Rule, taking, is_ordered, awaits, is_heard, is_heard_in, is_owed_in, is_awaited, is_joining_by, some_call}
 use Rattle.walk.proofs.ChainKinds.{Hearing, may_begin, begin_quiet}
 use Rattle.walk.proofs.Chains.{Chain, closed_by-quiet, is_gone_by, gone_by-delivery, chain_none, chain_quiet, chain_letter}
 use Rattle.walk.proofs.Calls.{is_process-true, call_of-holder, ordered_found}
@@ -261,23 +261,23 @@ module _ (o : Opening) (a : ℕ) (inside : in_world o a ≡ true) (w : World) (r
     -- f has j admitted, and these die
     pub admit-chain : (j : ℕ) (settled : Settled)
         → w.links.queue f a ≡ Letter.Admit j settled ∷ rest
-        → Reads (send f Letter.Applied (kill o.bound a settled.fate.kills (with_replica (admitted j settled) (begun (w.node a)))))
+        → Reads (send f Letter.Applied (kill o.bound a settled.fate.kills (with_replica (admitted a j settled) (begun (w.node a)))))
     admit-chain j settled front =
         subst (λ (u : Turn). Reads (send f Letter.Applied u))
-        (ap (λ (v : Replica). replaced (admitted j settled v) killed)
+        (ap (λ (v : Replica). replaced (admitted a j settled v) killed)
         (kill_to-replica o.bound a after.members settled.fate.kills (begun (w.node a)))
         ∙ sym (kill-replaced o.bound a after settled.fate.kills (begun (w.node a))))
         (chain_letter o a Hearing inside w [] killed (Rules.IsAdmitted f j settled) f
         (Letter.Admit j settled) rest running
         (kill_to-chain o a inside w running f (Letter.Admit j settled) rest known front after.members settled.fate.kills
         (begun (w.node a))
-        (chain_none o a Hearing w) untold (λ v e. refl) (admitted-members j settled (w.node a).replica)
+        (chain_none o a Hearing w) untold (λ v e. refl) (admitted-members a j settled (w.node a).replica)
         (All-contains_itself settled.fate.kills))
         refl refl known front
         (ap (λ (v : Replica). v.told f) (kill_to-replica o.bound a after.members settled.fate.kills (begun (w.node a))) ∙ untold))
       where
         after : Replica
-        after = admitted j settled (w.node a).replica
+        after = admitted a j settled (w.node a).replica
 
         killed : Turn
         killed = kill_to o.bound a after.members settled.fate.kills (begun (w.node a))
@@ -287,7 +287,7 @@ module _ (o : Opening) (a : ℕ) (inside : in_world o a ≡ true) (w : World) (r
         → w.links.queue f a ≡ Letter.Welcome members pairs told fate ∷ rest
         → ((k : ℕ) → (w.node a).current ≡ Current.Joining k f
         → (c : ℕ) → (w.node a).replica.members c ≡ true
-        → (welcomed members pairs told (w.node a).replica).members c ≡ true)
+        → (welcomed a members pairs told fate (w.node a).replica).members c ≡ true)
         → Reads (welcome o.bound a (join_number w) f members pairs told fate (w.node a).current (begun (w.node a)))
     welcome-chain members pairs told fate front wide = go (w.node a).current refl
       where
@@ -295,7 +295,7 @@ module _ (o : Opening) (a : ℕ) (inside : in_world o a ≡ true) (w : World) (r
         skip e = ignored (Letter.Welcome members pairs told fate) front e
 
         after : Replica
-        after = welcomed members pairs told (w.node a).replica
+        after = welcomed a members pairs told fate (w.node a).replica
 
         killed : Turn
         killed = kill_to o.bound a after.members fate.kills (begun (w.node a))
@@ -303,10 +303,10 @@ module _ (o : Opening) (a : ℕ) (inside : in_world o a ≡ true) (w : World) (r
         granted : (k : ℕ) → (w.node a).current ≡ Current.Joining k f
             → Reads (send f Letter.Applied (reply_with a k Joined
             (at_work Current.Free
-            (kill o.bound a fate.kills (with_replica (welcomed members pairs told) (begun (w.node a)))))))
+            (kill o.bound a fate.kills (with_replica (welcomed a members pairs told fate) (begun (w.node a)))))))
         granted k e =
             subst (λ (u : Turn). Reads (send f Letter.Applied (reply_with a k Joined (at_work Current.Free u))))
-            (ap (λ (v : Replica). replaced (welcomed members pairs told v) killed)
+            (ap (λ (v : Replica). replaced (welcomed a members pairs told fate v) killed)
             (kill_to-replica o.bound a after.members fate.kills (begun (w.node a)))
             ∙ sym (kill-replaced o.bound a after fate.kills (begun (w.node a))))
             (chain_letter o a Hearing inside w [] killed (Rules.IsWelcomed f k members pairs told fate) f
@@ -324,7 +324,7 @@ module _ (o : Opening) (a : ℕ) (inside : in_world o a ≡ true) (w : World) (r
         join : (k m : ℕ) → (w.node a).current ≡ Current.Joining k m → (t : Bool) → (m == f) ≡ t
             → Reads (if t then send f Letter.Applied (reply_with a k Joined
             (at_work Current.Free
-            (kill o.bound a fate.kills (with_replica (welcomed members pairs told) (begun (w.node a))))))
+            (kill o.bound a fate.kills (with_replica (welcomed a members pairs told fate) (begun (w.node a))))))
             else begun (w.node a))
         join k m e true q = granted k (e ∙ ap (λ (x : ℕ). Current.Joining k x) (eqb-true m f q))
         join k m e false q = skip (ap (is_joining_by f) e ∙ q)

@@ -15,7 +15,7 @@ use Rattle.protocol_model.specs.Reading.{welcomed, read, receive, told_of, berea
 use Rattle.protocol_model.specs.World.{Opening, in_world, World, left, Deliver, number_in, join_number, letter_taken}
 use Rattle.registry_model.proofs.Updates.{at_same}
 use Rattle.moves.proofs.Rules
-use Rattle.moves.proofs.Rules.{Rule, is_ordered}
+use Rattle.moves.proofs.Rules.{is_ordered}
 use Rattle.walk.proofs.ChainKinds.{Hearing}
 use Rattle.walk.proofs.Chains.{Chain, gone_by-delivery, chain_one}
 use Rattle.walk.proofs.Rounds.{Onward, onward_none, join_number-behind, lose_contact-chain, lose-chain}
@@ -31,7 +31,7 @@ WelcomeWidens o w =
     → in_world o a ≡ true → left w a ≡ false → (w.node a).replica.told f ≡ false
     → (w.node a).current ≡ Current.Joining k f
     → w.links.queue f a ≡ Letter.Welcome members pairs told fate ∷ rest
-    → (c : ℕ) → (w.node a).replica.members c ≡ true → (welcomed members pairs told (w.node a).replica).members c ≡ true
+    → (c : ℕ) → (w.node a).replica.members c ≡ true → (welcomed a members pairs told fate (w.node a).replica).members c ≡ true
 
 module _ (o : Opening) (a : ℕ) (inside : in_world o a ≡ true) (w : World) (running : left w a ≡ false)
     (sorted : is_ordered a (w.node a).calls ≡ true)

@@ -37,7 +37,7 @@ lone_alone o w h a c up lone member =
 -- a node that is welcomed keeps its members
 pub welcome_widens : (o : Opening) (w : World) → JoinsOnce w → Proper o w → LoneAlone o w → WelcomeWidens o w
 welcome_widens o w once proper lone f a k members pairs told fate rest inside running untold waits front c member =
-    subst (λ (x : ℕ). (welcomed members pairs told (w.node a).replica).members x ≡ true)
+    subst (λ (x : ℕ). (welcomed a members pairs told fate (w.node a).replica).members x ≡ true)
     (sym (lone a c (inside, running) (joining_lone w once a k f waits) member)) own
   where
     letter : Invariants.IsProper o w f a (Letter.Welcome members pairs told fate)

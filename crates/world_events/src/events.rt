@@ -4,7 +4,7 @@ ghost use Rattle.node_core.specs.Causes.{event_by};
 ghost use Rattle.world_events.specs.Events.{node_event, is_leave, knows_contact};
 
 use node_core::{Call, Cause};
-use term::{NodeName, NodeSet, Pid};
+use term::{Node, NodeName, NodeSet, Pid};
 
 /// What may happen at a node, beside the delivery of a letter.
 #[derive(Debug, PartialEq, Eq, Drop)]
@@ -54,7 +54,7 @@ impl Event {
 #[derive(Debug, PartialEq, Eq, Drop)]
 pub enum WorldEvent {
     /// An event at a node.
-    At(NodeName, Event),
-    /// The oldest letter from the first node to the second is delivered.
+    At(Node, Event),
+    /// The oldest letter from the node of the first name to that of the second is delivered.
     Deliver(NodeName, NodeName),
 }

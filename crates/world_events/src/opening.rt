@@ -8,7 +8,7 @@ use name_table::Names;
 use node_core::NodeCore;
 use std::alloc::{AllocError, Global};
 use std::marker::Model;
-use term::{MOST_NODES, NodeName, NodeSet};
+use term::{MOST_NODES, Node, NodeName, NodeSet};
 use thiserror::Error;
 
 /// Why a world isn't started, in the order in which the causes are looked for.
@@ -83,7 +83,7 @@ fn start_fault(cluster: &[NodeName], lone: &[NodeName]) -> Option<StartFault>
     }
 }
 
-/// Puts these nodes into a set that has room for them.
+/// Puts the first nodes of these names into a set that has room for them.
 fn gather(set: &mut NodeSet, nodes: &[NodeName]) -> Result<(), StartFault>
     requires { length set.old + length nodes.now ≤ most_nodes }
     ensures ok { OnOk result ((c : ℕ) → set_of set.new c ≡ (set_of set.old c || set_of nodes.now c)) }
@@ -91,7 +91,7 @@ fn gather(set: &mut NodeSet, nodes: &[NodeName]) -> Result<(), StartFault>
     ensures all { OnErr result ⊥ }
 {
     for node in nodes {
-        if set.insert(node.copy()).is_err() {
+        if set.insert(Node::first(node.copy())).is_err() {
             return Err(StartFault::TooManyNodes);
         }
     }
@@ -138,7 +138,7 @@ impl Opening {
 
     /// The core that one of its nodes opens with: one of the cluster has its nodes as members, and a lone node itself. It takes
     /// no memory.
-    pub fn core<N: Names<Memory = Global>>(&self, alloc: Global, node: &NodeName) -> NodeCore<N>
+    pub fn core<N: Names<Memory = Global>>(&self, alloc: Global, node: &Node) -> NodeCore<N>
         requires { set_of self.now.nodes node.now ≡ true }
         ensures opens { result ≡ opening_core self.now.nodes self.now.cluster node.now }
         ensures name { result.name ≡ node.now }

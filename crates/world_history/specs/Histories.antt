@@ -16,7 +16,7 @@ entry_of (Left a) = AnyEntry.Left a
 entry_of (Told a d) = AnyEntry.Told a d
 entry_of (Read a l r) = AnyEntry.Read a (look_of l) (reply_of r)
 
--- its reply is a list of names
+-- its reply is a list
 abbrev pub has_list : HistoryEntry → Bool
 has_list (Name a k c r) = is_list r
 has_list (Join j k m r) = is_list r

@@ -10,14 +10,14 @@ use Rattle.world_history.specs.declared.entry.HistoryEntry.{HistoryEntry}
 use Rattle.world_history.specs.declared.kept.KeptCall.{KeptCall}
 use Rattle.world_history.specs.declared.kept.KeptCall.TheVariants.{Register, ReRegister, Unregister}
 use Rattle.world_history.specs.declared.kept.KeptReply.{KeptReply}
-use Rattle.world_history.specs.declared.kept.KeptReply.TheVariants.{Yes, No, Ok, UnknownNode, True, False, Joined, NotMember, ContactLeft, Pid, Undefined, Names}
+use Rattle.world_history.specs.declared.kept.KeptReply.TheVariants.{Yes, No, Ok, UnknownNode, True, False, Joined, NotMember, ContactLeft, Pid, Undefined, Names, Notices as AllNotices}
 use Rattle.world_history.specs.declared.kept.Kept.{Kept}
-use Rattle.world_history.specs.declared.kept.Kept.TheVariants.{Name, Strike, Join, Done, Exit, Left, Told, Whereis, RegisteredNames as AllNames, Whole}
+use Rattle.world_history.specs.declared.kept.Kept.TheVariants.{Name, Strike, Join, Done, Exit, Left, Told, Whereis, RegisteredNames as AllNames, Notices as NoticesOf, Whole}
 
 -- the call that is kept
 abbrev pub call_in : KeptCall → NameCall
-call_in (Register x p) = NameCall.Register x p
-call_in (ReRegister x p) = NameCall.ReRegister x p
+call_in (Register pair) = NameCall.Register pair
+call_in (ReRegister pair) = NameCall.ReRegister pair
 call_in (Unregister x) = NameCall.Unregister x
 
 -- the reply that is kept
@@ -34,6 +34,7 @@ reply_in ContactLeft = Reply.ContactLeft
 reply_in (Pid p) = Reply.Pid p
 reply_in Undefined = Reply.Undefined
 reply_in (Names list) = Reply.Names list.value
+reply_in (AllNotices list) = Reply.Notices list.value
 
 -- an entry of a node, where the join that it decides for another node has this number
 abbrev pub numbered : ℕ → Entry → HistoryEntry
@@ -63,4 +64,5 @@ entry_in (Left a) = HistoryEntry.Left a.value
 entry_in (Told a d) = HistoryEntry.Told a.value d.value
 entry_in (Whereis a x r) = HistoryEntry.Read a.value (Look.Whereis x) (reply_in r)
 entry_in (AllNames a r) = HistoryEntry.Read a.value Look.RegisteredNames (reply_in r)
+entry_in (NoticesOf a p r) = HistoryEntry.Read a.value (Look.Notices p) (reply_in r)
 entry_in (Whole e) = entered_in e.value

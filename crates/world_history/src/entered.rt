@@ -7,7 +7,7 @@ ghost use Rattle.world_history.specs.Kept.{entered_in};
 use crate::entry::HistoryEntry;
 use node_events::{Entry, Look, Reply};
 use std::alloc::AllocError;
-use term::NodeName;
+use term::Node;
 
 /// An entry as its node made it. Where that decided a join of another node, `number` is that of its call there.
 #[derive(Drop)]
@@ -16,20 +16,21 @@ pub(crate) struct Entered {
     pub(crate) number: u32,
 }
 
-/// A look-up of the node, and what it was answered. Only a list of names takes memory.
-fn read(node: &NodeName, look: &Look, reply: &Reply) -> Result<HistoryEntry, AllocError>
+/// A look-up of the node, and what it was answered. Only a list takes memory.
+fn read(node: &Node, look: &Look, reply: &Reply) -> Result<HistoryEntry, AllocError>
     ensures entry { IfOk result (λ entry. entry_of entry ≡ entry_of (HistoryEntry.Read node.now look.now reply.now)) }
     ensures refused { OnErr result (is_list reply.now ≡ true) }
 {
     let look = match look {
         Look::Whereis(name) => Look::Whereis(name.copy()),
         Look::RegisteredNames => Look::RegisteredNames,
+        Look::Notices(process) => Look::Notices(process.copy()),
     };
     Ok(HistoryEntry::Read(node.copy(), look, reply.copy()?))
 }
 
 impl Entered {
-    /// The entry as a history says it. Only a list of names takes memory.
+    /// The entry as a history says it. Only a list takes memory.
     pub(crate) fn entry(&self) -> Result<HistoryEntry, AllocError>
         ensures entry { IfOk result (λ entry. entry_of entry ≡ entry_of (entered_in self.now)) }
         ensures refused { OnErr result (has_list (entered_in self.now) ≡ true) }
@@ -56,7 +57,7 @@ impl Entered {
     }
 
     /// A join under the number that it has here: the joiner, its contact and the reply. It takes no memory.
-    fn join(&self, joiner: &NodeName, contact: &NodeName, reply: Reply) -> HistoryEntry
+    fn join(&self, joiner: &Node, contact: &Node, reply: Reply) -> HistoryEntry
         ensures { result ≡ HistoryEntry.Join joiner.now self.now.number contact.now reply }
     {
         HistoryEntry::Join(joiner.copy(), self.number, contact.copy(), reply)

@@ -11,7 +11,7 @@ use node_events::Entry;
 use std::alloc::{AllocError, Global};
 use std::marker::Model;
 use std::mem;
-use term::{NodeName, NodeSet};
+use term::{Node, NodeSet};
 
 /// The history of a world: all entries, the oldest first. Contracts see their list, and for how many more there is room.
 #[derive(Drop)]
@@ -36,7 +36,7 @@ impl Model for History {
 }
 
 /// Fills memory up for so many entries, with entries of the node that say nothing.
-fn fill(spare: &mut Vec<Box<Entered>>, more: usize, node: &NodeName) -> Result<(), AllocError>
+fn fill(spare: &mut Vec<Box<Entered>>, more: usize, node: &Node) -> Result<(), AllocError>
     ensures { OnOk result (more ≤ vec_len spare.new) }
 {
     let alloc: Global = *spare.allocator();
@@ -86,7 +86,7 @@ impl History {
     }
 
     /// Makes room for so many entries of a node. Where memory is refused, no entry is lost.
-    pub fn reserve(&mut self, more: usize, node: &NodeName) -> Result<(), AllocError>
+    pub fn reserve(&mut self, more: usize, node: &Node) -> Result<(), AllocError>
         ensures entries { self.new.entries ≡ self.old.entries }
         ensures room { OnOk result (more ≤ self.new.room) }
     {

@@ -7,23 +7,24 @@ ghost use Rattle.world_history.specs.declared.entry.HistoryEntry.{HistoryEntry};
 ghost use Rattle.world_history.specs.Histories.{entry_of};
 ghost use Rattle.world_history.specs.Kept.{reply_in, call_in, entry_in};
 
-use crate::kept::{Decision, Kept, KeptCall, KeptEntry, KeptPid, KeptReply};
+use crate::kept::{Decision, Kept, KeptCall, KeptEntry, KeptPair, KeptPid, KeptReply};
 use crate::kept_name::KeptName;
 use crate::kept_names::KeptNames;
-use node_events::{Entry, Look, NameList, Reply};
+use name_table::Pair;
+use node_events::{Entry, Look, NameList, NoticeList, Reply};
 use std::alloc::{AllocError, Global};
 use std::rc::Rc;
-use term::{Name, NodeName, NodeSet, Pid};
+use term::{Name, Node, NodeSet, Pid};
 use transaction::NameCall;
 
-/// Makes what is kept of entries. They share the names of these nodes.
+/// Makes what is kept of entries. They share these nodes.
 #[derive(Drop)]
 pub(crate) struct Keeper {
-    nodes: Vec<Rc<NodeName>>,
+    nodes: Vec<Rc<Node>>,
 }
 
 impl Keeper {
-    /// What shares the names of these nodes.
+    /// What shares these nodes.
     pub(crate) fn new(alloc: Global, nodes: &NodeSet) -> Result<Self, AllocError>
         ensures { IfOk result (λ keeper. map (λ n. n.value) keeper.nodes.items ≡ nodes.now) }
     {
@@ -39,8 +40,8 @@ impl Keeper {
         *self.nodes.allocator()
     }
 
-    /// Keeps the name of a node. Only that of a node outside the world takes memory.
-    fn node(&self, node: &NodeName) -> Result<Rc<NodeName>, AllocError>
+    /// Keeps a node. Only one outside the world takes memory.
+    fn node(&self, node: &Node) -> Result<Rc<Node>, AllocError>
         ensures { IfOk result (λ kept. kept.value ≡ node.now) }
     {
         for shared in &self.nodes {
@@ -68,19 +69,24 @@ impl Keeper {
         })
     }
 
+    /// Keeps a pair.
+    fn pair(&self, pair: &Pair) -> Result<KeptPair, AllocError>
+        ensures { IfOk result (λ kept. kept ≡ pair.now) }
+    {
+        Ok(KeptPair {
+            name: self.name(&pair.name)?,
+            owner: self.process(&pair.owner)?,
+            rule: pair.rule,
+        })
+    }
+
     /// Keeps a name call.
     fn call(&self, call: &NameCall) -> Result<KeptCall, AllocError>
         ensures { IfOk result (λ kept. call_in kept ≡ call.now) }
     {
         Ok(match call {
-            NameCall::Register(name, owner) => KeptCall::Register(
-                self.name(name)?,
-                self.process(owner)?,
-            ),
-            NameCall::ReRegister(name, owner) => KeptCall::ReRegister(
-                self.name(name)?,
-                self.process(owner)?,
-            ),
+            NameCall::Register(pair) => KeptCall::Register(self.pair(pair)?),
+            NameCall::ReRegister(pair) => KeptCall::ReRegister(self.pair(pair)?),
             NameCall::Unregister(name) => KeptCall::Unregister(self.name(name)?),
         })
     }
@@ -90,6 +96,13 @@ impl Keeper {
         ensures { IfOk result (λ kept. kept.value.names.items ≡ names.now.names.items) }
     {
         Ok(Box::new(self.alloc(), KeptNames::keep(self.alloc(), names)?)?)
+    }
+
+    /// Keeps a list of notices.
+    fn notices(&self, notices: &NoticeList) -> Result<Box<NoticeList>, AllocError>
+        ensures { IfOk result (λ kept. kept.value.notices.items ≡ notices.now.notices.items) }
+    {
+        Ok(Box::new(self.alloc(), notices.copy()?)?)
     }
 
     /// Keeps a reply.
@@ -109,13 +122,14 @@ impl Keeper {
             Reply::Pid(process) => KeptReply::Pid(self.process(process)?),
             Reply::Undefined => KeptReply::Undefined,
             Reply::Names(names) => KeptReply::Names(self.names(names)?),
+            Reply::Notices(notices) => KeptReply::Notices(self.notices(notices)?),
         })
     }
 
     /// Keeps a name call that was decided: its node, its number there, the call and the reply.
     fn decision(
         &self,
-        node: &NodeName,
+        node: &Node,
         number: u32,
         call: &NameCall,
         reply: &Reply,
@@ -135,9 +149,9 @@ impl Keeper {
     /// Keeps a join that was decided: the joiner, the number of its call there, its contact and the reply.
     fn join(
         &self,
-        joiner: &NodeName,
+        joiner: &Node,
         number: u32,
-        contact: &NodeName,
+        contact: &Node,
         reply: KeptReply,
     ) -> Result<Kept, AllocError>
         ensures { IfOk result (λ kept. entry_in kept ≡ HistoryEntry.Join joiner.now number contact.now (reply_in reply)) }
@@ -162,6 +176,9 @@ impl Keeper {
             }
             Entry::Read(node, Look::RegisteredNames, reply) => {
                 Kept::RegisteredNames(self.node(node)?, self.reply(reply)?)
+            }
+            Entry::Read(node, Look::Notices(process), reply) => {
+                Kept::Notices(self.node(node)?, self.process(process)?, self.reply(reply)?)
             }
             Entry::Joined(joiner, contact) => {
                 self.join(joiner, number, contact, KeptReply::Joined)?

@@ -8,18 +8,19 @@ use crate::entered::Entered;
 use crate::entry::HistoryEntry;
 use crate::kept_name::KeptName;
 use crate::kept_names::KeptNames;
-use node_events::{Look, Reply};
+use name_table::Pair;
+use node_events::{Look, NoticeList, Reply};
 use std::alloc::AllocError;
 use std::marker::Model;
 use std::mem::size_of;
 use std::rc::Rc;
-use term::{NodeName, Pid};
+use term::{Node, Pid, Rule};
 use transaction::NameCall;
 
 /// A process, whose node is shared with other entries.
 #[derive(Drop)]
 pub(crate) struct KeptPid {
-    pub(crate) node: Rc<NodeName>,
+    pub(crate) node: Rc<Node>,
     pub(crate) serial: u32,
 }
 
@@ -43,11 +44,41 @@ impl KeptPid {
     }
 }
 
+/// A name, its owner and its rule.
+#[derive(Drop)]
+pub(crate) struct KeptPair {
+    pub(crate) name: KeptName,
+    pub(crate) owner: KeptPid,
+    pub(crate) rule: Rule,
+}
+
+impl Model for KeptPair {
+    ghost use Rattle.registry_model.specs.Table.{Pair as Owned};
+    ghost use Rattle.term.specs.Rules.{rule_of};
+
+    ghost Value = { Owned };
+
+    ghost view = { λ p. record { name = p.name; owner = p.owner; rule = rule_of p.rule } };
+}
+
+impl KeptPair {
+    /// The pair.
+    fn pair(&self) -> Pair
+        ensures { result ≡ self.now }
+    {
+        Pair {
+            name: self.name.name(),
+            owner: self.owner.process(),
+            rule: self.rule,
+        }
+    }
+}
+
 /// A name call.
 #[derive(Drop)]
 pub(crate) enum KeptCall {
-    Register(KeptName, KeptPid),
-    ReRegister(KeptName, KeptPid),
+    Register(KeptPair),
+    ReRegister(KeptPair),
     Unregister(KeptName),
 }
 
@@ -57,14 +88,14 @@ impl KeptCall {
         ensures { result ≡ call_in self.now }
     {
         match self {
-            KeptCall::Register(name, owner) => NameCall::Register(name.name(), owner.process()),
-            KeptCall::ReRegister(name, owner) => NameCall::ReRegister(name.name(), owner.process()),
+            KeptCall::Register(pair) => NameCall::Register(pair.pair()),
+            KeptCall::ReRegister(pair) => NameCall::ReRegister(pair.pair()),
             KeptCall::Unregister(name) => NameCall::Unregister(name.name()),
         }
     }
 }
 
-/// A reply.
+/// A reply. Notices are rare: so a list of them is kept as it came.
 #[derive(Drop)]
 pub(crate) enum KeptReply {
     Yes,
@@ -79,10 +110,11 @@ pub(crate) enum KeptReply {
     Pid(KeptPid),
     Undefined,
     Names(Box<KeptNames>),
+    Notices(Box<NoticeList>),
 }
 
 impl KeptReply {
-    /// The reply. Only a list of names takes memory.
+    /// The reply. Only a list takes memory.
     fn reply(&self) -> Result<Reply, AllocError>
         ensures reply { IfOk result (λ reply. reply_of reply ≡ reply_of (reply_in self.now)) }
         ensures refused { OnErr result (is_list (reply_in self.now) ≡ true) }
@@ -100,6 +132,7 @@ impl KeptReply {
             KeptReply::Pid(process) => Reply::Pid(process.process()),
             KeptReply::Undefined => Reply::Undefined,
             KeptReply::Names(names) => Reply::Names(names.names()?),
+            KeptReply::Notices(notices) => Reply::Notices(notices.copy()?),
         })
     }
 }
@@ -107,32 +140,34 @@ impl KeptReply {
 /// A name call that was decided: its node, its number there, the call and the reply.
 #[derive(Drop)]
 pub(crate) struct Decision {
-    pub(crate) node: Rc<NodeName>,
+    pub(crate) node: Rc<Node>,
     pub(crate) number: u32,
     pub(crate) call: KeptCall,
     pub(crate) reply: KeptReply,
 }
 
-/// What is kept of an entry. Each of its kinds is that of a `HistoryEntry`, but a look-up for one name and one for all are two.
+/// What is kept of an entry. Each of its kinds is that of a `HistoryEntry`, but look-ups for one name, for all names and for
+/// notices are three.
 /// A decided name call lies in memory of its own, since it is larger than the others, and so does an entry that is kept whole,
 /// since there was no memory to make it small.
 #[derive(Drop)]
 pub(crate) enum Kept {
     Name(Box<Decision>),
     Strike(KeptPid),
-    Join(Rc<NodeName>, u32, Rc<NodeName>, KeptReply),
-    Done(Rc<NodeName>),
+    Join(Rc<Node>, u32, Rc<Node>, KeptReply),
+    Done(Rc<Node>),
     Exit(KeptPid),
-    Left(Rc<NodeName>),
-    Told(Rc<NodeName>, Rc<NodeName>),
-    Whereis(Rc<NodeName>, KeptName, KeptReply),
-    RegisteredNames(Rc<NodeName>, KeptReply),
+    Left(Rc<Node>),
+    Told(Rc<Node>, Rc<Node>),
+    Whereis(Rc<Node>, KeptName, KeptReply),
+    RegisteredNames(Rc<Node>, KeptReply),
+    Notices(Rc<Node>, KeptPid, KeptReply),
     Whole(Box<Entered>),
 }
 
-/// An entry as a world keeps it: 72 bytes, and memory of its own for a decided name call, a list of names, a name of more than
-/// 16 bytes and the name of a node outside the world. One that came where memory was refused is kept as its node made it. Contracts
-/// see the entry that is kept.
+/// An entry as a world keeps it: 72 bytes, and memory of its own for a decided name call, a list of names or notices, a name of more
+/// than 16 bytes and the name of a node outside the world. One that came where memory was refused is kept as its node made it.
+/// Contracts see the entry that is kept.
 #[derive(Drop)]
 pub struct KeptEntry {
     kept: Kept,
@@ -158,7 +193,7 @@ impl KeptEntry {
         KeptEntry { kept }
     }
 
-    /// The entry, made again. Only a list of names takes memory.
+    /// The entry, made again. Only a list takes memory.
     pub fn entry(&self) -> Result<HistoryEntry, AllocError>
         ensures entry { IfOk result (λ entry. entry_of entry ≡ entry_of self.now) }
         ensures refused { OnErr result (has_list self.now ≡ true) }
@@ -183,6 +218,10 @@ impl KeptEntry {
             }
             Kept::RegisteredNames(node, reply) => {
                 HistoryEntry::Read(node.copy(), Look::RegisteredNames, reply.reply()?)
+            }
+            Kept::Notices(node, process, reply) => {
+                let look = Look::Notices(process.process());
+                HistoryEntry::Read(node.copy(), look, reply.reply()?)
             }
             Kept::Whole(entered) => entered.entry()?,
         })

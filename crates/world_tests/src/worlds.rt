@@ -1,13 +1,13 @@
 //! Worlds, played by the lines of scripts.
 use cluster_world::{
-    HistoryEntry, NameCall, Refusal, Reply, StartFault, StepFault, World, WorldEvent,
+    HistoryEntry, Look, NameCall, Refusal, Reply, StartFault, StepFault, World, WorldEvent,
 };
 use command_lines::{Task, read_task};
-use name_table::{ListTable, Names};
+use name_table::{ListTable, Names, Pair};
 use std::alloc::Global;
 use std::fmt::Write;
 use std::test::Fail;
-use term::{parse_name, parse_node, parse_nodes, parse_pid};
+use term::{Node, Rule, TextFault, parse_name, parse_node, parse_nodes, parse_pid};
 use text_lines::Line;
 
 pub(crate) type Cluster = World<ListTable<Global>>;
@@ -66,6 +66,11 @@ fn entries(alloc: Global, world: &Cluster) -> Result<Vec<HistoryEntry>, Fail> {
     Ok(entries)
 }
 
+/// The first node of a name.
+pub(crate) fn first(name: &str) -> Result<Node, TextFault> {
+    Ok(Node::first(parse_node(name)?))
+}
+
 /// A world of these joined nodes and this lone one, parted by commas.
 pub(crate) fn world(alloc: Global, cluster: &str, lone: &str) -> Result<Cluster, Fail> {
     let (cluster, lone) = (parse_nodes(cluster)?, parse_nodes(lone)?);
@@ -74,26 +79,27 @@ pub(crate) fn world(alloc: Global, cluster: &str, lone: &str) -> Result<Cluster,
 
 /// Each kind of entry, with names of 16 bytes, of 17, and of 64, and with a process of a node outside the world.
 const EACH_KIND: &str = "\
-spawn a, spawn a, spawn b, whereis a x, names a, \
+spawn a, spawn a, spawn b, whereis a x, names a, notices a.1, \
 register a sixteen_bytes_16 a.1, settle, register a seventeen_bytes_1 a.2, settle, names b, \
-re_register a sixty-four_bytes@4567890123456789012345678901234567890123456789_ b.1, settle, \
+re_register a sixty-four_bytes@4567890123456789012345678901234567890123456789_ b.1 notify, settle, \
 unregister a seventeen_bytes_1, settle, register a z stranger.7, settle, \
 join d a, settle, exit b.1, settle, leave b, settle";
 
 #[test]
 fn gives_its_history_back(rt: HostRuntime) -> Result<(), Fail> {
     let alloc = rt.alloc();
-    let (a, owner, long) = (parse_node("a")?, parse_pid("b.1")?, parse_name(LONG)?);
+    let (a, owner, name) = (first("a")?, parse_pid("b.1")?, parse_name(LONG)?);
     let mut world = world(alloc, "a,b", "d")?;
     assert!(rt; plays(alloc, &mut world, EACH_KIND));
     let entries = entries(alloc, &world)?;
-    assert!(rt; entries.len() == 20);
+    assert!(rt; entries.len() == 21);
     assert!(rt;
         matches!(
             entries.as_slice(),
             [
                 HistoryEntry::Read(..),
                 HistoryEntry::Read(..),
+                HistoryEntry::Read(_, Look::Notices(_), Reply::Notices(_)),
                 HistoryEntry::Name(..),
                 HistoryEntry::Done(_),
                 ..,
@@ -108,7 +114,8 @@ fn gives_its_history_back(rt: HostRuntime) -> Result<(), Fail> {
             ]
         )
     );
-    let call = NameCall::ReRegister(long, owner);
+    let rule = Rule::Notify;
+    let call = NameCall::ReRegister(Pair { name, owner, rule });
     assert!(rt; entries.contains(&HistoryEntry::Name(a, 3, call, Reply::Yes)));
     Ok(())
 }
@@ -146,7 +153,7 @@ const HELD: &str =
 #[test]
 fn shows_its_nodes(rt: HostRuntime) -> Result<(), Fail> {
     let alloc = rt.alloc();
-    let (a, c, d) = (parse_node("a")?, parse_node("c")?, parse_node("d")?);
+    let (a, c, d) = (first("a")?, first("c")?, first("d")?);
     let x = parse_name("x")?;
     let mut world = world(alloc, "a,b,c", "d")?;
     assert!(rt; plays(alloc, &mut world, HELD));

@@ -6,12 +6,12 @@ use node_threads::{Call, Reply, SeatFault, StepFault};
 use std::alloc::Global;
 use std::io::{BufReader, Cursor, Read, Write};
 use std::test::Fail;
-use term::{NodeName, Pid, TextFault, parse_node};
+use term::{Node, Pid, TextFault, parse_node};
 
 /// An attendant at the node a that gives a new process for each spawn, and notes what it was asked.
 #[derive(Drop)]
 struct Roll {
-    node: NodeName,
+    node: Node,
     spawned: u32,
     /// The serials of the processes whose exit was asked for, in order.
     exits: Vec<u32>,
@@ -25,7 +25,7 @@ impl Roll {
     /// An attendant that wasn't asked for anything.
     fn new(alloc: Global) -> Result<Self, TextFault> {
         Ok(Roll {
-            node: parse_node("a")?,
+            node: Node::first(parse_node("a")?),
             spawned: 0,
             exits: Vec::new(alloc),
             refuses: false,
@@ -64,7 +64,7 @@ impl<H> Attendant<H> for Roll {
 
     ghost answers = { λ _ _ _ _. ⊤ };
 
-    fn node(&self) -> &NodeName {
+    fn node(&self) -> &Node {
         &self.node
     }
 

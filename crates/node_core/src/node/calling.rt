@@ -2,18 +2,18 @@
 use crate::node::{NodeCore, Phase};
 use lock_calls::{CallPhase, LockCall};
 use name_table::Names;
-use node_events::{Call, Entry, Letter, Look, NameList, Reply, StepFault, Turn};
+use node_events::{Call, Entry, Letter, Look, NameList, NoticeList, Reply, StepFault, Turn};
 use std::alloc::{AllocError, Global};
-use term::{LockId, NodeName, Pid, Resource};
+use term::{LockId, Node, Pid, Resource};
 use transaction::{NameCall, Nodes, Op, Retries};
 
 impl<N: Names<Memory = Global>> NodeCore<N> {
     ghost use Rattle.std.specs.Prelude.{◌≡◌, ◌+◌, ◌-◌, ◌<◌, ◌≤◌, false, ◌==◌, true, None, Some, [], ◌∷◌, OnOk, OnErr, IfOk, IfErr};
     ghost use Rattle.registry_model.specs.Process.{Text};
-    ghost use Rattle.registry_model.specs.Call.{seen_in};
+    ghost use Rattle.registry_model.specs.Call.{NoticesOf, seen_in};
     ghost use Rattle.registry_model.specs.History.{Entry as AnyEntry};
     ghost use Rattle.protocol_model.specs.Node.{Op as AnyOp, Retries as AnyRetries};
-    ghost use Rattle.protocol_model.specs.Event.{Call as AnyCall, last_u32, calls_spent, lock_causes, call_causes, first_cause, names_members, has_joined};
+    ghost use Rattle.protocol_model.specs.Event.{Call as AnyCall, last_u32, calls_spent, lock_causes, look_causes, call_causes, first_cause, names_members, has_joined};
     ghost use Rattle.protocol_model.specs.Watch.{next_serial};
     ghost use Rattle.protocol_model.specs.Turn.{count_call, enter as entering};
     ghost use Rattle.protocol_model.specs.Calling.{spawned, looked, queued, die, call as called};
@@ -39,12 +39,21 @@ impl<N: Names<Memory = Global>> NodeCore<N> {
         match call {
             Call::Spawn => self.watch.is_spent().then_some(StepFault::SerialsSpent),
             Call::Whereis(_) | Call::RegisteredNames => None,
+            Call::Notices(process) => self.notices_refusal(process),
             Call::Register(..) | Call::ReRegister(..) | Call::Unregister(_) => self.calls_spent(),
             Call::SetLock(holder, id, nodes, _) => self.set_refusal(holder, id, nodes),
             Call::DelLock(holder, id, _) => self.lock_refusal(holder, id).or(self.calls_spent()),
             Call::Join(_) if self.has_joined() => Some(StepFault::AlreadyJoined),
             Call::Join(_) => self.calls_spent(),
         }
+    }
+
+    /// Why a look at the notices of a process is refused, if it is: it is none of this node's, or wasn't spawned yet.
+    fn notices_refusal(&self, process: &Pid) -> Option<StepFault>
+        ensures cause { cause_of result ≡ first_cause (look_causes self.now.name (node_of self.now) (NoticesOf process.now)) }
+        ensures never_memory { result ≡ Some Memory → ⊥ }
+    {
+        (!self.watch.is_issued(process)).then_some(StepFault::NoSuchProcess)
     }
 
     /// Whether the node is joined, or has a join that isn't answered.
@@ -85,8 +94,8 @@ impl<N: Names<Memory = Global>> NodeCore<N> {
         match nodes {
             Nodes::All => true,
             Nodes::Named(named) => {
-                let nodes = named.as_set().as_slice();
-                nodes.iter().all(|node| self.members.contains(node))
+                let names = named.as_set().as_slice();
+                names.iter().all(|name| self.members.has_name(name))
             }
         }
     }
@@ -221,27 +230,30 @@ impl<N: Names<Memory = Global>> NodeCore<N> {
         }
     }
 
-    /// What is seen in the node's own table.
+    /// What is seen in what the node keeps.
     fn seen(&self, look: &Look) -> Result<Reply, AllocError>
         ensures { IfOk result (λ reply. reply_of reply ≡ seen_in (node_of self.now).replica (look_of look.now)) }
     {
         Ok(match look {
-            Look::Whereis(name) => match self.table.get(name) {
+            Look::Whereis(name) => match self.table.owner(name) {
                 Some(owner) => Reply::Pid(owner),
                 None => Reply::Undefined,
             },
             Look::RegisteredNames => Reply::Names(NameList::new(self.table.names(self.alloc)?)),
+            Look::Notices(process) => {
+                Reply::Notices(NoticeList::new(self.notices.of(process.serial)?))
+            }
         })
     }
 
-    /// A look into the node's own table is entered, and answered. It doesn't change the node.
+    /// A look into what the node keeps is entered, and answered. It doesn't change the node.
     fn look_up(&self, turn: &mut Turn, look: Look) -> Result<(), AllocError>
         requires { HasRoom 0 1 1 turn.old }
         ensures spends { Spends 0 1 1 turn.old turn.new }
         ensures turn { OnOk result (Makes (λ n a u. looked n a (look_of look) (seen_in u.node.replica (look_of look)) u) self.now turn.old self.now turn.new) }
     {
         let reply = self.seen(&look)?;
-        let entry = Entry::Read(self.name.copy(), look, reply.copy()?);
+        let entry = Entry::Read(self.node.copy(), look, reply.copy()?);
         turn.enter(entry);
         turn.answer(self.answer(0, reply));
         Ok(())
@@ -264,7 +276,7 @@ impl<N: Names<Memory = Global>> NodeCore<N> {
 
     /// A join is numbered, and goes to the back of the queue. One by a stranger is passed over. Where memory is refused the node is
     /// as it was.
-    fn enqueue_join(&mut self, contact: &NodeName) -> Result<(), AllocError>
+    fn enqueue_join(&mut self, contact: &Node) -> Result<(), AllocError>
         requires { (self.old.last_call == last_u32) ≡ false }
         ensures turn { (made : Made) → set_of self.old.world contact.now ≡ true
             → OnOk result (Makes (λ n a u. queued n a (AnyOp.Join (u.node.last_call + 1) contact.now) (count_call u)) self.old made self.new made) }
@@ -288,7 +300,7 @@ impl<N: Names<Memory = Global>> NodeCore<N> {
     {
         let (letters, entries, answers) = match call {
             Call::Spawn => (1, 0, 1),
-            Call::Whereis(_) | Call::RegisteredNames => (1, 1, 1),
+            Call::Whereis(_) | Call::RegisteredNames | Call::Notices(_) => (1, 1, 1),
             Call::SetLock(..) => (2, 0, 1),
             Call::DelLock(..) => (9, 0, 1),
             _ => (1, 0, 0),
@@ -317,12 +329,9 @@ impl<N: Names<Memory = Global>> NodeCore<N> {
             }
             Call::Whereis(name) => self.look_up(turn, Look::Whereis(name.copy())),
             Call::RegisteredNames => self.look_up(turn, Look::RegisteredNames),
-            Call::Register(name, owner) => {
-                self.enqueue(NameCall::Register(name.copy(), owner.copy()))
-            }
-            Call::ReRegister(name, owner) => {
-                self.enqueue(NameCall::ReRegister(name.copy(), owner.copy()))
-            }
+            Call::Notices(process) => self.look_up(turn, Look::Notices(process.copy())),
+            Call::Register(pair) => self.enqueue(NameCall::Register(pair.copy())),
+            Call::ReRegister(pair) => self.enqueue(NameCall::ReRegister(pair.copy())),
             Call::Unregister(name) => self.enqueue(NameCall::Unregister(name.copy())),
             Call::SetLock(holder, id, nodes, retries) => {
                 self.set_lock_call(turn, holder, id, nodes, retries.copy())

@@ -5,12 +5,12 @@ ghost use Rattle.term.specs.NodeSets.{set_of};
 ghost use Rattle.exit_watch.specs.Held.{AreSuspected, KeepsSuspects};
 
 use crate::node::{NodeCore, Phase};
-use exchange::{Admission, Settled, Welcome, admit_of, welcome_of};
+use exchange::{Admission, Noted, Settled, Welcome, admit_of, welcome_of};
 use exit_watch::Watch;
 use name_table::{Change, Names, Pair};
 use node_events::{Entry, Letter, Reply, Turn, copied_pairs};
 use std::alloc::{AllocError, Global};
-use term::{MOST_NODES, NodeName, NodeSet, Pid};
+use term::{MOST_NODES, Name, Node, NodeSet, Pid};
 use transaction::Op;
 
 /// A table of those of these pairs whose owners' nodes haven't gone. The watch is told of each owner.
@@ -30,7 +30,7 @@ fn table_of<N: Names<Memory = Global>>(
     for pair in pairs {
         if !gone.contains(&pair.owner.node) {
             watch.note_owner(&pair.owner)?;
-            table.write(Change::Put(pair.name.copy(), pair.owner.copy()))?;
+            table.write(Change::Put(pair.copy()))?;
         }
     }
     Ok(table)
@@ -40,7 +40,7 @@ impl<N: Names<Memory = Global>> NodeCore<N> {
     ghost use Rattle.std.specs.Prelude.{◌+◌, ◌≤◌, None, Some, is_some, IsTrue, IfSome, fold, OnErr};
     ghost use Rattle.registry_model.specs.Process.{Process};
     ghost use Rattle.registry_model.specs.Table.{Table};
-    ghost use Rattle.registry_model.specs.Settlement.{settle};
+    ghost use Rattle.registry_model.specs.Settlement.{Fate, settle};
     ghost use Rattle.registry_model.specs.Call.{NotMember as IsNoMember};
     ghost use Rattle.protocol_model.specs.Node.{Op as AnyOp};
     ghost use Rattle.protocol_model.specs.Letter.{Letter as AnyLetter};
@@ -48,14 +48,14 @@ impl<N: Names<Memory = Global>> NodeCore<N> {
     ghost use Rattle.protocol_model.specs.Turn.{send, with_replica};
     ghost use Rattle.protocol_model.specs.Registrar.{ask_join, contact_left, lose_contact};
     ghost use Rattle.protocol_model.specs.Deciding.{admit, held};
-    ghost use Rattle.protocol_model.specs.Reading.{admitted, welcomed, asked_to_admit, refused_join, welcome, with_member};
+    ghost use Rattle.protocol_model.specs.Reading.{admitted, noted, joined_with, asked_to_admit, refused_join, welcome, with_member};
     ghost use Rattle.protocol_model.specs.Calling.{kill};
     ghost use Rattle.node_events.specs.Made.{Made, entered, HasRoom, Spends};
     ghost use Rattle.node_events.specs.declared.events.Entry.TheVariants.{Joined as HasJoined};
     ghost use Rattle.term.specs.NodeSets.{IsNodeSet};
     ghost use Rattle.node_core.specs.Held.{IsWithin};
     ghost use Rattle.exchange.specs.Bodies.{settled_in, fate_in};
-    ghost use Rattle.node_core.specs.Joining.{join_by, kill_one, put_names, IsAdmitting, IsWelcomeTo, TellsToAdmit, Welcomes};
+    ghost use Rattle.node_core.specs.Joining.{join_by, kill_one, put_names, remove_names, IsAdmitting, IsWelcomeTo, TellsToAdmit, Welcomes};
     ghost use Rattle.node_core.specs.Seen.{node_of};
     ghost use Rattle.node_events.specs.Seen.{unnumbered};
     ghost use Rattle.transaction.specs.Work.{begins_with_join};
@@ -63,7 +63,7 @@ impl<N: Names<Memory = Global>> NodeCore<N> {
     ghost use Rattle.node_core.specs.Steps.{Keeps, KeepsQueue, KeepsCalls, Makes};
 
     /// The number of the join that waits for a contact, if one does.
-    fn join_by(&self, contact: &NodeName) -> Option<u32>
+    fn join_by(&self, contact: &Node) -> Option<u32>
         ensures number { result ≡ join_by contact.now (node_of self.now).current }
         ensures busy { IfSome result (λ _. IsTrue (is_some self.now.registrar.current)) }
     {
@@ -78,7 +78,7 @@ impl<N: Names<Memory = Global>> NodeCore<N> {
         &mut self,
         turn: &mut Turn,
         number: u32,
-        contact: NodeName,
+        contact: Node,
     ) -> Result<(), AllocError>
         requires current { IsTrue (is_some self.old.registrar.current) }
         requires within { set_of self.old.world contact ≡ true }
@@ -94,17 +94,17 @@ impl<N: Names<Memory = Global>> NodeCore<N> {
     }
 
     /// A join of this node ends, since its contact has left.
-    pub(super) fn contact_left(&self, turn: &mut Turn, number: u32, contact: NodeName)
+    pub(super) fn contact_left(&self, turn: &mut Turn, number: u32, contact: Node)
         requires { HasRoom 0 1 1 turn.old }
         ensures turn { Makes (λ n a. contact_left n a number contact) self.now turn.old self.now turn.new }
         ensures spends { Spends 0 1 1 turn.old turn.new }
     {
-        turn.enter(Entry::ContactLeft(self.name.copy(), number, contact));
+        turn.enter(Entry::ContactLeft(self.node.copy(), number, contact));
         turn.answer(self.answer(number, Reply::ContactLeft));
     }
 
     /// A node has gone down: a join by it ends.
-    pub(super) fn lose_contact(&mut self, turn: &mut Turn, gone: &NodeName)
+    pub(super) fn lose_contact(&mut self, turn: &mut Turn, gone: &Node)
         requires { HasRoom 0 1 1 turn.old }
         ensures turn { Makes (λ n a u. lose_contact n a gone.now u.node.current u) self.old turn.old self.new turn.new }
         ensures kept { KeepsCalls self.old self.new }
@@ -122,7 +122,7 @@ impl<N: Names<Memory = Global>> NodeCore<N> {
     pub(super) fn asked_to_admit(
         &mut self,
         turn: &mut Turn,
-        from: &NodeName,
+        from: &Node,
         pairs: &Vec<Pair>,
     ) -> Result<(), AllocError>
         requires { HasRoom 1 1 0 turn.old }
@@ -138,7 +138,7 @@ impl<N: Names<Memory = Global>> NodeCore<N> {
             return Ok(());
         }
         if !self.joined {
-            turn.enter(Entry::NotMember(from.copy(), self.name.copy()));
+            turn.enter(Entry::NotMember(from.copy(), self.node.copy()));
             turn.send(from.copy(), Letter::JoinRefused);
             return Ok(());
         }
@@ -147,7 +147,7 @@ impl<N: Names<Memory = Global>> NodeCore<N> {
     }
 
     /// A join by the node that says so is refused.
-    pub(super) fn refused_join(&mut self, turn: &mut Turn, from: &NodeName)
+    pub(super) fn refused_join(&mut self, turn: &mut Turn, from: &Node)
         requires { HasRoom 0 0 1 turn.old }
         ensures turn { Makes (λ n a u. refused_join n a unnumbered from.now u.node.current u) self.old turn.old self.new turn.new }
         ensures kept { KeepsQueue self.old self.new }
@@ -160,19 +160,19 @@ impl<N: Names<Memory = Global>> NodeCore<N> {
     }
 
     /// The join of a lone node enters the history.
-    fn enter_joined(&self, turn: &mut Turn, joiner: &NodeName)
+    fn enter_joined(&self, turn: &mut Turn, joiner: &Node)
         requires { HasRoom 0 1 0 turn.old }
         ensures entered { turn.new ≡ entered (HasJoined joiner.now self.now.name) turn.old }
         ensures spends { Spends 0 1 0 turn.old turn.new }
     {
-        turn.enter(Entry::Joined(joiner.copy(), self.name.copy()));
+        turn.enter(Entry::Joined(joiner.copy(), self.node.copy()));
     }
 
     /// The members are told to admit a lone node.
     fn tell_to_admit(
         &self,
         turn: &mut Turn,
-        joiner: &NodeName,
+        joiner: &Node,
         settled: &Settled,
     ) -> Result<(), AllocError>
         requires { HasRoom 8 0 0 turn.old }
@@ -188,7 +188,7 @@ impl<N: Names<Memory = Global>> NodeCore<N> {
     fn send_welcome(
         &self,
         turn: &mut Turn,
-        joiner: &NodeName,
+        joiner: &Node,
         settled: &Settled,
     ) -> Result<(), AllocError>
         requires joiner { set_of self.now.world joiner.now ≡ true }
@@ -213,7 +213,7 @@ impl<N: Names<Memory = Global>> NodeCore<N> {
         &mut self,
         turn: &mut Turn,
         asked: NodeSet,
-        joiner: NodeName,
+        joiner: Node,
         settled: &Settled,
     ) -> Result<(), AllocError>
         requires current { IsTrue (is_some self.old.registrar.current) }
@@ -241,7 +241,7 @@ impl<N: Names<Memory = Global>> NodeCore<N> {
         &mut self,
         turn: &mut Turn,
         asked: NodeSet,
-        joiner: NodeName,
+        joiner: Node,
         settled: &Settled,
     ) -> Result<(), AllocError>
         requires current { IsTrue (is_some self.old.registrar.current) }
@@ -289,7 +289,7 @@ impl<N: Names<Memory = Global>> NodeCore<N> {
     }
 
     /// A node is a member, unless it has left.
-    fn add_member(&mut self, joiner: &NodeName)
+    fn add_member(&mut self, joiner: &Node)
         ensures turn { (made : Made) → set_of self.old.world joiner.now ≡ true
             → Makes (λ n a. with_replica (with_member joiner.now)) self.old made self.new made }
         ensures kept { KeepsQueue self.old self.new }
@@ -305,27 +305,50 @@ impl<N: Names<Memory = Global>> NodeCore<N> {
         ensures kept { KeepsQueue self.old self.new }
     {
         for pair in pairs {
-            self.write_change(&Change::Put(pair.name.copy(), pair.owner.copy()))?;
+            self.write_change(&Change::Put(pair.copy()))?;
         }
         Ok(())
     }
 
-    /// A joiner is admitted: it is a member, its names are put, and those who clash with them die.
+    /// Nobody has these names from now on.
+    fn remove_names(&mut self, names: &[Name]) -> Result<(), AllocError>
+        ensures turn { (made : Made) → OnOk result (Makes (λ n a. with_replica (remove_names names.now)) self.old made self.new made) }
+        ensures kept { KeepsQueue self.old self.new }
+    {
+        for name in names {
+            self.write_change(&Change::Remove(name.copy()))?;
+        }
+        Ok(())
+    }
+
+    /// The processes of this node are sent what of these notices is for them.
+    fn note(&mut self, notices: &[Noted]) -> Result<(), AllocError>
+        ensures turn { (made : Made) (fate : Fate) → fate.notices ≡ notices.now
+            → OnOk result (Makes (λ n a. with_replica (noted a fate)) self.old made self.new made) }
+        ensures kept { KeepsQueue self.old self.new }
+    {
+        self.notices.add(&self.node, notices)
+    }
+
+    /// A joiner is admitted: it is a member, what was settled is written, and of those whose names clash with its names some are sent
+    /// notices, and some die.
     pub(super) fn admit_joiner(
         &mut self,
         turn: &mut Turn,
-        from: &NodeName,
+        from: &Node,
         admission: &Admission,
     ) -> Result<(), AllocError>
         ensures turn { set_of self.old.world admission.now.joiner ≡ true → OnOk result
             (Makes (λ n a u. send from.now AnyLetter.Applied (kill n a (settled_in admission.now).fate.kills
-            (with_replica (admitted admission.now.joiner (settled_in admission.now)) u))) self.old turn.old self.new turn.new) }
+            (with_replica (admitted a admission.now.joiner (settled_in admission.now)) u))) self.old turn.old self.new turn.new) }
         ensures kept { KeepsQueue self.old self.new }
         ensures adds { Adds 0 0 turn.old turn.new }
         ensures room { OnOk result (HasRoom 1 0 0 turn.new) }
     {
         self.add_member(&admission.joiner);
         self.put_names(admission.puts.as_slice())?;
+        self.remove_names(admission.removes.as_slice())?;
+        self.note(admission.notices.as_slice())?;
         self.kill(turn, admission.kills.as_slice())?;
         turn.reserve(2, 0, 0)?;
         turn.send(from.copy(), Letter::Applied);
@@ -335,18 +358,18 @@ impl<N: Names<Memory = Global>> NodeCore<N> {
     /// This node is joined: it has the members and the names of its sponsor, less those that either was told have left.
     fn move_in(&mut self, welcome: &Welcome) -> Result<(), AllocError>
         ensures turn { (made : Made) → IsWelcomeTo self.old.world self.old.name welcome.now → OnOk result
-            (Makes (λ n a. with_replica (welcomed (set_of welcome.now.members) welcome.now.pairs.items (set_of welcome.now.told)))
-            self.old made self.new made) }
+            (Makes (λ n a. with_replica (joined_with (set_of welcome.now.members) welcome.now.pairs.items
+            (λ d. set_of self.old.told d || set_of welcome.now.told d))) self.old made self.new made) }
         ensures kept { KeepsQueue self.old self.new }
     {
         let alloc = self.alloc;
         let mut told = self.told.union_within(&welcome.told, &self.world);
-        told.remove(&self.name);
+        told.remove(&self.node);
         self.table = table_of(alloc, &mut self.watch, welcome.pairs.as_slice(), &told)?;
         self.members = welcome
             .members
             .difference(&told)
-            .with_within(&self.name, &self.world);
+            .with_within(&self.node, &self.world);
         self.told = told;
         self.joined = true;
         Ok(())
@@ -356,7 +379,7 @@ impl<N: Names<Memory = Global>> NodeCore<N> {
     pub(super) fn welcome(
         &mut self,
         turn: &mut Turn,
-        from: &NodeName,
+        from: &Node,
         body: &Welcome,
     ) -> Result<(), AllocError>
         requires { HasRoom 1 0 0 turn.old }
@@ -372,6 +395,7 @@ impl<N: Names<Memory = Global>> NodeCore<N> {
         };
         self.registrar.finish();
         self.move_in(body)?;
+        self.note(body.notices.as_slice())?;
         self.kill(turn, body.kills.as_slice())?;
         turn.reserve(2, 0, 1)?;
         turn.answer(self.answer(number, Reply::Joined));

@@ -7,7 +7,7 @@ use lock_calls::CallPhase;
 use name_table::Names;
 use node_events::{Entry, Letter, Turn};
 use std::alloc::{AllocError, Global};
-use term::{NodeName, Pid};
+use term::{Node, Pid};
 
 impl<N: Names<Memory = Global>> NodeCore<N> {
     ghost use Rattle.std.specs.Prelude.{true, ◌+◌, ◌*◌, length, map, OnErr};
@@ -31,23 +31,23 @@ impl<N: Names<Memory = Global>> NodeCore<N> {
         ensures kept { KeepsQueue self.old self.new }
         ensures spends { Spends 8 1 0 turn.old turn.new }
     {
-        turn.enter(Entry::Left(self.name.copy()));
+        turn.enter(Entry::Left(self.node.copy()));
         let mut others = self.world.copy();
-        others.remove(&self.name);
+        others.remove(&self.node);
         turn.send_all(&others, &Letter::Down);
     }
 
     /// The departure of another node enters the history.
-    fn enter_told(&self, turn: &mut Turn, gone: &NodeName)
+    fn enter_told(&self, turn: &mut Turn, gone: &Node)
         requires { HasRoom 0 1 0 turn.old }
         ensures entered { turn.new ≡ entered (Told self.now.name gone.now) turn.old }
         ensures spends { Spends 0 1 0 turn.old turn.new }
     {
-        turn.enter(Entry::Told(self.name.copy(), gone.copy()));
+        turn.enter(Entry::Told(self.node.copy(), gone.copy()));
     }
 
     /// The departure of another node is entered, and taken in: that node is no member any more, and its names and locks go.
-    fn take_in(&mut self, turn: &mut Turn, gone: &NodeName)
+    fn take_in(&mut self, turn: &mut Turn, gone: &Node)
         requires other { IsOther self.old.world self.old.name gone.now }
         requires room { HasRoom 0 1 0 turn.old }
         ensures turn { Makes (λ n a. told_of n a unnumbered gone.now) self.old turn.old self.new turn.new }
@@ -64,7 +64,7 @@ impl<N: Names<Memory = Global>> NodeCore<N> {
 
     /// A node has gone down: the round of the registrar is told, or what it writes is awaited of one node less. Memory is refused
     /// only where a round asks for an admission.
-    fn lose_current(&mut self, turn: &mut Turn, gone: &NodeName) -> Result<(), AllocError>
+    fn lose_current(&mut self, turn: &mut Turn, gone: &Node) -> Result<(), AllocError>
         requires { HasRoom 9 1 1 turn.old }
         ensures turn { OnOk result (Makes (λ n a. lose_current n a unnumbered gone.now) self.old turn.old self.new turn.new) }
         ensures kept { KeepsCalls self.old self.new }
@@ -83,7 +83,7 @@ impl<N: Names<Memory = Global>> NodeCore<N> {
     }
 
     /// A node has gone down: a round or a wait of a process's call, if it has one, is told.
-    fn lose_lock(&mut self, turn: &mut Turn, gone: &NodeName, holder: &Pid)
+    fn lose_lock(&mut self, turn: &mut Turn, gone: &Node, holder: &Pid)
         requires { HasRoom 8 0 1 turn.old }
         ensures turn { Makes (λ n a u. loss_of n a gone.now (call_of holder.now u.node.calls) u) self.old turn.old self.new turn.new }
         ensures kept { KeepsQueue self.old self.new }
@@ -100,7 +100,7 @@ impl<N: Names<Memory = Global>> NodeCore<N> {
     }
 
     /// A node has gone down: all lock calls are told, by serial. These are the processes that have one.
-    fn lose_node(&mut self, turn: &mut Turn, gone: &NodeName, holders: &[Pid])
+    fn lose_node(&mut self, turn: &mut Turn, gone: &Node, holders: &[Pid])
         requires holders { holders.now ≡ map (λ c. c.holder) self.old.calls.calls }
         requires ordered { AreOrdered self.old.calls.node (calls_seen self.old.calls) }
         requires room { HasRoom (8 * length holders.now) 0 (length holders.now) turn.old }
@@ -121,7 +121,7 @@ impl<N: Names<Memory = Global>> NodeCore<N> {
     pub(super) fn bereave(
         &mut self,
         turn: &mut Turn,
-        gone: &NodeName,
+        gone: &Node,
         holders: &[Pid],
     ) -> Result<(), AllocError>
         requires holders { holders.now ≡ map (λ c. c.holder) self.old.calls.calls }
@@ -133,7 +133,7 @@ impl<N: Names<Memory = Global>> NodeCore<N> {
         ensures spends { Spends (9 + 8 * length holders.now) 3 (2 + length holders.now) turn.old turn.new }
         ensures refused { OnErr result (is_admission self.old.registrar.current ≡ true) }
     {
-        if !self.world.contains(gone) || *gone == self.name {
+        if !self.world.contains(gone) || *gone == self.node {
             return Ok(());
         }
         self.take_in(turn, gone);

@@ -6,7 +6,7 @@ use locker::{Ending, Round};
 use name_table::Names;
 use node_events::{Letter, Reply, Turn};
 use std::alloc::{AllocError, Global};
-use term::{NodeName, NodeSet, Pid};
+use term::{Node, NodeSet, Pid};
 use transaction::Nodes;
 
 impl<N: Names<Memory = Global>> NodeCore<N> {
@@ -32,7 +32,7 @@ impl<N: Names<Memory = Global>> NodeCore<N> {
     {
         match nodes {
             Nodes::All => self.members.copy(),
-            Nodes::Named(named) => self.members.intersection(named.as_set()),
+            Nodes::Named(named) => self.members.named(named.as_set()),
         }
     }
 
@@ -148,13 +148,7 @@ impl<N: Names<Memory = Global>> NodeCore<N> {
 
     /// A node answers the round of a process's call, if there is one: the rest are asked where it is the boss's grant,
     /// and the round may be over.
-    pub(super) fn hear_lock(
-        &mut self,
-        turn: &mut Turn,
-        from: &NodeName,
-        holder: &Pid,
-        granted: bool,
-    )
+    pub(super) fn hear_lock(&mut self, turn: &mut Turn, from: &Node, holder: &Pid, granted: bool)
         requires { HasRoom 16 0 1 turn.old }
         ensures turn { Makes (λ n a u. hear_lock n a from.now granted (call_of holder.now u.node.calls) u) self.old turn.old self.new turn.new }
         ensures kept { KeepsQueue self.old self.new }
@@ -225,7 +219,7 @@ impl<N: Names<Memory = Global>> NodeCore<N> {
     }
 
     /// A node has given a lock of a process up: its deletion has one node less to wait for, and at none it is answered.
-    pub(super) fn owe_less(&mut self, turn: &mut Turn, from: &NodeName, holder: &Pid)
+    pub(super) fn owe_less(&mut self, turn: &mut Turn, from: &Node, holder: &Pid)
         requires { HasRoom 0 0 1 turn.old }
         ensures turn { Makes (λ n a u. owe_less n a from.now (call_of holder.now u.node.calls) u) self.old turn.old self.new turn.new }
         ensures kept { KeepsQueue self.old self.new }

@@ -11,7 +11,7 @@ use lock_table::Verdict;
 use name_table::{Change, Names};
 use node_events::{Letter, Turn};
 use std::alloc::{AllocError, Global};
-use term::{LockId, NodeName, Pid};
+use term::{LockId, Node, Pid};
 
 /// Whether the lock table grants.
 fn is_grant(verdict: &Verdict) -> bool
@@ -27,8 +27,8 @@ fn note_change(watch: &mut Watch, change: &Change) -> Result<(), AllocError>
     ensures ok { OnOk result ((t : Table) → AreSuspected watch.old t → AreSuspected watch.new (changed (change_of change.now) t)) }
     ensures suspected { KeepsSuspects watch.old watch.new }
 {
-    if let Change::Put(_, owner) = change {
-        watch.note_owner(owner)?;
+    if let Change::Put(pair) = change {
+        watch.note_owner(&pair.owner)?;
     }
     Ok(())
 }
@@ -53,7 +53,7 @@ impl<N: Names<Memory = Global>> NodeCore<N> {
     fn judge(
         &mut self,
         turn: &mut Turn,
-        from: &NodeName,
+        from: &Node,
         id: &LockId,
         holder: &Pid,
     ) -> Result<(), AllocError>
@@ -78,7 +78,7 @@ impl<N: Names<Memory = Global>> NodeCore<N> {
     fn hear(
         &mut self,
         turn: &mut Turn,
-        from: &NodeName,
+        from: &Node,
         holder: &Pid,
         granted: bool,
     ) -> Result<(), AllocError>
@@ -96,7 +96,7 @@ impl<N: Names<Memory = Global>> NodeCore<N> {
     }
 
     /// One grant of a lock is taken back, which is answered where the letter says so.
-    fn take_back(&mut self, turn: &mut Turn, from: &NodeName, id: &LockId, holder: &Pid, ack: bool)
+    fn take_back(&mut self, turn: &mut Turn, from: &Node, id: &LockId, holder: &Pid, ack: bool)
         requires { HasRoom 1 0 0 turn.old }
         ensures turn { Makes (λ n a. take_back n a unnumbered from.now (id_of id.now) holder.now ack) self.old turn.old self.new turn.new }
         ensures kept { KeepsQueue self.old self.new }
@@ -113,8 +113,8 @@ impl<N: Names<Memory = Global>> NodeCore<N> {
         ensures { change_of result ≡ unless_told (set_of self.now.told) (change_of change.now) }
     {
         match change {
-            Change::Put(name, owner) if self.told.contains(&owner.node) => {
-                Change::Remove(name.copy())
+            Change::Put(pair) if self.told.contains(&pair.owner.node) => {
+                Change::Remove(pair.name.copy())
             }
             _ => change.copy(),
         }
@@ -132,7 +132,7 @@ impl<N: Names<Memory = Global>> NodeCore<N> {
     }
 
     /// A change is written, and acknowledged. Where memory is refused the node is as before, as the protocol sees it.
-    fn apply(&mut self, turn: &mut Turn, from: &NodeName, change: &Change) -> Result<(), AllocError>
+    fn apply(&mut self, turn: &mut Turn, from: &Node, change: &Change) -> Result<(), AllocError>
         requires { HasRoom 1 0 0 turn.old }
         ensures turn { OnOk result (Makes (λ n a u. send from.now AnyLetter.Applied (with_replica (wrote (change_of change.now)) u)) self.old turn.old self.new turn.new) }
         ensures kept { KeepsQueue self.old self.new }
@@ -146,7 +146,7 @@ impl<N: Names<Memory = Global>> NodeCore<N> {
 
     /// Another node has left, as this one is told. There is room for a letter more behind it. Where memory is refused, and no round
     /// asks for an admission, the node is as it was.
-    fn hear_of_departure(&mut self, turn: &mut Turn, gone: &NodeName) -> Result<(), AllocError>
+    fn hear_of_departure(&mut self, turn: &mut Turn, gone: &Node) -> Result<(), AllocError>
         ensures turn { IsOther self.old.world self.old.name gone.now
             → OnOk result (Makes (λ n a. bereave n a unnumbered gone.now) self.old turn.old self.new turn.new) }
         ensures kept { KeepsQueue self.old self.new }
@@ -180,7 +180,7 @@ impl<N: Names<Memory = Global>> NodeCore<N> {
 
     /// What the node does with a letter. There is room for a letter more behind it. Where memory is refused and the letter moves no
     /// names, the node is as before, as the protocol sees it.
-    fn read(&mut self, turn: &mut Turn, from: &NodeName, letter: &Letter) -> Result<(), AllocError>
+    fn read(&mut self, turn: &mut Turn, from: &Node, letter: &Letter) -> Result<(), AllocError>
         requires { HasRoomToRead letter.now turn.old }
         ensures turn { IsSaidBy self.old.world self.old.name from.now letter.now
             → OnOk result (Makes (λ n a. read n a unnumbered from.now (letter_of letter.now)) self.old turn.old self.new turn.new) }
@@ -227,7 +227,7 @@ impl<N: Names<Memory = Global>> NodeCore<N> {
     pub(super) fn receive(
         &mut self,
         turn: &mut Turn,
-        from: &NodeName,
+        from: &Node,
         letter: &Letter,
     ) -> Result<(), AllocError>
         ensures turn { IsSaidBy self.old.world self.old.name from.now letter.now

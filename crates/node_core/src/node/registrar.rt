@@ -5,7 +5,7 @@ use name_table::{Change, Names};
 use node_events::{Answer, Entry, Letter, Reply, Turn};
 use std::alloc::{AllocError, Global};
 use std::mem;
-use term::{LockId, Name, NodeName, NodeSet, Pid};
+use term::{LockId, Name, Node, NodeSet, Pid};
 use transaction::{NameCall, Op};
 
 impl<N: Names<Memory = Global>> NodeCore<N> {
@@ -32,7 +32,7 @@ impl<N: Names<Memory = Global>> NodeCore<N> {
         ensures { result ≡ registrar self.now.name }
     {
         Pid {
-            node: self.name.copy(),
+            node: self.node.copy(),
             serial: 0,
         }
     }
@@ -42,7 +42,7 @@ impl<N: Names<Memory = Global>> NodeCore<N> {
         ensures says { letter_of result ≡ AnyLetter.SetLock (GlobalId self.now.name) (registrar self.now.name) }
         ensures plain { has_lists result ≡ false }
     {
-        Letter::SetLock(LockId::global(&self.name), self.registrar_pid())
+        Letter::SetLock(LockId::global(&self.node), self.registrar_pid())
     }
 
     /// Gives the global lock back.
@@ -50,7 +50,7 @@ impl<N: Names<Memory = Global>> NodeCore<N> {
         ensures says { letter_of result ≡ AnyLetter.GiveBack (GlobalId self.now.name) (registrar self.now.name) false }
         ensures plain { has_lists result ≡ false }
     {
-        Letter::GiveBack(LockId::global(&self.name), self.registrar_pid(), false)
+        Letter::GiveBack(LockId::global(&self.node), self.registrar_pid(), false)
     }
 
     /// These nodes get the global lock back.
@@ -68,7 +68,7 @@ impl<N: Names<Memory = Global>> NodeCore<N> {
         ensures { result ≡ record { node = self.now.name; call = call; reply = reply } }
     {
         Answer {
-            node: self.name.copy(),
+            node: self.node.copy(),
             call,
             reply,
         }
@@ -108,7 +108,7 @@ impl<N: Names<Memory = Global>> NodeCore<N> {
         ensures kept { KeepsCalls self.old self.new }
         ensures spends { Spends 8 1 1 turn.old turn.new }
     {
-        turn.enter(Entry::Done(self.name.copy()));
+        turn.enter(Entry::Done(self.node.copy()));
         self.finish(turn, asked, reply);
     }
 
@@ -130,7 +130,7 @@ impl<N: Names<Memory = Global>> NodeCore<N> {
     fn is_taken(&self, name: &Name, owner: &Pid) -> bool
         ensures { result ≡ (is_some (get name.now self.now.table) || owns owner.now self.now.table) }
     {
-        self.table.get(name).is_some() || self.table.owned_by(owner).is_some()
+        self.table.owner(name).is_some() || self.table.owned_by(owner).is_some()
     }
 
     /// The reply to a name call, by the members and the table as they are.
@@ -139,9 +139,9 @@ impl<N: Names<Memory = Global>> NodeCore<N> {
         ensures reply { reply_of result ≡ reply_to (set_of self.now.members) self.now.table (name_call_of call.now) }
     {
         match call {
-            NameCall::Register(_, owner) | NameCall::ReRegister(_, owner)
-                if !self.members.contains(&owner.node) => { Reply::UnknownNode }
-            NameCall::Register(name, owner) if self.is_taken(name, owner) => Reply::No,
+            NameCall::Register(pair) | NameCall::ReRegister(pair)
+                if !self.members.contains(&pair.owner.node) => { Reply::UnknownNode }
+            NameCall::Register(pair) if self.is_taken(&pair.name, &pair.owner) => Reply::No,
             NameCall::Register(..) | NameCall::ReRegister(..) => Reply::Yes,
             NameCall::Unregister(_) => Reply::Ok,
         }
@@ -157,7 +157,7 @@ impl<N: Names<Memory = Global>> NodeCore<N> {
         let Ok(reply) = reply.copy() else {
             return;
         };
-        turn.enter(Entry::Name(self.name.copy(), call, name_call, reply));
+        turn.enter(Entry::Name(self.node.copy(), call, name_call, reply));
     }
 
     /// The lock is held: the current name call is decided, and enters the history. It is written where it is granted, and else
@@ -237,7 +237,7 @@ impl<N: Names<Memory = Global>> NodeCore<N> {
     }
 
     /// A node has written the change, or has gone down: one less is awaited, and where none is left the operation is done.
-    pub(super) fn await_less(&mut self, turn: &mut Turn, from: &NodeName)
+    pub(super) fn await_less(&mut self, turn: &mut Turn, from: &Node)
         requires { HasRoom 8 1 1 turn.old }
         ensures turn { Makes (λ n a u. await_less n a from.now u.node.current u) self.old turn.old self.new turn.new }
         ensures kept { KeepsCalls self.old self.new }

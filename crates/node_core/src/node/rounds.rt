@@ -5,7 +5,7 @@ use locker::{Ending, Round};
 use name_table::Names;
 use node_events::{Letter, Turn};
 use std::alloc::{AllocError, Global};
-use term::NodeName;
+use term::Node;
 use transaction::Op;
 
 impl<N: Names<Memory = Global>> NodeCore<N> {
@@ -97,7 +97,7 @@ impl<N: Names<Memory = Global>> NodeCore<N> {
         &self,
         turn: &mut Turn,
         round: &Round,
-        from: &NodeName,
+        from: &Node,
         granted: bool,
         request: &Letter,
     )
@@ -139,12 +139,20 @@ impl<N: Names<Memory = Global>> NodeCore<N> {
         }
     }
 
+    /// The registrar's round stands as this one.
+    fn put_back(&mut self, round: Round)
+        requires { IsWithin self.old.world round.nodes }
+        ensures { self.new ≡ record self.old { phase = Asking round } }
+    {
+        self.phase = Phase::Asking(round);
+    }
+
     /// A node answers the registrar's round: the rest are asked where it is the boss's grant, and the round may be over. Where memory
     /// is refused the node is as it was.
     pub(super) fn hear_answer(
         &mut self,
         turn: &mut Turn,
-        from: &NodeName,
+        from: &Node,
         granted: bool,
     ) -> Result<(), AllocError>
         requires { HasRoom 17 1 1 turn.old }
@@ -172,7 +180,7 @@ impl<N: Names<Memory = Global>> NodeCore<N> {
             Ok(()) => Ok(()),
             Err(fault) => {
                 if let Some(before) = before {
-                    self.phase = Phase::Asking(before);
+                    self.put_back(before);
                 }
                 Err(fault)
             }

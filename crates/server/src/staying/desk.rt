@@ -14,7 +14,7 @@ use std::io::Write;
 use std::sync::Wait;
 use std::sync::atomic::{AtomicU64, Ordering};
 use std::time::{Clock, Duration};
-use term::{NodeName, NodeSet};
+use term::{NodeName, NodeNames};
 
 /// For how many seconds the desk waits for a message before it looks how things stand.
 const PAUSE: u64 = 10;
@@ -28,7 +28,7 @@ pub(crate) type SeatAnswer = Result<Seat<ForgottenNotes>, SeatFault>;
 /// What the other threads say to the desk.
 #[derive(Drop)]
 pub(crate) enum Message {
-    /// A console wants a seat at this node, and waits for it there.
+    /// A console wants a seat at the node of this name, and waits for it there.
     Ask(NodeName, Sender<SeatAnswer>),
     /// A seat that isn't used any more.
     Back(Seat<ForgottenNotes>),
@@ -38,7 +38,8 @@ pub(crate) enum Message {
     Shutdown,
 }
 
-/// Gives a console the seat at a node for which it waits, or says why there is none. A seat that nobody takes is taken back.
+/// Gives a console the seat for which it waits, at the node of this name, or says why there is none. A seat that nobody takes is taken
+/// back.
 fn seat_at<R: Wait>(
     rt: &R,
     cluster: &mut StayingCluster,
@@ -103,7 +104,7 @@ fn attend<R: Wait + Clock, E: Write>(
 fn look_round<E: Write>(
     alloc: Global,
     cluster: &StayingCluster,
-    nodes: &NodeSet,
+    nodes: &NodeNames,
     lookout: &mut Lookout,
     errors: &mut E,
 ) {
@@ -111,12 +112,20 @@ fn look_round<E: Write>(
         let Ok(status) = cluster.status(node) else {
             continue;
         };
-        let spent = lookout.look(node, &status.numbers);
+        let spent = lookout.look(&status.node, &status.numbers);
         if spent.calls {
-            tell_note(alloc, errors, &Note::Spent(Supply::Calls, node.copy()));
+            tell_note(
+                alloc,
+                errors,
+                &Note::Spent(Supply::Calls, status.node.copy()),
+            );
         }
         if spent.serials {
-            tell_note(alloc, errors, &Note::Spent(Supply::Serials, node.copy()));
+            tell_note(
+                alloc,
+                errors,
+                &Note::Spent(Supply::Serials, status.node.copy()),
+            );
         }
     }
 }
@@ -127,7 +136,7 @@ pub(crate) fn stay<R: Wait + Clock + Files, E: Write>(
     rt: &R,
     alloc: Global,
     cluster: &mut StayingCluster,
-    nodes: &NodeSet,
+    nodes: &NodeNames,
     messages: &Receiver<Message>,
     memory: &AtomicU64,
     errors: &mut E,

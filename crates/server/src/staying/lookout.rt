@@ -4,7 +4,7 @@ ghost use Rattle.server.specs.Lookouts.{nearly_spent, none_told, IsNews, IsOld};
 
 use node_threads::Numbers;
 use std::marker::Model;
-use term::{NodeName, NodeSet};
+use term::{Node, NodeSet};
 
 /// Of which nodes it was told that nine tenths of their numbers are spent.
 #[derive(Drop)]
@@ -38,7 +38,7 @@ fn is_nearly_spent(last: u32) -> bool
 }
 
 /// Whether it is to be told that the numbers of a node are nearly spent: they are, and it wasn't told before. From now on it was.
-fn is_news(told: &mut NodeSet, node: &NodeName, last: u32) -> bool
+fn is_news(told: &mut NodeSet, node: &Node, last: u32) -> bool
     ensures { MatchBool result (IsNews told.old node.now last told.new) (IsOld told.old node.now last told.new) }
 {
     if !is_nearly_spent(last) || told.contains(node) {
@@ -59,7 +59,7 @@ impl Lookout {
     }
 
     /// Looks at the numbers of a node: what is to be told of them, once in all.
-    pub fn look(&mut self, node: &NodeName, numbers: &Numbers) -> Spent
+    pub fn look(&mut self, node: &Node, numbers: &Numbers) -> Spent
         ensures calls { MatchBool result.calls (IsNews self.old.calls node.now numbers.now.calls self.new.calls)
             (IsOld self.old.calls node.now numbers.now.calls self.new.calls) }
         ensures serials { MatchBool result.serials (IsNews self.old.serials node.now numbers.now.serials self.new.serials)

@@ -7,7 +7,7 @@ use console::{ConsoleEnd, ConsoleFault};
 use std::alloc::{AllocError, Global};
 use std::fmt::Write as _;
 use std::io::Write;
-use term::NodeName;
+use term::{Node, NodeName};
 use text_lines::tell;
 
 /// How a console ended that was attached to a node.
@@ -45,7 +45,7 @@ pub(crate) enum Supply {
 pub(crate) enum Note {
     /// A console was taken: its number.
     Taken(u64),
-    /// A console that was attached has ended: its number, its node and how.
+    /// A console that was attached has ended: its number, the name of its node and how.
     Parted(u64, NodeName, Parting),
     /// A console was attached to no node: its number.
     NotAttached(u64),
@@ -54,7 +54,7 @@ pub(crate) enum Note {
     /// A connection couldn't be taken.
     AcceptFailed,
     /// Nine tenths of these numbers of a node are given.
-    Spent(Supply, NodeName),
+    Spent(Supply, Node),
 }
 
 impl Parting {

@@ -9,15 +9,15 @@ use node_threads::{Seat, SeatFault};
 use std::alloc::{AllocError, Global};
 use std::sync::atomic::{AtomicU64, Ordering};
 use std::sync::{Arc, Mutex, Wait};
-use term::{NodeName, NodeSet};
+use term::{NodeName, NodeNames};
 
 /// What each thread of a server works with.
 #[derive(Drop)]
 pub(crate) struct Office<R: Wait + Drop + Copy> {
     pub(crate) rt: R,
     pub(crate) alloc: Global,
-    /// The nodes to which consoles may be attached.
-    pub(crate) nodes: NodeSet,
+    /// The names of the nodes to which consoles may be attached.
+    pub(crate) nodes: NodeNames,
     pub(crate) options: Arc<StayOptions, Global>,
     pub(crate) hall: Arc<Mutex<Hall>, Global>,
     /// How many bytes of memory the process has, as the desk has seen last.
@@ -61,7 +61,7 @@ impl<R: Wait + Drop + Copy> Office<R> {
         self.say(Message::Tell(note));
     }
 
-    /// Asks the desk for a seat at a node, and waits for it.
+    /// Asks the desk for a seat at the node of this name, and waits for it.
     pub(crate) fn seat(&self, node: &NodeName) -> SeatAnswer {
         let Ok((desk, seats)) = bounded(self.alloc, 1) else {
             return Err(SeatFault::Memory);

@@ -9,7 +9,7 @@ use std::sync::{Arc, Wait};
 use std::thread;
 use std::thread::{Threads, join};
 use std::time::Clock;
-use term::{Name, NodeName, Pid, parse_name, parse_node, parse_pid};
+use term::{Name, Node, Pid, parse_name, parse_node, parse_pid};
 
 /// How often one that waits yields at most.
 const YIELDS: u32 = 1_000_000;
@@ -74,7 +74,7 @@ impl Door {
 impl Gate for Latch {
     ghost held = { λ gate node. Unit {0} };
 
-    fn hold(&self, _node: &NodeName) {
+    fn hold(&self, _node: &Node) {
         self.door.pass();
     }
 }
@@ -129,7 +129,7 @@ fn departs<R: Wait + Clock>(
 ) -> bool {
     let named = name_process(rt, there, &it.owner, &it.name);
     let read = finds(here, it) && finds(there, it);
-    let left = cluster.leave(rt, there.node()) == Ok(());
+    let left = cluster.leave(rt, there.node().name()) == Ok(());
     let gone = there.whereis(&it.name) == Err(SeatFault::NodeLeft);
     // The letter that says so may be under way still.
     let mut departed = false;
@@ -144,7 +144,7 @@ fn departs<R: Wait + Clock>(
 }
 
 /// A node that joins reads what the others have.
-fn joins<R: Wait + Clock>(rt: &R, seat: &mut Seat, contact: &NodeName, it: &Owned) -> bool {
+fn joins<R: Wait + Clock>(rt: &R, seat: &mut Seat, contact: &Node, it: &Owned) -> bool {
     let alone = seat.whereis(&it.name) == Ok(None);
     let joined = seat.call(rt, Call::Join(contact.copy())) == Ok(Reply::Joined);
     alone && joined && finds(seat, it)
@@ -170,7 +170,7 @@ fn play<R: Threads + Wait + Clock + Sync>(
     name_process(rt, one, &ours.owner, &ours.name)
         && finds(one, &ours)
         && finds(two, &ours)
-        && joins(rt, lone, &a, &ours)
+        && joins(rt, lone, &Node::first(a), &ours)
         && departs(rt, cluster, one, other, &theirs)
         && answers_beside(rt, door, one, two, &ours)
 }

@@ -1,12 +1,12 @@
 //! Many at once: a seat at each node, rivals for the global lock, and more letters than an inbox has room for.
 use super::meeting::Flags;
-use super::names::name_process;
+use super::names::{name_process, register};
 use super::spawns;
 use node_threads::{Call, Reply, Seat};
 use std::sync::Wait;
 use std::thread::{Threads, for_each_mut};
 use std::time::Clock;
-use term::{Name, Pid, parse_name, parse_node, parse_pid};
+use term::{Name, Node, Pid, parse_name, parse_node, parse_pid};
 
 /// How often each rival registers its name.
 const TURNS: u32 = 5;
@@ -29,7 +29,7 @@ pub(super) fn spawn_at_all<R: Threads + Wait + Clock + Sync>(rt: &R, seats: &mut
 
 /// Spawns a process from a seat, and registers it under a name that reads as its node. Whether both was done.
 fn name_own<R: Wait + Clock>(rt: &R, seat: &mut Seat) -> bool {
-    let Ok(name) = parse_name(seat.node().as_str()) else {
+    let Ok(name) = parse_name(seat.node().name().as_str()) else {
         return false;
     };
     let process = process_of(seat, 1);
@@ -71,7 +71,7 @@ fn process_of(seat: &Seat, serial: u32) -> Pid {
 /// Registers a name for a process and unregisters it, again and again. Whether each call was answered as it is to be.
 fn takes_turns<R: Wait + Clock>(rt: &R, seat: &mut Seat, process: &Pid, name: &Name) -> bool {
     for _ in 0..TURNS {
-        let named = seat.call(rt, Call::Register(name.copy(), process.copy()));
+        let named = seat.call(rt, register(name, process));
         let freed = seat.call(rt, Call::Unregister(name.copy()));
         if named != Ok(Reply::Yes) || freed != Ok(Reply::Ok) {
             return false;
@@ -83,7 +83,7 @@ fn takes_turns<R: Wait + Clock>(rt: &R, seat: &mut Seat, process: &Pid, name: &N
 /// Spawns a process, and takes turns with a name that reads as its node. Where all was answered as it is to be, the name is looked up
 /// at last.
 fn rival<R: Wait + Clock>(rt: &R, seat: &mut Seat) {
-    let Ok(name) = parse_name(seat.node().as_str()) else {
+    let Ok(name) = parse_name(seat.node().name().as_str()) else {
         return;
     };
     let process = process_of(seat, 1);
@@ -122,7 +122,7 @@ pub(super) fn flood<R: Wait + Clock>(rt: &R, seats: &mut [Seat], flags: &Flags) 
     let exited = spawn_and_exit(rt, seat);
     // A thread that starts late isn't held by an open gate.
     let held = flags.wait(1);
-    flags.come(&key);
+    flags.come(&Node::first(key));
     // The request for the lock goes behind all that was sent before it.
     name_process(rt, seat, &process, &name) && exited && held
 }

@@ -1,4 +1,5 @@
 //! A cluster that is ended without a replay.
+use super::names::register;
 use name_table::{ListTable, Names};
 use node_threads::{
     Call, Cluster, EndFault, EndedCluster, ForgottenLog, OpenGate, Reply, SeatFault,
@@ -19,9 +20,9 @@ fn registers<R: Wait + Clock>(
     process: &Pid,
     name: &Name,
 ) -> Result<bool, SeatFault> {
-    let mut seat = cluster.forgetful_seat(&process.node)?;
+    let mut seat = cluster.forgetful_seat(process.node.name())?;
     let spawned = seat.call(rt, Call::Spawn)?;
-    let named = seat.call(rt, Call::Register(name.copy(), process.copy()))?;
+    let named = seat.call(rt, register(name, process))?;
     Ok(spawned == Reply::Pid(process.copy()) && named == Reply::Yes)
 }
 
@@ -41,7 +42,7 @@ fn spawns_three<R: Wait + Clock>(rt: &R, cluster: &mut Forgetful, node: &NodeNam
 fn is_told(ended: &EndedCluster<ListTable<Global>>, process: &Pid, name: &Name) -> bool {
     let mut all = ended.events >= 4 && ended.tables.len() == 2;
     for entry in &ended.tables {
-        all = all && entry.1.get(name) == Some(process.copy());
+        all = all && entry.1.owner(name) == Some(process.copy());
     }
     all
 }

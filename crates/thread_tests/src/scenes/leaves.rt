@@ -1,6 +1,6 @@
 //! Nodes that leave, and calls that end so.
 use super::holders::lock;
-use super::names::name_process;
+use super::names::{name_process, register};
 use super::{Small, spawns};
 use node_threads::{Call, Nodes, Reply, Retries, Seat, SeatFault, StepFault};
 use std::sync::Wait;
@@ -61,8 +61,8 @@ fn until_busy<R: Wait + Clock>(rt: &R, seat: &mut Seat, holder: &Pid, id: &LockI
 
 /// The node of a seat leaves, by the cluster. Whether it does so but once.
 fn leaves<R: Wait + Clock>(rt: &R, cluster: &mut Small, seat: &Seat) -> bool {
-    let left = cluster.leave(rt, seat.node());
-    let again = cluster.leave(rt, seat.node());
+    let left = cluster.leave(rt, seat.node().name());
+    let again = cluster.leave(rt, seat.node().name());
     left == Ok(()) && again == Err(SeatFault::NodeLeft)
 }
 
@@ -136,7 +136,7 @@ fn named_or_left<R: Wait + Clock>(rt: &R, seat: &mut Seat) -> bool {
         return false;
     };
     let spawned = seat.call(rt, Call::Spawn);
-    let named = seat.call(rt, Call::Register(name, process.copy()));
+    let named = seat.call(rt, register(&name, &process));
     is_answered_or_left(&spawned, &Reply::Pid(process)) && is_answered_or_left(&named, &Reply::Yes)
 }
 

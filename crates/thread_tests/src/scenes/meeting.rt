@@ -4,7 +4,7 @@ use std::alloc::{AllocError, Global};
 use std::sync::Arc;
 use std::sync::atomic::{AtomicBool, Ordering};
 use std::thread;
-use term::{NodeName, NodeSet};
+use term::{Node, NodeSet};
 
 /// Which nodes are awaited, and which have come.
 #[derive(Drop)]
@@ -34,7 +34,7 @@ impl Flags {
     }
 
     /// A node comes. Whether it is awaited.
-    pub(super) fn come(&self, node: &NodeName) -> bool {
+    pub(super) fn come(&self, node: &Node) -> bool {
         let Some(place) = self.awaited.position(node) else {
             return false;
         };
@@ -84,7 +84,7 @@ impl Meeting {
 impl Gate for Meeting {
     ghost held = { λ gate node. Unit {0} };
 
-    fn hold(&self, node: &NodeName) {
+    fn hold(&self, node: &Node) {
         let flags = &*self.flags;
         if flags.come(node) && !flags.wait(flags.here.len()) {
             flags.late.store(true, Ordering::SeqCst);

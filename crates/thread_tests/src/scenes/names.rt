@@ -1,8 +1,35 @@
 //! Names that are registered and looked up.
+use name_table::Pair;
 use node_threads::{Call, Reply, Seat, SeatFault};
 use std::sync::Wait;
 use std::time::Clock;
-use term::{Name, Pid, parse_name, parse_node, parse_pid};
+use term::{Name, Node, Pid, Rule, parse_name, parse_node, parse_pid};
+
+/// The call that registers a name for a process under a rule.
+pub(super) fn register_under(name: &Name, owner: &Pid, rule: Rule) -> Call {
+    Call::Register(Pair {
+        name: name.copy(),
+        owner: owner.copy(),
+        rule,
+    })
+}
+
+/// So under the usual rule.
+pub(super) fn register(name: &Name, owner: &Pid) -> Call {
+    register_under(name, owner, Rule::Exit)
+}
+
+/// Spawns a process, which is to be this one, and makes this call, which names it. Whether both was done.
+pub(super) fn spawn_and_name<R: Wait + Clock>(
+    rt: &R,
+    seat: &mut Seat,
+    process: &Pid,
+    call: Call,
+) -> bool {
+    let spawned = seat.call(rt, Call::Spawn);
+    let named = seat.call(rt, call);
+    spawned == Ok(Reply::Pid(process.copy())) && named == Ok(Reply::Yes)
+}
 
 /// Spawns a process, which is to be this one, and registers this name for it. Whether both was done.
 pub(super) fn name_process<R: Wait + Clock>(
@@ -11,13 +38,11 @@ pub(super) fn name_process<R: Wait + Clock>(
     process: &Pid,
     name: &Name,
 ) -> bool {
-    let spawned = seat.call(rt, Call::Spawn);
-    let named = seat.call(rt, Call::Register(name.copy(), process.copy()));
-    spawned == Ok(Reply::Pid(process.copy())) && named == Ok(Reply::Yes)
+    spawn_and_name(rt, seat, process, register(name, process))
 }
 
 /// Whether a look-up finds this owner of a name.
-fn finds(seat: &mut Seat, name: &Name, owner: &Pid) -> bool {
+pub(super) fn finds(seat: &mut Seat, name: &Name, owner: &Pid) -> bool {
     match seat.whereis(name) {
         Ok(Some(found)) => found == *owner,
         _ => false,
@@ -61,6 +86,6 @@ pub(super) fn both<R: Wait + Clock>(rt: &R, seats: &mut [Seat]) -> bool {
     let found = finds(one, &x, &ours) && finds(one, &y, &theirs);
     let found_there = finds(two, &x, &ours) && finds(two, &y, &theirs);
     let told = tells(rt, two, &x, &y);
-    let refused = one.call(rt, Call::Join(stranger)) == Err(SeatFault::NoSuchNode);
+    let refused = one.call(rt, Call::Join(Node::first(stranger))) == Err(SeatFault::NoSuchNode);
     named && found && found_there && told && refused && one.number() == 0 && two.number() == 1
 }

@@ -1,4 +1,5 @@
 //! Steps that are refused memory.
+use super::names::register;
 use name_table::Names;
 use node_threads::{Call, CloseFault, Cluster, OpenGate, Reply, Seat, SeatFault};
 use std::alloc::Global;
@@ -14,7 +15,7 @@ fn names_bad<R: Wait + Clock>(rt: &R, seat: &mut Seat, answer: Result<Reply, Sea
         return false;
     };
     let spawned = seat.call(rt, Call::Spawn).is_ok();
-    let answered = seat.call(rt, Call::Register(bad.copy(), process.copy())) == answer;
+    let answered = seat.call(rt, register(&bad, &process)) == answer;
     let owner = if answer.is_ok() { Some(process) } else { None };
     spawned && answered && seat.whereis(&bad) == Ok(owner)
 }

@@ -1,9 +1,9 @@
 //! Tables that are refused memory.
 ghost use Rattle.std.specs.Prelude.{◌≡◌};
 
-use name_table::{Change, ListTable, Names, Pair};
+use name_table::{Change, Entry, ListTable, Names, Pair};
 use std::alloc::{AllocError, Allocator, Global};
-use term::{Name, NodeName, Pid};
+use term::{Name, Node, Pid};
 
 /// A table that refuses to give the name `bad` to a process so many times.
 #[derive(Drop)]
@@ -25,8 +25,12 @@ impl<const TIMES: u32> Names for Stubborn<TIMES> {
         }
     }
 
-    fn get(&self, name: &Name) -> Option<Pid> {
+    fn get(&self, name: &Name) -> Option<Entry> {
         self.list.get(name)
+    }
+
+    fn owner(&self, name: &Name) -> Option<Pid> {
+        self.list.owner(name)
     }
 
     fn len(&self) -> usize {
@@ -34,9 +38,9 @@ impl<const TIMES: u32> Names for Stubborn<TIMES> {
     }
 
     fn write(&mut self, change: Change) -> Result<(), AllocError> {
-        if let Change::Put(name, _) = &change
+        if let Change::Put(pair) = &change
             && self.left > 0
-            && name.as_str() == "bad"
+            && pair.name.as_str() == "bad"
         {
             self.left -= 1;
             return Err(AllocError);
@@ -44,7 +48,7 @@ impl<const TIMES: u32> Names for Stubborn<TIMES> {
         self.list.write(change)
     }
 
-    fn drop_node(&mut self, node: &NodeName) {
+    fn drop_node(&mut self, node: &Node) {
         self.list.drop_node(node);
     }
 

@@ -1,20 +1,10 @@
-use Rattle.std.proofs.Common.{ℕ, Some, ap, sym, ◌∙◌, get_or}
-use Rattle.registry_model.specs.Table.{Pair}
-use Rattle.name_table.specs.Places.{stands}
-use Rattle.name_table.proofs.Places.{get-stands, get-absent}
+use Rattle.std.proofs.Common.{ap, sym, ◌∙◌}
+use Rattle.registry_model.proofs.Tables.{get-entry, owner_in}
 use Rattle.name_table.proofs.list_table.owner_in.Goals as goal
 
-pub returns-then-stands_at : goal.returns-then-stands_at
-returns-then-stands_at c =
-    let there = ap (stands c.args.name.now c.args.pairs.now) (sym c.place_of-at.ensures) ∙ sym c.stands_at.ensures
-    ∙ c.if-stands_at.true in
-    let is = ap (λ (e : Pair). e.owner) (c.pair.view_is ∙ c.index-pairs-at.is
-    ∙ ap (λ (i : ℕ). get_or c.args.pairs.now i c.index-pairs-at.result) c.place_of-at.ensures) in
-    ap Some (c.copy.ensures ∙ is) ∙ sym (get-stands c.args.name.now c.args.pairs.now c.index-pairs-at.result c.requires
-    there)
+pub returns-in_err-entry : goal.returns-in_err-entry
+returns-in_err-entry c =
+    c.from_residual.ensures ∙ ap owner_in c.in_err-entry.ensures ∙ sym (get-entry c.args.name.now c.args.pairs.now)
 
-pub returns-else-stands_at : goal.returns-else-stands_at
-returns-else-stands_at c =
-    sym (get-absent c.args.name.now c.args.pairs.now c.requires
-    (ap (stands c.args.name.now c.args.pairs.now) (sym c.place_of-at.ensures) ∙ sym c.stands_at.ensures
-    ∙ c.if-stands_at.false))
+pub returns : goal.returns
+returns c = ap owner_in c.in_ok-entry.ensures ∙ sym (get-entry c.args.name.now c.args.pairs.now)

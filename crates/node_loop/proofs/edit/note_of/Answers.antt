@@ -29,7 +29,7 @@ returns-in-Down g c =
     (subst (λ (n : ℕ). NotedBy (One (Departure n)) c.args.from.now Down c.args.core.now) (sym c.copy.ensures)
     (gone c.args.from.now c.args.core.now
     (ap (λ (s : List ℕ). set_of s c.args.from.now) (sym c.world.ensures.world) ∙ (sym c.contains-is_known.ensures ∙ c.if-is_known.true))
-    (ap (λ (n : ℕ). c.args.from.now == n) (sym c.name.ensures.name) ∙ (sym c.eq-is_own.ensures ∙ c.if-not-is_own.true))))
+    (ap (λ (n : ℕ). c.args.from.now == n) (sym c.node.ensures.name) ∙ (sym c.eq-is_own.ensures ∙ c.if-not-is_own.true))))
 
 pub returns-in-JoinAsk : goal.returns-in-JoinAsk
 returns-in-JoinAsk g c =

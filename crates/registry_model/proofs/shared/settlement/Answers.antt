@@ -1,4 +1,4 @@
-use Rattle.registry_model.proofs.Settling.{settle_law}
+use Rattle.registry_model.proofs.Settlements.{settle_law}
 use Rattle.registry_model.proofs.shared.settlement.Goals as goal
 
 pub returns : goal.returns

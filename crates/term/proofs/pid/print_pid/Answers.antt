@@ -1,7 +1,8 @@
-use Rattle.std.proofs.Common.{◌≤◌, refl, arith, subst, sym}
+use Rattle.std.proofs.Common.{ℕ, ◌≤◌, refl, arith, subst, sym}
 use Rattle.std.proofs.lemmas.Result.{IfOk-weaker}
 use Rattle.std.specs.Fmt.{decimal}
 use Rattle.registry_model.specs.Process.{Process}
+use Rattle.term.specs.Spelling.{SpellsText}
 use Rattle.term.proofs.pid.print_pid.Goals as goal
 
 pub returns : goal.returns
@@ -12,6 +13,6 @@ returns g c =
       node = c.as_str-node.result.now;
       digits = decimal c.pid.inside.serial;
       parts = e;
-      node_spelled = c.as_str-node.ensures.spelled;
+      node_spelled = subst (λ (n : ℕ). SpellsText c.as_str-node.result.now n) c.name.ensures c.as_str-node.ensures.spelled;
       serial_spelled = record { written = refl; low = subst P (sym c.pid.view_is) c.requires; high = omega arith };
     }) c.format.ensures.ok)

@@ -9,18 +9,18 @@ use Rattle.world_events.proofs.opening.gather.Goals as goal
 pub loop-node-preserved : goal.loop-node-preserved
 loop-node-preserved c = record {
   holds = λ x. at_ok c.insert.result c.if-is_err.ensures.negation c.insert.ensures.holds x
-      ∙ ap (λ (b : Bool). b || (c.copy.result == x)) (c.loop-node.invariant.holds x)
+      ∙ ap (λ (b : Bool). b || (c.first.result == x)) (c.loop-node.invariant.holds x)
       ∙ or_assoc (set_of c.args.set.now x) (set_of (take c.loop-node.node-index c.args.nodes.now) x)
-      (c.copy.result == x)
+      (c.first.result == x)
       ∙ ap (λ (b : Bool). set_of c.args.set.now x || b)
-      (ap (λ (n : ℕ). set_of (take c.loop-node.node-index c.args.nodes.now) x || (n == x)) c.copy.ensures
+      (ap (λ (n : ℕ). set_of (take c.loop-node.node-index c.args.nodes.now) x || (n == x)) (c.first.ensures ∙ c.copy.ensures)
       ∙ sym (set_of-take c.args.nodes.now c.loop-node.node-index c.node-item.result c.loop-node-test.true
       c.node-item.is x));
   room = omega (
     arith,
     ap (λ (ns : List ℕ). length ns) (matched_ok _ _ c.insert.result c.if-is_err.ensures.negation
         c.insert.ensures.inserted).1.0,
-    length-with_node c.loop-node.set c.copy.result,
+    length-with_node c.loop-node.set c.first.result,
     c.loop-node.invariant.room,
   );
 }

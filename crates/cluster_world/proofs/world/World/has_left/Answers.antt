@@ -7,4 +7,4 @@ use Rattle.cluster_world.proofs.world.World.has_left.Goals as goal
 pub returns-clause-known : goal.returns-clause-known
 returns-clause-known g c = λ gone.
     subst (λ (k : Held). set_of k.nodes c.args.node.now ≡ true) c.self.view_is
-    (was_known _ c.self.invariant c.args.node.now c.args.node.now (sym c.is_closed.ensures ∙ gone))
+    (was_known _ c.self.invariant c.args.node.now c.args.node.now (sym c.has_left.ensures ∙ gone))

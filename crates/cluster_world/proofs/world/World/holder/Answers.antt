@@ -14,7 +14,7 @@ returns-then-is_holder g c =
     (subst (λ (k : Held). NobodyBefore k.links c.loop-core.core-index c.deref-core-items.result.now) (sym c.self.view_is)
     c.loop-core.invariant)
     (sym c.is_holder.ensures ∙ c.if-is_holder.true)
-    (c.copy.ensures ∙ c.name.ensures.name))
+    (c.copy.ensures ∙ c.node.ensures.name))
 
 pub loop-core-preserved : goal.loop-core-preserved
 loop-core-preserved g c =

@@ -12,7 +12,7 @@ invariant_of-self g c =
     let d : ℕ = c.args.node.now in
     agrees-without c.self.inside.owners.entries c.retain.new.self.entries c.self.inside.owned.entries
     c.retain-2.new.self.entries d c.len-owners.ensures.unique
-    (filter_same_pairs _ (λ e. not (e.1.node == d)) _ (λ k v b w f' t. search rules) _ _ c.retain.ensures.filtered)
+    (filter_same_pairs _ (λ e. not (e.1.owner.node == d)) _ (λ k v b w f' t. search rules) _ _ c.retain.ensures.filtered)
     (filter_same_pairs _ (λ e. not (e.0.node == d)) _ (λ k v b w f' t. search rules) _ _ c.retain-2.ensures.filtered)
     c.self.invariant
 
@@ -20,6 +20,6 @@ pub returns : goal.returns
 returns g c =
     let d : ℕ = c.args.node.now in
     ap table_of
-    (filter_same_pairs _ (λ e. not (e.1.node == d)) _ (λ k v b w f' t. search rules) _ _ c.retain.ensures.filtered)
+    (filter_same_pairs _ (λ e. not (e.1.owner.node == d)) _ (λ k v b w f' t. search rules) _ _ c.retain.ensures.filtered)
     ∙ table-without c.self.inside.owners.entries d c.len-owners.ensures.unique
     ∙ ap (without (λ n. n == d)) c.self.view_is

@@ -9,20 +9,18 @@ use Rattle.node_core.proofs.node.NodeCore.call.Goals as goal
 
 pub returns-in-Register-clause-turn : goal.returns-in-Register-clause-turn
 returns-in-Register-clause-turn g c = λ asked.
-    let name = c.copy-in-Register.ensures in let owner = c.copy-in-Register-2.ensures in
+    let pair = c.copy-in-Register.ensures in
     on_ok_weaker c.enqueue.result
     (λ made. reserved c.make_room_to_call.ensures.made (calls c.args.call.now
-    (call_of (Register c.copy-in-Register.result c.copy-in-Register-2.result)) (ap call_of c.in-Register.is ∙ cc (name, owner)) refl refl
-    made))
+    (call_of (Register c.copy-in-Register.result)) (ap call_of c.in-Register.is ∙ cc (pair)) refl refl made))
     (c.enqueue.ensures.turn c.make_room_to_call.new.turn)
 
 pub returns-in-ReRegister-clause-turn : goal.returns-in-ReRegister-clause-turn
 returns-in-ReRegister-clause-turn g c = λ asked.
-    let name = c.copy-in-ReRegister.ensures in let owner = c.copy-in-ReRegister-2.ensures in
+    let pair = c.copy-in-ReRegister.ensures in
     on_ok_weaker c.enqueue-in-ReRegister.result
     (λ made. reserved c.make_room_to_call.ensures.made (calls c.args.call.now
-    (call_of (ReRegister c.copy-in-ReRegister.result c.copy-in-ReRegister-2.result)) (ap call_of c.in-ReRegister.is ∙ cc (name, owner)) refl refl
-    made))
+    (call_of (ReRegister c.copy-in-ReRegister.result)) (ap call_of c.in-ReRegister.is ∙ cc (pair)) refl refl made))
     (c.enqueue-in-ReRegister.ensures.turn c.make_room_to_call.new.turn)
 
 pub returns-in-Unregister-clause-turn : goal.returns-in-Unregister-clause-turn

@@ -10,11 +10,12 @@ invariant_of-result g c = alike_whole _ _ (record {
   told = c.copy-4.ensures;
   joined = refl;
   table = c.in_ok-copy.ensures;
-  locks = c.in_ok-copy-2.ensures;
-  watch = c.in_ok-copy-3.ensures;
-  work = c.in_ok-copy-4.ensures;
-  phase = c.in_ok-copy-5.ensures;
-  calls = c.in_ok-copy-6.ensures;
+  notices = c.in_ok-copy-2.ensures;
+  locks = c.in_ok-copy-3.ensures;
+  watch = c.in_ok-copy-4.ensures;
+  work = c.in_ok-copy-5.ensures;
+  phase = c.in_ok-copy-6.ensures;
+  calls = c.in_ok-copy-7.ensures;
   last_call = refl;
 }) c.self.invariant
 
@@ -27,11 +28,12 @@ returns-clause-copy g c =
       told = c.copy-4.ensures;
       joined = refl;
       table = c.in_ok-copy.ensures;
-      locks = c.in_ok-copy-2.ensures;
-      watch = c.in_ok-copy-3.ensures;
-      work = c.in_ok-copy-4.ensures;
-      phase = c.in_ok-copy-5.ensures;
-      calls = c.in_ok-copy-6.ensures;
+      notices = c.in_ok-copy-2.ensures;
+      locks = c.in_ok-copy-3.ensures;
+      watch = c.in_ok-copy-4.ensures;
+      work = c.in_ok-copy-5.ensures;
+      phase = c.in_ok-copy-6.ensures;
+      calls = c.in_ok-copy-7.ensures;
       last_call = refl;
     })
 
@@ -44,10 +46,11 @@ returns-clause-bounds g c =
       told = c.copy-4.ensures;
       joined = refl;
       table = c.in_ok-copy.ensures;
-      locks = c.in_ok-copy-2.ensures;
-      watch = c.in_ok-copy-3.ensures;
-      work = c.in_ok-copy-4.ensures;
-      phase = c.in_ok-copy-5.ensures;
-      calls = c.in_ok-copy-6.ensures;
+      notices = c.in_ok-copy-2.ensures;
+      locks = c.in_ok-copy-3.ensures;
+      watch = c.in_ok-copy-4.ensures;
+      work = c.in_ok-copy-5.ensures;
+      phase = c.in_ok-copy-6.ensures;
+      calls = c.in_ok-copy-7.ensures;
       last_call = refl;
     })

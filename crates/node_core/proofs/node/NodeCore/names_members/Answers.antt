@@ -13,5 +13,5 @@ pub returns-in-Named : goal.returns-in-Named
 returns-in-Named g c =
     all_from_yields_List (set_of c.args.self.now.members) _ _ _ c.all.ensures.ran
     (YieldsList-from_slice _ c.iter.ensures.rest) (λ x b q k. search (rules, tests))
-    ∙ ap (list_all (set_of c.args.self.now.members)) (c.as_slice-nodes.ensures.nodes ∙ c.as_set.ensures.nodes)
+    ∙ ap (list_all (set_of c.args.self.now.members)) (c.as_slice-names.ensures.names ∙ c.as_set.ensures.names)
     ∙ ap (λ (ns : Nodes). names_members (node_of c.args.self.now) (target_of ns)) (sym c.in-Named.is)

@@ -1,10 +1,10 @@
-use Rattle.std.proofs.Common.{subst, take_all, ◌∙◌}
-use Rattle.registry_model.specs.Table.{Table}
+use Rattle.std.proofs.Common.{refl, subst, take_all, ◌∙◌}
+use Rattle.registry_model.specs.Table.{Table, Put}
 use Rattle.protocol_model.specs.Turn.{with_replica}
 use Rattle.node_core.specs.Joining.{put_names}
 use Rattle.node_core.specs.Steps.{Makes}
 use Rattle.node_events.specs.Made.{nothing}
-use Rattle.node_core.proofs.Joining.{puts_next}
+use Rattle.node_core.proofs.Joining.{writes_next}
 use Rattle.node_core.proofs.node.NodeCore.put_names.Goals as goal
 
 pub returns-in_err-write_change-clause-kept : goal.returns-in_err-write_change-clause-kept
@@ -19,9 +19,9 @@ returns-in_err-write_change-clause-kept g c =
 pub loop-pair-preserved : goal.loop-pair-preserved
 loop-pair-preserved g c = record {
   queue = c.in_ok-write_change.ensures.kept.queue ∙ c.loop-pair.invariant.queue;
-  makes = λ made. puts_next c.args.self.now c.loop-pair.self c.write_change.new.self made c.args.pairs.now c.loop-pair.pair-index
-      c.pair-item.result _ c.copy.result c.copy-in-loop-pair.result c.loop-pair-test.true c.pair-item.is c.pair.view_is
-      c.copy.ensures c.copy-in-loop-pair.ensures (c.loop-pair.invariant.makes made)
+  makes = λ made. writes_next Put c.args.self.now c.loop-pair.self c.write_change.new.self made c.args.pairs.now c.loop-pair.pair-index
+      c.pair-item.result _ c.copy.result c.loop-pair-test.true c.pair-item.is refl c.copy.ensures
+      (c.loop-pair.invariant.makes made)
       (c.in_ok-write_change.ensures.turn made);
 }
 

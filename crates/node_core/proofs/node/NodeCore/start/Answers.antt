@@ -1,8 +1,19 @@
 use Rattle.std.proofs.Common.{ap, sym, ◌∙◌}
 use Rattle.std.specs.Prelude.{not, is_some}
+use Rattle.std.proofs.lemmas.Result.{on_ok_weaker}
 use Rattle.node_core.specs.Held.{Held}
-use Rattle.node_core.proofs.Rounds.{starts_strike}
+use Rattle.node_core.proofs.Rounds.{starts_strike, starts_waiting}
 use Rattle.node_core.proofs.node.NodeCore.start.Goals as goal
+
+pub returns-then-is_none-clause-turn : goal.returns-then-is_none-clause-turn
+returns-then-is_none-clause-turn g c =
+    on_ok_weaker c.start_queue.result
+    (λ M. starts_waiting _ c.args.self.now c.start_queue.new.self c.args.turn.now c.start_queue.new.turn c.owes-owed.new.self
+    c.owes-owed.result c.self.view_is c.owes-owed.ensures.watch c.owes-owed.ensures.owed c.self.invariant.watch
+    (c.is_none.ensures ∙ ap not c.if-is_none.true)
+    (ap (λ (h : Held). is_some h.registrar.current) c.self.view_is ∙ sym c.is_at_work.ensures
+    ∙ c.if-is_at_work.false) M)
+    c.start_queue.ensures.turn
 
 pub returns-clause-turn : goal.returns-clause-turn
 returns-clause-turn g c =

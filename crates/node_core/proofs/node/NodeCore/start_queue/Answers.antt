@@ -1,4 +1,5 @@
 use Rattle.std.proofs.Common.{arith, ℕ, Bool, true, false, ◌≡◌, Some, List, length, ap, sym, subst, ◌∙◌}
+use Rattle.std.proofs.lemmas.Result.{on_ok_weaker}
 use Rattle.transaction.specs.declared.op.Op.{Op}
 use Rattle.transaction.specs.declared.op.Op.TheVariants.{Join}
 use Rattle.transaction.specs.Work.{Work, begins_with_join}
@@ -6,7 +7,7 @@ use Rattle.node_events.specs.declared.events.Entry.{Entry}
 use Rattle.node_events.specs.declared.events.Answer.{Answer}
 use Rattle.node_core.specs.Held.{Held}
 use Rattle.node_core.proofs.Rooms.{reserved}
-use Rattle.node_core.proofs.Queues.{one_less, join_first, IsAtQueue, whole_started, whole_freed, contact_within, goes_on_at}
+use Rattle.node_core.proofs.Queues.{one_less, join_first, IsAtQueue, whole_started, whole_freed, contact_within, goes_on_at, asks_at}
 use Rattle.node_core.proofs.node.NodeCore.start_queue.Goals as goal
 
 never : (b : Bool) → b ≡ true → b ≡ false → ⊥
@@ -69,3 +70,16 @@ loop-self-preserved g c = record {
       (sym c.contains.ensures ∙ c.if-not-contains.false) c.finish.ensures (reserved c.reserve.ensures.made
       c.contact_left.ensures.turn);
 }
+
+pub returns-then-not-contains-clause-turn : goal.returns-then-not-contains-clause-turn
+returns-then-not-contains-clause-turn g c =
+    on_ok_weaker c.ask_join.result
+    (λ M. asks_at c.args.self.now _ c.args.turn.now c.loop-self.turn c.start.new.self
+    (subst (λ (h : Held). IsAtQueue c.args.self.now c.args.turn.now h c.loop-self.turn) (sym c.self.view_is)
+    c.loop-self.invariant.at)
+    c.start.ensures.state c.ask_join.new.self c.ask_join.new.turn c.in-Some-Join.number c.copy-contact.result
+    (sym c.start.ensures.began ∙ c.loop-self-test.true)
+    (sym c.in-Some-Join.ensures ∙ ap (λ (op : Op). Some op) (c.in-Some-Join.field-0-is
+    ∙ ap (λ (m : ℕ). Join c.in-Some-Join.number m) (sym c.copy-contact.ensures)))
+    (sym c.contains.ensures ∙ c.if-not-contains.true) M)
+    c.ask_join.ensures.turn

@@ -9,13 +9,12 @@ loop-pair-preserved g c =
     elim c.if-not-contains.branch [
       | then-not-contains+in_ok-note_owner+in_ok-write w ↦
           takes_pair _ _ w.note_owner.new.self _ _ _ _ _ (g.N.Names.contents w.write.new.self) _ c.pair-item.result _
-          w.copy.result w.copy-then-not-contains.result c.loop-pair.invariant c.loop-pair-test.true c.pair-item.is
+          w.copy.result c.loop-pair.invariant c.loop-pair-test.true c.pair-item.is
           c.pair.view_is w.watch-is (ap g.N.Names.contents w.table-is)
           (ap (λ e. set_of c.args.gone.now e.owner.node) (sym c.pair-inside.view_is)
           ∙ sym c.contains.ensures ∙ w.if-not-contains.true) w.note_owner.ensures.node w.note_owner.ensures.watch
           w.in_ok-note_owner.ensures.ok w.note_owner.ensures.suspected
-          (w.copy.ensures ∙ ap (λ e. e.name) c.pair-inside.view_is)
-          w.copy-then-not-contains.ensures w.in_ok-write.ensures.ok
+          (w.copy.ensures ∙ sym c.pair.view_is) w.in_ok-write.ensures.ok
       | else-not-contains w ↦
           passes_over _ _ _ _ _ _ _ _ c.pair-item.result _ c.loop-pair.invariant c.loop-pair-test.true c.pair-item.is
           c.pair.view_is w.watch-is (ap g.N.Names.contents w.table-is)

@@ -28,7 +28,7 @@ returns-in-Ok-conclude g c =
           (stepped _ _ _ _ _ c.cause-cause.ensures c.in-Ok.ensures.made)
           (begun _ _ _ _ _ _ _ _ _ c.step.ensures.log c.put.ensures.node c.put.ensures.entries c.in-Some.ensures.0
           c.seat_of.ensures
-          (ap (λ (n : ℕ). At n c.args.event) (c.copy.ensures ∙ c.name.ensures.name ∙ c.in-Ok.ensures.made.name)))
+          (ap (λ (n : ℕ). At n c.args.event) (c.copy.ensures ∙ c.node.ensures.name ∙ c.in-Ok.ensures.made.name)))
           c.in-Some.ensures.0 refl c.of-course.ensures (owing_by_event c.args.own c.args.event a c.conclude.new.self
           c.in-Ok.turn (subst (λ (x : Looping). knows_contact x.world c.args.event ≡ true) (sym c.self.view_is) c.requires)) c.in-Some.ensures.1 tt c.in-Ok-conclude.ensures,
       c.in-Ok-conclude.ensures.owed,
@@ -55,7 +55,7 @@ returns-in-Err g c =
           (stepped _ _ _ _ _ c.cause-cause.ensures c.in-Ok.ensures.made)
           (begun _ _ _ _ _ _ _ _ _ c.step.ensures.log c.put.ensures.node c.put.ensures.entries c.in-Some.ensures.0
           c.seat_of.ensures
-          (ap (λ (n : ℕ). At n c.args.event) (c.copy.ensures ∙ c.name.ensures.name ∙ c.in-Ok.ensures.made.name)))
+          (ap (λ (n : ℕ). At n c.args.event) (c.copy.ensures ∙ c.node.ensures.name ∙ c.in-Ok.ensures.made.name)))
           c.in-Some.ensures.0 refl c.of-course.ensures (owing_by_event c.args.own c.args.event a c.conclude.new.self
           c.in-Ok.turn (subst (λ (x : Looping). knows_contact x.world c.args.event ≡ true) (sym c.self.view_is) c.requires)) _ c.in-Err.ensures),
     )

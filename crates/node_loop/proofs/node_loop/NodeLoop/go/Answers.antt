@@ -46,7 +46,12 @@ returns-clause-turned g c =
       tray = c.drain.new.self;
       between = g.E.Station.state c.drain.new.post;
       drained = c.drain.ensures;
-      turned = inl (record { from = c.in-Some.from; item = c.in-Some.item; taken = h; works = c.work.ensures });
+      turned = inl (record {
+        from = c.first.result;
+        item = c.in-Some.item;
+        taken = rw c.first.ensures h;
+        works = c.work.ensures;
+      });
     })
 
 pub returns-clause-sound : goal.returns-clause-sound

@@ -8,5 +8,5 @@ pub returns-clause-sound : goal.returns-clause-sound
 returns-clause-sound g c =
     let same : c.copy-world.result ≡ c.args.core.world = c.copy-world.ensures ∙ c.world.ensures.world in
     begins_sound c.args.core _ (subst IsStrictlyIncreasing same c.len.ensures.set.rising) refl same
-    (λ j. record { node = (c.new-log.ensures.node ∙ c.copy.ensures ∙ c.name.ensures.name) j; entries = c.new-log.ensures.entries j })
+    (λ j. record { node = (c.new-log.ensures.node ∙ c.copy.ensures ∙ c.node.ensures.name) j; entries = c.new-log.ensures.entries j })
     (c.in_ok-tray.ensures ∙ ap (λ (l : List ℕ). map none_for l) same)

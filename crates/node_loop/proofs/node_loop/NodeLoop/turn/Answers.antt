@@ -8,7 +8,7 @@ pub returns-clause-turned : goal.returns-clause-turned
 returns-clause-turned g c =
     let t = c.go.ensures.turned in record {
       asked = subst (g.G.Gate.held c.args.gate.now)
-          (c.copy.ensures ∙ (c.name.ensures.name ∙ ap (λ (l : Looping). l.core.name) c.self.view_is)) c.ask-permit.ensures.held;
+          (c.copy.ensures ∙ (c.node.ensures.name ∙ ap (λ (l : Looping). l.core.name) c.self.view_is)) c.ask-permit.ensures.held;
       tray = t.tray;
       between = t.between;
       drained = t.drained;

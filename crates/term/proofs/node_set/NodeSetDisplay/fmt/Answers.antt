@@ -10,7 +10,7 @@ loop-node-preserved g c =
     let i = c.loop-node.node-index in
     let xs = c.as_slice-node-items.result.now in
     let grown : (list_of (take i xs) ++ c.loop-node.separator.now) ++ c.as_str.result.now ≡ list_of (take (i + 1) xs) =
-    rw (c.as_str.ensures.bytes, c.loop-node.invariant.1)
+    rw (c.as_str.ensures.bytes, c.name.ensures, c.loop-node.invariant.1)
     (list_of-more xs i c.node-item.result c.loop-node-test.true c.node-item.is) in (
       search rules,
       separator_of-more i,

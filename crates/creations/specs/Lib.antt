@@ -1,0 +1,10 @@
+pub mod NodeNames
+pub mod NamedWorld
+pub mod Restarts
+pub mod Lifted
+pub mod Inherited
+pub mod NamedScript
+pub mod NamedRows
+pub mod NamedLeftovers
+pub mod NamedLinks
+pub mod NamedQuietCalls
