@@ -1,7 +1,7 @@
 -- The words that are printed for faults of nodes, and the texts for options that don't go together.
 use Rattle.std.specs.Prelude.{codes, ℕ, List, Option, Some, None}
 use Rattle.term.specs.declared.faults.TextFault.{TextFault}
-use Rattle.term.specs.declared.faults.TextFault.TheVariants.{Empty, TooLong, BadByte, BadSerial, BadRule}
+use Rattle.term.specs.declared.faults.TextFault.TheVariants.{Empty, TooLong, BadByte, BadCreation, BadSerial, BadRule}
 use Rattle.term.specs.declared.faults.TextFault.TheVariants as text
 use Rattle.arguments.specs.declared.faults.ArgFault.{ArgFault}
 use Rattle.arguments.specs.declared.faults.ArgFault.TheVariants.{Options, Words, Text, SameNode, TooManyNodes}
@@ -13,6 +13,7 @@ abbrev pub text_word : TextFault → List ℕ
 text_word Empty = codes "empty"
 text_word TooLong = codes "too_long"
 text_word (BadByte place) = codes "bad_byte"
+text_word BadCreation = codes "bad_creation"
 text_word BadSerial = codes "bad_serial"
 text_word BadRule = codes "bad_rule"
 text_word text.TooManyNodes = codes "too_many_nodes"

@@ -8,7 +8,7 @@ use Rattle.std.proofs.lemmas.List.Folds.{list_any-append}
 use Rattle.std.proofs.lemmas.List.Splits.{length-slice_split}
 use Rattle.term.specs.NodeLists.{ListsNodes, SpellsNodes, parts_of, comma}
 use Rattle.term.specs.NodeSets.{set_of, most_nodes}
-use Rattle.term.specs.Spelling.{SpellsText}
+use Rattle.term.specs.Spelling.{SpellsNodeName}
 use Rattle.term.proofs.NodeLists.{rising-tail}
 use Rattle.term.proofs.NodeSets.{FitsAt, rises, set_of-fits}
 use Rattle.arguments.specs.Nodes.{PlacesNodes, SpellsLone, shares}
@@ -65,7 +65,7 @@ no : false ≡ true → ⊥
 no h = cc
 
 -- a list spells one node at least
-spelled-some : (parts : List (List ℕ)) (names nodes : List ℕ) → 0 < length parts → AllZip SpellsText parts names
+spelled-some : (parts : List (List ℕ)) (names nodes : List ℕ) → 0 < length parts → AllZip SpellsNodeName parts names
     → ((c : ℕ) → set_of nodes c ≡ set_of names c) → 0 < length nodes
 spelled-some [] names nodes some spelled named = absurd (omega (arith, some))
 spelled-some (p ∷ parts) [] nodes some spelled named = absurd spelled

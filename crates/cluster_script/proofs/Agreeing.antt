@@ -3,7 +3,8 @@ use Rattle.std.proofs.Common.{◌≡◌, List, [], ◌∷◌, refl, sym, ◌∙�
 use Rattle.protocol_model.specs.Leftovers.{NothingIsLeft}
 use Rattle.protocol_model.specs.World.{Opening, World, opening_world, run}
 use Rattle.cluster_world.specs.Agreeing.{HeadlineAfter}
-use Rattle.cluster_world.proofs.Agreeing.{run-append, headline_after}
+use Rattle.protocol_model.proofs.Courses.{run-append}
+use Rattle.cluster_world.proofs.Agreeing.{headline_after}
 use Rattle.cluster_world.proofs.Leftovers.{nothing_left_after}
 use Rattle.cluster_script.specs.Script.{Outcome, behind, behind_all, events_by, events_by_all, LinesAgree, LinesLeaveNothing}
 

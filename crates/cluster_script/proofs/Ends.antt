@@ -2,7 +2,7 @@
 use Rattle.std.proofs.Common.{ℕ, Bool, List, [], ◌∷◌, ◌++◌, ◌≡◌, ◌<◌, Option, Some, None, refl, sym, ap, subst, ◌∙◌, append-nil, append_assoc, Result, Ok, Err, inl, inr, arith}
 use Rattle.term.specs.declared.faults.TextFault.{TextFault}
 use Rattle.term.specs.Laws.{IsExact}
-use Rattle.term.specs.Spelling.{SpellsText, RefusesText}
+use Rattle.term.specs.Spelling.{SpellsNodeName, RefusesText}
 use Rattle.command_lines.specs.declared.faults.LineFault.{LineFault}
 use Rattle.text_lines.specs.declared.faults.StreamFault.TheVariants.{TooManyLines}
 use Rattle.text_lines.specs.Lines.{count_of, count_of_all, spoken}
@@ -30,7 +30,7 @@ some_first (x ∷ xs) ys (z ∷ zs) ws line e l =
     let r = some_first xs ys zs ws line t (omega (arith, l, ap count_of h)) in
     (r.0, ap (λ (y : List ℕ). y ∷ zs) (sym h) ∙ ap (λ (ls : List (List ℕ)). x ∷ ls) r.1)
 
-module _ (exact : IsExact SpellsText RefusesText) where
+module _ (exact : IsExact SpellsNodeName RefusesText) where
   -- texts spell one list of nodes
   AllSpell-one : (ts : List (List ℕ)) (ns ms : List ℕ) → AllSpell ts ns → AllSpell ts ms → ns ≡ ms
   AllSpell-one [] [] [] h k = refl

@@ -2,7 +2,7 @@
 use Rattle.std.proofs.Common.{ℕ, true, inl, inr, List, [], ◌∷◌, ◌++◌, ◌≡◌, ◌<◌, ◌+◌, Option, Some, None, refl, sym, ap, subst, ◌∙◌, arith, Result, Ok, Err, map, take, drop, length, get_or, Bor}
 use Rattle.std.proofs.lemmas.Grind.{take_at_read}
 use Rattle.std.proofs.lemmas.List.{take-append-drop}
-use Rattle.term.specs.Spelling.{SpellsText}
+use Rattle.term.specs.Spelling.{SpellsNodeName}
 use Rattle.command_lines.specs.Openings.{start_refused}
 use Rattle.command_lines.specs.declared.faults.LineFault.{LineFault}
 use Rattle.std.specs.Prelude.{if◌then◌else◌}
@@ -28,7 +28,7 @@ use Rattle.cluster_script.specs.Played.{StopsReading}
 use Rattle.cluster_script.proofs.Agreeing.{lines_agree, lines_leave_nothing}
 
 -- one more text
-pub AllSpell-push : (ts : List (List ℕ)) (ns : List ℕ) (t : List ℕ) (n : ℕ) → AllSpell ts ns → SpellsText t n
+pub AllSpell-push : (ts : List (List ℕ)) (ns : List ℕ) (t : List ℕ) (n : ℕ) → AllSpell ts ns → SpellsNodeName t n
     → AllSpell (ts ++ t ∷ []) (ns ++ n ∷ [])
 AllSpell-push [] [] t n h s = (s, tt)
 AllSpell-push [] (m ∷ ms) t n h s = absurd h
@@ -63,7 +63,7 @@ texts-parts xs i d l =
 -- one more of the texts
 pub AllSpell-more : (xs : List (Bor (List ℕ))) (i : ℕ) (d : Bor (List ℕ)) (ns ms : List ℕ) (n : ℕ) → i < length xs
     → AllSpell (map now (take i xs)) ns
-    → SpellsText (get_or xs i d).now n → ms ≡ ns ++ n ∷ [] → AllSpell (map now (take (i + 1) xs)) ms
+    → SpellsNodeName (get_or xs i d).now n → ms ≡ ns ++ n ∷ [] → AllSpell (map now (take (i + 1) xs)) ms
 AllSpell-more xs i d ns ms n l h s e =
     subst (λ (ts : List (List ℕ)). AllSpell ts ms) (sym (texts-more xs i d l))
     (subst (λ (ks : List ℕ). AllSpell (map now (take i xs) ++ (get_or xs i d).now ∷ []) ks) (sym e)

@@ -19,7 +19,7 @@ use Rattle.text_lines.specs.declared.faults.WriteFault.{WriteFault}
 use Rattle.command_lines.specs.declared.faults.LineFault.TheVariants.{Memory}
 use Rattle.command_lines.specs.Printing.{answers_text, output_line, error_line, word_of, shown_text, is_fine, is_fine_output, Shown, Shows, Refuses}
 use Rattle.text_lines.specs.Writing.{AppendsPart, Writes}
-use Rattle.cluster_world.proofs.Agreeing.{run-append, all_answers-append}
+use Rattle.protocol_model.proofs.Courses.{run-append, answers-append}
 use Rattle.cluster_script.specs.Script.{Plays, Breaks, settle_limit, broken, shown}
 use Rattle.cluster_script.specs.Played.{PlaysOrStops, PlaysAsked, shown_on, settle_end}
 use Rattle.text_lines.proofs.Written.{AppendsPart-behind, AppendsPart-more}
@@ -185,7 +185,7 @@ module _ (k : ℕ) (old now : Held) (a b : Option (List ℕ)) (S : Settles k old
           said = ap (λ (w : World). S.given ++ answers (opening_of old) w e) S.made
               ∙ ap (λ (ss : List AnyAnswer). ss ++ answers (opening_of old) (run (opening_of old) (seen old) es) e) S.said
               ∙ sym (ap (λ (ds : List AnyEvent). all_answers (opening_of old) (seen old) ds) more
-              ∙ all_answers-append (opening_of old) (seen old) es (e ∷ [])
+              ∙ answers-append (opening_of old) (seen old) es (e ∷ [])
               ∙ ap (λ (ss : List AnyAnswer). all_answers (opening_of old) (seen old) es ++ ss)
               (append-nil (answers (opening_of old) (run (opening_of old) (seen old) es) e)));
           wrote = subst (λ (t : List ℕ). Appends a c t)

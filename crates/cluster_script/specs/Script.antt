@@ -6,7 +6,7 @@ use Rattle.protocol_model.specs.World.{Opening, World, WorldEvent, opening_world
 use Rattle.protocol_model.specs.Script.{Line, Settle, Said, Settled, events_in, printed}
 use Rattle.protocol_model.specs.Leftovers.{NothingIsLeft}
 use Rattle.term.specs.declared.faults.TextFault.{TextFault}
-use Rattle.term.specs.Spelling.{SpellsText, RefusesText}
+use Rattle.term.specs.Spelling.{SpellsNodeName, RefusesText}
 use Rattle.cluster_world.specs.Agreeing.{HeadlineAfter}
 use Rattle.command_lines.specs.Openings.{start_refused}
 use Rattle.command_lines.specs.Openings.{opening_with}
@@ -95,7 +95,7 @@ texts_behind word (w ∷ texts) = if bytes_eq w word then Some texts else None
 -- these texts spell these nodes
 abbrev pub AllSpell : List (List ℕ) → List ℕ → Type 0
 AllSpell [] [] = Unit {0}
-AllSpell (t ∷ ts) (n ∷ nodes) = SpellsText t n × AllSpell ts nodes
+AllSpell (t ∷ ts) (n ∷ nodes) = SpellsNodeName t n × AllSpell ts nodes
 AllSpell _ _ = ⊥
 
 -- the nodes that these texts spell, or the fault of the first that spells none

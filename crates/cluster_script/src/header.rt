@@ -14,7 +14,7 @@ use command_lines::{LineFault, StartFault, Task, read_task, text_of};
 use name_table::IndexTable;
 use std::alloc::{AllocError, Global};
 use std::io::{BufReader, Read, Write};
-use term::{NodeName, parse_node};
+use term::{NodeName, parse_node_name};
 use text_lines::{Line, StreamFault, first_words, words_of};
 
 /// The world that a script plays on. Its tables are found by hashing.
@@ -44,7 +44,7 @@ fn read_nodes(alloc: Global, texts: &[&str]) -> Result<Vec<NodeName>, LineFault>
 {
     let mut nodes = Vec::new(alloc);
     for text in texts {
-        if nodes.push(parse_node(text)?).is_err() {
+        if nodes.push(parse_node_name(text)?).is_err() {
             return Err(LineFault::Memory);
         }
     }

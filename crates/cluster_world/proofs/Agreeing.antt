@@ -1,11 +1,11 @@
 -- The headline, where events are played in pieces.
-use Rattle.std.proofs.Common.{ℕ, Bool, true, false, ◌≡◌, List, [], ◌∷◌, ◌++◌, map, refl, sym, ap, ◌∙◌, subst}
-use Rattle.std.specs.Prelude.{is_none, if◌then◌else◌}
-use Rattle.std.proofs.lemmas.List.{append_assoc, append-nil}
+use Rattle.std.proofs.Common.{ℕ, ◌≡◌, List, [], ◌∷◌, ◌++◌, map, refl, sym, ap, ◌∙◌, subst}
+use Rattle.std.proofs.lemmas.List.{append-nil}
 use Rattle.lock_answers.proofs.Theorem.{agreement}
-use Rattle.protocol_model.specs.Course.{Played as AnyPlayed, course, delivers_down, answers_of}
+use Rattle.protocol_model.proofs.Courses.{run-append, answers-append, course_answers}
+use Rattle.protocol_model.specs.Course.{course, answers_of}
 use Rattle.protocol_model.specs.Event.{Answer as AnyAnswer}
-use Rattle.protocol_model.specs.World.{Opening, World, WorldEvent as AnyWorldEvent, opening_world, refusal, turn_of, happens, answers, run, all_answers}
+use Rattle.protocol_model.specs.World.{Opening, World, WorldEvent as AnyWorldEvent, opening_world, answers, run, all_answers}
 use Rattle.node_core.specs.declared.Answer.{Answer}
 use Rattle.node_core.specs.NodeEventsSeen.{answer_of}
 use Rattle.world_events.specs.declared.events.WorldEvent.{WorldEvent}
@@ -15,11 +15,6 @@ use Rattle.world_events.specs.Openings.{opening_with}
 use Rattle.cluster_world.specs.Seen.{opening_of, seen}
 use Rattle.cluster_world.specs.Playing.{Keeps, Played, events_of}
 use Rattle.cluster_world.specs.Agreeing.{HeadlineAfter, IsRunOf, AgreesAfter, Agrees}
-
--- more events behind others
-pub run-append : (o : Opening) (w : World) (xs ys : List AnyWorldEvent) → run o w (xs ++ ys) ≡ run o (run o w xs) ys
-run-append o w [] ys = refl
-run-append o w (x ∷ xs) ys = run-append o (happens o w x) xs ys
 
 -- the headline holds behind every list of events
 pub headline_after : (o : Opening) (es : List AnyWorldEvent) → HeadlineAfter o es (run o (opening_world o) es)
@@ -37,33 +32,6 @@ agreed es h is = record {
   headline = subst (λ (w : World). HeadlineAfter (opening_of h) es w) (sym is) (agreement (opening_of h) es);
 }
 
--- what a list of events answers is what its course does
-pub course_answers : (o : Opening) (w : World) (es : List AnyWorldEvent) → answers_of (course o w es) ≡ all_answers o w es
-course_answers o w [] = refl
-course_answers o w (e ∷ es) = go (is_none (refusal o w e)) (course_answers o (happens o w e) es)
-  where
-    by : Bool → AnyPlayed
-    by b = record {
-      event = e;
-      answers = if b then (turn_of o w e).answers else [];
-      entries = (turn_of o w e).entries;
-      down = delivers_down w e;
-    }
-
-    go : (b : Bool) → answers_of (course o (happens o w e) es) ≡ all_answers o (happens o w e) es
-        → answers_of ((if b then by b ∷ [] else []) ++ course o (happens o w e) es)
-        ≡ (if b then (turn_of o w e).answers else []) ++ all_answers o (happens o w e) es
-    go true rest = ap (λ (l : List AnyAnswer). (turn_of o w e).answers ++ l) rest
-    go false rest = rest
-
-pub all_answers-append : (o : Opening) (w : World) (xs ys : List AnyWorldEvent)
-    → all_answers o w (xs ++ ys) ≡ all_answers o w xs ++ all_answers o (run o w xs) ys
-all_answers-append o w [] ys = refl
-all_answers-append o w (x ∷ xs) ys =
-    ap (λ (l : List AnyAnswer). answers o w x ++ l) (all_answers-append o (happens o w x) xs ys)
-    ∙ sym (append_assoc (answers o w x) (all_answers o (happens o w x) xs)
-    (all_answers o (run o (happens o w x) xs) ys))
-
 -- what was run behind them agrees
 pub agrees : (es : List WorldEvent) (given : List Answer) (old new : Held) → Keeps old new
     → seen new ≡ run (opening_of old) (seen old) (events_of es)
@@ -72,7 +40,7 @@ agrees es given old new K world said before is = (
   agreed (before ++ now) new (world ∙ ap (λ (w : World). run o w now) is
       ∙ sym (run-append o (opening_world o) before now)
       ∙ ap (λ (p : Opening). run p (opening_world p) (before ++ now)) (sym (same_opening old new K))),
-  course_answers o (opening_world o) (before ++ now) ∙ all_answers-append o (opening_world o) before now
+  course_answers o (opening_world o) (before ++ now) ∙ answers-append o (opening_world o) before now
       ∙ ap (λ (l : List AnyAnswer). l ++ all_answers o (run o (opening_world o) before) now)
       (sym (course_answers o (opening_world o) before))
       ∙ ap (λ (l : List AnyAnswer). answers_of (course o (opening_world o) before) ++ l)

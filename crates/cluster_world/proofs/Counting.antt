@@ -32,7 +32,7 @@ use Rattle.cluster_world.specs.Playing.{events_of, accepts_all}
 use Rattle.cluster_world.specs.Locks.{try_behind}
 use Rattle.cluster_world.specs.Counting.{is_granted, has_to_ask, unless_gone, CountsGrant, CountsDeletion, Counts}
 use Rattle.cluster_world.specs.Seats.{verdict_in, next_number, next_for, awaiting, until_answered, WentThrough}
-use Rattle.cluster_world.proofs.Agreeing.{course_answers, all_answers-append}
+use Rattle.protocol_model.proofs.Courses.{course_answers, answers-append}
 use Rattle.cluster_world.proofs.Locks.{tally-append}
 use Rattle.cluster_world.proofs.Verdicts.{under, is_under}
 use Rattle.cluster_world.proofs.Winning.{is_waited, waits_for, grounds, Behind, IsNow, IsOf, answered_so, waited_so}
@@ -89,7 +89,7 @@ module _ (o : Opening) (before : List AnyWorldEvent) (w : World) (is : w ≡ run
 
       sum : length (under a k (all_answers o (opening_world o) (before ++ es)))
           ≡ length (under a k (all_answers o (opening_world o) before)) + length (under a k (all_answers o w es))
-      sum = ap (λ (ss : List AnyAnswer). length (under a k ss)) (all_answers-append o (opening_world o) before es
+      sum = ap (λ (ss : List AnyAnswer). length (under a k ss)) (answers-append o (opening_world o) before es
           ∙ ap (λ (v : World). all_answers o (opening_world o) before ++ all_answers o v es) (sym is))
           ∙ ap length (filter-append (is_under a k) (all_answers o (opening_world o) before) (all_answers o w es))
           ∙ length-append (under a k (all_answers o (opening_world o) before)) (under a k (all_answers o w es))

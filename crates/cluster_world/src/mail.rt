@@ -12,14 +12,14 @@ use std::alloc::{AllocError, Global};
 use std::collections::VecDeque;
 use std::marker::Model;
 use std::mem;
-use term::{Node, NodeName};
+use term::Node;
 use world_events::Letter;
 
 /// Letters that a node has sent and that memory on their links was refused for, in their order, with their receivers.
 #[derive(Drop)]
 pub(crate) struct Outbox {
-    sender: NodeName,
-    letters: Vec<(NodeName, Letter)>,
+    sender: Node,
+    letters: Vec<(Node, Letter)>,
 }
 
 impl Model for Outbox {
@@ -40,7 +40,7 @@ pub(crate) struct Mail {
 
 /// Puts letters of a node at the back of the links to their receivers, in order, and takes them out of the list. Those that memory is
 /// refused for stay there.
-fn send_all(mesh: &mut Mesh<Letter>, sender: &NodeName, letters: &mut VecDeque<(NodeName, Letter)>)
+fn send_all(mesh: &mut Mesh<Letter>, sender: &Node, letters: &mut VecDeque<(Node, Letter)>)
     ensures nodes { mesh.new.nodes ≡ mesh.old.nodes }
     ensures links { posted sender.now (λ t. letters_to t letters.new.items) (on_mesh mesh.new)
         ≡ posted sender.now (λ t. letters_to t letters.old.items) (on_mesh mesh.old) }
@@ -57,7 +57,7 @@ fn send_all(mesh: &mut Mesh<Letter>, sender: &NodeName, letters: &mut VecDeque<(
 }
 
 /// Takes what is left of a node's letters, if anything is.
-fn rest_of(sender: &NodeName, letters: &mut VecDeque<(NodeName, Letter)>) -> Option<Outbox>
+fn rest_of(sender: &Node, letters: &mut VecDeque<(Node, Letter)>) -> Option<Outbox>
     ensures { (w : Links Letter) → with_unsent result w ≡ posted sender.now (λ t. letters_to t letters.old.items) w }
 {
     if letters.is_empty() {
@@ -73,7 +73,7 @@ fn rest_of(sender: &NodeName, letters: &mut VecDeque<(NodeName, Letter)>) -> Opt
 
 impl Outbox {
     /// Whether a letter to this node waits here.
-    fn has_for(&self, receiver: &NodeName) -> bool
+    fn has_for(&self, receiver: &Node) -> bool
         ensures { is_nil (letters_to receiver.now self.now.letters) ≡ not result }
     {
         for (to, _) in &self.letters {
@@ -85,7 +85,7 @@ impl Outbox {
     }
 
     /// The least node, of those that weren't closed out, that a letter waits for here.
-    fn first_receiver(&self, mesh: &Mesh<Letter>) -> Option<NodeName>
+    fn first_receiver(&self, mesh: &Mesh<Letter>) -> Option<Node>
         ensures { IsLeastOpen (on_mesh mesh.now).closed self.now.letters result }
     {
         let mut first = None;
@@ -100,7 +100,7 @@ impl Outbox {
 }
 
 /// The lesser of two nodes, of which the first may be missing.
-fn lesser(first: Option<NodeName>, node: &NodeName) -> NodeName
+fn lesser(first: Option<Node>, node: &Node) -> Node
     ensures { result ≡ lesser first node.now }
 {
     match first {
@@ -111,10 +111,10 @@ fn lesser(first: Option<NodeName>, node: &NodeName) -> NodeName
 
 /// The earlier of two links, by sender and then receiver, of which there may be none.
 fn earlier(
-    first: Option<(NodeName, NodeName)>,
-    sender: &NodeName,
-    receiver: Option<NodeName>,
-) -> Option<(NodeName, NodeName)>
+    first: Option<(Node, Node)>,
+    sender: &Node,
+    receiver: Option<Node>,
+) -> Option<(Node, Node)>
     ensures { result ≡ earlier first sender.now receiver }
 {
     let Some(receiver) = receiver else {
@@ -129,18 +129,11 @@ fn earlier(
 }
 
 impl Mail {
-    /// Whether the node of a name was closed out.
-    pub(crate) fn is_closed(&self, name: &NodeName) -> bool
-        ensures { result ≡ (links_of self.now).closed name.now }
-    {
-        self.mesh.is_closed(name)
-    }
-
     /// Whether a node was closed out.
     pub(crate) fn has_left(&self, node: &Node) -> bool
         ensures { result ≡ (links_of self.now).closed node.now }
     {
-        self.is_closed(node.name())
+        self.mesh.is_closed(node)
     }
 
     /// Whether nothing is on a link.
@@ -163,7 +156,7 @@ impl Mail {
     }
 
     /// The first link, by sender and then receiver, on which a letter waits.
-    pub(crate) fn first_waiting(&self) -> Option<(NodeName, NodeName)>
+    pub(crate) fn first_waiting(&self) -> Option<(Node, Node)>
         ensures { WaitsFirst result (links_of self.now) }
     {
         let Some(outbox) = &self.unsent else {
@@ -218,7 +211,7 @@ impl Mail {
 
     /// Puts each of these letters at the back of the link to its receiver. Those that memory is refused for are kept until there is
     /// some: nothing is refused, and no letter is lost. The memory of the list stays its own where it can.
-    pub(crate) fn post(&mut self, sender: &NodeName, letters: &mut Vec<(NodeName, Letter)>)
+    pub(crate) fn post(&mut self, sender: &Node, letters: &mut Vec<(Node, Letter)>)
         requires { self.old.unsent ≡ None }
         ensures nodes { self.new.mesh.nodes ≡ self.old.mesh.nodes }
         ensures links { links_of self.new ≡ posted sender.now (λ t. letters_to t letters.old.items) (links_of self.old) }
@@ -236,6 +229,6 @@ impl Mail {
         ensures nodes { self.new.mesh.nodes ≡ self.old.mesh.nodes }
         ensures links { links_of self.new ≡ closed_out node.now (links_of self.old) }
     {
-        let _ = self.mesh.close_out(node.name());
+        let _ = self.mesh.close_out(node);
     }
 }

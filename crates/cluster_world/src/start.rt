@@ -13,7 +13,7 @@ use crate::world::World;
 use link::Mesh;
 use name_table::Names;
 use std::alloc::{AllocError, Global};
-use term::{NodeName, NodeNames};
+use term::NodeName;
 use world_events::{NodeCore, Opening, StartFault, Turn};
 use world_history::History;
 
@@ -50,8 +50,7 @@ impl<N: Names<Memory = Global>> World<N> {
     {
         let opening = Opening::of(cluster, lone)?;
         let cores = cores_of(alloc, &opening)?;
-        let names = NodeNames::of(opening.nodes());
-        let mesh = Mesh::new(alloc, names.as_slice())?;
+        let mesh = Mesh::new(alloc, opening.nodes().as_slice())?;
         let history = History::new(alloc, opening.nodes())?;
         Ok(World {
             nodes: opening.nodes().copy(),

@@ -39,7 +39,7 @@ pub(crate) fn take_in<N: Names<Memory = Global>>(
         answers,
     } = turn;
     let alloc: Global = *answers.allocator();
-    links.post(node.name(), &mut letters);
+    links.post(node, &mut letters);
     enter_all(history, &mut entries, cores, node, own);
     let spare = Turn {
         letters,

@@ -13,7 +13,7 @@ use name_table::Names;
 use std::alloc::{AllocError, Global};
 use std::marker::Model;
 use std::mem;
-use term::{Node, NodeName, NodeSet};
+use term::{Node, NodeSet};
 use world_events::{Answer, Cause, Event, NodeCore, Refusal, Turn, WorldEvent};
 use world_history::{History, KeptEntry};
 
@@ -117,7 +117,7 @@ impl<N: Names<Memory = Global>> World<N> {
     }
 
     /// The place of the node that reads the oldest letter of a link, or why the delivery is refused. It takes no memory.
-    fn admit_delivery(&self, sender: &NodeName, receiver: &NodeName) -> Result<usize, Refusal>
+    fn admit_delivery(&self, sender: &Node, receiver: &Node) -> Result<usize, Refusal>
         ensures ok { IfOk result (λ place. IsAdmitted place (WorldEvent.Deliver sender.now receiver.now) self.now) }
         ensures refused { IfErr result (λ refusal. RefusedWith refusal (WorldEvent.Deliver sender.now receiver.now) self.now) }
     {
@@ -128,7 +128,7 @@ impl<N: Names<Memory = Global>> World<N> {
         if !self.links.is_empty(link) {
             return Ok(link.receiver);
         }
-        if self.links.is_closed(receiver) {
+        if self.links.has_left(receiver) {
             return Err(Refusal::NodeLeft);
         }
         Err(Refusal::EmptyLink)
@@ -141,7 +141,9 @@ impl<N: Names<Memory = Global>> World<N> {
     {
         match event {
             WorldEvent::At(node, event) => self.admit_own(node, event),
-            WorldEvent::Deliver(sender, receiver) => self.admit_delivery(sender, receiver),
+            WorldEvent::Deliver(sender, receiver) => {
+                self.admit_delivery(&Node::first(sender.copy()), &Node::first(receiver.copy()))
+            }
         }
     }
 
@@ -184,8 +186,8 @@ impl<N: Names<Memory = Global>> World<N> {
     fn deliver(
         &mut self,
         place: usize,
-        sender: &NodeName,
-        receiver: &NodeName,
+        sender: &Node,
+        receiver: &Node,
     ) -> Result<Vec<Answer>, AllocError>
         requires { IsAdmitted place (WorldEvent.Deliver sender.now receiver.now) self.old }
         ensures kept { Keeps self.old self.new }
@@ -205,25 +207,6 @@ impl<N: Names<Memory = Global>> World<N> {
 
     /// The receiver of a link reads the oldest letter on it, which is taken off it. Where memory is refused, nothing has happened.
     fn read(
-        &mut self,
-        link: LinkPlace,
-        sender: &NodeName,
-        receiver: &NodeName,
-    ) -> Result<Vec<Answer>, AllocError>
-        requires sender { place sender.now self.old.nodes ≡ Some link.sender }
-        requires admitted { IsAdmitted link.receiver (WorldEvent.Deliver sender.now receiver.now) self.old }
-        ensures kept { Keeps self.old self.new }
-        ensures ok { IfOk result (λ answers. Played (WorldEvent.Deliver sender.now receiver.now) self.old self.new [] answers.items) }
-        ensures few { IfOk result (λ answers. AreFew link.receiver self.old answers.items) }
-        ensures as_before { OnErr result (seen self.new ≡ seen self.old) }
-    {
-        let sender = Node::first(sender.copy());
-        let receiver = Node::first(receiver.copy());
-        self.read_letter(link, &sender, &receiver)
-    }
-
-    /// The same, by the nodes at its ends.
-    fn read_letter(
         &mut self,
         link: LinkPlace,
         sender: &Node,
@@ -277,7 +260,10 @@ impl<N: Names<Memory = Global>> World<N> {
     {
         match event {
             WorldEvent::At(node, event) => self.happen(place, node, event),
-            WorldEvent::Deliver(sender, receiver) => self.deliver(place, sender, receiver),
+            WorldEvent::Deliver(sender, receiver) => {
+                let (sender, receiver) = (Node::first(sender.copy()), Node::first(receiver.copy()));
+                self.deliver(place, &sender, &receiver)
+            }
         }
     }
 
@@ -305,6 +291,20 @@ impl<N: Names<Memory = Global>> World<N> {
     {
         let place = self.admit(event)?;
         Ok(self.accept(place, event)?)
+    }
+
+    /// Plays the delivery of the oldest letter on the link between two nodes, as `play` does.
+    pub fn play_delivery(&mut self, sender: &Node, receiver: &Node) -> Result<Vec<Answer>, Refusal>
+        ensures kept { Keeps self.old self.new }
+        ensures agrees { IfOk result (λ answers. Agrees (WorldEvent.Deliver sender.now receiver.now ∷ []) answers.items self.old self.new) }
+        ensures locks { IfOk result (λ _. LocksBehind (WorldEvent.Deliver sender.now receiver.now ∷ []) self.old self.new) }
+        ensures leaves_nothing { IfOk result (λ _. LeavesNothing (WorldEvent.Deliver sender.now receiver.now ∷ []) self.old self.new) }
+        ensures ok { IfOk result (λ answers. Played (WorldEvent.Deliver sender.now receiver.now) self.old self.new [] answers.items) }
+        ensures refused { IfErr result (λ refusal. RefusedWith refusal (WorldEvent.Deliver sender.now receiver.now) self.old) }
+        ensures as_before { OnErr result (seen self.new ≡ seen self.old) }
+    {
+        let place = self.admit_delivery(sender, receiver)?;
+        Ok(self.deliver(place, sender, receiver)?)
     }
 
     /// The place of the first link, by sender and then receiver, on which a letter waits.
@@ -456,8 +456,8 @@ impl<N: Names<Memory = Global>> World<N> {
         None
     }
 
-    /// The first link on which a letter waits, by the names of its sender and its receiver; links go by sender and then receiver.
-    pub fn waiting(&self) -> Option<(NodeName, NodeName)>
+    /// The first link on which a letter waits, by its sender and its receiver; links go by sender and then receiver.
+    pub fn waiting(&self) -> Option<(Node, Node)>
         ensures { WaitsOn result self.now }
     {
         self.links.first_waiting()

@@ -35,7 +35,7 @@ first_words_named words n = record {
   holder = n.holder;
   resource = n.resource;
   requester = n.requester;
-  nodes = n.nodes;
+  names = n.names;
   asks = elim n.asks [
     | inl h ↦ inl (first_words_ask words _ h)
     | inr h ↦ inr (h.0, first_words_ask words _ h.1)

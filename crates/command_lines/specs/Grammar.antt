@@ -12,14 +12,15 @@ use Rattle.term.specs.declared.faults.TextFault.{TextFault}
 use Rattle.term.specs.declared.rule.Rule.{Rule as ARule}
 use Rattle.term.specs.declared.rule.Rule.TheVariants.{Exit}
 use Rattle.term.specs.Rules.{rule_of, SpellsRule, RefusesRule}
-use Rattle.term.specs.Spelling.{SpellsText, RefusesText, SpellsPid, RefusesPid}
+use Rattle.term.specs.Spelling.{SpellsText, RefusesText, SpellsNodeName, SpellsNode, RefusesNode, SpellsPid, RefusesPid}
 use Rattle.command_lines.specs.declared.faults.LineFault.{LineFault}
 use Rattle.command_lines.specs.declared.faults.LineFault.TheVariants.{BadLine, Text}
 use Rattle.command_lines.specs.LockTexts.{SpellsTarget, RefusesTarget, SpellsRetries}
 
 -- what a text can stand for
 pub data Kind : Type 0 where
-  Node : Kind
+  Node : Kind  -- by its name
+  Contact : Kind  -- a node that is asked to take another in
   Name : Kind
   Pid : Kind
   Rule : Kind  -- what becomes of a name in a clash
@@ -31,6 +32,7 @@ pub data Kind : Type 0 where
 -- the values of a kind
 abbrev pub Value : Kind → Type 0
 Value Node = ℕ
+Value Contact = ℕ
 Value Name = ℕ
 Value Pid = Process
 Value Rule = ARule
@@ -41,18 +43,20 @@ Value Retries = Tries
 
 -- the text spells this value
 abbrev pub Spells : (k : Kind) → List ℕ → Value k → Type 0
-Spells Node text v = SpellsText text v
+Spells Node text v = SpellsNodeName text v
+Spells Contact text v = SpellsNode text v
 Spells Name text v = SpellsText text v
 Spells Pid text v = SpellsPid text v
 Spells Rule text v = SpellsRule text v
 Spells Resource text v = SpellsText text v
-Spells Requester text v = SpellsText text v
+Spells Requester text v = SpellsNodeName text v
 Spells Nodes text v = SpellsTarget text v
 Spells Retries text v = SpellsRetries text v
 
 -- the text spells no value, for this fault; a text of retries has none
 abbrev pub RefusedAs : Kind → List ℕ → TextFault → Type 0
 RefusedAs Node text f = RefusesText text f
+RefusedAs Contact text f = RefusesNode text f
 RefusedAs Name text f = RefusesText text f
 RefusedAs Pid text f = RefusesPid text f
 RefusedAs Rule text f = RefusesRule text f
@@ -104,7 +108,7 @@ grammar =
     ∷ row (codes "set_lock") (Pid ∷ Resource ∷ Requester ∷ Nodes ∷ Retries ∷ [])
     (λ p r q t n. call_at p.node (SetLock p r q t n))
     ∷ row (codes "del_lock") (Pid ∷ Resource ∷ Requester ∷ Nodes ∷ []) (λ p r q t. call_at p.node (DelLock p r q t))
-    ∷ row (codes "join") (Node ∷ Node ∷ []) (λ n m. call_at n (JoinBy m))
+    ∷ row (codes "join") (Node ∷ Contact ∷ []) (λ n m. call_at n (JoinBy m))
     ∷ row (codes "deliver") (Node ∷ Node ∷ []) (λ f t. Play (Deliver f t))
     ∷ row (codes "retry") (Node ∷ []) (λ n. at_node n Retry)
     ∷ row (codes "leave") (Node ∷ []) (λ n. at_node n Leave)
@@ -163,7 +167,7 @@ pub record WordsNameNodes (ws : List (List ℕ)) : Type 0 where
   pub holder : Process
   pub resource : AText
   pub requester : AText
-  pub nodes : List ℕ
-  pub asks : WordsAsk ws (Ok (call_at holder.node (DelLock holder resource requester (Target.Named nodes))))
+  pub names : List (List ℕ)
+  pub asks : WordsAsk ws (Ok (call_at holder.node (DelLock holder resource requester (Target.Named names))))
       ⊎ ((retries : Tries) × WordsAsk ws
-      (Ok (call_at holder.node (SetLock holder resource requester (Target.Named nodes) retries))))
+      (Ok (call_at holder.node (SetLock holder resource requester (Target.Named names) retries))))

@@ -7,7 +7,7 @@ use Rattle.registry_model.specs.Settlement.{Notice}
 use Rattle.registry_model.specs.Table.{Pair, Rule}
 use Rattle.protocol_model.specs.Event.{Answer, Refusal}
 use Rattle.protocol_model.specs.Script.{Output, Said, Okay, Error, Settled, SettleLimit, TableIs, MembersAre}
-use Rattle.term.specs.Spelling.{bytes_of, dot}
+use Rattle.term.specs.Spelling.{bytes_of, node_bytes, dot}
 use Rattle.term.specs.declared.faults.TextFault.TheVariants as text
 use Rattle.world_events.specs.declared.opening.StartFault.TheVariants as start
 use Rattle.world_events.specs.declared.StepFault.{StepFault}
@@ -23,6 +23,7 @@ word_of NotAscii = codes "not_ascii"
 word_of (Text text.Empty) = codes "empty"
 word_of (Text text.TooLong) = codes "too_long"
 word_of (Text (text.BadByte place)) = codes "bad_byte"
+word_of (Text text.BadCreation) = codes "bad_creation"
 word_of (Text text.BadSerial) = codes "bad_serial"
 word_of (Text text.BadRule) = codes "bad_rule"
 word_of (Text text.TooManyNodes) = codes "too_many_nodes"
@@ -58,9 +59,9 @@ word_for None = codes "memory"
 abbrev pub step_word : StepFault → List ℕ
 step_word f = word_for (fault_of f)
 
--- a process: the name of its node, a dot and its serial
+-- a process: its node, a dot and its serial
 abbrev pub pid_text : Process → List ℕ
-pid_text p = bytes_of p.node ++ dot ∷ decimal p.serial
+pid_text p = node_bytes p.node ++ dot ∷ decimal p.serial
 
 -- names, in their order
 abbrev pub names_text : List ℕ → List ℕ
@@ -108,7 +109,7 @@ reply_text (Reply.Notices notices) = notices_text notices
 -- an answer: the reply, and before that of a numbered call the node, `#` and the number
 abbrev pub answer_text : Answer → List ℕ
 answer_text s =
-    if s.number == 0 then reply_text s.reply else bytes_of s.node ++ 35 ∷ decimal s.number ++ 32 ∷ reply_text s.reply
+    if s.number == 0 then reply_text s.reply else node_bytes s.node ++ 35 ∷ decimal s.number ++ 32 ∷ reply_text s.reply
 
 -- a line: its text and a line feed
 abbrev pub ended : List ℕ → List ℕ
@@ -131,7 +132,7 @@ output_line (Error r) = error_line (refusal_word r)
 output_line Settled = ended (codes "settled")
 output_line SettleLimit = error_line (codes "settle_limit")
 output_line (TableIs table) = ended (codes "table" ++ flat_map (λ e. 32 ∷ pair_text e) table)
-output_line (MembersAre members) = ended (codes "members" ++ flat_map (λ a. 32 ∷ bytes_of a) members)
+output_line (MembersAre members) = ended (codes "members" ++ flat_map (λ a. 32 ∷ node_bytes a) members)
 
 abbrev pub shown_line : Shown → List ℕ
 shown_line (Shows o) = output_line o

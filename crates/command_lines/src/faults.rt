@@ -52,6 +52,7 @@ impl LineFault {
             LineFault::Text(TextFault::Empty) => "error empty\n",
             LineFault::Text(TextFault::TooLong) => "error too_long\n",
             LineFault::Text(TextFault::BadByte(_)) => "error bad_byte\n",
+            LineFault::Text(TextFault::BadCreation) => "error bad_creation\n",
             LineFault::Text(TextFault::BadSerial) => "error bad_serial\n",
             LineFault::Text(TextFault::BadRule) => "error bad_rule\n",
             LineFault::Text(TextFault::TooManyNodes) => "error too_many_nodes\n",

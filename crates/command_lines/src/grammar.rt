@@ -3,7 +3,7 @@ ghost use Rattle.std.specs.Prelude.{◌≡◌, ◌≢◌, map, ◌∷◌, [], Er
 ghost use Rattle.protocol_model.specs.Event.{Exiting, LookUp, SetLock, DelLock};
 ghost use Rattle.registry_model.specs.Call.{NoticesOf};
 ghost use Rattle.term.specs.Rules.{SpellsRule};
-ghost use Rattle.term.specs.Spelling.{SpellsText, RefusesText, SpellsPid};
+ghost use Rattle.term.specs.Spelling.{SpellsText, SpellsNodeName, RefusesText, SpellsPid};
 ghost use Rattle.transaction.specs.Calls.{target_of, retries_of};
 ghost use Rattle.world_events.specs.NodeEventsSeen.{call_of};
 ghost use Rattle.command_lines.specs.Commands.{asked_by, line_in};
@@ -16,8 +16,8 @@ use crate::lock_texts::{parse_retries, parse_target};
 use name_table::Pair;
 use std::alloc::{AllocError, Global};
 use term::{
-    LockId, Name, Node, NodeNames, Pid, Rule, TextFault, parse_name, parse_node, parse_pid,
-    parse_requester, parse_resource, parse_rule,
+    LockId, Name, Node, NodeNames, Pid, Rule, TextFault, parse_name, parse_node, parse_node_name,
+    parse_pid, parse_requester, parse_resource, parse_rule,
 };
 use transaction::{Nodes, Retries};
 use world_events::{Call, Event, WorldEvent};
@@ -37,9 +37,9 @@ pub enum Task {
 
 /// Reads the name of a node, for the first node of that name.
 fn first_node(text: &str) -> Result<Node, TextFault>
-    ensures { MatchResult result (SpellsText text.now) (RefusesText text.now) }
+    ensures { MatchResult result (SpellsNodeName text.now) (RefusesText text.now) }
 {
-    Ok(Node::first(parse_node(text)?))
+    Ok(Node::first(parse_node_name(text)?))
 }
 
 /// A call at a node.
@@ -119,7 +119,7 @@ fn del_lock(
 
 /// The values of three texts, or the fault of the first that spells none.
 fn node_name_and_pid(node: &str, name: &str, pid: &str) -> Result<(Node, Name, Pid), TextFault>
-    ensures { MatchResult result (λ v. SpellsText node.now v.0 × SpellsText name.now v.1 × SpellsPid pid.now v.2)
+    ensures { MatchResult result (λ v. SpellsNodeName node.now v.0 × SpellsText name.now v.1 × SpellsPid pid.now v.2)
         (FirstRefused (ANode ∷ AName ∷ APid ∷ []) (node.now ∷ name.now ∷ pid.now ∷ [])) }
 {
     Ok((first_node(node)?, parse_name(name)?, parse_pid(pid)?))
@@ -133,7 +133,7 @@ fn node_name_pid_and_rule(
     rule: &str,
 ) -> Result<(Node, Name, Pid, Rule), TextFault>
     ensures { MatchResult result
-        (λ v. SpellsText node.now v.0 × SpellsText name.now v.1 × SpellsPid pid.now v.2 × SpellsRule rule.now v.3)
+        (λ v. SpellsNodeName node.now v.0 × SpellsText name.now v.1 × SpellsPid pid.now v.2 × SpellsRule rule.now v.3)
         (FirstRefused (ANode ∷ AName ∷ APid ∷ ARule ∷ []) (node.now ∷ name.now ∷ pid.now ∷ rule.now ∷ [])) }
 {
     Ok((
@@ -152,7 +152,7 @@ fn holder_id_and_nodes(
     nodes: &str,
 ) -> Result<(Pid, LockId, Option<NodeNames>), TextFault>
     ensures { MatchResult result
-        (λ v. SpellsPid holder.now v.0 × SpellsText resource.now v.1.resource × SpellsText requester.now v.1.requester
+        (λ v. SpellsPid holder.now v.0 × SpellsText resource.now v.1.resource × SpellsNodeName requester.now v.1.requester
         × SpellsTarget nodes.now (target_in v.2))
         (FirstRefused (APid ∷ AResource ∷ ARequester ∷ SomeNodes ∷ [])
         (holder.now ∷ resource.now ∷ requester.now ∷ nodes.now ∷ [])) }
@@ -199,8 +199,11 @@ fn with_two(word: &str, text: &str, next: &str) -> Result<Task, LineFault>
     match word {
         "unregister" => Ok(call(first_node(text)?, Call::Unregister(parse_name(next)?))),
         "whereis" => Ok(call(first_node(text)?, Call::Whereis(parse_name(next)?))),
-        "join" => Ok(call(first_node(text)?, Call::Join(first_node(next)?))),
-        "deliver" => Ok(Task::Play(WorldEvent::Deliver(parse_node(text)?, parse_node(next)?))),
+        "join" => Ok(call(first_node(text)?, Call::Join(parse_node(next)?))),
+        "deliver" => {
+            let sender = parse_node_name(text)?;
+            Ok(Task::Play(WorldEvent::Deliver(sender, parse_node_name(next)?)))
+        }
         _ => Err(LineFault::BadLine),
     }
 }

@@ -114,8 +114,7 @@ pub fn members_line(alloc: Global, members: &[Node]) -> Result<String, AllocErro
 {
     let mut line = String::from_str(alloc, "members")?;
     for member in members {
-        line.push(' ')?;
-        line.push_str(member.name().as_str())?;
+        write!(line, " {member}")?;
     }
     line.push('\n')?;
     Ok(line)

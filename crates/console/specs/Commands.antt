@@ -7,7 +7,7 @@ use Rattle.term.specs.declared.rule.Rule.TheVariants as rule
 use Rattle.command_lines.specs.NodeEventsSeen.{call_of}
 use Rattle.command_lines.specs.declared.faults.LineFault.{LineFault}
 use Rattle.command_lines.specs.declared.faults.LineFault.TheVariants.{BadLine}
-use Rattle.command_lines.specs.Grammar.{Node, Name, Pid, Rule, Row, row, row_of, at_node, call_at, pair_for, AsksBy, WordsAsk}
+use Rattle.command_lines.specs.Grammar.{Contact, Name, Pid, Rule, Row, row, row_of, at_node, call_at, pair_for, AsksBy, WordsAsk}
 use Rattle.command_lines.specs.Commands.{unread}
 use Rattle.text_lines.specs.Words.{words}
 use Rattle.console.specs.declared.orders.Order.{Order}
@@ -41,7 +41,7 @@ own_lines n =
     ∷ row (codes "unregister") (Name ∷ []) (λ x. call_at n (OnName (Unregister x)))
     ∷ row (codes "whereis") (Name ∷ []) (λ x. call_at n (LookUp (LooksUp x)))
     ∷ row (codes "names") [] (call_at n (LookUp RegisteredNames))
-    ∷ row (codes "join") (Node ∷ []) (λ m. call_at n (JoinBy m))
+    ∷ row (codes "join") (Contact ∷ []) (λ m. call_at n (JoinBy m))
     ∷ row (codes "leave") [] (at_node n Leaving)
     ∷ []
 

@@ -2,7 +2,7 @@
 use Rattle.std.specs.Prelude.{ℕ, Bool, true, false, ◌≡◌, ◌⊎◌, ◌&&◌, ⊤, bytes_eq, codes, List, [], ◌∷◌, Option, Some, None, Result, Ok, Err, if◌then◌else◌}
 use Rattle.std.specs.Io.KnownBytes.{Appends, Keeps}
 use Rattle.term.specs.NodeSets.{set_of}
-use Rattle.term.specs.Spelling.{SpellsText, RefusesText}
+use Rattle.term.specs.Spelling.{SpellsNodeName, RefusesText}
 use Rattle.term.specs.declared.faults.TextFault.{TextFault}
 use Rattle.command_lines.specs.declared.faults.LineFault.{LineFault}
 use Rattle.command_lines.specs.declared.faults.LineFault.TheVariants.{Text}
@@ -28,7 +28,7 @@ one_of nodes n = if set_of nodes n then Ok n else Err NoSuchNode
 -- which of these nodes a text names, or why none
 abbrev pub NamesNode : List ℕ → List ℕ → Result ℕ GreetFault → Type 0
 NamesNode nodes text r =
-    ((n : ℕ) × SpellsText text n × (r ≡ one_of nodes n))
+    ((n : ℕ) × SpellsNodeName text n × (r ≡ one_of nodes n))
     ⊎ ((f : TextFault) × RefusesText text f × (r ≡ Err (Line (Text f))))
 
 abbrev pub AttachesIf : Bool → List ℕ → List ℕ → Result ℕ GreetFault → Type 0

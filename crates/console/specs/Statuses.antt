@@ -1,8 +1,8 @@
 -- The line that tells how a node stands, and the server that serves its consoles.
 use Rattle.std.specs.Prelude.{ℕ, Bool, true, false, codes, List, ◌∷◌, ◌++◌, Result, Ok, Err}
 use Rattle.std.specs.Fmt.{decimal}
-use Rattle.term.specs.Spelling.{bytes_of}
-use Rattle.term.specs.NodeLists.{list_of}
+use Rattle.term.specs.Spelling.{node_bytes}
+use Rattle.term.specs.NodeLists.{list_of_nodes}
 use Rattle.command_lines.specs.Printing.{ended, error_line}
 use Rattle.node_seats.specs.declared.Numbers.{Numbers}
 use Rattle.node_seats.specs.declared.told.NodeStatus.{NodeStatus}
@@ -18,7 +18,7 @@ standing_word false = codes "lone"
 
 -- the node, whether it is joined, and its members by commas
 abbrev pub node_text : NodeStatus → List ℕ
-node_text s = codes "status " ++ bytes_of s.node ++ 32 ∷ standing_word s.joined ++ codes " members " ++ list_of s.members
+node_text s = codes "status " ++ node_bytes s.node ++ 32 ∷ standing_word s.joined ++ codes " members " ++ list_of_nodes s.members
 
 -- its numbers, each behind its word
 abbrev pub numbers_text : Numbers → List ℕ

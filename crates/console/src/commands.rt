@@ -15,7 +15,7 @@ use crate::orders::{Command, Order};
 use arrayvec::ArrayVec;
 use command_lines::{Call, Event, LineFault, Pair, Task, WorldEvent, ran_out, read_words, text_of};
 use std::alloc::{AllocError, Global};
-use term::{Name, Node, Pid, Rule, TextFault, parse_name, parse_node, parse_pid, parse_rule};
+use term::{Name, Pid, Rule, TextFault, parse_name, parse_node, parse_pid, parse_rule};
 use text_lines::{Line, MOST_WORDS, first_words};
 
 /// The values of two texts, or the fault of the first that spells none.
@@ -55,7 +55,7 @@ fn with_one(word: &str, text: &str) -> Result<Order, LineFault>
         "notices" => Ok(Order::Call(Call::Notices(parse_pid(text)?))),
         "unregister" => Ok(Order::Call(Call::Unregister(parse_name(text)?))),
         "whereis" => Ok(Order::Whereis(parse_name(text)?)),
-        "join" => Ok(Order::Call(Call::Join(Node::first(parse_node(text)?)))),
+        "join" => Ok(Order::Call(Call::Join(parse_node(text)?))),
         _ => Err(LineFault::BadLine),
     }
 }

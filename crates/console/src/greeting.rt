@@ -17,19 +17,19 @@ use std::alloc::{AllocError, Global};
 use std::io::{BufReader, Read, Write};
 use std::thread;
 use std::time::{Clock, Duration};
-use term::{NodeName, NodeNames, parse_node};
+use term::{Node, NodeName, NodeSet, parse_node_name};
 use text_lines::{Line, MOST_LINES, StreamFault, WriteFault, first_words, read_line, tell};
 
 /// For how many seconds who doesn't show the cookie waits for the answer.
 const DELAY: u64 = 1;
 
 /// Which of these nodes a text names.
-fn find_node(text: &str, nodes: &NodeNames) -> Result<NodeName, GreetFault>
+fn find_node(text: &str, nodes: &NodeSet) -> Result<NodeName, GreetFault>
     ensures names { NamesNode nodes.now text.now result }
     ensures known { IfOk result (λ node. set_of nodes.now node ≡ true) }
 {
-    let node = parse_node(text)?;
-    if nodes.contains(&node) {
+    let node = parse_node_name(text)?;
+    if nodes.contains(&Node::first(node.copy())) {
         Ok(node)
     } else {
         Err(GreetFault::NoSuchNode)
@@ -37,7 +37,7 @@ fn find_node(text: &str, nodes: &NodeNames) -> Result<NodeName, GreetFault>
 }
 
 /// To which of these nodes words attach a console that needn't show anything.
-fn read_words(words: &[&str], nodes: &NodeNames) -> Result<NodeName, GreetFault>
+fn read_words(words: &[&str], nodes: &NodeSet) -> Result<NodeName, GreetFault>
     ensures attach { WordsAttach nodes.now (map (λ word. word.now) words.now) result }
     ensures known { IfOk result (λ node. set_of nodes.now node ≡ true) }
 {
@@ -58,7 +58,7 @@ fn shows_cookie(word: &str, shown: &str, cookie: &Cookie) -> bool
 }
 
 /// To which of these nodes words attach a console that must show this cookie.
-fn read_shown(words: &[&str], nodes: &NodeNames, cookie: &Cookie) -> Result<NodeName, GreetFault>
+fn read_shown(words: &[&str], nodes: &NodeSet, cookie: &Cookie) -> Result<NodeName, GreetFault>
     ensures attach { WordsShow cookie.now nodes.now (map (λ word. word.now) words.now) result }
     ensures known { IfOk result (λ node. set_of nodes.now node ≡ true) }
 {
@@ -73,7 +73,7 @@ fn read_shown(words: &[&str], nodes: &NodeNames, cookie: &Cookie) -> Result<Node
 }
 
 /// To which of these nodes a line attaches a console that must show this cookie. One that can't be read shows nothing.
-fn read_showing(line: &Line, nodes: &NodeNames, cookie: &Cookie) -> Result<NodeName, GreetFault>
+fn read_showing(line: &Line, nodes: &NodeSet, cookie: &Cookie) -> Result<NodeName, GreetFault>
     ensures attaches { (bytes : List ℕ) → IsKept bytes line.now → LineAttaches (Some cookie.now) nodes.now bytes result }
     ensures known { IfOk result (λ node. set_of nodes.now node ≡ true) }
 {
@@ -84,7 +84,7 @@ fn read_showing(line: &Line, nodes: &NodeNames, cookie: &Cookie) -> Result<NodeN
 }
 
 /// To which of these nodes a line attaches a console that needn't show anything.
-fn read_open(line: &Line, nodes: &NodeNames) -> Result<NodeName, GreetFault>
+fn read_open(line: &Line, nodes: &NodeSet) -> Result<NodeName, GreetFault>
     ensures attaches { (bytes : List ℕ) → IsKept bytes line.now → LineAttaches None nodes.now bytes result }
     ensures known { IfOk result (λ node. set_of nodes.now node ≡ true) }
 {
@@ -95,7 +95,7 @@ fn read_open(line: &Line, nodes: &NodeNames) -> Result<NodeName, GreetFault>
 /// To which of these nodes a line attaches a console, which must show the cookie where there is one.
 fn read_greeting(
     line: &Line,
-    nodes: &NodeNames,
+    nodes: &NodeSet,
     cookie: Option<&Cookie>,
 ) -> Result<NodeName, GreetFault>
     ensures attaches { (bytes : List ℕ) → IsKept bytes line.now → LineAttaches (option_map (λ c. c.now) cookie.entry) nodes.now bytes result }
@@ -148,7 +148,7 @@ pub fn greet<R: Read, W: Write, C: Clock>(
     alloc: Global,
     reader: &mut BufReader<R, Global>,
     writer: &mut W,
-    nodes: &NodeNames,
+    nodes: &NodeSet,
     cookie: Option<&Cookie>,
 ) -> Result<Option<NodeName>, StreamFault>
     ensures greets { MatchResult result

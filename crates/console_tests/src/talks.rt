@@ -3,7 +3,7 @@ use console::{Attendant, ConsoleEnd, ConsoleFault, Load, Order, Status, answer_l
 use node_threads::{NodeStatus, Numbers, Reply, SeatFault};
 use std::alloc::Global;
 use std::io::{BufReader, Read, Write};
-use term::{Node, NodeSet, Pid, TextFault, parse_node, parse_pid};
+use term::{Node, NodeSet, Pid, TextFault, parse_node_name, parse_pid};
 
 mod clients;
 mod cookies;
@@ -34,7 +34,7 @@ impl Clerk {
     /// An attendant that refuses what it is asked first, where there is a fault.
     pub(crate) fn new(fault: Option<SeatFault>) -> Result<Self, TextFault> {
         Ok(Clerk {
-            node: Node::first(parse_node("a")?),
+            node: Node::first(parse_node_name("a")?),
             process: parse_pid("a.1")?,
             fault,
             asked: 0,

@@ -18,7 +18,8 @@ use Rattle.protocol_model.specs.World.{Opening, in_cluster, World, left, WorldEv
 use Rattle.protocol_model.specs.ClientLocks.{Try, is_true_to, is_won, gives, is_no_more, Tally, last_try, tallied, tally_after, tally_from}
 use Rattle.protocol_model.specs.Fit.{is_delivery}
 use Rattle.creations.specs.Restarts.{fresh_node}
-use Rattle.creations.proofs.NamedRuns.{run-append, answers-append, tally-append}
+use Rattle.protocol_model.proofs.Courses.{run-append, answers-append}
+use Rattle.creations.proofs.NamedRuns.{tally-append}
 use Rattle.creations.proofs.Telling.{told_all, AreDistinct, Tells, Waits, IsFresh, behind, deliveries_to, tells, happens-told, answers-told, answers_none, fresh_behind, waits_behind}
 
 -- the deaths of the registry aren't changed by notices

@@ -19,7 +19,8 @@ use Rattle.creations.specs.NodeNames.{NamedOpening, opening_of}
 use Rattle.creations.specs.NamedWorld.{NamedWorld, NamedEvent, has_started, after_events, as_events}
 use Rattle.creations.specs.Restarts.{who_left, IsUp}
 use Rattle.creations.specs.NamedLeftovers.{NamesAreQuiet, NamesAreSettled, NothingIsLeftOfNames, NamedNothingIsLeft}
-use Rattle.creations.proofs.NamedRuns.{run-append, tally-append, named_runs_are_runs}
+use Rattle.protocol_model.proofs.Courses.{run-append}
+use Rattle.creations.proofs.NamedRuns.{tally-append, named_runs_are_runs}
 use Rattle.creations.proofs.Lists.{Contains-filter, filter-Contains, rise-filter, nodes_rise, distinct_of}
 use Rattle.creations.proofs.Standing.{Sound}
 use Rattle.creations.proofs.Catching

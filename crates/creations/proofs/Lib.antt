@@ -25,3 +25,4 @@ pub mod QuietNames
 pub mod RestartsLegal
 pub mod Refusing
 pub mod ByName
+pub mod NamedCalls

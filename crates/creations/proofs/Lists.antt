@@ -37,7 +37,7 @@ filter-Contains p (x ∷ xs) c i e = go (p x) refl (filter-Contains p xs c)
     ]
 
 -- a map of a list
-pub map-Contains : (f : ℕ → ℕ) (xs : List ℕ) (c : ℕ) → Contains xs c → Contains (map f xs) (f c)
+pub map-Contains : {Y : Type 0} (f : ℕ → Y) (xs : List ℕ) (c : ℕ) → Contains xs c → Contains (map f xs) (f c)
 map-Contains f [] c i = absurd (Contains-nil c i)
 map-Contains f (x ∷ xs) c i = elim (Contains-cases x xs c i) [
   | inl same ↦ subst (λ (y : ℕ). Contains (f x ∷ map f xs) (f y)) same (Contains-front (f x) (map f xs))
@@ -81,7 +81,7 @@ rise-filter p (x ∷ xs) R = go (p x) (rise-filter p xs R.1)
     go false T = T
 
 -- what a map has comes from what it is made of
-pub from_map : (f : ℕ → ℕ) (xs : List ℕ) (c : ℕ) → Contains (map f xs) c → (y : ℕ) × Contains xs y × (f y ≡ c)
+pub from_map : {Y : Type 0} (f : ℕ → Y) (xs : List ℕ) (c : Y) → Contains (map f xs) c → (y : ℕ) × Contains xs y × (f y ≡ c)
 from_map f [] c i = absurd (Contains-nil c i)
 from_map f (x ∷ xs) c i = elim (Contains-cases (f x) (map f xs) c i) [
   | inl same ↦ (x, Contains-front x xs, same)

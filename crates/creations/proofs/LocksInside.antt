@@ -20,7 +20,8 @@ pub record Ground (S : Nodes) (a : ℕ) : Type 0 where
 -- the nodes that a call asks are members
 pub targets_in : (S known : Nodes) (t : Target) → AreIn S known → AreIn S (targets known t)
 targets_in S known Target.All of = of
-targets_in S known (Target.Named ns) of = λ c e. of c (first_of (known c) (list_any (λ m. m == c) ns) e)
+targets_in S known (Target.Named names) of =
+    λ c e. of c (first_of (known c) (list_any (λ nodes. list_any (λ m. m == c) nodes) names) e)
 
 module _ (n : ℕ) {a : ℕ} {S : Nodes} (G : Ground S a) where
   -- the boss's grant opens a round

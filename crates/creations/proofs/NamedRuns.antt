@@ -6,14 +6,10 @@ use Rattle.std.proofs.lemmas.List.Sums.{fold-append}
 use Rattle.registry_model.specs.Process.{Process}
 use Rattle.protocol_model.specs.Letter.{Id}
 use Rattle.protocol_model.specs.ClientLocks.{Tally, tally_after, tally_from}
-use Rattle.protocol_model.specs.Event.{Answer}
-use Rattle.protocol_model.specs.World.{Opening, World, WorldEvent, happens, answers, run, all_answers}
+use Rattle.protocol_model.specs.World.{Opening, World, WorldEvent, happens, run}
+use Rattle.protocol_model.proofs.Courses.{run-append}
 use Rattle.creations.specs.NodeNames.{NamedOpening, opening_of}
 use Rattle.creations.specs.NamedWorld.{NamedWorld, NamedEvent, named_refusal, plain, plain_accepted, accepted_named, happens_named, run_named, plain_events, opening_named, NamedRunsAreRuns, after_events, as_events}
-
--- one list of events after another
-pub run-append : (o : Opening) (w : World) (es fs : List WorldEvent) → run o w (es ++ fs) ≡ run o (run o w es) fs
-run-append o w es fs = fold-append (happens o) w es fs
 
 -- an event is its events in the world
 pub happens-plain : (o : NamedOpening) (w : NamedWorld) (e : NamedEvent) →
@@ -55,13 +51,6 @@ pub as_events-push : (o : NamedOpening) (es : List NamedEvent) (e : NamedEvent) 
     as_events o (es ++ e ∷ []) ≡ as_events o es ++ plain_accepted o (after_events o es) e
 as_events-push o es e = plain_events-append o (opening_named o) es (e ∷ [])
     ∙ ap (λ (xs : List WorldEvent). as_events o es ++ xs) (append-nil (plain_accepted o (after_events o es) e))
-
--- what is answered over two lists
-pub answers-append : (o : Opening) (w : World) (xs ys : List WorldEvent)
-    → all_answers o w (xs ++ ys) ≡ all_answers o w xs ++ all_answers o (run o w xs) ys
-answers-append o w [] ys = refl
-answers-append o w (x ∷ xs) ys = ap (λ (l : List Answer). answers o w x ++ l) (answers-append o (happens o w x) xs ys)
-    ∙ sym (append_assoc (answers o w x) (all_answers o (happens o w x) xs) (all_answers o (run o w (x ∷ xs)) ys))
 
 -- how a process's locks are counted over two lists
 pub tally-append : (o : Opening) (p : Process) (id : Id) (c : ℕ) (w : World) (xs ys : List WorldEvent) (t : Tally)

@@ -11,45 +11,27 @@ use Rattle.protocol_model.specs.Letter.{Letter, Client}
 use Rattle.protocol_model.specs.LockTable.{last_count}
 use Rattle.protocol_model.specs.Node.{Node, Target, call_of, targets}
 use Rattle.protocol_model.specs.Event.{Event, Answer, NoSuchNode, is_waiting_call}
-use Rattle.protocol_model.specs.World.{in_world, Opening, World, left, WorldEvent, At, Deliver, opening_world, number_in, refusal, turn_of, happens, answers, run, all_answers}
-use Rattle.protocol_model.specs.Course.{Played, answers_of, delivers_down, course}
+use Rattle.protocol_model.specs.World.{in_world, Opening, World, left, WorldEvent, At, Deliver, opening_world, number_in, refusal, happens, answers, run, all_answers}
+use Rattle.protocol_model.specs.Course.{course}
 use Rattle.protocol_model.specs.Fit.{is_delivery}
 use Rattle.protocol_model.specs.Answers.{answers_under}
 use Rattle.protocol_model.specs.ClientLocks.{Try, waits_for_retry, is_no_more}
 use Rattle.protocol_model.specs.Leftovers.{IsQuiet}
 use Rattle.protocol_model.specs.QuietCalls.{called_once, IsFree, Tells, IsAnswerTo, IsQuietCall}
 use Rattle.protocol_model.specs.LockAnswers.{Tries, ClientLocks, watched, meets, tries_after, tries_from, tries_of}
+use Rattle.protocol_model.proofs.Courses.{run-append, course_answers}
 use Rattle.lock_answers.proofs.ClientLocks.{client_locks as of_worlds}
 use Rattle.creations.specs.NodeNames.{NamedOpening, opening_of}
 use Rattle.creations.specs.NamedWorld.{NamedWorld, NamedEvent, NamedRefusal, Plain, present_node, has_started, sender_to, named_refusal, plain_refusal, plain, plain_accepted, plain_events, accepted_named, happens_named, run_named}
 use Rattle.creations.specs.NamedLeftovers.{NamesAreQuiet}
 use Rattle.creations.specs.NamedQuietCalls.{called_once_named, is_named_delivery, IsNamedQuietCall, AnswersItNamed, QuietCallsOfNames}
-use Rattle.creations.proofs.NamedRuns.{run-append, run-plain, named_runs_are_runs}
+use Rattle.creations.proofs.NamedRuns.{run-plain, named_runs_are_runs}
 use Rattle.creations.proofs.Alike.{Alike, AreWithin, same_refusal, within-append, run_alike}
 use Rattle.creations.proofs.Standing.{Sound, present_started, least_started, unrefused}
 use Rattle.creations.proofs.Catching
 use Rattle.creations.proofs.Always.{happens_keeps}
 use Rattle.creations.proofs.CaughtUp.{is_listed, unanswered, are_deliveries}
 use Rattle.creations.proofs.LeftOfNames
-
--- what is answered in a course
-course_answers : (o : Opening) (w : World) (es : List WorldEvent) → answers_of (course o w es) ≡ all_answers o w es
-course_answers o w [] = refl
-course_answers o w (e ∷ es) = go (is_none (refusal o w e)) (course_answers o (happens o w e) es)
-  where
-    by : Bool → Played
-    by b = record {
-      event = e;
-      answers = if b then (turn_of o w e).answers else [];
-      entries = (turn_of o w e).entries;
-      down = delivers_down w e;
-    }
-
-    go : (b : Bool) → answers_of (course o (happens o w e) es) ≡ all_answers o (happens o w e) es
-        → answers_of ((if b then by b ∷ [] else []) ++ course o (happens o w e) es)
-        ≡ (if b then (turn_of o w e).answers else []) ++ all_answers o (happens o w e) es
-    go true rest = ap (λ (l : List Answer). (turn_of o w e).answers ++ l) rest
-    go false rest = rest
 
 -- where more events answer nothing
 answers_more : (o : Opening) (w : World) (xs ys : List WorldEvent) → all_answers o (run o w xs) ys ≡ []

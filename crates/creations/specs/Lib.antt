@@ -4,6 +4,7 @@ pub mod Restarts
 pub mod Lifted
 pub mod Inherited
 pub mod NamedScript
+pub mod NamedCalls
 pub mod NamedRows
 pub mod NamedLeftovers
 pub mod NamedLinks

@@ -1,12 +1,13 @@
 -- Rows about node names that come back, in worlds of three numbers a name: two creations and one that is none.
-use Rattle.std.specs.Prelude.{ℕ, true, ◌==◌, ◌≡◌, ◌||◌, [], ◌∷◌}
+use Rattle.std.specs.Prelude.{ℕ, true, ◌==◌, ◌≡◌, ◌||◌, List, [], ◌∷◌}
 use Rattle.registry_model.specs.Process.{Text, Process, Nodes}
 use Rattle.registry_model.specs.Table.{Rule}
-use Rattle.registry_model.specs.Call.{NameCall, Reply, Whereis, Yes, Joined, ContactLeft, UnknownNode, Undefined, Pid}
-use Rattle.protocol_model.specs.Event.{Call, Event, NoSuchNode, NodeLeft, EmptyLink}
-use Rattle.protocol_model.specs.RowWords.{a, b, c, x, y, pid, owned}
+use Rattle.registry_model.specs.Call.{NameCall, Reply, Whereis, Yes, Joined, ContactLeft, UnknownNode, Undefined, Pid, True, False}
+use Rattle.protocol_model.specs.Node.{Times}
+use Rattle.protocol_model.specs.Event.{Call, Event, Refusal, NoSuchNode, NodeLeft, EmptyLink}
+use Rattle.protocol_model.specs.RowWords.{a, b, c, p, q, x, y, z, pid, owned}
 use Rattle.protocol_model.specs.Check.{keeps_headline}
-use Rattle.creations.specs.NodeNames.{NamedOpening, opening_of}
+use Rattle.creations.specs.NodeNames.{NamedOpening, named_target, opening_of}
 use Rattle.creations.specs.NamedWorld.{At, AtNode, Deliver, Restart, Plain, StillRunning, NotToldYet, CreationsSpent}
 use Rattle.creations.specs.NamedScript.{NamedLine, Play, Settle, TableAt, MembersAt, NamedOutput, Said, Okay, Started, Error, Settled, TableIs, MembersAre, NamedRow, named_output, row_events}
 
@@ -60,6 +61,14 @@ join name contact = call name (Call.JoinBy contact)
 abbrev pub leave : ℕ → NamedLine
 leave name = Play (At name Event.Leave)
 
+-- a `set_lock` of node names, with this many retries
+abbrev pub set_lock_at : Process → Text → Text → List ℕ → ℕ → NamedLine
+set_lock_at holder resource requester nodes retries = Play (AtNode holder.node (Event.Calling
+    (Call.SetLock holder resource requester (named_target (names_below 2) nodes) (Times retries))))
+
+abbrev pub retry : ℕ → NamedLine
+retry name = Play (At name Event.Retry)
+
 abbrev pub exit : Process → NamedLine
 exit process = Play (AtNode process.node (Event.Exiting process))
 
@@ -107,6 +116,30 @@ older_node_is_another = record {
       ∷ MembersAt b ∷ [];
   prints = given (pid a1 1) ∷ Error (Plain NoSuchNode) ∷ Okay ∷ Settled ∷ Started a2 ∷ Error (Plain NodeLeft) ∷ given (pid a2 1)
       ∷ said a2 1 ContactLeft ∷ said a2 2 Joined ∷ Settled ∷ MembersAre (a2 ∷ b1 ∷ []) ∷ [];
+}
+
+-- a lock call by names asks the nodes that have them where it is tried: a call that waited asks the node that came back, where nobody
+-- has the lock
+abbrev pub retry_asks_the_new_node : NamedRow
+retry_asks_the_new_node = record {
+  opening = names_below 2;
+  limit = 1000;
+  lines = spawn b ∷ spawn b ∷ set_lock_at (pid b1 1) z p (a ∷ []) 0 ∷ Settle ∷ set_lock_at (pid b1 2) z q (a ∷ []) 1 ∷ Settle
+      ∷ leave a ∷ Settle ∷ restart a ∷ join a b1 ∷ Settle ∷ retry b ∷ Settle ∷ spawn a
+      ∷ set_lock_at (pid a2 1) z p (a ∷ []) 0 ∷ Settle ∷ [];
+  prints = given (pid b1 1) ∷ given (pid b1 2) ∷ said b1 1 True ∷ Settled ∷ Settled ∷ Okay ∷ Settled ∷ Started a2 ∷ said a2 1 Joined
+      ∷ Settled ∷ said b1 2 True ∷ Settled ∷ given (pid a2 1) ∷ said a2 2 False ∷ Settled ∷ [];
+}
+
+-- a lock call is refused while no member has one of its names: until the node that came back has joined
+abbrev pub name_without_a_member : NamedRow
+name_without_a_member = record {
+  opening = names_below 2;
+  limit = 1000;
+  lines = spawn b ∷ leave a ∷ Settle ∷ set_lock_at (pid b1 1) z p (a ∷ b ∷ []) 0 ∷ restart a
+      ∷ set_lock_at (pid b1 1) z p (a ∷ b ∷ []) 0 ∷ join a b1 ∷ Settle ∷ set_lock_at (pid b1 1) z p (a ∷ b ∷ []) 0 ∷ Settle ∷ [];
+  prints = given (pid b1 1) ∷ Okay ∷ Settled ∷ Error (Plain Refusal.UnknownNode) ∷ Started a2 ∷ Error (Plain Refusal.UnknownNode)
+      ∷ said a2 1 Joined ∷ Settled ∷ said b1 1 True ∷ Settled ∷ [];
 }
 
 -- what an older node sent and a running node hasn't read yet stays that node's: here its wish to join, which is dropped, since its

@@ -13,7 +13,7 @@ pub record NamedWorld : Type 0 where
   pub world : World
   pub present : ℕ → ℕ  -- the present creation of each name
 
--- A lock call still names nodes here, as a call of a world does, and not names.
+-- A lock call names names as in a world: each means all its nodes, so that the present one is asked (`named_target`).
 -- An event at the present node of a name; one at a node, as where a process says of which; the delivery of the oldest letter from name to
 -- name; and a name that comes back
 pub data NamedEvent : Type 0 where
@@ -75,8 +75,8 @@ module _ (o : NamedOpening) where
     plain (Deliver f t) = WorldEvent.Deliver (sender_to f t) (present_node t) ∷ []
     plain (Restart x) = map (λ d. WorldEvent.Deliver d (next_node x)) (waiting_for (next_node x))
 
-    -- the refusal of an event of the world; its other node, a contact or a sender, is none if it hasn't started. The nodes that a lock
-    -- call names aren't looked at: one that hasn't started is no member
+    -- the refusal of an event of the world; its other node, a contact or a sender, is none if it hasn't started. What a lock call
+    -- names isn't looked at: a node that hasn't started is no member
     abbrev pub plain_refusal : WorldEvent → Option NamedRefusal
     plain_refusal e = if has_started (other e) then option_map Plain (refusal (opening_of o) w.world e) else Some (Plain NoSuchNode)
 

@@ -1,8 +1,9 @@
 -- Nodes by name and creation. A node name can come back: then its next node starts, of the next creation. A node is one number, made of
 -- its name and its creation, so that all that is said of nodes is said of these.
 -- x and y are node names, c and d creations, of which the first is 1, n is a node.
-use Rattle.std.specs.Prelude.{ℕ, zero, suc, ◌==◌, ◌≡◌, ◌<◌, ◌≤◌, ◌+◌, ◌-◌, ◌*◌, ◌/◌, ◌%◌, ◌^◌, ◌&&◌, ◌⊎◌, ◌↔◌, nat_lt, List, [], ◌∷◌, ◌++◌}
+use Rattle.std.specs.Prelude.{ℕ, zero, suc, ◌==◌, ◌≡◌, ◌<◌, ◌≤◌, ◌+◌, ◌-◌, ◌*◌, ◌/◌, ◌%◌, ◌^◌, ◌&&◌, ◌⊎◌, ◌↔◌, nat_lt, map, List, [], ◌∷◌, ◌++◌}
 use Rattle.registry_model.specs.Process.{Nodes}
+use Rattle.protocol_model.specs.Node.{Target, Named}
 use Rattle.protocol_model.specs.Event.{last_u32}
 use Rattle.protocol_model.specs.World.{Opening, in_world, in_cluster}
 
@@ -36,6 +37,14 @@ module _ (o : NamedOpening) where
   abbrev pub first_nodes : ℕ → ℕ → List ℕ
   first_nodes x zero = []
   first_nodes x (suc k) = first_nodes x k ++ node_of x (suc k) ∷ []
+
+  -- the nodes of x of all creations, rising
+  abbrev pub nodes_of_name : ℕ → List ℕ
+  nodes_of_name x = first_nodes x o.last
+
+  -- what a lock call asks that names these names: at each try the members that have one of them then, of whatever creation
+  abbrev pub named_target : List ℕ → Target
+  named_target xs = Named (map nodes_of_name xs)
 
   -- its nodes are those of all creations: the first ones of the cluster are joined, and all others are lone
   abbrev pub opening_of : Opening

@@ -7,10 +7,11 @@ ghost use Rattle.creations.specs.NamedWorld.{NamedRunsAreRuns};
 ghost use Rattle.creations.specs.Restarts.{NodesAlwaysStand, OlderLettersAreDropped, RestartIsItsNotices, RestartsSayWhy, RestartsStartAnew};
 ghost use Rattle.creations.specs.Inherited.{NothingIsInherited};
 ghost use Rattle.creations.specs.NamedLinks.{LinksAreAlwaysByName};
-ghost use Rattle.creations.specs.NamedRows.{NamedComputes, name_comes_back, restart_waits_for_all, older_node_is_another, older_letters_are_dropped};
+ghost use Rattle.creations.specs.NamedRows.{NamedComputes, name_comes_back, restart_waits_for_all, older_node_is_another, retry_asks_the_new_node, name_without_a_member, older_letters_are_dropped};
 ghost use Rattle.creations.specs.Lifted.{NamedAgreement, NamedExclusion, NamedClientLocks, RestartsAreLegal, AcceptedEventsArePlayed, AnswersStayAtTheirNode};
 ghost use Rattle.creations.specs.NamedLeftovers.{NamedNothingIsLeft};
 ghost use Rattle.creations.specs.NamedQuietCalls.{QuietCallsOfNames};
+ghost use Rattle.creations.specs.NamedCalls.{NamesAlwaysMeanMembers};
 
 /// A name and a creation are one number, and numbers rise by name, then creation.
 pub fn numbers_are_exact()
@@ -103,6 +104,12 @@ pub fn quiet_calls()
     ensures { QuietCallsOfNames }
 {}
 
+/// A lock call by names asks, at a running node, exactly the members that have one of these names then, and misses a member exactly where
+/// one of them is no member's.
+pub fn names_mean_members()
+    ensures { NamesAlwaysMeanMembers }
+{}
+
 /// Nothing is left over there, as in all worlds: once no letter waits for a running node, nobody keeps a lock or a life, nor a name on a
 /// node that has left; once no operation waits for a retry either, no dead process has a name.
 pub fn nothing_is_left()
@@ -114,11 +121,13 @@ pub fn restarts_are_legal()
     ensures { RestartsAreLegal }
 {}
 
-/// Worked scripts, computed: a name comes back, a restart waits until all were told, an older node is another than the present one, and so
-/// are its letters.
+/// Worked scripts, computed: a name comes back, a restart waits until all were told, an older node is another than the present one, a
+/// lock call by names asks the present nodes, and an older node's letters are dropped.
 pub fn names_come_back()
     ensures name_comes_back { NamedComputes name_comes_back }
     ensures restart_waits_for_all { NamedComputes restart_waits_for_all }
     ensures older_node_is_another { NamedComputes older_node_is_another }
+    ensures retry_asks_the_new_node { NamedComputes retry_asks_the_new_node }
+    ensures name_without_a_member { NamedComputes name_without_a_member }
     ensures older_letters_are_dropped { NamedComputes older_letters_are_dropped }
 {}

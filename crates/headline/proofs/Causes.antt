@@ -1,10 +1,9 @@
 -- Which of the causes of an event is the first, and which events have which.
 use Rattle.std.proofs.Common.{ℕ, zero, suc, Bool, true, false, ◌≡◌, ◌==◌, ◌<◌, Some, None, List, [], ◌∷◌, ◌++◌, refl, sym, ap, ◌∙◌, arith}
-use Rattle.std.specs.Prelude.{◌&&◌, ◌||◌, not, is_some, Contains, if◌then◌else◌}
-use Rattle.std.specs.List.{list_any, list_all}
+use Rattle.std.specs.Prelude.{◌||◌, not, is_some, if◌then◌else◌}
+use Rattle.std.specs.List.{list_any}
 use Rattle.std.proofs.lemmas.Bool.{ne_eqb}
-use Rattle.registry_model.specs.Process.{Text, Process, Nodes}
-use Rattle.registry_model.proofs.Lists.{Contains-front, Contains-behind}
+use Rattle.registry_model.specs.Process.{Text, Process}
 use Rattle.registry_model.specs.Call.{Look, Whereis, RegisteredNames, NoticesOf}
 use Rattle.protocol_model.specs.Watch.{is_dead, is_issued}
 use Rattle.protocol_model.specs.Node.{Node, Target, Retries, call_of}
@@ -13,7 +12,6 @@ use Rattle.protocol_model.specs.Fit.{is_numbered}
 use Rattle.protocol_model.specs.World.{World, WorldEvent, At, Deliver, local_causes}
 use Rattle.moves.proofs.Indices.{neither, not_true}
 use Rattle.protocol_model.specs.Refusals.{IsLockCall, Sets, Deletes, NeedsProcess, Exits, Looks}
-use Rattle.headline.proofs.Making.{item_passes}
 
 -- the refusals in the order in which they come
 abbrev pub rank : Refusal → ℕ
@@ -84,25 +82,6 @@ above_zero (suc s) e = omega arith
 
 pub not_zero : (s : ℕ) → 0 < s → not (s == 0) ≡ true
 not_zero s l = ap not (ne_eqb s 0 (λ e. absurd (omega (arith, e, l))))
-
--- a list that has an item outside a set, and the item
-pub some_stranger : (s : Nodes) (xs : List ℕ) → list_all s xs ≡ false → (c : ℕ) × Contains xs c × (s c ≡ false)
-some_stranger s [] e = cc
-some_stranger s (x ∷ xs) e = go (s x) refl e (some_stranger s xs)
-  where
-    go : (b : Bool) → s x ≡ b → (b && list_all s xs) ≡ false
-        → (list_all s xs ≡ false → (c : ℕ) × Contains xs c × (s c ≡ false))
-        → (c : ℕ) × Contains (x ∷ xs) c × (s c ≡ false)
-    go false i h more = (x, Contains-front x xs, i)
-    go true i h more = let y : (c : ℕ) × Contains xs c × (s c ≡ false) = more h in
-        (y.0, Contains-behind x xs y.0 y.1, y.2)
-
-pub stranger_in : (s : Nodes) (xs : List ℕ) (c : ℕ) → Contains xs c → s c ≡ false → list_all s xs ≡ false
-stranger_in s xs c h f = go (list_all s xs) refl
-  where
-    go : (b : Bool) → list_all s xs ≡ b → b ≡ false
-    go true e = cc (item_passes s xs c e h, f)
-    go false e = refl
 
 -- a look-up is refused for its process alone
 look_kind : (kind : Refusal → Bool) → kind NoSuchProcess ≡ false → (a : ℕ) (v : Node) (look : Look)

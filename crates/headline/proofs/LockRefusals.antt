@@ -1,7 +1,7 @@
 -- Why a lock call of a live process is refused: as one of a process that has another which isn't answered yet, on `global`, or as
 -- one that names a stranger.
 use Rattle.std.proofs.Common.{ℕ, Bool, true, false, ◌≡◌, ◌==◌, Some, List, [], ◌∷◌, ◌++◌, refl, sym, ap, ◌∙◌, subst}
-use Rattle.std.specs.Prelude.{not, is_some, Contains}
+use Rattle.std.specs.Prelude.{not, is_some}
 use Rattle.std.proofs.lemmas.Bool.{eqb-true, eqb-false, eq-eqb, ne_eqb}
 use Rattle.registry_model.specs.Process.{Text, Process}
 use Rattle.protocol_model.specs.Watch.{is_live}
@@ -10,8 +10,10 @@ use Rattle.protocol_model.specs.Event.{Call, Event, Refusal, NotLive, Busy, Rese
 use Rattle.protocol_model.specs.World.{Opening, World, WorldEvent, At, left, refusal, local_causes}
 use Rattle.protocol_model.specs.Course.{Played, Seen, standing, seen}
 use Rattle.protocol_model.specs.Refusals.{FindsItsNode, IsLockCall, Sets, IsLiveAt, NamesStranger, HasOpenCall, IsOfBusy, IsForGlobal, IsForStranger}
+use Rattle.protocol_model.specs.SharedLaws.{LacksName}
+use Rattle.protocol_model.proofs.Meanings.{asks_members}
 use Rattle.moves.proofs.Indices.{not_true, not_false}
-use Rattle.headline.proofs.Causes.{is_kind, of_lock, second, cause_behind, cause_here, cause_past, cause_hits, some_stranger, stranger_in, Locking, locking, only_locks, only_sets}
+use Rattle.headline.proofs.Causes.{is_kind, of_lock, second, cause_behind, cause_here, cause_past, cause_hits, Locking, locking, only_locks, only_sets}
 use Rattle.headline.proofs.NextSerial.{Spawned}
 use Rattle.headline.proofs.Unanswered.{CallsSeen}
 use Rattle.headline.proofs.Refusals
@@ -135,10 +137,9 @@ module _ (o : Opening) (ps : List Played) (w : World) (departed : (d : ℕ) → 
   -- of a `set_lock`: as one that names a stranger
   names : (a : ℕ) (target : Target) → names_members (w.node a) target ≡ false → NamesStranger now a target
   names a All n = cc
-  names a (Named nodes) n =
-      let x : (c : ℕ) × Contains nodes c × ((w.node a).replica.members c ≡ false) =
-      some_stranger (w.node a).replica.members nodes n in
-      record { nodes = nodes; named = refl; stranger = x.0; among = x.1; unknown = x.2 }
+  names a (Named xs) n =
+      let x : LacksName (w.node a).replica.members xs = (asks_members.misses (w.node a) xs).0 n in
+      record { names = xs; named = refl; nodes = x.0; among = x.1; unknown = x.2 }
 
   pub to_stranger : (e : WorldEvent) → refusal o w e ≡ Some UnknownNode → IsForStranger o ps now e
   to_stranger e h = record {
@@ -199,4 +200,4 @@ module _ (o : Opening) (ps : List Played) (w : World) (departed : (d : ℕ) → 
 
       unknown : names_members (w.node S.node) S.target ≡ false
       unknown = ap (names_members (w.node S.node)) N.named
-          ∙ stranger_in (w.node S.node).replica.members N.nodes N.stranger N.among N.unknown
+          ∙ (asks_members.misses (w.node S.node) N.names).1 (N.nodes, N.among, N.unknown)

@@ -7,7 +7,8 @@ use Rattle.std.proofs.lemmas.List.Elements.{Contains-push_cases}
 use Rattle.std.proofs.lemmas.List.Folds.{list_all-append}
 use Rattle.registry_model.specs.Process.{Process}
 use Rattle.registry_model.specs.History.{Entry}
-use Rattle.registry_model.proofs.Lists.{Contains-cases, Contains-nil}
+use Rattle.registry_model.proofs.Lists.{Contains-nil}
+use Rattle.protocol_model.proofs.Finding.{item_passes}
 use Rattle.protocol_model.specs.Round.{Round}
 use Rattle.protocol_model.specs.Letter.{Letter}
 use Rattle.protocol_model.specs.Node.{Current}
@@ -22,15 +23,6 @@ use Rattle.walk.proofs.Walk.{OrderedWalk, walked_in_order}
 use Rattle.replicas.proofs.Scenes.{struck_by, struck_of, scene_of, AreStruck}
 use Rattle.join_gates.proofs.Made.{entered, entries_made}
 use Rattle.headline.proofs.Together.{Whole, widens, rule_whole, course_keeps}
-
--- what a list has throughout is so of each of its items
-pub item_passes : {A : Type 0} (test : A → Bool) (xs : List A) (x : A) → list_all test xs ≡ true → Contains xs x
-    → test x ≡ true
-item_passes {A} test [] x e c = absurd (Contains-nil x c)
-item_passes {A} test (y ∷ ys) x e c = elim (Contains-cases y ys x c) [
-  | inl q ↦ subst (λ (z : A). test z ≡ true) q (and_parts (test y) (list_all test ys) e).0
-  | inr d ↦ item_passes test ys x (and_parts (test y) (list_all test ys) e).1 d
-]
 
 -- the entry is of node a, and is made by a letter where it needs one
 abbrev pub is_made : ℕ → Bool → Entry → Bool

@@ -43,7 +43,7 @@ member_near v x h = rw h refl
 
 pub target_member : (members : Nodes) (t : Target) (x : ℕ) → targets members t x ≡ true → members x ≡ true
 target_member members Target.All x h = h
-target_member members (Target.Named nodes) x h = (both (members x) _ h).0
+target_member members (Target.Named names) x h = (both (members x) _ h).0
 
 less_of : (s : Nodes) (d x : ℕ) → at s d false x ≡ true → s x ≡ true
 less_of s d x h = by_test d (λ y t. (if t then false else s y) ≡ true → s y ≡ true) (λ k. cc) (λ y ne k. k) x h

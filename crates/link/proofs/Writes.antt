@@ -8,6 +8,7 @@ use Rattle.registry_model.proofs.Updates.{by_test}
 use Rattle.protocol_model.specs.Links.{Links, posted, taken, closed_out}
 use Rattle.term.specs.declared.node_set.TheConstants.{MOST_NODES}
 use Rattle.link.specs.Held.{Held, IsWhole, place, link_at, seen, only_to}
+use Rattle.link.specs.Reopening.{reopened}
 use Rattle.term.proofs.NodePlaces.{place-Some, one_place}
 use Rattle.link.proofs.Places.{link_at-Some, closed_at-Some, link_at-set, closed_at-set, read_there}
 
@@ -113,3 +114,9 @@ seen-cleared {L} h d j links whole e cleared =
         ≡ (if b then [] else (seen h).queue x y))
         (ap (λ (r : Option ℕ). link_at (place x h.nodes) r links) e ∙ towards x (place x h.nodes) refl)
         (λ y ne. past x y ne (place x h.nodes) (place y h.nodes) refl refl) y
+
+-- a node was reopened: all links are as they were
+pub seen-reopened : {L : Type 0} (h : Held L) (d j : ℕ) → IsWhole h → place d h.nodes ≡ Some j
+    → seen (record h { closed = set h.closed j false }) ≡ reopened d (seen h)
+seen-reopened h d j whole e = ap (λ (c : ℕ → Bool). record { queue = (seen h).queue; closed = c })
+    (fun_ext (λ x. closed_at-set h.nodes h.closed d j false whole.few whole.closed e x))

@@ -2,9 +2,10 @@
 ghost use Rattle.std.specs.Prelude.{ℕ};
 ghost use Rattle.link.specs.Moves.{PrefixesAreDelivered, StampedPrefixesAreDelivered};
 
-/// What is taken in order is what ordered links deliver: where of each pair of nodes a beginning of what was put was taken, and nothing by
-/// a node once it was closed out, then in any one list of all that, in which at no point more of a pair was taken than put, each letter
-/// that is taken is the oldest on its link.
+/// What is taken in order is what ordered links deliver: where of each pair of nodes a beginning of what was put was taken, from the start
+/// and anew from each reopening of a receiver that was closed out, and nothing by a node between its closing and its reopening, then in any
+/// one list of all that, in which at no point more of a pair was taken than put since then, each letter that is taken is the oldest on its
+/// link.
 pub fn prefixes_are_delivered<L>()
     ensures { PrefixesAreDelivered L }
 {}

@@ -8,12 +8,12 @@ use crate::link::Link;
 use crate::link_place::LinkPlace;
 use std::alloc::{AllocError, Global};
 use std::marker::Model;
-use term::{MOST_NODES, NodeName};
+use term::{MOST_NODES, Node};
 
 /// One link for each ordered pair of nodes.
 #[derive(Drop)]
 pub struct Mesh<L> {
-    nodes: Vec<NodeName>,
+    nodes: Vec<Node>,
     links: Vec<Link<L>>,
     closed: [bool; MOST_NODES],
 }
@@ -29,7 +29,7 @@ impl<L> Model for Mesh<L> {
 }
 
 /// Whether each node is less than the next.
-pub fn are_rising(nodes: &[NodeName]) -> bool
+pub fn are_rising(nodes: &[Node]) -> bool
     ensures { IsTrue result ↔ IsStrictlyIncreasing nodes.now }
 {
     for place in 1..nodes.len() {
@@ -41,7 +41,7 @@ pub fn are_rising(nodes: &[NodeName]) -> bool
 }
 
 /// A list of the same nodes.
-fn copied(alloc: Global, nodes: &[NodeName]) -> Result<Vec<NodeName>, AllocError>
+fn copied(alloc: Global, nodes: &[Node]) -> Result<Vec<Node>, AllocError>
     ensures { IfOk result (λ copy. copy.items ≡ nodes.now) }
 {
     let mut copy = Vec::new(alloc);
@@ -64,7 +64,7 @@ fn new_links<L: Drop>(alloc: Global) -> Result<Vec<Link<L>>, AllocError>
 }
 
 /// The place of a node among these.
-fn place_of(nodes: &[NodeName], node: &NodeName) -> Option<usize>
+fn place_of(nodes: &[Node], node: &Node) -> Option<usize>
     ensures { result ≡ place node.now nodes.now }
 {
     nodes.iter().position(|own| *own == *node)
@@ -91,9 +91,10 @@ impl<L: Drop> Mesh<L> {
     ghost use Rattle.protocol_model.specs.Links.{no_letters, posted, taken, closed_out, is_nil};
     ghost use Rattle.link.specs.Held.{place, has, seen, only_to, node_at, from_of, to_of, IsWithin, WaitsFrom, WaitsFirst, WaitsFirstOn, WaitsTowards};
     ghost use Rattle.link.specs.Faults.{joins, IsLinkOf, IsUnsent, IsUndelivered, IsStranger};
+    ghost use Rattle.link.specs.Reopening.{reopened};
 
     /// Links without letters between these nodes, which rise.
-    pub fn new(alloc: Global, nodes: &[NodeName]) -> Result<Mesh<L>, AllocError>
+    pub fn new(alloc: Global, nodes: &[Node]) -> Result<Mesh<L>, AllocError>
         requires rising { IsStrictlyIncreasing nodes.now }
         requires few { length nodes.now ≤ MOST_NODES }
         ensures nodes { IfOk result (λ mesh. mesh.nodes ≡ nodes.now) }
@@ -107,14 +108,14 @@ impl<L: Drop> Mesh<L> {
     }
 
     /// The place of a node.
-    pub fn place(&self, node: &NodeName) -> Option<usize>
+    pub fn place(&self, node: &Node) -> Option<usize>
         ensures { result ≡ place node.now self.now.nodes }
     {
         place_of(self.nodes.as_slice(), node)
     }
 
     /// The link from one node to another, if both are of the mesh.
-    pub fn link(&self, from: &NodeName, to: &NodeName) -> Option<LinkPlace>
+    pub fn link(&self, from: &Node, to: &Node) -> Option<LinkPlace>
         ensures { IsLinkOf result from.now to.now self.now }
     {
         let sender = self.place(from)?;
@@ -123,7 +124,7 @@ impl<L: Drop> Mesh<L> {
     }
 
     /// The nodes that a link is from and to.
-    pub fn ends(&self, link: LinkPlace) -> (NodeName, NodeName)
+    pub fn ends(&self, link: LinkPlace) -> (Node, Node)
         requires { IsWithin link self.now }
         ensures { result ≡ (from_of link self.now, to_of link self.now) }
     {
@@ -134,7 +135,7 @@ impl<L: Drop> Mesh<L> {
     }
 
     /// Puts a letter at the back of a link. What goes to a node that was closed out vanishes.
-    pub fn send(&mut self, from: &NodeName, to: &NodeName, letter: L) -> Result<(), Unsent<L>>
+    pub fn send(&mut self, from: &Node, to: &Node, letter: L) -> Result<(), Unsent<L>>
         ensures nodes { self.new.nodes ≡ self.old.nodes }
         ensures known { OnOk result (joins from.now to.now self.old ≡ true) }
         ensures ok { OnOk result (seen self.new ≡ posted from.now (only_to to.now letter) (seen self.old)) }
@@ -152,7 +153,7 @@ impl<L: Drop> Mesh<L> {
     }
 
     /// Puts a letter at the back of the link from the node at this place, as `send` does.
-    pub fn send_from(&mut self, sender: usize, to: &NodeName, letter: L) -> Result<(), Unsent<L>>
+    pub fn send_from(&mut self, sender: usize, to: &Node, letter: L) -> Result<(), Unsent<L>>
         requires { sender < length self.old.nodes }
         ensures nodes { self.new.nodes ≡ self.old.nodes }
         ensures known { OnOk result (has to.now self.old ≡ true) }
@@ -174,7 +175,7 @@ impl<L: Drop> Mesh<L> {
     }
 
     /// The oldest letter on a link.
-    pub fn front(&self, from: &NodeName, to: &NodeName) -> Option<&L>
+    pub fn front(&self, from: &Node, to: &Node) -> Option<&L>
         ensures { option_copied result ≡ slice_get ((seen self.now).queue from.now to.now) 0 }
     {
         self.front_at(self.link(from, to)?)
@@ -189,7 +190,7 @@ impl<L: Drop> Mesh<L> {
     }
 
     /// Whether nothing is on a link.
-    pub fn is_empty(&self, from: &NodeName, to: &NodeName) -> bool
+    pub fn is_empty(&self, from: &Node, to: &Node) -> bool
         ensures { result ≡ is_nil ((seen self.now).queue from.now to.now) }
     {
         match self.link(from, to) {
@@ -207,7 +208,7 @@ impl<L: Drop> Mesh<L> {
     }
 
     /// Takes the oldest letter off a link.
-    pub fn deliver(&mut self, from: &NodeName, to: &NodeName) -> Result<L, LinkFault>
+    pub fn deliver(&mut self, from: &Node, to: &Node) -> Result<L, LinkFault>
         ensures nodes { self.new.nodes ≡ self.old.nodes }
         ensures known { OnOk result (joins from.now to.now self.old ≡ true) }
         ensures oldest { IfOk result (λ letter. slice_get ((seen self.old).queue from.now to.now) 0 ≡ Some letter) }
@@ -235,8 +236,8 @@ impl<L: Drop> Mesh<L> {
         self.links[link.index()].pop()
     }
 
-    /// Empties all links towards a node, for good: what is sent to it from now on vanishes.
-    pub fn close_out(&mut self, node: &NodeName) -> Result<(), LinkFault>
+    /// Empties all links towards a node: what is sent to it vanishes, until it is reopened.
+    pub fn close_out(&mut self, node: &Node) -> Result<(), LinkFault>
         ensures nodes { self.new.nodes ≡ self.old.nodes }
         ensures known { OnOk result (has node.now self.old ≡ true) }
         ensures ok { OnOk result (seen self.new ≡ closed_out node.now (seen self.old)) }
@@ -248,6 +249,21 @@ impl<L: Drop> Mesh<L> {
         };
         clear_towards(self.links.as_mut_slice(), receiver);
         self.closed[receiver] = true;
+        Ok(())
+    }
+
+    /// Opens a node that was closed out: what is sent to it from now on is put on its links again. All links stay as they are.
+    pub fn reopen(&mut self, node: &Node) -> Result<(), LinkFault>
+        ensures nodes { self.new.nodes ≡ self.old.nodes }
+        ensures known { OnOk result (has node.now self.old ≡ true) }
+        ensures ok { OnOk result (seen self.new ≡ reopened node.now (seen self.old)) }
+        ensures unchanged { OnErr result (self.new ≡ self.old) }
+        ensures err { IfErr result (λ fault. IsStranger fault node.now self.old) }
+    {
+        let Some(place) = self.place(node) else {
+            return Err(LinkFault::NoSuchNode);
+        };
+        self.closed[place] = false;
         Ok(())
     }
 
@@ -265,7 +281,7 @@ impl<L: Drop> Mesh<L> {
     }
 
     /// The least node from which a letter waits for this one.
-    pub(crate) fn first_sender(&self, to: &NodeName) -> Option<NodeName>
+    pub(crate) fn first_sender(&self, to: &Node) -> Option<Node>
         ensures { WaitsTowards to.now result self.now }
     {
         for place in 0..self.nodes.len() {
@@ -278,7 +294,7 @@ impl<L: Drop> Mesh<L> {
     }
 
     /// Whether a node was closed out.
-    pub fn is_closed(&self, node: &NodeName) -> bool
+    pub fn is_closed(&self, node: &Node) -> bool
         ensures { result ≡ (seen self.now).closed node.now }
     {
         match self.place(node) {
@@ -288,7 +304,7 @@ impl<L: Drop> Mesh<L> {
     }
 
     /// The first link, by sender and then receiver, on which a letter waits.
-    pub fn first_waiting(&self) -> Option<(NodeName, NodeName)>
+    pub fn first_waiting(&self) -> Option<(Node, Node)>
         ensures { WaitsFirst result self.now }
     {
         Some(self.ends(self.first_link()?))

@@ -5,12 +5,12 @@ ghost use Rattle.std.specs.Borrow.{sem};
 use crate::faults::{LinkFault, Unsent};
 use crate::mesh::Mesh;
 use crate::station::{Inbox, Post, Station};
-use term::NodeName;
+use term::Node;
 
 /// A node's end of a mesh, lent by it. The mesh is then as the end left it.
 #[derive(Drop)]
 pub struct MeshEnd<'a, L> {
-    node: NodeName,
+    node: Node,
     mesh: &'a mut Mesh<L>,
 }
 
@@ -23,7 +23,7 @@ impl<L: Drop> Mesh<L> {
     ghost use Rattle.link.specs.MeshEnds.{node_of, mesh_of, lender_of};
 
     /// Lends the mesh as one node's end of it.
-    pub fn end(&mut self, node: &NodeName) -> Result<MeshEnd<'_, L>, LinkFault>
+    pub fn end(&mut self, node: &Node) -> Result<MeshEnd<'_, L>, LinkFault>
         ensures* refused { sem 𝓛 (RestsIfErr (the_row L.row) self.entry lender_of result (λ mesh. mesh ≡ self.old)) }
         ensures same_reference { IfOk result (λ end. lender_of end ≡ self.entry.ghost_name) }
         ensures known { OnOk result (has node.now self.old ≡ true) }
@@ -54,7 +54,7 @@ impl<'a, L: Drop> Post<L> for MeshEnd<'a, L> {
 
     ghost refuses = { Refuses };
 
-    fn send(&mut self, to: &NodeName, letter: L) -> Result<(), Unsent<L>> {
+    fn send(&mut self, to: &Node, letter: L) -> Result<(), Unsent<L>> {
         self.mesh.send(&self.node, to, letter)
     }
 }
@@ -68,7 +68,7 @@ impl<'a, L: Drop> Inbox<L> for MeshEnd<'a, L> {
 
     ghost fails = { Fails };
 
-    fn take(&mut self) -> Result<Option<(NodeName, L)>, LinkFault> {
+    fn take(&mut self) -> Result<Option<(Node, L)>, LinkFault> {
         let Some(from) = self.mesh.first_sender(&self.node) else {
             return Ok(None);
         };

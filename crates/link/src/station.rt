@@ -3,7 +3,7 @@ ghost use Rattle.std.specs.Prelude.{ℕ, ◌≡◌, MatchResult, MatchOption};
 ghost use Rattle.link.specs.declared.faults.LinkFault.{LinkFault as Why};
 
 use crate::faults::{LinkFault, Unsent};
-use term::NodeName;
+use term::Node;
 
 /// A node's end of its links: what its sends and takings change.
 pub trait Station {
@@ -22,7 +22,7 @@ pub trait Post<L>: Station {
     ghost refuses: { Self.State → ℕ → L → Why → Type 0 };
 
     /// Sends a letter, or hands it back.
-    fn send(&mut self, to: &NodeName, letter: L) -> Result<(), Unsent<L>>
+    fn send(&mut self, to: &Node, letter: L) -> Result<(), Unsent<L>>
         ensures { MatchResult result
             (λ _. posts (Self.state self.old) to.now letter (Self.state self.new))
             (λ unsent. (unsent.letter ≡ letter) × (Self.state self.new ≡ Self.state self.old)
@@ -41,7 +41,7 @@ pub trait Inbox<L>: Station {
     ghost fails: { Self.State → Why → Type 0 };
 
     /// Takes a letter, if it finds any, and says who sent it.
-    fn take(&mut self) -> Result<Option<(NodeName, L)>, LinkFault>
+    fn take(&mut self) -> Result<Option<(Node, L)>, LinkFault>
         ensures { MatchResult result
             (λ found. MatchOption found
             ((Self.state self.new ≡ Self.state self.old) × misses (Self.state self.old))

@@ -1,7 +1,7 @@
 //! Meshes of a few nodes and their ends, row by row.
 use link::{Inbox, LinkFault, Mesh, Post, Unsent, are_rising};
 use std::alloc::{AllocError, Global};
-use term::{MOST_NODES, NodeName, NodeNames, parse_node, parse_nodes};
+use term::{MOST_NODES, Node, NodeSet, parse_node, parse_nodes};
 
 /// What is asked of a mesh, and what comes of it.
 #[derive(Clone, Copy)]
@@ -63,14 +63,10 @@ fn is_sent(alloc: Global, sent: Result<(), Unsent<u32>>, row: Row<'_>) -> bool {
 }
 
 /// Whether this letter was taken, behind its sender, or `none`, or this fault came of it.
-fn is_taken(
-    alloc: Global,
-    taken: Result<Option<(NodeName, u32)>, LinkFault>,
-    wanted: &str,
-) -> bool {
+fn is_taken(alloc: Global, taken: Result<Option<(Node, u32)>, LinkFault>, wanted: &str) -> bool {
     match (taken, wanted.split_once(' ')) {
         (Ok(Some((from, letter))), Some((sender, number))) => {
-            from.as_str() == sender && is_letter(letter, number)
+            from.name().as_str() == sender && is_letter(letter, number)
         }
         (Ok(None), None) => wanted == "none",
         (Err(fault), None) => is_fault(alloc, fault, wanted),
@@ -79,23 +75,17 @@ fn is_taken(
 }
 
 /// Sends over any links.
-fn send_by<E: Post<u32>>(end: &mut E, to: &NodeName, letter: u32) -> Result<(), Unsent<u32>> {
+fn send_by<E: Post<u32>>(end: &mut E, to: &Node, letter: u32) -> Result<(), Unsent<u32>> {
     end.send(to, letter)
 }
 
 /// Takes from any links.
-fn take_by<E: Inbox<u32>>(end: &mut E) -> Result<Option<(NodeName, u32)>, LinkFault> {
+fn take_by<E: Inbox<u32>>(end: &mut E) -> Result<Option<(Node, u32)>, LinkFault> {
     end.take()
 }
 
 /// Whether the end of a node sends a letter so.
-fn end_sends(
-    alloc: Global,
-    mesh: &mut Mesh<u32>,
-    from: &NodeName,
-    to: &NodeName,
-    row: Row<'_>,
-) -> bool {
+fn end_sends(alloc: Global, mesh: &mut Mesh<u32>, from: &Node, to: &Node, row: Row<'_>) -> bool {
     match mesh.end(from) {
         Ok(mut end) => is_sent(alloc, send_by(&mut end, to, row.letter), row),
         Err(fault) => is_fault(alloc, fault, row.wanted),
@@ -103,7 +93,7 @@ fn end_sends(
 }
 
 /// Whether the end of a node takes a letter so.
-fn end_takes(alloc: Global, mesh: &mut Mesh<u32>, node: &NodeName, wanted: &str) -> bool {
+fn end_takes(alloc: Global, mesh: &mut Mesh<u32>, node: &Node, wanted: &str) -> bool {
     match mesh.end(node) {
         Ok(mut end) => is_taken(alloc, take_by(&mut end), wanted),
         Err(fault) => is_fault(alloc, fault, wanted),
@@ -127,13 +117,7 @@ fn is_front(front: Option<&u32>, wanted: &str) -> bool {
 }
 
 /// Whether what is asked of a link comes out so: of the mesh, or of the sender's end of it.
-fn link_answers(
-    alloc: Global,
-    mesh: &mut Mesh<u32>,
-    from: &NodeName,
-    to: &NodeName,
-    row: Row<'_>,
-) -> bool {
+fn link_answers(alloc: Global, mesh: &mut Mesh<u32>, from: &Node, to: &Node, row: Row<'_>) -> bool {
     match row.word {
         "send" => is_sent(alloc, mesh.send(from, to, row.letter), row),
         "end" => end_sends(alloc, mesh, from, to, row),
@@ -143,19 +127,20 @@ fn link_answers(
     }
 }
 
-/// Whether a node is closed out, as `ok` tells, or this fault comes of it.
-fn is_closed_out(alloc: Global, closed: Result<(), LinkFault>, wanted: &str) -> bool {
-    match closed {
+/// Whether a node is closed out or reopened, as `ok` tells, or this fault comes of it.
+fn is_changed(alloc: Global, changed: Result<(), LinkFault>, wanted: &str) -> bool {
+    match changed {
         Ok(()) => wanted == "ok",
         Err(fault) => is_fault(alloc, fault, wanted),
     }
 }
 
 /// Whether what is asked of a node comes out so.
-fn node_answers(alloc: Global, mesh: &mut Mesh<u32>, node: &NodeName, row: Row<'_>) -> bool {
+fn node_answers(alloc: Global, mesh: &mut Mesh<u32>, node: &Node, row: Row<'_>) -> bool {
     match row.word {
         "take" => end_takes(alloc, mesh, node, row.wanted),
-        "close" => is_closed_out(alloc, mesh.close_out(node), row.wanted),
+        "close" => is_changed(alloc, mesh.close_out(node), row.wanted),
+        "reopen" => is_changed(alloc, mesh.reopen(node), row.wanted),
         _ => row.word == "closed" && is_told(mesh.is_closed(node), row.wanted),
     }
 }
@@ -164,7 +149,7 @@ fn node_answers(alloc: Global, mesh: &mut Mesh<u32>, node: &NodeName, row: Row<'
 fn is_waiting(mesh: &Mesh<u32>, wanted: &str) -> bool {
     match (mesh.first_waiting(), wanted.split_once(' ')) {
         (Some((from, to)), Some((sender, receiver))) => {
-            from.as_str() == sender && to.as_str() == receiver
+            from.name().as_str() == sender && to.name().as_str() == receiver
         }
         (None, None) => wanted == "none",
         _ => false,
@@ -180,8 +165,16 @@ fn holds(alloc: Global, mesh: &mut Mesh<u32>, row: Row<'_>) -> bool {
     }
 }
 
+/// The nodes of a list of names.
+fn set_of(list: &str) -> NodeSet {
+    match parse_nodes(list) {
+        Ok(names) => NodeSet::first_of(&names),
+        Err(_) => NodeSet::empty(),
+    }
+}
+
 /// A mesh of these nodes.
-fn mesh_of(alloc: Global, nodes: &NodeNames) -> Option<Mesh<u32>> {
+fn mesh_of(alloc: Global, nodes: &NodeSet) -> Option<Mesh<u32>> {
     let nodes = nodes.as_slice();
     if nodes.len() > MOST_NODES || !are_rising(nodes) {
         return None;
@@ -191,7 +184,7 @@ fn mesh_of(alloc: Global, nodes: &NodeNames) -> Option<Mesh<u32>> {
 
 /// The first row that doesn't hold, in a mesh of these nodes.
 fn first_wrong<'a>(alloc: Global, list: &str, script: &'a str) -> Option<&'a str> {
-    let nodes = parse_nodes(list).unwrap_or(NodeNames::empty());
+    let nodes = set_of(list);
     let Some(mut mesh) = mesh_of(alloc, &nodes) else {
         return Some("no mesh");
     };
@@ -250,6 +243,39 @@ end b a 8=ok
 take a=b 8
 ";
 
+/// What is sent to a node once it is reopened is taken in order, and nothing of what was sent before. To reopen it again, or another,
+/// changes nothing.
+const REOPENED: &str = "\
+send a b 1=ok
+send b a 2=ok
+close b=ok
+send a b 3=ok
+send b a 4=ok
+reopen a=ok
+closed b=true
+reopen b=ok
+closed b=false
+deliver a b=empty_link
+send a b 5=ok
+end b b 6=ok
+send a b 7=ok
+deliver a b=5
+reopen b=ok
+closed b=false
+front a b=7
+take b=a 7
+take b=b 6
+take b=none
+deliver b a=2
+deliver b a=4
+close b=ok
+send a b 8=ok
+reopen b=ok
+send a b 9=ok
+deliver a b=9
+waiting=none
+";
+
 /// Of a node that is none of the mesh's nothing is taken.
 const STRANGERS: &str = "\
 send a x 7=no_such_node
@@ -262,6 +288,7 @@ front x a=none
 empty a x=true
 empty x x=true
 close x=no_such_node
+reopen x=no_such_node
 closed x=false
 end x a 1=no_such_node
 end a x 2=no_such_node
@@ -289,6 +316,7 @@ deliver a c=3
 fn sends_and_delivers(rt: HostRuntime) {
     assert_eq!(rt; first_wrong(rt.alloc(), "a,b", ORDERED), None);
     assert_eq!(rt; first_wrong(rt.alloc(), "a,b", CLOSED), None);
+    assert_eq!(rt; first_wrong(rt.alloc(), "a,b", REOPENED), None);
     assert_eq!(rt; first_wrong(rt.alloc(), "a", STRANGERS), None);
     assert_eq!(rt; first_wrong(rt.alloc(), "a,b,c", TAKEN), None);
     assert!(rt; is_fault(rt.alloc(), LinkFault::Full, "full"));
@@ -296,7 +324,7 @@ fn sends_and_delivers(rt: HostRuntime) {
 }
 
 /// Whether one end of a mesh sends and takes by turns.
-fn is_used_again(alloc: Global, mesh: &mut Mesh<u32>, a: &NodeName, b: &NodeName) -> bool {
+fn is_used_again(alloc: Global, mesh: &mut Mesh<u32>, a: &Node, b: &Node) -> bool {
     match mesh.end(a) {
         Ok(mut end) => {
             end.send(a, 1).is_ok()
@@ -310,24 +338,24 @@ fn is_used_again(alloc: Global, mesh: &mut Mesh<u32>, a: &NodeName, b: &NodeName
 }
 
 /// Whether the mesh is then as its end left it.
-fn is_left(alloc: Global, mesh: &mut Mesh<u32>, a: &NodeName, b: &NodeName) -> bool {
+fn is_left(alloc: Global, mesh: &mut Mesh<u32>, a: &Node, b: &Node) -> bool {
     is_used_again(alloc, mesh, a, b)
         && is_delivered(alloc, mesh.deliver(a, b), "2")
         && is_delivered(alloc, mesh.deliver(a, b), "3")
 }
 
 /// Whether nodes rise where each is less than the next.
-fn are_judged(a: NodeName, b: NodeName) -> bool {
+fn are_judged(a: Node, b: Node) -> bool {
     !are_rising(&[b.copy(), a.copy()]) && !are_rising(&[a.copy(), a.copy()]) && are_rising(&[a, b])
 }
 
 #[test]
 fn an_end_is_used_many_times(rt: HostRuntime) {
-    let (Ok(a), Ok(b), Ok(nodes)) = (parse_node("a"), parse_node("b"), parse_nodes("a,b")) else {
+    let (Ok(a), Ok(b)) = (parse_node("a"), parse_node("b")) else {
         assert!(rt; false);
         return;
     };
-    match mesh_of(rt.alloc(), &nodes) {
+    match mesh_of(rt.alloc(), &set_of("a,b")) {
         Some(mut mesh) => assert!(rt; is_left(rt.alloc(), &mut mesh, &a, &b)),
         None => assert!(rt; false),
     }

@@ -1,14 +1,14 @@
 //! Trays over an end that takes so many letters.
 use link::{LinkFault, Post, Station, Unsent};
 use std::alloc::Global;
-use term::{NodeName, NodeSet, parse_node, parse_nodes};
+use term::{Node, NodeSet, parse_node, parse_nodes};
 use tray::Tray;
 
 /// An end that takes so many letters more, and keeps them with their receivers.
 #[derive(Drop)]
 struct Narrow {
     room: usize,
-    sent: Vec<(NodeName, u32)>,
+    sent: Vec<(Node, u32)>,
 }
 
 impl Station for Narrow {
@@ -22,7 +22,7 @@ impl Post<u32> for Narrow {
 
     ghost refuses = { λ s to letter fault. Unit {0} };
 
-    fn send(&mut self, to: &NodeName, letter: u32) -> Result<(), Unsent<u32>> {
+    fn send(&mut self, to: &Node, letter: u32) -> Result<(), Unsent<u32>> {
         let fault = LinkFault::Full;
         if self.room == 0 || self.sent.reserve(1).is_err() {
             return Err(Unsent { fault, letter });
@@ -55,7 +55,7 @@ fn is_refused(tray: &mut Tray<u32>, to: &str, letter: u32) -> bool {
 /// Whether this is the letter that was sent at a place.
 fn is_sent(narrow: &Narrow, place: usize, to: &str, letter: u32) -> bool {
     match narrow.sent.get(place) {
-        Some((receiver, number)) => receiver.as_str() == to && *number == letter,
+        Some((receiver, number)) => receiver.name().as_str() == to && *number == letter,
         None => false,
     }
 }

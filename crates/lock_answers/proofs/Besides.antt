@@ -1,12 +1,11 @@
 -- Parts of a step that are of no lock call: none answers `true`.
-use Rattle.std.proofs.Common.{ℕ, Bool, true, false, ◌==◌, ◌≡◌, Option, Some, None, List, [], ◌∷◌, refl, sym, ap, ◌∙◌, subst, inl, inr}
-use Rattle.std.specs.Prelude.{◌||◌, Contains, if◌then◌else◌}
+use Rattle.std.proofs.Common.{ℕ, Bool, true, false, ◌==◌, ◌≡◌, Option, Some, None, List, [], ◌∷◌, refl, sym, ◌∙◌, subst}
+use Rattle.std.specs.Prelude.{if◌then◌else◌}
 use Rattle.std.specs.List.{list_any}
 use Rattle.registry_model.specs.Process.{Nodes, at}
 use Rattle.registry_model.specs.Call.{Reply, True, ContactLeft, is_reply, is_grant, reply_to, change_of}
 use Rattle.registry_model.specs.Settlement.{settle}
 use Rattle.registry_model.specs.History.{Entry}
-use Rattle.registry_model.proofs.Lists.{Contains-cases, Contains-front, Contains-behind, Contains-nil}
 use Rattle.protocol_model.specs.Round.{Round, is_empty, asked, down, is_over, Ending, Held, GiveBack, ending}
 use Rattle.protocol_model.specs.Watch.{owed}
 use Rattle.protocol_model.specs.Node.{Node, Op, Current}
@@ -25,33 +24,6 @@ has_reply test ss = list_any (λ s. test s.reply) ss
 
 abbrev pub is_true : Reply → Bool
 is_true r = is_reply r True
-
--- what is contained and passes is found
-pub found_any : {A : Type 0} (test : A → Bool) (xs : List A) (x : A) → Contains xs x → test x ≡ true
-    → list_any test xs ≡ true
-found_any test [] x c h = absurd (Contains-nil x c)
-found_any {A} test (y ∷ xs) x c h = elim (Contains-cases y xs x c) [
-  | inl e ↦ ap (λ (b : Bool). b || list_any test xs) (ap test e ∙ h)
-  | inr d ↦ go (test y) (found_any test xs x d h)
-]
-  where
-    go : (b : Bool) → list_any test xs ≡ true → (b || list_any test xs) ≡ true
-    go true k = refl
-    go false k = k
-
--- and what is found is contained
-pub any_found : {A : Type 0} (test : A → Bool) (xs : List A) → list_any test xs ≡ true
-    → (x : A) × Contains xs x × (test x ≡ true)
-any_found test [] h = cc
-any_found {A} test (x ∷ xs) h = go (test x) refl h (any_found test xs)
-  where
-    go : (b : Bool) → test x ≡ b → (b || list_any test xs) ≡ true
-        → (list_any test xs ≡ true → (y : A) × Contains xs y × (test y ≡ true))
-        → (y : A) × Contains (x ∷ xs) y × (test y ≡ true)
-    go true e k more = (x, Contains-front x xs, e)
-    go false e k more =
-        let one : (y : A) × Contains xs y × (test y ≡ true) = more k in
-        (one.0, Contains-behind x xs one.0 one.1, one.2)
 
 -- the start of the next operation answers `contact_left` alone
 pub start_adds : (test : Answer → Bool) → ((b k : ℕ) → test (answer_to b k ContactLeft) ≡ false) → (n a : ℕ) (u : Turn)

@@ -41,7 +41,7 @@ use Rattle.leftovers.proofs.Rest.{Rests}
 use Rattle.leftovers.proofs.RestEvents.{AllRest, all_rest_keeps}
 use Rattle.lock_answers.proofs.LastTry.{last_of, last_by, last_of_tries, tries_behind}
 use Rattle.lock_answers.proofs.Winning.{Ground, AsksMember, are_quiet, asks_by, own_call, chain_won}
-use Rattle.lock_answers.proofs.Besides.{found_any}
+use Rattle.protocol_model.proofs.Finding.{found_any}
 use Rattle.lock_answers.proofs.Notices.{asks_in}
 use Rattle.lock_answers.proofs.NoticeTurns.{behind, behind_wins}
 use Rattle.lock_answers.proofs.GrantEvents.{quiet_or_notice, notice_turn, ground_run}

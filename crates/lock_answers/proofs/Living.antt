@@ -45,7 +45,7 @@ use Rattle.leftovers.proofs.Grounds.{Base, wide, base_keeps, replicas}
 use Rattle.leftovers.proofs.Callers.{IsCalledBy, called_longer, last_called}
 use Rattle.leftovers.proofs.Unanswered.{open_waits}
 use Rattle.lock_answers.proofs.Winning.{Ground}
-use Rattle.lock_answers.proofs.Besides.{found_any}
+use Rattle.protocol_model.proofs.Finding.{found_any}
 use Rattle.lock_answers.proofs.GrantEvents.{ground_run}
 use Rattle.lock_answers.proofs.Pushed.{events_push, answers_turn, happens_now, answer_place}
 use Rattle.lock_answers.proofs.Spared.{is_lock_answer, letter_watch}

@@ -30,7 +30,8 @@ use Rattle.leftovers.proofs.RestCalls.{among_found}
 use Rattle.leftovers.proofs.RestWork
 use Rattle.leftovers.proofs.RestWork.{lose-same}
 use Rattle.lock_answers.proofs.Clear.{ClearIn, ClearAt}
-use Rattle.lock_answers.proofs.Besides.{is_true, found_any, any_found, start_adds, start_part, plain_lose}
+use Rattle.protocol_model.proofs.Finding.{found_any, any_found}
+use Rattle.lock_answers.proofs.Besides.{is_true, start_adds, start_part, plain_lose}
 use Rattle.lock_answers.proofs.Notices.{asks_in, LostAll, ClearAll, all_lost}
 
 -- a call among ordered ones is open

@@ -26,7 +26,8 @@ use Rattle.moves.proofs.Indices.{both}
 use Rattle.leftovers.proofs.Doomed.{start-watch}
 use Rattle.leftovers.proofs.Turns.{push_none}
 use Rattle.leftovers.proofs.Answering.{is_true, any_true}
-use Rattle.lock_answers.proofs.Besides.{found_any, any_found, start_adds}
+use Rattle.protocol_model.proofs.Finding.{found_any, any_found}
+use Rattle.lock_answers.proofs.Besides.{start_adds}
 use Rattle.lock_answers.proofs.Verdicts.{is_verdict}
 
 -- it answers a lock call

@@ -150,7 +150,6 @@ fn asks_again(alloc: Global, node: &Node) -> bool {
 fn keeps_one_call_of_a_process(rt: HostRuntime) {
     match (parse_node("a"), parse_node("b")) {
         (Ok(a), Ok(b)) => {
-            let (a, b) = (Node::first(a), Node::first(b));
             assert!(rt; keep_one(rt.alloc(), &a, &b));
             assert!(rt; tell_waiting(rt.alloc(), &a));
             assert!(rt; copies(rt.alloc(), &process(&a, 1)));

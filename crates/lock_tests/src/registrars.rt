@@ -74,7 +74,6 @@ fn is_copied(op: &Op) -> bool {
 fn admission_is_copied(alloc: Global) -> bool {
     match (parse_node("b"), pair("b.1")) {
         (Ok(joiner), Some(pair)) => {
-            let joiner = Node::first(joiner);
             let mut pairs = Vec::new(alloc);
             pairs.push(pair).is_ok() && is_copied(&Op::Admission(joiner, pairs))
         }
@@ -94,7 +93,7 @@ fn carries_out(alloc: Global, call: &NameCall) -> bool {
         (Ok(both), Ok(a), Ok(b)) => {
             let both = NodeSet::first_of(&both);
             starts(&mut registrar, call)
-                && awaits(&mut registrar, &both, &Node::first(a), &Node::first(b))
+                && awaits(&mut registrar, &both, &a, &b)
                 && copy_goes_on(&registrar, call)
                 && goes_on(&mut registrar, call)
         }

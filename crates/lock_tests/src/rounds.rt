@@ -54,7 +54,7 @@ fn holds(round: &mut Round, row: &str) -> bool {
         return ends(round, of, wanted);
     }
     match parse_node(of) {
-        Ok(node) => node_holds(round, word, &Node::first(node), wanted),
+        Ok(node) => node_holds(round, word, &node, wanted),
         Err(_) => false,
     }
 }

@@ -4,7 +4,7 @@ ghost use Rattle.transaction.specs.Counts.{set_replies, deletion_replies};
 
 use std::alloc::Global;
 use std::test::Fail;
-use term::{LockId, Node, NodeNames, parse_node, parse_nodes};
+use term::{LockId, NodeNames, parse_node, parse_node_name, parse_nodes};
 use transaction::{LockReply, LockSeat, Nodes, Outcome, Retries, TransFault, trans};
 
 /// A seat that is told beforehand what its calls come to.
@@ -126,7 +126,7 @@ fn nests(alloc: Global, id: &LockId) -> bool {
 
 #[test]
 fn works_under_the_lock(rt: HostRuntime) -> Result<(), Fail> {
-    let id = LockId::global(&Node::first(parse_node("a")?));
+    let id = LockId::global(&parse_node("a")?);
     assert!(rt; works(rt.alloc(), &id));
     assert!(rt; aborts(rt.alloc(), &id));
     assert!(rt; fails(rt.alloc(), &id));
@@ -137,7 +137,7 @@ fn works_under_the_lock(rt: HostRuntime) -> Result<(), Fail> {
 
 /// Whether nodes of a set of one are that one, and so are their copy.
 fn names_one(alloc: Global, text: &str) -> bool {
-    let (Ok(node), Ok(names)) = (parse_node(text), parse_nodes(text)) else {
+    let (Ok(node), Ok(names)) = (parse_node_name(text), parse_nodes(text)) else {
         return false;
     };
     match Nodes::named(alloc, names) {

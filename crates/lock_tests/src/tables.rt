@@ -1,7 +1,7 @@
 //! Lock tables, row by row.
 use lock_table::{LockTable, Verdict};
 use std::alloc::Global;
-use term::{LockId, Node, Pid, parse_node, parse_pid, parse_requester, parse_resource};
+use term::{LockId, Pid, parse_node, parse_pid, parse_requester, parse_resource};
 
 /// What is done to a table, and what it answers. A lock is a resource and a requester.
 #[derive(Clone, Copy)]
@@ -40,7 +40,7 @@ fn lock_of(row: Row<'_>) -> Option<LockId> {
 fn is_answered(table: &mut LockTable, id: LockId, holder: Pid, wanted: &str) -> bool {
     match table.ask(id, holder) {
         Ok(Verdict::Grant) => wanted == "grant",
-        Ok(Verdict::Refuse(requester)) => requester.as_str() == wanted,
+        Ok(Verdict::Refuse(requester)) => parse_requester(wanted) == Ok(requester),
         Err(_) => false,
     }
 }
@@ -67,7 +67,7 @@ fn holds(table: &mut LockTable, row: Row<'_>) -> bool {
     match (parse_pid(row.holder), parse_node(row.holder)) {
         (Ok(holder), _) => serves(table, holder, row),
         (Err(_), Ok(node)) => {
-            table.drop_node(&Node::first(node));
+            table.drop_node(&node);
             row.word == "down"
         }
         _ => false,

@@ -21,6 +21,7 @@ mod Judging
 mod Opening
 mod Each
 mod Locking
+mod Naming
 mod CallEnds
 mod CallsOf
 mod Gone

@@ -16,7 +16,8 @@ use Rattle.node_core.proofs.Receivers.{AreOf, IsFit, IsPhaseOf, IsCallOf, IsWith
 -- the nodes that a call asks are members
 targets-of : (world known : Nodes) (t : Target) → AreOf world known → AreOf world (targets known t)
 targets-of world known Target.All of = of
-targets-of world known (Target.Named ns) of = λ c e. of c (first (known c) (list_any (λ m. m == c) ns) e)
+targets-of world known (Target.Named names) of =
+    λ c e. of c (first (known c) (list_any (λ nodes. list_any (λ m. m == c) nodes) names) e)
 
 module _ {n a : ℕ} {world : Nodes} where
   -- the boss's grant opens a round

@@ -20,7 +20,7 @@ use node_events::{Answer, Call, Event, Letter, Reply, StepFault, Turn};
 use notice_lists::NoticeLists;
 use std::alloc::{AllocError, Global};
 use std::marker::Model;
-use term::{Node, NodeName, NodeSet, Pid};
+use term::{Node, NodeSet, Pid};
 use transaction::{Op, Registrar};
 
 /// Where the current operation stands. Where there is none, this says nothing.
@@ -164,7 +164,7 @@ impl<N: Names<Memory = Global>> NodeCore<N> {
     pub fn step(
         &mut self,
         event: &Event,
-        letters: &mut Vec<(NodeName, Letter)>,
+        letters: &mut Vec<(Node, Letter)>,
     ) -> Result<Vec<Answer>, StepFault>
         ensures name { self.new.name ≡ self.old.name }
         ensures world { self.new.world ≡ self.old.world }

@@ -4,14 +4,14 @@ ghost use Rattle.std.specs.Prelude.{◌≡◌, false, OnOk, OnErr};
 use crate::events::{Answer, Entry, Letter};
 use std::alloc::{AllocError, Global};
 use std::marker::Model;
-use term::{Node, NodeName, NodeSet};
+use term::{Node, NodeSet};
 
 /// What one step of a node has made so far: the letters that it sends, its entries of the history, and its answers, in order.
 /// Room for them is had before the step changes its node, so that nothing can be refused behind a change.
 #[derive(Drop)]
 pub struct Turn {
-    /// The letters, each with the name of its receiver.
-    pub letters: Vec<(NodeName, Letter)>,
+    /// The letters, each with its receiver.
+    pub letters: Vec<(Node, Letter)>,
     /// What is entered into the history.
     pub entries: Vec<Entry>,
     /// The answers to calls.
@@ -83,7 +83,7 @@ impl Turn {
         ensures made { self.new ≡ sent to letter self.old }
         ensures spends { Spends 1 0 0 self.old self.new }
     {
-        self.letters.push_reserved((to.name().copy(), letter));
+        self.letters.push_reserved((to, letter));
     }
 
     /// A letter without lists to each of these nodes, in their order. It takes no memory, since there is room.

@@ -6,6 +6,8 @@ use Rattle.world_events.specs.declared.events.WorldEvent.TheVariants.{Deliver}
 use Rattle.node_log.specs.declared.entry.KeptEntry.{KeptEntry}
 use Rattle.node_log.specs.declared.entry.KeptEvent.{KeptEvent}
 use Rattle.node_log.specs.declared.entry.KeptEvent.TheVariants.{Delivery, Other}
+use Rattle.node_log.specs.declared.entry.OwnEvent.{OwnEvent}
+use Rattle.node_log.specs.declared.entry.OwnEvent.TheVariants as own
 
 -- one step: its stamp, the seat that called, if one did, the event, and what was answered
 pub record Entry : Type 0 where
@@ -25,10 +27,15 @@ abbrev pub seat_in : KeptEvent → Option ℕ
 seat_in (Delivery k) = None
 seat_in (Other asked) = asked.value.seat
 
+-- the event, in the record of this node
+abbrev pub event_at : ℕ → OwnEvent → WorldEvent
+event_at node (own.Delivery sender) = Deliver sender node
+event_at node (own.Other event) = event
+
 -- the event that is kept, in the log of a node that knows these
 abbrev pub event_in : ℕ → List ℕ → KeptEvent → WorldEvent
 event_in node nodes (Delivery k) = Deliver (slice_index_or nodes k 0) node
-event_in node nodes (Other asked) = asked.value.event
+event_in node nodes (Other asked) = event_at node asked.value.event
 
 -- the step that is kept
 abbrev pub entry_in : ℕ → List ℕ → KeptEntry → Entry

@@ -3,15 +3,23 @@ use std::mem::size_of;
 use term::Node;
 use world_events::{Answer, WorldEvent};
 
+/// The event of a step, where it is known whose record it stands in.
+#[derive(Debug, Drop)]
+pub(crate) enum OwnEvent {
+    /// The oldest letter from this node was delivered.
+    Delivery(Node),
+    Other(WorldEvent),
+}
+
 /// An event, and the seat that it came from, if it did.
 #[derive(Debug, Drop)]
 pub(crate) struct Asked {
     pub(crate) seat: Option<u32>,
-    pub(crate) event: WorldEvent,
+    pub(crate) event: OwnEvent,
 }
 
-/// What is kept of an event. A delivery, which nearly all events are, is the place of its sender among the nodes that the log
-/// knows. Another event lies in memory of its own.
+/// What is kept of an event. A delivery from one of the nodes that the log knows, which nearly all events are, is that node's place
+/// among them. Another event lies in memory of its own.
 #[derive(Debug, Drop)]
 pub(crate) enum KeptEvent {
     Delivery(u8),

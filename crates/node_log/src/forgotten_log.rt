@@ -1,7 +1,9 @@
 //! A log of which no step is kept.
 ghost use Rattle.std.specs.Prelude.{◌≡◌, ◌∷◌, ◌++◌, [], true};
+ghost use Rattle.node_log.specs.Entries.{event_at};
 ghost use Rattle.node_log.specs.Forgotten.{step_of};
 
+use crate::entry::OwnEvent;
 use crate::record::Record;
 use past::Log as History;
 use std::alloc::{AllocError, Global};
@@ -14,7 +16,7 @@ use world_events::{Answer, WorldEvent};
 pub(crate) struct LastStep {
     pub(crate) stamp: u64,
     pub(crate) seat: Option<u32>,
-    pub(crate) event: WorldEvent,
+    pub(crate) event: OwnEvent,
     pub(crate) answers: Vec<Answer>,
 }
 
@@ -39,11 +41,11 @@ impl Model for ForgottenLog {
 
     ghost view = { λ l. record {
       node = l.node;
-      entries = steps_of l.before.items l.last;
+      entries = steps_of l.node l.before.items l.last;
       has_room = nat_lt l.count most_steps;
     } };
 
-    ghost invariant = { λ l. l.count ≡ length (steps_of l.before.items l.last) };
+    ghost invariant = { λ l. l.count ≡ length (steps_of l.node l.before.items l.last) };
 }
 
 impl ForgottenLog {
@@ -52,7 +54,7 @@ impl ForgottenLog {
     fn push(&mut self, step: LastStep)
         requires { self.old.has_room ≡ true }
         ensures node { self.new.node ≡ self.old.node }
-        ensures entries { self.new.entries ≡ self.old.entries ++ step_of step ∷ [] }
+        ensures entries { self.new.entries ≡ self.old.entries ++ step_of self.old.node step ∷ [] }
     {
         self.before = match &self.last {
             Some(last) => self.before.and(last, &()),
@@ -60,6 +62,21 @@ impl ForgottenLog {
         };
         self.count += 1;
         self.last = Some(step);
+    }
+
+    /// Puts a step at the end that has no answers yet.
+    fn put_own(&mut self, stamp: u64, seat: Option<u32>, event: OwnEvent)
+        requires { self.old.has_room ≡ true }
+        ensures node { self.new.node ≡ self.old.node }
+        ensures entries { self.new.entries ≡ self.old.entries ++ record { stamp = stamp; seat = seat; event = event_at self.old.node event; answers = [] } ∷ [] }
+    {
+        let answers = Vec::new(self.alloc);
+        self.push(LastStep {
+            stamp,
+            seat,
+            event,
+            answers,
+        });
     }
 }
 
@@ -92,18 +109,11 @@ impl Record for ForgottenLog {
     }
 
     fn put(&mut self, stamp: u64, seat: Option<u32>, event: WorldEvent) {
-        let answers = Vec::new(self.alloc);
-        self.push(LastStep {
-            stamp,
-            seat,
-            event,
-            answers,
-        });
+        self.put_own(stamp, seat, OwnEvent::Other(event));
     }
 
     fn put_delivery(&mut self, stamp: u64, sender: &Node) {
-        let event = WorldEvent::Deliver(sender.name().copy(), self.node.name().copy());
-        self.put(stamp, None, event);
+        self.put_own(stamp, None, OwnEvent::Delivery(sender.copy()));
     }
 
     fn answer(&mut self, answers: Vec<Answer>) {

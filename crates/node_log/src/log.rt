@@ -1,11 +1,11 @@
 //! The log of a node.
-ghost use Rattle.std.specs.Prelude.{◌≡◌, ◌==◌, ◌-◌, [], ◌∷◌, ◌++◌, Some, None, true, false, is_some, length, take, OnOk, OnErr, IfSome, MatchOption};
+ghost use Rattle.std.specs.Prelude.{ℕ, ◌≡◌, ◌==◌, ◌-◌, [], ◌∷◌, ◌++◌, Some, None, true, false, is_some, length, take, OnOk, OnErr, IfSome, MatchOption};
 ghost use Rattle.std.specs.List.{slice_get};
 ghost use Rattle.world_events.specs.declared.events.WorldEvent.TheVariants.{Deliver};
-ghost use Rattle.node_log.specs.Entries.{IsPlaceOf};
-ghost use Rattle.node_log.specs.Logs.{entry_of, answered};
+ghost use Rattle.node_log.specs.Entries.{IsPlaceOf, event_at};
+ghost use Rattle.node_log.specs.Logs.{entry_of, event_of, answered};
 
-use crate::entry::{Asked, KeptEntry, KeptEvent, LoggedEntry, LoggedEvent};
+use crate::entry::{Asked, KeptEntry, KeptEvent, LoggedEntry, LoggedEvent, OwnEvent};
 use crate::record::Record;
 use std::alloc::{AllocError, Global};
 use std::marker::Model;
@@ -50,6 +50,16 @@ fn place_of(nodes: &NodeSet, node: &Node) -> Option<u8>
     Some(place)
 }
 
+/// What is told of an event.
+fn told(event: &OwnEvent) -> LoggedEvent<'_>
+    ensures { (node : ℕ) → event_of node result ≡ event_at node event.now }
+{
+    match event {
+        OwnEvent::Delivery(sender) => LoggedEvent::Delivery(sender),
+        OwnEvent::Other(event) => LoggedEvent::Other(event),
+    }
+}
+
 /// Sees to it that there is memory for an event. Where it is refused there was none, and is none.
 fn provide(spare: &mut Option<Box<Asked>>, alloc: Global, node: &Node) -> Result<(), AllocError>
     ensures ok { OnOk result (is_some spare.new ≡ true) }
@@ -59,7 +69,7 @@ fn provide(spare: &mut Option<Box<Asked>>, alloc: Global, node: &Node) -> Result
     if spare.is_some() {
         return Ok(());
     }
-    let event = WorldEvent::Deliver(node.name().copy(), node.name().copy());
+    let event = OwnEvent::Delivery(node.copy());
     *spare = Some(Box::new(alloc, Asked { seat: None, event })?);
     Ok(())
 }
@@ -108,7 +118,7 @@ impl Log {
                 None,
                 LoggedEvent::Delivery(self.nodes.as_slice().get(usize::from(*place))?),
             ),
-            KeptEvent::Other(asked) => (asked.seat, LoggedEvent::Other(&asked.event)),
+            KeptEvent::Other(asked) => (asked.seat, told(&asked.event)),
         };
         Some(LoggedEntry {
             stamp: entry.stamp,
@@ -137,6 +147,15 @@ impl Log {
         ensures node { self.new.node ≡ self.old.node }
         ensures entries { self.new.entries ≡ self.old.entries ++ record { stamp = stamp; seat = seat; event = event; answers = [] } ∷ [] }
     {
+        self.put_own(stamp, seat, OwnEvent::Other(event));
+    }
+
+    /// Puts a step at the end, whose event lies in memory of its own.
+    fn put_own(&mut self, stamp: u64, seat: Option<u32>, event: OwnEvent)
+        requires { self.old.has_room ≡ true }
+        ensures node { self.new.node ≡ self.old.node }
+        ensures entries { self.new.entries ≡ self.old.entries ++ record { stamp = stamp; seat = seat; event = event_at self.old.node event; answers = [] } ∷ [] }
+    {
         let Some(mut asked) = self.spare.take() else {
             return;
         };
@@ -157,8 +176,7 @@ impl Log {
         ensures entries { self.new.entries ≡ self.old.entries ++ record { stamp = stamp; seat = None; event = Deliver sender.now self.old.node; answers = [] } ∷ [] }
     {
         let Some(place) = place_of(&self.nodes, sender) else {
-            let event = WorldEvent::Deliver(sender.name().copy(), self.node.name().copy());
-            self.put(stamp, None, event);
+            self.put_own(stamp, None, OwnEvent::Delivery(sender.copy()));
             return;
         };
         let alloc = *self.entries.allocator();

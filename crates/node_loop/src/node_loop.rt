@@ -143,7 +143,7 @@ impl<N: Names<Memory = Global>, L: Record> NodeLoop<N, L> {
         let Some((from, item)) = found else {
             return self.idle();
         };
-        self.work(Node::first(from), item)
+        self.work(from, item)
     }
 
     /// Its node.

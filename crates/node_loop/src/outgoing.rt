@@ -7,7 +7,7 @@ use crate::tries::TRIES;
 use link::LinkFault;
 use node_log::Letter;
 use std::alloc::AllocError;
-use term::NodeName;
+use term::Node;
 use tray::Tray;
 
 /// The stamp of a step: above that of the last step and that of the letter. There is none above the greatest `u64`.
@@ -18,12 +18,7 @@ pub(crate) fn next_stamp(last: u64, seen: u64) -> Option<u64>
 }
 
 /// Puts a letter of a step into the tray. One to a node that the tray doesn't know vanishes: nobody there could read it.
-fn put_one(
-    tray: &mut Tray<Item>,
-    stamp: u64,
-    to: &NodeName,
-    letter: Letter,
-) -> Result<(), AllocError>
+fn put_one(tray: &mut Tray<Item>, stamp: u64, to: &Node, letter: Letter) -> Result<(), AllocError>
     ensures ok { OnOk result (tray.new ≡ with_letters stamp ((to.now, letter) ∷ []) tray.old) }
     ensures unchanged { OnErr result (tray.new ≡ tray.old) }
 {
@@ -45,7 +40,7 @@ fn put_one(
 pub(crate) fn put_all(
     tray: &mut Tray<Item>,
     stamp: u64,
-    letters: Vec<(NodeName, Letter)>,
+    letters: Vec<(Node, Letter)>,
 ) -> Result<(), AllocError>
     ensures ok { OnOk result (tray.new ≡ with_letters stamp letters.items tray.old) }
     ensures some { OnErr result (PutsSome stamp letters.items tray.old tray.new) }

@@ -32,7 +32,7 @@ fn place_of(callers: &[Caller], node: &NodeName) -> Option<usize>
 {
     callers
         .iter()
-        .position(|caller| caller.node().name() == node)
+        .position(|caller| caller.node().is_first_of(node))
 }
 
 impl FreeSeat {

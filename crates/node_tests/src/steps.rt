@@ -10,7 +10,7 @@ use std::fmt::Write;
 use std::process::Abort;
 use std::test::Fail;
 use term::{
-    LockId, Node, NodeName, NodeSet, Pid, Rule, parse_name, parse_node, parse_nodes, parse_pid,
+    LockId, Node, NodeSet, Pid, Rule, parse_name, parse_node, parse_nodes, parse_pid,
     parse_requester, parse_resource,
 };
 
@@ -24,7 +24,7 @@ fn core(alloc: Global, joined: bool) -> Option<Core> {
     let (Ok(a), Ok(world)) = (parse_node("a"), parse_nodes("a,b")) else {
         return None;
     };
-    let (a, world) = (Node::first(a), NodeSet::first_of(&world));
+    let world = NodeSet::first_of(&world);
     let members = NodeSet::one(a.copy());
     if !members.contains(&a) || !world.contains(&a) {
         return None;
@@ -43,13 +43,12 @@ fn gives(answers: &Vec<Answer>, reply: &Reply) -> bool {
 /// Reads to a node those of its letters that are to itself. Whether it gives this reply then.
 fn read(
     core: &mut Core,
-    letters: Vec<(NodeName, Letter)>,
-    sent: &mut Vec<(NodeName, Letter)>,
+    letters: Vec<(Node, Letter)>,
+    sent: &mut Vec<(Node, Letter)>,
     reply: &Reply,
 ) -> bool {
     let mut given = false;
     for (to, letter) in letters {
-        let to = Node::first(to);
         if to == *core.node() {
             let answers = core.step(&Event::FromPeer(to, letter), sent);
             given |= answers.is_ok_and(|answers| gives(&answers, reply));
@@ -59,12 +58,7 @@ fn read(
 }
 
 /// Reads a node's letters to itself to it until it sends no more. Whether it gives this reply meanwhile.
-fn settle(
-    alloc: Global,
-    core: &mut Core,
-    mut letters: Vec<(NodeName, Letter)>,
-    reply: &Reply,
-) -> bool {
+fn settle(alloc: Global, core: &mut Core, mut letters: Vec<(Node, Letter)>, reply: &Reply) -> bool {
     let mut given = false;
     for _ in 0..ROUNDS {
         let mut sent = Vec::new(alloc);
@@ -221,7 +215,6 @@ fn plays_an_admission(rt: &impl Abort, alloc: Global, core: &mut Core) -> bool {
     let Some(ask) = ask(alloc, &theirs) else {
         return false;
     };
-    let b = Node::first(b);
     assert!(rt; !comes_to(alloc, core, Cause::FromPeer(&b, &ask), &Reply::Joined));
     assert!(rt; core.members().contains(&b) && core.holds_global());
     assert!(rt; matches!(core.current(), Some(Op::Admission(..))));
@@ -240,7 +233,6 @@ fn plays_a_join(rt: &impl Abort, alloc: Global, core: &mut Core) -> bool {
     let Ok(b) = parse_node("b") else {
         return false;
     };
-    let b = Node::first(b);
     assert!(rt; core.world().contains(&b) && !core.is_joined());
     assert!(rt; !is_answered(alloc, core, &Call::Join(b.copy()), &Reply::Joined));
     assert!(rt; core.join_number() == Some(1));

@@ -86,7 +86,7 @@ fn index_of<N: Names<Memory = Global> + Send + 'static, L: Record + Send + 'stat
 ) -> Option<usize>
     ensures { result ≡ position (λ one. one.inbox.node == node.now) running.now }
 {
-    running.iter().position(|one| one.node().name() == node)
+    running.iter().position(|one| one.node().is_first_of(node))
 }
 
 impl<G, N, L> Cluster<G, N, L>

@@ -13,7 +13,7 @@ use std::collections::{LinkedList, VecDeque};
 use std::marker::Model;
 use std::snapshot::Snapshot;
 use std::sync::Wait;
-use term::{Node, NodeName};
+use term::Node;
 
 /// How many letters are taken in a row while a task waits.
 const MOST_LETTERS: u32 = 64;
@@ -63,8 +63,8 @@ pub struct Traffic {
     node: Node,
     first: Mailbox<Parcel<Item>>,
     lines: LinkedList<Line<Item>>,
-    /// The letters of nodes, each with the name of its sender.
-    letters: LinkedList<(NodeName, Item)>,
+    /// The letters of nodes, each with its sender.
+    letters: LinkedList<(Node, Item)>,
     tasks: LinkedList<Task>,
     waiting: LinkedList<Task>,
 }
@@ -72,32 +72,30 @@ pub struct Traffic {
 /// What one look into an inbox finds.
 #[derive(Drop)]
 enum Found {
-    /// A letter from the node of this name.
-    Heard(NodeName, Stamped),
+    /// A letter from this node.
+    Heard(Node, Stamped),
     /// A task, which waits now, or a letter under a number that no node has.
     Other,
     /// Nothing, or there is no memory for a task to wait.
     Nothing,
 }
 
-/// The place of the line to the node of this name.
-fn place_of(lines: &[Line<Item>], receiver: &NodeName) -> Option<usize>
+/// The place of the line to this node.
+fn place_of(lines: &[Line<Item>], receiver: &Node) -> Option<usize>
     ensures { result ≡ place receiver.now lines.now }
 {
-    lines
-        .iter()
-        .position(|line| line.receiver().name() == receiver)
+    lines.iter().position(|line| line.receiver() == receiver)
 }
 
-/// The name of the node whose line into an inbox has this number there. The cluster asks under number 0, and seats behind the nodes.
-fn node_under(lines: &[Line<Item>], number: u64) -> Option<NodeName>
+/// The node whose line into an inbox has this number there. The cluster asks under number 0, and seats behind the nodes.
+fn node_under(lines: &[Line<Item>], number: u64) -> Option<Node>
     ensures { result ≡ node_under number (receivers lines.now) }
 {
     if number == 0 {
         return None;
     }
     let line = lines.get((number - 1) as usize)?;
-    Some(line.receiver().name().copy())
+    Some(line.receiver().copy())
 }
 
 /// Whether it is a call for which other nodes are asked, and so takes longer than what a node does alone.
@@ -190,7 +188,7 @@ impl<R: Wait + Drop> RuledEnd<R> {
     }
 
     /// The oldest letter that is found, unless it is a task's turn; tasks before it wait.
-    fn next_letter(&mut self) -> Option<(NodeName, Stamped)>
+    fn next_letter(&mut self) -> Option<(Node, Stamped)>
         ensures { (more : List AnyTask) × MatchOption result (self.new ≡ with_tasks more self.old)
             (λ x. Hears x.0 x.1 (with_tasks more self.old) self.new) }
     {
@@ -242,7 +240,7 @@ impl<R: Wait + Drop> Post<Item> for RuledEnd<R> {
 
     ghost refuses = { Refuses };
 
-    fn send(&mut self, to: &NodeName, letter: Item) -> Result<(), Unsent<Item>> {
+    fn send(&mut self, to: &Node, letter: Item) -> Result<(), Unsent<Item>> {
         let Some(place) = place_of(self.lines.as_slice(), to) else {
             return Err(Unsent {
                 fault: LinkFault::NoSuchNode,
@@ -262,13 +260,13 @@ impl<R: Wait + Drop> Inbox<Item> for RuledEnd<R> {
 
     ghost fails = { Fails };
 
-    fn take(&mut self) -> Result<Option<(NodeName, Item)>, LinkFault> {
+    fn take(&mut self) -> Result<Option<(Node, Item)>, LinkFault> {
         if let Some((from, stamped)) = self.next_letter() {
             self.in_a_row = self.in_a_row.saturating_add(1);
             return Ok(Some((from, Item::Letter(stamped))));
         }
         match self.next_task() {
-            Some(task) => Ok(Some((self.node.name().copy(), Item::Task(task)))),
+            Some(task) => Ok(Some((self.node.copy(), Item::Task(task)))),
             None => Ok(None),
         }
     }

@@ -1,4 +1,6 @@
+pub mod Courses
 pub mod Deliveries
+pub mod Finding
 pub mod Idle
 pub mod Ids
 pub mod Meanings

@@ -1,17 +1,17 @@
 -- Ids, targets, free locks and openings, in words.
-use mathlib.Core.Logic.{◌⊎◌}
 use Rattle.std.proofs.Common.{ℕ, Bool, true, false, ◌==◌, ◌≡◌, ◌<◌, Some, None, List, [], ◌∷◌, refl, sym, ap, ◌∙◌, subst, inl, inr}
-use Rattle.std.specs.Prelude.{◌↔◌, ◌&&◌, ◌||◌, not, Contains, Option, find, is_none, nat_lt, if◌then◌else◌}
-use Rattle.std.specs.List.{list_any}
+use Rattle.std.specs.Prelude.{◌↔◌, ◌&&◌, not, Contains, Option, find, is_none, nat_lt, if◌then◌else◌}
+use Rattle.std.specs.List.{list_any, list_all}
 use Rattle.std.proofs.Math.Bool.{and-true}
 use Rattle.std.proofs.lemmas.Bool.{eqb-true, eq-eqb, and_parts, and_from, ltb-true, lt-ltb}
-use Rattle.registry_model.specs.Process.{nobody}
+use Rattle.registry_model.specs.Process.{Nodes, nobody}
 use Rattle.registry_model.specs.Table.{without}
 use Rattle.registry_model.proofs.Lists.{Contains-cases, Contains-front, Contains-behind, Contains-nil}
 use Rattle.protocol_model.specs.Letter.{Id, is_id, is_resource}
 use Rattle.protocol_model.specs.LockTable.{Grant, Locks, count, last_count, is_in_the_way, refused_by, is_free_for}
 use Rattle.protocol_model.specs.World.{Opening, in_cluster, opening_world}
-use Rattle.protocol_model.specs.SharedLaws.{ComparesIds, AsksMembers, GrantsTheFree, OpensEmpty}
+use Rattle.protocol_model.specs.SharedLaws.{ComparesIds, HasName, LacksName, AsksMembers, GrantsTheFree, OpensEmpty}
+use Rattle.protocol_model.proofs.Finding.{found_any, any_found, some_fails, fails_all, none_passes, none_found_in}
 use Rattle.protocol_model.proofs.Ids.{is_id_self, is_id_same}
 
 pub compares_ids : ComparesIds
@@ -22,35 +22,47 @@ compares_ids = record {
   global_alone = λ a r x. (refl, refl);
 }
 
--- a node is found in a list that has it
+-- a node is found in a list exactly where it has it
 found : (nodes : List ℕ) (c : ℕ) → (list_any (λ m. m == c) nodes ≡ true) ↔ Contains nodes c
-found [] c = (λ e. cc, λ h. absurd (Contains-nil c h))
-found (m ∷ nodes) c = (there (found nodes c).0 (m == c) refl, λ h. back (found nodes c).1 (m == c) refl (Contains-cases m nodes c h))
-  where
-    rest : Bool
-    rest = list_any (λ m. m == c) nodes
+found nodes c = (
+  λ e.
+      let one : (m : ℕ) × Contains nodes m × ((m == c) ≡ true) = any_found (λ m. m == c) nodes e in
+      subst (λ (m : ℕ). Contains nodes m) (eqb-true one.0 c one.2) one.1,
+  λ h. found_any (λ m. m == c) nodes c h (eq-eqb c c refl),
+)
 
-    there : (rest ≡ true → Contains nodes c) → (b : Bool) → (m == c) ≡ b → (b || rest) ≡ true
-        → Contains (m ∷ nodes) c
-    there by true e h = subst (λ (x : ℕ). Contains (m ∷ nodes) x) (eqb-true m c e) (Contains-front m nodes)
-    there by false e h = Contains-behind m nodes c (by h)
+-- a node has one of the names exactly where it is found among their nodes
+found_named : (names : List (List ℕ)) (c : ℕ) → (list_any (λ nodes. list_any (λ m. m == c) nodes) names ≡ true) ↔ HasName names c
+found_named names c = (
+  λ e.
+      let one : (nodes : List ℕ) × Contains names nodes × (list_any (λ m. m == c) nodes ≡ true) =
+      any_found (λ nodes. list_any (λ m. m == c) nodes) names e in
+      (one.0, one.1, (found one.0 c).0 one.2),
+  λ h. found_any (λ nodes. list_any (λ m. m == c) nodes) names h.0 h.1 ((found h.0 c).1 h.2),
+)
 
-    back : (Contains nodes c → rest ≡ true) → (b : Bool) → (m == c) ≡ b → (m ≡ c) ⊎ Contains nodes c
-        → (b || rest) ≡ true
-    back by true e k = refl
-    back by false e (inl same) = absurd (cc (e, eq-eqb m c same))
-    back by false e (inr behind) = by behind
+-- a name that no member has
+missed : (members : Nodes) (names : List (List ℕ)) → (list_all (λ nodes. list_any members nodes) names ≡ false) ↔ LacksName members names
+missed members names = (
+  λ e.
+      let one : (nodes : List ℕ) × Contains names nodes × (list_any members nodes ≡ false) =
+      some_fails (λ nodes. list_any members nodes) names e in
+      (one.0, one.1, λ c h. none_passes members one.0 c one.2 h),
+  λ h. fails_all (λ nodes. list_any members nodes) names h.0 h.1 (none_found_in members h.0 h.2),
+)
 
 pub asks_members : AsksMembers
 asks_members = record {
   all = λ members c. refl;
-  named = λ members nodes c. (
-    λ e.
-        let parts : (members c ≡ true) × (list_any (λ m. m == c) nodes ≡ true) =
-        and_parts (members c) (list_any (λ m. m == c) nodes) e in
-        (parts.0, (found nodes c).0 parts.1),
-    λ h. and_from (members c) (list_any (λ m. m == c) nodes) h.0 ((found nodes c).1 h.1),
-  );
+  named = λ members names c.
+      let has : Bool = list_any (λ nodes. list_any (λ m. m == c) nodes) names in (
+        λ e.
+            let parts : (members c ≡ true) × (has ≡ true) = and_parts (members c) has e in
+            (parts.0, (found_named names c).0 parts.1),
+        λ h. and_from (members c) has h.0 ((found_named names c).1 h.1),
+      );
+  misses = λ v names. missed v.replica.members names;
+  misses_none = λ v. refl;
 }
 
 -- nothing is in the way where each grant of the resource is of the id

@@ -6,7 +6,7 @@ use Rattle.registry_model.specs.Call.{NameCall, Look, NoticesOf, Reply}
 use Rattle.protocol_model.specs.Watch.{is_live, is_issued, is_dead, next_serial}
 use Rattle.protocol_model.specs.Node.{Node, Op, Current, LockPhase, Target, Named, Retries, call_of, holds_global}
 
--- what a client may call; a contact and named nodes may be of no world
+-- what a client may call; a contact, and the nodes of a name, may be of no world
 pub data Call : Type 0 where
   Spawn : Call
   LookUp : (look : Look) → Call
@@ -99,9 +99,9 @@ has_joined v = v.replica.joined || is_joining v.current || list_any is_join v.qu
 abbrev pub calls_spent : Node → Cause
 calls_spent v = cause (v.last_call == last_u32) CallsSpent
 
--- each named node is a member
+-- each name has a member
 abbrev pub names_members : Node → Target → Bool
-names_members v (Named nodes) = list_all v.replica.members nodes
+names_members v (Named names) = list_all (λ nodes. list_any v.replica.members nodes) names
 names_members v _ = true
 
 -- why a lock call of p on this resource is refused first, in order

@@ -25,10 +25,11 @@ pub data Current : Type 0 where
   Writing : (op : Op) → (asked : Nodes) → (awaited : Nodes) → (reply : Option Reply) → Current  -- holds the global lock
   Joining : (number : ℕ) → (contact : ℕ) → Current
 
--- whom a lock call asks: all members, or named nodes
+-- whom a lock call asks: all members, or those with one of these names; a name stands for the nodes that have it, since a node
+-- that left may come back under its name as another node
 pub data Target : Type 0 where
   All : Target
-  Named : (nodes : List ℕ) → Target
+  Named : (names : List (List ℕ)) → Target
 
 -- how often a refused lock call may begin anew
 pub data Retries : Type 0 where
@@ -83,7 +84,7 @@ holds_global v = is_writing v.current
 -- the nodes that a call asks, as the members are now
 abbrev pub targets : Nodes → Target → Nodes
 targets members All = members
-targets members (Named nodes) = λ c. members c && list_any (λ m. m == c) nodes
+targets members (Named names) = λ c. members c && list_any (λ nodes. list_any (λ m. m == c) nodes) names
 
 -- the call of a process
 abbrev pub call_of : Process → List LockCall → Option LockCall

@@ -47,13 +47,13 @@ pub data MayLookUp (ps : List Played) (a : ℕ) : Look → Type 0 where
   OfNames : MayLookUp ps a RegisteredNames
   OfNotices : (p : Process) → IsIssuedBy ps a p → MayLookUp ps a (NoticesOf p)
 
--- a node is named that isn't among the members that a shows
+-- a name is named that none of the members has that a shows
 pub record NamesStranger (now : Seen) (a : ℕ) (target : Target) : Type 0 where
+  pub names : List (List ℕ)
+  pub named : target ≡ Named names
   pub nodes : List ℕ
-  pub named : target ≡ Named nodes
-  pub stranger : ℕ
-  pub among : Contains nodes stranger
-  pub unknown : (now.node a).members stranger ≡ false
+  pub among : Contains names nodes
+  pub unknown : (c : ℕ) → Contains nodes c → (now.node a).members c ≡ false
 
 -- a has accepted a join call that isn't answered yet
 pub record WaitsToJoin (ps : List Played) (a : ℕ) : Type 0 where
@@ -113,7 +113,7 @@ module _ (o : Opening) (ps : List Played) (now : Seen) (e : WorldEvent) where
     pub live : IsLiveAt now node process
     pub idle : HasOpenCall ps node process → ⊥
 
-  -- a `set_lock` that names a node which isn't a member
+  -- a `set_lock` with a name that no member has
   pub record IsForStranger : Type 0 where
     pub found : FindsItsNode
     pub node : ℕ

@@ -1,11 +1,11 @@
 -- The words in which rows are written.
-use Rattle.std.specs.Prelude.{ℕ, ◌==◌, Some, None, List, ◌∷◌, ◌++◌}
+use Rattle.std.specs.Prelude.{ℕ, ◌==◌, Some, None, map, List, [], ◌∷◌, ◌++◌}
 use Rattle.std.specs.List.{list_any}
 use Rattle.registry_model.specs.Process.{Text, Process}
 use Rattle.registry_model.specs.Table.{Rule, Table}
 use Rattle.registry_model.specs.Call.{NameCall, Reply, Whereis, RegisteredNames, NoticesOf}
 use Rattle.registry_model.specs.Settlement.{Notice}
-use Rattle.protocol_model.specs.Node.{All, Named, Retries, Times}
+use Rattle.protocol_model.specs.Node.{Target, All, Named, Retries, Times}
 use Rattle.protocol_model.specs.Event.{Call, Event}
 use Rattle.protocol_model.specs.World.{Opening, At, Deliver}
 use Rattle.protocol_model.specs.Script.{Line, Play, Output, Said, Row}
@@ -118,10 +118,14 @@ abbrev pub set_lock : Process → Text → Text → ℕ → Line
 set_lock holder resource requester retries =
     call holder.node (Call.SetLock holder resource requester All (Times retries))
 
+-- these names, each with its only node
+abbrev pub lone_names : List ℕ → Target
+lone_names nodes = Named (map (λ n. n ∷ []) nodes)
+
 -- a `set_lock` of named nodes
 abbrev pub set_lock_at : Process → Text → Text → List ℕ → ℕ → Line
 set_lock_at holder resource requester nodes retries =
-    call holder.node (Call.SetLock holder resource requester (Named nodes) (Times retries))
+    call holder.node (Call.SetLock holder resource requester (lone_names nodes) (Times retries))
 
 -- a `set_lock` of all members that is tried without end
 abbrev pub set_lock_endless : Process → Text → Text → Line
@@ -134,7 +138,7 @@ del_lock holder resource requester = call holder.node (Call.DelLock holder resou
 
 -- a `del_lock` of named nodes
 abbrev pub del_lock_at : Process → Text → Text → List ℕ → Line
-del_lock_at holder resource requester nodes = call holder.node (Call.DelLock holder resource requester (Named nodes))
+del_lock_at holder resource requester nodes = call holder.node (Call.DelLock holder resource requester (lone_names nodes))
 
 abbrev pub join : ℕ → ℕ → Line
 join joiner contact = call joiner (Call.JoinBy contact)

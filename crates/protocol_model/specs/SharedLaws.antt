@@ -7,7 +7,7 @@ use Rattle.protocol_model.specs.Letter.{Id, Global, Client, is_id, is_resource}
 use Rattle.protocol_model.specs.LockTable.{Grant, Locks, count, last_count, is_free_for}
 use Rattle.protocol_model.specs.Watch.{is_dead}
 use Rattle.protocol_model.specs.Node.{Node, Current, All, Named, targets}
-use Rattle.protocol_model.specs.Event.{Call, Event}
+use Rattle.protocol_model.specs.Event.{Call, Event, names_members}
 use Rattle.protocol_model.specs.World.{Opening, in_world, in_cluster, World, left, WorldEvent, At, Deliver, place, other}
 
 -- Two ids are one where they are the same, and of one resource where both are of the resource `global` or both name one text
@@ -18,11 +18,23 @@ pub record ComparesIds : Type 0 where
   pub global_alone : (a : ℕ) (r x : Text) →
       (is_resource (Global a) (Client r x) ≡ false) × (is_resource (Client r x) (Global a) ≡ false)
 
--- A lock call goes to all members, or to the members among those that it names
+-- the node has one of the names
+abbrev pub HasName : List (List ℕ) → ℕ → Type 0
+HasName names c = (nodes : List ℕ) × Contains names nodes × Contains nodes c
+
+-- none of these nodes has one of the names
+abbrev pub LacksName : Nodes → List (List ℕ) → Type 0
+LacksName members names = (nodes : List ℕ) × Contains names nodes × ((c : ℕ) → Contains nodes c → members c ≡ false)
+
+-- A lock call goes to all members, or to the members that have one of its names, and it misses a member exactly where one of its
+-- names has none
 pub record AsksMembers : Type 0 where
   pub all : (members : Nodes) (c : ℕ) → targets members All c ≡ members c
-  pub named : (members : Nodes) (nodes : List ℕ) (c : ℕ) →
-      (targets members (Named nodes) c ≡ true) ↔ ((members c ≡ true) × Contains nodes c)
+  pub named : (members : Nodes) (names : List (List ℕ)) (c : ℕ) →
+      (targets members (Named names) c ≡ true) ↔ ((members c ≡ true) × HasName names c)
+  pub misses : (v : Node) (names : List (List ℕ)) →
+      (names_members v (Named names) ≡ false) ↔ LacksName v.replica.members names
+  pub misses_none : (v : Node) → names_members v All ≡ true
 
 -- A lock table grants a lock unless its resource has a grant under another id, or p has the lock as often as can be
 abbrev pub GrantsTheFree : Type 0

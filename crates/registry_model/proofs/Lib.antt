@@ -17,4 +17,5 @@ pub mod Holding
 pub mod OwnerNodes
 pub mod Untold
 pub mod NamesStand
+pub mod NoticesStay
 pub mod Outcomes

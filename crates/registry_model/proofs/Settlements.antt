@@ -1,19 +1,19 @@
 -- The settlement of a join, in words.
-use Rattle.std.proofs.Common.{suc, Bool, true, false, ◌≡◌, ◌<◌, Option, Some, None, List, [], ◌∷◌, ◌++◌, get_or, refl, sym, subst, ap, ◌∙◌, inl, inr, arith}
+use Rattle.std.proofs.Common.{suc, Bool, true, false, ◌≡◌, ◌<◌, Option, Some, None, List, [], ◌∷◌, ◌++◌, filter, get_or, refl, sym, subst, ap, ◌∙◌, inl, inr, arith}
 use Rattle.std.specs.Prelude.{◌⊎◌, if◌then◌else◌, nat_lt, flat_map, Contains, AllPairs}
 use Rattle.std.proofs.lemmas.Bool.{ltb-true, ltb-false, lt-ltb, le-ltb}
 use Rattle.std.proofs.lemmas.List.Kept.{AllPairs-cons}
 use Rattle.std.proofs.lemmas.List.Elements.{Contains-get_or, Contains-append_cases, Contains-append_left, Contains-append_right}
 use Rattle.registry_model.specs.Process.{Text, Process, is_process}
-use Rattle.registry_model.specs.Table.{Rule, Exit, Notify, NotifyAll, Pair, Table, is_below, is_rising, entry, names}
+use Rattle.registry_model.specs.Table.{Rule, Exit, Notify, NotifyAll, Pair, Table, is_below, is_rising, get, entry, names}
 use Rattle.registry_model.specs.Settlement.{Notice, Noted, note, with_settled, unsettled, settle}
-use Rattle.registry_model.specs.SharedLaws.{Clashes, Loses, IsSent, IsSentBefore, Settles}
+use Rattle.registry_model.specs.SharedLaws.{Clashes, Loses, IsSent, IsSentBefore, GoesToNobody, Settles}
 use Rattle.registry_model.specs.SharedLaws.Loses.{OfJoiner, OfCluster}
 use Rattle.registry_model.proofs.Lists.{Contains-cases, Contains-front, Contains-behind, Contains-nil, is_process-eq, is_process-other}
 use Rattle.registry_model.proofs.Owners.{Contains-entry, entry-Contains}
-use Rattle.registry_model.proofs.Tables.{is_rising-parts, get_from_entry, if_passes}
-use Rattle.registry_model.proofs.LookUps.{below-names}
-use Rattle.registry_model.proofs.Settling.{wins_under, goes_under, victim_under, sent_under, wins, victim, sent, DiesOfOne, notices-settle, kills-settle_from, is_once, is_once-settle_from, once-is_once, is_rising-puts, entry-puts, entry-settled}
+use Rattle.registry_model.proofs.Tables.{is_rising-parts, get_from_entry, entry_from_get, name-entry, if_passes, entry-filter, is_rising-filter}
+use Rattle.registry_model.proofs.LookUps.{below-names, rising-names, owner-names, names-owner}
+use Rattle.registry_model.proofs.Settling.{wins_under, goes_under, victim_under, sent_under, wins, goes, victim, sent, DiesOfOne, removes-settle, notices-settle, kills-settle_from, is_once, is_once-settle_from, once-is_once, is_rising-puts, entry-puts, entry-settled}
 
 -- what stands under a name of both behind the settlement, under this rule
 settled_under : (rule : Rule) (table pairs : Table) (e own : Pair) → is_rising pairs ≡ true → Clashes table pairs e own →
@@ -324,6 +324,62 @@ ordered table pairs (e ∷ rest) r s within =
                     (Contains-front g.name (names t))
                 go (inr k) h = Contains-behind g.name (names t) f.name (h k)
 
+-- a rule by which nobody has the name
+goes_as : (rule : Rule) → goes_under rule ≡ true → rule ≡ NotifyAll
+goes_as Exit h = cc
+goes_as Notify h = cc
+goes_as NotifyAll h = refl
+
+-- a pair of the joiner whose name goes, in words
+goes-words : (table pairs : Table) (e : Pair) (o : Option Pair) → is_rising pairs ≡ true → Contains pairs e →
+    entry e.name table ≡ o → goes e o ≡ true → GoesToNobody table pairs e.name
+goes-words table pairs e None r c h k = cc
+goes-words table pairs e (Some own) r c h k = go (is_process e.owner own.owner) refl k
+  where
+    go : (b : Bool) → is_process e.owner own.owner ≡ b → (if b then false else goes_under own.rule) ≡ true →
+        GoesToNobody table pairs e.name
+    go true ne k = cc
+    go false ne k = (e, own, clash_of table pairs e own r c h ne, goes_as own.rule k, refl)
+
+-- the pairs of the joiner whose names go
+abbrev gone_pairs : Table → Table → Table
+gone_pairs table pairs = filter (λ e. goes e (entry e.name table)) pairs
+
+-- a name that is removed goes to nobody
+removed_goes : (table pairs : Table) (y : Text) → is_rising pairs ≡ true → Contains (settle table pairs).removes y →
+    GoesToNobody table pairs y
+removed_goes table pairs y r c =
+    let (p, g) : (p : Process) × (get y (gone_pairs table pairs) ≡ Some p) =
+    owner-names (gone_pairs table pairs) y (subst (λ (xs : List Text). Contains xs y) (removes-settle table pairs) c) in
+    let (e, h, o, n) : (e : Pair) × (entry y (gone_pairs table pairs) ≡ Some e) × (e.owner ≡ p) × (e.name ≡ y) =
+    entry_from_get y (gone_pairs table pairs) p g in
+    go (entry y pairs) refl (sym (entry-filter (λ e. goes e (entry e.name table)) pairs r y) ∙ h)
+  where
+    go : {e : Pair} → (o : Option Pair) → entry y pairs ≡ o → if_passes (λ e. goes e (entry e.name table)) o ≡ Some e →
+        GoesToNobody table pairs y
+    go None i h = cc
+    go {e} (Some d) i h = by (goes d (entry d.name table)) refl h
+      where
+        by : (b : Bool) → goes d (entry d.name table) ≡ b → (if b then Some d else None) ≡ Some e → GoesToNobody table pairs y
+        by true k h = subst (GoesToNobody table pairs) (name-entry y pairs d i)
+            (goes-words table pairs d (entry d.name table) r (Contains-entry pairs y d i) refl k)
+        by false k h = cc
+
+-- and the other way round
+goes_removed : (table pairs : Table) (y : Text) → is_rising pairs ≡ true → GoesToNobody table pairs y →
+    Contains (settle table pairs).removes y
+goes_removed table pairs y r (e, own, c, k, n) =
+    subst (λ (xs : List Text). Contains xs y) (sym (removes-settle table pairs))
+    (subst (λ (x : Text). Contains (names (gone_pairs table pairs)) x) n
+    (names-owner (gone_pairs table pairs) e.name e.owner (get_from_entry e.name (gone_pairs table pairs) e stands)))
+  where
+    passes : goes e (entry e.name table) ≡ true
+    passes = rw c.cluster (rw (is_process-other e.owner own.owner c.apart) (rw k refl))
+
+    stands : entry e.name (gone_pairs table pairs) ≡ Some e
+    stands = entry-filter (λ e. goes e (entry e.name table)) pairs r e.name
+        ∙ ap (if_passes (λ e. goes e (entry e.name table))) c.joiner ∙ ap (λ (b : Bool). if b then Some e else None) passes
+
 -- the settlement of rising pairs
 pub settle_law : (table pairs : Table) → is_rising table ≡ true → is_rising pairs ≡ true →
     Settles table pairs (settle table pairs)
@@ -336,6 +392,9 @@ settle_law table pairs rt rp = record {
   to_nobody = λ e own c k. settled_under NotifyAll table pairs e own rp c k (nat_lt e.owner.node own.owner.node) refl;
   rises = is_rising-puts table pairs rp;
   written = λ y e h. passed y e (entry y pairs) (sym (entry-puts table pairs rp y) ∙ h);
+  removed = λ y. (removed_goes table pairs y rp, goes_removed table pairs y rp);
+  removes_rise = subst (AllPairs (λ x y. x < y)) (sym (removes-settle table pairs))
+      (rising-names (gone_pairs table pairs) (is_rising-filter (λ e. goes e (entry e.name table)) pairs rp));
   killed = λ p. (
     λ c. to p ((kills-settle_from table pairs unsettled p).0 c),
     λ (y, l). (kills-settle_from table pairs unsettled p).1 (inr (Loses-dies table pairs y p l)),

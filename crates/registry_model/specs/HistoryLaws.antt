@@ -3,7 +3,7 @@ use Rattle.std.specs.Prelude.{ℕ, true, false, ◌||◌, ◌==◌, ◌≡◌, �
 use Rattle.registry_model.specs.Process.{Text, Process, Nodes}
 use Rattle.registry_model.specs.Table.{NotifyAll, Pair, Table, is_rising, get, entry, owns}
 use Rattle.registry_model.specs.Call.{NameCall, Register, ReRegister, Unregister, Reply, Yes, Ok, Joined}
-use Rattle.registry_model.specs.Settlement.{settle}
+use Rattle.registry_model.specs.Settlement.{Notice, notices_to, settle}
 use Rattle.registry_model.specs.Registry.{Registry, in_group, table_of, view, members}
 use Rattle.registry_model.specs.SharedLaws.{IsReplyTo, IsCarriedOut}
 use Rattle.registry_model.specs.History.{Entry, Name, Strike, Join, Done, Exit, Told, registry_of, granted_to, Hold, hold_at, standing_of}
@@ -127,6 +127,19 @@ pub record DeadForGood (cluster : Nodes) (h : List Entry) : Type 0 where
   pub stays : (later : List Entry) (p : Process) → IsTrue ((registry_of cluster h).dead p) →
       IsTrue ((registry_of cluster (h ++ later)).dead p)
   pub died : (p : Process) → IsTrue ((registry_of cluster h).dead p) ↔ Died cluster h p
+
+-- what an entry sends p: a join what its settlement sends, and any other entry nothing
+pub data Sends (r : Registry) (p : Process) : Entry → List Notice → Type 0 where
+  ByJoin : (j k m : ℕ) → Sends r p (Join j k m Joined) (notices_to p (settle (view r m) (r.lone j)).fate.notices)
+  ByNone : (e : Entry) → ((j k m : ℕ) → e ≡ Join j k m Joined → ⊥) → Sends r p e []
+
+-- What a process was sent stays, be it dead or not: each entry adds behind it what it sends, and takes nothing
+pub record NoticesStay (cluster : Nodes) (h : List Entry) : Type 0 where
+  pub grow : (before later : List Entry) (e : Entry) (p : Process) → h ≡ before ++ e ∷ later →
+      (more : List Notice) × Sends (registry_of cluster before) p e more
+      × ((registry_of cluster (before ++ e ∷ [])).notices p ≡ (registry_of cluster before).notices p ++ more)
+  pub stay : (later : List Entry) (p : Process) →
+      (more : List Notice) × ((registry_of cluster (h ++ later)).notices p ≡ (registry_of cluster h).notices p ++ more)
 
 -- A node joins once, and is joined ever after
 pub record JoinsOnce (cluster : Nodes) (h : List Entry) : Type 0 where

@@ -114,6 +114,10 @@ pub data IsSentBefore (table pairs : Table) (first second : Noted) : Type 0 wher
   OfCluster : first.notice.name ≡ second.notice.name → get first.notice.name table ≡ Some first.process →
       get second.notice.name pairs ≡ Some second.process → IsSentBefore table pairs first second
 
+-- the name y goes to nobody: both have it for two, and the cluster under `notify_all`
+abbrev pub GoesToNobody : Table → Table → Text → Type 0
+GoesToNobody table pairs y = (e own : Pair) × Clashes table pairs e own × (own.rule ≡ NotifyAll) × (e.name ≡ y)
+
 -- The settlement of a joiner's pairs against the cluster's table: what stands under each name once it is written, who dies, and who
 -- is sent what
 pub record Settles (table pairs : Table) (settled : Settled) : Type 0 where
@@ -135,6 +139,9 @@ pub record Settles (table pairs : Table) (settled : Settled) : Type 0 where
   -- only names of the joiner are written, rising
   pub rises : IsTrue (is_rising settled.puts)
   pub written : (y : Text) (e : Pair) → entry y settled.puts ≡ Some e → entry y pairs ≡ Some e
+  -- and the names that go to nobody are removed, no others are, and rising: so each of them once
+  pub removed : (y : Text) → Contains settled.removes y ↔ GoesToNobody table pairs y
+  pub removes_rise : AllPairs (λ x y. x < y) settled.removes
   -- who loses a name under `exit` dies, nobody else does, and each of them once
   pub killed : (p : Process) → Contains settled.fate.kills p ↔ ((y : Text) × Loses table pairs Exit p y)
   pub once : (before later : List Process) (p : Process) → settled.fate.kills ≡ before ++ p ∷ later → Contains before p → ⊥

@@ -4,7 +4,7 @@ ghost use Rattle.registry_model.specs.Process.{Nodes};
 ghost use Rattle.registry_model.specs.History.{Entry};
 ghost use Rattle.registry_model.specs.Legal.{IsLegal};
 ghost use Rattle.registry_model.specs.Sample.{sample, SampleHolds};
-ghost use Rattle.registry_model.specs.HistoryLaws.{OneOwner, YesToTheFree, CallsAreCarriedOut, NamesStand, NeverOverlap, HoldsUntilDone, OldLeavesOut, DeadForGood, JoinsOnce};
+ghost use Rattle.registry_model.specs.HistoryLaws.{OneOwner, YesToTheFree, CallsAreCarriedOut, NamesStand, NeverOverlap, HoldsUntilDone, OldLeavesOut, DeadForGood, NoticesStay, JoinsOnce};
 
 /// In the table of each group no name has two owners.
 pub fn one_owner()
@@ -44,6 +44,11 @@ pub fn old_leaves_out()
 /// Who dies is dead for good, and nobody else is dead.
 pub fn dead_for_good()
     ensures { (cluster : Nodes) (h : List Entry) → DeadForGood cluster h }
+{}
+
+/// What a process was sent stays: each entry adds what it sends, a join that of its settlement and any other entry nothing.
+pub fn notices_stay()
+    ensures { (cluster : Nodes) (h : List Entry) → NoticesStay cluster h }
 {}
 
 /// A node joins once, and is joined ever after.

@@ -26,7 +26,7 @@ fn is_own(node: &Node, event: &WorldEvent) -> bool
 {
     match event {
         WorldEvent::At(place, _) => *place == *node,
-        WorldEvent::Deliver(_, receiver) => *receiver == *node.name(),
+        WorldEvent::Deliver(_, receiver) => node.is_first_of(receiver),
     }
 }
 
@@ -43,9 +43,7 @@ fn play_logged<N: Names<Memory = Global>>(
     ensures refused { IfErr result (λ refusal. RefusedWith refusal (logged_event node.now event.now) world.old) }
 {
     match event {
-        LoggedEvent::Delivery(sender) => {
-            world.play(&WorldEvent::Deliver(sender.name().copy(), node.name().copy()))
-        }
+        LoggedEvent::Delivery(sender) => world.play_delivery(sender, node),
         LoggedEvent::Other(event) => world.play(event),
     }
 }

@@ -58,7 +58,7 @@ fn is_event(node: &Node, event: &LoggedEvent<'_>, other: &WorldEvent) -> bool
     match (event, other) {
         (LoggedEvent::Other(event), _) => **event == *other,
         (LoggedEvent::Delivery(sender), WorldEvent::Deliver(from, to)) => {
-            *sender.name() == *from && *node.name() == *to
+            sender.is_first_of(from) && node.is_first_of(to)
         }
         (LoggedEvent::Delivery(_), WorldEvent::At(_, _)) => false,
     }

@@ -1,11 +1,12 @@
 //! The run of a world in which a lone node joins that has a name of the cluster, too, written down as the threads of the nodes do.
+use crate::names::first_name;
 use name_table::{ListTable, Names, Pair};
 use node_log::{Notice, NoticeList};
 use replay::{
     Answer, Call, CloseFault, Closed, Event, Log, NodeEnd, Reply, World, WorldEvent, replay,
 };
 use std::alloc::Global;
-use term::{Node, NodeName, NodeSet, Pid, Rule, parse_name, parse_node, parse_nodes};
+use term::{Node, NodeSet, Pid, Rule, parse_name, parse_node, parse_nodes};
 
 /// The table of the tests.
 type Table = ListTable<Global>;
@@ -68,15 +69,13 @@ impl Run {
     }
 
     /// Delivers the oldest letter of a link, and writes it down with its answers. Whether it was taken.
-    fn deliver(&mut self, sender: NodeName, receiver: NodeName) -> bool {
-        let event = WorldEvent::Deliver(sender.copy(), receiver.copy());
-        let (sender, receiver) = (Node::first(sender), Node::first(receiver));
-        let Ok(answers) = self.world.play(&event) else {
+    fn deliver(&mut self, sender: &Node, receiver: &Node) -> bool {
+        let Ok(answers) = self.world.play_delivery(sender, receiver) else {
             return false;
         };
         let stamp = self.next_stamp();
-        let log = self.log(&receiver);
-        if log.begin_delivery(stamp, &sender).is_err() {
+        let log = self.log(receiver);
+        if log.begin_delivery(stamp, sender).is_err() {
             return false;
         }
         log.answer(answers);
@@ -89,7 +88,7 @@ impl Run {
             let Some((sender, receiver)) = self.world.waiting() else {
                 return true;
             };
-            if !self.deliver(sender, receiver) {
+            if !self.deliver(&sender, &receiver) {
                 return false;
             }
         }
@@ -155,9 +154,13 @@ fn replayed(
     if *ours.log.node() == *theirs.log.node() {
         return Err(CloseFault::Memory);
     }
-    let cluster = [ours.log.node().name().copy()];
-    let lone = [theirs.log.node().name().copy()];
-    replay(alloc, &cluster, &lone, &[ours, theirs], &[])
+    let Some(joined) = first_name(ours.log.node()) else {
+        return Err(CloseFault::Memory);
+    };
+    let Some(lone) = first_name(theirs.log.node()) else {
+        return Err(CloseFault::Memory);
+    };
+    replay(alloc, &[joined], &[lone], &[ours, theirs], &[])
 }
 
 /// The answer that the process of the lone node was sent a notice of the loss of x.
@@ -183,8 +186,8 @@ fn ends_with(log: &Log, answer: &Answer) -> bool {
 /// The run, where it is as it should be, with what its threads leave behind.
 fn played(alloc: Global) -> Option<(NodeEnd<Table>, NodeEnd<Table>)> {
     let (a, d, both) = (
-        Node::first(parse_node("a").ok()?),
-        Node::first(parse_node("d").ok()?),
+        parse_node("a").ok()?,
+        parse_node("d").ok()?,
         NodeSet::first_of(&parse_nodes("a,d").ok()?),
     );
     let mut run = Run::new(alloc, &a, &d, &both)?;

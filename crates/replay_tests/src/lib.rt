@@ -6,6 +6,8 @@ mod clashes;
 #[cfg(test)]
 mod logs;
 #[cfg(test)]
+mod names;
+#[cfg(test)]
 mod records;
 #[cfg(test)]
 mod runs;

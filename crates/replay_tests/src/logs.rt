@@ -54,13 +54,17 @@ fn is_spawn(entry: LoggedEntry<'_>, node: &Node) -> bool {
         && entry.answers[0] == spawned(node)
 }
 
-/// Whether a step is a delivery from this node.
-fn is_delivery(entry: LoggedEntry<'_>, sender: &Node) -> bool {
-    let is_from = match entry.event {
+/// Whether a step is the delivery of a letter from this node.
+fn is_from(entry: LoggedEntry<'_>, sender: &Node) -> bool {
+    match entry.event {
         LoggedEvent::Delivery(from) => *from == *sender,
         LoggedEvent::Other(_) => false,
-    };
-    is_from && entry.stamp == 4 && entry.seat.is_none() && entry.answers.is_empty()
+    }
+}
+
+/// Whether a step is a delivery from this node.
+fn is_delivery(entry: LoggedEntry<'_>, sender: &Node) -> bool {
+    is_from(entry, sender) && entry.stamp == 4 && entry.seat.is_none() && entry.answers.is_empty()
 }
 
 /// Whether a log has the spawn and the first delivery.
@@ -82,21 +86,12 @@ fn keeps_order(alloc: Global, world: &NodeSet, a: &Node, b: &Node) -> bool {
         && *log.node() == *b
 }
 
-/// Whether a step is a delivery between these nodes that is kept with their names.
-fn is_strange(entry: LoggedEntry<'_>, sender: &Node, receiver: &Node) -> bool {
-    match entry.event {
-        LoggedEvent::Other(WorldEvent::Deliver(from, to)) => *from == *sender.name()
-            && *to == *receiver.name(),
-        _ => false,
-    }
-}
-
 /// Whether a new log keeps a delivery from a node that its world doesn't have.
 fn keeps_stranger(alloc: Global, world: &NodeSet, a: &Node, c: &Node) -> bool {
     let mut log = Log::new(alloc, a.copy(), world);
     log.begin_delivery(1, c).is_ok()
         && match log.get(0) {
-            Some(entry) => is_strange(entry, c, a),
+            Some(entry) => is_from(entry, c),
             None => false,
         }
 }
@@ -106,7 +101,6 @@ fn keeps_steps_in_order(rt: HostRuntime) {
     match (parse_nodes("a,b"), parse_node("a"), parse_node("b")) {
         (Ok(world), Ok(a), Ok(b)) => {
             let world = NodeSet::first_of(&world);
-            let (a, b) = (Node::first(a), Node::first(b));
             assert!(rt; keeps_order(rt.alloc(), &world, &a, &b));
             assert!(rt; keeps_stranger(rt.alloc(), &NodeSet::one(a.copy()), &a, &b));
         }

@@ -23,7 +23,6 @@ fn are_counted_alike(rt: HostRuntime) {
     match (parse_nodes("a,b"), parse_node("a"), parse_node("b")) {
         (Ok(world), Ok(a), Ok(b)) => {
             let world = NodeSet::first_of(&world);
-            let (a, b) = (Node::first(a), Node::first(b));
             assert!(rt; counts_both::<Log>(rt.alloc(), &world, &a, &b));
             assert!(rt; counts_both::<ForgottenLog>(rt.alloc(), &world, &a, &b));
         }

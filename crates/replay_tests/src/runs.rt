@@ -1,4 +1,5 @@
 //! Runs of a node that is alone in its cluster, and what tears them.
+use crate::names::first_name;
 use name_table::{Change, Entry, ListTable, Names, Pair};
 use node_log::{Notice, NoticeList};
 use replay::{
@@ -132,8 +133,10 @@ fn replayed(
     end: NodeEnd<Table>,
     transcripts: &[Transcript],
 ) -> Result<Closed<Table>, CloseFault> {
-    let nodes = [end.log.node().name().copy()];
-    replay(alloc, &nodes, &[], &[end], transcripts)
+    let Some(name) = first_name(end.log.node()) else {
+        return Err(CloseFault::Memory);
+    };
+    replay(alloc, &[name], &[], &[end], transcripts)
 }
 
 /// Whether a run had so many events, and a history, and the name has its owner and its rule.

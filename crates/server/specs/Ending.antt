@@ -1,7 +1,7 @@
 -- The last line of a cluster that was served.
 use Rattle.std.specs.Prelude.{ℕ, List, ◌∷◌, ◌++◌, codes, Result, Ok, Err}
 use Rattle.std.specs.Fmt.{decimal}
-use Rattle.term.specs.Spelling.{bytes_of}
+use Rattle.term.specs.Spelling.{node_bytes}
 use Rattle.console.specs.Printing.{ended, error_line}
 use Rattle.node_threads.specs.declared.Closed.{Closed}
 use Rattle.node_threads.specs.declared.CloseFault.{CloseFault}
@@ -9,8 +9,8 @@ use Rattle.node_threads.specs.declared.CloseFault.TheVariants.{Torn, LeftInHold,
 
 -- the words for which a run isn't one of the world's
 abbrev pub fault_text : CloseFault → List ℕ
-fault_text (Torn a k) = codes "torn " ++ bytes_of a ++ 32 ∷ decimal k
-fault_text (LeftInHold a) = codes "left_in_hold " ++ bytes_of a
+fault_text (Torn a k) = codes "torn " ++ node_bytes a ++ 32 ∷ decimal k
+fault_text (LeftInHold a) = codes "left_in_hold " ++ node_bytes a
 fault_text (Stranger seat) = codes "stranger " ++ decimal seat
 fault_text Memory = codes "memory"
 

@@ -1,7 +1,7 @@
 -- The lines on which a server that stays tells what happens.
 use Rattle.std.specs.Prelude.{ℕ, Bool, true, false, List, ◌∷◌, ◌++◌, codes, Result, Ok, Err}
 use Rattle.std.specs.Fmt.{decimal}
-use Rattle.term.specs.Spelling.{bytes_of}
+use Rattle.term.specs.Spelling.{name_bytes, node_bytes}
 use Rattle.text_lines.specs.declared.faults.StreamFault.{StreamFault}
 use Rattle.text_lines.specs.declared.faults.StreamFault.TheVariants as fault
 use Rattle.console.specs.declared.ends.ConsoleEnd.{ConsoleEnd}
@@ -45,9 +45,9 @@ told_of console text = codes "console " ++ decimal console ++ 32 ∷ text
 -- the text of the line on which it is told
 abbrev pub note_text : Note → List ℕ
 note_text (Taken console) = told_of console (codes "taken")
-note_text (Parted console node parting) = told_of console (bytes_of node ++ codes " ended " ++ parting_word parting)
+note_text (Parted console node parting) = told_of console (name_bytes node ++ codes " ended " ++ parting_word parting)
 note_text (NotAttached console) = told_of console (codes "not_attached")
 note_text TooMany = codes "too_many_consoles"
 note_text AcceptFailed = codes "accept failed"
-note_text (Spent Calls node) = codes "calls of " ++ bytes_of node ++ codes ": 90 % spent"
-note_text (Spent Serials node) = codes "serials of " ++ bytes_of node ++ codes ": 90 % spent"
+note_text (Spent Calls node) = codes "calls of " ++ node_bytes node ++ codes ": 90 % spent"
+note_text (Spent Serials node) = codes "serials of " ++ node_bytes node ++ codes ": 90 % spent"

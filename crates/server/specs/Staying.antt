@@ -3,7 +3,7 @@ use Rattle.std.specs.Prelude.{ℕ, Bool, ◌≡◌, is_ok, List, [], ◌∷◌, 
 use Rattle.std.specs.Global.{Global}
 use Rattle.std.specs.Io.KnownBytes.{Appends, Keeps}
 use Rattle.registry_model.specs.Table.{Table}
-use Rattle.term.specs.Spelling.{bytes_of}
+use Rattle.term.specs.Spelling.{node_bytes}
 use Rattle.console.specs.Printing.{error_line}
 use Rattle.node_threads.specs.declared.ending.EndedCluster.{EndedCluster}
 use Rattle.node_threads.specs.declared.ending.EndFault.{EndFault}
@@ -19,7 +19,7 @@ use Rattle.server.specs.Ending.{closed_line}
 
 -- the words for which it isn't told what a cluster came to
 abbrev pub end_text : EndFault → List ℕ
-end_text (untold.LeftInHold a) = codes "left_in_hold " ++ bytes_of a
+end_text (untold.LeftInHold a) = codes "left_in_hold " ++ node_bytes a
 end_text untold.Memory = codes "memory"
 
 -- the line that tells what ending a cluster came to

@@ -12,7 +12,7 @@ use std::alloc::Global;
 use std::io::{BufReader, Read, Write};
 use std::sync::Wait;
 use std::time::Clock;
-use term::{NodeName, NodeNames};
+use term::{NodeName, NodeSet};
 
 /// The transcript of a console that has ended, well or with a fault.
 fn transcript_of(ended: Result<Transcript, (ConsoleFault, Transcript)>) -> Transcript
@@ -71,7 +71,7 @@ pub(crate) fn attend<H: Wait + Clock, R: Read, W: Write>(
     alloc: Global,
     reader: &mut BufReader<R, Global>,
     writer: &mut W,
-    nodes: &NodeNames,
+    nodes: &NodeSet,
     place: Place,
 ) -> Left
     requires { Reaches nodes.now place }

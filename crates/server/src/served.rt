@@ -6,7 +6,7 @@ use node_threads::{FreeSeat, SeatFault, Transcript};
 use std::alloc::{AllocError, Global};
 use std::snapshot::Snapshot;
 use std::thread::Promise;
-use term::NodeNames;
+use term::NodeSet;
 
 /// The seat that a console has, or why it has none.
 pub(crate) type Place = Result<FreeSeat, SeatFault>;
@@ -14,7 +14,7 @@ pub(crate) type Place = Result<FreeSeat, SeatFault>;
 /// What a console begins with: the nodes to which it may be attached, and its seat.
 #[derive(Drop)]
 pub(crate) struct Start {
-    pub(crate) nodes: NodeNames,
+    pub(crate) nodes: NodeSet,
     pub(crate) place: Place,
 }
 

@@ -16,7 +16,7 @@ use std::net::TcpListener;
 use std::sync::Wait;
 use std::thread::Threads;
 use std::time::Clock;
-use term::{Node, NodeName, NodeNames, NodeSet};
+use term::{Node, NodeName, NodeSet};
 use text_lines::tell;
 
 /// How often a node's thread, or a seat, that finds nothing to do yields at most before it sleeps. That mostly takes longer than a
@@ -35,14 +35,14 @@ fn put_all(set: &mut NodeSet, nodes: &[NodeName])
 }
 
 /// The set of all these names, of which there are eight at most.
-pub(crate) fn set_of_all(cluster: &[NodeName], lone: &[NodeName]) -> NodeNames
+pub(crate) fn set_of_all(cluster: &[NodeName], lone: &[NodeName]) -> NodeSet
     ensures { length cluster.now + length lone.now ≤ most_nodes
         → (c : ℕ) → set_of result c ≡ (set_of cluster.now c || set_of lone.now c) }
 {
     let mut set = NodeSet::empty();
     put_all(&mut set, cluster);
     put_all(&mut set, lone);
-    NodeNames::of(&set)
+    set
 }
 
 /// Closes a cluster with these transcripts, and tells what it closed with.

@@ -18,7 +18,7 @@ use std::sync::Wait;
 use std::thread;
 use std::thread::{PromisedHandle, Threads};
 use std::time::Clock;
-use term::NodeNames;
+use term::NodeSet;
 
 /// A cluster that is served: its tables hash, and no turn of its nodes is held back.
 pub(crate) type ServedCluster = Cluster<OpenGate, IndexTable<Global>>;
@@ -32,7 +32,7 @@ pub(crate) struct Door<R: Drop> {
     pub(crate) rt: R,
     pub(crate) alloc: Global,
     pub(crate) listener: TcpListener,
-    pub(crate) nodes: NodeNames,
+    pub(crate) nodes: NodeSet,
 }
 
 /// Serves the console at the other end of a connection. Each answer is sent at once, also where lines were sent ahead and the answer

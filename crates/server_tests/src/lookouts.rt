@@ -1,7 +1,7 @@
 //! What is told of numbers that are nearly spent.
 use server::{Lookout, Numbers, Spent};
 use std::test::Fail;
-use term::{Node, parse_node};
+use term::{Node, parse_node_name};
 
 /// What is told of a node where these were the last numbers that it gave.
 fn look(lookout: &mut Lookout, node: &Node, calls: u32, serials: u32) -> Spent {
@@ -18,8 +18,8 @@ fn look(lookout: &mut Lookout, node: &Node, calls: u32, serials: u32) -> Spent {
 
 #[test]
 fn nine_tenths_are_told_once(rt: HostRuntime) -> Result<(), Fail> {
-    let node = Node::first(parse_node("a")?);
-    let other = Node::first(parse_node("b")?);
+    let node = Node::first(parse_node_name("a")?);
+    let other = Node::first(parse_node_name("b")?);
     let mut lookout = Lookout::new();
     let nothing = Spent {
         calls: false,

@@ -9,7 +9,7 @@ use std::sync::Wait;
 use std::test::Fail;
 use std::thread::{Threads, join};
 use std::time::Clock;
-use term::parse_node;
+use term::parse_node_name;
 
 /// What serving a cluster came to.
 #[derive(Drop)]
@@ -41,7 +41,7 @@ where
 {
     let mut written = Vec::new(alloc);
     let mut told = Vec::new(alloc);
-    let result = match parse_node("a") {
+    let result = match parse_node_name("a") {
         Ok(node) => run_stay(
             rt,
             alloc,

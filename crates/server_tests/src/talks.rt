@@ -8,7 +8,7 @@ use std::sync::Wait;
 use std::test::Fail;
 use std::thread::{Threads, join};
 use std::time::Clock;
-use term::parse_node;
+use term::parse_node_name;
 
 /// Serves a cluster of the one node a.
 fn serve<R, W>(
@@ -22,7 +22,7 @@ where
     R: Threads + Wait + Clock + Drop + Copy + Send + Sync + 'static,
     W: Write,
 {
-    match parse_node("a") {
+    match parse_node_name("a") {
         Ok(node) => run_serve(
             rt,
             alloc,
@@ -77,7 +77,7 @@ where
     R: Threads + Wait + Clock + Drop + Copy + Send + Sync + 'static,
     W: Write,
 {
-    let (Ok(a), Ok(d)) = (parse_node("a"), parse_node("d")) else {
+    let (Ok(a), Ok(d)) = (parse_node_name("a"), parse_node_name("d")) else {
         return Err(ServeFault::Memory);
     };
     run_serve(

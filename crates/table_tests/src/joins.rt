@@ -118,7 +118,6 @@ fn tells<N: Names<Memory = Global>>(
         parse_nodes("e"),
     ) {
         (Ok(joiner), Ok(members), Ok(left)) => {
-            let joiner = Node::first(joiner);
             let (members, left) = (NodeSet::first_of(&members), NodeSet::first_of(&left));
             admits(alloc, &joiner, settled, join)
                 && welcomes(alloc, &joiner, table, &members, &left, settled, join)

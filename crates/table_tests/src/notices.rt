@@ -28,7 +28,7 @@ fn was_sent(alloc: Global, lists: &NoticeLists, serial: u32, text: &str) -> bool
 #[test]
 fn notices_come_in_order(rt: HostRuntime) -> Result<(), Fail> {
     let alloc = rt.alloc();
-    let node = Node::first(parse_node("a")?);
+    let node = parse_node("a")?;
     let mut lists = NoticeLists::new(alloc);
     assert!(rt; was_sent(alloc, &lists, 1, ""));
     send(alloc, &mut lists, &node, "x:a.1 y:b.1 z:a.2:c.3 y:a.1:b.1")?;

@@ -5,7 +5,7 @@ use exit_watch::Watch;
 use name_table::{Change, ListTable, Names, Pair};
 use std::alloc::Global;
 use std::test::Fail;
-use term::{Name, Node, Pid, Rule, parse_name, parse_node, parse_pid};
+use term::{Name, Pid, Rule, parse_name, parse_node, parse_pid};
 
 type Table = ListTable<Global>;
 
@@ -108,7 +108,7 @@ fn is_copied(watch: &Watch, table: &Table, wanted: &str) -> bool
 
 #[test]
 fn owes_strikes_of_the_dead(rt: HostRuntime) -> Result<(), Fail> {
-    let mut watch = Watch::resume(rt.alloc(), Node::first(parse_node("a")?), 9);
+    let mut watch = Watch::resume(rt.alloc(), parse_node("a")?, 9);
     let mut table: Table = Names::empty(rt.alloc());
     assert!(rt; plays(&mut watch, &mut table));
     assert!(rt; is_copied(&watch, &table, "a.4"));

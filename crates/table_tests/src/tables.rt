@@ -2,7 +2,7 @@
 use crate::reading::{are_pairs, entry_of, pair_of, pairs_of};
 use name_table::{Change, IndexTable, ListTable, Names, Pair};
 use std::alloc::Global;
-use term::{Name, Node, parse_name, parse_node, parse_pid};
+use term::{Name, parse_name, parse_node, parse_pid};
 
 /// Puts a name for the owner and under the rule of a text such as `a.1:notify`.
 fn put<N: Names>(table: &mut N, name: &str, text: &str) -> bool {
@@ -32,7 +32,7 @@ fn strike<N: Names>(table: &mut N, owner: &str) -> bool {
 fn drop_node<N: Names>(table: &mut N, node: &str) -> bool {
     match parse_node(node) {
         Ok(node) => {
-            table.drop_node(&Node::first(node));
+            table.drop_node(&node);
             true
         }
         Err(_) => false,

@@ -2,7 +2,7 @@
 use exit_watch::{Watch, WatchFault};
 use std::alloc::Global;
 use std::test::Fail;
-use term::{Node, Pid, parse_node, parse_pid};
+use term::{Pid, parse_node, parse_pid};
 
 /// The process of a text, where `a.0` is the registrar of the node a.
 fn process_of(text: &str) -> Option<Pid> {
@@ -10,10 +10,7 @@ fn process_of(text: &str) -> Option<Pid> {
         return parse_pid(text).ok();
     }
     match parse_node("a") {
-        Ok(node) => Some(Pid {
-            node: Node::first(node),
-            serial: 0,
-        }),
+        Ok(node) => Some(Pid { node, serial: 0 }),
         Err(_) => None,
     }
 }
@@ -130,7 +127,7 @@ exit a.2: already_exited
 
 #[test]
 fn gives_serials_and_tells_the_dead(rt: HostRuntime) -> Result<(), Fail> {
-    let node = Node::first(parse_node("a")?);
+    let node = parse_node("a")?;
     let mut late = Watch::resume(rt.alloc(), node.copy(), 4_294_967_294);
     assert!(rt; plays(rt.alloc(), &mut late, LAST));
     let mut middle = Watch::resume(rt.alloc(), node.copy(), 2);

@@ -5,21 +5,21 @@ use Rattle.std.specs.List.{filter}
 use Rattle.std.proofs.Math.Path.{fun_ext}
 use Rattle.std.proofs.Math.Bool.{or-false, or-true, and-true}
 use Rattle.std.proofs.lemmas.Bool.{cases_order, cases_eq, eq-eqb, ne_eqb, lt-ltb, le-ltb}
-use Rattle.registry_model.specs.Process.{with_node}
+use Rattle.registry_model.specs.Process.{Nodes, with_node}
 use Rattle.term.specs.declared.faults.TextFault.{TextFault}
 use Rattle.term.specs.NodeSets.{HasNoRoom, set_of, most_nodes, with_node as and_node, without_node}
 use Rattle.term.proofs.Subsets.{set_of-filter, set_of-take}
 
 -- the nodes of a list that are among the others, where the first i were looked at
-abbrev pub Looked : List ℕ → List ℕ → ℕ → List ℕ → Type 0
-Looked xs others i kept = (c : ℕ) → set_of kept c ≡ (set_of xs c && (not (set_of (take i xs) c) || set_of others c))
+abbrev pub Looked : List ℕ → Nodes → ℕ → List ℕ → Type 0
+Looked xs others i kept = (c : ℕ) → set_of kept c ≡ (set_of xs c && (not (set_of (take i xs) c) || others c))
 
 -- the i-th is among the others, and stays
-pub stays : (xs others kept : List ℕ) (i x : ℕ) → i < length xs → x ≡ get_or xs i x → set_of others x ≡ true
+pub stays : (xs : List ℕ) (others : Nodes) (kept : List ℕ) (i x : ℕ) → i < length xs → x ≡ get_or xs i x → others x ≡ true
     → Looked xs others i kept → Looked xs others (i + 1) kept
 stays xs others kept i x l e is looked c = elim (cases_eq x c) [
   | inl same ↦
-      rw (looked c, set_of-take xs i x l e c, eq-eqb x c same, subst (λ (y : ℕ). set_of others y ≡ true) same is)
+      rw (looked c, set_of-take xs i x l e c, eq-eqb x c same, subst (λ (y : ℕ). others y ≡ true) same is)
       (both (set_of xs c) (set_of (take i xs) c))
   | inr ne ↦ rw (looked c, set_of-take xs i x l e c, ne_eqb x c ne, or-false (set_of (take i xs) c)) refl
 ]
@@ -30,7 +30,7 @@ stays xs others kept i x l e is looked c = elim (cases_eq x c) [
     both true false = refl
 
 -- the i-th isn't among the others, and goes
-pub goes : (xs others kept : List ℕ) (i x : ℕ) → i < length xs → x ≡ get_or xs i x → set_of others x ≡ false
+pub goes : (xs : List ℕ) (others : Nodes) (kept : List ℕ) (i x : ℕ) → i < length xs → x ≡ get_or xs i x → others x ≡ false
     → Looked xs others i kept → Looked xs others (i + 1) (without_node kept x)
 goes xs others kept i x l e isnt looked c =
     set_of-filter (λ m. not (m == x)) kept c ∙ elim (cases_eq x c) [
@@ -40,7 +40,7 @@ goes xs others kept i x l e isnt looked c =
             set_of-take xs i x l e c,
             eq-eqb x c same,
             eq-eqb c x (sym same),
-            subst (λ (y : ℕ). set_of others y ≡ false) same isnt,
+            subst (λ (y : ℕ). others y ≡ false) same isnt,
           )
           (neither (set_of xs c) (set_of (take i xs) c))
       | inr ne ↦
@@ -50,7 +50,7 @@ goes xs others kept i x l e isnt looked c =
             ne_eqb x c ne,
             ne_eqb c x (λ q. ne (sym q)),
             or-false (set_of (take i xs) c),
-          ) (and-true (set_of xs c && (not (set_of (take i xs) c) || set_of others c)))
+          ) (and-true (set_of xs c && (not (set_of (take i xs) c) || others c)))
     ]
   where
     neither : (s t : Bool) → ((s && (not t || false)) && false) ≡ (s && (not (t || true) || false))

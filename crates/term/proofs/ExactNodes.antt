@@ -1,4 +1,4 @@
--- Sets of nodes are spelled and refused exactly.
+-- Sets of names of nodes are spelled and refused exactly.
 use Rattle.std.proofs.Common.{◌≡◌, ℕ, suc, zero, ◌<◌, ◌≤◌, ◌==◌, ◌||◌, ◌⊎◌, inl, inr, List, [], ◌∷◌, length, Bool, true, false, arith, subst, sym, ◌∙◌, ap, refl, get_or, take}
 use Rattle.std.proofs.Math.Bool.{or_comm}
 use Rattle.std.proofs.lemmas.Bool.{cases_lt, eq-eqb, eqb-true}
@@ -10,16 +10,17 @@ use Rattle.std.proofs.lemmas.Slice.Zip.{AllZip-long}
 use Rattle.std.specs.List.{All, AllZip}
 use Rattle.std.specs.List.Sorted.{IsStrictlyIncreasing}
 use Rattle.term.specs.declared.faults.TextFault.{TextFault}
-use Rattle.term.specs.declared.faults.TextFault.TheVariants.{Empty, TooLong, BadByte, BadSerial, BadRule, TooManyNodes}
+use Rattle.term.specs.declared.faults.TextFault.TheVariants.{Empty, TooLong, BadByte, BadCreation, BadSerial, BadRule, TooManyNodes}
 use Rattle.term.specs.Laws.{IsDecided}
 use Rattle.term.specs.NodeLists.{ListsNodes, SpellsNodes, RefusesPart, RefusesNodes, ListsTooMany, parts_of, comma, list_of}
 use Rattle.term.specs.NodeSets.{set_of, with_node, most_nodes}
-use Rattle.term.specs.Spelling.{IsText, SpellsText, RefusesText}
+use Rattle.term.specs.Nodes.{IsFirst}
+use Rattle.term.specs.Spelling.{IsText, SpellsNodeName, RefusesText, name_bytes}
 use Rattle.term.proofs.ExactTexts as texts
 use Rattle.term.proofs.NodeLists.{rising-tail, rising-with_node, refused-nodes}
 use Rattle.term.proofs.NodeSets.{rises, set_of-with_node}
 use Rattle.term.proofs.NodeTexts.{IsName, list_of-spells}
-use Rattle.term.proofs.Texts.{bytes_of-spells}
+use Rattle.term.proofs.OneNode.{exact_node_names, name-first, name_bytes-spells}
 
 -- what the first of rising nodes is below, and what it is not above
 above_first : (x : ℕ) (xs : List ℕ) (c : ℕ) → IsStrictlyIncreasing (x ∷ xs) → set_of xs c ≡ true → x < c
@@ -46,7 +47,7 @@ not_true true h = absurd (h refl)
 not_true false h = refl
 
 -- rising lists that hold the same are the same
-rising-unique : (xs ys : List ℕ) → IsStrictlyIncreasing xs → IsStrictlyIncreasing ys
+pub rising-unique : (xs ys : List ℕ) → IsStrictlyIncreasing xs → IsStrictlyIncreasing ys
     → ((c : ℕ) → set_of xs c ≡ set_of ys c) → xs ≡ ys
 rising-unique [] [] up rise same = refl
 rising-unique [] (y ∷ ys) up rise same = absurd (cc (same y, holds_first y ys))
@@ -73,7 +74,7 @@ rising-unique (x ∷ xs) (y ∷ ys) up rise same =
             rw (e, elsewhere) at (same c)
 
 -- the names that parts spell are one list
-names-unique : (parts : List (List ℕ)) (xs ys : List ℕ) → AllZip SpellsText parts xs → AllZip SpellsText parts ys → xs
+names-unique : (parts : List (List ℕ)) (xs ys : List ℕ) → AllZip SpellsNodeName parts xs → AllZip SpellsNodeName parts ys → xs
     ≡ ys
 names-unique [] [] [] s u = refl
 names-unique [] [] (y ∷ ys) s u = absurd u
@@ -81,7 +82,7 @@ names-unique [] (x ∷ xs) ys s u = absurd s
 names-unique (p ∷ ps) [] ys s u = absurd s
 names-unique (p ∷ ps) (x ∷ xs) [] s u = absurd u
 names-unique (p ∷ ps) (x ∷ xs) (y ∷ ys) s u =
-    let first = texts.one_value p x y s.0 u.0 in
+    let first = exact_node_names.one_value p x y s.0 u.0 in
     let rest = names-unique ps xs ys s.1 u.1 in
     cc
 
@@ -92,8 +93,8 @@ lists-unique bytes xs ys s u =
     rising-unique xs ys s.rising u.rising (λ c. s.named c ∙ (ap (λ (zs : List ℕ). set_of zs c) names ∙ sym (u.named c)))
 
 -- the part at a place spells the name there
-spelled-at : (parts : List (List ℕ)) (names : List ℕ) (k : ℕ) → AllZip SpellsText parts names → k < length parts
-    → SpellsText (get_or parts k []) (get_or names k 0)
+spelled-at : (parts : List (List ℕ)) (names : List ℕ) (k : ℕ) → AllZip SpellsNodeName parts names → k < length parts
+    → SpellsNodeName (get_or parts k []) (get_or names k 0)
 spelled-at [] names k s inside = absurd (omega arith)
 spelled-at (p ∷ ps) [] k s inside = absurd s
 spelled-at (p ∷ ps) (x ∷ xs) zero s inside = s.0
@@ -102,7 +103,7 @@ spelled-at (p ∷ ps) (x ∷ xs) (suc k) s inside = spelled-at ps xs k s.1 (omeg
 -- a text that lists nodes has no part that is refused
 never_refused : (bytes nodes : List ℕ) (f : TextFault) → ListsNodes bytes nodes → RefusesPart bytes f → ⊥
 never_refused bytes nodes f s r =
-    texts.never_both (get_or (parts_of bytes) r.place []) (get_or s.names r.place 0) f
+    exact_node_names.never_both (get_or (parts_of bytes) r.place []) (get_or s.names r.place 0) f
     (spelled-at (parts_of bytes) s.names r.place s.spelled r.inside) r.refused
 
 -- a text is refused for its first part that is no name, or for too many nodes
@@ -112,6 +113,7 @@ node-refused bytes TooManyNodes r = inl (r, refl)
 node-refused bytes Empty r = inr r
 node-refused bytes TooLong r = inr r
 node-refused bytes (BadByte p) r = inr r
+node-refused bytes BadCreation r = absurd r
 node-refused bytes BadSerial r = absurd r
 node-refused bytes BadRule r = absurd r
 
@@ -170,10 +172,10 @@ record RefusedAmong (parts : List (List ℕ)) : Type 0 where
   refused : RefusesText (get_or parts place []) fault
 
 -- parts spell names, or the first that spells none is refused
-names-search : (parts : List (List ℕ)) → ((names : List ℕ) × AllZip SpellsText parts names) ⊎ RefusedAmong parts
+names-search : (parts : List (List ℕ)) → ((names : List ℕ) × AllZip SpellsNodeName parts names) ⊎ RefusedAmong parts
 names-search [] = inl ([], tt)
 names-search (p ∷ ps) =
-    elim (texts.always_either p) [
+    elim (exact_node_names.always_either p) [
       | inr refused ↦ inr (record {
         place = 0;
         inside = omega arith;
@@ -221,7 +223,7 @@ always_either bytes =
       | inl names ↦ listed names.0 names.1 (sorted-names names.0)
     ]
   where
-    listed : (names : List ℕ) → AllZip SpellsText (parts_of bytes) names
+    listed : (names : List ℕ) → AllZip SpellsNodeName (parts_of bytes) names
         → (nodes : List ℕ) × IsStrictlyIncreasing nodes × ((c : ℕ) → set_of nodes c ≡ set_of names c)
         → ((nodes : List ℕ) × SpellsNodes bytes nodes) ⊎ ((f : TextFault) × RefusesNodes bytes f)
     listed names spelled sorted =
@@ -242,16 +244,16 @@ decided_nodes = record {
 }
 
 -- the nodes of a spelled set are names
-spelled-name : (parts : List (List ℕ)) (names : List ℕ) (c : ℕ) → AllZip SpellsText parts names → set_of names c ≡ true
+spelled-name : (parts : List (List ℕ)) (names : List ℕ) (c : ℕ) → AllZip SpellsNodeName parts names → set_of names c ≡ true
     → IsName c
 spelled-name parts names c s held =
     let found = Any-from_list_any (λ m. m == c) names held in
     let at : get_or names found.0 0 ≡ c =
     get_or_default names found.0 0 found.1 found.2 ∙ (found.3 ∙ eqb-true found.1 c found.4) in
-    let part = spelled-at parts names found.0 s (omega (arith, found.2, AllZip-long SpellsText parts names s)) in
+    let part = spelled-at parts names found.0 s (omega (arith, found.2, AllZip-long SpellsNodeName parts names s)) in
     subst IsName at
-    (subst (λ (bs : List ℕ). SpellsText bs (get_or names found.0 0))
-    (sym (bytes_of-spells (get_or parts found.0 []) (get_or names found.0 0) part)) part)
+    (subst (λ (bs : List ℕ). SpellsNodeName bs (get_or names found.0 0))
+    (sym (name_bytes-spells (get_or parts found.0 []) (get_or names found.0 0) part)) part)
 
 -- a set that holds a node has one
 some_node : (nodes : List ℕ) (c : ℕ) → set_of nodes c ≡ true → 0 < length nodes
@@ -271,15 +273,24 @@ spelled_some bytes nodes s = some_node nodes first held
         omega (
           arith,
           length-slice_split (λ b. b == comma) bytes,
-          AllZip-long SpellsText (parts_of bytes) s.listed.names s.listed.spelled,
+          AllZip-long SpellsNodeName (parts_of bytes) s.listed.names s.listed.spelled,
         ) in
         s.listed.named first ∙ list_any_at (λ m. m == first) s.listed.names 0 0 some (eq-eqb first first refl)
+
+-- each node of it is the name that it spells
+named-nodes : (bytes nodes : List ℕ) → SpellsNodes bytes nodes → All IsName nodes
+named-nodes bytes nodes s = λ k d inside.
+    spelled-name (parts_of bytes) s.listed.names (get_or nodes k d) s.listed.spelled
+    (sym (s.listed.named (get_or nodes k d))
+    ∙ list_any_at (λ m. m == get_or nodes k d) nodes k d inside (eq-eqb (get_or nodes k d) (get_or nodes k d) refl))
+
+-- and the first node of it
+pub spelled_first : (bytes nodes : List ℕ) → SpellsNodes bytes nodes → All IsFirst nodes
+spelled_first bytes nodes s = λ k d inside.
+    name-first (name_bytes (get_or nodes k d)) (get_or nodes k d) (named-nodes bytes nodes s k d inside)
 
 -- a set that a text spells is spelled by the text that it is printed as
 pub printed_nodes : (bytes nodes : List ℕ) → SpellsNodes bytes nodes → SpellsNodes (list_of nodes) nodes
 printed_nodes bytes nodes s =
     list_of-spells nodes (spelled_some bytes nodes s) (record { rising = s.listed.rising; fits = s.fits })
-    (λ k d inside.
-    spelled-name (parts_of bytes) s.listed.names (get_or nodes k d) s.listed.spelled
-    (sym (s.listed.named (get_or nodes k d))
-    ∙ list_any_at (λ m. m == get_or nodes k d) nodes k d inside (eq-eqb (get_or nodes k d) (get_or nodes k d) refl)))
+    (named-nodes bytes nodes s)

@@ -6,7 +6,7 @@ use Rattle.std.proofs.lemmas.List.Sums.{fails_before_first, passes_at_first}
 use Rattle.std.specs.List.{AllPass, position_or_len}
 use Rattle.registry_model.specs.Process.{longest, text_of}
 use Rattle.term.specs.declared.faults.TextFault.{TextFault}
-use Rattle.term.specs.declared.faults.TextFault.TheVariants.{Empty, TooLong, BadByte, BadSerial, BadRule, TooManyNodes}
+use Rattle.term.specs.declared.faults.TextFault.TheVariants.{Empty, TooLong, BadByte, BadCreation, BadSerial, BadRule, TooManyNodes}
 use Rattle.term.specs.Laws.{IsExact, KeepsByteOrder}
 use Rattle.term.specs.Spelling.{IsText, IsFirstBad, SpellsText, RefusesText, is_allowed}
 use Rattle.term.proofs.Texts.{nat_cmp-text_of, text_of-injective}
@@ -41,6 +41,7 @@ pub never_both : (bytes : List ℕ) (v : ℕ) (f : TextFault) → SpellsText byt
 never_both bytes v Empty s r = omega (arith, s.text.some, r)
 never_both bytes v TooLong s r = omega (arith, s.text.fits, r)
 never_both bytes v (BadByte p) s r = cc (s.text.allowed p 0 r.1.inside, r.1.bad)
+never_both bytes v BadCreation s r = r
 never_both bytes v BadSerial s r = r
 never_both bytes v TooManyNodes s r = r
 never_both bytes v BadRule s r = r
@@ -60,6 +61,10 @@ one_fault bytes Empty (BadByte q) r t = absurd (omega (arith, r, t.1.inside))
 one_fault bytes (BadByte p) Empty r t = absurd (omega (arith, t, r.1.inside))
 one_fault bytes TooLong (BadByte q) r t = absurd (omega (arith, r, t.0))
 one_fault bytes (BadByte p) TooLong r t = absurd (omega (arith, t, r.0))
+one_fault bytes BadCreation g r t = absurd r
+one_fault bytes Empty BadCreation r t = absurd t
+one_fault bytes TooLong BadCreation r t = absurd t
+one_fault bytes (BadByte p) BadCreation r t = absurd t
 one_fault bytes BadSerial g r t = absurd r
 one_fault bytes Empty BadSerial r t = absurd t
 one_fault bytes TooLong BadSerial r t = absurd t

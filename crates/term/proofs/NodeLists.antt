@@ -13,10 +13,10 @@ use Rattle.std.specs.List.{All, AllZip}
 use Rattle.std.specs.List.Sorted.{IsStrictlyIncreasing}
 use Rattle.std.specs.Result.{is_err}
 use Rattle.term.specs.declared.faults.TextFault.{TextFault}
-use Rattle.term.specs.declared.faults.TextFault.TheVariants.{Empty, TooLong, BadByte, BadSerial, BadRule, TooManyNodes}
+use Rattle.term.specs.declared.faults.TextFault.TheVariants.{Empty, TooLong, BadByte, BadCreation, BadSerial, BadRule, TooManyNodes}
 use Rattle.term.specs.NodeLists.{ListsNodes, SpellsNodes, RefusesPart, RefusesNodes, ListsTooMany, parts_of}
 use Rattle.term.specs.NodeSets.{IsNodeSet, HasNoRoom, set_of, with_node, most_nodes}
-use Rattle.term.specs.Spelling.{IsText, SpellsText, RefusesText}
+use Rattle.term.specs.Spelling.{IsText, SpellsNodeName, RefusesText}
 use Rattle.term.proofs.NodeSets.{StandsAt, FitsAt, rises, never_falls, with_node-there, with_node-fits, set_of-there, set_of-with_node, rising-insert}
 
 -- the nodes behind the first rise too
@@ -98,7 +98,7 @@ pub record HasRead {S A : Type 0} (steps : S → Option A → S → Type 0) (v :
   pub parts : parts_of bytes ≡ done ++ left
   pub yields : YieldsList steps v s left
   pub names : List ℕ
-  pub spelled : AllZip SpellsText done names
+  pub spelled : AllZip SpellsNodeName done names
   pub all : List ℕ
   pub rising : IsStrictlyIncreasing all
   pub named : (c : ℕ) → set_of all c ≡ set_of names c
@@ -156,7 +156,7 @@ kept_up all nodes after c false (Err f) up same step =
 pub read_more : {S A : Type 0} (steps : S → Option A → S → Type 0) (v : A → List ℕ) (bytes : List ℕ) (s t : S) (x : A)
     (c : ℕ)
     (nodes after : List ℕ) (is_over : Bool) (r : Result Bool TextFault) → HasRead steps v bytes s nodes is_over
-    → steps s (Some x) t → SpellsText (v x) c
+    → steps s (Some x) t → SpellsNodeName (v x) c
     → MatchResult r (λ is_new. (after ≡ with_node nodes c) × (is_new ≡ not (set_of nodes c))) (HasNoRoom nodes c)
     → IsNodeSet after → HasRead steps v bytes t after (is_over || is_err r)
 read_more steps v bytes s t x c nodes after is_over r read step spelled inserted set =
@@ -167,7 +167,7 @@ read_more steps v bytes s t x c nodes after is_over r read step spelled inserted
           ∙ sym (append_assoc read.done (v x ∷ []) next.0));
       yields = next.2;
       names = read.names ++ c ∷ [];
-      spelled = all_zipped_more SpellsText read.done read.names (v x) c read.spelled spelled;
+      spelled = all_zipped_more SpellsNodeName read.done read.names (v x) c read.spelled spelled;
       all = with_node read.all c;
       rising = rising-with_node read.all c read.rising;
       named = λ d. set_of-with_node read.all c d
@@ -188,7 +188,7 @@ all_read steps v bytes s t nodes is_over read step = record {
       let none = no_part steps v s t read.left read.yields step in
       let whole : read.done ≡ parts_of bytes =
       sym (read.parts ∙ (ap (λ (ps : List (List ℕ)). read.done ++ ps) none ∙ append-nil read.done)) in
-      subst (λ (ps : List (List ℕ)). AllZip SpellsText ps read.names) whole read.spelled;
+      subst (λ (ps : List (List ℕ)). AllZip SpellsNodeName ps read.names) whole read.spelled;
   rising = read.rising;
   named = read.named;
 }
@@ -214,7 +214,7 @@ read_too_many steps v bytes s t nodes true e read step = record {
 }
 
 -- parts that spell names are texts
-spelled-texts : (parts : List (List ℕ)) (names : List ℕ) → AllZip SpellsText parts names → All IsText parts
+spelled-texts : (parts : List (List ℕ)) (names : List ℕ) → AllZip SpellsNodeName parts names → All IsText parts
 spelled-texts [] [] h = All-nil IsText
 spelled-texts [] (y ∷ ys) h = absurd h
 spelled-texts (x ∷ xs) [] h = absurd h
@@ -225,6 +225,7 @@ pub refused-nodes : (bytes : List ℕ) (f : TextFault) → RefusesPart bytes f �
 refused-nodes bytes Empty r = r
 refused-nodes bytes TooLong r = r
 refused-nodes bytes (BadByte p) r = r
+refused-nodes bytes BadCreation r = r.refused
 refused-nodes bytes BadSerial r = r.refused
 refused-nodes bytes BadRule r = r.refused
 refused-nodes bytes TooManyNodes r = absurd r.refused

@@ -12,7 +12,7 @@ use Rattle.std.specs.Str.Parse.{AllDigits, digits_value, ParsesUnsigned}
 use Rattle.term.specs.Spelling.{SpellsSerial}
 
 -- the words that are read here as digits and their value
-digits_model : IsNumeralModel (AllDigits 10) (digits_value 10)
+pub digits_model : IsNumeralModel (AllDigits 10) (digits_value 10)
 digits_model = numerals_by_value (AllDigits 10) tells_digits
 
 -- a serial takes 32 bits

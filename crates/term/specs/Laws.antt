@@ -3,7 +3,7 @@ use Rattle.std.specs.Prelude.{◌≡◌, ℕ, ◌⊎◌, List}
 use Rattle.std.specs.Cmp.Lexicographic.{slice_cmp}
 use Rattle.std.specs.Ordering.{nat_cmp}
 use Rattle.term.specs.declared.faults.TextFault.{TextFault}
-use Rattle.term.specs.Spelling.{SpellsText}
+use Rattle.term.specs.Spelling.{SpellsText, SpellsNodeName}
 
 -- a text spells one value or is refused for one fault, never both
 pub record IsDecided {V : Type 0} (Spells : List ℕ → V → Type 0) (Refuses : List ℕ → TextFault → Type 0) : Type 0 where
@@ -23,4 +23,9 @@ pub record IsExact {V : Type 0} (Spells : List ℕ → V → Type 0) (Refuses : 
 -- names are ordered as the bytes of their texts are
 abbrev pub KeepsByteOrder : Type 0
 KeepsByteOrder = (bytes others : List ℕ) (v w : ℕ) → SpellsText bytes v → SpellsText others w
+    → nat_cmp v w ≡ slice_cmp nat_cmp bytes others
+
+-- names of nodes, too
+abbrev pub NodeNamesKeepByteOrder : Type 0
+NodeNamesKeepByteOrder = (bytes others : List ℕ) (v w : ℕ) → SpellsNodeName bytes v → SpellsNodeName others w
     → nat_cmp v w ≡ slice_cmp nat_cmp bytes others

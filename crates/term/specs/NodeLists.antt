@@ -1,11 +1,11 @@
--- How sets of nodes are spelled as texts, and why other texts are refused.
+-- How sets of names of nodes are spelled as texts, and why other texts are refused.
 use Rattle.std.specs.Prelude.{◌≡◌, ℕ, ◌==◌, ◌<◌, ◌≤◌, List, [], ◌∷◌, length, take, slice_index_or}
 use Rattle.std.specs.List.{slice_split, All, AllZip, join_by}
 use Rattle.std.specs.List.Sorted.{IsStrictlyIncreasing}
 use Rattle.term.specs.declared.faults.TextFault.{TextFault}
-use Rattle.term.specs.declared.faults.TextFault.TheVariants.{Empty, TooLong, BadByte, BadSerial, BadRule, TooManyNodes}
+use Rattle.term.specs.declared.faults.TextFault.TheVariants.{Empty, TooLong, BadByte, BadCreation, BadSerial, BadRule, TooManyNodes}
 use Rattle.term.specs.NodeSets.{set_of, most_nodes}
-use Rattle.term.specs.Spelling.{IsText, SpellsText, RefusesText, bytes_of}
+use Rattle.term.specs.Spelling.{IsText, SpellsNodeName, RefusesText, name_bytes, node_bytes}
 
 -- a comma, which parts the names of a list
 abbrev pub comma : ℕ
@@ -15,10 +15,10 @@ comma = 44
 abbrev pub parts_of : List ℕ → List (List ℕ)
 parts_of bytes = slice_split (λ b. b == comma) bytes
 
--- the bytes list these nodes: each part spells a name, and the nodes are those named, each once, rising
+-- the bytes list these nodes: each part spells a name, and the nodes are the first of those named, each once, rising
 pub record ListsNodes (bytes nodes : List ℕ) : Type 0 where
   pub names : List ℕ
-  pub spelled : AllZip SpellsText (parts_of bytes) names
+  pub spelled : AllZip SpellsNodeName (parts_of bytes) names
   pub rising : IsStrictlyIncreasing nodes
   pub named : (c : ℕ) → set_of nodes c ≡ set_of names c
 
@@ -46,9 +46,14 @@ RefusesNodes bytes TooManyNodes = ListsTooMany bytes
 RefusesNodes bytes Empty = RefusesPart bytes Empty
 RefusesNodes bytes TooLong = RefusesPart bytes TooLong
 RefusesNodes bytes (BadByte place) = RefusesPart bytes (BadByte place)
+RefusesNodes bytes BadCreation = ⊥
 RefusesNodes bytes BadSerial = ⊥
 RefusesNodes bytes BadRule = ⊥
 
--- the bytes that list these nodes
+-- the bytes that list these names
 abbrev pub list_of : List ℕ → List ℕ
-list_of nodes = join_by bytes_of (comma ∷ []) nodes
+list_of names = join_by name_bytes (comma ∷ []) names
+
+-- the bytes that list these nodes
+abbrev pub list_of_nodes : List ℕ → List ℕ
+list_of_nodes nodes = join_by node_bytes (comma ∷ []) nodes

@@ -1,10 +1,11 @@
 -- Sets of nodes, as the program holds them: the list of their nodes, rising.
 use Rattle.std.specs.Prelude.{◌≡◌, ℕ, false, not, nat_lt, ◌==◌, ◌≤◌, List, ◌∷◌, ◌++◌, length, filter}
-use Rattle.std.specs.List.{list_any}
+use Rattle.std.specs.List.{All, list_any}
 use Rattle.std.specs.List.Sorted.{IsStrictlyIncreasing}
 use Rattle.registry_model.specs.Process.{Nodes}
 use Rattle.term.specs.declared.faults.TextFault.{TextFault}
 use Rattle.term.specs.declared.faults.TextFault.TheVariants.{TooManyNodes}
+use Rattle.term.specs.Nodes.{IsFirst, name_of}
 
 -- how many nodes a set holds at most
 abbrev pub most_nodes : ℕ
@@ -15,9 +16,18 @@ pub record IsNodeSet (nodes : List ℕ) : Type 0 where
   pub rising : IsStrictlyIncreasing nodes
   pub fits : length nodes ≤ most_nodes
 
+-- the names are listed as a set of names is: as nodes are, and each is the first of its name
+pub record IsNameSet (names : List ℕ) : Type 0 where
+  pub nodes : IsNodeSet names
+  pub first : All IsFirst names
+
 -- the set of the nodes listed
 abbrev pub set_of : List ℕ → Nodes
 set_of nodes = λ c. list_any (λ m. m == c) nodes
+
+-- the set of the names of the nodes listed
+abbrev pub names_in : List ℕ → Nodes
+names_in nodes = λ x. list_any (λ m. name_of m == x) nodes
 
 -- the rising list of these nodes and one more, or of these alone where it is one of them
 abbrev pub with_node : List ℕ → ℕ → List ℕ

@@ -13,7 +13,10 @@ pub enum TextFault {
     /// The first byte that is not allowed stands at this place, counted from 0.
     #[error("bad_byte")]
     BadByte(usize),
-    /// No serial of a process follows the name of its node.
+    /// What follows the slash behind the name of a node is no creation from 2 on.
+    #[error("bad_creation")]
+    BadCreation,
+    /// No serial of a process follows its node.
     #[error("bad_serial")]
     BadSerial,
     /// It is no rule.

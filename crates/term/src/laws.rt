@@ -2,9 +2,11 @@
 ghost use Rattle.std.specs.Prelude.{◌≡◌, ◌==◌, ℕ, List};
 ghost use Rattle.std.specs.Ordering.{nat_cmp, ordering_then};
 ghost use Rattle.registry_model.specs.Process.{Process, is_process};
-ghost use Rattle.term.specs.Laws.{IsExact, IsDecided, KeepsByteOrder};
+ghost use Rattle.term.specs.Laws.{IsExact, IsDecided, KeepsByteOrder, NodeNamesKeepByteOrder};
 ghost use Rattle.term.specs.NodeLists.{SpellsNodes, RefusesNodes, list_of};
-ghost use Rattle.term.specs.Spelling.{SpellsText, RefusesText, SpellsPid, RefusesPid, bytes_of};
+ghost use Rattle.term.specs.Nodes.{name_of, creation_of};
+ghost use Rattle.term.specs.Rules.{SpellsRule, RefusesRule};
+ghost use Rattle.term.specs.Spelling.{SpellsText, RefusesText, SpellsNodeName, SpellsNode, RefusesNode, SpellsPid, RefusesPid, bytes_of, name_bytes};
 
 use crate::name::Name;
 use crate::node::Node;
@@ -14,6 +16,21 @@ use crate::pid::Pid;
 /// Each text spells one name or is refused for one fault, and a name has one text.
 pub fn names_are_exact()
     ensures { IsExact SpellsText RefusesText }
+{}
+
+/// Each text spells one name of a node or is refused for one fault, and such a name has one text.
+pub fn node_names_are_exact()
+    ensures { IsExact SpellsNodeName RefusesText }
+{}
+
+/// Each text spells one node or is refused for one fault, and a node has one text.
+pub fn nodes_are_exact()
+    ensures { IsExact SpellsNode RefusesNode }
+{}
+
+/// Each text spells one rule or is refused for one fault, and a rule has one text.
+pub fn rules_are_exact()
+    ensures { IsExact SpellsRule RefusesRule }
 {}
 
 /// Each text spells one process or is refused for one fault, and a process has one text.
@@ -28,14 +45,22 @@ pub fn node_lists_are_decided()
     ensures printed { (bytes nodes : List ℕ) → SpellsNodes bytes nodes → SpellsNodes (list_of nodes) nodes }
 {}
 
-/// Names are ordered as the bytes of their texts are.
+/// Names are ordered as the bytes of their texts are, and names of nodes too.
 pub fn names_keep_byte_order()
-    ensures { KeepsByteOrder }
+    ensures names { KeepsByteOrder }
+    ensures node_names { NodeNamesKeepByteOrder }
 {}
 
-/// The bytes of a name are its text.
+/// The bytes of a name are its text, and those of the name of a node.
 pub fn names_keep_their_bytes()
-    ensures { (bytes : List ℕ) (v : ℕ) → SpellsText bytes v → bytes_of v ≡ bytes }
+    ensures names { (bytes : List ℕ) (v : ℕ) → SpellsText bytes v → bytes_of v ≡ bytes }
+    ensures node_names { (bytes : List ℕ) (v : ℕ) → SpellsNodeName bytes v → name_bytes v ≡ bytes }
+{}
+
+/// Nodes are ordered by name, and then by creation.
+pub fn nodes_are_ordered_by_name()
+    ensures { (m n : ℕ) → nat_cmp m n
+        ≡ ordering_then (nat_cmp (name_of m) (name_of n)) (nat_cmp (creation_of m) (creation_of n)) }
 {}
 
 /// Names are compared by their numbers, and processes by node and then by serial.

@@ -1,6 +1,7 @@
-//! The texts of the product: names of nodes, names, processes, rules, and ids of locks. And nodes, and sets of nodes and of their names.
+//! The texts of the product: names of nodes, nodes, names, processes, rules, and ids of locks. And sets of nodes and of their names.
 #![tactic(auto)]
 
+mod digits;
 mod faults;
 mod laws;
 mod lock_id;
@@ -20,13 +21,14 @@ mod text;
 pub use faults::TextFault;
 pub use laws::{
     comparisons_are_by_number, names_are_exact, names_keep_byte_order, names_keep_their_bytes,
-    node_lists_are_decided, pids_are_exact,
+    node_lists_are_decided, node_names_are_exact, nodes_are_exact, nodes_are_ordered_by_name,
+    pids_are_exact, rules_are_exact,
 };
 pub use lock_id::LockId;
 pub use lock_laws::{global_is_spelled_so, lock_ids_are_compared_by_number};
 pub use name::{Name, parse_name, print_name};
-pub use node::Node;
-pub use node_name::{NodeName, parse_node, print_node};
+pub use node::{Node, parse_node, print_node};
+pub use node_name::{NodeName, parse_node_name, print_node_name};
 pub use node_names::{NodeNames, parse_nodes, print_nodes};
 pub use node_set::{MOST_NODES, NodeSet};
 pub use pid::{Pid, parse_pid, print_pid};

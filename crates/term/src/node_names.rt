@@ -1,11 +1,13 @@
 //! Sets of names of nodes.
-ghost use Rattle.std.specs.Prelude.{◌≡◌, ◌<◌, ◌==◌, [], length, IfOk, MatchResult, string_bytes};
+ghost use Rattle.std.specs.Prelude.{◌≡◌, ◌<◌, ◌==◌, ℕ, [], length, IfOk, MatchResult, string_bytes};
+ghost use Rattle.std.specs.List.{All, list_any};
+ghost use Rattle.term.specs.Nodes.{IsFirst, name_of};
 ghost use Rattle.term.specs.NodeSets.{IsNodeSet, set_of};
 ghost use Rattle.term.specs.NodeLists.{SpellsNodes, RefusesNodes, list_of};
 
 use crate::faults::TextFault;
 use crate::node::Node;
-use crate::node_name::{Blank, NodeName, parse_node};
+use crate::node_name::{Blank, NodeName, parse_node_name};
 use crate::node_set::{MOST_NODES, NodeSet};
 use arrayvec::ArrayVec;
 use std::alloc::{AllocError, Allocator};
@@ -19,13 +21,13 @@ pub struct NodeNames {
 
 impl Model for NodeNames {
     ghost use Rattle.std.specs.Prelude.{ℕ, List};
-    ghost use Rattle.term.specs.NodeSets.{IsNodeSet};
+    ghost use Rattle.term.specs.NodeSets.{IsNameSet};
 
     ghost Value = { List ℕ };
 
     ghost view = { λ s. s.names.items };
 
-    ghost invariant = { λ s. IsNodeSet s.names.items };
+    ghost invariant = { λ s. IsNameSet s.names.items };
 
     ghost inverse = { λ v. record { names = record { items = v } } };
 }
@@ -40,13 +42,17 @@ impl NodeNames {
         }
     }
 
-    /// The names of these nodes.
+    /// The names of these nodes, each once.
     pub fn of(nodes: &NodeSet) -> Self
-        ensures { result ≡ nodes.now }
+        ensures names { (x : ℕ) → set_of result x ≡ list_any (λ m. name_of m == x) nodes.now }
+        ensures first_nodes { All IsFirst nodes.now → result ≡ nodes.now }
     {
         let mut names = ArrayVec::new_in(Blank);
         for node in nodes.as_slice() {
-            names.push(node.name().copy());
+            let name = node.name();
+            if !names.contains(name) {
+                names.push(name.copy());
+            }
         }
         NodeNames { names }
     }
@@ -66,6 +72,7 @@ impl NodeNames {
     pub fn len(&self) -> usize
         ensures value { result ≡ length self.now }
         ensures set { IsNodeSet self.now }
+        ensures first { All IsFirst self.now }
     {
         self.names.len()
     }
@@ -81,6 +88,7 @@ impl NodeNames {
     pub fn as_slice(&self) -> &[NodeName]
         ensures names { result.now ≡ self.now }
         ensures set { IsNodeSet self.now }
+        ensures first { All IsFirst self.now }
     {
         self.names.as_slice()
     }
@@ -101,8 +109,8 @@ pub fn parse_nodes(text: &str) -> Result<NodeNames, TextFault>
     let mut nodes = NodeSet::empty();
     let mut is_over = false;
     for part in text.split(',') {
-        let node = parse_node(part)?;
-        is_over |= nodes.insert(Node::first(node)).is_err();
+        let name = parse_node_name(part)?;
+        is_over |= nodes.insert(Node::first(name)).is_err();
     }
     if is_over {
         return Err(TextFault::TooManyNodes);

@@ -1,9 +1,10 @@
 //! Sets of nodes.
 ghost use Rattle.std.specs.Prelude.{◌≡◌, ℕ, ◌-◌, ◌<◌, ◌==◌, ◌||◌, not, [], ◌∷◌, length, Some, OnOk, OnErr, MatchResult, slice_get};
-ghost use Rattle.std.specs.List.{position as place_of};
+ghost use Rattle.std.specs.List.{list_any, position as place_of};
 ghost use Rattle.std.specs.Option.{option_copied};
+ghost use Rattle.term.specs.Nodes.{name_of};
 ghost use Rattle.term.specs.NodeSets.{IsNodeSet, HasNoRoom, set_of, with_node, without_node};
-ghost use Rattle.term.specs.NodeLists.{list_of};
+ghost use Rattle.term.specs.NodeLists.{list_of_nodes};
 
 use crate::faults::TextFault;
 use crate::node::Node;
@@ -108,7 +109,7 @@ impl NodeSet {
 
     /// Whether it holds a node of the name.
     pub fn has_name(&self, name: &NodeName) -> bool
-        ensures { result ≡ set_of self.now name.now }
+        ensures { result ≡ list_any (λ m. name_of m == name.now) self.now }
     {
         self.nodes.as_slice().iter().any(|node| node.name() == name)
     }
@@ -164,13 +165,13 @@ impl NodeSet {
 }
 
 impl fmt::Display for NodeSet {
-    ghost output = { λ s. Some (list_of s) };
+    ghost output = { λ s. Some (list_of_nodes s) };
 
     fn fmt<W: fmt::Write>(&self, f: &mut fmt::Formatter<W>) -> fmt::Result {
         let mut separator = "";
         for node in self.as_slice() {
             f.write_str(separator)?;
-            f.write_str(node.name().as_str())?;
+            write!(f, "{node}")?;
             separator = ",";
         }
         Ok(())

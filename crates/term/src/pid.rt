@@ -1,12 +1,11 @@
 //! Processes.
-ghost use Rattle.std.specs.Prelude.{◌≡◌, ◌≤◌, ◌∷◌, ◌++◌, ℕ, IfOk, Some, MatchOption, MatchResult, slice_index, string_bytes};
-ghost use Rattle.std.specs.Int.{is_in_range};
-ghost use Rattle.term.specs.Spelling.{SpellsSerial, SpellsPid, RefusesPid, bytes_of, dot};
+ghost use Rattle.std.specs.Prelude.{◌≡◌, ◌≤◌, ◌∷◌, ◌++◌, IfOk, Some, MatchResult, string_bytes};
+ghost use Rattle.term.specs.Spelling.{SpellsPid, RefusesPid, node_bytes, dot};
 ghost use Rattle.std.specs.Fmt.{decimal};
 
+use crate::digits::parse_serial;
 use crate::faults::TextFault;
-use crate::node::Node;
-use crate::node_name::parse_node;
+use crate::node::{Node, parse_node};
 use std::alloc::{AllocError, Allocator};
 use std::fmt;
 use std::marker::Model;
@@ -43,27 +42,9 @@ impl Pid {
     }
 }
 
-/// Whether the digits begin with one of 1 to 9.
-fn begins_serial(digits: &[u8]) -> bool
-    ensures { result ≡ is_in_range 49 57 (slice_index digits.now 0) }
-{
-    matches!(digits.first(), Some(b'1'..=b'9'))
-}
-
-/// Reads a serial, which has no leading zero and is at least 1.
-fn parse_serial(digits: &str) -> Option<u32>
-    ensures { MatchOption result ((serial : ℕ) → SpellsSerial digits.now serial → ⊥) (SpellsSerial digits.now) }
-{
-    if begins_serial(digits.as_bytes()) {
-        digits.parse().ok()
-    } else {
-        None
-    }
-}
-
-/// Reads a process. The part before the first dot, or the whole text where there is none, is refused as the name of
-/// a node is; else the text is refused for a bad serial, unless a dot follows and then a serial of 1 to 4,294,967,295
-/// with no leading zero.
+/// Reads a process. The part before the first dot, or the whole text where there is none, is refused as a node is;
+/// else the text is refused for a bad serial, unless a dot follows and then a serial of 1 to 4,294,967,295 with no
+/// leading zero.
 pub fn parse_pid(text: &str) -> Result<Pid, TextFault>
     ensures { MatchResult result (SpellsPid text.now) (RefusesPid text.now) }
 {
@@ -73,10 +54,7 @@ pub fn parse_pid(text: &str) -> Result<Pid, TextFault>
     };
     let node = parse_node(node)?;
     match parse_serial(digits) {
-        Some(serial) => Ok(Pid {
-            node: Node::first(node),
-            serial,
-        }),
+        Some(serial) => Ok(Pid { node, serial }),
         None => Err(TextFault::BadSerial),
     }
 }
@@ -86,13 +64,13 @@ pub fn print_pid<A: Allocator>(alloc: A, pid: &Pid) -> Result<String<A>, AllocEr
     requires { 1 ≤ pid.now.serial }
     ensures { IfOk result (λ text. SpellsPid (string_bytes text) pid.now) }
 {
-    let node = pid.node.name().as_str();
+    let node = pid.node.as_spelled();
     let serial = pid.serial;
     format!(in alloc; "{node}.{serial}")
 }
 
 impl fmt::Display for Pid {
-    ghost output = { λ p. Some (bytes_of p.node ++ dot ∷ decimal p.serial) };
+    ghost output = { λ p. Some (node_bytes p.node ++ dot ∷ decimal p.serial) };
 
     fn fmt<W: fmt::Write>(&self, f: &mut fmt::Formatter<W>) -> fmt::Result {
         write!(f, "{}.{}", self.node, self.serial)

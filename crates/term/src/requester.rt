@@ -1,19 +1,19 @@
 //! Requesters that locks are held in the name of.
 ghost use Rattle.std.specs.Prelude.{◌≡◌, IfOk, Some, MatchResult, string_bytes};
-ghost use Rattle.term.specs.Spelling.{SpellsText, RefusesText, bytes_of};
+ghost use Rattle.term.specs.Spelling.{SpellsNode, SpellsNodeName, RefusesText, node_bytes};
 
 use crate::faults::TextFault;
-use crate::node::Node;
-use crate::text::ShortText;
+use crate::node::{Node, print_node};
+use crate::node_name::parse_node_name;
 use std::alloc::{AllocError, Allocator};
 use std::fmt;
 use std::marker::Model;
 
-/// A requester, in whose name a lock is held: 1 to 64 bytes, each an ASCII letter, a digit, `_`, `-` or `@`.
-/// Requesters are ordered by bytes.
+/// A requester, in whose name a lock is held: that of a client is a text as the name of a node is, and stands for the first
+/// node of this name; that of a node's registrar is the node. Requesters are ordered as nodes are.
 #[derive(Clone, Debug, PartialEq, Eq, PartialOrd, Ord, Hash, Drop)]
 pub struct Requester {
-    text: ShortText,
+    node: Node,
 }
 
 impl Model for Requester {
@@ -21,19 +21,17 @@ impl Model for Requester {
 
     ghost Value = { ℕ };
 
-    ghost view = { λ n. n.text };
+    ghost view = { λ r. r.node };
 
-    ghost inverse = { λ v. record { text = v } };
+    ghost inverse = { λ v. record { node = v } };
 }
 
 impl Requester {
-    /// The requester of a node's registrar, which is the name of the node. It takes no memory.
+    /// The requester of a node's registrar, which is the node. It takes no memory.
     pub fn of_node(node: &Node) -> Self
         ensures { result ≡ node.now }
     {
-        Requester {
-            text: node.name().short_text(),
-        }
+        Requester { node: node.copy() }
     }
 
     /// The same requester. It takes no memory.
@@ -41,42 +39,36 @@ impl Requester {
         ensures { result ≡ self.now }
     {
         Requester {
-            text: self.text.copy(),
+            node: self.node.copy(),
         }
-    }
-
-    /// Its text.
-    pub fn as_str(&self) -> &str
-        ensures spelled { SpellsText result.now self.now }
-        ensures bytes { result.now ≡ bytes_of self.now }
-    {
-        self.text.as_str()
     }
 }
 
 /// Reads a requester. A text that spells none is refused: an empty one, else one of more than 64 bytes,
 /// else one with a byte that is not allowed.
 pub fn parse_requester(text: &str) -> Result<Requester, TextFault>
-    ensures { MatchResult result (SpellsText text.now) (RefusesText text.now) }
+    ensures { MatchResult result (SpellsNodeName text.now) (RefusesText text.now) }
 {
-    let text = ShortText::parse(text)?;
-    Ok(Requester { text })
+    let name = parse_node_name(text)?;
+    Ok(Requester {
+        node: Node::first(name),
+    })
 }
 
-/// The text of a requester.
+/// The text of a requester, which is that of its node.
 pub fn print_requester<A: Allocator>(
     alloc: A,
     requester: &Requester,
 ) -> Result<String<A>, AllocError>
-    ensures { IfOk result (λ text. SpellsText (string_bytes text) requester.now) }
+    ensures { IfOk result (λ text. SpellsNode (string_bytes text) requester.now) }
 {
-    String::from_str(alloc, requester.as_str())
+    print_node(alloc, &requester.node)
 }
 
 impl fmt::Display for Requester {
-    ghost output = { λ n. Some (bytes_of n) };
+    ghost output = { λ n. Some (node_bytes n) };
 
     fn fmt<W: fmt::Write>(&self, f: &mut fmt::Formatter<W>) -> fmt::Result {
-        fmt::Display::fmt(&self.text, f)
+        fmt::Display::fmt(&self.node, f)
     }
 }

@@ -1,6 +1,7 @@
 //! What sets of nodes have in common, and what one has that another hasn't.
 ghost use Rattle.std.specs.Prelude.{◌≡◌, ℕ, ◌≤◌, ◌==◌, ◌&&◌, ◌||◌, not, length};
 ghost use Rattle.registry_model.specs.Process.{with_node};
+ghost use Rattle.term.specs.Nodes.{name_of};
 ghost use Rattle.term.specs.NodeSets.{set_of, most_nodes, with_node as and_node};
 
 use crate::node::Node;
@@ -24,7 +25,7 @@ impl NodeSet {
 
     /// Those of its nodes whose names are in the set.
     pub fn named(&self, names: &NodeNames) -> NodeSet
-        ensures { (c : ℕ) → set_of result c ≡ (set_of self.now c && set_of names.now c) }
+        ensures { (c : ℕ) → set_of result c ≡ (set_of self.now c && set_of names.now (name_of c)) }
     {
         let mut named = self.copy();
         for node in self.as_slice() {

@@ -2,7 +2,10 @@
 use crate::reading::{is_refused, is_text};
 use std::alloc::Global;
 use std::test::Fail;
-use term::{MOST_NODES, Node, NodeNames, NodeSet, TextFault, parse_node, parse_nodes, print_nodes};
+use term::{
+    MOST_NODES, Node, NodeNames, NodeSet, TextFault, parse_node, parse_node_name, parse_nodes,
+    print_nodes,
+};
 
 /// Whether a list is read as this set.
 fn spells(list: &str, nodes: &NodeNames) -> bool {
@@ -57,6 +60,7 @@ a,,b=empty
 a,=empty
 ,a=empty
 a,b c=bad_byte 1
+b,a/2=bad_byte 1
 a,b!,=bad_byte 1
 a,b,c,d,e,f,g,h,i=too_many_nodes
 a,b,c,d,e,f,g,h,i,a=too_many_nodes
@@ -80,7 +84,7 @@ fn refuses_lists(rt: HostRuntime) {
 
 /// What comes of putting a node in: whether it is new, or why it is refused.
 fn insert(nodes: &mut NodeSet, node: &str) -> Result<bool, TextFault> {
-    nodes.insert(Node::first(parse_node(node)?))
+    nodes.insert(parse_node(node)?)
 }
 
 /// Puts eight nodes into an empty set: whether each of them is new.
@@ -93,9 +97,9 @@ fn fills(nodes: &mut NodeSet) -> bool {
     true
 }
 
-/// Whether a node is at this place of a set, and in it.
-fn is_at(nodes: &NodeSet, node: &str, place: usize) -> bool {
-    match parse_node(node) {
+/// Whether the first node of a name is at this place of a set, and in it.
+fn is_at(nodes: &NodeSet, name: &str, place: usize) -> bool {
+    match parse_node_name(name) {
         Ok(name) => {
             let node = Node::first(name.copy());
             nodes.position(&node) == Some(place) && nodes.contains(&node) && nodes.has_name(&name)
@@ -104,9 +108,9 @@ fn is_at(nodes: &NodeSet, node: &str, place: usize) -> bool {
     }
 }
 
-/// Whether a node is not in a set.
-fn is_absent(nodes: &NodeSet, node: &str) -> bool {
-    match parse_node(node) {
+/// Whether no node of a name is in a set.
+fn is_absent(nodes: &NodeSet, name: &str) -> bool {
+    match parse_node_name(name) {
         Ok(name) => {
             let is_named = nodes.has_name(&name) || NodeNames::of(nodes).contains(&name);
             let node = Node::first(name);
@@ -149,7 +153,7 @@ fn loses(nodes: &mut NodeSet, first: &Node) -> bool {
 
 #[test]
 fn takes_nodes_out(rt: HostRuntime) -> Result<(), Fail> {
-    let first = Node::first(parse_node("a")?);
+    let first = parse_node("a")?;
     let mut nodes = NodeSet::empty();
     assert!(rt; fills(&mut nodes) && loses(&mut nodes, &first));
     assert!(rt; is_node(nodes.as_slice().first(), "b") && is_absent(&nodes, "a"));
@@ -176,4 +180,23 @@ fn names_some_nodes(rt: HostRuntime) {
     assert!(rt; are_named("a,b,c", "d,c,a", "a,c"));
     assert!(rt; are_named("a,b", "c", ""));
     assert!(rt; NodeSet::first_of(&NodeNames::empty()).is_empty());
+}
+
+/// The set of the nodes of a list, which are written with their creations.
+fn set_of(list: &str) -> Result<NodeSet, TextFault> {
+    let mut nodes = NodeSet::empty();
+    for node in list.split(' ') {
+        insert(&mut nodes, node)?;
+    }
+    Ok(nodes)
+}
+
+#[test]
+fn holds_nodes_of_one_name(rt: HostRuntime) -> Result<(), Fail> {
+    let nodes = set_of("b a/10 a/2 ab a/2")?;
+    assert!(rt; is_text(format!(in rt.alloc(); "{nodes}"), "a/2,a/10,ab,b"));
+    assert!(rt; nodes.has_name(&parse_node_name("a")?) && !nodes.contains(&parse_node("a")?));
+    assert!(rt; NodeNames::of(&nodes) == parse_nodes("a,ab,b")?);
+    assert!(rt; nodes.named(&parse_nodes("a,c")?) == set_of("a/2 a/10")?);
+    Ok(())
 }

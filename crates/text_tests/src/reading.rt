@@ -10,6 +10,7 @@ fn is_fault(fault: TextFault, wanted: &str) -> bool {
         TextFault::BadByte(0) => wanted == "bad_byte 0",
         TextFault::BadByte(1) => wanted == "bad_byte 1",
         TextFault::BadByte(_) => false,
+        TextFault::BadCreation => wanted == "bad_creation",
         TextFault::BadSerial => wanted == "bad_serial",
         TextFault::BadRule => wanted == "bad_rule",
         TextFault::TooManyNodes => wanted == "too_many_nodes",
@@ -51,14 +52,14 @@ fn shows_faults_as_words(rt: HostRuntime) {
         TextFault::TooLong,
         TextFault::TooManyNodes,
     );
-    let bad_rule = TextFault::BadRule;
+    let (bad_creation, bad_rule) = (TextFault::BadCreation, TextFault::BadRule);
     let shown = format!(in rt.alloc();
-        "{empty} {too_long} {bad_byte} {bad_serial} {bad_rule} {too_many}"
+        "{empty} {too_long} {bad_byte} {bad_creation} {bad_serial} {bad_rule} {too_many}"
     );
     assert!(rt;
         is_text(
             shown,
-            "empty too_long bad_byte bad_serial bad_rule too_many_nodes"
+            "empty too_long bad_byte bad_creation bad_serial bad_rule too_many_nodes"
         )
     );
 }

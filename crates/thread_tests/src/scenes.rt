@@ -13,7 +13,7 @@ use std::test::Fail;
 use std::thread::Threads;
 use std::time::Clock;
 use stubborn::Stubborn;
-use term::{Node, NodeName, NodeNames, NodeSet, parse_node, parse_nodes};
+use term::{Node, NodeName, NodeNames, NodeSet, parse_node_name, parse_nodes};
 use transaction::NameCall;
 
 mod beside;
@@ -135,7 +135,7 @@ fn sit<G: Gate + Drop + Send + Sync + 'static>(
     seats: &mut Vec<Seat>,
 ) -> bool {
     for word in nodes.split(',') {
-        let Ok(node) = parse_node(word) else {
+        let Ok(node) = parse_node_name(word) else {
             return false;
         };
         let Ok(seat) = cluster.seat(&node) else {
@@ -321,7 +321,11 @@ fn chooses<R>(rt: &R, alloc: Global) -> bool
 where
     R: Threads + Wait + Clock + Drop + Copy + Send + Sync + 'static,
 {
-    let (Ok(nodes), Ok(b), Ok(c)) = (parse_nodes("a,b"), parse_node("b"), parse_node("c")) else {
+    let (Ok(nodes), Ok(b), Ok(c)) = (
+        parse_nodes("a,b"),
+        parse_node_name("b"),
+        parse_node_name("c"),
+    ) else {
         return false;
     };
     let Some(flags) = held(alloc, NodeSet::empty(), 0) else {
@@ -349,7 +353,8 @@ fn spends<R>(rt: &R, alloc: Global) -> bool
 where
     R: Threads + Wait + Clock + Drop + Copy + Send + Sync + 'static,
 {
-    let (Ok(nodes), Ok(a), Ok(b)) = (parse_nodes("a"), parse_node("a"), parse_node("b")) else {
+    let (Ok(nodes), Ok(a), Ok(b)) = (parse_nodes("a"), parse_node_name("a"), parse_node_name("b"))
+    else {
         return false;
     };
     let Some(flags) = held(alloc, NodeSet::empty(), 0) else {
@@ -386,7 +391,7 @@ fn a_step_that_is_refused_is_tried_again(rt: HostRuntime) {
 
 #[test]
 fn a_node_that_is_refused_three_times_ends_alone(rt: HostRuntime) -> Result<(), Fail> {
-    let fault = CloseFault::LeftInHold(Node::first(parse_node("a")?));
+    let fault = CloseFault::LeftInHold(Node::first(parse_node_name("a")?));
     assert!(rt; refusals::ends::<Stubborn<3>, _>(&rt, rt.alloc(), Err(SeatFault::Closed), &fault));
     Ok(())
 }

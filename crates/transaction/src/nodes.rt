@@ -1,8 +1,9 @@
 //! Whom a lock call asks, and how often.
-ghost use Rattle.std.specs.Prelude.{◌≡◌, ◌==◌, ◌<◌, length, true, None, Some, if◌then◌else◌, IfOk, OnErr, nat_eq};
+ghost use Rattle.std.specs.Prelude.{◌≡◌, ◌==◌, ◌<◌, length, All, true, None, Some, if◌then◌else◌, IfOk, OnErr, nat_eq};
 ghost use Rattle.std.specs.Cmp.Rules.{comparing};
 ghost use Rattle.std.specs.Cmp.Lexicographic.{pointwise};
 ghost use Rattle.std.proofs.Common.{rules};
+ghost use Rattle.term.specs.Nodes.{IsFirst};
 ghost use Rattle.protocol_model.specs.Client.{is_spent, one_less};
 ghost use Rattle.transaction.specs.declared.nodes.Nodes.TheVariants.{Named};
 ghost use Rattle.transaction.specs.Calls.{is_named, retries_of};
@@ -19,13 +20,14 @@ pub struct NamedNodes {
 }
 
 impl Model for NamedNodes {
-    ghost use Rattle.std.specs.Prelude.{ℕ, List, ◌<◌, length};
+    ghost use Rattle.std.specs.Prelude.{ℕ, List, ◌<◌, length, All};
+    ghost use Rattle.term.specs.Nodes.{IsFirst};
 
     ghost Value = { List ℕ };
 
     ghost view = { λ n. n.names.value };
 
-    ghost invariant = { λ n. 0 < length n.names.value };
+    ghost invariant = { λ n. (0 < length n.names.value) × All IsFirst n.names.value };
 }
 
 impl NamedNodes {
@@ -43,6 +45,7 @@ impl NamedNodes {
     pub fn as_set(&self) -> &NodeNames
         ensures names { result.now ≡ self.now }
         ensures some { 0 < length self.now }
+        ensures first { All IsFirst self.now }
     {
         self.names.as_ref()
     }
@@ -77,7 +80,7 @@ impl Nodes {
         ensures named { IfOk result (λ named. named ≡ (if length names == 0 then None else Some (Named names))) }
         ensures refused { OnErr result (0 < length names) }
     {
-        if names.is_empty() {
+        if names.as_slice().is_empty() {
             return Ok(None);
         }
         Ok(Some(Nodes::Named(NamedNodes {

@@ -8,12 +8,12 @@ use link::{LinkFault, Post, Unsent};
 use std::alloc::Global;
 use std::collections::VecDeque;
 use std::marker::Model;
-use term::NodeName;
+use term::Node;
 
 /// The letters for one receiver, the oldest first.
 #[derive(Drop)]
 pub(crate) struct Slot<L> {
-    receiver: NodeName,
+    receiver: Node,
     letters: VecDeque<L>,
 }
 
@@ -27,7 +27,7 @@ impl<L> Model for Slot<L> {
 
 impl<L> Slot<L> {
     /// No letter for this receiver. It takes no memory.
-    pub(crate) fn new(alloc: Global, receiver: NodeName) -> Self
+    pub(crate) fn new(alloc: Global, receiver: Node) -> Self
         ensures { result ≡ record { receiver = receiver; letters = [] } }
     {
         Slot {
@@ -37,7 +37,7 @@ impl<L> Slot<L> {
     }
 
     /// Whose letters they are.
-    pub(crate) fn receiver(&self) -> &NodeName
+    pub(crate) fn receiver(&self) -> &Node
         ensures { result.now ≡ self.now.receiver }
     {
         &self.receiver

@@ -10,7 +10,7 @@ use crate::slot::Slot;
 use link::{LinkFault, Post, Unsent};
 use std::alloc::{AllocError, Global};
 use std::marker::Model;
-use term::{NodeName, NodeSet};
+use term::{Node, NodeSet};
 
 /// The letters that a node has to send: for each receiver a list, the oldest first. What its links hand back stays there, and is
 /// tried again.
@@ -29,7 +29,7 @@ impl<L> Model for Tray<L> {
 }
 
 /// The place of the slot of a receiver.
-fn place_of<L>(slots: &[Slot<L>], receiver: &NodeName) -> Option<usize>
+fn place_of<L>(slots: &[Slot<L>], receiver: &Node) -> Option<usize>
     ensures { result ≡ place receiver.now slots.now }
 {
     slots.iter().position(|slot| slot.receiver() == receiver)
@@ -42,14 +42,14 @@ impl<L: Drop> Tray<L> {
     {
         let mut slots = Vec::new(alloc);
         for receiver in receivers.as_slice() {
-            slots.push(Slot::new(alloc, receiver.name().copy()))?;
+            slots.push(Slot::new(alloc, receiver.copy()))?;
         }
         Ok(Tray { slots })
     }
 
     /// Puts a letter behind those that wait for its receiver. It comes back where that is none of the tray's, as `NoSuchNode`,
     /// or where memory is refused.
-    pub fn put(&mut self, to: &NodeName, letter: L) -> Result<(), Unsent<L>>
+    pub fn put(&mut self, to: &Node, letter: L) -> Result<(), Unsent<L>>
         ensures ok { OnOk result (self.new ≡ with_letter to.now letter self.old) }
         ensures unchanged { OnErr result (self.new ≡ self.old) }
         ensures returned { IfErr result (λ unsent. unsent.letter ≡ letter) }

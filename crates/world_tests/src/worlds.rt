@@ -68,7 +68,7 @@ fn entries(alloc: Global, world: &Cluster) -> Result<Vec<HistoryEntry>, Fail> {
 
 /// The first node of a name.
 pub(crate) fn first(name: &str) -> Result<Node, TextFault> {
-    Ok(Node::first(parse_node(name)?))
+    Ok(parse_node(name)?)
 }
 
 /// A world of these joined nodes and this lone one, parted by commas.

@@ -5,7 +5,7 @@ use std::alloc::Global;
 use std::io::{BufReader, Cursor};
 use std::test::Fail;
 use std::time::{Clock, Instant};
-use term::{NodeName, parse_node, parse_nodes};
+use term::{NodeName, NodeSet, parse_node_name, parse_nodes};
 
 /// A cookie.
 const COOKIE: &str = "0123456789abcdef";
@@ -23,6 +23,7 @@ fn greeted<C: Clock>(
     let (Ok(nodes), Some(cookie)) = (parse_nodes("a,b"), Cookie::new(COOKIE)) else {
         return Ok((None, written));
     };
+    let nodes = NodeSet::first_of(&nodes);
     let Ok(mut reader) = BufReader::new(alloc, Cursor::new(line)) else {
         return Err(ConsoleFault::Memory);
     };
@@ -61,7 +62,7 @@ fn cookies_have_sixteen_bytes_at_least_and_255_at_most(rt: HostRuntime) -> Resul
 #[test]
 fn who_shows_the_cookie_is_attached(rt: HostRuntime) -> Result<(), Fail> {
     let (node, written) = greeted(&rt, rt.alloc(), LINE)?;
-    assert!(rt; node == Some(parse_node("b")?));
+    assert!(rt; node == Some(parse_node_name("b")?));
     assert_eq!(rt; written.as_slice(), b"ok\n".as_slice());
     Ok(())
 }
@@ -118,6 +119,7 @@ fn reader_ends_it<C: Clock>(rt: &C, alloc: Global, cookie: &Cookie, read: &[u8])
     let Ok(nodes) = parse_nodes("a,b") else {
         return false;
     };
+    let nodes = NodeSet::first_of(&nodes);
     let Ok(mut reader) = BufReader::new(alloc, Torn::new(read, 3)) else {
         return false;
     };
@@ -137,7 +139,7 @@ fn a_cookie_that_is_cut_off_is_a_fault(rt: HostRuntime) {
 
 #[test]
 fn a_refusal_that_is_cut_off_is_a_fault(rt: HostRuntime) -> Result<(), Fail> {
-    let nodes = parse_nodes("a,b")?;
+    let nodes = NodeSet::first_of(&parse_nodes("a,b")?);
     let alloc = rt.alloc();
     let cookie = Cookie::new(COOKIE);
     let mut reader = BufReader::new(alloc, Cursor::new(b"attach b\n".as_slice()))?;

@@ -6,7 +6,7 @@ use std::alloc::Global;
 use std::io::{BufReader, Cursor};
 use std::test::Fail;
 use std::time::Clock;
-use term::{parse_node, parse_nodes};
+use term::{NodeSet, parse_node_name, parse_nodes};
 
 /// A first line.
 const LINE: &[u8] = b"attach b\n";
@@ -14,11 +14,11 @@ const LINE: &[u8] = b"attach b\n";
 #[test]
 fn a_console_is_attached(rt: HostRuntime) -> Result<(), Fail> {
     let alloc = rt.alloc();
-    let nodes = parse_nodes("a,b")?;
+    let nodes = NodeSet::first_of(&parse_nodes("a,b")?);
     let mut reader = BufReader::new(alloc, Cursor::new(b"attach b\nspawn\n".as_slice()))?;
     let mut written = Vec::new(alloc);
     let greeted = greet(&rt, alloc, &mut reader, &mut written, &nodes, None)?;
-    assert!(rt; greeted == Some(parse_node("b")?));
+    assert!(rt; greeted == Some(parse_node_name("b")?));
     assert_eq!(rt; written.as_slice(), b"ok\n".as_slice());
     assert_eq!(rt; reader.buffer(), b"spawn\n".as_slice());
     Ok(())
@@ -29,6 +29,7 @@ fn reader_ends_it<C: Clock>(rt: &C, alloc: Global, read: &[u8]) -> bool {
     let Ok(nodes) = parse_nodes("a,b") else {
         return false;
     };
+    let nodes = NodeSet::first_of(&nodes);
     let Ok(mut reader) = BufReader::new(alloc, Torn::new(read, 3)) else {
         return false;
     };
@@ -42,6 +43,7 @@ fn writer_ends_it<C: Clock>(rt: &C, alloc: Global, room: usize) -> bool {
     let Ok(nodes) = parse_nodes("a,b") else {
         return false;
     };
+    let nodes = NodeSet::first_of(&nodes);
     let Ok(mut reader) = BufReader::new(alloc, Cursor::new(LINE)) else {
         return false;
     };

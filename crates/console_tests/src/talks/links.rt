@@ -6,7 +6,7 @@ use node_threads::{Call, Reply, SeatFault, StepFault};
 use std::alloc::Global;
 use std::io::{BufReader, Cursor, Read, Write};
 use std::test::Fail;
-use term::{Node, Pid, TextFault, parse_node};
+use term::{Node, Pid, TextFault, parse_node_name};
 
 /// An attendant at the node a that gives a new process for each spawn, and notes what it was asked.
 #[derive(Drop)]
@@ -25,7 +25,7 @@ impl Roll {
     /// An attendant that wasn't asked for anything.
     fn new(alloc: Global) -> Result<Self, TextFault> {
         Ok(Roll {
-            node: Node::first(parse_node("a")?),
+            node: Node::first(parse_node_name("a")?),
             spawned: 0,
             exits: Vec::new(alloc),
             refuses: false,

@@ -10,7 +10,7 @@ use std::sync::Wait;
 use std::test::Fail;
 use std::thread::Threads;
 use std::time::Clock;
-use term::{NodeName, parse_node};
+use term::{NodeName, parse_node_name};
 
 /// A cluster whose tables are lists.
 type Small = Cluster<OpenGate, ListTable<Global>>;
@@ -78,7 +78,7 @@ where
 
 #[test]
 fn a_loser_dies(rt: HostRuntime) -> Result<(), Fail> {
-    let (a, d) = (parse_node("a")?, parse_node("d")?);
+    let (a, d) = (parse_node_name("a")?, parse_node_name("d")?);
     let talks = [
         Talk {
             node: &a,
@@ -97,7 +97,7 @@ fn a_loser_dies(rt: HostRuntime) -> Result<(), Fail> {
 
 #[test]
 fn a_loser_is_told(rt: HostRuntime) -> Result<(), Fail> {
-    let (a, d) = (parse_node("a")?, parse_node("d")?);
+    let (a, d) = (parse_node_name("a")?, parse_node_name("d")?);
     let talks = [
         Talk {
             node: &a,
@@ -122,7 +122,7 @@ fn a_loser_is_told(rt: HostRuntime) -> Result<(), Fail> {
 
 #[test]
 fn both_are_told_where_nobody_has_the_name(rt: HostRuntime) -> Result<(), Fail> {
-    let (a, d) = (parse_node("a")?, parse_node("d")?);
+    let (a, d) = (parse_node_name("a")?, parse_node_name("d")?);
     let talks = [
         Talk {
             node: &a,
@@ -146,7 +146,7 @@ fn both_are_told_where_nobody_has_the_name(rt: HostRuntime) -> Result<(), Fail> 
 
 #[test]
 fn the_rule_of_the_cluster_counts(rt: HostRuntime) -> Result<(), Fail> {
-    let (a, b) = (parse_node("a")?, parse_node("b")?);
+    let (a, b) = (parse_node_name("a")?, parse_node_name("b")?);
     let talks = [
         Talk {
             node: &b,

@@ -11,7 +11,7 @@ use std::slice;
 use std::sync::Wait;
 use std::test::Fail;
 use std::time::Clock;
-use term::parse_node;
+use term::parse_node_name;
 
 /// A cluster whose tables are lists.
 type Small = Cluster<OpenGate, ListTable<Global>>;
@@ -31,7 +31,7 @@ fn attend<H: Wait + Clock, R: Read + Drop, W: Write>(
     reader: R,
     writer: &mut W,
 ) -> Option<Ended> {
-    let node = parse_node("a").ok()?;
+    let node = parse_node_name("a").ok()?;
     let mut reader = BufReader::new(alloc, reader).ok()?;
     let seat = cluster.seat(&node).ok()?;
     Some(match serve(rt, alloc, &mut reader, writer, seat) {
@@ -110,7 +110,7 @@ fn attend_thrice<H: Wait + Clock>(
 #[test]
 fn transcripts_are_handed_back(rt: HostRuntime) -> Result<(), Fail> {
     let alloc = rt.alloc();
-    let node = parse_node("a")?;
+    let node = parse_node_name("a")?;
     let mut cluster = Small::start(&rt, alloc, slice::from_ref(&node), &[], OpenGate, 0)?;
     let played = attend_thrice(&rt, alloc, &mut cluster);
     let closed = match &played {
@@ -147,7 +147,7 @@ fn hold<H: Wait + Clock>(
 
 /// The transcript of a seat that two consoles had, where both were answered as they should be.
 fn hold_twice<H: Wait + Clock>(rt: &H, alloc: Global, cluster: &mut Small) -> Option<Transcript> {
-    let node = parse_node("a").ok()?;
+    let node = parse_node_name("a").ok()?;
     let seat = cluster.seat(&node).ok()?;
     let lines = b"spawn\nspawn_link\nquit\n".as_slice();
     let (first, seat) = hold(rt, alloc, seat, lines, b"a.1\na.2\nok\n", ConsoleEnd::Quit);
@@ -161,7 +161,7 @@ fn hold_twice<H: Wait + Clock>(rt: &H, alloc: Global, cluster: &mut Small) -> Op
 #[test]
 fn a_seat_comes_back(rt: HostRuntime) -> Result<(), Fail> {
     let alloc = rt.alloc();
-    let node = parse_node("a")?;
+    let node = parse_node_name("a")?;
     let mut cluster = Small::start(&rt, alloc, slice::from_ref(&node), &[], OpenGate, 0)?;
     let held = hold_twice(&rt, alloc, &mut cluster);
     let closed = match &held {

@@ -10,7 +10,7 @@ use std::sync::atomic::{AtomicU32, Ordering};
 use std::sync::{Arc, Wait};
 use std::test::Fail;
 use std::time::Clock;
-use term::parse_node;
+use term::parse_node_name;
 
 /// A cluster whose tables are lists.
 type Small = Cluster<OpenGate, ListTable<Global>>;
@@ -92,7 +92,7 @@ fn is_due<H: Wait + Clock>(
     alloc: Global,
     cluster: &mut Small,
 ) -> (bool, Option<Transcript>) {
-    let Ok(node) = parse_node("a") else {
+    let Ok(node) = parse_node_name("a") else {
         return (false, None);
     };
     let Ok(seat) = cluster.seat(&node) else {
@@ -106,7 +106,7 @@ fn is_due<H: Wait + Clock>(
 #[test]
 fn consoles_know_their_processes_and_their_clients(rt: HostRuntime) -> Result<(), Fail> {
     let alloc = rt.alloc();
-    let node = parse_node("a")?;
+    let node = parse_node_name("a")?;
     let mut cluster = Small::start(&rt, alloc, slice::from_ref(&node), &[], OpenGate, 0)?;
     let (due, transcript) = is_due(&rt, alloc, &mut cluster);
     let closed = match &transcript {

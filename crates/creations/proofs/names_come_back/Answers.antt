@@ -10,5 +10,11 @@ returns-clause-restart_waits_for_all start = record { prints = refl; keeps = ref
 pub returns-clause-older_node_is_another : goal.returns-clause-older_node_is_another
 returns-clause-older_node_is_another start = record { prints = refl; keeps = refl }
 
+pub returns-clause-retry_asks_the_new_node : goal.returns-clause-retry_asks_the_new_node
+returns-clause-retry_asks_the_new_node start = record { prints = refl; keeps = refl }
+
+pub returns-clause-name_without_a_member : goal.returns-clause-name_without_a_member
+returns-clause-name_without_a_member start = record { prints = refl; keeps = refl }
+
 pub returns-clause-older_letters_are_dropped : goal.returns-clause-older_letters_are_dropped
 returns-clause-older_letters_are_dropped start = record { prints = refl; keeps = refl }

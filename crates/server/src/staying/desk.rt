@@ -14,7 +14,7 @@ use std::io::Write;
 use std::sync::Wait;
 use std::sync::atomic::{AtomicU64, Ordering};
 use std::time::{Clock, Duration};
-use term::{NodeName, NodeNames};
+use term::{NodeName, NodeSet};
 
 /// For how many seconds the desk waits for a message before it looks how things stand.
 const PAUSE: u64 = 10;
@@ -104,12 +104,12 @@ fn attend<R: Wait + Clock, E: Write>(
 fn look_round<E: Write>(
     alloc: Global,
     cluster: &StayingCluster,
-    nodes: &NodeNames,
+    nodes: &NodeSet,
     lookout: &mut Lookout,
     errors: &mut E,
 ) {
     for node in nodes.as_slice() {
-        let Ok(status) = cluster.status(node) else {
+        let Ok(status) = cluster.status(node.name()) else {
             continue;
         };
         let spent = lookout.look(&status.node, &status.numbers);
@@ -136,7 +136,7 @@ pub(crate) fn stay<R: Wait + Clock + Files, E: Write>(
     rt: &R,
     alloc: Global,
     cluster: &mut StayingCluster,
-    nodes: &NodeNames,
+    nodes: &NodeSet,
     messages: &Receiver<Message>,
     memory: &AtomicU64,
     errors: &mut E,

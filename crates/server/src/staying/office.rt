@@ -9,7 +9,7 @@ use node_threads::{Seat, SeatFault};
 use std::alloc::{AllocError, Global};
 use std::sync::atomic::{AtomicU64, Ordering};
 use std::sync::{Arc, Mutex, Wait};
-use term::{NodeName, NodeNames};
+use term::{NodeName, NodeSet};
 
 /// What each thread of a server works with.
 #[derive(Drop)]
@@ -17,7 +17,7 @@ pub(crate) struct Office<R: Wait + Drop + Copy> {
     pub(crate) rt: R,
     pub(crate) alloc: Global,
     /// The names of the nodes to which consoles may be attached.
-    pub(crate) nodes: NodeNames,
+    pub(crate) nodes: NodeSet,
     pub(crate) options: Arc<StayOptions, Global>,
     pub(crate) hall: Arc<Mutex<Hall>, Global>,
     /// How many bytes of memory the process has, as the desk has seen last.

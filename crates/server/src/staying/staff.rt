@@ -16,7 +16,7 @@ use std::sync::{Arc, Mutex, Wait};
 use std::thread;
 use std::thread::{JoinHandle, Threads};
 use std::time::{Clock, Duration};
-use term::NodeNames;
+use term::NodeSet;
 
 /// How many messages the desk leaves unread before those that say more wait.
 const MESSAGES: usize = 256;
@@ -103,7 +103,7 @@ impl Staff {
         rt: &R,
         alloc: Global,
         entry: Entry,
-        nodes: NodeNames,
+        nodes: NodeSet,
         options: StayOptions,
         memory: u64,
     ) -> Result<Self, AllocError>

@@ -9,7 +9,7 @@ use std::sync::{Arc, Wait};
 use std::thread;
 use std::thread::{Threads, join};
 use std::time::Clock;
-use term::{Name, Node, Pid, parse_name, parse_node, parse_pid};
+use term::{Name, Node, Pid, parse_name, parse_node_name, parse_pid};
 
 /// How often one that waits yields at most.
 const YIELDS: u32 = 1_000_000;
@@ -160,7 +160,7 @@ fn play<R: Threads + Wait + Clock + Sync>(
     let (Some(ours), Some(theirs), Ok(a)) = (
         entry_of("x", "a.1"),
         entry_of("y", "b.1"),
-        parse_node("a"),
+        parse_node_name("a"),
     ) else {
         return false;
     };
@@ -181,9 +181,9 @@ where
     R: Threads + Wait + Clock + Drop + Copy + Send + Sync + 'static,
 {
     let (Ok(a), Ok(b), Ok(c), Ok(x)) = (
-        parse_node("a"),
-        parse_node("b"),
-        parse_node("c"),
+        parse_node_name("a"),
+        parse_node_name("b"),
+        parse_node_name("c"),
         parse_name("x"),
     ) else {
         return false;

@@ -7,7 +7,7 @@ use std::alloc::Global;
 use std::sync::Wait;
 use std::thread::Threads;
 use std::time::Clock;
-use term::{Name, Pid, Rule, parse_name, parse_node, parse_pid};
+use term::{Name, Pid, Rule, parse_name, parse_node_name, parse_pid};
 
 /// A cluster whose threads nothing holds, and whose tables are lists.
 type Open = Cluster<OpenGate, ListTable<Global>>;
@@ -61,7 +61,7 @@ pub(super) fn plays<R>(rt: &R, alloc: Global) -> bool
 where
     R: Threads + Wait + Clock + Drop + Copy + Send + Sync + 'static,
 {
-    let (Ok(a), Ok(d)) = (parse_node("a"), parse_node("d")) else {
+    let (Ok(a), Ok(d)) = (parse_node_name("a"), parse_node_name("d")) else {
         return false;
     };
     let Ok(mut cluster) = Open::start(rt, alloc, &[a], &[d], OpenGate, 0) else {

@@ -6,7 +6,7 @@ use node_threads::{Call, Reply, Seat};
 use std::sync::Wait;
 use std::thread::{Threads, for_each_mut};
 use std::time::Clock;
-use term::{Name, Node, Pid, parse_name, parse_node, parse_pid};
+use term::{Name, Node, Pid, parse_name, parse_node_name, parse_pid};
 
 /// How often each rival registers its name.
 const TURNS: u32 = 5;
@@ -112,8 +112,11 @@ fn spawn_and_exit<R: Wait + Clock>(rt: &R, seat: &mut Seat) -> bool {
 /// Processes of one node exit, each of which the other is told of, while that is held. Then it may step, and a name is registered at
 /// both.
 pub(super) fn flood<R: Wait + Clock>(rt: &R, seats: &mut [Seat], flags: &Flags) -> bool {
-    let (Ok(process), Ok(name), Ok(key)) = (parse_pid("a.4201"), parse_name("x"), parse_node("z"))
-    else {
+    let (Ok(process), Ok(name), Ok(key)) = (
+        parse_pid("a.4201"),
+        parse_name("x"),
+        parse_node_name("z"),
+    ) else {
         return false;
     };
     let Some(seat) = seats.first_mut() else {

@@ -8,7 +8,7 @@ use std::alloc::Global;
 use std::sync::Wait;
 use std::thread::Threads;
 use std::time::Clock;
-use term::{Name, NodeName, Pid, parse_name, parse_node, parse_pid};
+use term::{Name, NodeName, Pid, parse_name, parse_node_name, parse_pid};
 
 /// A cluster whose tables are lists, and which keeps no step.
 type Forgetful = Cluster<OpenGate, ListTable<Global>, ForgottenLog>;
@@ -86,8 +86,8 @@ fn is_ended<R: Threads + Wait + Clock + Drop + Copy + Send + 'static>(
 #[test]
 fn tells_of_steps_and_tables(rt: HostRuntime) {
     match (
-        parse_node("a"),
-        parse_node("b"),
+        parse_node_name("a"),
+        parse_node_name("b"),
         parse_pid("a.1"),
         parse_name("x"),
     ) {
@@ -100,7 +100,7 @@ fn tells_of_steps_and_tables(rt: HostRuntime) {
 
 #[test]
 fn counts_each_step(rt: HostRuntime) {
-    match parse_node("a") {
+    match parse_node_name("a") {
         Ok(node) => assert!(rt; is_counted(&rt, rt.alloc(), &node)),
         Err(_) => assert!(rt; false),
     }

@@ -7,7 +7,7 @@ use std::sync::Wait;
 use std::thread;
 use std::thread::{Threads, join};
 use std::time::Clock;
-use term::{LockId, Pid, parse_name, parse_node, parse_pid};
+use term::{LockId, Pid, parse_name, parse_node_name, parse_pid};
 
 /// How often a seat asks at most.
 const TRIES: u32 = 1_000_000;
@@ -147,8 +147,11 @@ fn leaves_behind_a_hold<R: Threads + Wait + Clock + Sync>(
     one: &mut Seat,
     two: &mut Seat,
 ) -> bool {
-    let (Ok(process), Ok(name), Ok(node)) = (parse_pid("b.1"), parse_name("y"), parse_node("a"))
-    else {
+    let (Ok(process), Ok(name), Ok(node)) = (
+        parse_pid("b.1"),
+        parse_name("y"),
+        parse_node_name("a"),
+    ) else {
         return false;
     };
     let (fine, left) = join(

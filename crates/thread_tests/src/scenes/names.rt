@@ -3,7 +3,7 @@ use name_table::Pair;
 use node_threads::{Call, Reply, Seat, SeatFault};
 use std::sync::Wait;
 use std::time::Clock;
-use term::{Name, Node, Pid, Rule, parse_name, parse_node, parse_pid};
+use term::{Name, Node, Pid, Rule, parse_name, parse_node_name, parse_pid};
 
 /// The call that registers a name for a process under a rule.
 pub(super) fn register_under(name: &Name, owner: &Pid, rule: Rule) -> Call {
@@ -76,7 +76,8 @@ pub(super) fn both<R: Wait + Clock>(rt: &R, seats: &mut [Seat]) -> bool {
     let (Ok(ours), Ok(theirs)) = (parse_pid("a.1"), parse_pid("b.1")) else {
         return false;
     };
-    let (Ok(x), Ok(y), Ok(stranger)) = (parse_name("x"), parse_name("y"), parse_node("z")) else {
+    let (Ok(x), Ok(y), Ok(stranger)) = (parse_name("x"), parse_name("y"), parse_node_name("z"))
+    else {
         return false;
     };
     let [one, two] = seats else {

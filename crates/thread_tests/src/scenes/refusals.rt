@@ -6,7 +6,7 @@ use std::alloc::Global;
 use std::sync::Wait;
 use std::thread::Threads;
 use std::time::Clock;
-use term::{NodeName, parse_name, parse_node, parse_pid};
+use term::{NodeName, parse_name, parse_node_name, parse_pid};
 
 /// Spawns the first process of `a`, and registers `bad` for it. Whether that was answered so, and the name is read where it was registered,
 /// also behind the end of the node's thread.
@@ -44,7 +44,7 @@ where
     N: Names<Memory = Global> + Send + 'static,
     R: Threads + Wait + Clock + Drop + Copy + Send + 'static,
 {
-    let Ok(a) = parse_node("a") else {
+    let Ok(a) = parse_node_name("a") else {
         return false;
     };
     let Ok(mut cluster) = Cluster::<OpenGate, N>::start(rt, alloc, &[a.copy()], &[], OpenGate, 0)

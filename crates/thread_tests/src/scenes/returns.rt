@@ -5,7 +5,7 @@ use std::alloc::Global;
 use std::sync::Wait;
 use std::thread::Threads;
 use std::time::Clock;
-use term::{NodeName, NodeSet, parse_node, parse_nodes};
+use term::{NodeName, NodeSet, parse_node_name, parse_nodes};
 
 /// How many seats come and go, one after another: more than there are at once.
 const RETURNS: u32 = 200;
@@ -54,7 +54,7 @@ fn returns<R>(rt: &R, alloc: Global) -> bool
 where
     R: Threads + Wait + Clock + Drop + Copy + Send + Sync + 'static,
 {
-    let (Ok(nodes), Ok(node)) = (parse_nodes("a"), parse_node("a")) else {
+    let (Ok(nodes), Ok(node)) = (parse_nodes("a"), parse_node_name("a")) else {
         return false;
     };
     let Some(flags) = held(alloc, NodeSet::empty(), 0) else {

@@ -33,7 +33,7 @@ returns-in_err-set_lock-in-set_lock-clause-memory c = λ _.
       holder = v.holder;
       resource = v.id.resource;
       requester = v.id.requester;
-      nodes = n.0;
+      names = n.0;
       asks = inr (
         retries_of c.in-Some.retries,
         rw c.in-set_lock.is (inl (

@@ -14,6 +14,6 @@ returns-in_err-del_lock-in-del_lock-clause-memory c = λ _.
       holder = v.holder;
       resource = v.id.resource;
       requester = v.id.requester;
-      nodes = n.0;
+      names = n.0;
       asks = inl (rw c.in-del_lock.is (inl (tt, inl (_, e.0, (_, e.1, (_, e.2, (_, n.1, refl)))))));
     }

@@ -1,7 +1,8 @@
 use Rattle.std.proofs.Common.{arith, subst, sym}
 use Rattle.std.proofs.lemmas.Iterator.Splits.{YieldsList-from_str_split}
 use Rattle.std.proofs.lemmas.Result.{err_from_is_err_and}
-use Rattle.term.specs.Spelling.{SpellsText}
+use Rattle.term.specs.Spelling.{SpellsNodeName}
+use Rattle.term.proofs.ExactNodes.{spelled_first}
 use Rattle.term.proofs.NodeLists.{read_none, read_more, read_set, read_too_many, read_fault}
 use Rattle.term.proofs.node_names.parse_nodes.Goals as goal
 
@@ -14,19 +15,19 @@ loop-part-init c =
     c.split-part-items.ensures.pattern)
     c.empty-nodes.ensures)
 
-pub returns-in_err-node : goal.returns-in_err-node
-returns-in_err-node c =
+pub returns-in_err-name : goal.returns-in_err-name
+returns-in_err-name c =
     let p = err_from_is_err_and c.from_residual.result c.from_residual.ensures.1 in
     rw (p.1, p.2)
     (read_fault _ _ c.args.text.now _ c.next.new.self c.in-Some.part _ _ _ c.loop-part.invariant c.in-Some.ensures.steps
-    c.in_err-node.ensures)
+    c.in_err-name.ensures)
 
 pub loop-part-preserved : goal.loop-part-preserved
 loop-part-preserved c =
     rw (c.is_err-is_over.ensures.value)
     (read_more _ _ c.args.text.now _ _ c.in-Some.part c.first.result _ _ _ c.insert.result c.loop-part.invariant
     c.in-Some.ensures.steps
-    (subst (SpellsText c.in-Some.part.now) (sym c.first.ensures) c.in_ok-node.ensures) c.insert.ensures.inserted c.insert.ensures.set)
+    (subst (SpellsNodeName c.in-Some.part.now) (sym c.first.ensures) c.in_ok-name.ensures) c.insert.ensures.inserted c.insert.ensures.set)
 
 pub returns-then-is_over : goal.returns-then-is_over
 returns-then-is_over c =
@@ -34,4 +35,5 @@ returns-then-is_over c =
 
 pub returns : goal.returns
 returns c =
-    rw c.of.ensures (read_set _ _ _ _ _ _ _ c.if-is_over.false c.loop-part.invariant c.in-None.ensures.steps)
+    let spelled = read_set _ _ _ _ _ _ _ c.if-is_over.false c.loop-part.invariant c.in-None.ensures.steps in
+    rw (c.of.ensures.first_nodes (spelled_first _ _ spelled)) spelled

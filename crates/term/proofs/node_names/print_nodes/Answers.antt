@@ -1,8 +1,8 @@
 use Rattle.std.proofs.Common.{ℕ, List, rules, ◌∙◌, subst}
 use Rattle.std.proofs.lemmas.List.{take_all}
 use Rattle.std.specs.List.{All}
-use Rattle.term.specs.Spelling.{SpellsText}
-use Rattle.term.proofs.NodeTexts.{IsName, separator_of-more, list_of-more, names-more, list_of-spells}
+use Rattle.term.specs.Spelling.{SpellsNodeName, name_bytes}
+use Rattle.term.proofs.NodeTexts.{IsName, separator_of-more, list-more, names-more, list_of-spells}
 use Rattle.term.proofs.node_names.print_nodes.Goals as goal
 
 pub loop-name-preserved : goal.loop-name-preserved
@@ -16,9 +16,9 @@ loop-name-preserved g c = (
     c.loop-name.invariant.1,
     c.loop-name.invariant.2,
   )
-      (list_of-more _ _ c.name-item.result c.loop-name-test.true c.name-item.is),
+      (list-more name_bytes _ _ c.name-item.result c.loop-name-test.true c.name-item.is),
   names-more _ _ c.name-item.result c.loop-name-test.true c.name-item.is c.loop-name.invariant.3
-      (subst (λ (bytes : List ℕ). SpellsText bytes c.name-item.result) c.as_str.ensures.bytes c.as_str.ensures.spelled),
+      (subst (λ (bytes : List ℕ). SpellsNodeName bytes c.name-item.result) c.as_str.ensures.bytes c.as_str.ensures.spelled),
 )
 
 pub returns-clause-spelled : goal.returns-clause-spelled

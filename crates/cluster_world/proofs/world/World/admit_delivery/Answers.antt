@@ -22,13 +22,13 @@ returns-then-not-is_empty-clause-ok g c =
     (found_on _ c.self.invariant c.args.sender.now c.args.receiver.now c.in-Some.link c.in-Some.ensures false
     (sym c.if-not-is_empty.true ∙ c.is_empty.ensures)))
 
-pub returns-then-is_closed-clause-refused : goal.returns-then-is_closed-clause-refused
-returns-then-is_closed-clause-refused g c =
+pub returns-then-has_left-clause-refused : goal.returns-then-has_left-clause-refused
+returns-then-has_left-clause-refused g c =
     subst (λ (k : Held). RefusedWith NodeLeft (Deliver c.args.sender.now c.args.receiver.now) k) c.self.view_is
     (refuses_left _ c.self.invariant c.args.sender.now c.args.receiver.now
     (sender_known _ c.self.invariant c.args.sender.now c.args.receiver.now c.in-Some.link c.in-Some.ensures)
     (receiver_known _ c.self.invariant c.args.sender.now c.args.receiver.now c.in-Some.link c.in-Some.ensures)
-    (sym c.is_closed.ensures ∙ c.if-is_closed.true))
+    (sym c.has_left.ensures ∙ c.if-has_left.true))
 
 pub returns-clause-refused : goal.returns-clause-refused
 returns-clause-refused g c =
@@ -36,6 +36,6 @@ returns-clause-refused g c =
     (refuses_empty _ c.self.invariant c.args.sender.now c.args.receiver.now
     (sender_known _ c.self.invariant c.args.sender.now c.args.receiver.now c.in-Some.link c.in-Some.ensures)
     (receiver_known _ c.self.invariant c.args.sender.now c.args.receiver.now c.in-Some.link c.in-Some.ensures)
-    (sym c.is_closed.ensures ∙ c.if-is_closed.false)
+    (sym c.has_left.ensures ∙ c.if-has_left.false)
     (found_on _ c.self.invariant c.args.sender.now c.args.receiver.now c.in-Some.link c.in-Some.ensures true
     (sym c.if-not-is_empty.false ∙ c.is_empty.ensures)))

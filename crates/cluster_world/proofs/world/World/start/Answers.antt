@@ -16,8 +16,8 @@ invariant_of-result g c =
     c.in_ok-cores.cores.items (record { mesh = c.in_ok-mesh.mesh; unsent = None }) c.in_ok-history.history.entries (c.copy.ensures ∙ c.nodes-3.ensures.nodes) (c.copy-2.ensures ∙ c.cluster.ensures))
     (opens_whole c.in_ok-opening.opening.nodes c.in_ok-opening.opening.cluster c.in_ok-cores.cores.items (record { mesh = c.in_ok-mesh.mesh; unsent = None })
     c.in_ok-history.history.entries c.in_ok-cores.ensures c.in_ok-mesh.ensures.empty
-    (subst IsNodeSet (c.of-names.ensures ∙ c.nodes.ensures.nodes) c.as_slice.ensures.set)
-    (c.in_ok-mesh.ensures.nodes ∙ c.as_slice.ensures.names ∙ c.of-names.ensures ∙ c.nodes.ensures.nodes))
+    (subst IsNodeSet c.nodes.ensures.nodes c.as_slice.ensures.set)
+    (c.in_ok-mesh.ensures.nodes ∙ c.as_slice.ensures.nodes ∙ c.nodes.ensures.nodes))
 
 pub returns-clause-nodes : goal.returns-clause-nodes
 returns-clause-nodes g c =

@@ -10,16 +10,16 @@ use Rattle.node_log.proofs.forgotten_log.ForgottenLogRecord.answer.Goals as goal
 
 pub returns-clause-answered : goal.returns-clause-answered
 returns-clause-answered c = elim c.match-self.branch [
-  | in-Some w ↦ ap (λ (l : Inside). steps_of l.before.items l.last) w.self-inside-is
-      ∙ answered_behind c.args.answers.items (map (λ p. step_of p.0) c.self.inside.before.items) (step_of w.in-Some.last)
+  | in-Some w ↦ ap (λ (l : Inside). steps_of l.node l.before.items l.last) w.self-inside-is
+      ∙ answered_behind c.args.answers.items (map (λ p. step_of c.self.inside.node p.0) c.self.inside.before.items) (step_of c.self.inside.node w.in-Some.last)
       ∙ was w.in-Some.is
-  | in_default w ↦ ap (λ (l : Inside). steps_of l.before.items l.last) w.self-inside-is
-      ∙ ap (steps_of c.self.inside.before.items) w.in_default.is
+  | in_default w ↦ ap (λ (l : Inside). steps_of l.node l.before.items l.last) w.self-inside-is
+      ∙ ap (steps_of c.self.inside.node c.self.inside.before.items) w.in_default.is
       ∙ was w.in_default.is
 ]
   where
     -- what was answered is the last of the steps
     was : {last : Option LastStep} → c.self.inside.last ≡ last
-        → answered c.args.answers.items (steps_of c.self.inside.before.items last) ≡ answered c.args.answers.items c.args.self.now.entries
-    was is = ap (λ (l : Option LastStep). answered c.args.answers.items (steps_of c.self.inside.before.items l)) (sym is)
+        → answered c.args.answers.items (steps_of c.self.inside.node c.self.inside.before.items last) ≡ answered c.args.answers.items c.args.self.now.entries
+    was is = ap (λ (l : Option LastStep). answered c.args.answers.items (steps_of c.self.inside.node c.self.inside.before.items l)) (sym is)
         ∙ ap (λ (l : Logged). answered c.args.answers.items l.entries) c.self.view_is

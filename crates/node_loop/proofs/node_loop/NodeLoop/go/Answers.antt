@@ -47,9 +47,9 @@ returns-clause-turned g c =
       between = g.E.Station.state c.drain.new.post;
       drained = c.drain.ensures;
       turned = inl (record {
-        from = c.first.result;
+        from = c.in-Some.from;
         item = c.in-Some.item;
-        taken = rw c.first.ensures h;
+        taken = h;
         works = c.work.ensures;
       });
     })

@@ -8,13 +8,13 @@ pub loop-node-preserved : goal.loop-node-preserved
 loop-node-preserved c = elim c.if-not-contains.branch [
   | then-not-contains w ↦
       λ d. ap (λ (ks : List ℕ). set_of ks d) (w.common-is ∙ w.remove.ensures.others)
-      ∙ goes c.args.self.now c.args.other.now c.loop-node.common c.loop-node.node-index c.node-item.result
+      ∙ goes c.args.self.now (set_of c.args.other.now) c.loop-node.common c.loop-node.node-index c.node-item.result
       (rw c.as_slice-node-items.ensures.nodes at c.loop-node-test.true)
       (rw c.as_slice-node-items.ensures.nodes at c.node-item.is)
       (sym c.contains.ensures ∙ w.if-not-contains.true) c.loop-node.invariant d
   | else-not-contains w ↦
       λ d. ap (λ (ks : List ℕ). set_of ks d) w.common-is
-      ∙ stays c.args.self.now c.args.other.now c.loop-node.common c.loop-node.node-index c.node-item.result
+      ∙ stays c.args.self.now (set_of c.args.other.now) c.loop-node.common c.loop-node.node-index c.node-item.result
       (rw c.as_slice-node-items.ensures.nodes at c.loop-node-test.true)
       (rw c.as_slice-node-items.ensures.nodes at c.node-item.is)
       (sym c.contains.ensures ∙ w.if-not-contains.false) c.loop-node.invariant d

@@ -17,7 +17,7 @@ use Rattle.cluster_world.specs.Mail.{links_of}
 use Rattle.cluster_world.specs.Histories.{number_at}
 use Rattle.cluster_world.proofs.Linked.{is_between, on_link, off_link, has_front}
 use Rattle.cluster_world.proofs.Taking.{less_fits, answers_are, place_within, same_core, few_answers, refused_whole, refused_seen, read_whole, read_played}
-use Rattle.cluster_world.proofs.world.World.read_letter.Goals as goal
+use Rattle.cluster_world.proofs.world.World.read.Goals as goal
 
 pub front-requires : goal.front-requires
 front-requires g c =

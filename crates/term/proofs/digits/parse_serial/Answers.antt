@@ -1,7 +1,7 @@
 use Rattle.std.proofs.Common.{◌≡◌, true, false, get_or, sym}
 use Rattle.std.specs.Int.{is_in_range}
 use Rattle.term.proofs.Serials.{is_in_range-low, is_in_range-serial, serial-read}
-use Rattle.term.proofs.pid.parse_serial.Goals as goal
+use Rattle.term.proofs.digits.parse_serial.Goals as goal
 
 pub returns-then-begins_serial : goal.returns-then-begins_serial
 returns-then-begins_serial c =
