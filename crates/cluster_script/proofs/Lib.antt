@@ -1,8 +1,10 @@
 mod Agreeing
 mod Known
 mod Writing
+mod Given
 mod Playing
 mod Nodes
+mod Meaning
 mod Shown
 mod Settling
 mod Scripts

@@ -3,10 +3,11 @@ use Rattle.std.proofs.Common.{ℕ, Bool, true, false, List, [], ◌∷◌, ◌++
 use Rattle.std.specs.Prelude.{MatchResult, is_some, if◌then◌else◌, ◌⊎◌}
 use Rattle.std.specs.Str.Lines.{lines}
 use Rattle.std.specs.Io.KnownBytes.{Appends, Keeps}
-use Rattle.protocol_model.specs.World.{Opening, World}
-use Rattle.protocol_model.specs.Script.{Line as ScriptLine, Settle}
+use Rattle.cluster_world.specs.NodeNames.{NamedOpening}
+use Rattle.cluster_world.specs.NamedWorld.{NamedWorld}
+use Rattle.protocol_model.specs.NamedEvents.{NamedLine, Settle}
 use Rattle.cluster_world.specs.Held.{Held}
-use Rattle.cluster_world.specs.Seen.{opening_of, seen}
+use Rattle.cluster_world.specs.Seen.{names_of, named}
 use Rattle.command_lines.specs.declared.faults.LineFault.{LineFault}
 use Rattle.command_lines.specs.declared.faults.LineFault.TheVariants.{Memory}
 use Rattle.command_lines.specs.Commands.{LineAsks}
@@ -117,42 +118,42 @@ refused_ends [] rest f o = inl (left_none rest o.0)
 refused_ends (l ∷ ls) rest f o = inr (f, o)
 
 -- what comes of a line by what it was read as
-pub ComesTo-read : (line : List ℕ) (asked : Result ScriptLine LineFault) (x : Outcome)
+pub ComesTo-read : (line : List ℕ) (asked : Result NamedLine LineFault) (x : Outcome)
     → LineAsks line asked ⊎ (asked ≡ Err Memory) → ComesOf asked x → ComesTo line x
 ComesTo-read line asked (Plays l) h k = elim h [
-  | inl a ↦ subst (λ (r : Result ScriptLine LineFault). LineAsks line r) k a
+  | inl a ↦ subst (λ (r : Result NamedLine LineFault). LineAsks line r) k a
   | inr m ↦ absurd (ok_err (sym k ∙ m))
 ]
   where
-    ok_err : ◌≡◌ {A = Result ScriptLine LineFault} (Ok l) (Err Memory) → ⊥
+    ok_err : ◌≡◌ {A = Result NamedLine LineFault} (Ok l) (Err Memory) → ⊥
     ok_err z = cc
 ComesTo-read line asked (Fails f) h k = elim k [
   | inl q ↦
       elim h [
-        | inl a ↦ inl (subst (λ (r : Result ScriptLine LineFault). LineAsks line r) q a)
+        | inl a ↦ inl (subst (λ (r : Result NamedLine LineFault). LineAsks line r) q a)
         | inr m ↦ inr (same (sym q ∙ m))
       ]
   | inr m ↦ inr m
 ]
   where
-    same : ◌≡◌ {A = Result ScriptLine LineFault} (Err f) (Err Memory) → f ≡ Memory
+    same : ◌≡◌ {A = Result NamedLine LineFault} (Err f) (Err Memory) → f ≡ Memory
     same z = cc
 ComesTo-read line asked (Breaks made) h k = elim h [
-  | inl a ↦ (subst (λ (r : Result ScriptLine LineFault). LineAsks line r) k.0 a, k.1)
+  | inl a ↦ (subst (λ (r : Result NamedLine LineFault). LineAsks line r) k.0 a, k.1)
   | inr m ↦ absurd (ok_err (sym k.0 ∙ m))
 ]
   where
-    ok_err : ◌≡◌ {A = Result ScriptLine LineFault} (Ok Settle) (Err Memory) → ⊥
+    ok_err : ◌≡◌ {A = Result NamedLine LineFault} (Ok Settle) (Err Memory) → ⊥
     ok_err z = cc
 
 -- a line that was read already is the first that is played, or was a `lone` line
-AllComeTo-played : (m : List ℕ) (ls : List (List ℕ)) (asked : List (Result ScriptLine LineFault))
+AllComeTo-played : (m : List ℕ) (ls : List (List ℕ)) (asked : List (Result NamedLine LineFault))
     (first outcomes : List Outcome)
     → AllReadAs (played (m ∷ [])) asked → AllComeOf asked first → AllComeTo ls outcomes
     → AllComeTo (played (m ∷ ls)) (first ++ outcomes)
 AllComeTo-played m ls asked first outcomes h c k = go (is_some (lone_line m)) asked first h c
   where
-    go : (b : Bool) (asked : List (Result ScriptLine LineFault)) (first : List Outcome)
+    go : (b : Bool) (asked : List (Result NamedLine LineFault)) (first : List Outcome)
         → AllReadAs (if b then [] else m ∷ []) asked → AllComeOf asked first
         → AllComeTo (if b then ls else m ∷ ls) (first ++ outcomes)
     go true [] [] h c = k
@@ -218,7 +219,7 @@ module _ (input rest : Option (List ℕ)) (most left : ℕ) (bound : most ≤ 10
       (came : AllComeOf (asked_first task) first) where
     -- what the lines print
     abbrev text : List Outcome → List Shown
-    text outcomes = shown_all (opening_of world) (seen world) (first ++ outcomes)
+    text outcomes = shown_all (names_of world) (named world) (first ++ outcomes)
 
     played-on : (ms : List (List ℕ)) (outcomes : List Outcome) → AllComeTo (spoken ms) outcomes
         → PrintsOn (line ∷ m ∷ spoken ms) (text outcomes)
@@ -228,8 +229,8 @@ module _ (input rest : Option (List ℕ)) (most left : ℕ) (bound : most ≤ 10
       (
         first ++ outcomes,
         AllComeTo-played m (spoken ms) (asked_first task) first outcomes q.3 came h,
-        ap (λ (p : Opening). shown_all p (seen world) (first ++ outcomes)) q.2.0
-            ∙ ap (λ (w : World). shown_all (opening_for cluster q.0) w (first ++ outcomes)) q.2.1,
+        ap (λ (p : NamedOpening). shown_all p (named world) (first ++ outcomes)) q.2.0
+            ∙ ap (λ (w : NamedWorld). shown_all (opening_for cluster q.0) w (first ++ outcomes)) q.2.1,
         lines_agree (opening_for cluster q.0) (first ++ outcomes),
         lines_leave_nothing (opening_for cluster q.0) (first ++ outcomes),
       ),

@@ -5,9 +5,10 @@ use Rattle.std.specs.List.{list_all}
 use Rattle.std.proofs.lemmas.List.Folds.{list_all-append}
 use Rattle.std.specs.Io.KnownBytes.{Appends, Keeps}
 use Rattle.std.proofs.KnownBytes.{Appends-trans, Appends-nil, Appends-kept}
-use Rattle.protocol_model.specs.World.{Opening, World}
+use Rattle.cluster_world.specs.NodeNames.{NamedOpening}
+use Rattle.cluster_world.specs.NamedWorld.{NamedWorld}
 use Rattle.cluster_world.specs.Held.{Held}
-use Rattle.cluster_world.specs.Seen.{opening_of, seen}
+use Rattle.cluster_world.specs.Seen.{names_of, named}
 use Rattle.text_lines.specs.declared.faults.StreamFault.{StreamFault}
 use Rattle.text_lines.specs.declared.faults.StreamFault.TheVariants as fault
 use Rattle.text_lines.specs.declared.faults.WriteFault.{WriteFault}
@@ -35,13 +36,13 @@ AllComeTo-push [] (y ∷ ys) l x h k = absurd h
 AllComeTo-push (m ∷ ms) [] l x h k = absurd h
 AllComeTo-push (m ∷ ms) (y ∷ ys) l x h k = (h.0, AllComeTo-push ms ys l x h.1 k)
 
-module _ (o : Opening) where
-  pub behind_all-push : (w : World) (outcomes : List Outcome) (x : Outcome)
+module _ (o : NamedOpening) where
+  pub behind_all-push : (w : NamedWorld) (outcomes : List Outcome) (x : Outcome)
       → behind_all o w (outcomes ++ x ∷ []) ≡ behind o (behind_all o w outcomes) x
   behind_all-push w [] x = refl
   behind_all-push w (y ∷ outcomes) x = behind_all-push (behind o w y) outcomes x
 
-  pub shown_all-push : (w : World) (outcomes : List Outcome) (x : Outcome)
+  pub shown_all-push : (w : NamedWorld) (outcomes : List Outcome) (x : Outcome)
       → shown_all o w (outcomes ++ x ∷ []) ≡ shown_all o w outcomes ++ shown o (behind_all o w outcomes) x
   shown_all-push w [] x = append-nil (shown o w x)
   shown_all-push w (y ∷ outcomes) x =
@@ -68,16 +69,16 @@ module _ (input mid : Option (List ℕ)) (most l1 : ℕ) (old h1 : Held) (a b : 
     (P : PlaysLines [] input mid most l1 old h1 a b fine) where
   -- what one more line prints
   pub text-push : (outcome : Outcome)
-      → shown_text (shown_all (opening_of old) (seen old) (P.outcomes ++ outcome ∷ []))
-      ≡ shown_text (shown_all (opening_of old) (seen old) P.outcomes) ++ shown_on h1 outcome
+      → shown_text (shown_all (names_of old) (named old) (P.outcomes ++ outcome ∷ []))
+      ≡ shown_text (shown_all (names_of old) (named old) P.outcomes) ++ shown_on h1 outcome
   text-push outcome =
-      ap shown_text (shown_all-push (opening_of old) (seen old) P.outcomes outcome)
-      ∙ shown_text-append (shown_all (opening_of old) (seen old) P.outcomes)
-      (shown (opening_of old) (behind_all (opening_of old) (seen old) P.outcomes) outcome)
-      ∙ ap (λ (w : World). shown_text (shown_all (opening_of old) (seen old) P.outcomes)
-      ++ shown_text (shown (opening_of old) w outcome)) (sym P.world)
-      ∙ ap (λ (o : Opening). shown_text (shown_all (opening_of old) (seen old) P.outcomes)
-      ++ shown_text (shown o (seen h1) outcome)) (sym P.opening)
+      ap shown_text (shown_all-push (names_of old) (named old) P.outcomes outcome)
+      ∙ shown_text-append (shown_all (names_of old) (named old) P.outcomes)
+      (shown (names_of old) (behind_all (names_of old) (named old) P.outcomes) outcome)
+      ∙ ap (λ (w : NamedWorld). shown_text (shown_all (names_of old) (named old) P.outcomes)
+      ++ shown_text (shown (names_of old) w outcome)) (sym P.world)
+      ∙ ap (λ (o : NamedOpening). shown_text (shown_all (names_of old) (named old) P.outcomes)
+      ++ shown_text (shown o (named h1) outcome)) (sym P.opening)
 
   -- what was played so far, where a fault comes behind empty lines
   module _ (rest : Option (List ℕ)) (ls : List (List ℕ)) (part : List ℕ) (s : spoken ls ≡ []) (t : LosesInto mid rest
@@ -148,19 +149,19 @@ module _ (input mid : Option (List ℕ)) (most l1 : ℕ) (old h1 : Held) (a b : 
       counted = omega (arith, P.counted, e, count_of_all-append P.taken ls);
       each = each-push;
       opening = p.opening ∙ P.opening;
-      world = p.world ∙ ap (λ (o : Opening). behind o (seen h1) outcome) P.opening
-          ∙ ap (λ (w : World). behind (opening_of old) w outcome) P.world
-          ∙ sym (behind_all-push (opening_of old) (seen old) P.outcomes outcome);
+      world = p.world ∙ ap (λ (o : NamedOpening). behind o (named h1) outcome) P.opening
+          ∙ ap (λ (w : NamedWorld). behind (names_of old) w outcome) P.world
+          ∙ sym (behind_all-push (names_of old) (named old) P.outcomes outcome);
       wrote = subst (λ (x : List ℕ). Appends a c x) (sym (text-push outcome))
           (Appends-trans a b c _ (shown_on h1 outcome) P.wrote p.wrote);
       fine_is = ap (λ (x : Bool). x && fine2) P.fine_is
-          ∙ ap (λ (x : Bool). list_all is_fine (shown_all (opening_of old) (seen old) P.outcomes) && x)
-          (p.fine_is ∙ ap (λ (o : Opening). list_all is_fine (shown o (seen h1) outcome)) P.opening
-          ∙ ap (λ (w : World). list_all is_fine (shown (opening_of old) w outcome)) P.world)
-          ∙ sym (list_all-append is_fine (shown_all (opening_of old) (seen old) P.outcomes)
-          (shown (opening_of old) (behind_all (opening_of old) (seen old) P.outcomes) outcome))
+          ∙ ap (λ (x : Bool). list_all is_fine (shown_all (names_of old) (named old) P.outcomes) && x)
+          (p.fine_is ∙ ap (λ (o : NamedOpening). list_all is_fine (shown o (named h1) outcome)) P.opening
+          ∙ ap (λ (w : NamedWorld). list_all is_fine (shown (names_of old) w outcome)) P.world)
+          ∙ sym (list_all-append is_fine (shown_all (names_of old) (named old) P.outcomes)
+          (shown (names_of old) (behind_all (names_of old) (named old) P.outcomes) outcome))
           ∙ ap (λ (xs : List Shown). list_all is_fine xs)
-          (sym (shown_all-push (opening_of old) (seen old) P.outcomes outcome));
+          (sym (shown_all-push (names_of old) (named old) P.outcomes outcome));
     }
 
 -- what the exit of a `?` says of lines
@@ -181,7 +182,7 @@ PlaysLines-kept input rest most left old new a b c fine p k = record {
   each = p.each;
   opening = p.opening;
   world = p.world;
-  wrote = Appends-kept a b c (shown_text (shown_all (opening_of old) (seen old) p.outcomes)) p.wrote k;
+  wrote = Appends-kept a b c (shown_text (shown_all (names_of old) (named old) p.outcomes)) p.wrote k;
   fine_is = p.fine_is;
 }
 
@@ -230,7 +231,7 @@ PlaysSome-first input old outcome a b p = record {
   read = LosesInto-whole input input [] (LosesLines-nil input);
   each = tt;
   wrote = subst (λ (t : List ℕ). AppendsPart a b t)
-      (ap shown_text (sym (append-nil (shown (opening_of old) (seen old) outcome)))) p;
+      (ap shown_text (sym (append-nil (shown (names_of old) (named old) outcome)))) p;
 }
 
 -- the line that was read already is played, and others behind it
@@ -238,13 +239,13 @@ module _ (input rest : Option (List ℕ)) (old mid : Held) (outcome : Outcome) (
     (fine : Bool) (L : PlaysLine old mid outcome a b fine) where
   -- what they print
   text-behind : (others : List Outcome)
-      → shown_on old outcome ++ shown_text (shown_all (opening_of mid) (seen mid) others)
-      ≡ shown_text (shown_all (opening_of old) (seen old) (outcome ∷ others))
+      → shown_on old outcome ++ shown_text (shown_all (names_of mid) (named mid) others)
+      ≡ shown_text (shown_all (names_of old) (named old) (outcome ∷ others))
   text-behind others =
-      ap (λ (o : Opening). shown_on old outcome ++ shown_text (shown_all o (seen mid) others)) L.opening
-      ∙ ap (λ (w : World). shown_on old outcome ++ shown_text (shown_all (opening_of old) w others)) L.world
-      ∙ sym (shown_text-append (shown (opening_of old) (seen old) outcome)
-      (shown_all (opening_of old) (behind (opening_of old) (seen old) outcome) others))
+      ap (λ (o : NamedOpening). shown_on old outcome ++ shown_text (shown_all o (named mid) others)) L.opening
+      ∙ ap (λ (w : NamedWorld). shown_on old outcome ++ shown_text (shown_all (names_of old) w others)) L.world
+      ∙ sym (shown_text-append (shown (names_of old) (named old) outcome)
+      (shown_all (names_of old) (behind (names_of old) (named old) outcome) others))
 
   -- all is written that they print
   abbrev PlaysSome-all : PlaysSome Appends [] input rest mid b c → PlaysSome Appends (outcome ∷ []) input rest old a c
@@ -255,7 +256,7 @@ module _ (input rest : Option (List ℕ)) (old mid : Held) (outcome : Outcome) (
     read = p.read;
     each = p.each;
     wrote = subst (λ (t : List ℕ). Appends a c t) (text-behind p.outcomes)
-        (Appends-trans a b c (shown_on old outcome) (shown_text (shown_all (opening_of mid) (seen mid) p.outcomes))
+        (Appends-trans a b c (shown_on old outcome) (shown_text (shown_all (names_of mid) (named mid) p.outcomes))
         L.wrote p.wrote);
   }
 
@@ -270,7 +271,7 @@ module _ (input rest : Option (List ℕ)) (old mid : Held) (outcome : Outcome) (
     each = p.each;
     wrote = subst (λ (t : List ℕ). AppendsPart a c t) (text-behind p.outcomes)
         (AppendsPart-behind a b c (shown_on old outcome)
-        (shown_text (shown_all (opening_of mid) (seen mid) p.outcomes)) L.wrote p.wrote);
+        (shown_text (shown_all (names_of mid) (named mid) p.outcomes)) L.wrote p.wrote);
   }
 
   -- the others end with a fault
@@ -292,15 +293,15 @@ module _ (input rest : Option (List ℕ)) (old mid : Held) (outcome : Outcome) (
     counted = p.counted;
     each = p.each;
     opening = p.opening ∙ L.opening;
-    world = p.world ∙ ap (λ (o : Opening). behind_all o (seen mid) p.outcomes) L.opening
-        ∙ ap (λ (w : World). behind_all (opening_of old) w p.outcomes) L.world;
+    world = p.world ∙ ap (λ (o : NamedOpening). behind_all o (named mid) p.outcomes) L.opening
+        ∙ ap (λ (w : NamedWorld). behind_all (names_of old) w p.outcomes) L.world;
     wrote = subst (λ (t : List ℕ). Appends a c t) (text-behind p.outcomes)
-        (Appends-trans a b c (shown_on old outcome) (shown_text (shown_all (opening_of mid) (seen mid) p.outcomes))
+        (Appends-trans a b c (shown_on old outcome) (shown_text (shown_all (names_of mid) (named mid) p.outcomes))
         L.wrote p.wrote);
     fine_is = ap (λ (x : Bool). x && fine2) L.fine_is
-        ∙ ap (λ (x : Bool). list_all is_fine (shown (opening_of old) (seen old) outcome) && x)
-        (p.fine_is ∙ ap (λ (o : Opening). list_all is_fine (shown_all o (seen mid) p.outcomes)) L.opening
-        ∙ ap (λ (w : World). list_all is_fine (shown_all (opening_of old) w p.outcomes)) L.world)
-        ∙ sym (list_all-append is_fine (shown (opening_of old) (seen old) outcome)
-        (shown_all (opening_of old) (behind (opening_of old) (seen old) outcome) p.outcomes));
+        ∙ ap (λ (x : Bool). list_all is_fine (shown (names_of old) (named old) outcome) && x)
+        (p.fine_is ∙ ap (λ (o : NamedOpening). list_all is_fine (shown_all o (named mid) p.outcomes)) L.opening
+        ∙ ap (λ (w : NamedWorld). list_all is_fine (shown_all (names_of old) w p.outcomes)) L.world)
+        ∙ sym (list_all-append is_fine (shown (names_of old) (named old) outcome)
+        (shown_all (names_of old) (behind (names_of old) (named old) outcome) p.outcomes));
   }

@@ -6,11 +6,13 @@ use Rattle.std.specs.Io.KnownBytes.{Appends}
 use Rattle.std.proofs.KnownBytes.{Appends-trans, Appends-nil}
 use Rattle.std.proofs.Math.Bool.{and-true}
 use Rattle.protocol_model.specs.Event.{Answer as AnyAnswer}
-use Rattle.protocol_model.specs.World.{Opening, World, WorldEvent as AnyEvent, happens, answers, all_answers, run, deliveries_left, next_delivery}
-use Rattle.protocol_model.specs.Script.{Settle, Output, Said, settled}
+use Rattle.protocol_model.specs.NamedEvents.{NamedOutput, Settle, Said}
+use Rattle.cluster_world.specs.NodeNames.{NamedOpening}
+use Rattle.cluster_world.specs.NamedWorld.{NamedWorld, NamedEvent, happens_named, named_answers, run_named}
+use Rattle.cluster_world.specs.NamedScript.{named_deliveries_left, next_named, settled}
 use Rattle.cluster_world.specs.Held.{Held}
-use Rattle.cluster_world.specs.Seen.{opening_of, seen}
-use Rattle.command_lines.specs.Events.{event_of}
+use Rattle.cluster_world.specs.Seen.{names_of, named}
+use Rattle.command_lines.specs.Events.{named_event}
 use Rattle.command_lines.specs.NodeEventsSeen.{answer_of}
 use Rattle.cluster_world.specs.Playing.{Played, WaitsOn}
 use Rattle.command_lines.specs.declared.Answer.{Answer}
@@ -19,14 +21,15 @@ use Rattle.text_lines.specs.declared.faults.WriteFault.{WriteFault}
 use Rattle.command_lines.specs.declared.faults.LineFault.TheVariants.{Memory}
 use Rattle.command_lines.specs.Printing.{answers_text, output_line, error_line, word_of, shown_text, is_fine, is_fine_output, Shown, Shows, Refuses}
 use Rattle.text_lines.specs.Writing.{AppendsPart, Writes}
-use Rattle.protocol_model.proofs.Courses.{run-append, answers-append}
-use Rattle.cluster_script.specs.Script.{Plays, Breaks, settle_limit, broken, shown}
+use Rattle.std.proofs.lemmas.List.Sums.{fold-append}
+use Rattle.cluster_script.proofs.Given.{given-next, given-push}
+use Rattle.cluster_script.specs.Script.{Plays, Breaks, settle_limit, given_in, broken, shown}
 use Rattle.cluster_script.specs.Played.{PlaysOrStops, PlaysAsked, shown_on, settle_end}
 use Rattle.text_lines.proofs.Written.{AppendsPart-behind, AppendsPart-more}
 
 -- how the deliveries end in a world that opened so and stands as w
-abbrev pub ends_at : Opening → World → Output
-ends_at o w = settled o settle_limit (next_delivery o w)
+abbrev pub ends_at : NamedOpening → NamedWorld → NamedOutput
+ends_at o w = settled o (next_named o w)
 
 -- the limit, as the program has it
 pub settle_limit-is : settle_limit ≡ 100000
@@ -34,71 +37,72 @@ unfolding settle_limit
 settle_limit-is = refl
 
 -- the deliveries of `settle` from a world on, at most m of them
-module _ (o : Opening) where
+module _ (o : NamedOpening) where
   -- the next delivery, and those behind it
-  pub settle-next : (m : ℕ) (w : World) (e : AnyEvent) → next_delivery o w ≡ Some e → deliveries_left o (suc m) w ≡ e
-      ∷ deliveries_left o m (happens o w e)
-  settle-next m w e h = ap (λ (x : Option AnyEvent). elim x as (λ _. List AnyEvent)
-      [ None ↦ [] | Some e ↦ e ∷ deliveries_left o m (happens o w e) ]) h
+  pub settle-next : (m : ℕ) (w : NamedWorld) (e : NamedEvent) → next_named o w ≡ Some e → named_deliveries_left o (suc m) w ≡ e
+      ∷ named_deliveries_left o m (happens_named o w e)
+  settle-next m w e h = ap (λ (x : Option NamedEvent). elim x as (λ _. List NamedEvent)
+      [ None ↦ [] | Some e ↦ e ∷ named_deliveries_left o m (happens_named o w e) ]) h
 
   -- none, where no letter waits
-  pub settle-none : (m : ℕ) (w : World) → next_delivery o w ≡ None → deliveries_left o m w ≡ []
+  pub settle-none : (m : ℕ) (w : NamedWorld) → next_named o w ≡ None → named_deliveries_left o m w ≡ []
   settle-none zero w h = refl
-  settle-none (suc m) w h = ap (λ (x : Option AnyEvent). elim x as (λ _. List AnyEvent)
-      [ None ↦ [] | Some e ↦ e ∷ deliveries_left o m (happens o w e) ]) h
+  settle-none (suc m) w h = ap (λ (x : Option NamedEvent). elim x as (λ _. List NamedEvent)
+      [ None ↦ [] | Some e ↦ e ∷ named_deliveries_left o m (happens_named o w e) ]) h
 
   -- one delivery more
-  pub deliveries-push : (k : ℕ) (w : World) (e : AnyEvent)
-      → next_delivery o (run o w (deliveries_left o k w)) ≡ Some e
-      → deliveries_left o (suc k) w ≡ deliveries_left o k w ++ e ∷ []
+  pub deliveries-push : (k : ℕ) (w : NamedWorld) (e : NamedEvent)
+      → next_named o (run_named o w (named_deliveries_left o k w)) ≡ Some e
+      → named_deliveries_left o (suc k) w ≡ named_deliveries_left o k w ++ e ∷ []
   deliveries-push zero w e h = settle-next zero w e h
-  deliveries-push (suc k) w e h = go (next_delivery o w) refl (λ v next. deliveries-push k v e next)
+  deliveries-push (suc k) w e h = go (next_named o w) refl (λ v next. deliveries-push k v e next)
     where
-      go : (r : Option AnyEvent) → next_delivery o w ≡ r
-          → ((v : World) → next_delivery o (run o v (deliveries_left o k v)) ≡ Some e
-          → deliveries_left o (suc k) v ≡ deliveries_left o k v ++ e ∷ [])
-          → deliveries_left o (suc (suc k)) w ≡ deliveries_left o (suc k) w ++ e ∷ []
+      go : (r : Option NamedEvent) → next_named o w ≡ r
+          → ((v : NamedWorld) → next_named o (run_named o v (named_deliveries_left o k v)) ≡ Some e
+          → named_deliveries_left o (suc k) v ≡ named_deliveries_left o k v ++ e ∷ [])
+          → named_deliveries_left o (suc (suc k)) w ≡ named_deliveries_left o (suc k) w ++ e ∷ []
       go None q behind =
-          let none : next_delivery o w ≡ Some e =
-          subst (λ (es : List AnyEvent). next_delivery o (run o w es) ≡ Some e) (settle-none (suc k) w q) h in
+          let none : next_named o w ≡ Some e =
+          subst (λ (es : List NamedEvent). next_named o (run_named o w es) ≡ Some e) (settle-none (suc k) w q) h in
           absurd (some_none e (sym none ∙ q))
         where
-          some_none : (d : AnyEvent) → Some d ≡ None → ⊥
+          some_none : (d : NamedEvent) → Some d ≡ None → ⊥
           some_none d z = cc
       go (Some d) q behind =
-          let v = happens o w d in
+          let v = happens_named o w d in
           let first = settle-next k w d q in
-          let next : next_delivery o (run o v (deliveries_left o k v)) ≡ Some e =
-          subst (λ (es : List AnyEvent). next_delivery o (run o w es) ≡ Some e) first h in
+          let next : next_named o (run_named o v (named_deliveries_left o k v)) ≡ Some e =
+          subst (λ (es : List NamedEvent). next_named o (run_named o w es) ≡ Some e) first h in
           settle-next (suc k) w d q
-          ∙ ap (λ (es : List AnyEvent). d ∷ es) (behind v next)
-          ∙ ap (λ (es : List AnyEvent). es ++ e ∷ []) (sym first)
+          ∙ ap (λ (es : List NamedEvent). d ∷ es) (behind v next)
+          ∙ ap (λ (es : List NamedEvent). es ++ e ∷ []) (sym first)
 
 -- k deliveries were made and their answers written; the others are those that the world makes as it stands
 pub record Settles (k : ℕ) (old now : Held) (a b : Option (List ℕ)) : Type 0 where
   pub most : ℕ
   pub given : List AnyAnswer
   pub counted : most + k ≡ 100000
-  pub opening : opening_of now ≡ opening_of old
-  pub world : run (opening_of old) (seen old) (deliveries_left (opening_of old) settle_limit (seen old))
-      ≡ run (opening_of old) (seen now) (deliveries_left (opening_of old) most (seen now))
-  pub answered : all_answers (opening_of old) (seen old) (deliveries_left (opening_of old) settle_limit (seen old))
-      ≡ given ++ all_answers (opening_of old) (seen now) (deliveries_left (opening_of old) most (seen now))
-  pub made : seen now ≡ run (opening_of old) (seen old) (deliveries_left (opening_of old) k (seen old))
-  pub said : given ≡ all_answers (opening_of old) (seen old) (deliveries_left (opening_of old) k (seen old))
+  pub opening : names_of now ≡ names_of old
+  pub world : run_named (names_of old) (named old) (named_deliveries_left (names_of old) settle_limit (named old))
+      ≡ run_named (names_of old) (named now) (named_deliveries_left (names_of old) most (named now))
+  pub answered : given_in (names_of old) (named old) (named_deliveries_left (names_of old) settle_limit (named old))
+      ≡ given ++ given_in (names_of old) (named now) (named_deliveries_left (names_of old) most (named now))
+  pub made : named now ≡ run_named (names_of old) (named old) (named_deliveries_left (names_of old) k (named old))
+  pub said : given ≡ given_in (names_of old) (named old) (named_deliveries_left (names_of old) k (named old))
   pub wrote : Appends a b (answers_text given)
 
-module _ (o : Opening) where
-  pub run-next : (m : ℕ) (w v : World) (e : AnyEvent) → next_delivery o w ≡ Some e → v ≡ happens o w e
-      → run o w (deliveries_left o (suc m) w) ≡ run o v (deliveries_left o m v)
-  run-next m w v e h q = ap (λ (es : List AnyEvent). run o w es) (settle-next o m w e h)
-      ∙ ap (λ (x : World). run o x (deliveries_left o m x)) (sym q)
+module _ (o : NamedOpening) where
+  pub run-next : (m : ℕ) (w v : NamedWorld) (e : NamedEvent) → next_named o w ≡ Some e → v ≡ happens_named o w e
+      → run_named o w (named_deliveries_left o (suc m) w) ≡ run_named o v (named_deliveries_left o m v)
+  run-next m w v e h q = ap (λ (es : List NamedEvent). run_named o w es) (settle-next o m w e h)
+      ∙ ap (λ (x : NamedWorld). run_named o x (named_deliveries_left o m x)) (sym q)
 
-  pub all_answers-next : (m : ℕ) (w v : World) (e : AnyEvent) → next_delivery o w ≡ Some e → v ≡ happens o w e
-      → all_answers o w (deliveries_left o (suc m) w) ≡ answers o w e ++ all_answers o v (deliveries_left o m v)
-  all_answers-next m w v e h q =
-      ap (λ (es : List AnyEvent). all_answers o w es) (settle-next o m w e h)
-      ∙ ap (λ (x : World). answers o w e ++ all_answers o x (deliveries_left o m x)) (sym q)
+  pub given_in-next : (m : ℕ) (w v : NamedWorld) (e : NamedEvent) → next_named o w ≡ Some e → v ≡ happens_named o w e
+      → given_in o w (named_deliveries_left o (suc m) w) ≡ named_answers o w e ++ given_in o v (named_deliveries_left o m v)
+  given_in-next m w v e h q =
+      ap (λ (es : List NamedEvent). given_in o w es) (settle-next o m w e h)
+      ∙ given-next o w e (named_deliveries_left o m (happens_named o w e))
+      ∙ ap (λ (x : NamedWorld). named_answers o w e ++ given_in o x (named_deliveries_left o m x)) (sym q)
 
 -- the lines of two lists of answers
 pub answers_text-append : (xs ys : List AnyAnswer) → answers_text (xs ++ ys) ≡ answers_text xs ++ answers_text ys
@@ -114,8 +118,8 @@ Settles-start old a = record {
   given = [];
   counted = omega arith;
   opening = refl;
-  world = ap (λ (n : ℕ). run (opening_of old) (seen old) (deliveries_left (opening_of old) n (seen old))) settle_limit-is;
-  answered = ap (λ (n : ℕ). all_answers (opening_of old) (seen old) (deliveries_left (opening_of old) n (seen old)))
+  world = ap (λ (n : ℕ). run_named (names_of old) (named old) (named_deliveries_left (names_of old) n (named old))) settle_limit-is;
+  answered = ap (λ (n : ℕ). given_in (names_of old) (named old) (named_deliveries_left (names_of old) n (named old)))
       settle_limit-is;
   made = refl;
   said = refl;
@@ -131,78 +135,76 @@ module _ (k : ℕ) (old now : Held) (a b : Option (List ℕ)) (S : Settles k old
       go zero e = absurd (omega (arith, S.counted, e))
       go (suc m) e = (m, e)
 
-  module _ (e : AnyEvent) (h : next_delivery (opening_of now) (seen now) ≡ Some e) (l : k < 100000) where
-    pub at_opening : next_delivery (opening_of old) (seen now) ≡ Some e
-    at_opening = subst (λ (o : Opening). next_delivery o (seen now) ≡ Some e) S.opening h
+  module _ (e : NamedEvent) (h : next_named (names_of now) (named now) ≡ Some e) (l : k < 100000) where
+    pub at_opening : next_named (names_of old) (named now) ≡ Some e
+    at_opening = subst (λ (o : NamedOpening). next_named o (named now) ≡ Some e) S.opening h
 
     -- the deliveries so far, and this one
-    pub made-next : deliveries_left (opening_of old) (suc k) (seen old)
-        ≡ deliveries_left (opening_of old) k (seen old) ++ e ∷ []
-    made-next = deliveries-push (opening_of old) k (seen old) e
-        (subst (λ (w : World). next_delivery (opening_of old) w ≡ Some e) S.made at_opening)
+    pub made-next : named_deliveries_left (names_of old) (suc k) (named old)
+        ≡ named_deliveries_left (names_of old) k (named old) ++ e ∷ []
+    made-next = deliveries-push (names_of old) k (named old) e
+        (subst (λ (w : NamedWorld). next_named (names_of old) w ≡ Some e) S.made at_opening)
 
     -- all answers, where the next delivery leads to v
-    pub answered-next : (v : World) → v ≡ happens (opening_of old) (seen now) e
-        → all_answers (opening_of old) (seen old) (deliveries_left (opening_of old) settle_limit (seen old))
-        ≡ (S.given ++ answers (opening_of old) (seen now) e)
-        ++ all_answers (opening_of old) v (deliveries_left (opening_of old) (most-next l).0 v)
+    pub answered-next : (v : NamedWorld) → v ≡ happens_named (names_of old) (named now) e
+        → given_in (names_of old) (named old) (named_deliveries_left (names_of old) settle_limit (named old))
+        ≡ (S.given ++ named_answers (names_of old) (named now) e)
+        ++ given_in (names_of old) v (named_deliveries_left (names_of old) (most-next l).0 v)
     answered-next v q =
         S.answered
-        ∙ ap (λ (n : ℕ). S.given ++ all_answers (opening_of old) (seen now) (deliveries_left (opening_of old) n (seen now)))
+        ∙ ap (λ (n : ℕ). S.given ++ given_in (names_of old) (named now) (named_deliveries_left (names_of old) n (named now)))
         (most-next l).1
         ∙ ap (λ (ss : List AnyAnswer). S.given ++ ss)
-        (all_answers-next (opening_of old) (most-next l).0 (seen now) v e at_opening q)
-        ∙ sym (append_assoc S.given (answers (opening_of old) (seen now) e)
-        (all_answers (opening_of old) v (deliveries_left (opening_of old) (most-next l).0 v)))
+        (given_in-next (names_of old) (most-next l).0 (named now) v e at_opening q)
+        ∙ sym (append_assoc S.given (named_answers (names_of old) (named now) e)
+        (given_in (names_of old) v (named_deliveries_left (names_of old) (most-next l).0 v)))
 
     one_more : (n : ℕ) → n + 1 ≡ suc n
     one_more n = omega arith
 
     -- the next delivery was made
-    pub Settles-next : (new : Held) (c : Option (List ℕ)) → opening_of new ≡ opening_of now → seen new
-        ≡ happens (opening_of now) (seen now) e
-        → Appends b c (answers_text (answers (opening_of now) (seen now) e)) → Settles (k + 1) old new a c
+    pub Settles-next : (new : Held) (c : Option (List ℕ)) → names_of new ≡ names_of now → named new
+        ≡ happens_named (names_of now) (named now) e
+        → Appends b c (answers_text (named_answers (names_of now) (named now) e)) → Settles (k + 1) old new a c
     Settles-next new c n q w =
-        let q2 : seen new ≡ happens (opening_of old) (seen now) e = subst
-        (λ (o : Opening). seen new ≡ happens o (seen now) e) S.opening q in
-        let w2 : Appends b c (answers_text (answers (opening_of old) (seen now) e)) =
-        subst (λ (o : Opening). Appends b c (answers_text (answers o (seen now) e))) S.opening w in
-        let es = deliveries_left (opening_of old) k (seen old) in
-        let more : deliveries_left (opening_of old) (k + 1) (seen old) ≡ es ++ e ∷ [] =
-        ap (λ (n : ℕ). deliveries_left (opening_of old) n (seen old)) (one_more k) ∙ made-next in
+        let q2 : named new ≡ happens_named (names_of old) (named now) e = subst
+        (λ (o : NamedOpening). named new ≡ happens_named o (named now) e) S.opening q in
+        let w2 : Appends b c (answers_text (named_answers (names_of old) (named now) e)) =
+        subst (λ (o : NamedOpening). Appends b c (answers_text (named_answers o (named now) e))) S.opening w in
+        let es = named_deliveries_left (names_of old) k (named old) in
+        let more : named_deliveries_left (names_of old) (k + 1) (named old) ≡ es ++ e ∷ [] =
+        ap (λ (n : ℕ). named_deliveries_left (names_of old) n (named old)) (one_more k) ∙ made-next in
         record {
           most = (most-next l).0;
-          given = S.given ++ answers (opening_of old) (seen now) e;
+          given = S.given ++ named_answers (names_of old) (named now) e;
           counted = omega (arith, S.counted, (most-next l).1);
           opening = n ∙ S.opening;
           world = S.world
-              ∙ ap (λ (x : ℕ). run (opening_of old) (seen now) (deliveries_left (opening_of old) x (seen now))) (most-next l).1
-              ∙ run-next (opening_of old) (most-next l).0 (seen now) (seen new) e at_opening q2;
-          answered = answered-next (seen new) q2;
-          made = q2 ∙ ap (λ (w : World). happens (opening_of old) w e) S.made
-              ∙ sym (ap (λ (ds : List AnyEvent). run (opening_of old) (seen old) ds) more
-              ∙ run-append (opening_of old) (seen old) es (e ∷ []));
-          said = ap (λ (w : World). S.given ++ answers (opening_of old) w e) S.made
-              ∙ ap (λ (ss : List AnyAnswer). ss ++ answers (opening_of old) (run (opening_of old) (seen old) es) e) S.said
-              ∙ sym (ap (λ (ds : List AnyEvent). all_answers (opening_of old) (seen old) ds) more
-              ∙ answers-append (opening_of old) (seen old) es (e ∷ [])
-              ∙ ap (λ (ss : List AnyAnswer). all_answers (opening_of old) (seen old) es ++ ss)
-              (append-nil (answers (opening_of old) (run (opening_of old) (seen old) es) e)));
+              ∙ ap (λ (x : ℕ). run_named (names_of old) (named now) (named_deliveries_left (names_of old) x (named now))) (most-next l).1
+              ∙ run-next (names_of old) (most-next l).0 (named now) (named new) e at_opening q2;
+          answered = answered-next (named new) q2;
+          made = q2 ∙ ap (λ (w : NamedWorld). happens_named (names_of old) w e) S.made
+              ∙ sym (ap (λ (ds : List NamedEvent). run_named (names_of old) (named old) ds) more
+              ∙ fold-append (happens_named (names_of old)) (named old) es (e ∷ []));
+          said = ap (λ (w : NamedWorld). S.given ++ named_answers (names_of old) w e) S.made
+              ∙ ap (λ (ss : List AnyAnswer). ss ++ named_answers (names_of old) (run_named (names_of old) (named old) es) e) S.said
+              ∙ sym (ap (λ (ds : List NamedEvent). given_in (names_of old) (named old) ds) more
+              ∙ given-push (names_of old) (named old) es e);
           wrote = subst (λ (t : List ℕ). Appends a c t)
-              (sym (answers_text-append S.given (answers (opening_of old) (seen now) e)))
-              (Appends-trans a b c (answers_text S.given) (answers_text (answers (opening_of old) (seen now) e)) S.wrote
+              (sym (answers_text-append S.given (named_answers (names_of old) (named now) e)))
+              (Appends-trans a b c (answers_text S.given) (answers_text (named_answers (names_of old) (named now) e)) S.wrote
               w2);
         }
 
 -- answers, and one more line
-pub Said-text-last : (given : List AnyAnswer) (x : Output) → shown_text (map Shows (map Said given ++ x ∷ []))
+pub Said-text-last : (given : List AnyAnswer) (x : NamedOutput) → shown_text (map Shows (map Said given ++ x ∷ []))
     ≡ answers_text given ++ output_line x
 Said-text-last [] x = append-nil (output_line x)
 Said-text-last (s ∷ given) x =
     ap (λ (t : List ℕ). output_line (Said s) ++ t) (Said-text-last given x)
     ∙ sym (append_assoc (output_line (Said s)) (answers_text given) (output_line x))
 
-pub Said-fine-last : (given : List AnyAnswer) (x : Output) → list_all is_fine (map Shows (map Said given ++ x ∷ []))
+pub Said-fine-last : (given : List AnyAnswer) (x : NamedOutput) → list_all is_fine (map Shows (map Said given ++ x ∷ []))
     ≡ is_fine_output x
 Said-fine-last [] x = and-true (is_fine_output x)
 Said-fine-last (s ∷ given) x = Said-fine-last given x
@@ -221,29 +223,29 @@ Broken-fine (s ∷ given) = Broken-fine given
 
 -- what `settle` prints
 pub settle-text : (h : Held) → shown_on h (Plays Settle)
-    ≡ answers_text (all_answers (opening_of h) (seen h) (deliveries_left (opening_of h) settle_limit (seen h)))
-    ++ output_line (ends_at (opening_of h) (run (opening_of h) (seen h) (deliveries_left (opening_of h) settle_limit (seen h))))
-settle-text h = Said-text-last (all_answers (opening_of h) (seen h) (deliveries_left (opening_of h) settle_limit (seen h)))
-    (ends_at (opening_of h) (run (opening_of h) (seen h) (deliveries_left (opening_of h) settle_limit (seen h))))
+    ≡ answers_text (given_in (names_of h) (named h) (named_deliveries_left (names_of h) settle_limit (named h)))
+    ++ output_line (ends_at (names_of h) (run_named (names_of h) (named h) (named_deliveries_left (names_of h) settle_limit (named h))))
+settle-text h = Said-text-last (given_in (names_of h) (named h) (named_deliveries_left (names_of h) settle_limit (named h)))
+    (ends_at (names_of h) (run_named (names_of h) (named h) (named_deliveries_left (names_of h) settle_limit (named h))))
 
 -- how it ends, by the link on which a letter waits
-pub settled-waits : (r : Option (ℕ × ℕ)) (h : Held) → WaitsOn r h → ends_at (opening_of h) (seen h)
+pub settled-waits : (r : Option (ℕ × ℕ)) (h : Held) → WaitsOn r h → ends_at (names_of h) (named h)
     ≡ settle_end (is_none r)
-settled-waits None h w = ap (settled (opening_of h) settle_limit) w
-settled-waits (Some p) h w = ap (settled (opening_of h) settle_limit) w
+settled-waits None h w = ap (settled (names_of h)) w
+settled-waits (Some p) h w = ap (settled (names_of h)) w
 
 module _ (k : ℕ) (old now : Held) (a b : Option (List ℕ)) (S : Settles k old now a b) where
   -- a fault while the answers of the next delivery were written
-  pub settle-stopped : (e : AnyEvent) → next_delivery (opening_of now) (seen now) ≡ Some e → k < 100000
+  pub settle-stopped : (e : NamedEvent) → next_named (names_of now) (named now) ≡ Some e → k < 100000
       → (c : Option (List ℕ))
-      → AppendsPart b c (answers_text (answers (opening_of now) (seen now) e))
+      → AppendsPart b c (answers_text (named_answers (names_of now) (named now) e))
       → AppendsPart a c (shown_on old (Plays Settle))
   settle-stopped e h l c p =
-      let p2 : AppendsPart b c (answers_text (answers (opening_of old) (seen now) e)) =
-      subst (λ (o : Opening). AppendsPart b c (answers_text (answers o (seen now) e))) S.opening p in
-      let v = happens (opening_of old) (seen now) e in
-      let more = all_answers (opening_of old) v (deliveries_left (opening_of old) (most-next k old now a b S l).0 v) in
-      let given = answers (opening_of old) (seen now) e in
+      let p2 : AppendsPart b c (answers_text (named_answers (names_of old) (named now) e)) =
+      subst (λ (o : NamedOpening). AppendsPart b c (answers_text (named_answers o (named now) e))) S.opening p in
+      let v = happens_named (names_of old) (named now) e in
+      let more = given_in (names_of old) v (named_deliveries_left (names_of old) (most-next k old now a b S l).0 v) in
+      let given = named_answers (names_of old) (named now) e in
       let q : AppendsPart a c (answers_text (S.given ++ given)) =
       subst (λ (t : List ℕ). AppendsPart a c t) (sym (answers_text-append S.given given))
       (AppendsPart-behind a b c (answers_text S.given) (answers_text given) S.wrote p2) in
@@ -254,24 +256,24 @@ module _ (k : ℕ) (old now : Held) (a b : Option (List ℕ)) (S : Settles k old
       (AppendsPart-more a c _ _ (subst (λ (ss : List AnyAnswer). AppendsPart a c (answers_text ss))
       (sym (answered-next k old now a b S e h l v refl)) all))
 
-  module _ (none : deliveries_left (opening_of old) S.most (seen now) ≡ []) (s : Bool)
-      (ends : ends_at (opening_of now) (seen now) ≡ settle_end s) where
-    pub world-end : run (opening_of old) (seen old) (deliveries_left (opening_of old) settle_limit (seen old)) ≡ seen now
-    world-end = S.world ∙ ap (λ (es : List AnyEvent). run (opening_of old) (seen now) es) none
+  module _ (none : named_deliveries_left (names_of old) S.most (named now) ≡ []) (s : Bool)
+      (ends : ends_at (names_of now) (named now) ≡ settle_end s) where
+    pub world-end : run_named (names_of old) (named old) (named_deliveries_left (names_of old) settle_limit (named old)) ≡ named now
+    world-end = S.world ∙ ap (λ (es : List NamedEvent). run_named (names_of old) (named now) es) none
 
-    pub answers-end : all_answers (opening_of old) (seen old) (deliveries_left (opening_of old) settle_limit (seen old))
+    pub answers-end : given_in (names_of old) (named old) (named_deliveries_left (names_of old) settle_limit (named old))
         ≡ S.given
-    answers-end = S.answered ∙ ap (λ (es : List AnyEvent). S.given ++ all_answers (opening_of old) (seen now) es) none
+    answers-end = S.answered ∙ ap (λ (es : List NamedEvent). S.given ++ given_in (names_of old) (named now) es) none
         ∙ append-nil S.given
 
-    pub output-end : ends_at (opening_of old) (run (opening_of old) (seen old)
-        (deliveries_left (opening_of old) settle_limit (seen old))) ≡ settle_end s
-    output-end = ap (λ (w : World). ends_at (opening_of old) w) world-end
-        ∙ ap (λ (o : Opening). ends_at o (seen now)) (sym S.opening) ∙ ends
+    pub output-end : ends_at (names_of old) (run_named (names_of old) (named old)
+        (named_deliveries_left (names_of old) settle_limit (named old))) ≡ settle_end s
+    output-end = ap (λ (w : NamedWorld). ends_at (names_of old) w) world-end
+        ∙ ap (λ (o : NamedOpening). ends_at o (named now)) (sym S.opening) ∙ ends
 
     pub text-end : shown_on old (Plays Settle) ≡ answers_text S.given ++ output_line (settle_end s)
-    text-end = settle-text old ∙ ap (λ (x : Output). answers_text
-        (all_answers (opening_of old) (seen old) (deliveries_left (opening_of old) settle_limit (seen old))) ++ output_line x)
+    text-end = settle-text old ∙ ap (λ (x : NamedOutput). answers_text
+        (given_in (names_of old) (named old) (named_deliveries_left (names_of old) settle_limit (named old))) ++ output_line x)
         output-end
         ∙ ap (λ (ss : List AnyAnswer). answers_text ss ++ output_line (settle_end s)) answers-end
 
@@ -288,10 +290,10 @@ module _ (k : ℕ) (old now : Held) (a b : Option (List ℕ)) (S : Settles k old
       wrote = subst (λ (t : List ℕ). Appends a c t) (sym text-end)
           (Appends-trans a b c (answers_text S.given) (output_line (settle_end s)) S.wrote w);
       fine_is = q ∙ fine-end s ∙ ap is_fine_output (sym output-end)
-          ∙ sym (Said-fine-last (all_answers (opening_of old) (seen old)
-          (deliveries_left (opening_of old) settle_limit (seen old)))
-          (ends_at (opening_of old) (run (opening_of old) (seen old)
-          (deliveries_left (opening_of old) settle_limit (seen old)))));
+          ∙ sym (Said-fine-last (given_in (names_of old) (named old)
+          (named_deliveries_left (names_of old) settle_limit (named old)))
+          (ends_at (names_of old) (run_named (names_of old) (named old)
+          (named_deliveries_left (names_of old) settle_limit (named old)))));
     }
       where
         fine-end : (t : Bool) → t ≡ is_fine_output (settle_end t)
@@ -299,15 +301,15 @@ module _ (k : ℕ) (old now : Held) (a b : Option (List ℕ)) (S : Settles k old
         fine-end false = refl
 
   -- memory is refused for the next delivery
-  module _ (e : AnyEvent) (h : next_delivery (opening_of now) (seen now) ≡ Some e) (l : k < 100000) where
+  module _ (e : NamedEvent) (h : next_named (names_of now) (named now) ≡ Some e) (l : k < 100000) where
     -- what was made and said so far
-    shown-broken : shown (opening_of old) (seen old) (Breaks k) ≡ map Shows (map Said S.given) ++ Refuses Memory ∷ []
+    shown-broken : shown (names_of old) (named old) (Breaks k) ≡ map Shows (map Said S.given) ++ Refuses Memory ∷ []
     shown-broken =
-        let o = opening_of old in
-        let es = deliveries_left o k (seen old) in
-        let waits : next_delivery o (run o (seen old) es) ≡ Some e =
-        subst (λ (w : World). next_delivery o w ≡ Some e) S.made (at_opening k old now a b S e h l) in
-        ap (λ (r : Option AnyEvent). map Shows (map Said (all_answers o (seen old) es)) ++ broken r ∷ []) waits
+        let o = names_of old in
+        let es = named_deliveries_left o k (named old) in
+        let waits : next_named o (run_named o (named old) es) ≡ Some e =
+        subst (λ (w : NamedWorld). next_named o w ≡ Some e) S.made (at_opening k old now a b S e h l) in
+        ap (λ (r : Option NamedEvent). map Shows (map Said (given_in o (named old) es)) ++ broken r ∷ []) waits
         ∙ ap (λ (ss : List AnyAnswer). map Shows (map Said ss) ++ Refuses Memory ∷ []) (sym S.said)
 
     text-broken : shown_on old (Breaks k) ≡ answers_text S.given ++ error_line (word_of Memory)
@@ -316,7 +318,7 @@ module _ (k : ℕ) (old now : Held) (a b : Option (List ℕ)) (S : Settles k old
     within : k < settle_limit
     within = subst (λ (n : ℕ). k < n) (sym settle_limit-is) l
 
-    pub settle-broken : (new : Held) (c d : Option (List ℕ)) → opening_of new ≡ opening_of now → seen new ≡ seen now
+    pub settle-broken : (new : Held) (c d : Option (List ℕ)) → names_of new ≡ names_of now → named new ≡ named now
         → c ≡ b → (r : Result Bool WriteFault) → Writes c d r (error_line (word_of Memory))
         → IfOk r (λ fine. fine ≡ false) → PlaysAsked (Ok Settle) old new a d r
     settle-broken new c d o n same (Err f) w q = (
@@ -342,11 +344,11 @@ module _ (k : ℕ) (old now : Held) (a b : Option (List ℕ)) (S : Settles k old
 -- the answers of an event that was played were written, or a part of them
 module _ (old new : Held) (e : WorldEvent) (given : List Answer) (a b : Option (List ℕ)) (p : Played e old new [] given) where
   pub answers-written : Appends a b (answers_text (map answer_of given))
-      → Appends a b (answers_text (answers (opening_of old) (seen old) (event_of e)))
+      → Appends a b (answers_text (named_answers (names_of old) (named old) (named_event e)))
   answers-written w = subst (λ (ss : List AnyAnswer). Appends a b (answers_text ss)) p.answers w
 
   pub answers-part : AppendsPart a b (answers_text (map answer_of given))
-      → AppendsPart a b (answers_text (answers (opening_of old) (seen old) (event_of e)))
+      → AppendsPart a b (answers_text (named_answers (names_of old) (named old) (named_event e)))
   answers-part w = subst (λ (ss : List AnyAnswer). AppendsPart a b (answers_text ss)) p.answers w
 
 -- a test for none, by the test for some
@@ -358,12 +360,12 @@ is_none-by (Some v) false e = refl
 
 module _ (k : ℕ) (old now : Held) (a b : Option (List ℕ)) (S : Settles k old now a b) where
   -- no letter waits
-  pub none_waits : next_delivery (opening_of now) (seen now) ≡ None → deliveries_left (opening_of old) S.most (seen now) ≡ []
-  none_waits h = settle-none (opening_of old) S.most (seen now)
-      (subst (λ (o : Opening). next_delivery o (seen now) ≡ None) S.opening h)
+  pub none_waits : next_named (names_of now) (named now) ≡ None → named_deliveries_left (names_of old) S.most (named now) ≡ []
+  none_waits h = settle-none (names_of old) S.most (named now)
+      (subst (λ (o : NamedOpening). next_named o (named now) ≡ None) S.opening h)
 
   -- all deliveries were made
-  pub none_left : 100000 ≤ k → deliveries_left (opening_of old) S.most (seen now) ≡ []
+  pub none_left : 100000 ≤ k → named_deliveries_left (names_of old) S.most (named now) ≡ []
   none_left l =
       let z : S.most ≡ 0 = omega (arith, S.counted) in
-      ap (λ (n : ℕ). deliveries_left (opening_of old) n (seen now)) z
+      ap (λ (n : ℕ). named_deliveries_left (names_of old) n (named now)) z

@@ -1,10 +1,11 @@
 -- What it comes to that the headers of a script are read.
 use Rattle.std.specs.Prelude.{ℕ, ◌≡◌, ◌⊎◌, ◌+◌, List, [], ◌∷◌, map, option_to_list, Option, Some, None, Result, Ok, Err}
-use Rattle.protocol_model.specs.World.{Opening, opening_world}
-use Rattle.protocol_model.specs.Script.{Line as ScriptLine}
+use Rattle.protocol_model.specs.NamedEvents.{NamedLine}
 use Rattle.term.specs.declared.faults.TextFault.{TextFault}
 use Rattle.cluster_world.specs.Held.{Held}
-use Rattle.cluster_world.specs.Seen.{opening_of, seen}
+use Rattle.cluster_world.specs.NodeNames.{NamedOpening}
+use Rattle.cluster_world.specs.NamedWorld.{opening_named}
+use Rattle.cluster_world.specs.Seen.{names_of, named}
 use Rattle.command_lines.specs.Openings.{start_refused}
 use Rattle.command_lines.specs.declared.StartFault.{StartFault}
 use Rattle.command_lines.specs.declared.faults.LineFault.{LineFault}
@@ -30,8 +31,8 @@ ReadsHeader (Some texts) (Some nodes) = ReadsNodes texts nodes
 ReadsHeader _ _ = ⊥
 
 -- a world stands as at its opening
-abbrev pub StandsAt : Opening → Held → Type 0
-StandsAt o world = (opening_of world ≡ o) × (seen world ≡ opening_world o)
+abbrev pub StandsAt : NamedOpening → Held → Type 0
+StandsAt o world = (names_of world ≡ o) × (named world ≡ opening_named o)
 
 -- a world of these nodes was started, or why it wasn't; or memory was refused
 abbrev pub Starts : List ℕ → List ℕ → Result Held LineFault → Type 0
@@ -54,13 +55,13 @@ OpensCluster line (Ok c) = LineOpens line (Ok c.nodes.items) × Starts c.nodes.i
 OpensCluster line (Err f) = LineOpens line (Err f)
 
 -- what each of these lines was read as, unless memory was refused for it
-abbrev pub AllReadAs : List (List ℕ) → List (Result ScriptLine LineFault) → Type 0
+abbrev pub AllReadAs : List (List ℕ) → List (Result NamedLine LineFault) → Type 0
 AllReadAs [] [] = Unit {0}
 AllReadAs (l ∷ ls) (asked ∷ others) = (LineAsks l asked ⊎ (asked ≡ Err Memory)) × AllReadAs ls others
 AllReadAs _ _ = ⊥
 
 -- what was read already, as what the first line that is played asks for
-abbrev pub asked_first : Option (Result Task LineFault) → List (Result ScriptLine LineFault)
+abbrev pub asked_first : Option (Result Task LineFault) → List (Result NamedLine LineFault)
 asked_first first = map asked_by (option_to_list first)
 
 -- what was made of the line behind the `cluster` line

@@ -3,13 +3,18 @@ use Rattle.std.specs.Prelude.{ℕ, false, Bool, ◌≡◌, ◌⊎◌, ◌+◌, �
 use Rattle.std.specs.List.{list_all}
 use Rattle.std.specs.Io.KnownBytes.{Appends}
 use Rattle.registry_model.specs.Process.{nodes_of}
-use Rattle.protocol_model.specs.Event.{Refusal, NoSuchNode, NodeLeft}
-use Rattle.protocol_model.specs.Script.{Line as ScriptLine, Settle, Output, Settled, SettleLimit, TableIs, MembersAre, okay, shown_at}
-use Rattle.protocol_model.specs.World.{Opening, left}
+use Rattle.protocol_model.specs.Event.{NoSuchNode, NodeLeft}
+use Rattle.protocol_model.specs.NamedEvents.{NamedRefusal, Plain, NamedLine, Settle, NamedOutput, Settled, SettleLimit, TableIs, MembersAre}
+use Rattle.term.specs.Nodes.{text_in}
 use Rattle.command_lines.specs.declared.WorldEvent.{WorldEvent}
-use Rattle.command_lines.specs.Events.{event_of}
+use Rattle.command_lines.specs.Events.{named_event}
 use Rattle.cluster_world.specs.Held.{Held}
-use Rattle.cluster_world.specs.Seen.{opening_of, seen}
+use Rattle.cluster_world.specs.NodeNames.{is_name, opening_of}
+use Rattle.cluster_world.specs.NamedWorld.{present_node}
+use Rattle.cluster_world.specs.NamedScript.{okay, shown_at}
+use Rattle.cluster_world.specs.Seen.{names_of, named}
+use Rattle.cluster_world.specs.Playing.{Played}
+use Rattle.command_lines.specs.declared.Answer.{Answer}
 use Rattle.command_lines.specs.declared.faults.LineFault.{LineFault}
 use Rattle.command_lines.specs.declared.faults.LineFault.TheVariants.{Memory}
 use Rattle.text_lines.specs.declared.faults.StreamFault.{StreamFault}
@@ -23,14 +28,14 @@ use Rattle.cluster_script.specs.Script.{Outcome, Plays, Fails, Breaks, ComesTo, 
 
 -- what is printed for a line on what is held
 abbrev pub shown_on : Held → Outcome → List ℕ
-shown_on h x = shown_text (shown (opening_of h) (seen h) x)
+shown_on h x = shown_text (shown (names_of h) (named h) x)
 
 -- this came of a line, and what it prints was written
 pub record PlaysLine (old new : Held) (x : Outcome) (before after : Option (List ℕ)) (fine : Bool) : Type 0 where
-  pub opening : opening_of new ≡ opening_of old
-  pub world : seen new ≡ behind (opening_of old) (seen old) x
+  pub opening : names_of new ≡ names_of old
+  pub world : named new ≡ behind (names_of old) (named old) x
   pub wrote : Appends before after (shown_on old x)
-  pub fine_is : fine ≡ list_all is_fine (shown (opening_of old) (seen old) x)
+  pub fine_is : fine ≡ list_all is_fine (shown (names_of old) (named old) x)
 
 -- the same, or after a fault a part of what it prints was written
 abbrev pub PlaysOrStops : Held → Held → Outcome → Option (List ℕ) → Option (List ℕ) → Result Bool WriteFault → Type 0
@@ -38,19 +43,19 @@ PlaysOrStops old new x before after (Ok fine) = PlaysLine old new x before after
 PlaysOrStops old new x before after (Err f) = AppendsPart before after (shown_on old x)
 
 -- what may come of what was read as this: memory may be refused for it
-abbrev pub ComesOf : Result ScriptLine LineFault → Outcome → Type 0
+abbrev pub ComesOf : Result NamedLine LineFault → Outcome → Type 0
 ComesOf asked (Plays l) = asked ≡ Ok l
 ComesOf asked (Fails f) = (asked ≡ Err f) ⊎ (f ≡ Memory)
 ComesOf asked (Breaks made) = (asked ≡ Ok Settle) × (made < settle_limit)
 
 -- and of what was read as these, of each by itself
-abbrev pub AllComeOf : List (Result ScriptLine LineFault) → List Outcome → Type 0
+abbrev pub AllComeOf : List (Result NamedLine LineFault) → List Outcome → Type 0
 AllComeOf [] [] = Unit {0}
 AllComeOf (asked ∷ others) (x ∷ outcomes) = ComesOf asked x × AllComeOf others outcomes
 AllComeOf _ _ = ⊥
 
 -- what was read as this was played, or stopped at
-abbrev pub PlaysAsked : Result ScriptLine LineFault → Held → Held → Option (List ℕ) → Option (List ℕ) → Result Bool WriteFault → Type 0
+abbrev pub PlaysAsked : Result NamedLine LineFault → Held → Held → Option (List ℕ) → Option (List ℕ) → Result Bool WriteFault → Type 0
 PlaysAsked asked old new before after r = (x : Outcome) × ComesOf asked x × PlaysOrStops old new x before after r
 
 -- a line was read and played, or stopped at
@@ -58,49 +63,54 @@ abbrev pub PlaysRead : List ℕ → Held → Held → Option (List ℕ) → Opti
 PlaysRead line old new before after r = (x : Outcome) × ComesTo line x × PlaysOrStops old new x before after r
 
 -- what an accepted event prints before its answers
-abbrev pub okay_text : Opening → WorldEvent → List ℕ
-okay_text o e = shown_text (map Shows (okay o settle_limit (event_of e)))
+abbrev pub okay_text : Held → WorldEvent → List ℕ
+okay_text h e = shown_text (map Shows (okay (names_of h) (named h) (named_event e)))
 
--- it was written, or after a fault a part of it
-abbrev pub WritesOkay : {A E : Type 0} → Option (List ℕ) → Option (List ℕ) → Result A E → WorldEvent → Type 0
-WritesOkay old new r e = MatchResult r (λ _. (o : Opening) → Appends old new (okay_text o e))
-    (λ _. (o : Opening) → AppendsPart old new (okay_text o e))
+-- it was written, or after a fault a part of it, where the event made this world, of whatever it was before
+abbrev pub WritesOkay : {A E : Type 0} → Held → Option (List ℕ) → Option (List ℕ) → Result A E → WorldEvent → Type 0
+WritesOkay h old new r e = MatchResult r
+    (λ _. (was : Held) → (given : List Answer) → Played e was h [] given → Appends old new (okay_text was e))
+    (λ _. (was : Held) → (given : List Answer) → Played e was h [] given → AppendsPart old new (okay_text was e))
 
 -- what is printed last for `settle`
-abbrev pub settle_end : Bool → Output
+abbrev pub settle_end : Bool → NamedOutput
 settle_end settled = if settled then Settled else SettleLimit
 
--- what a script shows of node a: its table
-abbrev pub table_of : Held → ℕ → Output
-table_of h a = TableIs ((seen h).node a).replica.table
+-- the node of a name at present
+abbrev pub node_at : Held → ℕ → ℕ
+node_at h x = present_node (names_of h) (named h) (text_in x)
+
+-- what a script shows of it: its table
+abbrev pub table_of : Held → ℕ → NamedOutput
+table_of h x = TableIs ((named h).world.node (node_at h x)).replica.table
 
 -- and its members
-abbrev pub members_of : Held → ℕ → Output
-members_of h a = MembersAre (nodes_of (opening_of h).bound ((seen h).node a).replica.members)
+abbrev pub members_of : Held → ℕ → NamedOutput
+members_of h x = MembersAre (nodes_of (opening_of (names_of h)).bound ((named h).world.node (node_at h x)).replica.members)
 
--- why node a isn't shown: it has left, or there is none
-abbrev pub hidden_by : Held → ℕ → Refusal
-hidden_by h a = if left (seen h) a then NodeLeft else NoSuchNode
+-- why it isn't shown: it has left, or there is none
+abbrev pub hidden_by : Held → ℕ → NamedRefusal
+hidden_by h x = if is_name (names_of h) (text_in x) then Plain NodeLeft else Plain NoSuchNode
 
 -- the line where there is one, or that refusal
 abbrev pub line_or_refusal : Held → ℕ → Option (List ℕ) → List ℕ
-line_or_refusal h a None = error_line (refusal_word (hidden_by h a))
-line_or_refusal h a (Some line) = line
+line_or_refusal h x None = error_line (refusal_word (hidden_by h x))
+line_or_refusal h x (Some line) = line
 
 -- the same, or where memory was refused for it that
 abbrev pub text_for : {E : Type 0} → Held → ℕ → Result (Option (List ℕ)) E → List ℕ
-text_for h a (Ok line) = line_or_refusal h a line
-text_for h a (Err f) = error_line (word_of Memory)
+text_for h x (Ok line) = line_or_refusal h x line
+text_for h x (Err f) = error_line (word_of Memory)
 
 -- there is a line
 abbrev pub has_line : {A E : Type 0} → Result (Option A) E → Bool
 has_line (Ok line) = is_some line
 has_line (Err f) = false
 
--- the line that shows x of node a, or none where x isn't shown
-pub record IsShown (h : Held) (a : ℕ) (x : Output) (line : Option (List ℕ)) : Type 0 where
-  pub text : line_or_refusal h a line ≡ output_line (shown_at (opening_of h) settle_limit (seen h) a x)
-  pub fine : is_some line ≡ is_fine_output (shown_at (opening_of h) settle_limit (seen h) a x)
+-- the line that shows this of the node of name x at present, or none where it isn't shown
+pub record IsShown (h : Held) (x : ℕ) (output : NamedOutput) (line : Option (List ℕ)) : Type 0 where
+  pub text : line_or_refusal h x line ≡ output_line (shown_at (names_of h) (named h) (text_in x) output)
+  pub fine : is_some line ≡ is_fine_output (shown_at (names_of h) (named h) (text_in x) output)
 
 -- the next line that isn't empty was read, or there was none
 abbrev pub ReadsOn : Option (List ℕ) → Option (List ℕ) → ℕ → ℕ → Option Line → Type 0
@@ -121,10 +131,10 @@ pub record PlaysLines (first : List Outcome) (input rest : Option (List ℕ)) (m
   pub read : LosesLines input rest taken
   pub counted : most ≡ left + count_of_all taken
   pub each : AllComeTo (spoken taken) outcomes
-  pub opening : opening_of new ≡ opening_of old
-  pub world : seen new ≡ behind_all (opening_of old) (seen old) (first ++ outcomes)
-  pub wrote : Appends before after (shown_text (shown_all (opening_of old) (seen old) (first ++ outcomes)))
-  pub fine_is : fine ≡ list_all is_fine (shown_all (opening_of old) (seen old) (first ++ outcomes))
+  pub opening : names_of new ≡ names_of old
+  pub world : named new ≡ behind_all (names_of old) (named old) (first ++ outcomes)
+  pub wrote : Appends before after (shown_text (shown_all (names_of old) (named old) (first ++ outcomes)))
+  pub fine_is : fine ≡ list_all is_fine (shown_all (names_of old) (named old) (first ++ outcomes))
 
 -- This came of what was read already, and some first lines were lost and played; what they print was written, or a part of
 -- it; of the next line a part was lost
@@ -135,7 +145,7 @@ pub record PlaysSome (Grows : Growth) (first : List Outcome) (input rest : Optio
   pub outcomes : List Outcome
   pub read : LosesInto input rest taken part
   pub each : AllComeTo (spoken taken) outcomes
-  pub wrote : Grows before after (shown_text (shown_all (opening_of old) (seen old) (first ++ outcomes)))
+  pub wrote : Grows before after (shown_text (shown_all (names_of old) (named old) (first ++ outcomes)))
 
 -- only some first lines were played: all is written that they print, unless it is the writer or memory that failed
 abbrev pub StopsPlaying : List Outcome → Option (List ℕ) → Option (List ℕ) → ℕ → Held → Option (List ℕ)
@@ -156,7 +166,7 @@ PlaysAll first input rest most left old new before after (Ok fine) =
 PlaysAll first input rest most left old new before after (Err f) = StopsPlaying first input rest most old before after f
 
 -- the same, where something was read already as this
-abbrev pub PlaysBehind : List (Result ScriptLine LineFault) → Option (List ℕ) → Option (List ℕ) → ℕ → ℕ → Held → Held
+abbrev pub PlaysBehind : List (Result NamedLine LineFault) → Option (List ℕ) → Option (List ℕ) → ℕ → ℕ → Held → Held
     → Option (List ℕ) → Option (List ℕ) → Result Bool StreamFault → Type 0
 PlaysBehind asked input rest most left old new before after r = (first : List Outcome) × AllComeOf asked first
     × PlaysAll first input rest most left old new before after r

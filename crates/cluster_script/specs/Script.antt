@@ -2,14 +2,18 @@
 use Rattle.std.specs.Prelude.{ℕ, ◌⊎◌, Bool, true, false, is_some, is_none, unwrap_or, ◌≡◌, ◌≤◌, ◌<◌, bytes_eq, codes, fold, map, List, [], ◌∷◌, ◌++◌, if◌then◌else◌, Option, Some, None, Result, Ok, Err}
 use Rattle.std.specs.List.{list_all}
 use Rattle.std.specs.Io.KnownBytes.{Appends}
-use Rattle.protocol_model.specs.World.{Opening, World, WorldEvent, opening_world, run, all_answers, next_delivery, deliveries_left}
-use Rattle.protocol_model.specs.Script.{Line, Settle, Said, Settled, events_in, printed}
-use Rattle.protocol_model.specs.Leftovers.{NothingIsLeft}
+use Rattle.protocol_model.specs.Event.{Answer}
+use Rattle.protocol_model.specs.World.{all_answers}
+use Rattle.protocol_model.specs.NamedEvents.{NamedEvent, NamedLine, Settle, Said, Settled}
 use Rattle.term.specs.declared.faults.TextFault.{TextFault}
 use Rattle.term.specs.Spelling.{SpellsNodeName, RefusesText}
+use Rattle.cluster_world.specs.NodeNames.{NamedOpening, opening_of}
+use Rattle.cluster_world.specs.NamedWorld.{NamedWorld, opening_named, run_named, plain_events, as_events}
+use Rattle.cluster_world.specs.NamedScript.{events_in, printed, next_named, named_deliveries_left}
+use Rattle.cluster_world.specs.NamedLeftovers.{NothingIsLeftOfNames}
+use Rattle.cluster_world.specs.Openings.{named_opening}
 use Rattle.cluster_world.specs.Agreeing.{HeadlineAfter}
 use Rattle.command_lines.specs.Openings.{start_refused}
-use Rattle.command_lines.specs.Openings.{opening_with}
 use Rattle.command_lines.specs.declared.faults.LineFault.{LineFault}
 use Rattle.command_lines.specs.declared.faults.LineFault.TheVariants.{BadLine, Text, Start, Memory}
 use Rattle.text_lines.specs.declared.faults.StreamFault.{StreamFault}
@@ -28,7 +32,7 @@ settle_limit = 100000
 -- what comes of a line that isn't empty: what it asks for is played; or it is refused, and nothing is played; or it is a
 -- `settle` to which memory is refused behind so many of its deliveries
 pub data Outcome : Type 0 where
-  Plays : (line : Line) → Outcome
+  Plays : (line : NamedLine) → Outcome
   Fails : (fault : LineFault) → Outcome
   Breaks : (made : ℕ) → Outcome
 
@@ -45,40 +49,44 @@ AllComeTo (l ∷ ls) (x ∷ outcomes) = ComesTo l x × AllComeTo ls outcomes
 AllComeTo _ _ = ⊥
 
 -- the events of a line
-abbrev pub events_by : Opening → World → Outcome → List WorldEvent
+abbrev pub events_by : NamedOpening → NamedWorld → Outcome → List NamedEvent
 events_by o w (Plays l) = events_in o settle_limit w l
 events_by o w (Fails f) = []
-events_by o w (Breaks made) = deliveries_left o made w
+events_by o w (Breaks made) = named_deliveries_left o made w
 
 -- the world behind a line
-abbrev pub behind : Opening → World → Outcome → World
-behind o w x = run o w (events_by o w x)
+abbrev pub behind : NamedOpening → NamedWorld → Outcome → NamedWorld
+behind o w x = run_named o w (events_by o w x)
 
 -- what stands in the place of `settled` where memory is refused: a letter waits, whose delivery that was
-abbrev pub broken : Option WorldEvent → Shown
+abbrev pub broken : Option NamedEvent → Shown
 broken None = Shows Settled
 broken (Some e) = Refuses Memory
 
--- what is printed for a line, whose events are es
-abbrev pub shown_for : Opening → World → Outcome → List WorldEvent → List Shown
-shown_for o w (Plays l) es = map Shows (printed o settle_limit w l es)
-shown_for o w (Fails f) es = Refuses f ∷ []
-shown_for o w (Breaks made) es = map Shows (map Said (all_answers o w es)) ++ broken (next_delivery o (run o w es)) ∷ []
+-- all that is answered in these events, in order
+abbrev pub given_in : NamedOpening → NamedWorld → List NamedEvent → List Answer
+given_in o w es = all_answers (opening_of o) w.world (plain_events o w es)
 
-abbrev pub shown : Opening → World → Outcome → List Shown
+-- what is printed for a line, whose events are es
+abbrev pub shown_for : NamedOpening → NamedWorld → Outcome → List NamedEvent → List Shown
+shown_for o w (Plays l) es = map Shows (printed o w l es)
+shown_for o w (Fails f) es = Refuses f ∷ []
+shown_for o w (Breaks made) es = map Shows (map Said (given_in o w es)) ++ broken (next_named o (run_named o w es)) ∷ []
+
+abbrev pub shown : NamedOpening → NamedWorld → Outcome → List Shown
 shown o w x = shown_for o w x (events_by o w x)
 
 -- the world behind these lines
-abbrev pub behind_all : Opening → World → List Outcome → World
+abbrev pub behind_all : NamedOpening → NamedWorld → List Outcome → NamedWorld
 behind_all o w outcomes = fold (behind o) w outcomes
 
 -- the events of these lines
-abbrev pub events_by_all : Opening → World → List Outcome → List WorldEvent
+abbrev pub events_by_all : NamedOpening → NamedWorld → List Outcome → List NamedEvent
 events_by_all o w [] = []
 events_by_all o w (x ∷ outcomes) = events_by o w x ++ events_by_all o (behind o w x) outcomes
 
 -- what is printed for these lines
-abbrev pub shown_all : Opening → World → List Outcome → List Shown
+abbrev pub shown_all : NamedOpening → NamedWorld → List Outcome → List Shown
 shown_all o w [] = []
 shown_all o w (x ∷ outcomes) = shown o w x ++ shown_all o (behind o w x) outcomes
 
@@ -158,40 +166,41 @@ LoneOpens cluster ls (Ok lone) = Names (λ lone. start_refused cluster lone) (lo
 LoneOpens cluster ls (Err f) = Names (λ lone. start_refused cluster lone) (lone_texts ls) (Err f)
     ⊎ ((is_lone ls ≡ true) × (f ≡ Memory))
 
--- a world of a cluster, whose nodes are all joined with each other, and of lone nodes, each joined with no other
-abbrev pub opening_for : List ℕ → List ℕ → Opening
-opening_for cluster lone = opening_with (cluster ++ lone) cluster
+-- a world of the names of a cluster, whose first nodes are all joined with each other, and of lone ones, each joined with no other
+abbrev pub opening_for : List ℕ → List ℕ → NamedOpening
+opening_for cluster lone = named_opening (cluster ++ lone) cluster
 
 -- how the world opens of this cluster and the lone nodes that these lines name, or why there is none
-abbrev pub OpensBehind : Result (List ℕ) LineFault → List (List ℕ) → Result Opening LineFault → Type 0
+abbrev pub OpensBehind : Result (List ℕ) LineFault → List (List ℕ) → Result NamedOpening LineFault → Type 0
 OpensBehind (Err f) ls r = r ≡ Err f
 OpensBehind (Ok cluster) ls r = (lone : Result (List ℕ) LineFault) × LoneOpens cluster ls lone
     × (r ≡ made_of (opening_for cluster) lone)
 
 -- how the world opens of a `cluster` line and of what the lines behind it name, or why there is none
-abbrev pub Opens : List ℕ → List (List ℕ) → Result Opening LineFault → Type 0
+abbrev pub Opens : List ℕ → List (List ℕ) → Result NamedOpening LineFault → Type 0
 Opens l ls r = (cluster : Result (List ℕ) LineFault) × LineOpens l cluster × OpensBehind cluster ls r
 
 -- the headline holds behind the events of these lines, of which the world that is left is made
-abbrev pub LinesAgree : Opening → List Outcome → Type 0
-LinesAgree o outcomes = HeadlineAfter o (events_by_all o (opening_world o) outcomes) (behind_all o (opening_world o) outcomes)
+abbrev pub LinesAgree : NamedOpening → List Outcome → Type 0
+LinesAgree o outcomes = HeadlineAfter (opening_of o) (as_events o (events_by_all o (opening_named o) outcomes))
+    (behind_all o (opening_named o) outcomes).world
 
 -- and nothing is left over there
-abbrev pub LinesLeaveNothing : Opening → List Outcome → Type 0
-LinesLeaveNothing o outcomes = NothingIsLeft o (events_by_all o (opening_world o) outcomes)
-    (behind_all o (opening_world o) outcomes)
+abbrev pub LinesLeaveNothing : NamedOpening → List Outcome → Type 0
+LinesLeaveNothing o outcomes = NothingIsLeftOfNames o (events_by_all o (opening_named o) outcomes)
+    (behind_all o (opening_named o) outcomes)
 
 -- the lines behind the headers are played on a world that opened so, behind which the headline holds and nothing is left
 -- over; if there is none, nothing is
-abbrev pub Follows : Result Opening LineFault → List (List ℕ) → List Shown → Type 0
+abbrev pub Follows : Result NamedOpening LineFault → List (List ℕ) → List Shown → Type 0
 Follows (Err f) ls out = out ≡ Refuses f ∷ []
 Follows (Ok o) ls out = (outcomes : List Outcome) × AllComeTo ls outcomes
-    × (out ≡ shown_all o (opening_world o) outcomes) × LinesAgree o outcomes × LinesLeaveNothing o outcomes
+    × (out ≡ shown_all o (opening_named o) outcomes) × LinesAgree o outcomes × LinesLeaveNothing o outcomes
 
 -- what is printed for lines of which none is empty: without a first line there is none that opens a world
 abbrev pub PrintsSpoken : List (List ℕ) → List Shown → Type 0
 PrintsSpoken [] out = out ≡ Refuses BadLine ∷ []
-PrintsSpoken (l ∷ ls) out = (opened : Result Opening LineFault) × Opens l ls opened × Follows opened (played ls) out
+PrintsSpoken (l ∷ ls) out = (opened : Result NamedOpening LineFault) × Opens l ls opened × Follows opened (played ls) out
 
 -- what is printed for lines
 abbrev pub Prints : List (List ℕ) → List Shown → Type 0
@@ -222,7 +231,7 @@ pub record Ran (input rest : Option (List ℕ)) (old new : Option (List ℕ)) (f
 -- what is printed for lines, where others are played behind them: nothing before the one that opens a world
 abbrev pub PrintsOn : List (List ℕ) → List Shown → Type 0
 PrintsOn [] out = out ≡ []
-PrintsOn (l ∷ ls) out = (o : Opening) × Opens l ls (Ok o) × Follows (Ok o) (played ls) out
+PrintsOn (l ∷ ls) out = (o : NamedOpening) × Opens l ls (Ok o) × Follows (Ok o) (played ls) out
 
 -- why there is no world behind these lines, where this is left: no line is left to open one, or the last is refused
 abbrev pub OpensNone : List (List ℕ) → Option (List ℕ) → LineFault → Type 0

@@ -1,10 +1,15 @@
 //! What a script shows of a node.
-ghost use Rattle.std.specs.Prelude.{◌≡◌, IfOk, Ok, option_map, string_bytes};
-ghost use Rattle.protocol_model.specs.Script.{TableAt, MembersAt};
+ghost use Rattle.std.specs.Prelude.{◌≡◌, IfOk, IfSome, Ok, true, is_some, option_map, string_bytes};
+ghost use Rattle.protocol_model.specs.NamedEvents.{TableAt, MembersAt};
+ghost use Rattle.term.specs.Nodes.{text_in};
+ghost use Rattle.term.specs.NodeSets.{set_of};
+ghost use Rattle.cluster_world.specs.NodeNames.{is_name};
+ghost use Rattle.cluster_world.specs.Held.{nodes_of};
+ghost use Rattle.cluster_world.specs.Seen.{names_of};
 ghost use Rattle.command_lines.specs.Printing.{error_line, refusal_word};
 ghost use Rattle.text_lines.specs.Writing.{Writes};
 ghost use Rattle.cluster_script.specs.Script.{made_of};
-ghost use Rattle.cluster_script.specs.Played.{PlaysAsked, IsShown, table_of, members_of, hidden_by, text_for, has_line};
+ghost use Rattle.cluster_script.specs.Played.{PlaysAsked, IsShown, node_at, table_of, members_of, hidden_by, text_for, has_line};
 
 use crate::header::ScriptWorld;
 use crate::refusing::refuse_memory;
@@ -12,17 +17,30 @@ use command_lines::{members_line, table_line};
 use name_table::Names;
 use std::alloc::{AllocError, Global};
 use std::io::Write;
-use term::Node;
+use term::{Node, NodeName};
 use text_lines::{WriteFault, write_text};
 
-/// The line of a node's table, or none where the world has no such node or it has left.
+/// The node that a name means: the one of it at present. None where the world has no such name.
+pub(crate) fn node_at<'a>(world: &'a ScriptWorld, name: &NodeName) -> Option<&'a Node>
+    ensures here { is_some result ≡ is_name (names_of world.now) (text_in name.now) }
+    ensures node { IfSome result (λ node. (set_of (nodes_of world.now) node.now ≡ true) × (node.now ≡ node_at world.now name.now)) }
+{
+    // Its text shows that the name is that of its first node.
+    let _text = name.as_str();
+    world.present(name)
+}
+
+/// The line of the table of a name's node, or none where the world has no such name or the node has left.
 fn line_of_table(
     alloc: Global,
     world: &ScriptWorld,
-    node: &Node,
+    name: &NodeName,
 ) -> Result<Option<String>, AllocError>
-    ensures { IfOk result (λ line. IsShown world.now node.now (table_of world.now node.now) (option_map string_bytes line)) }
+    ensures { IfOk result (λ line. IsShown world.now name.now (table_of world.now name.now) (option_map string_bytes line)) }
 {
+    let Some(node) = node_at(world, name) else {
+        return Ok(None);
+    };
     if world.has_left(node) {
         return Ok(None);
     }
@@ -33,14 +51,17 @@ fn line_of_table(
     Ok(Some(table_line(alloc, &pairs)?))
 }
 
-/// The line of a node's members, or none where the world has no such node or it has left.
+/// The line of the members of a name's node, or none where the world has no such name or the node has left.
 fn line_of_members(
     alloc: Global,
     world: &ScriptWorld,
-    node: &Node,
+    name: &NodeName,
 ) -> Result<Option<String>, AllocError>
-    ensures { IfOk result (λ line. IsShown world.now node.now (members_of world.now node.now) (option_map string_bytes line)) }
+    ensures { IfOk result (λ line. IsShown world.now name.now (members_of world.now name.now) (option_map string_bytes line)) }
 {
+    let Some(node) = node_at(world, name) else {
+        return Ok(None);
+    };
     if world.has_left(node) {
         return Ok(None);
     }
@@ -50,26 +71,25 @@ fn line_of_members(
     Ok(Some(members_line(alloc, members.as_slice())?))
 }
 
-/// The line for a node that isn't shown.
-fn hidden_line(world: &ScriptWorld, node: &Node) -> &'static str
-    ensures { result.now ≡ error_line (refusal_word (hidden_by world.now node.now)) }
+/// The line for a name whose node isn't shown.
+fn hidden_line(world: &ScriptWorld, name: &NodeName) -> &'static str
+    ensures { result.now ≡ error_line (refusal_word (hidden_by world.now name.now)) }
 {
-    if world.has_left(node) {
-        "error node_left\n"
-    } else {
-        "error no_such_node\n"
+    match node_at(world, name) {
+        Some(_) => "error node_left\n",
+        None => "error no_such_node\n",
     }
 }
 
-/// Writes what is shown of a node, or why it isn't: whether it is.
+/// Writes what is shown of a name's node, or why it isn't: whether it is.
 fn write_shown<W: Write>(
     writer: &mut W,
     world: &ScriptWorld,
-    node: &Node,
+    name: &NodeName,
     line: Result<Option<String>, AllocError>,
 ) -> Result<bool, WriteFault>
     ensures text { Writes (W.contents writer.old) (W.contents writer.new) result
-        (text_for world.now node.now (made_of (option_map string_bytes) line)) }
+        (text_for world.now name.now (made_of (option_map string_bytes) line)) }
     ensures fine { IfOk result (λ fine. fine ≡ has_line line) }
 {
     match line {
@@ -78,33 +98,33 @@ fn write_shown<W: Write>(
             Ok(true)
         }
         Ok(None) => {
-            write_text(writer, hidden_line(world, node).as_bytes())?;
+            write_text(writer, hidden_line(world, name).as_bytes())?;
             Ok(false)
         }
         Err(AllocError) => refuse_memory(writer),
     }
 }
 
-/// Writes the names in the table of a node with their owners, or why it is refused: whether it isn't.
+/// Writes the names in the table of a name's node with their owners, or why it is refused: whether it isn't.
 pub(crate) fn show_table<W: Write>(
     alloc: Global,
     writer: &mut W,
     world: &ScriptWorld,
-    node: &Node,
+    name: &NodeName,
 ) -> Result<bool, WriteFault>
-    ensures { PlaysAsked (Ok (TableAt node.now)) world.now world.now (W.contents writer.old) (W.contents writer.new) result }
+    ensures { PlaysAsked (Ok (TableAt (text_in name.now))) world.now world.now (W.contents writer.old) (W.contents writer.new) result }
 {
-    write_shown(writer, world, node, line_of_table(alloc, world, node))
+    write_shown(writer, world, name, line_of_table(alloc, world, name))
 }
 
-/// Writes the members of a node, or why it is refused: whether it isn't.
+/// Writes the members of a name's node, or why it is refused: whether it isn't.
 pub(crate) fn show_members<W: Write>(
     alloc: Global,
     writer: &mut W,
     world: &ScriptWorld,
-    node: &Node,
+    name: &NodeName,
 ) -> Result<bool, WriteFault>
-    ensures { PlaysAsked (Ok (MembersAt node.now)) world.now world.now (W.contents writer.old) (W.contents writer.new) result }
+    ensures { PlaysAsked (Ok (MembersAt (text_in name.now))) world.now world.now (W.contents writer.old) (W.contents writer.new) result }
 {
-    write_shown(writer, world, node, line_of_members(alloc, world, node))
+    write_shown(writer, world, name, line_of_members(alloc, world, name))
 }

@@ -1,27 +1,31 @@
 //! Scripts, line by line.
-ghost use Rattle.std.specs.Prelude.{◌≡◌, ◌&&◌, ◌++◌, ◌∷◌, [], ◌≤◌, Some, Ok, Err, MatchResult, IfOk, option_map, map, List, ℕ};
+ghost use Rattle.std.specs.Prelude.{◌≡◌, ◌&&◌, ◌++◌, ◌∷◌, [], ◌≤◌, Some, Ok, Err, true, MatchResult, IfOk, option_map, map, List, ℕ};
 ghost use Rattle.std.specs.Io.KnownBytes.{Keeps};
 ghost use Rattle.std.specs.Io.Buffered.{reader_remaining};
-ghost use Rattle.protocol_model.specs.Script as script;
+ghost use Rattle.protocol_model.specs.NamedEvents as script;
 ghost use Rattle.command_lines.specs.NodeEventsSeen.{answer_of as any_answer};
-ghost use Rattle.command_lines.specs.Events.{event_of as any_event};
+ghost use Rattle.command_lines.specs.Events.{named_event, own_event_of};
+ghost use Rattle.term.specs.Nodes.{text_in};
 ghost use Rattle.command_lines.specs.Commands.{asked_by, line_in};
 ghost use Rattle.text_lines.specs.Lines.{IsKept, most_lines};
 ghost use Rattle.command_lines.specs.Printing as print;
 ghost use Rattle.text_lines.specs.Writing.{Writes};
 ghost use Rattle.cluster_script.specs.Script.{Ran, Stopped};
-ghost use Rattle.cluster_script.specs.Played.{PlaysAsked, PlaysRead, PlaysAll, PlaysBehind, WritesOkay, settle_end};
+ghost use Rattle.cluster_script.specs.Played.{PlaysAsked, PlaysRead, PlaysAll, PlaysBehind, WritesOkay, node_at as meant, settle_end};
+ghost use Rattle.cluster_world.specs.NodeNames.{is_name};
+ghost use Rattle.cluster_world.specs.Seen.{names_of};
 ghost use Rattle.cluster_script.specs.Headers.{asked_first};
 
 use crate::header::{Headers, ScriptWorld, read_headers};
-use crate::looking::{show_members, show_table};
+use crate::looking::{node_at, show_members, show_table};
 use crate::reading::next_line;
 use crate::refusing::refuse_memory;
 use command_lines::{
-    Answer, Event, LineFault, Task, WorldEvent, answer_line, read_task, refusal_line,
+    Answer, Event, LineFault, Task, WorldEvent, answer_line, read_task, refusal_line, started_line,
 };
 use std::alloc::Global;
 use std::io::{BufReader, Read, Write};
+use term::NodeName;
 use text_lines::{Line, MOST_LINES, StreamFault, WriteFault, write_text};
 
 /// The most deliveries of one `settle`.
@@ -42,12 +46,37 @@ fn write_answers<W: Write>(
     Ok(())
 }
 
-/// Writes what an accepted event prints before its answers: `ok` for an exit or a leave.
-fn write_accepted<W: Write>(writer: &mut W, event: &WorldEvent) -> Result<(), WriteFault>
-    ensures { WritesOkay (W.contents writer.old) (W.contents writer.new) result event.now }
+/// Writes the line of the node that a name means: of the one that has started where the name came back.
+fn write_started<W: Write>(
+    alloc: Global,
+    writer: &mut W,
+    world: &ScriptWorld,
+    name: &NodeName,
+) -> Result<(), WriteFault>
+    ensures { is_name (names_of world.now) (text_in name.now) ≡ true → Writes (W.contents writer.old) (W.contents writer.new) result
+        (print.output_line (script.Started (meant world.now name.now))) }
+{
+    // A name that came back is one of this world.
+    let Some(node) = node_at(world, name) else {
+        return Ok(());
+    };
+    let line = started_line(alloc, node)?;
+    write_text(writer, line.as_bytes())
+}
+
+/// Writes what an event that was played prints before its answers: `ok` for an exit or a leave, and for a restart the node that has
+/// started.
+fn write_accepted<W: Write>(
+    alloc: Global,
+    writer: &mut W,
+    world: &ScriptWorld,
+    event: &WorldEvent,
+) -> Result<(), WriteFault>
+    ensures { WritesOkay world.now (W.contents writer.old) (W.contents writer.new) result event.now }
 {
     match event {
         WorldEvent::At(_, Event::Exit(_) | Event::Leave) => write_text(writer, b"ok\n"),
+        WorldEvent::Restart(name) => write_started(alloc, writer, world, name),
         _ => Ok(()),
     }
 }
@@ -59,11 +88,11 @@ fn play_event<W: Write>(
     world: &mut ScriptWorld,
     event: &WorldEvent,
 ) -> Result<bool, WriteFault>
-    ensures { PlaysAsked (Ok (script.Play (any_event event.now))) world.old world.new (W.contents writer.old) (W.contents writer.new) result }
+    ensures { PlaysAsked (Ok (script.Play (named_event event.now))) world.old world.new (W.contents writer.old) (W.contents writer.new) result }
 {
     match world.play(event) {
         Ok(answers) => {
-            write_accepted(writer, event)?;
+            write_accepted(alloc, writer, world, event)?;
             write_answers(alloc, writer, &answers)?;
             Ok(true)
         }
@@ -72,6 +101,25 @@ fn play_event<W: Write>(
             Ok(false)
         }
     }
+}
+
+/// Plays an event at the node that a name means, and writes its answers, or why it is refused: whether it isn't.
+fn play_at<W: Write>(
+    alloc: Global,
+    writer: &mut W,
+    world: &mut ScriptWorld,
+    name: &NodeName,
+    event: Event,
+) -> Result<bool, WriteFault>
+    ensures { PlaysAsked (Ok (script.Play (script.At (text_in name.now) (own_event_of event)))) world.old world.new
+        (W.contents writer.old) (W.contents writer.new) result }
+{
+    let Some(node) = node_at(world, name) else {
+        write_text(writer, b"error no_such_node\n")?;
+        return Ok(false);
+    };
+    let event = WorldEvent::At(node.copy(), event);
+    play_event(alloc, writer, world, &event)
 }
 
 /// Writes how `settle` ended.
@@ -110,15 +158,16 @@ fn play_asked<W: Write>(
     alloc: Global,
     writer: &mut W,
     world: &mut ScriptWorld,
-    task: &Task,
+    task: Task,
 ) -> Result<bool, WriteFault>
-    ensures { PlaysAsked (Ok (line_in task.now)) world.old world.new (W.contents writer.old) (W.contents writer.new) result }
+    ensures { PlaysAsked (Ok (line_in task)) world.old world.new (W.contents writer.old) (W.contents writer.new) result }
 {
     match task {
-        Task::Play(event) => play_event(alloc, writer, world, event),
+        Task::Play(event) => play_event(alloc, writer, world, &event),
+        Task::At(name, event) => play_at(alloc, writer, world, &name, event),
         Task::Settle => settle(alloc, writer, world),
-        Task::Table(node) => show_table(alloc, writer, world, node),
-        Task::Members(node) => show_members(alloc, writer, world, node),
+        Task::Table(name) => show_table(alloc, writer, world, &name),
+        Task::Members(name) => show_members(alloc, writer, world, &name),
     }
 }
 
@@ -127,9 +176,9 @@ fn play_task<W: Write>(
     alloc: Global,
     writer: &mut W,
     world: &mut ScriptWorld,
-    task: &Result<Task, LineFault>,
+    task: Result<Task, LineFault>,
 ) -> Result<bool, WriteFault>
-    ensures { PlaysAsked (asked_by task.now) world.old world.new (W.contents writer.old) (W.contents writer.new) result }
+    ensures { PlaysAsked (asked_by task) world.old world.new (W.contents writer.old) (W.contents writer.new) result }
 {
     match task {
         Ok(task) => play_asked(alloc, writer, world, task),
@@ -151,7 +200,7 @@ fn play_line<W: Write>(
         → PlaysRead bytes world.old world.new (W.contents writer.old) (W.contents writer.new) result }
 {
     let task = read_task(alloc, line);
-    play_task(alloc, writer, world, &task)
+    play_task(alloc, writer, world, task)
 }
 
 /// Whether both hold.
@@ -199,7 +248,7 @@ fn play_all<R: Read, W: Write>(
     let Some(task) = first else {
         return play_lines(alloc, reader, writer, world, left);
     };
-    let is_fine = play_task(alloc, writer, world, &task)?;
+    let is_fine = play_task(alloc, writer, world, task)?;
     let others = play_lines(alloc, reader, writer, world, left)?;
     Ok(both(is_fine, others))
 }

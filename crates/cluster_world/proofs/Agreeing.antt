@@ -1,64 +1,82 @@
 -- The headline, where events are played in pieces.
-use Rattle.std.proofs.Common.{ℕ, ◌≡◌, List, [], ◌∷◌, ◌++◌, map, refl, sym, ap, ◌∙◌, subst}
+use Rattle.std.proofs.Common.{◌≡◌, List, [], ◌∷◌, ◌++◌, map, refl, sym, ap, ◌∙◌, subst}
 use Rattle.std.proofs.lemmas.List.{append-nil}
-use Rattle.lock_answers.proofs.Theorem.{agreement}
-use Rattle.protocol_model.proofs.Courses.{run-append, answers-append, course_answers}
-use Rattle.protocol_model.specs.Course.{course, answers_of}
+use Rattle.std.proofs.lemmas.List.Sums.{fold-append}
+use Rattle.protocol_model.proofs.Courses.{answers-append, course_answers}
+use Rattle.protocol_model.specs.Course.{answers_of}
 use Rattle.protocol_model.specs.Event.{Answer as AnyAnswer}
-use Rattle.protocol_model.specs.World.{Opening, World, WorldEvent as AnyWorldEvent, opening_world, answers, run, all_answers}
+use Rattle.protocol_model.specs.World.{Opening, World, WorldEvent as AnyWorldEvent, opening_world, all_answers}
+use Rattle.creations.specs.NodeNames.{NamedOpening, opening_of as all_creations}
+use Rattle.creations.specs.NamedWorld.{NamedWorld, NamedEvent, opening_named, plain_accepted, plain_events, happens_named, named_answers, run_named, after_events, as_events}
+use Rattle.creations.specs.Lifted.{events_played}
+use Rattle.creations.proofs.NamedRuns.{happens-plain, named_runs_are_runs, plain_events-append}
+use Rattle.creations.proofs.Lifting.{agreement}
 use Rattle.node_core.specs.declared.Answer.{Answer}
 use Rattle.node_core.specs.NodeEventsSeen.{answer_of}
 use Rattle.world_events.specs.declared.events.WorldEvent.{WorldEvent}
-use Rattle.world_events.specs.Events.{event_of}
+use Rattle.world_events.specs.Events.{named_event}
 use Rattle.cluster_world.specs.Held.{Held}
-use Rattle.world_events.specs.Openings.{opening_with}
-use Rattle.cluster_world.specs.Seen.{opening_of, seen}
-use Rattle.cluster_world.specs.Playing.{Keeps, Played, events_of}
+use Rattle.cluster_world.specs.Seen.{names_of, opening_of, named}
+use Rattle.cluster_world.specs.Playing.{Keeps, Played, events_of, answers_to_all}
 use Rattle.cluster_world.specs.Agreeing.{HeadlineAfter, IsRunOf, AgreesAfter, Agrees}
 
--- the headline holds behind every list of events
-pub headline_after : (o : Opening) (es : List AnyWorldEvent) → HeadlineAfter o es (run o (opening_world o) es)
-headline_after o es = agreement o es
-
--- what is kept is how the world opened
-pub same_opening : (old new : Held) → Keeps old new → opening_of new ≡ opening_of old
-same_opening old new K =
-    ap (λ (ns : List ℕ). opening_with ns new.cluster) K.nodes ∙ ap (opening_with old.nodes) K.cluster
+-- what is answered to events is what is answered to what they are in the world
+pub answers_are : (o : NamedOpening) (w : NamedWorld) (es : List NamedEvent)
+    → all_answers (all_creations o) w.world (plain_events o w es) ≡ answers_to_all o w es
+answers_are o w [] = refl
+answers_are o w (e ∷ es) =
+    answers-append (all_creations o) w.world (plain_accepted o w e) (plain_events o (happens_named o w e) es)
+    ∙ ap (λ (v : World). named_answers o w e ++ all_answers (all_creations o) v (plain_events o (happens_named o w e) es))
+    (sym (happens-plain o w e))
+    ∙ ap (λ (l : List AnyAnswer). named_answers o w e ++ l) (answers_are o (happens_named o w e) es)
 
 -- the headline holds behind the events that made a world
-pub agreed : (es : List AnyWorldEvent) (h : Held) → IsRunOf es h → AgreesAfter es h
+pub agreed : (es : List NamedEvent) (h : Held) → IsRunOf es h → AgreesAfter es h
 agreed es h is = record {
   is_run = is;
-  headline = subst (λ (w : World). HeadlineAfter (opening_of h) es w) (sym is) (agreement (opening_of h) es);
+  headline = subst (λ (w : NamedWorld). HeadlineAfter (opening_of h) (as_events (names_of h) es) w.world) (sym is)
+      (agreement (names_of h) es);
 }
 
 -- what was run behind them agrees
 pub agrees : (es : List WorldEvent) (given : List Answer) (old new : Held) → Keeps old new
-    → seen new ≡ run (opening_of old) (seen old) (events_of es)
-    → map answer_of given ≡ all_answers (opening_of old) (seen old) (events_of es) → Agrees es given old new
+    → named new ≡ run_named (names_of old) (named old) (events_of es)
+    → map answer_of given ≡ answers_to_all (names_of old) (named old) (events_of es) → Agrees es given old new
 agrees es given old new K world said before is = (
-  agreed (before ++ now) new (world ∙ ap (λ (w : World). run o w now) is
-      ∙ sym (run-append o (opening_world o) before now)
-      ∙ ap (λ (p : Opening). run p (opening_world p) (before ++ now)) (sym (same_opening old new K))),
-  course_answers o (opening_world o) (before ++ now) ∙ answers-append o (opening_world o) before now
-      ∙ ap (λ (l : List AnyAnswer). l ++ all_answers o (run o (opening_world o) before) now)
-      (sym (course_answers o (opening_world o) before))
-      ∙ ap (λ (l : List AnyAnswer). answers_of (course o (opening_world o) before) ++ l)
-      (ap (λ (w : World). all_answers o w now) (sym is) ∙ sym said),
+  agreed (before ++ now) new (world ∙ ap (λ (w : NamedWorld). run_named o w now) is
+      ∙ sym (fold-append (happens_named o) (opening_named o) before now)
+      ∙ ap (λ (p : NamedOpening). after_events p (before ++ now)) (sym K.names)),
+  course_answers O (opening_world O) (as_events o (before ++ now))
+      ∙ ap (all_answers O (opening_world O)) (plain_events-append o (opening_named o) before now)
+      ∙ answers-append O (opening_world O) (as_events o before) later
+      ∙ ap (λ (w : World). all_answers O (opening_world O) (as_events o before) ++ all_answers O w later)
+      (sym (named_runs_are_runs o before))
+      ∙ ap (λ (l : List AnyAnswer). all_answers O (opening_world O) (as_events o before) ++ l)
+      (answers_are o (after_events o before) now)
+      ∙ ap (λ (l : List AnyAnswer). l ++ answers_to_all o (after_events o before) now)
+      (sym (course_answers O (opening_world O) (as_events o before)))
+      ∙ ap (λ (l : List AnyAnswer). answers_of (events_played o before) ++ l)
+      (ap (λ (w : NamedWorld). answers_to_all o w now) (sym is) ∙ sym said),
 )
   where
-    o : Opening
-    o = opening_of old
+    o : NamedOpening
+    o = names_of old
 
-    now : List AnyWorldEvent
+    O : Opening
+    O = all_creations o
+
+    now : List NamedEvent
     now = events_of es
+
+    later : List AnyWorldEvent
+    later = plain_events o (after_events o before) now
 
 -- an event that was played
 pub agrees_played : (e : WorldEvent) (old new : Held) (now : List Answer) → Played e old new [] now
     → Agrees (e ∷ []) now old new
-agrees_played e old new now P = agrees (e ∷ []) now old new (record { nodes = P.nodes; cluster = P.cluster }) P.happens
-    (P.answers ∙ sym (append-nil (answers (opening_of old) (seen old) (event_of e))))
+agrees_played e old new now P = agrees (e ∷ []) now old new (record { names = P.names; cluster = P.cluster }) P.happens
+    (P.answers ∙ sym (append-nil (named_answers (names_of old) (named old) (named_event e))))
 
 -- nothing was played
-pub agrees_unchanged : (old new : Held) → Keeps old new → seen new ≡ seen old → Agrees [] [] old new
+pub agrees_unchanged : (old new : Held) → Keeps old new → named new ≡ named old → Agrees [] [] old new
 agrees_unchanged old new K same = agrees [] [] old new K same refl

@@ -1,47 +1,57 @@
 -- Who holds the global lock, by what the cores say.
-use Rattle.std.proofs.Common.{ℕ, zero, suc, Bool, true, false, ◌≡◌, ◌<◌, ◌≤◌, ◌+◌, Some, None, List, [], ◌∷◌, length, get_or, map, refl, sym, ap, subst, ◌∙◌, arith, inl, inr}
-use Rattle.std.specs.Prelude.{if◌then◌else◌, not, ◌&&◌, find, option_map}
-use Rattle.std.proofs.lemmas.Bool.{cases_lt}
+use Rattle.std.proofs.Common.{ℕ, zero, suc, Bool, true, false, ◌==◌, ◌≡◌, ◌<◌, ◌≤◌, ◌+◌, Option, Some, None, List, [], ◌∷◌, length, get_or, map, refl, sym, ap, subst, ◌∙◌, arith, inl, inr}
+use Rattle.std.specs.Prelude.{if◌then◌else◌, not, nat_lt, ◌&&◌, find, option_map, Contains}
+use Rattle.std.specs.List.{All}
+use Rattle.std.specs.List.Sorted.{IsStrictlyIncreasing}
+use Rattle.std.proofs.lemmas.Bool.{cases_lt, ne_eqb, ltb-true, and_parts}
 use Rattle.std.proofs.lemmas.List.{length-map, get_or_default}
+use Rattle.std.proofs.lemmas.List.Elements.{All-head, All-tail}
+use Rattle.registry_model.specs.Process.{nodes_of as all_below}
+use Rattle.registry_model.proofs.NodeLists.{are_nodes_below}
 use Rattle.protocol_model.specs.Node.{Node, holds_global}
-use Rattle.protocol_model.specs.World.{holder, left}
-use Rattle.link.specs.Held.{place}
-use Rattle.link.proofs.Places.{place-get_or}
-use Rattle.node_core.specs.Held.{Held as Core}
+use Rattle.protocol_model.specs.World.{in_world, holder, left}
+use Rattle.creations.proofs.Lists.{Rise, find_none, find_least, nodes_rise}
+use Rattle.term.specs.NodeSets.{set_of, with_older}
+use Rattle.term.proofs.NodeLists.{rising-tail}
+use Rattle.term.proofs.NodeSets.{rises}
+use Rattle.term.proofs.Older.{held}
+use Rattle.node_core.specs.Held.{Held as Core, HaveLeft}
 use Rattle.node_core.specs.Seen.{node_of}
-use Rattle.cluster_world.specs.Held.{Held, IsWhole}
-use Rattle.cluster_world.specs.declared.mail.Mail.{Mail}
-use Rattle.cluster_world.specs.Seen.{opening_of, node_with, seen, is_holding}
-use Rattle.cluster_world.proofs.Cores.{name_at, core_here}
-use Rattle.cluster_world.proofs.Listed.{nodes_are}
-use Rattle.cluster_world.proofs.Steps.{name_of}
+use Rattle.cluster_world.specs.Cores.{core_of}
+use Rattle.cluster_world.specs.Held.{Held, nodes_of}
+use Rattle.cluster_world.specs.Seen.{opening_of, or_else, node_with, seen, is_holding}
+use Rattle.cluster_world.specs.Whole.{IsWhole}
+use Rattle.cluster_world.proofs.Cores.{no_core}
+use Rattle.cluster_world.proofs.Naming.{started_inside}
+use Rattle.cluster_world.proofs.Restarting.{core_seen, set_contains, contains_set}
+use Rattle.cluster_world.proofs.Steps.{core_name}
 
 -- nobody holds among the first i cores
-abbrev pub NobodyBefore : Mail → ℕ → List Core → Type 0
+abbrev pub NobodyBefore : List ℕ → ℕ → List Core → Type 0
 NobodyBefore w i cs = (k : ℕ) (d : Core) → k < i → is_holding w (get_or cs k d) ≡ false
 
 -- a search for a name is a search for its core
-found_by_name : (w : Mail) (p : ℕ → Bool) (cs : List Core) → ((k : ℕ) (d : Core) → k < length cs
+found_by_name : (w : List ℕ) (p : ℕ → Bool) (cs : List Core) → ((k : ℕ) (d : Core) → k < length cs
     → p (get_or cs k d).name ≡ is_holding w (get_or cs k d))
-    → find p (map name_of cs) ≡ option_map name_of (find (is_holding w) cs)
+    → find p (map core_name cs) ≡ option_map core_name (find (is_holding w) cs)
 found_by_name w p [] same = refl
-found_by_name w p (c ∷ cs) same = ap (λ (b : Bool). if b then Some c.name else find p (map name_of cs))
+found_by_name w p (c ∷ cs) same = ap (λ (b : Bool). if b then Some c.name else find p (map core_name cs))
     (same 0 c (omega arith))
     ∙ go (is_holding w c) (found_by_name w p cs (λ k d l. same (suc k) d (omega arith)))
   where
-    go : (b : Bool) → find p (map name_of cs) ≡ option_map name_of (find (is_holding w) cs)
-        → (if b then Some c.name else find p (map name_of cs))
-        ≡ option_map name_of (if b then Some c else find (is_holding w) cs)
+    go : (b : Bool) → find p (map core_name cs) ≡ option_map core_name (find (is_holding w) cs)
+        → (if b then Some c.name else find p (map core_name cs))
+        ≡ option_map core_name (if b then Some c else find (is_holding w) cs)
     go true e = refl
     go false e = e
 
-found_none : (w : Mail) (cs : List Core) → NobodyBefore w (length cs) cs → find (is_holding w) cs ≡ None
+found_none : (w : List ℕ) (cs : List Core) → NobodyBefore w (length cs) cs → find (is_holding w) cs ≡ None
 found_none w [] none = refl
 found_none w (c ∷ cs) none =
     ap (λ (b : Bool). if b then Some c else find (is_holding w) cs) (none 0 c (omega arith))
     ∙ found_none w cs (λ k d l. none (suc k) d (omega arith))
 
-found_some : (w : Mail) (cs : List Core) (i : ℕ) (c : Core) → i < length cs → NobodyBefore w i cs
+found_some : (w : List ℕ) (cs : List Core) (i : ℕ) (c : Core) → i < length cs → NobodyBefore w i cs
     → is_holding w (get_or cs i c) ≡ true → find (is_holding w) cs ≡ Some (get_or cs i c)
 found_some w [] i c l none here = absurd (omega arith)
 found_some w (d ∷ cs) zero c l none here = ap (λ (b : Bool). if b then Some d else find (is_holding w) cs) here
@@ -49,41 +59,117 @@ found_some w (d ∷ cs) (suc i) c l none here = ap (λ (b : Bool). if b then Som
     (none 0 c (omega arith))
     ∙ found_some w cs i c (omega arith) (λ k e m. none (suc k) e (omega arith)) here
 
-module _ (h : Held) (whole : IsWhole h) where
-  holds : ℕ → Bool
-  holds c = ((seen h).node c).replica.joined && holds_global ((seen h).node c) && not (left (seen h) c)
+-- what is found is the same in rising lists that have the same of what passes
+rise_of : (xs : List ℕ) → IsStrictlyIncreasing xs → Rise xs
+rise_of [] up = tt
+rise_of (x ∷ xs) up = (
+  λ c i. omega (arith, rises (x ∷ xs) 0 (suc i.0) up (omega arith) (omega (arith, i.1)), get_or_default xs i.0 0 c i.1, i.2),
+  rise_of xs (rising-tail x xs up),
+)
 
-  node_is : (k : ℕ) (d : Core) → k < length h.cores → (seen h).node (get_or h.cores k d).name
-      ≡ node_of (get_or h.cores k d)
-  node_is k d l = ap (node_with (opening_of h) (get_or h.cores k d).name)
-      (core_here name_of h.cores k d (get_or h.cores k d).name l
-      (ap (λ (a : ℕ). place a (map name_of h.cores)) (name_at name_of h.cores k d l)
-      ∙ ap (λ (ns : List ℕ). place (get_or ns k 0) ns) whole.names
-      ∙ place-get_or h.nodes k whole.set.rising (omega
-      (arith, ap (λ (ns : List ℕ). length ns) whole.names, length-map h.cores name_of))))
+found_same : (p : ℕ → Bool) (xs ys : List ℕ) → Rise xs → Rise ys → ((c : ℕ) → p c ≡ true → Contains xs c → Contains ys c)
+    → ((c : ℕ) → p c ≡ true → Contains ys c → Contains xs c) → find p xs ≡ find p ys
+found_same p xs ys R T there back = go (find p xs) (find p ys) refl refl
+  where
+    go : (u v : Option ℕ) → find p xs ≡ u → find p ys ≡ v → u ≡ v
+    go None None e f = refl
+    go None (Some m) e f =
+        let l : Contains ys m × (p m ≡ true) × ((c : ℕ) → Contains ys c → c < m → p c ≡ false) = find_least p ys m T f in
+        absurd (cc (l.1, find_none p xs e m (back m l.1 l.0)))
+    go (Some n) None e f =
+        let l : Contains xs n × (p n ≡ true) × ((c : ℕ) → Contains xs c → c < n → p c ≡ false) = find_least p xs n R e in
+        absurd (cc (l.1, find_none p ys f n (there n l.1 l.0)))
+    go (Some n) (Some m) e f =
+        let l : Contains xs n × (p n ≡ true) × ((c : ℕ) → Contains xs c → c < n → p c ≡ false) = find_least p xs n R e in
+        let k : Contains ys m × (p m ≡ true) × ((c : ℕ) → Contains ys c → c < m → p c ≡ false) = find_least p ys m T f in
+        elim (cases_lt n m) [
+          | inl less ↦ absurd (cc (l.1, k.2 n (there n l.1 l.0) less))
+          | inr not_less ↦ elim (cases_lt m n) [
+            | inl more ↦ absurd (cc (k.1, l.2 m (back m k.1 k.0) more))
+            | inr not_more ↦
+                let same : n ≡ m = omega (arith, not_less, not_more) in ap (λ (y : ℕ). let r : Option ℕ = Some y in r) same
+          ]
+        ]
+
+-- no core was kept of a node that hasn't started
+none_kept : (nodes : List ℕ) (y : ℕ) (ps : List Core) → with_older nodes y ≡ false
+    → All (λ c. (with_older nodes c.name ≡ true) × (set_of nodes c.name ≡ false)) ps → core_of y ps ≡ None
+none_kept nodes y [] e all = refl
+none_kept nodes y (p ∷ ps) e all =
+    ap (λ (t : Bool). if t then Some p else core_of y ps)
+    (ne_eqb p.name y (λ f. cc (
+      e,
+      (All-head (λ (c : Core). (with_older nodes c.name ≡ true) × (set_of nodes c.name ≡ false)) p ps all).0,
+      ap (with_older nodes) f,
+    )))
+    ∙ none_kept nodes y ps e (All-tail (λ (c : Core). (with_older nodes c.name ≡ true) × (set_of nodes c.name ≡ false)) p ps all)
+
+module _ (h : Held) (whole : IsWhole h) (went : HaveLeft (nodes_of h) h.links.departed) where
+  -- whether a node with this state holds, and has it left
+  abbrev holding : Node → Bool → Bool
+  holding v gone = v.replica.joined && holds_global v && not gone
+
+  abbrev holds : ℕ → Bool
+  holds c = holding ((seen h).node c) (left (seen h) c)
 
   same : (k : ℕ) (d : Core) → k < length h.cores → holds (get_or h.cores k d).name
-      ≡ is_holding h.links (get_or h.cores k d)
-  unfolding holds
-  same k d l =
-      ap (λ (v : Node). v.replica.joined && holds_global v && not (left (seen h) (get_or h.cores k d).name))
-      (node_is k d l)
+      ≡ is_holding h.links.departed (get_or h.cores k d)
+  same k d l = ap (λ (v : Node). holding v (left (seen h) (get_or h.cores k d).name)) (core_seen h whole k d l)
 
-  holder_is : holder (opening_of h) (seen h) ≡ option_map name_of (find (is_holding h.links) h.cores)
-  unfolding holds
-  holder_is = ap (find holds) (nodes_are h.nodes h.cluster whole.set ∙ sym whole.names)
-      ∙ found_by_name h.links holds h.cores same
+  -- who has left doesn't hold, and who hasn't started doesn't
+  not_gone : (v : Node) → holding v true ≡ true → ⊥
+  not_gone v = never v.replica.joined (holds_global v)
+    where
+      never : (a b : Bool) → (a && b && not true) ≡ true → ⊥
+      never true true e = cc e
+      never true false e = cc e
+      never false b e = cc e
 
-  nobody_holds : NobodyBefore h.links (length h.cores) h.cores → None ≡ holder (opening_of h) (seen h)
-  nobody_holds none = sym (holder_is ∙ ap (option_map name_of) (found_none h.links h.cores none))
+  not_free : (v : Node) (gone : Bool) → holds_global v ≡ false → holding v gone ≡ true → ⊥
+  not_free v gone free e = never v.replica.joined (holds_global v) (not gone) free e
+    where
+      never : (a b c : Bool) → b ≡ false → (a && b && c) ≡ true → ⊥
+      never true true c f e = cc f
+      never true false c f e = cc e
+      never false b c f e = cc e
 
-  this_holds : (i : ℕ) (c : Core) → i < length h.cores → NobodyBefore h.links i h.cores
-      → is_holding h.links (get_or h.cores i c) ≡ true
+  only_present : (c : ℕ) → holds c ≡ true → set_of (nodes_of h) c ≡ true
+  only_present c e = go (set_of (nodes_of h) c) (with_older (nodes_of h) c) refl refl
+    where
+      go : (s o : Bool) → set_of (nodes_of h) c ≡ s → with_older (nodes_of h) c ≡ o → s ≡ true
+      go true o f g = refl
+      go false true f g = absurd (not_gone ((seen h).node c)
+          (subst (λ (t : Bool). holding ((seen h).node c) t ≡ true) (went.older c g f) e))
+      go false false f g = absurd (not_free ((seen h).node c) (left (seen h) c)
+          (ap (λ (r : Option Core). holds_global (node_with (opening_of h) c (or_else r (core_of c h.past))))
+          (no_core core_name h.cores c (ap (λ (ns : List ℕ). set_of ns c) whole.names ∙ f))
+          ∙ ap (λ (r : Option Core). holds_global (node_with (opening_of h) c r)) (none_kept (nodes_of h) c h.past g whole.older)) e)
+
+  -- so it is searched for among the nodes at present
+  searched : find holds (all_below (opening_of h).bound (in_world (opening_of h))) ≡ find holds (nodes_of h)
+  searched = found_same holds (all_below (opening_of h).bound (in_world (opening_of h))) (nodes_of h)
+      (nodes_rise (opening_of h).bound (in_world (opening_of h))) (rise_of (nodes_of h) whole.set.rising)
+      (λ c e i. contains_set (nodes_of h) c (only_present c e))
+      (λ c e i. listed c (started_inside (nodes_of h) h.cluster c (held (nodes_of h) c (only_present c e))))
+    where
+      listed : (c : ℕ) → in_world (opening_of h) c ≡ true → Contains (all_below (opening_of h).bound (in_world (opening_of h))) c
+      listed c e = ((are_nodes_below (opening_of h).bound (in_world (opening_of h))).below c).1
+          (ltb-true c (opening_of h).bound (and_parts (nat_lt c (opening_of h).bound) ((opening_of h).nodes c) e).0, e)
+
+  holder_is : holder (opening_of h) (seen h) ≡ option_map core_name (find (is_holding h.links.departed) h.cores)
+  holder_is = searched ∙ ap (find holds) (sym whole.names) ∙ found_by_name h.links.departed holds h.cores same
+
+  nobody_holds : NobodyBefore h.links.departed (length h.cores) h.cores → None ≡ holder (opening_of h) (seen h)
+  nobody_holds none = sym (holder_is ∙ ap (option_map core_name) (found_none h.links.departed h.cores none))
+
+  this_holds : (i : ℕ) (c : Core) → i < length h.cores → NobodyBefore h.links.departed i h.cores
+      → is_holding h.links.departed (get_or h.cores i c) ≡ true
       → Some (get_or h.cores i c).name ≡ holder (opening_of h) (seen h)
-  this_holds i c l none here = sym (holder_is ∙ ap (option_map name_of) (found_some h.links h.cores i c l none here))
+  this_holds i c l none here =
+      sym (holder_is ∙ ap (option_map core_name) (found_some h.links.departed h.cores i c l none here))
 
 -- one core more was looked at
-pub nobody_more : (w : Mail) (cs : List Core) (i : ℕ) (c : Core) → i < length cs → c ≡ get_or cs i c
+pub nobody_more : (w : List ℕ) (cs : List Core) (i : ℕ) (c : Core) → i < length cs → c ≡ get_or cs i c
     → NobodyBefore w i cs → is_holding w c ≡ false → NobodyBefore w (i + 1) cs
 nobody_more w cs i c l is before here k d m = elim (cases_lt k i) [
   | inl less ↦ before k d less
@@ -95,19 +181,21 @@ nobody_more w cs i c l is before here k d m = elim (cases_lt k i) [
     same_place k i m n = omega arith
 
 -- this core holds, and none before it
-pub this_core : (h : Held) (cs : List Core) (i : ℕ) (c : Core) (x : ℕ) → IsWhole h → cs ≡ h.cores → i < length cs → c
-    ≡ get_or cs i c → NobodyBefore h.links i cs
-    → is_holding h.links c ≡ true → x ≡ c.name → Some x ≡ holder (opening_of h) (seen h)
-this_core h cs i c x whole are l is before here named =
-    ap Some (named ∙ ap name_of here_is) ∙ this_holds h whole i c (subst (λ (ds : List Core). i < length ds) are l)
-    (subst (λ (ds : List Core). NobodyBefore h.links i ds) are before) (sym (ap (is_holding h.links) here_is) ∙ here)
+pub this_core : (h : Held) (cs : List Core) (i : ℕ) (c : Core) (x : ℕ) → IsWhole h → HaveLeft (nodes_of h) h.links.departed
+    → cs ≡ h.cores → i < length cs → c
+    ≡ get_or cs i c → NobodyBefore h.links.departed i cs
+    → is_holding h.links.departed c ≡ true → x ≡ c.name → Some x ≡ holder (opening_of h) (seen h)
+this_core h cs i c x whole went are l is before here named =
+    ap Some (named ∙ ap core_name here_is) ∙ this_holds h whole went i c (subst (λ (ds : List Core). i < length ds) are l)
+    (subst (λ (ds : List Core). NobodyBefore h.links.departed i ds) are before) (sym (ap (is_holding h.links.departed) here_is) ∙ here)
   where
     here_is : c ≡ get_or h.cores i c
     here_is = is ∙ ap (λ (ds : List Core). get_or ds i c) are
 
 -- no core holds
-pub no_core_holds : (h : Held) (cs : List Core) (i : ℕ) → IsWhole h → cs ≡ h.cores → length cs ≤ i
-    → NobodyBefore h.links i cs → None ≡ holder (opening_of h) (seen h)
-no_core_holds h cs i whole are le before =
-    nobody_holds h whole (λ k d l. subst (λ (ds : List Core). is_holding h.links (get_or ds k d) ≡ false) are
+pub no_core_holds : (h : Held) (cs : List Core) (i : ℕ) → IsWhole h → HaveLeft (nodes_of h) h.links.departed
+    → cs ≡ h.cores → length cs ≤ i
+    → NobodyBefore h.links.departed i cs → None ≡ holder (opening_of h) (seen h)
+no_core_holds h cs i whole went are le before =
+    nobody_holds h whole went (λ k d l. subst (λ (ds : List Core). is_holding h.links.departed (get_or ds k d) ≡ false) are
     (before k d (omega (arith, l, le, ap (λ (ds : List Core). length ds) are))))

@@ -1,7 +1,18 @@
+pub use Rattle.creations.proofs.NobodyBack
+pub use Rattle.creations.proofs.Theorem
+pub use Rattle.creations.proofs.ClientLocks
+pub use Rattle.creations.proofs.Nothing
+pub use Rattle.creations.proofs.NamedRuns
+pub use Rattle.creations.proofs.LeftOfNames
+pub use Rattle.creations.proofs.Lifting
 pub use Rattle.node_core.proofs.Bounds
 pub use Rattle.world_events.proofs.Faults
+pub mod Naming
 mod Posting
+mod Rooms
+mod Mailing
 mod Outboxes
+mod Mails
 mod Cores
 mod Waiting
 pub mod Listed
@@ -10,13 +21,16 @@ mod Plays
 mod Taking
 mod Holding
 mod Deliveries
-mod Linked
 mod Starting
+mod Restarting
+mod Returning
+mod Replaced
 pub mod Agreeing
 pub mod Locks
 pub mod Leftovers
 mod Running
 mod Verdicts
+mod OneEvent
 mod Winning
 mod Spent
 mod Counting

@@ -1,8 +1,8 @@
 -- Clients' locks, where events are played in pieces, and who has a lock by a grant.
-use Rattle.std.proofs.Common.{ℕ, Bool, true, false, ◌≡◌, ◌<◌, ◌+◌, ◌-◌, Option, Some, None, List, [], ◌∷◌, ◌++◌, refl, sym, subst, arith}
+use Rattle.std.proofs.Common.{ℕ, Bool, true, false, ◌≡◌, ◌<◌, ◌+◌, ◌-◌, Option, Some, None, List, [], ◌∷◌, ◌++◌, sym, subst, arith}
 use Rattle.std.specs.Prelude.{is_none, is_some, not, ◌&&◌, ◌||◌, if◌then◌else◌}
 use Rattle.std.proofs.lemmas.Bool.{and_parts}
-use Rattle.lock_answers.proofs.ClientLocks.{client_locks}
+use Rattle.creations.proofs.ClientLocks.{client_locks}
 use Rattle.registry_model.specs.Process.{Process}
 use Rattle.node_core.specs.declared.Answer.{Answer}
 use Rattle.protocol_model.specs.ClientLocks.{Tally, tally_from, tally_after, last_try, is_won, is_no_more, gives, Holds}
@@ -12,18 +12,24 @@ use Rattle.protocol_model.specs.World.{Opening, World, WorldEvent as AnyWorldEve
 use Rattle.world_events.specs.declared.events.WorldEvent.{WorldEvent}
 use Rattle.cluster_world.specs.Held.{Held}
 use Rattle.world_events.specs.Openings.{opening_with}
-use Rattle.cluster_world.specs.Seen.{opening_of, seen}
+use Rattle.creations.specs.NamedWorld.{NamedWorld, NamedEvent, as_events}
+use Rattle.creations.specs.NamedQuietCalls.{NamedQuietCalls}
+use Rattle.creations.proofs.NamedRuns.{tally-append}
+use Rattle.creations.proofs.Lifting.{client_locks as named_locks}
+use Rattle.creations.proofs.QuietNames.{quiet_calls}
+use Rattle.cluster_world.specs.Seen.{names_of, opening_of, seen, named}
 use Rattle.cluster_world.specs.Playing.{events_of}
 use Rattle.cluster_world.specs.Agreeing.{AgreesAfter, Agrees}
 use Rattle.cluster_world.specs.Locks.{LocksAfter, LocksBehind, NeverBothHold, HasLock, is_left, is_kept}
 
--- clients' locks are so behind every list of events
-pub locks_behind_all : (o : Opening) (es : List AnyWorldEvent) → LocksAfter o es (run o (opening_world o) es)
-locks_behind_all o es = client_locks o es
-
 -- where the headline stands behind events, locks are so behind them
-pub locks_after : (es : List AnyWorldEvent) (h : Held) → AgreesAfter es h → LocksAfter (opening_of h) es (seen h)
-locks_after es h A = subst (λ (w : World). LocksAfter (opening_of h) es w) (sym A.is_run) (client_locks (opening_of h) es)
+pub locks_after : (es : List NamedEvent) (h : Held) → AgreesAfter es h
+    → LocksAfter (opening_of h) (as_events (names_of h) es) (seen h) × NamedQuietCalls (names_of h) es (named h)
+locks_after es h A = (
+  subst (λ (w : NamedWorld). LocksAfter (opening_of h) (as_events (names_of h) es) w.world) (sym A.is_run)
+      (named_locks (names_of h) es),
+  subst (λ (w : NamedWorld). NamedQuietCalls (names_of h) es w) (sym A.is_run) (quiet_calls (names_of h) es),
+)
 
 -- and behind what was run
 pub locks_behind : (es : List WorldEvent) (given : List Answer) (old new : Held) → Agrees es given old new
@@ -31,12 +37,6 @@ pub locks_behind : (es : List WorldEvent) (given : List Answer) (old new : Held)
 locks_behind es given old new A before is = locks_after (before ++ events_of es) new (A before is).0
 
 module _ (o : Opening) (p : Process) (id : Id) (c : ℕ) where
-  -- events behind others are counted behind them
-  pub tally-append : (w : World) (xs ys : List AnyWorldEvent) (k : Tally)
-      → tally_from o w (xs ++ ys) p id c k ≡ tally_from o (run o w xs) ys p id c (tally_from o w xs p id c k)
-  tally-append w [] ys k = refl
-  tally-append w (x ∷ xs) ys k = tally-append (happens o w x) xs ys (tally_after o w x p id c k)
-
   -- a grant counts
   counts : (w : World) (e : AnyWorldEvent) (k : Tally) → refusal o w e ≡ None
       → is_won p id c (answers o w e) (last_try w e p k.last) ≡ true → is_no_more (happens o w e) p ≡ false
@@ -86,7 +86,7 @@ module _ (o : Opening) (p : Process) (id : Id) (c : ℕ) where
   -- who has a lock by a grant holds it
   pub has_holds : (es : List AnyWorldEvent) → HasLock o es p id c → Holds o es p id c
   has_holds es L = subst (λ (xs : List AnyWorldEvent). Holds o xs p id c) (sym L.split)
-      (subst (λ (k : Tally). 0 < k.number) (sym (tally-append (opening_world o) L.before (L.event ∷ L.later) nothing))
+      (subst (λ (k : Tally). 0 < k.number) (sym (tally-append o p id c (opening_world o) L.before (L.event ∷ L.later) nothing))
       (kept (happens o w L.event) L.later (tally_after o w L.event p id c so_far) L.kept
       (counts w L.event so_far L.accepted L.granted L.alive)))
     where

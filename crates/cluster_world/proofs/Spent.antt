@@ -11,18 +11,21 @@ use Rattle.protocol_model.specs.Node.{LockCall, Target}
 use Rattle.protocol_model.specs.Event.{Call, Event, is_waiting_call}
 use Rattle.protocol_model.specs.ClientLocks.{Try, Tally, try_of, tried_again, waits_for_retry, last_try, is_won, gives, is_no_more, tally_after, tally_from}
 use Rattle.protocol_model.specs.World.{Opening, World, WorldEvent, At, Deliver, in_world, left, refusal, happens, accepted, answers, run}
-use Rattle.lock_answers.proofs.Orders.{ordered_keeps}
-use Rattle.lock_answers.proofs.Answering.{any_true}
-use Rattle.lock_answers.proofs.Clients.{Numbers, call_at}
-use Rattle.lock_answers.proofs.RoundNumbers
-use Rattle.lock_answers.proofs.RoundNumbers.{round_count_after}
-use Rattle.lock_answers.proofs.Tallies.{accepted_tried}
-use Rattle.lock_answers.proofs.TriedEvents.{Tried}
-use Rattle.lock_answers.proofs.Tries.{Fits, lost_without}
-use Rattle.lock_answers.proofs.Walking.{event_keeps}
-use Rattle.lock_answers.proofs.Together.{All}
+use Rattle.creations.proofs.Orders.{ordered_keeps}
+use Rattle.creations.proofs.Answering.{any_true}
+use Rattle.creations.proofs.Clients.{Numbers, call_at}
+use Rattle.creations.proofs.RoundNumbers
+use Rattle.creations.proofs.RoundNumbers.{round_count_after}
+use Rattle.creations.proofs.Tallies.{accepted_tried}
+use Rattle.creations.proofs.TriedEvents.{Tried}
+use Rattle.creations.proofs.Tries.{Fits, lost_without}
+use Rattle.creations.proofs.Walking.{event_keeps}
+use Rattle.creations.proofs.Together.{All}
 use Rattle.cluster_world.specs.Playing.{accepts_all}
-use Rattle.cluster_world.proofs.Winning.{is_plain, is_waited, waited_plain, waited_gives, grounds, Behind, happened, gone_before, counted_so, last_so, IsNow, now_up}
+use Rattle.creations.specs.NodeNames.{NamedOpening, opening_of as all_creations}
+use Rattle.creations.specs.NamedWorld.{NamedWorld, NamedEvent, plain_events, named_refusal, happens_named}
+use Rattle.cluster_world.proofs.OneEvent.{IsOne, one_more}
+use Rattle.cluster_world.proofs.Winning.{is_plain, is_waited, is_named_waited, one_waited, waited_plain, waited_gives, grounds, Behind, happened, gone_before, counted_so, last_so, IsNow, now_up}
 
 -- an event that begins no try leaves the last one its number
 plain_last : (w : World) (e : WorldEvent) (p : Process) (t : Option Try) (s : Try) → is_plain e ≡ true
@@ -146,23 +149,6 @@ module _ (o : Opening) where
             subst (λ (m : ℕ). (any_true p.node m (answers o w e) ≡ false) × Silent (happens o w e) m) was.1.1
             (silent_step w num S e free plain (runs w alive) was.0.number (spent was.0 was.1.0 alive))
 
-    -- so its number stays
-    pub spent_stays : (es : List WorldEvent) (w : World) (num : Numbers) → Behind o w num → (i : Id) (c : ℕ)
-        (j : Tally) (n : ℕ) → accepts_all o w es ≡ true → list_all is_waited es ≡ true → Spent w j.last
-        → IsNow o p i c w j n → IsNow o p i c (run o w es) (tally_from o w es p i c j) n
-    spent_stays [] w num S i c j n free waited spent now = now
-    spent_stays (e ∷ es) w num S i c j n free waited spent now =
-        let fine : (is_none (refusal o w e) ≡ true) × (accepts_all o (happens o w e) es ≡ true) =
-        and_parts (is_none (refusal o w e)) (accepts_all o (happens o w e) es) free in
-        let plain : (is_waited e ≡ true) × (list_all is_waited es ≡ true) =
-        and_parts (is_waited e) (list_all is_waited es) waited in
-        let one : IsNow o p i c (happens o w e) (tally_after o w e p i c j) n
-        × Spent (happens o w e) (tally_after o w e p i c j).last =
-        spent_step w num S e i c j n false (none_by (refusal o w e) fine.0) (waited_plain e plain.0) spent
-        (λ alive. now_up o p i c w j n now alive) (waited_gives w e p i c plain.0) in
-        spent_stays es (happens o w e) (λ q x y. round_count_after o w e q x y (num q x y))
-        (event_keeps o (All o) (grounds o) w e num S) i c (tally_after o w e p i c j) n fine.1 plain.1 one.1 one.0
-
     -- a try whose process has no open call is spent
     pub spent_first : (w : World) (num : Numbers) → Behind o w num → (t : Option Try) → Fits w p t
         → call_at w p ≡ None → Spent w t
@@ -180,3 +166,54 @@ module _ (o : Opening) where
             let one : q ≡ p = (F.alone s is q d home has (number ∙ ap (λ (y : Try). y.number) (sym same))).0 in
             let there : call_at w p ≡ Some d = subst (λ (k : Process). call_at w k ≡ Some d) one has in
             cc (there, none)
+
+module _ (n : NamedOpening) (p : Process) where
+  abbrev O : Opening
+  O = all_creations n
+
+  -- so its number stays while the call waits
+  pub spent_stays : (es : List NamedEvent) (w : NamedWorld) (num : Numbers) → Behind O w.world num → (i : Id) (c : ℕ)
+      (j : Tally) (m : ℕ) → accepts_all n w es ≡ true → list_all is_named_waited es ≡ true → Spent O p w.world j.last
+      → IsNow O p i c w.world j m
+      → IsNow O p i c (run O w.world (plain_events n w es)) (tally_from O w.world (plain_events n w es) p i c j) m
+  spent_stays [] w num S i c j m free waited spent now = now
+  spent_stays (e ∷ es) w num S i c j m free waited spent now =
+      subst (λ (xs : List WorldEvent). IsNow O p i c (run O w.world xs) (tally_from O w.world xs p i c j) m)
+      (sym (one_more n w e x es I))
+      (subst (λ (u : World). IsNow O p i c (run O u later) (tally_from O u later p i c after) m) I.world
+      (spent_stays es v counted
+      (subst (λ (u : World). Behind O u counted) (sym I.world) (event_keeps O (All O) (grounds O) w.world x num S))
+      i c after m fine.1 plain.1
+      (subst (λ (u : World). Spent O p u after.last) (sym I.world) one.1)
+      (subst (λ (u : World). IsNow O p i c u after m) (sym I.world) one.0)))
+    where
+      fine : (is_none (named_refusal n w e) ≡ true) × (accepts_all n (happens_named n w e) es ≡ true)
+      fine = and_parts (is_none (named_refusal n w e)) (accepts_all n (happens_named n w e) es) free
+
+      plain : (is_named_waited e ≡ true) × (list_all is_named_waited es ≡ true)
+      plain = and_parts (is_named_waited e) (list_all is_named_waited es) waited
+
+      found : (x : WorldEvent) × (IsOne n w e x × (is_waited x ≡ true))
+      found = one_waited n w e plain.0 (none_by (named_refusal n w e) fine.0)
+
+      x : WorldEvent
+      x = found.0
+
+      I : IsOne n w e x
+      I = found.1.0
+
+      v : NamedWorld
+      v = happens_named n w e
+
+      later : List WorldEvent
+      later = plain_events n v es
+
+      after : Tally
+      after = tally_after O w.world x p i c j
+
+      counted : Numbers
+      counted = λ q y z. round_count_after O w.world x q y z (num q y z)
+
+      one : IsNow O p i c (happens O w.world x) after m × Spent O p (happens O w.world x) after.last
+      one = spent_step O p w.world num S x i c j m false I.free (waited_plain x found.1.1) spent
+          (λ alive. now_up O p i c w.world j m now alive) (waited_gives w.world x p i c found.1.1)

@@ -1,33 +1,69 @@
 -- What a world is started with.
-use Rattle.std.proofs.Common.{ℕ, Bool, true, false, ◌==◌, ◌≡◌, Some, None, List, [], ◌∷◌, get_or, map, refl, sym, ap, subst, ◌∙◌, inl, inr}
-use Rattle.std.specs.Prelude.{if◌then◌else◌, ◌&&◌, ◌||◌, All}
+use Rattle.std.proofs.Common.{ℕ, Bool, true, false, ◌==◌, ◌≡◌, Option, Some, None, List, [], ◌∷◌, get_or, map, refl, sym, ap, subst, ◌∙◌, inl, inr, arith}
+use Rattle.std.specs.Prelude.{if◌then◌else◌, ◌&&◌, ◌||◌, find}
+use Rattle.std.specs.List.{All}
 use Rattle.std.proofs.Math.Path.{fun_ext}
-use Rattle.std.proofs.lemmas.Bool.{cases_eq, eq-eqb, eqb-true, ne_eqb}
-use Rattle.std.proofs.lemmas.List.Elements.{All-nil, All-map}
-use Rattle.std.proofs.Math.Bool.{and-false, and-true}
+use Rattle.std.proofs.Math.Bool.{and-true}
+use Rattle.std.proofs.lemmas.Bool.{cases_eq, eq-eqb, eqb-true, ne_eqb, and_parts, and_from, or_cases, false_from_ne_true}
+use Rattle.std.proofs.lemmas.List.Elements.{All-nil, All-map, All-head, All-tail}
 use Rattle.registry_model.specs.Process.{Nodes, nobody}
 use Rattle.registry_model.specs.Table.{without}
+use Rattle.protocol_model.specs.Letter.{Letter as AnyLetter}
 use Rattle.protocol_model.specs.Links.{Links, no_letters}
 use Rattle.protocol_model.specs.Node.{Node, opening_node}
-use Rattle.protocol_model.specs.World.{in_world, in_cluster, opening_world}
-use Rattle.term.specs.NodeSets.{set_of, IsNodeSet}
+use Rattle.protocol_model.specs.World.{Opening, World, in_world, in_cluster}
+use Rattle.creations.specs.NodeNames.{opening_of as all_creations}
+use Rattle.creations.specs.NamedWorld.{NamedWorld, opening_named}
+use Rattle.term.specs.Nodes.{IsFirst, text_in, name_of, creation_of}
+use Rattle.term.specs.NodeSets.{set_of, with_older, IsNodeSet}
+use Rattle.term.proofs.Older.{held}
+use Rattle.boss_order.proofs.Sets.{set_of-item}
 use Rattle.node_core.specs.declared.Letter.{Letter}
-use Rattle.node_core.specs.Held.{Held as Core, fresh, IsWithin}
+use Rattle.node_core.specs.Held.{Held as Core, AreOf, fresh}
 use Rattle.node_core.specs.Letters.{letter_of}
 use Rattle.node_core.specs.Seen.{node_of}
 use Rattle.node_core.specs.Steps.{IsSaidBy}
-use Rattle.cluster_world.specs.declared.mail.Mail.{Mail}
-use Rattle.cluster_world.specs.Links.{mapped, AreFit}
-use Rattle.cluster_world.specs.Mail.{links_of}
-use Rattle.cluster_world.specs.Held.{Held, IsWhole}
+use Rattle.cluster_world.specs.Links.{AreFit}
+use Rattle.cluster_world.specs.Mail.{Mailed, links_of}
+use Rattle.cluster_world.specs.Held.{Held, nodes_of}
+use Rattle.cluster_world.specs.Whole.{IsWhole}
 use Rattle.world_history.specs.declared.entry.HistoryEntry.{HistoryEntry}
+use Rattle.world_history.specs.Histories.{entries_of}
 use Rattle.cluster_world.specs.Cores.{core_of}
-use Rattle.world_history.specs.Histories.{entry_of}
-use Rattle.world_events.specs.Openings.{Opened, opening_with, opening_core, IsOpening}
-use Rattle.cluster_world.specs.Seen.{node_with, seen}
-use Rattle.cluster_world.specs.Starting.{Opens}
-use Rattle.cluster_world.proofs.Listed.{world_is}
-use Rattle.cluster_world.proofs.Steps.{name_of}
+use Rattle.cluster_world.specs.Openings.{is_named_in, named_opening, creation_in, present_in}
+use Rattle.world_events.specs.Openings.{opening_core}
+use Rattle.cluster_world.specs.Seen.{names_of, or_else, core_at, node_with, named}
+use Rattle.cluster_world.proofs.Naming.{text_or_name, names_in-of, node_named, started_inside}
+use Rattle.cluster_world.proofs.Posting.{over}
+use Rattle.cluster_world.proofs.Steps.{core_name, named_by, named-is}
+
+-- the nodes of a list of first nodes are first
+first_of : (xs : List ℕ) → All IsFirst xs → (c : ℕ) → set_of xs c ≡ true → IsFirst c
+first_of [] all c e = absurd (cc e)
+first_of (x ∷ xs) all c e = elim (or_cases (x == c) (set_of xs c) e) [
+  | inl here ↦ subst IsFirst (eqb-true x c here) (All-head IsFirst x xs all)
+  | inr behind ↦ first_of xs (All-tail IsFirst x xs all) c behind
+]
+
+-- the first nodes have the first creation
+present_one : (xs : List ℕ) → All IsFirst xs → (x : ℕ) → present_in xs x ≡ 1
+present_one [] all x = refl
+present_one (c ∷ cs) all x = go (text_in c == x) (present_one cs (All-tail IsFirst c cs all) x)
+  where
+    go : (b : Bool) → creation_in (find (λ m. text_in m == x) cs) ≡ 1
+        → creation_in (if b then Some c else find (λ m. text_in m == x) cs) ≡ 1
+    go true e = let z : IsFirst c = All-head IsFirst c cs all in omega (arith, z)
+    go false e = e
+
+-- no letters are none between all creations
+over_none : (O : Opening) (ns : List ℕ) → over O ns no_letters ≡ no_letters
+over_none O ns = ap (λ (q : ℕ → ℕ → List AnyLetter). let w : Links AnyLetter = record { queue = q; closed = nobody } in w)
+    (fun_ext (λ f. fun_ext (λ t. none (with_older ns t) (in_world O t))))
+  where
+    none : (b w : Bool) → (if b then [] else (if w && false then AnyLetter.Down ∷ [] else [])) ≡ []
+    none true w = refl
+    none false true = refl
+    none false false = refl
 
 module _ (nodes cluster : List ℕ) where
   opens_name : (a : ℕ) → (opening_core nodes cluster a).name ≡ a
@@ -44,9 +80,9 @@ module _ (nodes cluster : List ℕ) where
       go true = refl
       go false = refl
 
-  names_are : (xs : List ℕ) → map name_of (map (opening_core nodes cluster) xs) ≡ xs
+  names_are : (xs : List ℕ) → map core_name (map (opening_core nodes cluster) xs) ≡ xs
   names_are [] = refl
-  names_are (x ∷ xs) = ap (λ (y : ℕ). y ∷ map name_of (map (opening_core nodes cluster) xs)) (opens_name x)
+  names_are (x ∷ xs) = ap (λ (y : ℕ). y ∷ map core_name (map (opening_core nodes cluster) xs)) (opens_name x)
       ∙ ap (λ (ys : List ℕ). x ∷ ys) (names_are xs)
 
   found : (a : ℕ) (xs : List ℕ) → core_of a (map (opening_core nodes cluster) xs)
@@ -62,13 +98,6 @@ module _ (nodes cluster : List ℕ) where
           ≡ (if b || set_of xs a then Some (opening_core nodes cluster a) else None)
       go true e later = ap (λ (y : ℕ). Some (opening_core nodes cluster y)) (eqb-true x a e)
       go false e later = later
-
-  cluster_is : IsWithin nodes cluster → in_cluster (opening_with nodes cluster) ≡ set_of cluster
-  cluster_is within = fun_ext (λ c. go c (set_of cluster c) refl)
-    where
-      go : (c : ℕ) (b : Bool) → set_of cluster c ≡ b → (in_world (opening_with nodes cluster) c && b) ≡ b
-      go c true e = ap (λ (s : Nodes). s c && true) (world_is nodes cluster) ∙ ap (λ (b : Bool). b && true) (within c e)
-      go c false e = and-false (in_world (opening_with nodes cluster) c)
 
   turned : (a c : ℕ) → ((a == c) || false) ≡ ((c == a) && true)
   turned a c = elim (cases_eq a c) [
@@ -96,75 +125,81 @@ module _ (nodes cluster : List ℕ) where
           { replica = record { table = []; members = s; told = nobody; joined = false; notices = λ _. [] } })
           (fun_ext (turned a))
 
-  node_is : IsWithin nodes cluster → (a : ℕ) → node_with (opening_with nodes cluster) a
-      (core_of a (map (opening_core nodes cluster) nodes))
-      ≡ opening_node (in_cluster (opening_with nodes cluster)) a
-  node_is within a = ap (node_with (opening_with nodes cluster) a) (found a nodes) ∙ go (set_of nodes a)
-    where
-      go : (b : Bool) → node_with (opening_with nodes cluster) a
-          (if b then Some (opening_core nodes cluster a) else None)
-          ≡ opening_node (in_cluster (opening_with nodes cluster)) a
-      go true = core_is a ∙ ap (λ (s : Nodes). opening_node s a) (sym (cluster_is within))
-      go false = refl
+  -- the world of all creations of these nodes' names
+  abbrev whole_of : Opening
+  whole_of = all_creations (named_opening nodes cluster)
 
-  module _ (cores : List Core) (links : Mail) (history : List HistoryEntry)
-      (made : cores ≡ map (opening_core nodes cluster) nodes)
-      (empty : links_of links ≡ no_letters) where
-    pub opens_whole : IsNodeSet nodes → links.mesh.nodes ≡ nodes
-        → IsWhole (record { nodes = nodes; cluster = cluster; cores = cores; links = links; history = history })
-    opens_whole set same = record {
-      set = set;
-      names = ap (map name_of) made ∙ names_are nodes;
-      worlds = subst (λ (cs : List Core). All (λ c. c.world ≡ nodes) cs) (sym made)
-          (All-map (λ (c : Core). c.world ≡ nodes) (opening_core nodes cluster) nodes
-          (λ k d l. opens_world (get_or nodes k d)));
-      links = same;
-      fit = subst (λ (w : Links Letter). AreFit nodes w) (sym empty)
-          (record { known = λ f t e. refl; quiet = λ f t e. refl; said = λ f t. All-nil (IsSaidBy nodes t f) });
-    }
+  module _ (first : All IsFirst nodes) (within : AreOf nodes cluster) where
+    pub cluster_first : (c : ℕ) → set_of cluster c ≡ true → IsFirst c
+    cluster_first c e = first_of nodes first c (within c e)
 
-    pub opens_seen : IsWithin nodes cluster → history ≡ []
-        → seen (record { nodes = nodes; cluster = cluster; cores = cores; links = links; history = history })
-        ≡ opening_world (opening_with nodes cluster)
-    opens_seen within none =
-        ap (λ (cs : List Core). seen (record {
-          nodes = nodes;
-          cluster = cluster;
-          cores = cs;
-          links = links;
-          history =
-              history;
-        })) made
-        ∙ ap (λ (f : ℕ → Node). record {
-          node = f;
-          links = mapped letter_of (links_of links);
-          history = map entry_of
-              history;
-        }) (fun_ext (node_is within))
-        ∙ ap (λ (w : Links Letter). record {
-          node = opening_node (in_cluster (opening_with nodes cluster));
-          links =
-              mapped letter_of w;
-          history = map entry_of history;
-        }) empty
-        ∙ ap (λ (es : List HistoryEntry). record (opening_world (opening_with nodes cluster)) { history = map entry_of es })
-        none
+    -- those that are joined at first are the cluster
+    cluster_is : in_cluster whole_of ≡ set_of cluster
+    cluster_is = fun_ext (λ c. go c (set_of cluster c) refl)
+      where
+        go : (c : ℕ) (b : Bool) → set_of cluster c ≡ b → in_cluster whole_of c ≡ b
+        go c true e =
+            let z : IsFirst c = cluster_first c e in
+            and_from (in_world whole_of c) (is_named_in cluster (text_in c) && (creation_of c == 1))
+            (started_inside nodes cluster c (held nodes c (within c e)))
+            (and_from (is_named_in cluster (text_in c)) (creation_of c == 1)
+            (text_or_name cluster c ∙ names_in-of cluster c c e refl) (eq-eqb (creation_of c) 1 (omega (arith, z))))
+        go c false e = false_from_ne_true (in_cluster whole_of c) (λ h.
+            let parts : (is_named_in cluster (text_in c) ≡ true) × ((creation_of c == 1) ≡ true) =
+            and_parts (is_named_in cluster (text_in c)) (creation_of c == 1)
+            (and_parts (in_world whole_of c) (is_named_in cluster (text_in c) && (creation_of c == 1)) h).1 in
+            let m : (m : ℕ) × (set_of cluster m ≡ true) × (name_of m ≡ name_of c) =
+            node_named cluster (name_of c) (sym (text_or_name cluster c) ∙ parts.0) in
+            let z : IsFirst m.0 = cluster_first m.0 m.1 in
+            let n : name_of m.0 ≡ name_of c = m.2 in
+            let k : creation_of c ≡ 1 = eqb-true (creation_of c) 1 parts.1 in
+            let same : m.0 ≡ c = omega (arith, z, n, k) in
+            cc (m.1, e, ap (set_of cluster) same))
 
--- what is held of a world of these nodes
-abbrev held : List ℕ → List ℕ → List Core → Mail → List HistoryEntry → Held
-held nodes cluster cores links history =
-    record { nodes = nodes; cluster = cluster; cores = cores; links = links; history = history }
+    node_is : (a : ℕ) → node_with whole_of a (or_else (core_of a (map (opening_core nodes cluster) nodes)) None)
+        ≡ opening_node (in_cluster whole_of) a
+    node_is a = ap (λ (c : Option Core). node_with whole_of a (or_else c None)) (found a nodes) ∙ go (set_of nodes a)
+      where
+        go : (b : Bool) → node_with whole_of a (or_else (if b then Some (opening_core nodes cluster a) else None) None)
+            ≡ opening_node (in_cluster whole_of) a
+        go true = core_is a ∙ ap (λ (s : Nodes). opening_node s a) (sym cluster_is)
+        go false = refl
 
--- it is the same by other names of them
-pub with_sets : (nodes cluster n k : List ℕ) (cores : List Core) (links : Mail) (history : List HistoryEntry)
-    → n ≡ nodes → k ≡ cluster
-    → held nodes cluster cores links history ≡ held n k cores links history
-with_sets nodes cluster n k cores links history p q =
-    ap (λ (ns : List ℕ). held ns cluster cores links history) (sym p)
-    ∙ ap (λ (ns : List ℕ). held n ns cores links history) (sym q)
+    module _ (cores past : List Core) (links : Mailed) (history : List HistoryEntry)
+        (made : cores ≡ map (opening_core nodes cluster) nodes) (nobody_yet : past ≡ [])
+        (same : links.nodes ≡ nodes) (empty : links_of links ≡ no_letters) (none : history ≡ []) where
+      -- what is held at the opening
+      abbrev opened : Held
+      opened = record { cluster = cluster; cores = cores; past = past; links = links; history = history }
 
--- the world opens as the opening says
-pub opens : (cluster lone : List ℕ) (o : Opened) → IsOpening cluster lone o → (cores : List Core) (links : Mail)
-    (history : List HistoryEntry)
-    → Opens cluster lone (record { nodes = o.nodes; cluster = o.cluster; cores = cores; links = links; history = history })
-opens cluster lone o is cores links history = record { nodes = is.nodes; joined = is.joined }
+      pub opens_named : named opened ≡ opening_named (names_of opened)
+      opens_named =
+          named-is opened
+          ∙ ap (λ (ns : List ℕ). named_by ns cluster (λ x. core_at x opened) (links_of links) (entries_of history)) same
+          ∙ ap (λ (w : Links Letter). named_by nodes cluster (λ x. core_at x opened) w (entries_of history)) empty
+          ∙ ap (λ (es : List HistoryEntry). named_by nodes cluster (λ x. core_at x opened) no_letters (entries_of es)) none
+          ∙ ap (λ (ps : List Core). named_by nodes cluster (λ x. or_else (core_of x cores) (core_of x ps)) no_letters []) nobody_yet
+          ∙ ap (λ (cs : List Core). named_by nodes cluster (λ x. or_else (core_of x cs) None) no_letters []) made
+          ∙ ap (λ (f : ℕ → Node). world_of f (over whole_of nodes no_letters) (present_in nodes)) (fun_ext node_is)
+          ∙ ap (λ (l : Links AnyLetter). world_of (opening_node (in_cluster whole_of)) l (present_in nodes)) (over_none whole_of nodes)
+          ∙ ap (λ (p : ℕ → ℕ). world_of (opening_node (in_cluster whole_of)) no_letters p) (fun_ext (present_one nodes first))
+          ∙ ap (λ (ns : List ℕ). opening_named (named_opening ns cluster)) (sym same)
+        where
+          world_of : (ℕ → Node) → Links AnyLetter → (ℕ → ℕ) → NamedWorld
+          world_of f l p = record { world = record { node = f; links = l; history = [] }; present = p }
+
+      pub opens_whole : IsNodeSet nodes → IsWhole opened
+      opens_whole set = record {
+        set = subst IsNodeSet (sym same) set;
+        cluster = λ k d l. cluster_first (get_or cluster k d) (set_of-item cluster k d l);
+        names = ap (map core_name) made ∙ names_are nodes ∙ sym same;
+        worlds = subst (λ (cs : List Core). All (λ c. with_older links.departed c.name ≡ false → c.world ≡ links.nodes) cs) (sym made)
+            (All-map (λ (c : Core). with_older links.departed c.name ≡ false → c.world ≡ links.nodes) (opening_core nodes cluster) nodes
+            (λ k d l stays. opens_world (get_or nodes k d) ∙ sym same));
+        older = subst (λ (cs : List Core). All (λ c. (with_older links.nodes c.name ≡ true) × (set_of links.nodes c.name ≡ false)) cs)
+            (sym nobody_yet) (All-nil (λ (c : Core). (with_older links.nodes c.name ≡ true) × (set_of links.nodes c.name ≡ false)));
+        fit = subst (λ (w : Links Letter). AreFit links.nodes w) (sym empty)
+            (record { known = λ f t e. refl; quiet = λ f t e. refl; said = λ f t. All-nil (IsSaidBy links.nodes t f) });
+        events = [];
+        reached = opens_named;
+      }

@@ -1,122 +1,241 @@
--- The first delivery, by where a letter waits first.
-use Rattle.std.proofs.Common.{ℕ, suc, Bool, true, false, ◌==◌, ◌≡◌, ◌<◌, Option, Some, None, List, [], ◌∷◌, length, get_or, map, refl, sym, ap, subst, ◌∙◌, arith, inl, inr}
-use Rattle.std.specs.Prelude.{if◌then◌else◌, not, ◌||◌, ◌⊎◌, is_none, find, flat_map}
-use Rattle.std.specs.List.{list_any, AllByRecursion, AllPairs}
-use Rattle.std.specs.List.Sorted.{IsStrictlyIncreasing}
+-- The delivery that comes next, by where a letter waits first.
+use Rattle.std.proofs.Common.{ℕ, Bool, true, false, ◌≡◌, ◌<◌, ◌*◌, ◌^◌, Option, Some, None, List, [], ◌∷◌, map, refl, sym, ap, subst, ◌∙◌, arith, inl, inr}
+use Rattle.std.specs.Prelude.{if◌then◌else◌, not, ◌&&◌, ◌||◌, ◌⊎◌, nat_lt, is_none, option_map, find, flat_map, Contains}
 use Rattle.std.specs.Option.{option_or}
-use Rattle.std.proofs.lemmas.Bool.{cases_order, eqb-true, ne_eqb}
+use Rattle.std.proofs.lemmas.Bool.{and_parts, ltb-true}
 use Rattle.std.proofs.lemmas.List.Concat.{flat_map_single}
 use Rattle.std.proofs.lemmas.List.Folds.{find-append}
-use Rattle.std.proofs.lemmas.List.Kept.{AllPairs-from_increasing}
-use Rattle.registry_model.specs.Process.{nodes_of}
+use Rattle.registry_model.specs.Process.{nodes_of as listed}
+use Rattle.registry_model.proofs.Lists.{Contains-cases, Contains-front, Contains-behind, Contains-nil}
+use Rattle.registry_model.proofs.NodeLists.{are_nodes_below}
 use Rattle.protocol_model.specs.Links.{is_nil}
 use Rattle.protocol_model.specs.Event.{Refusal}
-use Rattle.protocol_model.specs.World.{Opening, World, WorldEvent, Deliver, in_world, left, refusal, deliveries, next_delivery}
-
--- each is less than all behind it
-abbrev Rises : List ℕ → Type 0
-Rises [] = Unit {0}
-Rises (x ∷ xs) = AllByRecursion (λ y. x < y) xs × Rises xs
-
--- a number of the list is more than what is less than each
-more : (x f : ℕ) (xs : List ℕ) → AllByRecursion (λ y. x < y) xs → list_any (λ m. m == f) xs ≡ true → x < f
-more x f [] all e = cc
-more x f (y ∷ ys) all e = go (y == f) refl e (more x f ys all.1)
-  where
-    go : (b : Bool) → (y == f) ≡ b → (b || list_any (λ m. m == f) ys) ≡ true
-        → (list_any (λ m. m == f) ys ≡ true → x < f) → x < f
-    go true is e later = subst (λ (z : ℕ). x < z) (eqb-true y f is) all.0
-    go false is e later = later e
-
-each : (x : ℕ) (xs : List ℕ) → ((k : ℕ) → k < length xs → x < get_or xs k 0) → AllByRecursion (λ y. x < y) xs
-each x [] all = tt
-each x (y ∷ ys) all = (all 0 (omega arith), each x ys (λ k l. all (suc k) (omega arith)))
-
-rises_by : (xs : List ℕ) → AllPairs (λ x y. x < y) xs → Rises xs
-rises_by [] r = tt
-rises_by (x ∷ xs) r = (
-  each x xs (λ k l. r 0 (suc k) 0 (omega arith) (omega arith)),
-  rises_by xs
-      (λ i j d l m. r (suc i) (suc j) d (omega arith) (omega arith)),
-)
+use Rattle.protocol_model.specs.World.{in_world, left}
+use Rattle.creations.specs.NodeNames.{NamedOpening, first_nodes, name_of as any_name, opening_of as all_creations}
+use Rattle.creations.specs.NamedWorld.{NamedWorld, NamedEvent, Deliver, NamedRefusal, Plain, or_present, present_node, has_started, sender_to, named_refusal}
+use Rattle.creations.specs.NamedScript.{next_named}
+use Rattle.creations.proofs.Lists.{Rise, nodes_rise, find_least}
+use Rattle.creations.proofs.Numbers.{name-node}
+use Rattle.creations.proofs.StartedLists.{in_first, first_rises}
+use Rattle.creations.proofs.Standing.{Sound}
+use Rattle.creations.proofs.Always.{always}
+use Rattle.term.specs.Nodes.{text_in, name_of}
+use Rattle.term.specs.NodeSets.{set_of, with_older, names_in}
+use Rattle.term.proofs.Numbers.{text_in-first_node}
+use Rattle.term.proofs.Older.{held}
+use Rattle.link.specs.Held.{place}
+use Rattle.node_core.specs.declared.Letter.{Letter}
+use Rattle.node_core.specs.Held.{HaveLeft}
+use Rattle.world_events.specs.declared.events.WorldEvent.TheVariants.{Deliver as Delivers}
+use Rattle.world_events.specs.Events.{named_event}
+use Rattle.cluster_world.specs.Held.{Held, nodes_of}
+use Rattle.cluster_world.specs.Whole.{IsWhole}
+use Rattle.cluster_world.specs.Links.{WaitsFirst}
+use Rattle.cluster_world.specs.Mail.{links_of}
+use Rattle.cluster_world.specs.Openings.{is_named_in}
+use Rattle.cluster_world.specs.Playing.{WaitsOn}
+use Rattle.cluster_world.specs.Settling.{IsNextLetter}
+use Rattle.cluster_world.specs.Seen.{names_of, named}
+use Rattle.cluster_world.proofs.Listed.{no_place}
+use Rattle.cluster_world.proofs.Naming.{known_is, text_or_name, node_named, has_name, name_of-text, present_node_is}
+use Rattle.cluster_world.proofs.Deliveries.{waits_as, delivers}
 
 module _ {E : Type 0} (p : E → Bool) (rows : ℕ → List E) where
   -- no row has what passes
-  none_found : (xs : List ℕ) → ((x : ℕ) → find p (rows x) ≡ None) → find p (flat_map rows xs) ≡ None
+  none_found : (xs : List ℕ) → ((x : ℕ) → Contains xs x → find p (rows x) ≡ None) → find p (flat_map rows xs) ≡ None
   none_found [] none = refl
   none_found (x ∷ xs) none = find-append p (rows x) (flat_map rows xs)
-      ∙ ap (λ (o : Option E). option_or o (find p (flat_map rows xs))) (none x) ∙ none_found xs none
+      ∙ ap (λ (o : Option E). option_or o (find p (flat_map rows xs))) (none x (Contains-front x xs))
+      ∙ none_found xs (λ y i. none y (Contains-behind x xs y i))
 
   -- the row of f is the first that has it
-  first_found : (xs : List ℕ) (f : ℕ) (e : E) → Rises xs → list_any (λ m. m == f) xs ≡ true
-      → ((x : ℕ) → x < f → find p (rows x) ≡ None) → find p (rows f) ≡ Some e → find p (flat_map rows xs) ≡ Some e
-  first_found [] f e r here before found = cc
-  first_found (x ∷ xs) f e r here before found = elim (cases_order x f) [
+  first_found : (xs : List ℕ) (f : ℕ) (e : E) → Rise xs → Contains xs f
+      → ((x : ℕ) → Contains xs x → x < f → find p (rows x) ≡ None) → find p (rows f) ≡ Some e
+      → find p (flat_map rows xs) ≡ Some e
+  first_found [] f e R i before found = absurd (Contains-nil f i)
+  first_found (x ∷ xs) f e R i before found = elim (Contains-cases x xs f i) [
     | inl same ↦ find-append p (rows x) (flat_map rows xs)
         ∙ ap (λ (o : Option E). option_or o (find p (flat_map rows xs))) (ap (λ (y : ℕ). find p (rows y)) same ∙ found)
-    | inr (inl less) ↦ find-append p (rows x) (flat_map rows xs)
-        ∙ ap (λ (o : Option E). option_or o (find p (flat_map rows xs))) (before x less)
-        ∙ first_found xs f e r.1 (behind (λ s. omega arith)) before found
-    | inr (inr greater) ↦ absurd (omega (arith, more x f xs r.0 (behind (λ s. omega arith))))
+    | inr behind ↦ find-append p (rows x) (flat_map rows xs)
+        ∙ ap (λ (o : Option E). option_or o (find p (flat_map rows xs))) (before x (Contains-front x xs) (R.0 f behind))
+        ∙ first_found xs f e R.1 behind (λ y j. before y (Contains-behind x xs y j)) found
   ]
+
+module _ (o : NamedOpening) (w : NamedWorld) where
+  -- the names of the world
+  abbrev names : List ℕ
+  names = listed o.bound o.names
+
+  -- the world accepts the event
+  abbrev accepts : NamedEvent → Bool
+  accepts e = is_none (named_refusal o w e)
+
+  -- no delivery is accepted from an empty link
+  refused_empty : (x y : ℕ) → is_nil (w.world.links.queue (sender_to o w x y) (present_node o w y)) ≡ true
+      → accepts (Deliver x y) ≡ false
+  refused_empty x y e = go (has_started o w f) (not (in_world (all_creations o) t) || not (in_world (all_creations o) f))
+      (left w.world t)
     where
-      behind : (x ≡ f → ⊥) → list_any (λ m. m == f) xs ≡ true
-      behind ne = ap (λ (b : Bool). b || list_any (λ m. m == f) xs) (sym (ne_eqb x f ne)) ∙ here
+      f : ℕ
+      f = sender_to o w x y
 
-module _ (o : Opening) (w : World) where
-  -- the world accepts the delivery
-  abbrev accepts : WorldEvent → Bool
-  accepts e = is_none (refusal o w e)
+      t : ℕ
+      t = present_node o w y
 
-  -- none is accepted from an empty link
-  pub refused_empty : (f t : ℕ) → w.links.queue f t ≡ [] → accepts (Deliver f t) ≡ false
-  refused_empty f t e = go (not (in_world o t) || not (in_world o f)) (left w t)
-    where
-      go : (a b : Bool) → is_none (if a then Some Refusal.NoSuchNode else
-          (if b then Some Refusal.NodeLeft else (if is_nil (w.links.queue f t) then Some Refusal.EmptyLink else None)))
-          ≡ false
-      go true b = refl
-      go false true = refl
-      go false false = ap (λ ls. is_none (if is_nil ls then Some Refusal.EmptyLink else None)) e
-
-  -- one between nodes of the world is, where a letter waits
-  pub accepted_waiting : (f t : ℕ) → in_world o f ≡ true → in_world o t ≡ true → left w t ≡ false
-      → is_nil (w.links.queue f t) ≡ false
-      → accepts (Deliver f t) ≡ true
-  accepted_waiting f t sender receiver running waits = rw (sender, receiver, running, waits) refl
+      go : (a b c : Bool) → is_none (if a then option_map Plain (if b then Some Refusal.NoSuchNode else
+          (if c then Some Refusal.NodeLeft else (if is_nil (w.world.links.queue f t) then Some Refusal.EmptyLink else None)))
+          else Some (Plain Refusal.NoSuchNode)) ≡ false
+      go false b c = refl
+      go true true c = refl
+      go true false true = refl
+      go true false false =
+          ap (λ (b : Bool). is_none (option_map Plain (if b then Some Refusal.EmptyLink else None))) e
 
   row : (x : ℕ) (ts : List ℕ) → map (λ t. Deliver x t) ts ≡ flat_map (λ t. Deliver x t ∷ []) ts
   row x ts = sym (flat_map_single (λ t. Deliver x t) ts)
 
-  row_found : (x t : ℕ) (b : Bool) → accepts (Deliver x t) ≡ b → find accepts (Deliver x t ∷ [])
-      ≡ (if b then Some (Deliver x t) else None)
-  row_found x t b e = ap (λ (c : Bool). if c then Some (Deliver x t) else None) e
+  row_found : (x y : ℕ) (b : Bool) → accepts (Deliver x y) ≡ b → find accepts (Deliver x y ∷ [])
+      ≡ (if b then Some (Deliver x y) else None)
+  row_found x y b e = ap (λ (c : Bool). if c then Some (Deliver x y) else None) e
 
-  empty_row : (x : ℕ) (ts : List ℕ) → ((y : ℕ) → w.links.queue x y ≡ []) → find accepts (map (λ t. Deliver x t) ts)
-      ≡ None
-  empty_row x ts empty = ap (find accepts) (row x ts)
-      ∙ none_found accepts (λ t. Deliver x t ∷ []) ts (λ t. row_found x t false (refused_empty x t (empty t)))
+  empty_row : (x : ℕ) → ((y : ℕ) → Contains names y → accepts (Deliver x y) ≡ false)
+      → find accepts (map (λ t. Deliver x t) names) ≡ None
+  empty_row x refused = ap (find accepts) (row x names)
+      ∙ none_found accepts (λ t. Deliver x t ∷ []) names (λ y i. row_found x y false (refused y i))
 
-  module _ (ns : List ℕ) (are : nodes_of o.bound (in_world o) ≡ ns) where
-    deliveries_are : deliveries o ≡ flat_map (λ f. map (λ t. Deliver f t) ns) ns
-    deliveries_are = ap (λ (xs : List ℕ). flat_map (λ f. map (λ t. Deliver f t) xs) xs) are
+  -- no letter waits
+  next_none : ((x y : ℕ) → Contains names x → Contains names y → accepts (Deliver x y) ≡ false) → next_named o w ≡ None
+  next_none refused = none_found accepts (λ f. map (λ t. Deliver f t) names) names (λ x i. empty_row x (λ y j. refused x y i j))
 
-    -- no letter waits
-    pub next_none : ((x y : ℕ) → w.links.queue x y ≡ []) → next_delivery o w ≡ None
-    next_none empty = ap (find accepts) deliveries_are
-        ∙ none_found accepts (λ f. map (λ t. Deliver f t) ns) ns (λ x. empty_row x ns (empty x))
+  -- the first letter waits on the link from x to y
+  next_first : (x y : ℕ) → Contains names x → Contains names y → accepts (Deliver x y) ≡ true
+      → ((a b : ℕ) → Contains names a → Contains names b → (a < x) ⊎ ((a ≡ x) × (b < y)) → accepts (Deliver a b) ≡ false)
+      → next_named o w ≡ Some (Deliver x y)
+  next_first x y sender receiver free before =
+      first_found accepts (λ f. map (λ t. Deliver f t) names) names x (Deliver x y) (nodes_rise o.bound o.names) sender
+      (λ a i less. empty_row a (λ b j. before a b i j (inl less)))
+      (ap (find accepts) (row x names)
+      ∙ first_found accepts (λ t. Deliver x t ∷ []) names y (Deliver x y) (nodes_rise o.bound o.names) receiver
+      (λ b j less. row_found x b false (before x b sender j (inr (refl, less))))
+      (row_found x y true free))
 
-    -- the first letter waits from f to t
-    pub next_first : (f t : ℕ) → IsStrictlyIncreasing ns → list_any (λ m. m == f) ns ≡ true → list_any (λ m. m == t) ns
-        ≡ true
-        → accepts (Deliver f t) ≡ true
-        → ((x y : ℕ) → (x < f) ⊎ ((x ≡ f) × (y < t)) → w.links.queue x y ≡ []) → next_delivery o w ≡ Some (Deliver f t)
-    next_first f t rising sender receiver free before = ap (find accepts) deliveries_are
-        ∙ first_found accepts (λ f. map (λ t. Deliver f t) ns) ns f (Deliver f t) rises sender
-        (λ x less. empty_row x ns (λ y. before x y (inl less)))
-        (ap (find accepts) (row f ns) ∙ first_found accepts (λ t. Deliver f t ∷ []) ns t (Deliver f t) rises receiver
-        (λ y less. row_found f y false (refused_empty f y (before f y (inr (refl, less)))))
-        (row_found f t true free))
+module _ (h : Held) (whole : IsWhole h) (left : HaveLeft (nodes_of h) h.links.departed) where
+  abbrev o : NamedOpening
+  o = names_of h
+
+  abbrev w : NamedWorld
+  w = named h
+
+  -- the letters that one node has sent another
+  abbrev letters : ℕ → ℕ → List Letter
+  letters = (links_of h.links).queue
+
+  sound : Sound o w
+  sound = subst (λ (v : NamedWorld). Sound o v) (sym whole.reached) (always o whole.events)
+
+  -- a node that is listed as one of the world has one of its names
+  named_here : (m : ℕ) → names_in (nodes_of h) (name_of m) ≡ true → Contains (names o w) (text_in m)
+  named_here m e = ((are_nodes_below o.bound o.names).below (text_in m)).1 (ltb-true (text_in m) o.bound known.0, known.1)
+    where
+      known : (nat_lt (text_in m) o.bound ≡ true) × (is_named_in (nodes_of h) (text_in m) ≡ true)
+      known = and_parts (nat_lt (text_in m) o.bound) (is_named_in (nodes_of h) (text_in m))
+          (known_is (nodes_of h) h.cluster m ∙ e)
+
+  -- and each name is that of one
+  node_of_name : (y : ℕ) → Contains (names o w) y → (m : ℕ) × (set_of (nodes_of h) m ≡ true) × (text_in m ≡ y)
+  node_of_name y i = (node.0, node.1, name_of-text node.0 (y * 2 ^ 32) node.2 ∙ text)
+    where
+      text : text_in (y * 2 ^ 32) ≡ y
+      text = text_in-first_node y
+
+      node : (m : ℕ) × (set_of (nodes_of h) m ≡ true) × (name_of m ≡ name_of (y * 2 ^ 32))
+      node = node_named (nodes_of h) (name_of (y * 2 ^ 32)) (sym (text_or_name (nodes_of h) (y * 2 ^ 32))
+          ∙ ap (is_named_in (nodes_of h)) text ∙ (((are_nodes_below o.bound o.names).below y).0 i).1)
+
+  -- who sends on the link from a name has it
+  sender_named : (x y : ℕ) → text_in (sender_to o w x y) ≡ x
+  sender_named x y = go (find waits (first_nodes o x (w.present x))) refl
+    where
+      waits : ℕ → Bool
+      waits n = not (is_nil (w.world.links.queue n (present_node o w y)))
+
+      go : (r : Option ℕ) → find waits (first_nodes o x (w.present x)) ≡ r → any_name o (or_present o w x r) ≡ x
+      go None e = name-node o x (w.present x) (sound.present x)
+      go (Some n) e = (in_first o x (w.present x) n (sound.present x).last
+          (find_least waits (first_nodes o x (w.present x)) n (first_rises o x (w.present x) (sound.present x).last) e).0).0
+
+  -- nothing is on the link from name to name, where nothing is on any between their nodes
+  nothing_on : (x y : ℕ) → Contains (names o w) y
+      → ((f t : ℕ) → text_in f ≡ x → text_in t ≡ y → letters f t ≡ []) → accepts o w (Deliver x y) ≡ false
+  nothing_on x y i empty = refused_empty o w x y
+      (ap (λ (m : ℕ). is_nil (w.world.links.queue (sender_to o w x y) m)) present
+      ∙ waits_as h whole left (sender_to o w x y) node.0 (held (nodes_of h) node.0 node.1)
+      ∙ ap (λ (ls : List Letter). is_nil ls) (empty (sender_to o w x y) node.0 (sender_named x y) node.2))
+    where
+      node : (m : ℕ) × (set_of (nodes_of h) m ≡ true) × (text_in m ≡ y)
+      node = node_of_name y i
+
+      present : present_node o w y ≡ node.0
+      present = ap (present_node o w) (sym node.2) ∙ present_node_is h left.one node.0 node.1
+
+  -- a letter waits between these nodes, the first one of all
+  module _ (f t : ℕ) (waits : WaitsFirst (Some (f, t)) (links_of h.links)) where
+    both : (with_older (nodes_of h) f && set_of (nodes_of h) t) ≡ true
+    both = go (with_older (nodes_of h) f && set_of (nodes_of h) t) refl
       where
-        rises : Rises ns
-        rises = rises_by ns (AllPairs-from_increasing ns rising)
+        go : (b : Bool) → (with_older (nodes_of h) f && set_of (nodes_of h) t) ≡ b → b ≡ true
+        go true e = refl
+        go false e = absurd (cc (waits.0.1, ap (λ (ls : List Letter). is_nil ls) (whole.fit.known f t e)))
+
+    -- the sender has started, and the receiver is at present
+    sender : with_older (nodes_of h) f ≡ true
+    sender = (and_parts (with_older (nodes_of h) f) (set_of (nodes_of h) t) both).0
+
+    receiver : set_of (nodes_of h) t ≡ true
+    receiver = (and_parts (with_older (nodes_of h) f) (set_of (nodes_of h) t) both).1
+
+    -- by names
+    by_names : Deliver (text_in f) (text_in t) ≡ named_event (Delivers (name_of f) (name_of t))
+    by_names = ap (λ (x : ℕ). Deliver x (text_in t)) from ∙ ap (λ (y : ℕ). Deliver (text_in (name_of f)) y) to
+      where
+        from : text_in f ≡ text_in (name_of f)
+        from = sym (text_in-first_node (text_in f))
+
+        to : text_in t ≡ text_in (name_of t)
+        to = sym (text_in-first_node (text_in t))
+
+    free : named_refusal o w (named_event (Delivers (name_of f) (name_of t))) ≡ None
+    free = delivers h whole left (name_of f) (name_of t) t receiver refl f sender waits.0
+
+    next : next_named o w ≡ Some (Deliver (text_in f) (text_in t))
+    next = next_first o w (text_in f) (text_in t)
+        (named_here f (has_name (nodes_of h) f sender)) (named_here t (has_name (nodes_of h) t (held (nodes_of h) t receiver)))
+        (ap (λ (e : NamedEvent). is_none (named_refusal o w e)) by_names ∙ ap (λ (r : Option NamedRefusal). is_none r) free)
+        (λ a b i j before. nothing_on a b j (λ g u p q. waits.1 g u (earlier a b g u p q before)))
+      where
+        earlier : (a b g u : ℕ) → text_in g ≡ a → text_in u ≡ b → (a < text_in f) ⊎ ((a ≡ text_in f) × (b < text_in t))
+            → (name_of g < name_of f) ⊎ ((name_of g ≡ name_of f) × (name_of u < name_of t))
+        earlier a b g u p q (inl less) = let l : name_of g < name_of f = omega (arith, p, less) in inl l
+        earlier a b g u p q (inr (same, less)) =
+            let l : name_of u < name_of t = omega (arith, q, less) in
+            let e : name_of g ≡ name_of f = ap (λ (x : ℕ). x * 2 ^ 32) (p ∙ same) in
+            inr (e, l)
+
+    waits_between : WaitsOn (Some (name_of f, name_of t)) h
+    waits_between = next ∙ ap (λ (e : NamedEvent). let r : Option NamedEvent = Some e in r) by_names
+
+    -- so the receiver, which has a place, may read it
+    pub has_place : place t (nodes_of h) ≡ None → ⊥
+    has_place e = cc (no_place (nodes_of h) t e, receiver)
+
+    pub first_letter : (p : ℕ) → place t (nodes_of h) ≡ Some p → IsNextLetter p f t h
+    first_letter p at = record {
+      first = waits.0;
+      receiver = at;
+      admitted = record { node = t; place = at; own = refl; accepted = free };
+      next = waits_between;
+    }
+
+  -- no letter waits
+  pub waits_nowhere : WaitsFirst None (links_of h.links) → WaitsOn None h
+  waits_nowhere none = next_none o w (λ x y i j. nothing_on x y j (λ f t p q. none f t))

@@ -10,17 +10,21 @@ use Rattle.registry_model.specs.Process.{Process, nodes_of}
 use Rattle.protocol_model.specs.Letter.{Id, is_id}
 use Rattle.protocol_model.specs.Event.{Call, Event, Answer, Refusal}
 use Rattle.protocol_model.specs.ClientLocks.{Try, Tally, try_of, tried_again, waits_for_retry, last_try, is_won, gives, is_no_more, tallied, tally_after, tally_from}
-use Rattle.protocol_model.specs.World.{Opening, in_world, World, WorldEvent, At, Deliver, place, refusal, happens, accepted, answers, run, all_answers, deliveries, next_delivery}
-use Rattle.lock_answers.proofs.Walk.{OrderedWalk, walked_in_order}
-use Rattle.lock_answers.proofs.Answering.{any_true}
-use Rattle.lock_answers.proofs.Chains.{up_before}
-use Rattle.lock_answers.proofs.Clients.{Numbers}
-use Rattle.lock_answers.proofs.RoundNumbers.{round_count_after}
-use Rattle.lock_answers.proofs.Told.{chain_of}
-use Rattle.lock_answers.proofs.Walking.{Grounds, State, event_keeps}
-use Rattle.lock_answers.proofs.Together.{All, all_opens, all_keeps, widens}
+use Rattle.protocol_model.specs.World.{Opening, World, WorldEvent, At, Deliver, place, refusal, happens, accepted, answers, run, all_answers}
+use Rattle.creations.specs.NodeNames.{NamedOpening, opening_of as all_creations}
+use Rattle.creations.specs.NamedWorld.{NamedWorld, NamedEvent, NamedRefusal, present_node, sender_to, plain_events, named_refusal, named_answers, happens_named}
+use Rattle.creations.specs.NamedScript.{named_deliveries, next_named}
+use Rattle.creations.proofs.Walk.{OrderedWalk, walked_in_order}
+use Rattle.creations.proofs.Answering.{any_true}
+use Rattle.creations.proofs.Chains.{up_before}
+use Rattle.creations.proofs.Clients.{Numbers}
+use Rattle.creations.proofs.RoundNumbers.{round_count_after}
+use Rattle.creations.proofs.Told.{chain_of}
+use Rattle.creations.proofs.Walking.{Grounds, State, event_keeps}
+use Rattle.creations.proofs.Together.{All, all_opens, all_keeps, widens}
 use Rattle.cluster_world.specs.Counting.{is_granted, has_to_ask, unless_gone}
 use Rattle.cluster_world.specs.Seats.{verdict_in, next_for, awaiting}
+use Rattle.cluster_world.proofs.OneEvent.{IsOne, one_at, one_delivered, one_then}
 use Rattle.cluster_world.proofs.Verdicts.{verdict_in-append, under, is_under, true_granted}
 
 -- a delivery, a retry, or a `del_lock`: none of them begins a try of its own
@@ -36,7 +40,13 @@ is_waited (Deliver f t) = true
 is_waited (At a Event.Retry) = true
 is_waited _ = false
 
-found_passes : (p q : WorldEvent → Bool) (es : List WorldEvent) → list_all q es ≡ true → (e : WorldEvent)
+-- the same of events by names
+abbrev pub is_named_waited : NamedEvent → Bool
+is_named_waited (NamedEvent.Deliver f t) = true
+is_named_waited (NamedEvent.AtNode n Event.Retry) = true
+is_named_waited _ = false
+
+found_passes : (p q : NamedEvent → Bool) (es : List NamedEvent) → list_all q es ≡ true → (e : NamedEvent)
     → find p es ≡ Some e → q e ≡ true
 found_passes p q [] all e is = cc
 found_passes p q (x ∷ xs) all e is = go (p x) is (λ h. found_passes p q xs parts.1 e h)
@@ -45,27 +55,39 @@ found_passes p q (x ∷ xs) all e is = go (p x) is (λ h. found_passes p q xs pa
     parts = and_parts (q x) (list_all q xs) all
 
     go : (b : Bool) → (if b then Some x else find p xs) ≡ Some e → (find p xs ≡ Some e → q e ≡ true) → q e ≡ true
-    go true h rest = let same : x ≡ e = cc h in subst (λ (y : WorldEvent). q y ≡ true) same parts.0
+    go true h rest = let same : x ≡ e = cc h in subst (λ (y : NamedEvent). q y ≡ true) same parts.0
     go false h rest = rest h
 
 -- what a call waits for is a delivery or a retry
-pub waits_for : (o : Opening) (a : ℕ) (w : World) → is_waited (next_for o a w) ≡ true
-waits_for o a w = go (next_delivery o w) refl
+pub waits_for : (o : NamedOpening) (a : ℕ) (w : NamedWorld) → is_named_waited (next_for o a w) ≡ true
+waits_for o a w = go (next_named o w) refl
   where
-    row : (f : ℕ) (ns : List ℕ) → list_all is_waited (map (λ t. Deliver f t) ns) ≡ true
+    row : (f : ℕ) (ns : List ℕ) → list_all is_named_waited (map (λ t. NamedEvent.Deliver f t) ns) ≡ true
     row f [] = refl
     row f (n ∷ ns) = row f ns
 
-    rows : (ms ns : List ℕ) → list_all is_waited (flat_map (λ f. map (λ t. Deliver f t) ns) ms) ≡ true
+    rows : (ms ns : List ℕ) → list_all is_named_waited (flat_map (λ f. map (λ t. NamedEvent.Deliver f t) ns) ms) ≡ true
     rows [] ns = refl
-    rows (m ∷ ms) ns = list_all-append is_waited (map (λ t. Deliver m t) ns)
-        (flat_map (λ f. map (λ t. Deliver f t) ns) ms) ∙ rw (row m ns, rows ms ns) refl
+    rows (m ∷ ms) ns = list_all-append is_named_waited (map (λ t. NamedEvent.Deliver m t) ns)
+        (flat_map (λ f. map (λ t. NamedEvent.Deliver f t) ns) ms) ∙ rw (row m ns, rows ms ns) refl
 
-    go : (r : Option WorldEvent) → next_delivery o w ≡ r
-        → is_waited (elim r [ None ↦ At a Event.Retry | Some e ↦ e ]) ≡ true
+    go : (r : Option NamedEvent) → next_named o w ≡ r
+        → is_named_waited (elim r [ None ↦ NamedEvent.AtNode a Event.Retry | Some e ↦ e ]) ≡ true
     go None h = refl
-    go (Some e) h = found_passes (λ d. is_none (refusal o w d)) is_waited (deliveries o)
-        (rows (nodes_of o.bound (in_world o)) (nodes_of o.bound (in_world o))) e h
+    go (Some e) h = found_passes (λ d. is_none (named_refusal o w d)) is_named_waited (named_deliveries o)
+        (rows (nodes_of o.bound o.names) (nodes_of o.bound o.names)) e h
+
+-- which is one event of the world
+pub one_waited : (o : NamedOpening) (w : NamedWorld) (e : NamedEvent) → is_named_waited e ≡ true
+    → named_refusal o w e ≡ None → (x : WorldEvent) × (IsOne o w e x × (is_waited x ≡ true))
+one_waited o w (NamedEvent.Deliver f t) h free =
+    (Deliver (sender_to o w f t) (present_node o w t), (one_delivered o w f t free, refl))
+one_waited o w (NamedEvent.AtNode n Event.Retry) h free = (At n Event.Retry, (one_at o w n Event.Retry free, refl))
+one_waited o w (NamedEvent.AtNode n (Event.Calling c)) h free = absurd (cc h)
+one_waited o w (NamedEvent.AtNode n (Event.Exiting q)) h free = absurd (cc h)
+one_waited o w (NamedEvent.AtNode n Event.Leave) h free = absurd (cc h)
+one_waited o w (NamedEvent.At x e) h free = absurd (cc h)
+one_waited o w (NamedEvent.Restart x) h free = absurd (cc h)
 
 pub waited_plain : (e : WorldEvent) → is_waited e ≡ true → is_plain e ≡ true
 waited_plain (Deliver f t) h = refl
@@ -187,7 +209,7 @@ module _ (o : Opening) where
       off true n = refl
       off false n = refl
 
-      nothing : (w : World) (j : Tally) (n : ℕ) → IsNow w j n → CountsSo w [] j n
+      pub nothing : (w : World) (j : Tally) (n : ℕ) → IsNow w j n → CountsSo w [] j n
       nothing w j n is = is ∙ ap (unless_gone w p) (off (is_id id i && has_to_ask c j.last) n)
 
       -- an event, and then others where it leaves the call unanswered
@@ -232,30 +254,79 @@ module _ (o : Opening) where
               && has_to_ask c (tally_from o (happens o w e) es p i c after).last && is_granted v then n + 1 else n))
               (sym (verdict_in-append p.node k (answers o w e) (all_answers o (happens o w e) es) said))
 
-      -- so it is while the call waits
-      pub waited_so : (most : ℕ) (w : World) (num : Numbers) → Behind w num → (j : Tally) (n : ℕ) → IsOf k id j.last
-          → IsNow w j n → Once w (awaiting o p.node k most w) → CountsSo w (awaiting o p.node k most w) j n
-      waited_so zero w num S j n is now once = nothing w j n now
-      waited_so (suc most) w num S j n is now once = go (refusal o w e) refl once
-          (λ free is2 now2 h2. waited_so most (happens o w e) (λ q x y. round_count_after o w e q x y (num q x y))
-          (event_keeps o (All o) grounds w e num S) (tally_after o w e p i c j) n is2 now2 h2)
+module _ (o : NamedOpening) (p : Process) (i : Id) (c k : ℕ) (id : Id) where
+  abbrev O : Opening
+  O = all_creations o
+
+  -- at most so many events behind this world count so
+  abbrev Waits : ℕ → NamedWorld → ℕ → Type 0
+  Waits most w n = (num : Numbers) → Behind O w.world num → (j : Tally) → IsOf k id j.last → IsNow O p i c w.world j n
+      → Once O p i c k id w.world (plain_events o w (awaiting o p.node k most w))
+      → CountsSo O p i c k id w.world (plain_events o w (awaiting o p.node k most w)) j n
+
+  -- and so do one more before them
+  waited_more : (most : ℕ) (w : NamedWorld) (n : ℕ) → Waits most (happens_named o w (next_for o p.node w)) n
+      → Waits (suc most) w n
+  waited_more most w n rest num S j is now once = go (named_refusal o w e) refl once
+    where
+      e : NamedEvent
+      e = next_for o p.node w
+
+      v : NamedWorld
+      v = happens_named o w e
+
+      more : List WorldEvent
+      more = plain_events o v (awaiting o p.node k most v)
+
+      on : List NamedEvent
+      on = e ∷ (if is_some (verdict_in p.node k (named_answers o w e)) then [] else awaiting o p.node k most v)
+
+      accepted_so : named_refusal o w e ≡ None → Once O p i c k id w.world (plain_events o w on)
+          → CountsSo O p i c k id w.world (plain_events o w on) j n
+      accepted_so free h = subst (λ (es : List WorldEvent). CountsSo O p i c k id w.world es j n) (sym events)
+          (answered_so O p i c k id w.world num S x more j n I.free (stays_of w.world x p k id j.last waited is)
+          (waited_gives w.world x p i c waited)
+          (λ up. now_up O p i c w.world j n now (gone_before O w.world num S x I.free p up)) later
+          (subst (λ (es : List WorldEvent). Once O p i c k id w.world es) events h))
         where
-          e : WorldEvent
-          e = next_for o p.node w
+          found : (x : WorldEvent) × (IsOne o w e x × (is_waited x ≡ true))
+          found = one_waited o w e (waits_for o p.node w) free
 
-          more : List WorldEvent
-          more = awaiting o p.node k most (happens o w e)
+          x : WorldEvent
+          x = found.0
 
-          on : List WorldEvent
-          on = e ∷ (if is_some (verdict_in p.node k (answers o w e)) then [] else more)
+          I : IsOne o w e x
+          I = found.1.0
 
-          go : (r : Option Refusal) → refusal o w e ≡ r → Once w (if is_some r then [] else on)
-              → (refusal o w e ≡ None → IsOf k id (tally_after o w e p i c j).last
-              → IsNow (happens o w e) (tally_after o w e p i c j) n → Once (happens o w e) more
-              → CountsSo (happens o w e) more (tally_after o w e p i c j) n)
-              → CountsSo w (if is_some r then [] else on) j n
-          go (Some r) refused h later = nothing w j n now
-          go None free h later = answered_so w num S e more j n free
-              (stays_of w e p k id j.last (waits_for o p.node w) is)
-              (waited_gives w e p i c (waits_for o p.node w))
-              (λ up. now_up w j n now (gone_before w num S e free p up)) (later free) h
+          waited : is_waited x ≡ true
+          waited = found.1.1
+
+          events : plain_events o w on
+              ≡ x ∷ (if is_some (verdict_in p.node k (answers O w.world x)) then [] else more)
+          events = one_then o w p.node k e x (awaiting o p.node k most v) I
+
+          after : Tally
+          after = tally_after O w.world x p i c j
+
+          counted : Numbers
+          counted = λ q y z. round_count_after O w.world x q y z (num q y z)
+
+          later : IsOf k id after.last → IsNow O p i c (happens O w.world x) after n
+              → Once O p i c k id (happens O w.world x) more → CountsSo O p i c k id (happens O w.world x) more after n
+          later of then_now h2 = subst (λ (u : World). CountsSo O p i c k id u more after n) I.world
+              (rest counted
+              (subst (λ (u : World). Behind O u counted) (sym I.world)
+              (event_keeps O (All O) (grounds O) w.world x num S)) after of
+              (subst (λ (u : World). IsNow O p i c u after n) (sym I.world) then_now)
+              (subst (λ (u : World). Once O p i c k id u more) (sym I.world) h2))
+
+      go : (r : Option NamedRefusal) → named_refusal o w e ≡ r
+          → Once O p i c k id w.world (plain_events o w (if is_some r then [] else on))
+          → CountsSo O p i c k id w.world (plain_events o w (if is_some r then [] else on)) j n
+      go (Some r) refused h = nothing O p i c k id w.world j n now
+      go None free h = accepted_so free h
+
+  -- so it is while the call waits
+  pub waited_so : (most : ℕ) (w : NamedWorld) (n : ℕ) → Waits most w n
+  waited_so zero w n = λ num S j is now once. nothing O p i c k id w.world j n now
+  waited_so (suc most) w n = waited_more most w n (waited_so most (happens_named o w (next_for o p.node w)) n)

@@ -3,12 +3,15 @@ use Rattle.std.specs.Prelude.{ℕ, ◌≡◌, List, ◌++◌, map}
 use Rattle.protocol_model.specs.World.{Opening, World, WorldEvent as AnyWorldEvent, opening_world, run}
 use Rattle.protocol_model.specs.Course.{course, answers_of, seen as shown}
 use Rattle.protocol_model.specs.Headline.{Headline}
+use Rattle.creations.specs.NodeNames.{NamedOpening}
+use Rattle.creations.specs.NamedWorld.{NamedEvent, after_events, as_events}
+use Rattle.creations.specs.Lifted.{events_played}
 use Rattle.node_core.specs.declared.Answer.{Answer}
 use Rattle.node_core.specs.NodeEventsSeen.{answer_of}
 use Rattle.world_events.specs.declared.events.WorldEvent.{WorldEvent}
-use Rattle.cluster_world.specs.Held.{Held}
 use Rattle.world_events.specs.Openings.{opening_with}
-use Rattle.cluster_world.specs.Seen.{opening_of, seen}
+use Rattle.cluster_world.specs.Held.{Held}
+use Rattle.cluster_world.specs.Seen.{names_of, opening_of, seen, named}
 use Rattle.cluster_world.specs.Playing.{events_of}
 
 -- the headline holds behind these events, of which the world now is
@@ -16,25 +19,24 @@ abbrev pub HeadlineAfter : Opening → List AnyWorldEvent → World → Type 0
 HeadlineAfter o es w = Headline o (course o (opening_world o) es) (shown o w)
 
 -- these events, from its opening on, made the world what it is
-abbrev pub IsRunOf : List AnyWorldEvent → Held → Type 0
-IsRunOf es h = seen h ≡ run (opening_of h) (opening_world (opening_of h)) es
+abbrev pub IsRunOf : List NamedEvent → Held → Type 0
+IsRunOf es h = named h ≡ after_events (names_of h) es
 
--- these events made the world what it is, and the headline holds behind them
-pub record AgreesAfter (es : List AnyWorldEvent) (h : Held) : Type 0 where
+-- these events made the world what it is, and the headline holds behind them: behind what they are in the world of all creations
+pub record AgreesAfter (es : List NamedEvent) (h : Held) : Type 0 where
   pub is_run : IsRunOf es h
-  pub headline : HeadlineAfter (opening_of h) es (seen h)
+  pub headline : HeadlineAfter (opening_of h) (as_events (names_of h) es) (seen h)
 
 -- behind the events before, these events of a world that opened so add these answers
-abbrev pub Adds : Opening → List AnyWorldEvent → List AnyWorldEvent → List Answer → Type 0
+abbrev pub Adds : NamedOpening → List NamedEvent → List NamedEvent → List Answer → Type 0
 Adds o before es given =
-    answers_of (course o (opening_world o) (before ++ es))
-    ≡ answers_of (course o (opening_world o) before) ++ map answer_of given
+    answers_of (events_played o (before ++ es)) ≡ answers_of (events_played o before) ++ map answer_of given
 
 -- Whatever made the old world what it was, that and then these events made the new one, the headline holds behind them
 -- all, and these are the answers that they add
 abbrev pub Agrees : List WorldEvent → List Answer → Held → Held → Type 0
-Agrees es given old new = (before : List AnyWorldEvent) → IsRunOf before old
-    → AgreesAfter (before ++ events_of es) new × Adds (opening_of old) before (events_of es) given
+Agrees es given old new = (before : List NamedEvent) → IsRunOf before old
+    → AgreesAfter (before ++ events_of es) new × Adds (names_of old) before (events_of es) given
 
 -- The headline of every world, whatever nodes it has and whichever of them are joined at first, after every list of events
 abbrev pub EveryWorldAgrees : Type 0

@@ -1,23 +1,20 @@
 -- What a world holds.
-use Rattle.std.specs.Prelude.{ℕ, ◌≡◌, List, map, All}
-use Rattle.term.specs.NodeSets.{IsNodeSet}
+use Rattle.std.specs.Prelude.{ℕ, true, false, ◌≡◌, List, map}
+use Rattle.std.specs.List.{All}
+use Rattle.term.specs.Nodes.{IsFirst}
+use Rattle.term.specs.NodeSets.{IsNodeSet, set_of, with_older}
 use Rattle.node_core.specs.Held.{Held as Core}
 use Rattle.world_history.specs.declared.entry.HistoryEntry.{HistoryEntry}
-use Rattle.cluster_world.specs.declared.mail.Mail.{Mail}
+use Rattle.cluster_world.specs.Mail.{Mailed, links_of}
 use Rattle.cluster_world.specs.Links.{AreFit}
-use Rattle.cluster_world.specs.Mail.{links_of}
 
 pub record Held : Type 0 where
-  pub nodes : List ℕ  -- rising
-  pub cluster : List ℕ  -- those of them that were joined at first
-  pub cores : List Core  -- one for each node, in the order of the nodes
-  pub links : Mail
+  pub cluster : List ℕ  -- the nodes that were joined at first, rising
+  pub cores : List Core  -- one for each node at present, in the order of the nodes
+  pub past : List Core  -- those of nodes that were replaced, as they were when they left
+  pub links : Mailed
   pub history : List HistoryEntry
 
--- the cores and the links are those of the nodes
-pub record IsWhole (h : Held) : Type 0 where
-  pub set : IsNodeSet h.nodes
-  pub names : map (λ c. c.name) h.cores ≡ h.nodes
-  pub worlds : All (λ c. c.world ≡ h.nodes) h.cores
-  pub links : h.links.mesh.nodes ≡ h.nodes
-  pub fit : AreFit h.nodes (links_of h.links)
+-- the nodes at present, one of each name, rising
+abbrev pub nodes_of : Held → List ℕ
+nodes_of h = h.links.nodes

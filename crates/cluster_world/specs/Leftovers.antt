@@ -2,18 +2,20 @@
 use Rattle.std.specs.Prelude.{ℕ, List, ◌++◌}
 use Rattle.protocol_model.specs.Leftovers.{NothingIsLeft, world}
 use Rattle.protocol_model.specs.World.{WorldEvent as AnyWorldEvent}
+use Rattle.creations.specs.NamedWorld.{NamedEvent}
+use Rattle.creations.specs.NamedLeftovers.{NothingIsLeftOfNames}
 use Rattle.world_events.specs.declared.events.WorldEvent.{WorldEvent}
 use Rattle.cluster_world.specs.Held.{Held}
 use Rattle.world_events.specs.Openings.{opening_with}
-use Rattle.cluster_world.specs.Seen.{opening_of, seen}
+use Rattle.cluster_world.specs.Seen.{names_of, named}
 use Rattle.cluster_world.specs.Playing.{events_of}
 use Rattle.cluster_world.specs.Agreeing.{IsRunOf}
 
 -- Whatever made the old world what it was, that and then these events made the new one, nothing is left over behind
 -- them all
 abbrev pub LeavesNothing : List WorldEvent → Held → Held → Type 0
-LeavesNothing es old new = (before : List AnyWorldEvent) → IsRunOf before old
-    → NothingIsLeft (opening_of new) (before ++ events_of es) (seen new)
+LeavesNothing es old new = (before : List NamedEvent) → IsRunOf before old
+    → NothingIsLeftOfNames (names_of new) (before ++ events_of es) (named new)
 
 -- So it is in every world, whatever nodes it has and whichever of them are joined at first, after every list of events
 abbrev pub EveryWorldLeavesNothing : Type 0

@@ -1,16 +1,24 @@
+pub use Rattle.creations.specs.NodeNames
+pub use Rattle.creations.specs.NamedWorld
+pub use Rattle.creations.specs.NamedScript
+pub use Rattle.creations.specs.NamedLeftovers
+pub use Rattle.creations.specs.NobodyBack
 pub use Rattle.node_core.specs.Held as NodeCoreHeld
 pub use Rattle.node_core.specs.NodeEventsSeen
 pub use Rattle.node_core.specs.Seen as NodeCoreSeen
 pub use Rattle.node_core.specs.Steps as NodeCoreSteps
 pub use Rattle.world_events.specs.Events
-pub use Rattle.world_events.specs.Openings
+pub use Rattle.world_events.specs.Openings as EventsOpenings
 pub use Rattle.world_events.specs.Refusals
 pub mod Links
 pub mod Mail
 pub mod Cores
 pub mod Histories
+pub mod Openings
 pub mod Held
 pub mod Seen
+pub mod Whole
+pub mod Restarting
 pub mod Steps
 pub mod Starting
 pub mod Playing

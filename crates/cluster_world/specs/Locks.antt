@@ -8,7 +8,9 @@ use Rattle.protocol_model.specs.World.{Opening, World, WorldEvent as AnyWorldEve
 use Rattle.world_events.specs.declared.events.WorldEvent.{WorldEvent}
 use Rattle.cluster_world.specs.Held.{Held}
 use Rattle.world_events.specs.Openings.{opening_with}
-use Rattle.cluster_world.specs.Seen.{opening_of, seen}
+use Rattle.creations.specs.NamedWorld.{NamedEvent, as_events}
+use Rattle.creations.specs.NamedQuietCalls.{NamedQuietCalls}
+use Rattle.cluster_world.specs.Seen.{names_of, opening_of, seen, named}
 use Rattle.cluster_world.specs.Playing.{events_of}
 use Rattle.cluster_world.specs.Agreeing.{IsRunOf}
 
@@ -20,8 +22,9 @@ LocksAfter o es w = ClientLocks o es w
 -- Whatever made the old world what it was, that and then these events made the new one, locks exclude each other and are
 -- answered so behind them all
 abbrev pub LocksBehind : List WorldEvent → Held → Held → Type 0
-LocksBehind es old new = (before : List AnyWorldEvent) → IsRunOf before old
-    → LocksAfter (opening_of new) (before ++ events_of es) (seen new)
+LocksBehind es old new = (before : List NamedEvent) → IsRunOf before old
+    → LocksAfter (opening_of new) (as_events (names_of new) (before ++ events_of es)) (seen new)
+    × NamedQuietCalls (names_of new) (before ++ events_of es) (named new)
 
 -- So it is in every world, whatever nodes it has and whichever of them are joined at first, after every list of
 -- events

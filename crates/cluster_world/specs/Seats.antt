@@ -3,7 +3,10 @@ use Rattle.std.specs.Prelude.{ℕ, zero, suc, Bool, true, false, ◌+◌, ◌==�
 use Rattle.registry_model.specs.Process.{Process}
 use Rattle.registry_model.specs.Call.{Reply as AnyReply, True, False}
 use Rattle.protocol_model.specs.Event.{Event as AnyEvent, Answer as AnyAnswer}
-use Rattle.protocol_model.specs.World.{Opening, World, WorldEvent as AnyWorldEvent, refusal, happens, answers, run, all_answers, next_delivery}
+use Rattle.protocol_model.specs.World.{World}
+use Rattle.creations.specs.NodeNames.{NamedOpening}
+use Rattle.creations.specs.NamedWorld.{NamedWorld, NamedEvent, named_refusal, happens_named, named_answers, run_named}
+use Rattle.creations.specs.NamedScript.{next_named}
 use Rattle.transaction.specs.Calls.{is_named}
 use Rattle.transaction.specs.declared.reply.LockReply.{LockReply}
 use Rattle.node_core.specs.declared.Answer.{Answer}
@@ -18,10 +21,10 @@ use Rattle.cluster_world.specs.declared.seat.SeatFault.{SeatFault}
 use Rattle.cluster_world.specs.declared.seat.SeatFault.TheVariants.{Refused, NoMemory, NoAnswer}
 use Rattle.cluster_world.specs.Held.{Held}
 use Rattle.world_events.specs.declared.refusal.Refusal.{Refusal}
-use Rattle.world_events.specs.Events.{event_of}
+use Rattle.world_events.specs.Events.{named_event}
 use Rattle.world_events.specs.Refusals.{is_memory, out_of_memory}
-use Rattle.cluster_world.specs.Seen.{opening_of, seen}
-use Rattle.cluster_world.specs.Playing.{Played, RefusedWith, events_of, accepts_all}
+use Rattle.cluster_world.specs.Seen.{names_of, seen, named}
+use Rattle.cluster_world.specs.Playing.{Played, RefusedWith, events_of, accepts_all, answers_to_all}
 use Rattle.cluster_world.specs.Agreeing.{Agrees}
 use Rattle.cluster_world.specs.Locks.{LocksBehind}
 use Rattle.cluster_world.specs.Leftovers.{LeavesNothing}
@@ -52,41 +55,41 @@ next_number a w = (w.node a).last_call + 1
 
 -- what a call of node a waits for: the delivery that `settle` makes next, and where all links are empty a retry of its
 -- node
-abbrev pub next_for : Opening → ℕ → World → AnyWorldEvent
-next_for o a w = elim (next_delivery o w) [ None ↦ AnyWorldEvent.At a AnyEvent.Retry | Some e ↦ e ]
+abbrev pub next_for : NamedOpening → ℕ → NamedWorld → NamedEvent
+next_for o a w = elim (next_named o w) [ None ↦ NamedEvent.AtNode a AnyEvent.Retry | Some e ↦ e ]
 
 -- it was played, and gave these answers
 pub record PlaysNext (a : ℕ) (old new : Held) (given : List Answer) : Type 0 where
   pub event : WorldEvent
-  pub next : event_of event ≡ next_for (opening_of old) a (seen old)
+  pub next : named_event event ≡ next_for (names_of old) a (named old)
   pub played : Played event old new [] given
 
 -- or it was refused
 pub record RefusesNext (a : ℕ) (old : Held) (why : Refusal) : Type 0 where
   pub event : WorldEvent
-  pub next : event_of event ≡ next_for (opening_of old) a (seen old)
+  pub next : named_event event ≡ next_for (names_of old) a (named old)
   pub refused : RefusedWith why event old
 
 -- that again and again, until call k is answered or that is refused; at most this many
-abbrev pub awaiting : Opening → ℕ → ℕ → ℕ → World → List AnyWorldEvent
+abbrev pub awaiting : NamedOpening → ℕ → ℕ → ℕ → NamedWorld → List NamedEvent
 awaiting o a k zero w = []
 awaiting o a k (suc most) w =
-    if is_some (refusal o w (next_for o a w))
+    if is_some (named_refusal o w (next_for o a w))
     then []
-    else next_for o a w ∷ (if is_some (verdict_in a k (answers o w (next_for o a w)))
+    else next_for o a w ∷ (if is_some (verdict_in a k (named_answers o w (next_for o a w)))
     then []
-    else awaiting o a k most (happens o w (next_for o a w)))
+    else awaiting o a k most (happens_named o w (next_for o a w)))
 
 -- an event that makes call k of node a, and then what is played until that is answered; at most this many
-abbrev pub until_answered : Opening → ℕ → ℕ → ℕ → World → AnyWorldEvent → List AnyWorldEvent
+abbrev pub until_answered : NamedOpening → ℕ → ℕ → ℕ → NamedWorld → NamedEvent → List NamedEvent
 until_answered o a k most w e =
-    e ∷ (if is_some (verdict_in a k (answers o w e)) then [] else awaiting o a k most (happens o w e))
+    e ∷ (if is_some (verdict_in a k (named_answers o w e)) then [] else awaiting o a k most (happens_named o w e))
 
 -- these events were accepted and played, with these answers
 pub record WentThrough (es : List WorldEvent) (old new : Held) (given : List Answer) : Type 0 where
-  pub accepted : accepts_all (opening_of old) (seen old) (events_of es) ≡ true
-  pub world : seen new ≡ run (opening_of old) (seen old) (events_of es)
-  pub answers : map answer_of given ≡ all_answers (opening_of old) (seen old) (events_of es)
+  pub accepted : accepts_all (names_of old) (named old) (events_of es) ≡ true
+  pub world : named new ≡ run_named (names_of old) (named old) (events_of es)
+  pub answers : map answer_of given ≡ answers_to_all (names_of old) (named old) (events_of es)
 
 -- these events, at most so many, were played while call k of node a wasn't answered, and this is what it was answered
 -- then, if it was
@@ -94,7 +97,7 @@ pub record Waited (a k most : ℕ) (old new : Held) (verdict : Option Bool) : Ty
   pub events : List WorldEvent
   pub given : List Answer
   pub played : WentThrough events old new given
-  pub are : events_of events ≡ awaiting (opening_of old) a k most (seen old)
+  pub are : events_of events ≡ awaiting (names_of old) a k most (named old)
   pub answered : verdict_in a k (map answer_of given) ≡ verdict
 
 -- what waiting comes to; where memory is refused, the events until then were played
@@ -112,8 +115,8 @@ pub record Called (a : ℕ) (c : Call) (most : ℕ) (old new : Held) (verdict : 
   pub events : List WorldEvent
   pub given : List Answer
   pub played : WentThrough events old new given
-  pub are : events_of events ≡ until_answered (opening_of old) a (next_number a (seen old)) most (seen old)
-      (AnyWorldEvent.At a (AnyEvent.Calling (call_of c)))
+  pub are : events_of events ≡ until_answered (names_of old) a (next_number a (seen old)) most (named old)
+      (NamedEvent.AtNode a (AnyEvent.Calling (call_of c)))
   pub answered : verdict_in a (next_number a (seen old)) (map answer_of given) ≡ verdict
   pub agrees : Agrees events given old new
   pub locks : LocksBehind events old new
@@ -130,7 +133,7 @@ names_nodes _ = false
 -- stands
 abbrev pub HasBegun : ℕ → Call → Held → Held → Type 0
 HasBegun a c old new =
-    (seen new ≡ seen old) ⊎ ((most : ℕ) × (most ≤ most_events) × Called a c most old new None)
+    (named new ≡ named old) ⊎ ((most : ℕ) × (most ≤ most_events) × Called a c most old new None)
 
 -- why a call got no reply: it was refused as the protocol refuses it, which changes nothing; or it was accepted, and
 -- memory was refused; or it names nodes and there was no memory to make it; or no answer came

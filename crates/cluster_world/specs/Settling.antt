@@ -1,32 +1,34 @@
 -- The deliveries of a `settle`, one by one.
-use Rattle.std.specs.Prelude.{ℕ, false, ◌≡◌, Option, Some, None, List, [], ◌∷◌}
-use Rattle.protocol_model.specs.Links.{is_nil}
-use Rattle.protocol_model.specs.World.{refusal, Deliver as AnyDeliver}
-use Rattle.link.specs.declared.link_place.LinkPlace.{LinkPlace}
-use Rattle.link.specs.Held.{from_of, to_of, IsWithin}
+use Rattle.std.specs.Prelude.{ℕ, ◌≡◌, Some, None, List, [], ◌∷◌}
+use Rattle.creations.specs.NamedWorld.{named_refusal}
 use Rattle.node_core.specs.declared.Answer.{Answer}
 use Rattle.world_events.specs.declared.events.WorldEvent.TheVariants.{Deliver}
+use Rattle.world_events.specs.Events.{named_event}
 use Rattle.cluster_world.specs.Agreeing.{Agrees}
-use Rattle.cluster_world.specs.Held.{Held}
+use Rattle.term.specs.Nodes.{name_of}
+use Rattle.link.specs.Held.{place}
+use Rattle.cluster_world.specs.Held.{Held, nodes_of}
+use Rattle.cluster_world.specs.Links.{IsFirstSender}
+use Rattle.cluster_world.specs.Mail.{links_of}
+use Rattle.cluster_world.specs.Steps.{IsAdmitted}
 use Rattle.cluster_world.specs.Leftovers.{LeavesNothing}
 use Rattle.cluster_world.specs.Locks.{LocksBehind}
-use Rattle.cluster_world.specs.Mail.{links_of}
 use Rattle.cluster_world.specs.Playing.{Played, WaitsOn}
-use Rattle.cluster_world.specs.Seen.{opening_of, seen}
+use Rattle.cluster_world.specs.Seen.{names_of, named}
 
--- the delivery that `settle` makes next is that of the link at this place
-abbrev pub WaitsOnLink : Option LinkPlace → Held → Type 0
-WaitsOnLink None h = WaitsOn None h
-WaitsOnLink (Some k) h = IsWithin k h.links.mesh
-    × (is_nil ((links_of h.links).queue (from_of k h.links.mesh) (to_of k h.links.mesh)) ≡ false)
-    × WaitsOn (Some (from_of k h.links.mesh, to_of k h.links.mesh)) h
+-- the letter that is delivered next: node f sent it, and node t, which stands at this place, is to read it
+pub record IsNextLetter (p f t : ℕ) (h : Held) : Type 0 where
+  pub first : IsFirstSender (name_of f) t (Some f) (links_of h.links)
+  pub receiver : place t (nodes_of h) ≡ Some p
+  pub admitted : IsAdmitted p (Deliver (name_of f) (name_of t)) h
+  pub next : WaitsOn (Some (name_of f, name_of t)) h
 
--- `settle` makes a delivery next, which the protocol accepts
+-- `settle` makes a delivery next, from name to name, which the protocol accepts
 pub record HasNext (h : Held) : Type 0 where
   pub sender : ℕ
   pub receiver : ℕ
   pub next : WaitsOn (Some (sender, receiver)) h
-  pub accepted : refusal (opening_of h) (seen h) (AnyDeliver sender receiver) ≡ None
+  pub accepted : named_refusal (names_of h) (named h) (named_event (Deliver sender receiver)) ≡ None
 
 -- it was made, and gave these answers; and so all holds behind it that does behind an event that is played
 pub record DeliversNext (old new : Held) (given : List Answer) : Type 0 where

@@ -3,7 +3,7 @@ ghost use Rattle.std.specs.Prelude.{◌≡◌, ◌≤◌, ◌++◌, length, map}
 ghost use Rattle.protocol_model.specs.World.{number_in};
 ghost use Rattle.node_core.specs.NodeEventsSeen.{entry_by};
 ghost use Rattle.node_core.specs.Seen.{node_of};
-ghost use Rattle.world_history.specs.Histories.{entry_of};
+ghost use Rattle.world_history.specs.Histories.{entries_of};
 ghost use Rattle.cluster_world.specs.Cores.{core_of};
 ghost use Rattle.cluster_world.specs.Histories.{number_of, number_at};
 
@@ -75,8 +75,8 @@ pub(crate) fn enter_all<N: Names<Memory = Global>>(
     own: u32,
 )
     requires { length entries.old.items ≤ history.old.room }
-    ensures { map entry_of history.new.entries
-        ≡ map entry_of history.old.entries ++ map (entry_by (number_at cores.now stepped.now own)) entries.old.items }
+    ensures { entries_of history.new.entries
+        ≡ entries_of history.old.entries ++ map (entry_by (number_at cores.now stepped.now own)) entries.old.items }
 {
     for mut entry in entries.drain(..) {
         let number = number_for(&entry, cores, stepped, own);

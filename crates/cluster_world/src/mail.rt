@@ -1,19 +1,36 @@
 //! What is on the links of a world, and what was sent and isn't there yet.
-ghost use Rattle.std.specs.Prelude.{◌≡◌, true, not, None, OnOk};
-ghost use Rattle.std.specs.List.{slice_get};
+ghost use Rattle.std.specs.Prelude.{◌≡◌, true, false, not, None, Some, [], OnOk, IfOk, MatchOption};
+ghost use Rattle.std.specs.List.{All, slice_get};
 ghost use Rattle.std.specs.Option.{option_copied};
-ghost use Rattle.protocol_model.specs.Links.{Links, is_nil, posted, taken, closed_out};
-ghost use Rattle.link.specs.Held.{has, from_of, to_of, IsWithin, seen as on_mesh};
-ghost use Rattle.cluster_world.specs.Links.{letters_to, with_unsent, lesser, earlier, WaitsFirst, IsLeastOpen};
-ghost use Rattle.cluster_world.specs.Mail.{links_of};
+ghost use Rattle.protocol_model.specs.Links.{no_letters, is_nil, posted, taken, closed_out};
+ghost use Rattle.term.specs.Nodes.{IsFirst, name_of};
+ghost use Rattle.term.specs.NodeSets.{set_of, names_in, with_older, succeeded};
+ghost use Rattle.cluster_world.specs.NodeCoreHeld.{HaveLeft, IsNext};
+ghost use Rattle.cluster_world.specs.Links.{letters_to, rest_as, lesser, earlier, IsFirstSender, IsLeastOpen, WaitsFirst};
+ghost use Rattle.cluster_world.specs.Mail.{on_links, links_of};
 
-use link::{LinkPlace, Mesh};
+use link::Mesh;
 use std::alloc::{AllocError, Global};
 use std::collections::VecDeque;
 use std::marker::Model;
 use std::mem;
-use term::Node;
+use term::{Node, NodeName, NodeSet};
 use world_events::Letter;
+
+/// A letter on the link between two names, and which node of the first name has sent it.
+#[derive(Drop)]
+pub(crate) struct Sent {
+    sender: Node,
+    letter: Letter,
+}
+
+impl Model for Sent {
+    ghost use Rattle.cluster_world.specs.Links.{SentLetter};
+
+    ghost Value = { SentLetter };
+
+    ghost view = { λ s. record { sender = s.sender; letter = s.letter } };
+}
 
 /// Letters that a node has sent and that memory on their links was refused for, in their order, with their receivers.
 #[derive(Drop)]
@@ -30,35 +47,39 @@ impl Model for Outbox {
     ghost view = { λ o. record { sender = o.sender; letters = o.letters.items } };
 }
 
-/// The links between the nodes of a world: the mesh, and what the last step sent that isn't on it yet. Whoever looks at a link sees
-/// both.
+/// The links between the nodes of a world: a mesh of their names, and what the last step sent that isn't on it yet. Whoever looks at a
+/// link sees both. On the link from one name to another stands what the nodes of the first have sent to the present node of the second.
 #[derive(Drop)]
 pub(crate) struct Mail {
-    pub(crate) mesh: Mesh<Letter>,
-    pub(crate) unsent: Option<Outbox>,
+    /// The nodes at present, one of each name.
+    nodes: NodeSet,
+    /// Of each name the last node that has left; all older ones have, too.
+    departed: NodeSet,
+    /// The links between the names, each of which stands there as its first node.
+    mesh: Mesh<Sent>,
+    unsent: Option<Outbox>,
 }
 
-/// Puts letters of a node at the back of the links to their receivers, in order, and takes them out of the list. Those that memory is
-/// refused for stay there.
-fn send_all(mesh: &mut Mesh<Letter>, sender: &Node, letters: &mut VecDeque<(Node, Letter)>)
-    ensures nodes { mesh.new.nodes ≡ mesh.old.nodes }
-    ensures links { posted sender.now (λ t. letters_to t letters.new.items) (on_mesh mesh.new)
-        ≡ posted sender.now (λ t. letters_to t letters.old.items) (on_mesh mesh.old) }
+impl Model for Mail {
+    ghost use Rattle.cluster_world.specs.Mail.{Mailed, IsSound};
+
+    ghost Value = { Mailed };
+
+    ghost view = { λ m. record { nodes = m.nodes; departed = m.departed; mesh = m.mesh; unsent = m.unsent } };
+
+    ghost invariant = { λ m. IsSound (record { nodes = m.nodes; departed = m.departed; mesh = m.mesh; unsent = m.unsent }) };
+}
+
+/// The node that stands for a node's name on the mesh.
+fn on_mesh(node: &Node) -> Node
+    ensures { result ≡ name_of node.now }
 {
-    let Some(place) = mesh.place(sender) else {
-        return;
-    };
-    while let Some((receiver, letter)) = letters.pop_front() {
-        if let Err(unsent) = mesh.send_from(place, &receiver, letter) {
-            letters.push_front_reserved((receiver, unsent.letter));
-            return;
-        }
-    }
+    Node::first(node.name().copy())
 }
 
 /// Takes what is left of a node's letters, if anything is.
 fn rest_of(sender: &Node, letters: &mut VecDeque<(Node, Letter)>) -> Option<Outbox>
-    ensures { (w : Links Letter) → with_unsent result w ≡ posted sender.now (λ t. letters_to t letters.old.items) w }
+    ensures { result ≡ rest_as sender.now letters.old.items }
 {
     if letters.is_empty() {
         return None;
@@ -84,13 +105,13 @@ impl Outbox {
         false
     }
 
-    /// The least node, of those that weren't closed out, that a letter waits for here.
-    fn first_receiver(&self, mesh: &Mesh<Letter>) -> Option<Node>
-        ensures { IsLeastOpen (on_mesh mesh.now).closed self.now.letters result }
+    /// The least node, of those that haven't left, that a letter waits for here.
+    fn first_receiver(&self, departed: &NodeSet) -> Option<Node>
+        ensures { IsLeastOpen (with_older departed.now) self.now.letters result }
     {
         let mut first = None;
         for (to, _) in &self.letters {
-            if mesh.is_closed(to) {
+            if departed.reaches(to) {
                 continue;
             }
             first = Some(lesser(first, to));
@@ -109,7 +130,7 @@ fn lesser(first: Option<Node>, node: &Node) -> Node
     }
 }
 
-/// The earlier of two links, by sender and then receiver, of which there may be none.
+/// The earlier of two links, by the names of sender and then receiver, of which there may be none.
 fn earlier(
     first: Option<(Node, Node)>,
     sender: &Node,
@@ -121,7 +142,9 @@ fn earlier(
         return first;
     };
     match first {
-        Some((from, to)) if from < *sender || (from == *sender && to < receiver) => {
+        Some((from, to))
+            if from.name() < sender.name()
+                || (from.name() == sender.name() && to.name() <= receiver.name()) => {
             Some((from, to))
         }
         _ => Some((sender.copy(), receiver)),
@@ -129,65 +152,124 @@ fn earlier(
 }
 
 impl Mail {
-    /// Whether a node was closed out.
+    /// No letters between these nodes, the first ones of their names, of which none has left.
+    pub(crate) fn new(alloc: Global, nodes: &NodeSet) -> Result<Self, AllocError>
+        requires first { All IsFirst nodes.now }
+        ensures nodes { IfOk result (λ mail. mail.nodes ≡ nodes.now) }
+        ensures departed { IfOk result (λ mail. mail.departed ≡ []) }
+        ensures links { IfOk result (λ mail. links_of mail ≡ no_letters) }
+        ensures all { IfOk result (λ mail. mail.unsent ≡ None) }
+    {
+        Ok(Mail {
+            nodes: nodes.copy(),
+            departed: NodeSet::empty(),
+            mesh: Mesh::new(alloc, nodes.as_slice())?,
+            unsent: None,
+        })
+    }
+
+    /// The nodes at present, one of each name.
+    pub(crate) fn nodes(&self) -> &NodeSet
+        ensures nodes { result.now ≡ self.now.nodes }
+        ensures left { HaveLeft self.now.nodes self.now.departed }
+    {
+        &self.nodes
+    }
+
+    /// Of each name the last node that has left; all older ones have, too.
+    pub(crate) fn departed(&self) -> &NodeSet
+        ensures departed { result.now ≡ self.now.departed }
+        ensures left { HaveLeft self.now.nodes self.now.departed }
+    {
+        &self.departed
+    }
+
+    /// The node at present that has this name.
+    pub(crate) fn present(&self, name: &NodeName) -> Option<&Node>
+        ensures { MatchOption result (names_in self.now.nodes name.now ≡ false)
+            (λ node. (set_of self.now.nodes node.now ≡ true) × (name_of node.now ≡ name.now)) }
+    {
+        for node in self.nodes.as_slice() {
+            if node.name() == name {
+                return Some(node);
+            }
+        }
+        None
+    }
+
+    /// Whether a node has left.
     pub(crate) fn has_left(&self, node: &Node) -> bool
         ensures { result ≡ (links_of self.now).closed node.now }
     {
-        self.mesh.is_closed(node)
+        self.departed.reaches(node)
     }
 
-    /// Whether nothing is on a link.
-    pub(crate) fn is_empty(&self, link: LinkPlace) -> bool
-        requires { IsWithin link self.now.mesh }
-        ensures { result ≡ is_nil ((links_of self.now).queue (from_of link self.now.mesh) (to_of link self.now.mesh)) }
+    /// Which node of this name has sent the oldest letter that waits for a node at present, if one does.
+    pub(crate) fn first_sender(&self, name: &NodeName, receiver: &Node) -> Option<Node>
+        requires { set_of self.now.nodes receiver.now ≡ true }
+        ensures first { IsFirstSender name.now receiver.now result (links_of self.now) }
+        ensures left { HaveLeft self.now.nodes self.now.departed }
     {
-        if !self.mesh.is_empty_at(link) {
-            return false;
+        if let Some(oldest) = self
+            .mesh
+            .front(&Node::first(name.copy()), &on_mesh(receiver))
+        {
+            return Some(oldest.sender.copy());
         }
-        match &self.unsent {
-            Some(outbox) => {
-                let (sender, receiver) = self.mesh.ends(link);
-                outbox.sender != sender
-                    || self.mesh.is_closed(&receiver)
-                    || !outbox.has_for(&receiver)
-            }
-            None => true,
+        let Some(outbox) = &self.unsent else {
+            return None;
+        };
+        if outbox.sender.name() == name && !self.has_left(receiver) && outbox.has_for(receiver) {
+            return Some(outbox.sender.copy());
         }
+        None
     }
 
-    /// The first link, by sender and then receiver, on which a letter waits.
+    /// The first link on which a letter waits, by the name of its sender and then of its receiver: the node that sent the oldest letter
+    /// on it, and the one that is to read it.
     pub(crate) fn first_waiting(&self) -> Option<(Node, Node)>
         ensures { WaitsFirst result (links_of self.now) }
     {
         let Some(outbox) = &self.unsent else {
-            return self.mesh.first_waiting();
+            return self.first_on_mesh();
         };
         earlier(
-            self.mesh.first_waiting(),
+            self.first_on_mesh(),
             &outbox.sender,
-            outbox.first_receiver(&self.mesh),
+            outbox.first_receiver(&self.departed),
         )
     }
 
-    /// The oldest letter on a link, where all letters are on theirs.
-    pub(crate) fn front(&self, link: LinkPlace) -> Option<&Letter>
-        requires all { self.now.unsent ≡ None }
-        requires within { IsWithin link self.now.mesh }
-        ensures { option_copied result
-            ≡ slice_get ((links_of self.now).queue (from_of link self.now.mesh) (to_of link self.now.mesh)) 0 }
+    /// The same of the letters that are on their links.
+    fn first_on_mesh(&self) -> Option<(Node, Node)>
+        ensures { WaitsFirst result (on_links self.now) }
     {
-        self.mesh.front_at(link)
+        let link = self.mesh.first_link()?;
+        let (_, to) = self.mesh.ends(link);
+        let from = self.mesh.front_at(link)?.sender.copy();
+        let receiver = self.present(to.name())?;
+        Some((from, receiver.copy()))
+    }
+
+    /// The oldest letter on the link from a name, which this node of it has sent, to a node at present; all letters are on their links.
+    pub(crate) fn front(&self, sender: &Node, receiver: &Node) -> Option<&Letter>
+        requires all { self.now.unsent ≡ None }
+        requires present { set_of self.now.nodes receiver.now ≡ true }
+        requires first { IsFirstSender (name_of sender.now) receiver.now (Some sender.now) (links_of self.now) }
+        ensures { option_copied result ≡ slice_get ((links_of self.now).queue sender.now receiver.now) 0 }
+    {
+        let oldest = self.mesh.front(&on_mesh(sender), &on_mesh(receiver))?;
+        Some(&oldest.letter)
     }
 
     /// Puts what isn't on its link yet there. Where memory is refused the rest waits on, and no letter is lost.
     pub(crate) fn drain(&mut self) -> Result<(), AllocError>
-        ensures nodes { self.new.mesh.nodes ≡ self.old.mesh.nodes }
+        ensures nodes { self.new.nodes ≡ self.old.nodes }
+        ensures departed { self.new.departed ≡ self.old.departed }
         ensures links { links_of self.new ≡ links_of self.old }
+        ensures left { HaveLeft self.old.nodes self.old.departed }
         ensures all { OnOk result (self.new.unsent ≡ None) }
     {
-        if self.unsent.is_none() {
-            return Ok(());
-        }
         let Some(mut outbox) = self.unsent.take() else {
             return Ok(());
         };
@@ -198,37 +280,89 @@ impl Mail {
         }
     }
 
-    /// Takes the oldest letter off a link, if there is one. It takes no memory.
-    pub(crate) fn take(&mut self, link: LinkPlace)
+    /// Takes the oldest letter off the link from a name, which this node of it has sent, to a node at present. It takes no memory.
+    pub(crate) fn take(&mut self, sender: &Node, receiver: &Node)
         requires all { self.old.unsent ≡ None }
-        requires within { IsWithin link self.old.mesh }
-        ensures nodes { self.new.mesh.nodes ≡ self.old.mesh.nodes }
-        ensures links { links_of self.new ≡ taken (from_of link self.old.mesh) (to_of link self.old.mesh) (links_of self.old) }
+        requires present { set_of self.old.nodes receiver.now ≡ true }
+        requires first { IsFirstSender (name_of sender.now) receiver.now (Some sender.now) (links_of self.old) }
+        ensures nodes { self.new.nodes ≡ self.old.nodes }
+        ensures departed { self.new.departed ≡ self.old.departed }
+        ensures links { links_of self.new ≡ taken sender.now receiver.now (links_of self.old) }
         ensures all { self.new.unsent ≡ None }
     {
-        let _ = self.mesh.take_at(link);
+        let _ = self.mesh.deliver(&on_mesh(sender), &on_mesh(receiver));
+    }
+
+    /// Puts letters of a node at present at the back of the links to their receivers, in order, and takes them out of the list. Those
+    /// that memory is refused for stay there; what goes to one that has left vanishes.
+    fn send_all(&mut self, sender: &Node, letters: &mut VecDeque<(Node, Letter)>)
+        requires sender { set_of self.old.nodes sender.now ≡ true }
+        requires within { All (λ s. with_older self.old.nodes s.0 ≡ true) letters.old.items }
+        ensures nodes { self.new.nodes ≡ self.old.nodes }
+        ensures departed { self.new.departed ≡ self.old.departed }
+        ensures unsent { self.new.unsent ≡ self.old.unsent }
+        ensures left { All (λ s. with_older self.old.nodes s.0 ≡ true) letters.new.items }
+        ensures links { posted sender.now (λ t. letters_to t letters.new.items) (on_links self.new)
+            ≡ posted sender.now (λ t. letters_to t letters.old.items) (on_links self.old) }
+    {
+        let Some(place) = self.mesh.place(&on_mesh(sender)) else {
+            return;
+        };
+        while let Some((receiver, letter)) = letters.pop_front() {
+            if self.departed.reaches(&receiver) {
+                continue;
+            }
+            let sent = Sent {
+                sender: sender.copy(),
+                letter,
+            };
+            if let Err(unsent) = self.mesh.send_from(place, &on_mesh(&receiver), sent) {
+                letters.push_front_reserved((receiver, unsent.letter.letter));
+                return;
+            }
+        }
     }
 
     /// Puts each of these letters at the back of the link to its receiver. Those that memory is refused for are kept until there is
     /// some: nothing is refused, and no letter is lost. The memory of the list stays its own where it can.
     pub(crate) fn post(&mut self, sender: &Node, letters: &mut Vec<(Node, Letter)>)
-        requires { self.old.unsent ≡ None }
-        ensures nodes { self.new.mesh.nodes ≡ self.old.mesh.nodes }
+        requires all { self.old.unsent ≡ None }
+        requires sender { set_of self.old.nodes sender.now ≡ true }
+        requires within { All (λ s. with_older self.old.nodes s.0 ≡ true) letters.old.items }
+        ensures nodes { self.new.nodes ≡ self.old.nodes }
+        ensures departed { self.new.departed ≡ self.old.departed }
         ensures links { links_of self.new ≡ posted sender.now (λ t. letters_to t letters.old.items) (links_of self.old) }
     {
         let alloc: Global = *letters.allocator();
         let mut waiting = VecDeque::from(mem::replace(letters, Vec::new(alloc)));
-        send_all(&mut self.mesh, sender, &mut waiting);
+        self.send_all(sender, &mut waiting);
         self.unsent = rest_of(sender, &mut waiting);
         *letters = Vec::from(waiting);
     }
 
-    /// Empties all links towards a node, for good. It takes no memory.
+    /// A node at present has left: all links towards it are empty, until its name comes back. It takes no memory.
     pub(crate) fn close_out(&mut self, node: &Node)
-        requires { has node.now self.old.mesh ≡ true }
-        ensures nodes { self.new.mesh.nodes ≡ self.old.mesh.nodes }
+        requires present { set_of self.old.nodes node.now ≡ true }
+        ensures nodes { self.new.nodes ≡ self.old.nodes }
         ensures links { links_of self.new ≡ closed_out node.now (links_of self.old) }
     {
-        let _ = self.mesh.close_out(node);
+        let _ = self.mesh.close_out(&on_mesh(node));
+        let alone = NodeSet::one(node.copy());
+        self.departed = self.departed.last_within(&alone, &self.nodes);
+    }
+
+    /// The name of a node that has left has come back: the next node of it is at present, and nothing waits for that. It takes no memory.
+    pub(crate) fn reopen(&mut self, older: &Node, next: &Node)
+        requires all { self.old.unsent ≡ None }
+        requires next { IsNext older.now next.now }
+        requires present { set_of self.old.nodes older.now ≡ true }
+        requires left { with_older self.old.departed older.now ≡ true }
+        ensures nodes { self.new.nodes ≡ succeeded older.now next.now self.old.nodes }
+        ensures departed { self.new.departed ≡ self.old.departed }
+        ensures links { links_of self.new ≡ links_of self.old }
+        ensures all { self.new.unsent ≡ None }
+    {
+        let _ = self.mesh.reopen(&on_mesh(older));
+        self.nodes = self.nodes.with_next(older, next);
     }
 }

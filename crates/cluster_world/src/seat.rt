@@ -85,14 +85,16 @@ fn no_answer(refusal: &Refusal) -> SeatFault
 }
 
 impl<N: Names<Memory = Global>> World<N> {
-    ghost use Rattle.std.specs.Prelude.{Some, OnErr, IfOk, IfErr};
+    ghost use Rattle.std.specs.Prelude.{true, Some, OnErr, IfOk, IfErr};
+    ghost use Rattle.term.specs.NodeSets.{set_of};
+    ghost use Rattle.cluster_world.specs.Held.{nodes_of};
     ghost use Rattle.cluster_world.specs.Playing.{Keeps};
     ghost use Rattle.cluster_world.specs.Seats.{next_number, PlaysNext, RefusesNext, HasWaited};
-    ghost use Rattle.cluster_world.specs.Seen.{seen};
+    ghost use Rattle.cluster_world.specs.Seen.{seen, named};
 
-    /// The number of the node's next numbered call.
+    /// The number of the next numbered call of a node at present.
     fn next_number(&self, node: &Node) -> u64
-        ensures { result ≡ next_number node.now (seen self.now) }
+        ensures { set_of (nodes_of self.now) node.now ≡ true → result ≡ next_number node.now (seen self.now) }
     {
         let last = match self.core(node) {
             Some(core) => core.last_call(),
@@ -106,7 +108,7 @@ impl<N: Names<Memory = Global>> World<N> {
         ensures kept { Keeps self.old self.new }
         ensures ok { IfOk result (λ answers. PlaysNext node.now self.old self.new answers.items) }
         ensures refused { IfErr result (λ refusal. RefusesNext node.now self.old refusal) }
-        ensures as_before { OnErr result (seen self.new ≡ seen self.old) }
+        ensures as_before { OnErr result (named self.new ≡ named self.old) }
     {
         match self.deliver_next() {
             Ok(Some(answers)) => Ok(answers),

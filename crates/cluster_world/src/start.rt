@@ -1,17 +1,21 @@
 //! How a world is started.
 ghost use Rattle.std.specs.Prelude.{◌≡◌, [], None, map, IfOk, IfErr};
-ghost use Rattle.protocol_model.specs.World.{opening_world};
+ghost use Rattle.std.specs.List.{All};
+ghost use Rattle.creations.specs.NamedLeftovers.{NothingIsLeftOfNames};
+ghost use Rattle.creations.specs.NamedWorld.{opening_named};
+ghost use Rattle.term.specs.Nodes.{IsFirst};
+ghost use Rattle.term.specs.NodeSets.{IsNodeSet};
 ghost use Rattle.world_events.specs.Openings.{opening_core, start_refused, start_fault_of};
-ghost use Rattle.cluster_world.specs.Seen.{opening_of, seen};
+ghost use Rattle.cluster_world.specs.Held.{nodes_of};
+ghost use Rattle.cluster_world.specs.Seen.{names_of, opening_of, seen, named};
 ghost use Rattle.cluster_world.specs.Agreeing.{AgreesAfter};
 ghost use Rattle.cluster_world.specs.Locks.{LocksAfter};
-ghost use Rattle.protocol_model.specs.Leftovers.{NothingIsLeft};
 ghost use Rattle.cluster_world.specs.Starting.{Opens};
 
 use crate::mail::Mail;
 use crate::world::World;
-use link::Mesh;
 use name_table::Names;
+use past::Log;
 use std::alloc::{AllocError, Global};
 use term::NodeName;
 use world_events::{NodeCore, Opening, StartFault, Turn};
@@ -22,7 +26,8 @@ fn cores_of<N: Names<Memory = Global>>(
     alloc: Global,
     opening: &Opening,
 ) -> Result<Vec<NodeCore<N>>, AllocError>
-    ensures { IfOk result (λ cores. cores.items ≡ map (opening_core opening.now.nodes opening.now.cluster) opening.now.nodes) }
+    ensures cores { IfOk result (λ cores. cores.items ≡ map (opening_core opening.now.nodes opening.now.cluster) opening.now.nodes) }
+    ensures set { IfOk result (λ cores. IsNodeSet opening.now.nodes) }
 {
     let mut cores = Vec::new(alloc);
     for node in opening.nodes().as_slice() {
@@ -41,22 +46,23 @@ impl<N: Names<Memory = Global>> World<N> {
         lone: &[NodeName],
     ) -> Result<World<N>, StartFault>
         ensures nodes { IfOk result (λ world. Opens cluster.now lone.now world) }
-        ensures world { IfOk result (λ world. seen world ≡ opening_world (opening_of world)) }
+        ensures world { IfOk result (λ world. named world ≡ opening_named (names_of world)) }
         ensures agrees { IfOk result (λ world. AgreesAfter [] world) }
         ensures locks { IfOk result (λ world. LocksAfter (opening_of world) [] (seen world)) }
-        ensures leaves_nothing { IfOk result (λ world. NothingIsLeft (opening_of world) [] (seen world)) }
+        ensures leaves_nothing { IfOk result (λ world. NothingIsLeftOfNames (names_of world) [] (named world)) }
+        ensures first { IfOk result (λ world. All IsFirst (nodes_of world)) }
         ensures ok { IfOk result (λ world. start_refused cluster.now lone.now ≡ None) }
         ensures err { IfErr result (λ fault. start_refused cluster.now lone.now ≡ start_fault_of fault) }
     {
         let opening = Opening::of(cluster, lone)?;
         let cores = cores_of(alloc, &opening)?;
-        let mesh = Mesh::new(alloc, opening.nodes().as_slice())?;
+        let links = Mail::new(alloc, opening.nodes())?;
         let history = History::new(alloc, opening.nodes())?;
         Ok(World {
-            nodes: opening.nodes().copy(),
             cluster: opening.cluster().copy(),
             cores,
-            links: Mail { mesh, unsent: None },
+            past: Log::new(),
+            links,
             history,
             spare: Turn::begin(alloc),
         })

@@ -1,8 +1,11 @@
 //! How a world takes in what a step of a node has made.
 ghost use Rattle.std.specs.Prelude.{◌≡◌, ◌≤◌, ◌-◌, ◌^◌, ◌++◌, length, map, min, None};
+ghost use Rattle.std.specs.Prelude.{true};
+ghost use Rattle.std.specs.List.{All};
 ghost use Rattle.protocol_model.specs.Links.{posted};
+ghost use Rattle.term.specs.NodeSets.{set_of, with_older};
 ghost use Rattle.node_core.specs.NodeEventsSeen.{entry_by};
-ghost use Rattle.world_history.specs.Histories.{entry_of};
+ghost use Rattle.world_history.specs.Histories.{entries_of};
 ghost use Rattle.cluster_world.specs.Histories.{number_at};
 ghost use Rattle.cluster_world.specs.Links.{letters_to};
 ghost use Rattle.cluster_world.specs.Mail.{links_of};
@@ -26,11 +29,14 @@ pub(crate) fn take_in<N: Names<Memory = Global>>(
     history: &mut History,
 ) -> (Vec<Answer>, Turn)
     requires sent { links.old.unsent ≡ None }
+    requires node { set_of links.old.nodes node.now ≡ true }
+    requires within { All (λ s. with_older links.old.nodes s.0 ≡ true) turn.letters }
     requires room { min (2 ^ 64 - 1) (length turn.entries) ≤ history.old.room }
-    ensures nodes { links.new.mesh.nodes ≡ links.old.mesh.nodes }
+    ensures nodes { links.new.nodes ≡ links.old.nodes }
+    ensures departed { links.new.departed ≡ links.old.departed }
     ensures links { links_of links.new ≡ posted node.now (λ t. letters_to t turn.letters) (links_of links.old) }
-    ensures entries { map entry_of history.new.entries
-        ≡ map entry_of history.old.entries ++ map (entry_by (number_at cores.now node.now own)) turn.entries }
+    ensures entries { entries_of history.new.entries
+        ≡ entries_of history.old.entries ++ map (entry_by (number_at cores.now node.now own)) turn.entries }
     ensures answers { result.0.items ≡ turn.answers }
 {
     let Turn {

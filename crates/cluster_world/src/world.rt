@@ -1,30 +1,36 @@
-//! A world of up to eight nodes.
-ghost use Rattle.std.specs.Prelude.{◌≡◌, ◌≤◌, ◌-◌, ◌^◌, min, None, OnOk};
+//! A world of up to eight names of nodes.
+ghost use Rattle.std.specs.Prelude.{◌≡◌, ◌<◌, ◌≤◌, ◌-◌, ◌^◌, [], ◌∷◌, ◌++◌, length, slice_set, slice_index_or, min, map, None, OnOk};
+ghost use Rattle.std.specs.List.{All};
+ghost use Rattle.term.specs.NodeSets.{with_older, succeeded};
+ghost use Rattle.cluster_world.specs.NodeCoreHeld.{HaveLeft, IsNext};
 ghost use Rattle.node_core.specs.Rare.{most_entries};
 ghost use Rattle.cluster_world.specs.Mail.{links_of};
+ghost use Rattle.cluster_world.specs.Restarting.{CanReplace, replaced_in};
 ghost use Rattle.cluster_world.specs.Seen.{is_holding};
 
 use crate::history::join_of;
 use crate::mail::Mail;
 use crate::run_end::RunEnd;
 use crate::turns::take_in;
-use link::LinkPlace;
 use name_table::Names;
+use past::Log;
 use std::alloc::{AllocError, Global};
 use std::marker::Model;
 use std::mem;
-use term::{Node, NodeSet};
+use term::{Node, NodeName, NodeSet};
 use world_events::{Answer, Cause, Event, NodeCore, Refusal, Turn, WorldEvent};
 use world_history::{History, KeptEntry};
 
-/// A world: its nodes, the links between them, and the history. Contracts see what it holds as the protocol's world.
+/// A world: its nodes, the links between them, and the history. A name whose node has left may come back: then its next node starts.
+/// Contracts see what it holds as the protocol's world of named nodes.
 #[derive(Drop)]
 pub struct World<N: Names> {
-    pub(crate) nodes: NodeSet,
     /// The nodes that were joined at first.
     pub(crate) cluster: NodeSet,
-    /// The core of each node, in the order of the nodes.
+    /// The core of each node at present, in the order of the nodes.
     pub(crate) cores: Vec<NodeCore<N>>,
+    /// The cores of nodes that were replaced, for proofs alone.
+    pub(crate) past: Log<NodeCore<N>, ()>,
     pub(crate) links: Mail,
     pub(crate) history: History,
     /// The memory of an earlier step, for what the next one makes.
@@ -32,32 +38,34 @@ pub struct World<N: Names> {
 }
 
 impl<N: Names> Model for World<N> {
-    ghost use Rattle.cluster_world.specs.Held.{Held, IsWhole};
+    ghost use Rattle.std.specs.Prelude.{map};
+    ghost use Rattle.cluster_world.specs.Held.{Held};
+    ghost use Rattle.cluster_world.specs.Whole.{IsWhole};
 
     ghost Value = { Held };
 
     ghost view = { λ w. record {
-      nodes = w.nodes;
       cluster = w.cluster;
       cores = w.cores.items;
+      past = map (λ p. p.0) w.past.items;
       links = w.links;
       history = w.history.entries;
     } };
 
     ghost invariant = { λ w. IsWhole (record {
-      nodes = w.nodes;
       cluster = w.cluster;
       cores = w.cores.items;
+      past = map (λ p. p.0) w.past.items;
       links = w.links;
       history = w.history.entries;
     }) };
 }
 
-/// Whether the core, over these links, is that of a running joined node that holds the global lock.
-fn is_holder<N: Names<Memory = Global>>(links: &Mail, core: &NodeCore<N>) -> bool
-    ensures { result ≡ is_holding links.now core.now }
+/// Whether the core, where these nodes have left, is that of a running joined node that holds the global lock.
+fn is_holder<N: Names<Memory = Global>>(departed: &NodeSet, core: &NodeCore<N>) -> bool
+    ensures { result ≡ is_holding departed.now core.now }
 {
-    core.is_joined() && core.holds_global() && !links.has_left(core.node())
+    core.is_joined() && core.holds_global() && !departed.reaches(core.node())
 }
 
 /// Makes room for the next step of a core: all that was sent is on its links, and the history has room for the step's entries. What
@@ -67,8 +75,10 @@ fn make_room<N: Names<Memory = Global>>(
     links: &mut Mail,
     history: &mut History,
 ) -> Result<(), AllocError>
-    ensures nodes { links.new.mesh.nodes ≡ links.old.mesh.nodes }
+    ensures nodes { links.new.nodes ≡ links.old.nodes }
+    ensures departed { links.new.departed ≡ links.old.departed }
     ensures links { links_of links.new ≡ links_of links.old }
+    ensures left { HaveLeft links.old.nodes links.old.departed }
     ensures entries { history.new.entries ≡ history.old.entries }
     ensures all { OnOk result (links.new.unsent ≡ None) }
     ensures room { OnOk result (min (2 ^ 64 - 1) (most_entries core.now) ≤ history.new.room) }
@@ -77,36 +87,89 @@ fn make_room<N: Names<Memory = Global>>(
     history.reserve(core.most_entries(), core.node())
 }
 
+/// A core takes the next node of a name in place of the one before it, unless its own node has left.
+fn replace_one<N: Names<Memory = Global>>(
+    core: &mut NodeCore<N>,
+    departed: &NodeSet,
+    older: &Node,
+    next: &Node,
+)
+    requires next { IsNext older.now next.now }
+    requires told { CanReplace departed.now older.now core.old }
+    ensures { core.new ≡ replaced_in departed.now older.now next.now core.old }
+{
+    if !departed.reaches(core.node()) {
+        core.replace(older, next);
+    }
+}
+
+/// The running nodes take the next node of a name in place of the one before it, of which all of them were told that it has left.
+fn replace_in<N: Names<Memory = Global>>(
+    cores: &mut [NodeCore<N>],
+    departed: &NodeSet,
+    older: &Node,
+    next: &Node,
+)
+    requires next { IsNext older.now next.now }
+    requires told { All (CanReplace departed.now older.now) cores.old }
+    ensures { cores.new ≡ map (replaced_in departed.now older.now next.now) cores.old }
+{
+    for core in cores.iter_mut() {
+        replace_one(core, departed, older, next);
+    }
+}
+
+/// Puts a core at a place, and keeps the one that stood there, for proofs alone.
+fn put_core<N: Names<Memory = Global>>(
+    cores: &mut [NodeCore<N>],
+    past: &mut Log<NodeCore<N>, ()>,
+    place: usize,
+    core: NodeCore<N>,
+)
+    requires { place < length cores.old }
+    ensures cores { cores.new ≡ slice_set cores.old place core }
+    ensures past { map (λ p. p.0) past.new.items ≡ map (λ p. p.0) past.old.items ++ slice_index_or cores.old place core ∷ [] }
+{
+    let gone = mem::replace(&mut cores[place], core);
+    *past = past.and(&gone, &());
+}
+
 impl<N: Names<Memory = Global>> World<N> {
-    ghost use Rattle.std.specs.Prelude.{true, false, [], ◌∷◌, Some, None, take, is_some, OnErr, IfOk, IfErr, IfSome, MatchOption};
+    ghost use Rattle.std.specs.Prelude.{ℕ, true, false, [], ◌∷◌, Some, None, take, is_some, OnErr, IfOk, IfErr, IfSome, MatchOption};
     ghost use Rattle.std.specs.Option.{option_copied};
-    ghost use Rattle.protocol_model.specs.Links.{is_nil};
     ghost use Rattle.protocol_model.specs.World.{holder, left};
-    ghost use Rattle.node_core.specs.Held.{IsWithin};
-    ghost use Rattle.term.specs.NodeSets.{set_of};
-    ghost use Rattle.link.specs.Held.{place};
-    ghost use Rattle.cluster_world.specs.Held.{IsWhole};
+    ghost use Rattle.creations.specs.NamedWorld.{present_node};
+    ghost use Rattle.cluster_world.specs.NodeCoreHeld.{AreOf, HaveLeft};
+    ghost use Rattle.term.specs.Nodes.{IsFirst, name_of, text_in};
+    ghost use Rattle.term.specs.NodeSets.{set_of, names_in};
+    ghost use Rattle.link.specs.Held.{place as place_in};
+    ghost use Rattle.cluster_world.specs.Held.{nodes_of};
+    ghost use Rattle.cluster_world.specs.Whole.{IsWhole};
     ghost use Rattle.cluster_world.specs.Cores.{core_of};
-    ghost use Rattle.cluster_world.specs.Seen.{opening_of, seen};
+    ghost use Rattle.cluster_world.specs.Links.{IsFirstSender};
+    ghost use Rattle.cluster_world.specs.Seen.{names_of, opening_of, seen, named};
     ghost use Rattle.world_events.specs.Refusals.{is_memory};
     ghost use Rattle.cluster_world.specs.Steps.{IsAdmitted, AreFew};
     ghost use Rattle.cluster_world.specs.Playing.{Keeps, Played, RefusedWith, Ran, WaitsOn};
     ghost use Rattle.cluster_world.specs.Agreeing.{Agrees};
     ghost use Rattle.cluster_world.specs.Locks.{LocksBehind};
     ghost use Rattle.cluster_world.specs.Leftovers.{LeavesNothing};
-    ghost use Rattle.cluster_world.specs.Settling.{WaitsOnLink, HasNext, DeliversNext};
+    ghost use Rattle.cluster_world.specs.Restarting.{IsFirstUntold};
+    ghost use Rattle.cluster_world.specs.Settling.{IsNextLetter, HasNext, DeliversNext};
 
     /// The place of the node that an event of a node is played at, or why the event is refused. It takes no memory.
     fn admit_own(&self, node: &Node, event: &Event) -> Result<usize, Refusal>
         ensures ok { IfOk result (λ place. IsAdmitted place (WorldEvent.At node.now event.now) self.now) }
         ensures refused { IfErr result (λ refusal. RefusedWith refusal (WorldEvent.At node.now event.now) self.now) }
     {
-        let Some(place) = self.nodes.position(node) else {
-            return Err(Refusal::NoSuchNode);
-        };
-        if !event.knows_contact(&self.nodes) {
+        let nodes = self.links.nodes();
+        if !nodes.reaches(node) || !event.knows_contact(nodes) {
             return Err(Refusal::NoSuchNode);
         }
+        // An older node than the one at present has left.
+        let Some(place) = nodes.position(node) else {
+            return Err(Refusal::NodeLeft);
+        };
         if self.links.has_left(node) {
             return Err(Refusal::NodeLeft);
         }
@@ -116,22 +179,73 @@ impl<N: Names<Memory = Global>> World<N> {
         }
     }
 
-    /// The place of the node that reads the oldest letter of a link, or why the delivery is refused. It takes no memory.
-    fn admit_delivery(&self, sender: &Node, receiver: &Node) -> Result<usize, Refusal>
+    /// The place of the node that reads the oldest letter of the link from name to name, or why the delivery is refused. It takes no
+    /// memory.
+    fn admit_delivery(&self, sender: &NodeName, receiver: &NodeName) -> Result<usize, Refusal>
         ensures ok { IfOk result (λ place. IsAdmitted place (WorldEvent.Deliver sender.now receiver.now) self.now) }
         ensures refused { IfErr result (λ refusal. RefusedWith refusal (WorldEvent.Deliver sender.now receiver.now) self.now) }
     {
-        let Some(link) = self.links.mesh.link(sender, receiver) else {
+        // What holds of any world is known from here on.
+        let _ = &self.cluster;
+        let (Some(_), Some(place)) = (self.place_of(sender), self.place_of(receiver)) else {
             return Err(Refusal::NoSuchNode);
         };
+        let node = self.cores[place].node();
         // Letters wait for no node that has left.
-        if !self.links.is_empty(link) {
-            return Ok(link.receiver);
+        if self.links.first_sender(sender, node).is_some() {
+            return Ok(place);
         }
-        if self.links.has_left(receiver) {
+        if self.links.has_left(node) {
             return Err(Refusal::NodeLeft);
         }
         Err(Refusal::EmptyLink)
+    }
+
+    /// The first of the running nodes that wasn't told that a node has left.
+    fn first_untold(&self, gone: &Node) -> Option<&Node>
+        ensures { IsFirstUntold gone.now self.now (option_copied result) }
+    {
+        for core in &self.cores {
+            if !self.links.has_left(core.node()) && !core.told().reaches(gone) {
+                return Some(core.node());
+            }
+        }
+        None
+    }
+
+    /// The place of the node of a name that comes back, or why that is refused. It takes no memory.
+    fn admit_restart(&self, name: &NodeName) -> Result<usize, Refusal>
+        ensures ok { IfOk result (λ place. IsAdmitted place (WorldEvent.Restart name.now) self.now) }
+        ensures refused { IfErr result (λ refusal. RefusedWith refusal (WorldEvent.Restart name.now) self.now) }
+    {
+        let Some(place) = self.place_of(name) else {
+            return Err(Refusal::NoSuchNode);
+        };
+        let node = self.cores[place].node();
+        if !self.links.has_left(node) {
+            return Err(Refusal::StillRunning);
+        }
+        if let Some(untold) = self.first_untold(node) {
+            return Err(Refusal::NotToldYet(untold.copy()));
+        }
+        match node.next() {
+            Some(_) => Ok(place),
+            None => Err(Refusal::CreationsSpent),
+        }
+    }
+
+    /// The place of the node of a name that is at present.
+    fn place_of(&self, name: &NodeName) -> Option<usize>
+        ensures place { MatchOption result (names_in (nodes_of self.now) name.now ≡ false)
+            (λ k. (node : ℕ) × (place_in node (nodes_of self.now) ≡ Some k) × (name_of node ≡ name.now)) }
+        ensures first { IsFirst name.now }
+        ensures left { HaveLeft (nodes_of self.now) self.now.links.departed }
+    {
+        let nodes = self.links.nodes();
+        // A name stands where its first node does.
+        let _text = name.as_str();
+        let node = self.links.present(name)?;
+        nodes.position(node)
     }
 
     /// The place of the node that an event is played at, or why the event is refused. It takes no memory.
@@ -141,9 +255,8 @@ impl<N: Names<Memory = Global>> World<N> {
     {
         match event {
             WorldEvent::At(node, event) => self.admit_own(node, event),
-            WorldEvent::Deliver(sender, receiver) => {
-                self.admit_delivery(&Node::first(sender.copy()), &Node::first(receiver.copy()))
-            }
+            WorldEvent::Deliver(sender, receiver) => self.admit_delivery(sender, receiver),
+            WorldEvent::Restart(name) => self.admit_restart(name),
         }
     }
 
@@ -159,7 +272,7 @@ impl<N: Names<Memory = Global>> World<N> {
         ensures kept { Keeps self.old self.new }
         ensures ok { IfOk result (λ answers. Played (WorldEvent.At node.now event.now) self.old self.new [] answers.items) }
         ensures few { IfOk result (λ answers. AreFew place self.old answers.items) }
-        ensures as_before { OnErr result (seen self.new ≡ seen self.old) }
+        ensures as_before { OnErr result (named self.new ≡ named self.old) }
     {
         make_room(&self.cores[place], &mut self.links, &mut self.history)?;
         let alloc: Global = *self.cores.allocator();
@@ -182,57 +295,32 @@ impl<N: Names<Memory = Global>> World<N> {
         Ok(answers)
     }
 
-    /// The node at this place reads the oldest letter that a sender has sent it.
-    fn deliver(
+    /// The node at this place reads the oldest letter on the link from a name, which this sender has sent, and which is taken off it.
+    /// Where memory is refused, nothing has happened.
+    fn read(
         &mut self,
         place: usize,
         sender: &Node,
         receiver: &Node,
     ) -> Result<Vec<Answer>, AllocError>
-        requires { IsAdmitted place (WorldEvent.Deliver sender.now receiver.now) self.old }
+        requires first { IsFirstSender (name_of sender.now) receiver.now (Some sender.now) (links_of self.old.links) }
+        requires receiver { place_in receiver.now (nodes_of self.old) ≡ Some place }
+        requires admitted { IsAdmitted place (WorldEvent.Deliver (name_of sender.now) (name_of receiver.now)) self.old }
         ensures kept { Keeps self.old self.new }
-        ensures ok { IfOk result (λ answers. Played (WorldEvent.Deliver sender.now receiver.now) self.old self.new [] answers.items) }
+        ensures ok { IfOk result (λ answers. Played (WorldEvent.Deliver (name_of sender.now) (name_of receiver.now)) self.old self.new [] answers.items) }
         ensures few { IfOk result (λ answers. AreFew place self.old answers.items) }
-        ensures as_before { OnErr result (seen self.new ≡ seen self.old) }
+        ensures as_before { OnErr result (named self.new ≡ named self.old) }
     {
-        let Some(from) = self.links.mesh.place(sender) else {
-            unreachable!()
-        };
-        let link = LinkPlace {
-            sender: from,
-            receiver: place,
-        };
-        self.read(link, sender, receiver)
-    }
-
-    /// The receiver of a link reads the oldest letter on it, which is taken off it. Where memory is refused, nothing has happened.
-    fn read(
-        &mut self,
-        link: LinkPlace,
-        sender: &Node,
-        receiver: &Node,
-    ) -> Result<Vec<Answer>, AllocError>
-        requires sender { place sender.now self.old.nodes ≡ Some link.sender }
-        requires admitted { IsAdmitted link.receiver (WorldEvent.Deliver sender.now receiver.now) self.old }
-        ensures kept { Keeps self.old self.new }
-        ensures ok { IfOk result (λ answers. Played (WorldEvent.Deliver sender.now receiver.now) self.old self.new [] answers.items) }
-        ensures few { IfOk result (λ answers. AreFew link.receiver self.old answers.items) }
-        ensures as_before { OnErr result (seen self.new ≡ seen self.old) }
-    {
-        make_room(
-            &self.cores[link.receiver],
-            &mut self.links,
-            &mut self.history,
-        )?;
-        let Some(letter) = self.links.front(link) else {
+        make_room(&self.cores[place], &mut self.links, &mut self.history)?;
+        let Some(letter) = self.links.front(sender, receiver) else {
             unreachable!()
         };
         let alloc: Global = *self.cores.allocator();
         let spare = mem::replace(&mut self.spare, Turn::begin(alloc));
-        let core = &mut self.cores[link.receiver];
+        let core = &mut self.cores[place];
         let own = join_of(core);
         let turn = core.accept(Cause::FromPeer(sender, letter), spare)?;
-        self.links.take(link);
+        self.links.take(sender, receiver);
         let (answers, spare) = take_in(
             turn,
             receiver,
@@ -243,6 +331,55 @@ impl<N: Names<Memory = Global>> World<N> {
         );
         self.spare = spare;
         Ok(answers)
+    }
+
+    /// The node at this place reads the oldest letter on the link from a name.
+    fn deliver(
+        &mut self,
+        place: usize,
+        sender: &NodeName,
+        receiver: &NodeName,
+    ) -> Result<Vec<Answer>, AllocError>
+        requires { IsAdmitted place (WorldEvent.Deliver sender.now receiver.now) self.old }
+        ensures kept { Keeps self.old self.new }
+        ensures ok { IfOk result (λ answers. Played (WorldEvent.Deliver sender.now receiver.now) self.old self.new [] answers.items) }
+        ensures few { IfOk result (λ answers. AreFew place self.old answers.items) }
+        ensures as_before { OnErr result (named self.new ≡ named self.old) }
+    {
+        // A name stands where its first node does.
+        let _text = sender.as_str();
+        let reader = self.cores[place].node().copy();
+        let Some(from) = self.links.first_sender(sender, &reader) else {
+            unreachable!()
+        };
+        self.read(place, &from, &reader)
+    }
+
+    /// The name of the node at this place comes back: its next node starts there, alone and without anything, and is told of all nodes
+    /// that have left. Where memory is refused, nothing has happened.
+    fn restart(&mut self, place: usize, name: &NodeName) -> Result<(), AllocError>
+        requires { IsAdmitted place (WorldEvent.Restart name.now) self.old }
+        ensures kept { Keeps self.old self.new }
+        ensures ok { OnOk result (Played (WorldEvent.Restart name.now) self.old self.new [] []) }
+        ensures as_before { OnErr result (named self.new ≡ named self.old) }
+    {
+        let alloc: Global = *self.cores.allocator();
+        let older = self.links.nodes().as_slice()[place].copy();
+        let Some(next) = older.next() else {
+            unreachable!()
+        };
+        self.links.drain()?;
+        self.history.enter_restart(&older, &next)?;
+        self.links.reopen(&older, &next);
+        replace_in(
+            self.cores.as_mut_slice(),
+            self.links.departed(),
+            &older,
+            &next,
+        );
+        let core = NodeCore::come_back(alloc, next, self.links.nodes(), self.links.departed());
+        put_core(self.cores.as_mut_slice(), &mut self.past, place, core);
+        Ok(())
     }
 
     /// Plays an event at the place that it was admitted for, and gives what its step answers. Where memory is refused, nothing has
@@ -256,13 +393,14 @@ impl<N: Names<Memory = Global>> World<N> {
         ensures kept { Keeps self.old self.new }
         ensures ok { IfOk result (λ answers. Played event.now self.old self.new [] answers.items) }
         ensures few { IfOk result (λ answers. AreFew place self.old answers.items) }
-        ensures as_before { OnErr result (seen self.new ≡ seen self.old) }
+        ensures as_before { OnErr result (named self.new ≡ named self.old) }
     {
         match event {
             WorldEvent::At(node, event) => self.happen(place, node, event),
-            WorldEvent::Deliver(sender, receiver) => {
-                let (sender, receiver) = (Node::first(sender.copy()), Node::first(receiver.copy()));
-                self.deliver(place, &sender, &receiver)
+            WorldEvent::Deliver(sender, receiver) => self.deliver(place, sender, receiver),
+            WorldEvent::Restart(name) => {
+                self.restart(place, name)?;
+                Ok(Vec::new(*self.cores.allocator()))
             }
         }
     }
@@ -287,35 +425,22 @@ impl<N: Names<Memory = Global>> World<N> {
         ensures ok { IfOk result (λ answers. Played event.now self.old self.new [] answers.items) }
         ensures refused { IfErr result (λ refusal. RefusedWith refusal event.now self.old) }
         ensures unchanged { IfErr result (λ refusal. is_memory refusal ≡ false → self.new ≡ self.old) }
-        ensures as_before { OnErr result (seen self.new ≡ seen self.old) }
+        ensures as_before { OnErr result (named self.new ≡ named self.old) }
     {
         let place = self.admit(event)?;
         Ok(self.accept(place, event)?)
     }
 
-    /// Plays the delivery of the oldest letter on the link between two nodes, as `play` does.
-    pub fn play_delivery(&mut self, sender: &Node, receiver: &Node) -> Result<Vec<Answer>, Refusal>
-        ensures kept { Keeps self.old self.new }
-        ensures agrees { IfOk result (λ answers. Agrees (WorldEvent.Deliver sender.now receiver.now ∷ []) answers.items self.old self.new) }
-        ensures locks { IfOk result (λ _. LocksBehind (WorldEvent.Deliver sender.now receiver.now ∷ []) self.old self.new) }
-        ensures leaves_nothing { IfOk result (λ _. LeavesNothing (WorldEvent.Deliver sender.now receiver.now ∷ []) self.old self.new) }
-        ensures ok { IfOk result (λ answers. Played (WorldEvent.Deliver sender.now receiver.now) self.old self.new [] answers.items) }
-        ensures refused { IfErr result (λ refusal. RefusedWith refusal (WorldEvent.Deliver sender.now receiver.now) self.old) }
-        ensures as_before { OnErr result (seen self.new ≡ seen self.old) }
+    /// The letter that is delivered next: the place of the node that is to read it, the node that sent it, and the one that reads it.
+    fn next_letter(&self) -> Option<(usize, Node, Node)>
+        ensures { MatchOption result (WaitsOn None self.now) (λ letter. IsNextLetter letter.0 letter.1 letter.2 self.now) }
     {
-        let place = self.admit_delivery(sender, receiver)?;
-        Ok(self.deliver(place, sender, receiver)?)
-    }
-
-    /// The place of the first link, by sender and then receiver, on which a letter waits.
-    fn first_link(&self) -> Option<LinkPlace>
-        ensures { WaitsOnLink result self.now }
-    {
-        if self.links.unsent.is_none() {
-            return self.links.mesh.first_link();
-        }
+        let nodes = self.links.nodes();
         let (sender, receiver) = self.links.first_waiting()?;
-        self.links.mesh.link(&sender, &receiver)
+        let Some(place) = nodes.position(&receiver) else {
+            unreachable!()
+        };
+        Some((place, sender, receiver))
     }
 
     /// Makes the delivery that `settle` makes next, the oldest letter of the first link on which one waits, and gives its answers; or
@@ -326,13 +451,12 @@ impl<N: Names<Memory = Global>> World<N> {
         ensures next { IfOk result (λ delivered. MatchOption delivered (WaitsOn None self.old × (self.new ≡ self.old))
             (λ answers. DeliversNext self.old self.new answers.items)) }
         ensures waits { OnErr result (HasNext self.old) }
-        ensures as_before { OnErr result (seen self.new ≡ seen self.old) }
+        ensures as_before { OnErr result (named self.new ≡ named self.old) }
     {
-        let Some(link) = self.first_link() else {
+        let Some((place, sender, receiver)) = self.next_letter() else {
             return Ok(None);
         };
-        let (sender, receiver) = self.links.mesh.ends(link);
-        Ok(Some(self.read(link, &sender, &receiver)?))
+        Ok(Some(self.read(place, &sender, &receiver)?))
     }
 
     /// Plays one event, and puts its answers behind those given before. Room for them is had before the event is played.
@@ -340,7 +464,7 @@ impl<N: Names<Memory = Global>> World<N> {
         ensures kept { Keeps self.old self.new }
         ensures ok { OnOk result (Played event.now self.old self.new answers.old.items answers.new.items) }
         ensures refused { IfErr result (λ refusal. RefusedWith refusal event.now self.old) }
-        ensures as_before { OnErr result (seen self.new ≡ seen self.old) }
+        ensures as_before { OnErr result (named self.new ≡ named self.old) }
         ensures unanswered { OnErr result (answers.new.items ≡ answers.old.items) }
     {
         let taker = self.admit(event)?;
@@ -390,55 +514,65 @@ impl<N: Names<Memory = Global>> World<N> {
         self.history.as_slice()
     }
 
-    /// The nodes of the world.
+    /// The nodes at present, one of each name of the world.
     pub fn nodes(&self) -> &NodeSet
-        ensures { result.now ≡ self.now.nodes }
+        ensures { result.now ≡ nodes_of self.now }
     {
-        &self.nodes
+        self.links.nodes()
     }
 
-    /// The core of a node.
+    /// The node of a name that is at present: the first one, or the last one that the name came back as. None where the name isn't one of
+    /// this world.
+    pub fn present(&self, name: &NodeName) -> Option<&Node>
+        ensures here { is_some result ≡ names_in (nodes_of self.now) name.now }
+        ensures node { IfSome result (λ node. (set_of (nodes_of self.now) node.now ≡ true)
+            × (node.now ≡ present_node (names_of self.now) (named self.now) (text_in name.now))) }
+    {
+        // One node of each name is at present.
+        let _nodes = self.links.nodes();
+        self.links.present(name)
+    }
+
+    /// The core of a node at present.
     pub(crate) fn core(&self, node: &Node) -> Option<&NodeCore<N>>
-        ensures here { is_some result ≡ set_of self.now.nodes node.now }
+        ensures here { is_some result ≡ set_of (nodes_of self.now) node.now }
         ensures core { option_copied result ≡ core_of node.now self.now.cores }
-        ensures world { IfSome result (λ core. core.now.world ≡ self.now.nodes) }
         ensures whole { IsWhole self.now }
     {
-        let place = self.nodes.position(node)?;
+        let place = self.links.nodes().position(node)?;
         Some(&self.cores[place])
     }
 
     /// Whether a node has left this world.
     pub fn has_left(&self, node: &Node) -> bool
-        ensures left { result ≡ left (seen self.now) node.now }
-        ensures known { result ≡ true → set_of self.now.nodes node.now ≡ true }
+        ensures { result ≡ left (seen self.now) node.now }
     {
         self.links.has_left(node)
     }
 
-    /// The table of a node, or `None` where the node isn't of this world. That of one that has left is as it was then.
+    /// The table of a node at present, or `None` of any other. That of one that has left is as it was then.
     pub fn table(&self, node: &Node) -> Option<&N>
-        ensures here { is_some result ≡ set_of self.now.nodes node.now }
+        ensures here { is_some result ≡ set_of (nodes_of self.now) node.now }
         ensures table { IfSome result (λ table. N.contents table.now ≡ ((seen self.now).node node.now).replica.table) }
     {
         Some(self.core(node)?.table())
     }
 
-    /// The members of a node, itself among them, or `None` where the node isn't of this world. All are nodes of the world. Those
-    /// of one that has left are as they were then.
+    /// The members of a node at present, itself among them, or `None` of any other. While it runs they are nodes at present; those of one
+    /// that has left are as they were then.
     pub fn members(&self, node: &Node) -> Option<&NodeSet>
-        ensures here { is_some result ≡ set_of self.now.nodes node.now }
+        ensures here { is_some result ≡ set_of (nodes_of self.now) node.now }
         ensures members { IfSome result (λ members. set_of members.now ≡ ((seen self.now).node node.now).replica.members) }
-        ensures within { IfSome result (λ members. IsWithin self.now.nodes members.now) }
+        ensures within { IfSome result (λ members. left (seen self.now) node.now ≡ false → AreOf (nodes_of self.now) members.now) }
     {
         Some(self.core(node)?.members())
     }
 
-    /// The nodes that a node was told have left, or `None` where that node isn't of this world. All are nodes of the world.
+    /// Of each name the last node that a node at present was told has left, or `None` of any other node; it was told so of all older ones,
+    /// too.
     pub fn told(&self, node: &Node) -> Option<&NodeSet>
-        ensures here { is_some result ≡ set_of self.now.nodes node.now }
-        ensures told { IfSome result (λ told. set_of told.now ≡ ((seen self.now).node node.now).replica.told) }
-        ensures within { IfSome result (λ told. IsWithin self.now.nodes told.now) }
+        ensures here { is_some result ≡ set_of (nodes_of self.now) node.now }
+        ensures told { IfSome result (λ told. with_older told.now ≡ ((seen self.now).node node.now).replica.told) }
     {
         Some(self.core(node)?.told())
     }
@@ -448,18 +582,20 @@ impl<N: Names<Memory = Global>> World<N> {
     pub fn holder(&self) -> Option<Node>
         ensures { result ≡ holder (opening_of self.now) (seen self.now) }
     {
+        let departed = self.links.departed();
         for core in &self.cores {
-            if is_holder(&self.links, core) {
+            if is_holder(departed, core) {
                 return Some(core.node().copy());
             }
         }
         None
     }
 
-    /// The first link on which a letter waits, by its sender and its receiver; links go by sender and then receiver.
-    pub fn waiting(&self) -> Option<(Node, Node)>
+    /// The first link on which a letter waits, by the names of its sender and its receiver; links go by sender and then receiver.
+    pub fn waiting(&self) -> Option<(NodeName, NodeName)>
         ensures { WaitsOn result self.now }
     {
-        self.links.first_waiting()
+        let (_, sender, receiver) = self.next_letter()?;
+        Some((sender.name().copy(), receiver.name().copy()))
     }
 }

@@ -1,8 +1,9 @@
 -- What a line that isn't empty asks for.
 use Rattle.std.specs.Prelude.{ℕ, Bool, ◌≡◌, nat_lt, List, length, if◌then◌else◌, Option, Some, None, Result, Ok, Err}
 use Rattle.std.specs.List.{list_all}
-use Rattle.protocol_model.specs.Script.{Line, Play, Settle, TableAt, MembersAt}
-use Rattle.world_events.specs.Events.{event_of}
+use Rattle.protocol_model.specs.NamedEvents.{NamedLine, NamedEvent, Play, Settle, TableAt, MembersAt}
+use Rattle.term.specs.Nodes.{text_in}
+use Rattle.world_events.specs.Events.{own_event_of, named_event}
 use Rattle.command_lines.specs.declared.faults.LineFault.{LineFault}
 use Rattle.command_lines.specs.declared.faults.LineFault.TheVariants.{LineTooLong, NotAscii}
 use Rattle.command_lines.specs.declared.grammar.Task.{Task}
@@ -19,12 +20,12 @@ abbrev pub unread : List ℕ → Option LineFault
 unread line = if nat_lt longest_line (length line) then Some LineTooLong else (if is_ascii line then None else Some NotAscii)
 
 -- what a line asks for that can be read, or why it is refused
-abbrev pub AsksUnless : Option LineFault → List ℕ → Result Line LineFault → Type 0
+abbrev pub AsksUnless : Option LineFault → List ℕ → Result NamedLine LineFault → Type 0
 AsksUnless (Some f) line r = r ≡ Err f
 AsksUnless None line r = WordsAsk (words line) r
 
 -- what a line asks for, or why it is refused
-abbrev pub LineAsks : List ℕ → Result Line LineFault → Type 0
+abbrev pub LineAsks : List ℕ → Result NamedLine LineFault → Type 0
 LineAsks line r = AsksUnless (unread line) line r
 
 -- a line that can be read asks for a lock call that names nodes
@@ -32,13 +33,14 @@ abbrev pub LineNamesNodes : List ℕ → Type 0
 LineNamesNodes line = (unread line ≡ None) × WordsNameNodes (words line)
 
 -- a task of the program, as a line of a script
-abbrev pub line_in : Task → Line
-line_in (Task.Play e) = Play (event_of e)
+abbrev pub line_in : Task → NamedLine
+line_in (Task.Play e) = Play (named_event e)
+line_in (Task.At x e) = Play (NamedEvent.At (text_in x) (own_event_of e))
 line_in Task.Settle = Settle
-line_in (Task.Table a) = TableAt a
-line_in (Task.Members a) = MembersAt a
+line_in (Task.Table x) = TableAt (text_in x)
+line_in (Task.Members x) = MembersAt (text_in x)
 
 -- what was read, as what a line asks for
-abbrev pub asked_by : Result Task LineFault → Result Line LineFault
+abbrev pub asked_by : Result Task LineFault → Result NamedLine LineFault
 asked_by (Ok t) = Ok (line_in t)
 asked_by (Err f) = Err f

@@ -6,9 +6,9 @@ use Rattle.registry_model.specs.Table.{Pair}
 use Rattle.registry_model.specs.Call.{Register, ReRegister, Unregister, Whereis, RegisteredNames, NoticesOf}
 use Rattle.protocol_model.specs.Event.{Event, Calling, Retry, Exiting, Leave, Call, Spawn, OnName, LookUp, SetLock, DelLock, JoinBy}
 use Rattle.protocol_model.specs.Node.{Target, Retries as Tries}
-use Rattle.protocol_model.specs.World.{At, Deliver}
-use Rattle.protocol_model.specs.Script.{Line, Play, Settle, TableAt, MembersAt}
+use Rattle.protocol_model.specs.NamedEvents.{NamedLine, Play, Settle, TableAt, MembersAt, At, AtNode, Deliver, Restart}
 use Rattle.term.specs.declared.faults.TextFault.{TextFault}
+use Rattle.term.specs.Nodes.{text_in}
 use Rattle.term.specs.declared.rule.Rule.{Rule as ARule}
 use Rattle.term.specs.declared.rule.Rule.TheVariants.{Exit}
 use Rattle.term.specs.Rules.{rule_of, SpellsRule, RefusesRule}
@@ -19,7 +19,7 @@ use Rattle.command_lines.specs.LockTexts.{SpellsTarget, RefusesTarget, SpellsRet
 
 -- what a text can stand for
 pub data Kind : Type 0 where
-  Node : Kind  -- by its name
+  Node : Kind  -- by its name: the present node of it
   Contact : Kind  -- a node that is asked to take another in
   Name : Kind
   Pid : Kind
@@ -67,7 +67,7 @@ RefusedAs Retries text f = ⊥
 
 -- what is asked for, by the values of texts of these kinds
 abbrev pub Asks : List Kind → Type 0
-Asks [] = Line
+Asks [] = NamedLine
 Asks (k ∷ ks) = Value k → Asks ks
 
 -- a line of the grammar
@@ -81,12 +81,20 @@ abbrev pub row : List ℕ → (texts : List Kind) → Asks texts → Row
 row word texts asks = record { word = word; texts = texts; asks = asks }
 
 -- an event at a node
-abbrev pub at_node : ℕ → Event → Line
-at_node n e = Play (At n e)
+abbrev pub at_node : ℕ → Event → NamedLine
+at_node n e = Play (AtNode n e)
 
 -- a call at a node
-abbrev pub call_at : ℕ → Call → Line
+abbrev pub call_at : ℕ → Call → NamedLine
 call_at n c = at_node n (Calling c)
+
+-- an event at the present node of a name
+abbrev pub at_name : ℕ → Event → NamedLine
+at_name n e = Play (At (text_in n) e)
+
+-- a call there
+abbrev pub call_to : ℕ → Call → NamedLine
+call_to n c = at_name n (Calling c)
 
 -- a name for a process, under this rule
 abbrev pub pair_for : ℕ → Process → ARule → Pair
@@ -95,30 +103,31 @@ pair_for x p rule = record { name = x; owner = p; rule = rule_of rule }
 -- all lines of the grammar; where a line may have a rule and has none, that is `exit`
 abbrev pub grammar : List Row
 grammar =
-    row (codes "spawn") (Node ∷ []) (λ n. call_at n Spawn)
+    row (codes "spawn") (Node ∷ []) (λ n. call_to n Spawn)
     ∷ row (codes "exit") (Pid ∷ []) (λ p. at_node p.node (Exiting p))
-    ∷ row (codes "register") (Node ∷ Name ∷ Pid ∷ []) (λ n x p. call_at n (OnName (Register (pair_for x p Exit))))
-    ∷ row (codes "register") (Node ∷ Name ∷ Pid ∷ Rule ∷ []) (λ n x p r. call_at n (OnName (Register (pair_for x p r))))
-    ∷ row (codes "re_register") (Node ∷ Name ∷ Pid ∷ []) (λ n x p. call_at n (OnName (ReRegister (pair_for x p Exit))))
-    ∷ row (codes "re_register") (Node ∷ Name ∷ Pid ∷ Rule ∷ []) (λ n x p r. call_at n (OnName (ReRegister (pair_for x p r))))
-    ∷ row (codes "unregister") (Node ∷ Name ∷ []) (λ n x. call_at n (OnName (Unregister x)))
-    ∷ row (codes "whereis") (Node ∷ Name ∷ []) (λ n x. call_at n (LookUp (Whereis x)))
-    ∷ row (codes "names") (Node ∷ []) (λ n. call_at n (LookUp RegisteredNames))
+    ∷ row (codes "register") (Node ∷ Name ∷ Pid ∷ []) (λ n x p. call_to n (OnName (Register (pair_for x p Exit))))
+    ∷ row (codes "register") (Node ∷ Name ∷ Pid ∷ Rule ∷ []) (λ n x p r. call_to n (OnName (Register (pair_for x p r))))
+    ∷ row (codes "re_register") (Node ∷ Name ∷ Pid ∷ []) (λ n x p. call_to n (OnName (ReRegister (pair_for x p Exit))))
+    ∷ row (codes "re_register") (Node ∷ Name ∷ Pid ∷ Rule ∷ []) (λ n x p r. call_to n (OnName (ReRegister (pair_for x p r))))
+    ∷ row (codes "unregister") (Node ∷ Name ∷ []) (λ n x. call_to n (OnName (Unregister x)))
+    ∷ row (codes "whereis") (Node ∷ Name ∷ []) (λ n x. call_to n (LookUp (Whereis x)))
+    ∷ row (codes "names") (Node ∷ []) (λ n. call_to n (LookUp RegisteredNames))
     ∷ row (codes "notices") (Pid ∷ []) (λ p. call_at p.node (LookUp (NoticesOf p)))
     ∷ row (codes "set_lock") (Pid ∷ Resource ∷ Requester ∷ Nodes ∷ Retries ∷ [])
     (λ p r q t n. call_at p.node (SetLock p r q t n))
     ∷ row (codes "del_lock") (Pid ∷ Resource ∷ Requester ∷ Nodes ∷ []) (λ p r q t. call_at p.node (DelLock p r q t))
-    ∷ row (codes "join") (Node ∷ Contact ∷ []) (λ n m. call_at n (JoinBy m))
-    ∷ row (codes "deliver") (Node ∷ Node ∷ []) (λ f t. Play (Deliver f t))
-    ∷ row (codes "retry") (Node ∷ []) (λ n. at_node n Retry)
-    ∷ row (codes "leave") (Node ∷ []) (λ n. at_node n Leave)
+    ∷ row (codes "join") (Node ∷ Contact ∷ []) (λ n m. call_to n (JoinBy m))
+    ∷ row (codes "deliver") (Node ∷ Node ∷ []) (λ f t. Play (Deliver (text_in f) (text_in t)))
+    ∷ row (codes "retry") (Node ∷ []) (λ n. at_name n Retry)
+    ∷ row (codes "leave") (Node ∷ []) (λ n. at_name n Leave)
+    ∷ row (codes "restart") (Node ∷ []) (λ n. Play (Restart (text_in n)))
     ∷ row (codes "settle") [] Settle
-    ∷ row (codes "members") (Node ∷ []) MembersAt
-    ∷ row (codes "table") (Node ∷ []) TableAt
+    ∷ row (codes "members") (Node ∷ []) (λ n. MembersAt (text_in n))
+    ∷ row (codes "table") (Node ∷ []) (λ n. TableAt (text_in n))
     ∷ []
 
 -- texts of these kinds spell values by which this is asked for
-abbrev pub AllSpelled : (kinds : List Kind) → Asks kinds → List (List ℕ) → Result Line LineFault → Type 0
+abbrev pub AllSpelled : (kinds : List Kind) → Asks kinds → List (List ℕ) → Result NamedLine LineFault → Type 0
 AllSpelled [] line [] r = r ≡ Ok line
 AllSpelled (k ∷ kinds) asks (text ∷ texts) r = (v : Value k) × Spells k text v × AllSpelled kinds (asks v) texts r
 AllSpelled _ _ _ r = ⊥
@@ -130,7 +139,7 @@ FirstRefused (k ∷ kinds) (text ∷ texts) f =
 FirstRefused _ _ f = ⊥
 
 -- what texts of these kinds ask for: they are read from left to right, and the first fault counts
-abbrev pub TextsAsk : (kinds : List Kind) → Asks kinds → List (List ℕ) → Result Line LineFault → Type 0
+abbrev pub TextsAsk : (kinds : List Kind) → Asks kinds → List (List ℕ) → Result NamedLine LineFault → Type 0
 TextsAsk kinds asks texts r =
     AllSpelled kinds asks texts r ⊎ ((f : TextFault) × FirstRefused kinds texts f × (r ≡ Err (Text f)))
 
@@ -151,14 +160,14 @@ abbrev pub row_of : List ℕ → List (List ℕ) → List Row → Option Row
 row_of word texts rows = find (λ row. fits row.texts texts && bytes_eq word row.word) rows
 
 -- what texts ask for behind the word of this line: retries that are none make a bad line, whatever the other texts are
-abbrev pub AsksBy : Option Row → List (List ℕ) → Result Line LineFault → Type 0
+abbrev pub AsksBy : Option Row → List (List ℕ) → Result NamedLine LineFault → Type 0
 AsksBy None texts r = r ≡ Err BadLine
 AsksBy (Some row) texts r =
     (HasRetries row.texts texts × TextsAsk row.texts row.asks texts r)
     ⊎ ((HasRetries row.texts texts → ⊥) × (r ≡ Err BadLine))
 
 -- what words ask for: no such line, or the wrong number of texts, is a bad line
-abbrev pub WordsAsk : List (List ℕ) → Result Line LineFault → Type 0
+abbrev pub WordsAsk : List (List ℕ) → Result NamedLine LineFault → Type 0
 WordsAsk [] r = r ≡ Err BadLine
 WordsAsk (word ∷ texts) r = AsksBy (row_of word texts grammar) texts r
 

@@ -1,12 +1,12 @@
 -- What is printed, as bytes.
-use Rattle.std.specs.Prelude.{ℕ, Bool, true, false, codes, ◌==◌, flat_map, List, [], ◌∷◌, ◌++◌, if◌then◌else◌, Option, Some, None}
+use Rattle.std.specs.Prelude.{ℕ, Bool, true, false, codes, ◌==◌, flat_map, List, [], ◌∷◌, ◌++◌, if◌then◌else◌, Option, Some, None, option_map}
 use Rattle.std.specs.Fmt.{decimal}
 use Rattle.registry_model.specs.Process.{Process}
 use Rattle.registry_model.specs.Call.{Reply}
 use Rattle.registry_model.specs.Settlement.{Notice}
 use Rattle.registry_model.specs.Table.{Pair, Rule}
 use Rattle.protocol_model.specs.Event.{Answer, Refusal}
-use Rattle.protocol_model.specs.Script.{Output, Said, Okay, Error, Settled, SettleLimit, TableIs, MembersAre}
+use Rattle.protocol_model.specs.NamedEvents.{NamedRefusal, Plain, StillRunning, NotToldYet, CreationsSpent, NamedOutput, Said, Okay, Started, Error, Settled, SettleLimit, TableIs, MembersAre}
 use Rattle.term.specs.Spelling.{bytes_of, node_bytes, dot}
 use Rattle.term.specs.declared.faults.TextFault.TheVariants as text
 use Rattle.world_events.specs.declared.opening.StartFault.TheVariants as start
@@ -33,31 +33,38 @@ word_of (Start start.TooManyNodes) = codes "too_many_nodes"
 word_of (Start start.Memory) = codes "memory"
 word_of Memory = codes "memory"
 
--- the word for which the world or a node refuses an event
-abbrev pub refusal_word : Refusal → List ℕ
-refusal_word Refusal.NoSuchNode = codes "no_such_node"
-refusal_word Refusal.NodeLeft = codes "node_left"
-refusal_word Refusal.EmptyLink = codes "empty_link"
-refusal_word (Refusal.NotLive p) = codes "not_live"
-refusal_word (Refusal.Busy p) = codes "busy"
-refusal_word Refusal.Reserved = codes "reserved"
-refusal_word Refusal.UnknownNode = codes "unknown_node"
-refusal_word Refusal.AlreadyJoined = codes "already_joined"
-refusal_word Refusal.NoSuchProcess = codes "no_such_process"
-refusal_word Refusal.AlreadyExited = codes "already_exited"
-refusal_word Refusal.SerialsSpent = codes "serials_spent"
-refusal_word Refusal.NothingToRetry = codes "nothing_to_retry"
-refusal_word Refusal.HoldsLock = codes "holds_lock"
-refusal_word Refusal.CallsSpent = codes "calls_spent"
+-- the word for which the world or a node refuses an event that is no restart
+abbrev pub plain_word : Refusal → List ℕ
+plain_word Refusal.NoSuchNode = codes "no_such_node"
+plain_word Refusal.NodeLeft = codes "node_left"
+plain_word Refusal.EmptyLink = codes "empty_link"
+plain_word (Refusal.NotLive p) = codes "not_live"
+plain_word (Refusal.Busy p) = codes "busy"
+plain_word Refusal.Reserved = codes "reserved"
+plain_word Refusal.UnknownNode = codes "unknown_node"
+plain_word Refusal.AlreadyJoined = codes "already_joined"
+plain_word Refusal.NoSuchProcess = codes "no_such_process"
+plain_word Refusal.AlreadyExited = codes "already_exited"
+plain_word Refusal.SerialsSpent = codes "serials_spent"
+plain_word Refusal.NothingToRetry = codes "nothing_to_retry"
+plain_word Refusal.HoldsLock = codes "holds_lock"
+plain_word Refusal.CallsSpent = codes "calls_spent"
+
+-- the word for which an event is refused; which node wasn't told yet isn't printed
+abbrev pub refusal_word : NamedRefusal → List ℕ
+refusal_word (Plain r) = plain_word r
+refusal_word StillRunning = codes "still_running"
+refusal_word (NotToldYet n) = codes "not_told_yet"
+refusal_word CreationsSpent = codes "creations_spent"
 
 -- the same, where memory was refused if the protocol refuses nothing
-abbrev pub word_for : Option Refusal → List ℕ
+abbrev pub word_for : Option NamedRefusal → List ℕ
 word_for (Some r) = refusal_word r
 word_for None = codes "memory"
 
 -- the word for which a node refuses an event
 abbrev pub step_word : StepFault → List ℕ
-step_word f = word_for (fault_of f)
+step_word f = word_for (option_map Plain (fault_of f))
 
 -- a process: its node, a dot and its serial
 abbrev pub pid_text : Process → List ℕ
@@ -121,13 +128,14 @@ error_line word = ended (codes "error " ++ word)
 
 -- a line that is printed
 pub data Shown : Type 0 where
-  Shows : (output : Output) → Shown
+  Shows : (output : NamedOutput) → Shown
   Refuses : (fault : LineFault) → Shown  -- the line was not played
 
 -- its bytes
-abbrev pub output_line : Output → List ℕ
+abbrev pub output_line : NamedOutput → List ℕ
 output_line (Said s) = ended (answer_text s)
 output_line Okay = ended (codes "ok")
+output_line (Started n) = ended (node_bytes n)
 output_line (Error r) = error_line (refusal_word r)
 output_line Settled = ended (codes "settled")
 output_line SettleLimit = error_line (codes "settle_limit")
@@ -147,7 +155,7 @@ abbrev pub shown_text : List Shown → List ℕ
 shown_text shown = flat_map shown_line shown
 
 -- it is no refusal
-abbrev pub is_fine_output : Output → Bool
+abbrev pub is_fine_output : NamedOutput → Bool
 is_fine_output (Error r) = false
 is_fine_output SettleLimit = false
 is_fine_output _ = true

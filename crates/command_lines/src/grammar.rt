@@ -9,15 +9,15 @@ ghost use Rattle.world_events.specs.NodeEventsSeen.{call_of};
 ghost use Rattle.command_lines.specs.Commands.{asked_by, line_in};
 ghost use Rattle.command_lines.specs.declared.faults.LineFault.TheVariants.{Memory};
 ghost use Rattle.command_lines.specs.LockTexts.{SpellsTarget, NamesSome, target_in};
-ghost use Rattle.command_lines.specs.Grammar.{WordsAsk, WordsNameNodes, FirstRefused, at_node, call_at, pair_for as a_pair_for, Node as ANode, Name as AName, Pid as APid, Rule as ARule, Resource as AResource, Requester as ARequester, Nodes as SomeNodes};
+ghost use Rattle.command_lines.specs.Grammar.{WordsAsk, WordsNameNodes, FirstRefused, at_node, call_at, call_to, pair_for as a_pair_for, Node as ANode, Name as AName, Pid as APid, Rule as ARule, Resource as AResource, Requester as ARequester, Nodes as SomeNodes};
 
 use crate::faults::LineFault;
 use crate::lock_texts::{parse_retries, parse_target};
 use name_table::Pair;
 use std::alloc::{AllocError, Global};
 use term::{
-    LockId, Name, Node, NodeNames, Pid, Rule, TextFault, parse_name, parse_node, parse_node_name,
-    parse_pid, parse_requester, parse_resource, parse_rule,
+    LockId, Name, NodeName, NodeNames, Pid, Rule, TextFault, parse_name, parse_node,
+    parse_node_name, parse_pid, parse_requester, parse_resource, parse_rule,
 };
 use transaction::{Nodes, Retries};
 use world_events::{Call, Event, WorldEvent};
@@ -27,26 +27,21 @@ use world_events::{Call, Event, WorldEvent};
 pub enum Task {
     /// An event is played.
     Play(WorldEvent),
+    /// An event is played at the present node of this name.
+    At(NodeName, Event),
     /// Letters are delivered until none waits.
     Settle,
-    /// The table of a node is shown.
-    Table(Node),
-    /// The members of a node are shown.
-    Members(Node),
+    /// The table of the present node of this name is shown.
+    Table(NodeName),
+    /// The members of the present node of this name are shown.
+    Members(NodeName),
 }
 
-/// Reads the name of a node, for the first node of that name.
-fn first_node(text: &str) -> Result<Node, TextFault>
-    ensures { MatchResult result (SpellsNodeName text.now) (RefusesText text.now) }
+/// A call at the present node of a name.
+fn call(node: NodeName, call: Call) -> Task
+    ensures { line_in result ≡ call_to node (call_of call) }
 {
-    Ok(Node::first(parse_node_name(text)?))
-}
-
-/// A call at a node.
-fn call(node: Node, call: Call) -> Task
-    ensures { line_in result ≡ call_at node (call_of call) }
-{
-    Task::Play(WorldEvent::At(node, Event::Call(call)))
+    Task::At(node, Event::Call(call))
 }
 
 /// A name for a process, under this rule.
@@ -67,7 +62,7 @@ fn exit(process: Pid) -> Task
 fn notices(process: Pid) -> Task
     ensures { line_in result ≡ call_at process.node (LookUp (NoticesOf process)) }
 {
-    call(process.node.copy(), Call::Notices(process))
+    Task::Play(WorldEvent::At(process.node.copy(), Event::Call(Call::Notices(process))))
 }
 
 /// The nodes that a lock call asks: those that it names, or all members.
@@ -96,10 +91,10 @@ fn set_lock(
     ensures memory { OnErr result (is_some named ≡ true) }
 {
     let nodes = nodes_of(alloc, named)?;
-    Ok(call(
+    Ok(Task::Play(WorldEvent::At(
         holder.node.copy(),
-        Call::SetLock(holder, id, nodes, retries),
-    ))
+        Event::Call(Call::SetLock(holder, id, nodes, retries)),
+    )))
 }
 
 /// A call of a process that gives a lock back, at its node.
@@ -114,15 +109,18 @@ fn del_lock(
     ensures memory { OnErr result (is_some named ≡ true) }
 {
     let nodes = nodes_of(alloc, named)?;
-    Ok(call(holder.node.copy(), Call::DelLock(holder, id, nodes)))
+    Ok(Task::Play(WorldEvent::At(
+        holder.node.copy(),
+        Event::Call(Call::DelLock(holder, id, nodes)),
+    )))
 }
 
 /// The values of three texts, or the fault of the first that spells none.
-fn node_name_and_pid(node: &str, name: &str, pid: &str) -> Result<(Node, Name, Pid), TextFault>
+fn node_name_and_pid(node: &str, name: &str, pid: &str) -> Result<(NodeName, Name, Pid), TextFault>
     ensures { MatchResult result (λ v. SpellsNodeName node.now v.0 × SpellsText name.now v.1 × SpellsPid pid.now v.2)
         (FirstRefused (ANode ∷ AName ∷ APid ∷ []) (node.now ∷ name.now ∷ pid.now ∷ [])) }
 {
-    Ok((first_node(node)?, parse_name(name)?, parse_pid(pid)?))
+    Ok((parse_node_name(node)?, parse_name(name)?, parse_pid(pid)?))
 }
 
 /// The same, and the rule that stands behind them.
@@ -131,13 +129,13 @@ fn node_name_pid_and_rule(
     name: &str,
     pid: &str,
     rule: &str,
-) -> Result<(Node, Name, Pid, Rule), TextFault>
+) -> Result<(NodeName, Name, Pid, Rule), TextFault>
     ensures { MatchResult result
         (λ v. SpellsNodeName node.now v.0 × SpellsText name.now v.1 × SpellsPid pid.now v.2 × SpellsRule rule.now v.3)
         (FirstRefused (ANode ∷ AName ∷ APid ∷ ARule ∷ []) (node.now ∷ name.now ∷ pid.now ∷ rule.now ∷ [])) }
 {
     Ok((
-        first_node(node)?,
+        parse_node_name(node)?,
         parse_name(name)?,
         parse_pid(pid)?,
         parse_rule(rule)?,
@@ -180,14 +178,15 @@ fn with_one(word: &str, text: &str) -> Result<Task, LineFault>
     ensures { WordsAsk (word.now ∷ text.now ∷ []) (asked_by result) }
 {
     match word {
-        "spawn" => Ok(call(first_node(text)?, Call::Spawn)),
+        "spawn" => Ok(call(parse_node_name(text)?, Call::Spawn)),
         "exit" => Ok(exit(parse_pid(text)?)),
-        "names" => Ok(call(first_node(text)?, Call::RegisteredNames)),
+        "names" => Ok(call(parse_node_name(text)?, Call::RegisteredNames)),
         "notices" => Ok(notices(parse_pid(text)?)),
-        "retry" => Ok(Task::Play(WorldEvent::At(first_node(text)?, Event::Retry))),
-        "leave" => Ok(Task::Play(WorldEvent::At(first_node(text)?, Event::Leave))),
-        "members" => Ok(Task::Members(first_node(text)?)),
-        "table" => Ok(Task::Table(first_node(text)?)),
+        "retry" => Ok(Task::At(parse_node_name(text)?, Event::Retry)),
+        "leave" => Ok(Task::At(parse_node_name(text)?, Event::Leave)),
+        "restart" => Ok(Task::Play(WorldEvent::Restart(parse_node_name(text)?))),
+        "members" => Ok(Task::Members(parse_node_name(text)?)),
+        "table" => Ok(Task::Table(parse_node_name(text)?)),
         _ => Err(LineFault::BadLine),
     }
 }
@@ -197,9 +196,9 @@ fn with_two(word: &str, text: &str, next: &str) -> Result<Task, LineFault>
     ensures { WordsAsk (word.now ∷ text.now ∷ next.now ∷ []) (asked_by result) }
 {
     match word {
-        "unregister" => Ok(call(first_node(text)?, Call::Unregister(parse_name(next)?))),
-        "whereis" => Ok(call(first_node(text)?, Call::Whereis(parse_name(next)?))),
-        "join" => Ok(call(first_node(text)?, Call::Join(parse_node(next)?))),
+        "unregister" => Ok(call(parse_node_name(text)?, Call::Unregister(parse_name(next)?))),
+        "whereis" => Ok(call(parse_node_name(text)?, Call::Whereis(parse_name(next)?))),
+        "join" => Ok(call(parse_node_name(text)?, Call::Join(parse_node(next)?))),
         "deliver" => {
             let sender = parse_node_name(text)?;
             Ok(Task::Play(WorldEvent::Deliver(sender, parse_node_name(next)?)))

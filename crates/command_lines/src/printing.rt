@@ -1,6 +1,6 @@
 //! What is printed.
 ghost use Rattle.std.specs.Prelude.{◌≡◌, ◌++◌, ◌∷◌, IfOk, OnOk, string_bytes};
-ghost use Rattle.protocol_model.specs.Script.{Said, TableIs, MembersAre};
+ghost use Rattle.protocol_model.specs.NamedEvents.{Said, Started, TableIs, MembersAre};
 ghost use Rattle.world_events.specs.NodeEventsSeen.{answer_of as any_answer, reply_of as any_reply};
 ghost use Rattle.term.specs.Rules.{rule_of};
 ghost use Rattle.world_events.specs.Refusals.{refusal_of};
@@ -120,6 +120,16 @@ pub fn members_line(alloc: Global, members: &[Node]) -> Result<String, AllocErro
     Ok(line)
 }
 
+/// The line of a node that starts.
+pub fn started_line(alloc: Global, node: &Node) -> Result<String, AllocError>
+    ensures { IfOk result (λ text. string_bytes text ≡ print.output_line (Started node.now)) }
+{
+    let mut line = String::new(alloc);
+    write!(line, "{node}")?;
+    line.push('\n')?;
+    Ok(line)
+}
+
 /// The line that is printed where a node refuses an event.
 pub fn step_line(fault: &StepFault) -> &'static str
     ensures { result.now ≡ print.error_line (print.step_word fault.now) }
@@ -148,6 +158,9 @@ pub fn refusal_line(refusal: &Refusal) -> &'static str
         Refusal::NoSuchNode => "error no_such_node\n",
         Refusal::NodeLeft => "error node_left\n",
         Refusal::EmptyLink => "error empty_link\n",
+        Refusal::StillRunning => "error still_running\n",
+        Refusal::NotToldYet(_) => "error not_told_yet\n",
+        Refusal::CreationsSpent => "error creations_spent\n",
         Refusal::Step(fault) => step_line(fault),
     }
 }

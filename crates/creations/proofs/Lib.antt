@@ -1,3 +1,21 @@
+pub use Rattle.lock_answers.proofs.Answering
+pub use Rattle.lock_answers.proofs.Chains
+pub use Rattle.lock_answers.proofs.ClientLocks
+pub use Rattle.lock_answers.proofs.Clients
+pub use Rattle.lock_answers.proofs.Events
+pub use Rattle.lock_answers.proofs.Ids
+pub use Rattle.lock_answers.proofs.Nothing
+pub use Rattle.lock_answers.proofs.Opening
+pub use Rattle.lock_answers.proofs.Orders
+pub use Rattle.lock_answers.proofs.RoundNumbers
+pub use Rattle.lock_answers.proofs.Tallies
+pub use Rattle.lock_answers.proofs.Theorem
+pub use Rattle.lock_answers.proofs.Together
+pub use Rattle.lock_answers.proofs.Told
+pub use Rattle.lock_answers.proofs.TriedEvents
+pub use Rattle.lock_answers.proofs.Tries
+pub use Rattle.lock_answers.proofs.Walk
+pub use Rattle.lock_answers.proofs.Walking
 pub mod Numbers
 pub mod NamedRuns
 pub mod Inside
@@ -26,3 +44,5 @@ pub mod RestartsLegal
 pub mod Refusing
 pub mod ByName
 pub mod NamedCalls
+pub mod NobodyBack
+pub mod NumbersRead

@@ -34,7 +34,7 @@ pub named_runs_are_runs : NamedRunsAreRuns
 named_runs_are_runs o es = run-plain o (opening_named o) es
 
 -- what two lists of events of named nodes are in the world
-plain_events-append : (o : NamedOpening) (w : NamedWorld) (es fs : List NamedEvent) →
+pub plain_events-append : (o : NamedOpening) (w : NamedWorld) (es fs : List NamedEvent) →
     plain_events o w (es ++ fs) ≡ plain_events o w es ++ plain_events o (run_named o w es) fs
 plain_events-append o w [] fs = refl
 plain_events-append o w (e ∷ es) fs =

@@ -9,3 +9,5 @@ pub mod NamedRows
 pub mod NamedLeftovers
 pub mod NamedLinks
 pub mod NamedQuietCalls
+pub mod NobodyBack
+pub mod JoinNumbers

@@ -4,26 +4,9 @@ use Rattle.registry_model.specs.Process.{nodes_of}
 use Rattle.registry_model.specs.Table.{Table}
 use Rattle.protocol_model.specs.Event.{Event, Answer, NoSuchNode, NodeLeft}
 use Rattle.protocol_model.specs.World.{left, WorldEvent, all_answers}
+pub use Rattle.protocol_model.specs.NamedEvents.{NamedLine, Play, Settle, TableAt, MembersAt, NamedOutput, Said, Okay, Started, Error, Settled, SettleLimit, TableIs, MembersAre}
 use Rattle.creations.specs.NodeNames.{NamedOpening, is_name, opening_of}
 use Rattle.creations.specs.NamedWorld.{NamedWorld, NamedEvent, At, AtNode, Deliver, Restart, NamedRefusal, Plain, opening_named, present_node, next_node, named_refusal, happens_named, named_answers, run_named, plain_events}
-
--- a line of a script
-pub data NamedLine : Type 0 where
-  Play : (event : NamedEvent) → NamedLine
-  Settle : NamedLine  -- deliveries until all links to present nodes are empty, or a limit of them
-  TableAt : (name : ℕ) → NamedLine
-  MembersAt : (name : ℕ) → NamedLine
-
--- a line that is printed
-pub data NamedOutput : Type 0 where
-  Said : (answer : Answer) → NamedOutput
-  Okay : NamedOutput  -- an exit or a leave was accepted
-  Started : (node : ℕ) → NamedOutput  -- this node has started
-  Error : (refusal : NamedRefusal) → NamedOutput
-  Settled : NamedOutput
-  SettleLimit : NamedOutput  -- some link isn't empty yet
-  TableIs : (table : Table) → NamedOutput
-  MembersAre : (members : List ℕ) → NamedOutput  -- rising
 
 -- a script and what it has to print; limit: the most deliveries of one `Settle`
 pub record NamedRow : Type 0 where

@@ -7,27 +7,12 @@ use Rattle.protocol_model.specs.Event.{Event, Answer, Refusal, NoSuchNode}
 use Rattle.protocol_model.specs.Links.{is_nil}
 use Rattle.protocol_model.specs.World.{World, left, WorldEvent, other, opening_world, refusal, run, all_answers}
 use Rattle.protocol_model.specs.Course.{is_down_first}
+pub use Rattle.protocol_model.specs.NamedEvents.{NamedEvent, At, AtNode, Deliver, Restart, NamedRefusal, Plain, StillRunning, NotToldYet, CreationsSpent}
 use Rattle.creations.specs.NodeNames.{NamedOpening, is_name, node_of, name_of, creation_of, first_nodes, opening_of}
 
 pub record NamedWorld : Type 0 where
   pub world : World
   pub present : ℕ → ℕ  -- the present creation of each name
-
--- A lock call names names as in a world: each means all its nodes, so that the present one is asked (`named_target`).
--- An event at the present node of a name; one at a node, as where a process says of which; the delivery of the oldest letter from name to
--- name; and a name that comes back
-pub data NamedEvent : Type 0 where
-  At : (name : ℕ) → (event : Event) → NamedEvent
-  AtNode : (node : ℕ) → (event : Event) → NamedEvent
-  Deliver : (sender : ℕ) → (receiver : ℕ) → NamedEvent
-  Restart : (name : ℕ) → NamedEvent
-
--- the refusals of a world, and those of a restart
-pub data NamedRefusal : Type 0 where
-  Plain : (refusal : Refusal) → NamedRefusal
-  StillRunning : NamedRefusal
-  NotToldYet : (node : ℕ) → NamedRefusal
-  CreationsSpent : NamedRefusal
 
 module _ (o : NamedOpening) where
   -- the present creation of each name is the first

@@ -5,6 +5,7 @@
 ghost use Rattle.creations.specs.NodeNames.{NumbersAreExact, NumbersAreThoseOfTheProgram};
 ghost use Rattle.creations.specs.NamedWorld.{NamedRunsAreRuns};
 ghost use Rattle.creations.specs.Restarts.{NodesAlwaysStand, OlderLettersAreDropped, RestartIsItsNotices, RestartsSayWhy, RestartsStartAnew};
+ghost use Rattle.creations.specs.JoinNumbers.{JoinNumbersSuffice};
 ghost use Rattle.creations.specs.Inherited.{NothingIsInherited};
 ghost use Rattle.creations.specs.NamedLinks.{LinksAreAlwaysByName};
 ghost use Rattle.creations.specs.NamedRows.{NamedComputes, name_comes_back, restart_waits_for_all, older_node_is_another, retry_asks_the_new_node, name_without_a_member, older_letters_are_dropped};
@@ -12,6 +13,7 @@ ghost use Rattle.creations.specs.Lifted.{NamedAgreement, NamedExclusion, NamedCl
 ghost use Rattle.creations.specs.NamedLeftovers.{NamedNothingIsLeft};
 ghost use Rattle.creations.specs.NamedQuietCalls.{QuietCallsOfNames};
 ghost use Rattle.creations.specs.NamedCalls.{NamesAlwaysMeanMembers};
+ghost use Rattle.creations.specs.NobodyBack.{NobodyCameBack};
 
 /// A name and a creation are one number, and numbers rise by name, then creation.
 pub fn numbers_are_exact()
@@ -62,6 +64,12 @@ pub fn older_letters_are_dropped()
     ensures { OlderLettersAreDropped }
 {}
 
+/// The history needs the number of no join by a node that was replaced: whatever numbers these joins are given, a running node makes the
+/// same of a letter, its entries in the history too.
+pub fn join_numbers_suffice()
+    ensures { JoinNumbersSuffice }
+{}
+
 /// What the nodes of one name sent to the present node of another is one list, the letters of older nodes first: a delivery takes its
 /// front and leaves the rest, behind which comes what a node sends itself; and a node that was replaced adds nothing to it. A delivery is
 /// refused for an empty link only where this list is empty; and it is there, from a name of the world to one whose present node runs.
@@ -108,6 +116,12 @@ pub fn quiet_calls()
 /// one of them is no member's.
 pub fn names_mean_members()
     ensures { NamesAlwaysMeanMembers }
+{}
+
+/// Until a name comes back a world of named nodes is that of the first node of each name: its nodes stand the same, and an event of
+/// first nodes is refused and answered the same.
+pub fn nobody_came_back()
+    ensures { NobodyCameBack }
 {}
 
 /// Nothing is left over there, as in all worlds: once no letter waits for a running node, nobody keeps a lock or a life, nor a name on a

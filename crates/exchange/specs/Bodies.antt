@@ -1,7 +1,7 @@
 -- The bodies of letters, as the protocol's letters.
 use Rattle.registry_model.specs.Settlement.{Fate, Settled}
 use Rattle.protocol_model.specs.Letter.{Letter}
-use Rattle.term.specs.NodeSets.{set_of}
+use Rattle.term.specs.NodeSets.{set_of, with_older}
 use Rattle.exchange.specs.declared.bodies.Admission.{Admission}
 use Rattle.exchange.specs.declared.bodies.Welcome.{Welcome}
 
@@ -23,4 +23,4 @@ fate_in w = record { kills = w.kills.items; notices = w.notices.items }
 
 -- the letter to the joiner
 abbrev pub welcome_letter : Welcome → Letter
-welcome_letter w = Letter.Welcome (set_of w.members) w.pairs.items (set_of w.told) (fate_in w)
+welcome_letter w = Letter.Welcome (set_of w.members) w.pairs.items (with_older w.told) (fate_in w)

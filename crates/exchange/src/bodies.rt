@@ -4,7 +4,7 @@ ghost use Rattle.registry_model.specs.Process.{with_node};
 ghost use Rattle.registry_model.specs.Table.{put_all, remove_all, is_rising};
 ghost use Rattle.registry_model.specs.Settlement.{with_settled};
 ghost use Rattle.protocol_model.specs.Letter.{Letter};
-ghost use Rattle.term.specs.NodeSets.{set_of, most_nodes, with_node as and_node};
+ghost use Rattle.term.specs.NodeSets.{set_of, most_nodes, with_node as and_node, with_older};
 ghost use Rattle.exchange.specs.Bodies.{admit_letter, welcome_letter};
 
 use crate::notices::Noted;
@@ -35,7 +35,7 @@ pub struct Welcome {
     pub members: NodeSet,
     /// The cluster's table as it is when all that was settled is written, rising.
     pub pairs: Vec<Pair>,
-    /// The nodes that the sponsor was told have left.
+    /// Of each name the last node that the sponsor was told has left; it was told so of all older ones, too.
     pub told: NodeSet,
     /// The processes that die, each once.
     pub kills: Vec<Pid>,
@@ -143,7 +143,7 @@ pub fn welcome_of<N: Names<Memory = Global>>(
     requires { length (and_node members.now joiner.now) ≤ most_nodes }
     ensures letter { IfOk result (λ body. welcome_letter body
         ≡ Letter.Welcome (with_node joiner.now (set_of members.now))
-        (with_settled settled.now (N.contents table.now)) (set_of told.now) settled.now.fate) }
+        (with_settled settled.now (N.contents table.now)) (with_older told.now) settled.now.fate) }
     ensures rising { IfOk result (λ body. is_rising body.pairs.items ≡ true) }
 {
     let mut after = table.copy(alloc)?;

@@ -149,7 +149,7 @@ module _ (h0 h : Held) (c : LockCall) (p : Process) (k : LockCalls) (next : Lock
   stood = stands ∙ ap (λ (o : Option AnyCall). stands_by next o (calls_seen h0.calls))
       (sym (same_found h h0 p (as_call c) (sym same) found))
 
-  -- and the node is whole, where the nodes of the call are of the world
+  -- and the node is whole, where the nodes of the call have started
   pub whole_stood : IsWhole h0 → k.node ≡ h0.calls.node → IsCallWithin h0.world now.phase
       → IsWhole (record h0 { calls = k })
   whole_stood whole node within =
@@ -157,7 +157,7 @@ module _ (h0 h : Held) (c : LockCall) (p : Process) (k : LockCalls) (next : Lock
       (put_call now (calls_seen h0.calls)) stood
       (All-put_call (λ d. IsCallWithin h0.world d.phase) now (calls_seen h0.calls) within whole.called))
 
--- the nodes of a round that f answered are of the world
+-- the nodes of a round that f answered have started
 pub answer_within : (h0 h : Held) (c : LockCall) (r : HeldRound) (f : ℕ) (granted : Bool) → h0 ≡ h
     → c.phase ≡ Asking r → owes (seen r) f ≡ true → IsCallWithin h.world (phase_of c.phase)
     → IsCallWithin h0.world (answered f granted (as_call c).phase)

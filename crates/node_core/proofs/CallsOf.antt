@@ -144,7 +144,7 @@ module _ (h : Held) (t : Made) (c : LockCall) (p : Process) (nodes : List ℕ) (
       ∙ ap (λ (x : AnyRetries). put_call (record (as_call c) { retries = x; phase = LockPhase.Asking (seen r) })
       (calls_seen h0.calls)) (sym (less_is c.retries)))))
 
--- the node is whole where a call of it asks by a round of its world
+-- the node is whole where a call of it asks by a round of nodes that have started
 pub whole_again : (h0 h : Held) (c : LockCall) (p : Process) (k : LockCalls) (r : HeldRound) → h0 ≡ h
     → Some (as_call c) ≡ call_of p (calls_seen h.calls)
     → calls_seen k ≡ asks_again (seen r) (call_of p (calls_seen h0.calls)) (calls_seen h0.calls)

@@ -8,7 +8,7 @@ use Rattle.registry_model.specs.Settlement.{Notice}
 use Rattle.protocol_model.specs.Event.{is_join}
 use Rattle.protocol_model.specs.LockTable.{Locks}
 use Rattle.protocol_model.specs.Node.{Op as AnyOp, Current}
-use Rattle.term.specs.NodeSets.{set_of}
+use Rattle.term.specs.NodeSets.{set_of, with_older}
 use Rattle.exit_watch.specs.Held.{Held as Watch}
 use Rattle.lock_calls.specs.Held.{Held as LockCalls}
 use Rattle.transaction.specs.declared.op.Op.{Op}
@@ -25,10 +25,10 @@ use Rattle.node_core.specs.Seen.{node_of, phase_of, current_of}
 use Rattle.node_core.specs.Steps.{IsAsBefore}
 use Rattle.node_core.specs.Copies.{IsSamePhase, IsAsBounded}
 
--- the other node of an operation is of the world, as the protocol has the operation
+-- the other node of an operation has started, as the protocol has the operation
 abbrev within_by : List ℕ → AnyOp → Type 0
-within_by world (AnyOp.Join k m) = set_of world m ≡ true
-within_by world (AnyOp.Admission j pairs) = set_of world j ≡ true
+within_by world (AnyOp.Join k m) = with_older world m ≡ true
+within_by world (AnyOp.Admission j pairs) = with_older world j ≡ true
 within_by world _ = Unit {0}
 
 within_to : (world : List ℕ) (op : Op) → IsOpWithin world op → within_by world (op_of op)
@@ -183,7 +183,7 @@ alike_whole h k a whole = subst IsWhole (is_with_work h k a) (record {
   self = whole.self;
   members = whole.members;
   told = whole.told;
-  here = whole.here;
+  apart = whole.apart;
   queue = queue_within h.world h.registrar.queue k.registrar.queue a.work.queue whole.queue;
   current = current_within h.world h.registrar.current k.registrar.current a.work.current whole.current;
   awaited = λ c e. whole.awaited c (subst (λ (xs : List ℕ). set_of xs c ≡ true) a.work.awaited e);

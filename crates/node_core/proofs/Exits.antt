@@ -16,6 +16,7 @@ use Rattle.node_events.specs.Made.{Made, SendsAll, entered}
 use Rattle.node_core.specs.Held.{Held, IsWhole, bound_of}
 use Rattle.node_core.specs.Seen.{turn_of}
 use Rattle.node_core.specs.Steps.{Makes}
+use Rattle.node_core.proofs.Bounds.{of_world}
 use Rattle.node_core.proofs.Sends.{sent_all_is}
 use Rattle.node_core.proofs.Rules.{entered_is}
 use Rattle.node_core.proofs.Whole.{whole_watching}
@@ -37,7 +38,7 @@ exits h k w cs t u v p q r whole same set dead dropped entering releasing put se
     subst (λ (x : Held). Makes (λ n a y. die n a p (enter (AnyEntry.Exit p) y)) x t after u) same (record {
       name = refl;
       world = refl;
-      turn = sent_all_is after (entered (Exit p) t) u k.members (ReleaseOf p) made set whole.members
+      turn = sent_all_is after (entered (Exit p) t) u k.members (ReleaseOf p) made set (of_world k.world k.members whole.members)
           ∙ ap (λ (x : Turn). send_all (bound_of k.world) (set_of k.members) (AnyLetter.ReleaseOf p) x)
           (entered_is after t (Exit p) ∙ ap (λ (x : AnyWatch). known x (seen cs)) dead
           ∙ ap (known (with_dead p.serial k.watch.watch)) dropped);

@@ -23,10 +23,10 @@ use Rattle.protocol_model.specs.Calling.{die, kill}
 use Rattle.protocol_model.specs.Reading.{with_member, noted, admitted, joined_with, welcomed, welcome}
 use Rattle.protocol_model.specs.Deciding.{admit, held}
 use Rattle.protocol_model.specs.Registrar.{finish}
-use Rattle.term.specs.NodeSets.{IsNodeSet, set_of, without_node, with_node as and_node, most_nodes}
+use Rattle.term.specs.NodeSets.{IsNodeSet, set_of, with_older, with_node as and_node, most_nodes}
+use Rattle.term.proofs.Older.{held as is_held}
 use Rattle.term.proofs.NodeSets.{set_of-with_node}
 use Rattle.term.proofs.NodeLists.{rising-with_node}
-use Rattle.term.proofs.Subsets.{set_of-filter}
 use Rattle.boss_order.proofs.Sets.{nodes_of-set_of, nodes_of-within}
 use Rattle.exit_watch.specs.Held.{Held as Watch, with_killed, AreSuspected}
 use Rattle.lock_calls.specs.Held.{Held as LockCalls, seen}
@@ -44,18 +44,18 @@ use Rattle.node_events.specs.declared.events.Letter.TheVariants.{ReleaseOf, Appl
 use Rattle.node_events.specs.declared.events.Reply.TheVariants.{Joined as IsJoined}
 use Rattle.node_core.specs.declared.node.Phase.TheVariants.{Writing}
 use Rattle.node_events.specs.Made.{Made, sent, SendsAll, entered, answered}
-use Rattle.node_core.specs.Held.{Held, IsWhole, IsWithin, bound_of}
+use Rattle.node_core.specs.Held.{Held, IsWhole, AreOf, HaveLeft, bound_of}
 use Rattle.node_core.specs.Joining.{Welcomes, TellsToAdmit, join_by, kill_one, put_names, remove_names, IsAdmitting, IsWelcomeTo}
 use Rattle.node_events.specs.Letters.{letter_of}
 use Rattle.node_core.specs.Seen.{node_of, turn_of, current_of}
 use Rattle.node_events.specs.Seen.{answer_of, reply_of, unnumbered}
 use Rattle.node_core.specs.Steps.{Makes, Works}
-use Rattle.node_core.proofs.Bounds.{all_below}
+use Rattle.node_core.proofs.Bounds.{all_below, of_world}
 use Rattle.node_core.proofs.Sends.{sent_is, sent_all_is}
 use Rattle.node_core.proofs.Rules.{followed, entered_is}
 use Rattle.node_core.proofs.Rounds.{first_passes}
 use Rattle.node_core.proofs.Locking.{made_as}
-use Rattle.node_core.proofs.Gone.{told_is}
+use Rattle.node_core.proofs.Gone.{more_within, more_is, stands}
 
 -- an answer more
 answered_is : (h : Held) (t : Made) (s : Answer)
@@ -73,7 +73,8 @@ kills_one h k w cs t u p r lived whole same set is_so lived_is killed dropped re
       name = refl;
       world = refl;
       turn = sent_all_is after t u k.members (ReleaseOf p)
-          (subst (λ (x : Process). SendsAll k.members (ReleaseOf x) t u) releasing sends) set whole.members
+          (subst (λ (x : Process). SendsAll k.members (ReleaseOf x) t u) releasing sends) set
+          (of_world k.world k.members whole.members)
           ∙ ap (λ (x : Turn). send_all n (set_of k.members) (AnyLetter.ReleaseOf p) x)
           (ap (λ (x : AnyWatch). known x (seen cs)) dead ∙ ap (known (with_dead p.serial k.watch.watch)) dropped)
           ∙ ap (λ (b : Bool). if b then die n k.name p (turn_of k t) else turn_of k t) (sym live);
@@ -131,33 +132,68 @@ notes h h1 t lists fate notices same more is =
           ∙ ap (λ (ns : List Noted). list_under serial h.notices ++ notices_to (process_of h.name serial) ns) (sym is)));
     })
 
--- h is the node, which is told by its welcome of members and of nodes that have left. either: those that one of the two
--- was told of; told: these without the node itself; rest: the members that haven't left
-module _ (h : Held) (body : Welcome) (either told rest members : List ℕ) (table : Table) (v : Watch) (whole : IsWhole h)
-    (both : (c : ℕ) → set_of either c ≡ (set_of h.world c && (set_of h.told c || set_of body.told c)))
-    (less : told ≡ without_node either h.name)
-    (stay : (c : ℕ) → set_of rest c ≡ (set_of body.members c && not (set_of told c)))
+-- h is the node, which is welcomed; told: all of whom it is told then
+pub record IsTold (h : Held) (body : Welcome) (told : List ℕ) : Type 0 where
+  pub left : HaveLeft h.world told
+  pub here : with_older told h.name ≡ false
+  pub are : IsWelcomeTo h.world h.name body → with_older told ≡ (λ c. with_older h.told c || with_older body.told c)
+
+-- either: those that it or its sponsor was told of
+module _ (h : Held) (body : Welcome) (either : List ℕ) (whole : IsWhole h)
+    (both : (c : ℕ) → with_older either c
+    ≡ (with_older h.world c && (with_older h.told c || with_older body.told c))) where
+  -- it is told of these, where it isn't one of them
+  pub told_either : with_older either h.name ≡ false → IsTold h body either
+  told_either here = record {
+    left = record {
+      one = whole.told.one;
+      started = λ c e. first_passes (with_older h.world c) (with_older h.told c || with_older body.told c)
+          (sym (both c) ∙ e);
+      older = λ c w out. both c ∙ rw (w, whole.told.older c w out) refl;
+    };
+    here = here;
+    are = λ to. fun_ext (λ c. both c ∙ all (with_older h.world c) (with_older h.told c) (with_older body.told c)
+        (whole.told.started c) (to.told c));
+  }
+    where
+      all : (w g t : Bool) → (g ≡ true → w ≡ true) → (t ≡ true → w ≡ true) → (w && (g || t)) ≡ (g || t)
+      all true g t p q = refl
+      all false false false p q = refl
+      all false true t p q = absurd (cc (p refl))
+      all false false true p q = absurd (cc (q refl))
+
+  -- where it is one of them, no welcome to it says so: it is told of nobody new
+  pub told_before : (told : List ℕ) → told ≡ h.told → with_older either h.name ≡ true → IsTold h body told
+  told_before told same here = subst (IsTold h body) (sym same) (record {
+    left = whole.told;
+    here = whole.apart h.name whole.self;
+    are = λ to. absurd (never (with_older h.world h.name) (with_older h.told h.name) (with_older body.told h.name)
+        (whole.apart h.name whole.self) to.here (sym (both h.name) ∙ here));
+  })
+    where
+      never : (w g t : Bool) → g ≡ false → t ≡ false → (w && (g || t)) ≡ true → ⊥
+      never true false false p q e = cc
+      never false g t p q e = cc
+      never w true t p q e = cc
+      never w false true p q e = cc
+
+-- rest: the members of the welcome that haven't left
+module _ (h : Held) (body : Welcome) (told rest members : List ℕ) (table : Table) (v : Watch) (whole : IsWhole h)
+    (known : IsTold h body told)
+    (stay : (c : ℕ) → set_of rest c ≡ (set_of body.members c && not (with_older told c)))
     (are : (c : ℕ) → set_of members c ≡ (set_of h.world c && (set_of rest c || (c == h.name)))) where
   -- the node once it has moved in
   abbrev moved : Held
   moved = record h { members = members; told = told; joined = true; table = table; watch = v }
-
-  -- all of whom it is told
-  told_at : (c : ℕ) → set_of told c
-      ≡ ((set_of h.world c && (set_of h.told c || set_of body.told c)) && not (c == h.name))
-  told_at c = ap (λ (xs : List ℕ). set_of xs c) less ∙ set_of-filter (λ m. not (m == h.name)) either c
-      ∙ ap (λ (b : Bool). b && not (c == h.name)) (both c)
 
   pub whole_moved : v.node ≡ h.watch.node → AreSuspected v table → IsWhole moved
   whole_moved node suspected = record {
     self = are h.name ∙ own (set_of h.world h.name) (set_of rest h.name) (h.name == h.name)
         (whole.members h.name whole.self) (eq-eqb h.name h.name refl);
     members = λ c e. first_passes (set_of h.world c) (set_of rest c || (c == h.name)) (sym (are c) ∙ e);
-    told = λ c e. first_passes (set_of h.world c) (set_of h.told c || set_of body.told c)
-        (first_passes (set_of h.world c && (set_of h.told c || set_of body.told c)) (not (c == h.name))
-        (sym (told_at c) ∙ e));
-    here = told_at h.name ∙ none (set_of h.world h.name && (set_of h.told h.name || set_of body.told h.name))
-        (h.name == h.name) (eq-eqb h.name h.name refl);
+    told = known.left;
+    apart = λ c e. apart c (set_of h.world c) (set_of body.members c) (with_older told c) (c == h.name) refl refl
+        (ap (λ (b : Bool). set_of h.world c && (b || (c == h.name))) (sym (stay c)) ∙ sym (are c) ∙ e);
     queue = whole.queue;
     current = whole.current;
     awaited = whole.awaited;
@@ -174,48 +210,28 @@ module _ (h : Held) (body : Welcome) (either told rest members : List ℕ) (tabl
       own w r false p q = cc
       own false r e p q = cc
 
-      none : (b e : Bool) → e ≡ true → (b && not e) ≡ false
-      none true true p = refl
-      none false true p = refl
-      none b false p = cc
+      apart : (c : ℕ) (w m t b : Bool) → with_older told c ≡ t → (c == h.name) ≡ b
+          → (w && ((m && not t) || b)) ≡ true → t ≡ false
+      apart c w m false b is same e = refl
+      apart c true true true false is same e = cc
+      apart c true false true false is same e = cc
+      apart c false m true b is same e = cc
+      apart c true m true true is same e =
+          sym is ∙ ap (with_older told) (eqb-true c h.name same) ∙ known.here
 
   -- the body is a welcome to the node
   module _ (to : IsWelcomeTo h.world h.name body) where
-    told_are : set_of told ≡ (λ c. set_of h.told c || set_of body.told c)
-    told_are = fun_ext (λ c. told_at c ∙ go c (c == h.name) refl)
-      where
-        within : (w g t : Bool) → (g ≡ true → w ≡ true) → (t ≡ true → w ≡ true) → ((w && (g || t)) && true) ≡ (g || t)
-        within true true t p q = refl
-        within true false true p q = refl
-        within true false false p q = refl
-        within false false false p q = refl
-        within false true t p q = absurd (cc (p refl))
-        within false false true p q = absurd (cc (q refl))
-
-        never : (w g t : Bool) → g ≡ false → t ≡ false → ((w && (g || t)) && false) ≡ (g || t)
-        never true false false p q = refl
-        never false false false p q = refl
-        never w true t p q = cc
-        never w false true p q = cc
-
-        go : (c : ℕ) (b : Bool) → (c == h.name) ≡ b
-            → ((set_of h.world c && (set_of h.told c || set_of body.told c)) && not b)
-            ≡ (set_of h.told c || set_of body.told c)
-        go c false e = within (set_of h.world c) (set_of h.told c) (set_of body.told c) (whole.told c) (to.told c)
-        go c true e = never (set_of h.world c) (set_of h.told c) (set_of body.told c)
-            (ap (set_of h.told) (eqb-true c h.name e) ∙ whole.here)
-            (ap (set_of body.told) (eqb-true c h.name e) ∙ to.here)
-
-    members_are : set_of members ≡ (λ c. set_of body.members c && not (set_of told c))
+    members_are : set_of members ≡ (λ c. set_of body.members c && not (with_older told c))
     members_are = fun_ext (λ c. are c ∙ ap (λ (b : Bool). set_of h.world c && (b || (c == h.name))) (stay c)
         ∙ go c (c == h.name) refl)
       where
-        within : (w m t : Bool) → (m ≡ true → w ≡ true) → (w && ((m && not t) || false)) ≡ (m && not t)
+        within : (w m t : Bool) → (m ≡ true → t ≡ false → w ≡ true) → (w && ((m && not t) || false)) ≡ (m && not t)
         within true true true p = refl
         within true true false p = refl
         within true false t p = refl
         within false false t p = refl
-        within false true t p = absurd (cc (p refl))
+        within false true true p = refl
+        within false true false p = absurd (cc (p refl refl))
 
         own : (w m t : Bool) → w ≡ true → m ≡ true → t ≡ false → (w && ((m && not t) || true)) ≡ (m && not t)
         own true true false p q r = refl
@@ -227,40 +243,86 @@ module _ (h : Held) (body : Welcome) (either told rest members : List ℕ) (tabl
         at_name c e s b is = ap s (eqb-true c h.name e) ∙ is
 
         go : (c : ℕ) (b : Bool) → (c == h.name) ≡ b
-            → (set_of h.world c && ((set_of body.members c && not (set_of told c)) || b))
-            ≡ (set_of body.members c && not (set_of told c))
-        go c false e = within (set_of h.world c) (set_of body.members c) (set_of told c) (to.members c)
-        go c true e = own (set_of h.world c) (set_of body.members c) (set_of told c)
-            (at_name c e (set_of h.world) true (to.members h.name to.self))
+            → (set_of h.world c && ((set_of body.members c && not (with_older told c)) || b))
+            ≡ (set_of body.members c && not (with_older told c))
+        go c false e = within (set_of h.world c) (set_of body.members c) (with_older told c)
+            (λ member here. stands h.world told c known.left (to.members c member) here)
+        go c true e = own (set_of h.world c) (set_of body.members c) (with_older told c)
+            (at_name c e (set_of h.world) true (whole.members h.name whole.self))
             (at_name c e (set_of body.members) true to.self)
-            (at_name c e (set_of told) false (ap (λ (s : Nodes). s h.name) told_are
-            ∙ ap (λ (b : Bool). b || set_of body.told h.name) whole.here ∙ to.here))
+            (at_name c e (with_older told) false known.here)
 
     -- the node has moved in
     pub moves_in : (h1 : Held) (t : Made) → h ≡ h1 → v.watch ≡ h.watch.watch
-        → (is_rising body.pairs.items ≡ true → table ≡ without (set_of told) body.pairs.items)
+        → (is_rising body.pairs.items ≡ true → table ≡ without (with_older told) body.pairs.items)
         → Makes (λ n a. with_replica (joined_with (set_of body.members) body.pairs.items
-        (λ c. set_of h1.told c || set_of body.told c))) h1 t moved t
+        (λ c. with_older h1.told c || with_older body.told c))) h1 t moved t
     moves_in h1 t same watch pairs =
         subst (λ (x : Held). Makes (λ n a. with_replica (joined_with (set_of body.members) body.pairs.items
-        (λ c. set_of x.told c || set_of body.told c))) x t moved t) same (record {
+        (λ c. with_older x.told c || with_older body.told c))) x t moved t) same (record {
           name = refl;
           world = refl;
-          turn = ap (λ (w : AnyWatch). known w table (set_of members) (set_of told)) watch
-              ∙ ap (λ (x : Table). known h.watch.watch x (set_of members) (set_of told)) (pairs to.rising)
-              ∙ ap (λ (s : Nodes). known h.watch.watch (without (set_of told) body.pairs.items) s (set_of told))
+          turn = ap (λ (w : AnyWatch). shown w table (set_of members) (with_older told)) watch
+              ∙ ap (λ (x : Table). shown h.watch.watch x (set_of members) (with_older told)) (pairs to.rising)
+              ∙ ap (λ (s : Nodes). shown h.watch.watch (without (with_older told) body.pairs.items) s (with_older told))
               members_are
-              ∙ ap (λ (s : Nodes). known h.watch.watch (without s body.pairs.items)
-              (λ c. set_of body.members c && not (s c)) s) told_are;
+              ∙ ap (λ (s : Nodes). shown h.watch.watch (without s body.pairs.items)
+              (λ c. set_of body.members c && not (s c)) s) (known.are to);
         })
       where
-        known : AnyWatch → Table → Nodes → Nodes → Turn
-        known w x m g = record (turn_of h t) {
+        shown : AnyWatch → Table → Nodes → Nodes → Turn
+        shown w x m g = record (turn_of h t) {
           node = record (node_of h) {
             replica = record (node_of h).replica { table = x; members = m; told = g; joined = true };
             watch = w;
           };
         }
+
+-- a node that hasn't left is a member from now on
+module _ (h : Held) (j : ℕ) (members : List ℕ) (whole : IsWhole h) (here : with_older h.told j ≡ false)
+    (are : (c : ℕ) → set_of members c ≡ (set_of h.world c && (set_of h.members c || (c == j)))) where
+  pub whole_with_member : IsWhole (record h { members = members })
+  whole_with_member = record {
+    self = are h.name ∙ rw (whole.members h.name whole.self, whole.self) refl;
+    members = more_within h.world h.members members j are;
+    told = whole.told;
+    apart = λ c e. apart c (set_of h.members c) (c == j) refl refl
+        (second (set_of h.world c) (set_of h.members c || (c == j)) (sym (are c) ∙ e));
+    queue = whole.queue;
+    current = whole.current;
+    awaited = whole.awaited;
+    phase = whole.phase;
+    watch = whole.watch;
+    suspected = whole.suspected;
+    calls = whole.calls;
+    called = whole.called;
+  }
+    where
+      second : (a b : Bool) → (a && b) ≡ true → b ≡ true
+      second true b e = e
+      second false b e = cc
+
+      apart : (c : ℕ) (m b : Bool) → set_of h.members c ≡ m → (c == j) ≡ b → (m || b) ≡ true → with_older h.told c ≡ false
+      apart c true b member same e = whole.apart c member
+      apart c false true member same e = ap (with_older h.told) (eqb-true c j same) ∙ here
+      apart c false false member same e = cc
+
+  pub has_member : (h1 : Held) (t : Made) → h ≡ h1 → with_older h1.world j ≡ true
+      → Makes (λ n a. with_replica (with_member j)) h1 t (record h { members = members }) t
+  has_member h1 t same =
+      subst (λ (x : Held). with_older x.world j ≡ true
+      → Makes (λ n a. with_replica (with_member j)) x t (record h { members = members }) t) same (λ started. record {
+        name = refl;
+        world = refl;
+        turn = ap (λ (s : Nodes). shown (record (node_of h).replica { members = s }))
+            (more_is h.world h.members members j are whole.members (stands h.world h.told j whole.told started here))
+            ∙ ap (λ (b : Bool). shown (if b
+            then (node_of h).replica else record (node_of h).replica { members = with_node j (set_of h.members) }))
+            (sym here);
+      })
+    where
+      shown : Replica → Turn
+      shown v = record (turn_of h t) { node = record (node_of h) { replica = v } }
 
 -- the registrar may be freed before or behind the deaths
 kills_at : (n a : ℕ) (ps : List Process) (x : Current) (u : Turn)
@@ -289,7 +351,7 @@ joining_is f k (Current.Writing op asked awaited reply) e = cc
 
 -- a node that moves in and then adds notices to those of its processes is welcomed
 pub arrives : (h m k : Held) (t : Made) (members : Nodes) (pairs : Table) (told : Nodes) (fate : Fate)
-    → Makes (λ n a. with_replica (joined_with members pairs (λ d. set_of h.told d || told d))) h t m t
+    → Makes (λ n a. with_replica (joined_with members pairs (λ d. with_older h.told d || told d))) h t m t
     → Makes (λ n a. with_replica (noted a fate)) m t k t
     → Makes (λ n a. with_replica (welcomed a members pairs told fate)) h t k t
 arrives h m k t members pairs told fate M N =
@@ -298,15 +360,15 @@ arrives h m k t members pairs told fate M N =
 -- a join is granted: the registrar is free, the node moves in, those that clash die, and it is answered
 pub welcomes : (h0 h m k : Held) (t u v x : Made) (f d k0 : ℕ) (w : Work) (body : Welcome) (s : Answer) (number : ℕ → ℕ)
     → h0 ≡ h → Some k0 ≡ join_by f (node_of h).current → w ≡ record h0.registrar { current = None; awaited = [] }
-    → Makes (λ n a. with_replica (welcomed a (set_of body.members) body.pairs.items (set_of body.told) (fate_in body)))
+    → Makes (λ n a. with_replica (welcomed a (set_of body.members) body.pairs.items (with_older body.told) (fate_in body)))
     (record h0 { registrar = w }) t m t
     → Makes (λ n a. kill n a body.kills.items) m t k u
     → s ≡ record { node = k.name; call = k0; reply = IsJoined } → v ≡ answered s u → d ≡ f → x ≡ sent d Applied v
-    → Makes (λ n a y. welcome n a number f (set_of body.members) body.pairs.items (set_of body.told) (fate_in body)
+    → Makes (λ n a y. welcome n a number f (set_of body.members) body.pairs.items (with_older body.told) (fate_in body)
     y.node.current y) h t k x
 welcomes h0 h m k t u v x f d k0 w body s number same waits free M K answer answering to sending =
     subst (λ (y : Held). Some k0 ≡ join_by f (node_of y).current → Makes (λ n a z. welcome n a number f
-    (set_of body.members) body.pairs.items (set_of body.told) (fate_in body) z.node.current z) y t k x) same
+    (set_of body.members) body.pairs.items (with_older body.told) (fate_in body) z.node.current z) y t k x) same
     (λ waits0. record {
       name = both.name;
       world = both.world;
@@ -319,7 +381,7 @@ welcomes h0 h m k t u v x f d k0 w body s number same waits free M K answer answ
           ∙ ap (λ (y : Work). kill n a body.kills.items (moving (turn_of (record h0 { registrar = y }) t))) free
           ∙ kills_at n a body.kills.items Current.Free (moving (turn_of h0 t))))
           ∙ ap (λ (b : Bool). if b then granted else turn_of h0 t) (sym (eq-eqb f f refl))
-          ∙ ap (λ (y : Current). welcome n a number f (set_of body.members) body.pairs.items (set_of body.told)
+          ∙ ap (λ (y : Current). welcome n a number f (set_of body.members) body.pairs.items (with_older body.told)
           (fate_in body) y (turn_of h0 t)) (sym (joining_is f k0 (node_of h0).current waits0));
     }) waits
   where
@@ -330,12 +392,12 @@ welcomes h0 h m k t u v x f d k0 w body s number same waits free M K answer answ
     a = h0.name
 
     both : Makes (λ i c y. kill i c body.kills.items
-        (with_replica (welcomed c (set_of body.members) body.pairs.items (set_of body.told) (fate_in body)) y))
+        (with_replica (welcomed c (set_of body.members) body.pairs.items (with_older body.told) (fate_in body)) y))
         (record h0 { registrar = w }) t k u
     both = followed M K
 
     moving : Turn → Turn
-    moving = with_replica (welcomed a (set_of body.members) body.pairs.items (set_of body.told) (fate_in body))
+    moving = with_replica (welcomed a (set_of body.members) body.pairs.items (with_older body.told) (fate_in body))
 
     granted : Turn
     granted = send f AnyLetter.Applied (reply_with a k0 Joined
@@ -362,7 +424,7 @@ admits h h1 h2 h3 h4 k t u x f d body M P R N K to sending =
     }
 
 -- there is room for a node of the world beside others of it
-pub room_for : (world members : List ℕ) (j : ℕ) → IsNodeSet world → IsNodeSet members → IsWithin world members
+pub room_for : (world members : List ℕ) (j : ℕ) → IsNodeSet world → IsNodeSet members → AreOf world members
     → set_of world j ≡ true → length (and_node members j) ≤ most_nodes
 room_for world members j set rest within of =
     omega (
@@ -376,7 +438,7 @@ room_for world members j set rest within of =
     all : List ℕ
     all = and_node members j
 
-    all_within : IsWithin world all
+    all_within : AreOf world all
     all_within c e = go (set_of members c) (j == c) refl (sym (set_of-with_node members j c) ∙ e) (within c)
       where
         go : (s b : Bool) → (j == c) ≡ b → (s || b) ≡ true → (s ≡ true → set_of world c ≡ true) → set_of world c ≡ true
@@ -388,8 +450,8 @@ room_for world members j set rest within of =
     rising = rising-with_node members j rest.rising
 
     is : all ≡ filter (set_of all) world
-    is = sym (nodes_of-set_of (bound_of world) all rising (all_below world all all_within))
-        ∙ nodes_of-within (bound_of world) (set_of all) world set.rising (all_below world world (λ c e. e)) all_within
+    is = sym (nodes_of-set_of (bound_of world) all rising (all_below world all (of_world world all all_within)))
+        ∙ nodes_of-within (bound_of world) (set_of all) world set.rising (all_below world world (is_held world)) all_within
 
 -- the current operation writes, and awaits these nodes
 writes : (o : Option Op) (op : AnyOp) (asked all : List ℕ) → option_map op_of o ≡ Some op
@@ -401,7 +463,7 @@ writes (Some x) op asked all e =
 
 -- a joiner is sent all that a node has
 pub welcomed_by : (h0 h : Held) (j k : ℕ) (s : Settled) (t u : Made) (m : Letter) → h0 ≡ h → letter_of m
-    ≡ AnyLetter.Welcome (with_node j (set_of h0.members)) (with_settled s h0.table) (set_of h0.told) s.fate
+    ≡ AnyLetter.Welcome (with_node j (set_of h0.members)) (with_settled s h0.table) (with_older h0.told) s.fate
     → k ≡ j → u ≡ sent k m t → Welcomes h j s t u
 welcomed_by h0 h j k s t u m same is to sends =
     subst (λ (x : Held). Welcomes x j s t u) same (m, is, sends ∙ ap (λ (c : ℕ). sent c m t) to)
@@ -418,7 +480,7 @@ pub lets_in : (h0 h : Held) (t u v x : Made) (w : Work) (asked all : List ℕ) (
     → w ≡ record h0.registrar { awaited = all } → j1 ≡ j → a ≡ h0.name → u ≡ entered (HasJoined j1 a) t
     → letter_of l ≡ AnyLetter.Admit j s → SendsAll h0.members l u v
     → letter_of m
-    ≡ AnyLetter.Welcome (with_node j (set_of h0.members)) (with_settled s h0.table) (set_of h0.told) s.fate
+    ≡ AnyLetter.Welcome (with_node j (set_of h0.members)) (with_settled s h0.table) (with_older h0.told) s.fate
     → j2 ≡ j → x ≡ sent j2 m v → IsAdmitting h j pairs
     → Makes (λ n b. admit n b unnumbered j pairs (set_of asked) s) h t
     (record h0 { registrar = w; phase = Writing asked None }) x
@@ -431,7 +493,8 @@ lets_in h0 h t u v x w asked all a j j1 j2 l m s pairs same whole of set are awa
       turn = ap (turn_of k) sends ∙ sent_is k v j2 m
           ∙ ap (λ (c : ℕ). send c (letter_of m) (turn_of k v)) to
           ∙ ap (λ (y : AnyLetter). send j y (turn_of k v)) welcoming
-          ∙ ap (λ (y : Turn). send j welcome_letter y) (sent_all_is k u v h0.members l admits set whole.members
+          ∙ ap (λ (y : Turn). send j welcome_letter y) (sent_all_is k u v h0.members l admits set
+          (of_world h0.world h0.members whole.members)
           ∙ ap (λ (y : AnyLetter). send_all n (set_of h0.members) y (turn_of k u)) admit_it
           ∙ ap (send_all n (set_of h0.members) (AnyLetter.Admit j s)) (ap (turn_of k) entering
           ∙ entered_is k t (HasJoined j1 a)
@@ -443,7 +506,7 @@ lets_in h0 h t u v x w asked all a j j1 j2 l m s pairs same whole of set are awa
           (writes h0.registrar.current (AnyOp.Admission j pairs) asked all current)
           ∙ ap (λ (ss : Nodes). enter (AnyEntry.Join j 0 h0.name Joined)
           (at_work (Current.Writing (AnyOp.Admission j pairs) (set_of asked) ss None) (turn_of h0 t)))
-          (told_is h0.world h0.members all j are whole.members of)));
+          (more_is h0.world h0.members all j are whole.members of)));
     }) admitting
   where
     n : ℕ
@@ -454,11 +517,11 @@ lets_in h0 h t u v x w asked all a j j1 j2 l m s pairs same whole of set are awa
 
     welcome_letter : AnyLetter
     welcome_letter =
-        AnyLetter.Welcome (with_node j (set_of h0.members)) (with_settled s h0.table) (set_of h0.told) s.fate
+        AnyLetter.Welcome (with_node j (set_of h0.members)) (with_settled s h0.table) (with_older h0.told) s.fate
 
 -- j, which has not left, is let in
 pub lets_pass : (h0 h k : Held) (t u : Made) (asked : List ℕ) (j : ℕ) (pairs : Table) (s : Settled) → h0 ≡ h
-    → set_of h0.told j ≡ false → s ≡ settle h.table pairs
+    → with_older h0.told j ≡ false → s ≡ settle h.table pairs
     → Makes (λ n a. admit n a unnumbered j pairs (set_of asked) s) h t k u
     → Makes (λ n a. held n a unnumbered (AnyOp.Admission j pairs) (set_of asked)) h t k u
 lets_pass h0 h k t u asked j pairs s same here settled M = made_as M (
@@ -466,7 +529,7 @@ lets_pass h0 h k t u asked j pairs s same here settled M = made_as M (
     ∙ ap (λ (gone : Bool). if gone
     then finish n h.name (AnyOp.Admission j pairs) (set_of asked) None (turn_of h t)
     else admit n h.name unnumbered j pairs (set_of asked) (settle h.table pairs) (turn_of h t))
-    (sym here ∙ ap (λ (y : Held). set_of y.told j) same)
+    (sym here ∙ ap (λ (y : Held). with_older y.told j) same)
     )
   where
     n : ℕ

@@ -1,5 +1,5 @@
 -- The rules of departures, one by one.
-use Rattle.std.proofs.Common.{ℕ, Bool, true, false, ◌==◌, ◌≡◌, Option, Some, List, refl, sym, ap, ◌∙◌, subst}
+use Rattle.std.proofs.Common.{ℕ, Bool, true, false, ◌==◌, ◌≡◌, Option, Some, List, [], ◌∷◌, refl, sym, ap, ◌∙◌, subst}
 use Rattle.std.specs.Prelude.{not, ◌&&◌, ◌||◌, if◌then◌else◌}
 use Rattle.std.proofs.Math.Path.{fun_ext}
 use Rattle.std.proofs.lemmas.Bool.{eq-eqb, eqb-true}
@@ -16,7 +16,8 @@ use Rattle.protocol_model.specs.Registrar.{lose_contact}
 use Rattle.protocol_model.specs.Calling.{event}
 use Rattle.protocol_model.specs.Client.{go_on_lock, lose_node_in, lose_node}
 use Rattle.protocol_model.specs.Reading.{told_of, lose_current, bereave}
-use Rattle.term.specs.NodeSets.{IsNodeSet, set_of, without_node}
+use Rattle.term.specs.NodeSets.{IsNodeSet, set_of, with_older, without_node}
+use Rattle.term.proofs.Older.{held}
 use Rattle.term.proofs.Subsets.{set_of-filter}
 use Rattle.exit_watch.specs.Held.{process_of}
 use Rattle.exit_watch.proofs.Owners.{owns-filter}
@@ -29,15 +30,15 @@ use Rattle.lock_calls.specs.Held.{seen as calls_seen}
 use Rattle.node_events.specs.declared.events.Entry.TheVariants.{Left, Told}
 use Rattle.node_events.specs.declared.events.Letter.TheVariants.{Down}
 use Rattle.node_events.specs.Made.{Made, SendsAll, entered}
-use Rattle.node_core.specs.Held.{Held, bound_of, IsWithin, IsWhole}
+use Rattle.node_core.specs.Held.{Held, bound_of, AreOf, IsWithin, IsWhole}
 use Rattle.node_core.specs.Locking.{loss_of}
 use Rattle.node_core.specs.Seen.{node_of, turn_of}
 use Rattle.node_core.specs.Steps.{Makes, IsOther}
 use Rattle.node_core.proofs.Sends.{sent_all_is}
-use Rattle.node_core.proofs.Rules.{followed, entered_is, less_within}
+use Rattle.node_core.proofs.Rules.{followed, entered_is, less_are, less_within}
 use Rattle.lock_calls.proofs.Standing.{without_is}
 use Rattle.node_core.proofs.Locking.{made_as}
-use Rattle.node_core.proofs.Gone.{told_within, told_is}
+use Rattle.node_core.proofs.Gone.{told_is, left_too}
 
 -- the node leaves, and says so to all others
 pub leaves : (h : Held) (t u v : Made) (a : ℕ) (others : List ℕ) → a ≡ h.name → u ≡ entered (Left a) t
@@ -47,7 +48,7 @@ leaves h t u v a others own entering are set sends = record {
   name = refl;
   world = refl;
   turn = sent_all_is h u v others Down sends set (subst (λ (xs : List ℕ). IsWithin h.world xs) (sym are)
-      (less_within h.world h.world h.name (λ c e. e)))
+      (less_within h.world h.world h.name (held h.world)))
       ∙ ap (λ (s : Nodes). send_all n s AnyLetter.Down (turn_of h u))
       (ap set_of are ∙ fun_ext (λ c. set_of-filter (λ m. not (m == h.name)) h.world c))
       ∙ ap (λ (x : Turn). send_all n (λ c. set_of h.world c && not (c == h.name)) AnyLetter.Down x)
@@ -61,7 +62,8 @@ leaves h t u v a others own entering are set sends = record {
 -- h is the node, which is told that f has left; told: all of whom it is told then
 module _ (h0 : Held) (f : ℕ) (members told : List ℕ) (table : Table) (locks : Locks) (whole : IsWhole h0)
     (less : members ≡ without_node h0.members f) (rest : table ≡ without (λ d. d == f) h0.table)
-    (are : (c : ℕ) → set_of told c ≡ (set_of h0.world c && (set_of h0.told c || (c == f)))) where
+    (are : (c : ℕ) → with_older told c
+    ≡ (with_older h0.world c && (with_older h0.told c || with_older (f ∷ []) c))) where
   -- the node once it was told
   abbrev told_node : Held
   told_node = record h0 { members = members; told = told; table = table; locks = locks }
@@ -70,10 +72,12 @@ module _ (h0 : Held) (f : ℕ) (members told : List ℕ) (table : Table) (locks 
   whole_told other = record {
     self = ap (λ (xs : List ℕ). set_of xs h0.name) less ∙ set_of-filter (λ m. not (m == f)) h0.members h0.name
         ∙ both (set_of h0.members h0.name) (h0.name == f) whole.self refl;
-    members = subst (λ (xs : List ℕ). IsWithin h0.world xs) (sym less)
-        (less_within h0.world h0.members f whole.members);
-    told = told_within h0.world h0.told told f are;
-    here = are h0.name ∙ gone_not (set_of h0.world h0.name) (set_of h0.told h0.name) (h0.name == f) whole.here refl;
+    members = subst (λ (xs : List ℕ). AreOf h0.world xs) (sym less)
+        (less_are h0.world h0.members f whole.members);
+    told = left_too h0.world h0.told told f whole.told other.0 are;
+    apart = λ c e. ap (λ (s : Nodes). s c) (told_is h0.world h0.told told f whole.told other.0 are)
+        ∙ stays c (c == f) (sym (set_of-filter (λ m. not (m == f)) h0.members c)
+        ∙ subst (λ (xs : List ℕ). set_of xs c ≡ true) less e);
     queue = whole.queue;
     current = whole.current;
     awaited = whole.awaited;
@@ -92,11 +96,18 @@ module _ (h0 : Held) (f : ℕ) (members told : List ℕ) (table : Table) (locks 
           true_false : true ≡ false → ⊥
           true_false q = cc
 
-      gone_not : (w g e : Bool) → g ≡ false → (h0.name == f) ≡ e → (w && (g || e)) ≡ false
-      gone_not w true e is same = cc
-      gone_not w false true is same = absurd (never same)
-      gone_not true false false is same = refl
-      gone_not false false false is same = refl
+      stays : (c : ℕ) (b : Bool) → (set_of h0.members c && not b) ≡ true
+          → (if b then true else with_older h0.told c) ≡ false
+      stays c true e = absurd (no (set_of h0.members c) e)
+        where
+          no : (m : Bool) → (m && false) ≡ true → ⊥
+          no true q = cc
+          no false q = cc
+      stays c false e = whole.apart c (yes_ (set_of h0.members c) e)
+        where
+          yes_ : (m : Bool) → (m && true) ≡ true → m ≡ true
+          yes_ true q = refl
+          yes_ false q = q
 
       both : (s e : Bool) → s ≡ true → (h0.name == f) ≡ e → (s && not e) ≡ true
       both true true is same = absurd (never same)
@@ -114,11 +125,11 @@ module _ (h0 : Held) (f : ℕ) (members told : List ℕ) (table : Table) (locks 
         turn = ap (turn_of told_node) (made ∙ ap (λ (b : ℕ). entered (Told b d) t) own
             ∙ ap (λ (e : ℕ). entered (Told h0.name e) t) gone)
             ∙ entered_is told_node t (Told h0.name f)
-            ∙ ap (λ (s : Nodes). at_state s (set_of told) table locks) (ap set_of less ∙ without_is h0.members f)
+            ∙ ap (λ (s : Nodes). at_state s (with_older told) table locks) (ap set_of less ∙ without_is h0.members f)
             ∙ ap (λ (s : Nodes). at_state (without_f (set_of h0.members)) s table locks)
-            (told_is h0.world h0.told told f are whole.told other.0)
-            ∙ ap (λ (x : Table). at_state (without_f (set_of h0.members)) (with_f (set_of h0.told)) x locks) rest
-            ∙ ap (at_state (without_f (set_of h0.members)) (with_f (set_of h0.told))
+            (told_is h0.world h0.told told f whole.told other.0 are)
+            ∙ ap (λ (x : Table). at_state (without_f (set_of h0.members)) (with_f (with_older h0.told)) x locks) rest
+            ∙ ap (at_state (without_f (set_of h0.members)) (with_f (with_older h0.told))
             (without (λ c. c == f) h0.table)) free;
       })
     where

@@ -24,7 +24,8 @@ mod Locking
 mod Naming
 mod CallEnds
 mod CallsOf
-mod Gone
+pub mod Gone
+pub mod Replacing
 mod Leaving
 mod Numbers
 pub mod Stepping

@@ -75,7 +75,7 @@ found_own h0 h p o same whole ordered =
       found_of (λ d. 0 < d.holder.serial) p (calls_seen h0.calls) (as_call c) (sym e) ordered.live,
     )
 
--- and its nodes are of the world
+-- and its nodes have started
 pub found_within : (h0 h : Held) (p : Process) (o : Option LockCall) → h0 ≡ h → IsWhole h0
     → option_map as_call o ≡ call_of p (calls_seen h.calls) → IfSome o (λ c. IsCallWithin h.world (phase_of c.phase))
 found_within h0 h p o same whole =
@@ -97,7 +97,7 @@ whole_taken h k p whole node is =
     (All-filter (λ c. not (is_process c.holder p)) (λ c. IsCallWithin h.world c.phase) (calls_seen h.calls)
     whole.called))
 
--- a call whose nodes are of the world is put, where there is memory
+-- a call whose nodes have started is put, where there is memory
 pub whole_put : {E : Type 0} (h : Held) (k : LockCalls) (c : LockCall) (r : Result (Unit {0}) E) → IsWhole h
     → IsCallWithin h.world (phase_of c.phase) → k.node ≡ h.calls.node
     → OnOk r (calls_seen k ≡ put_call (as_call c) (calls_seen h.calls)) → OnErr r (k ≡ h.calls)
@@ -109,7 +109,7 @@ whole_put h k c (Ok x) whole within node ok err =
 whole_put h k c (Err e) whole within node ok err =
     subst (λ (x : LockCalls). IsWhole (record h { calls = x })) (sym err) whole
 
--- whom a round asks is of the world
+-- whom a round asks has started
 pub asked_within : (world : List ℕ) (r : HeldRound) → IsWithin world r.nodes
     → IsCallWithin world (LockPhase.Asking (seen r))
 asked_within world r within = λ c e. within c (ap (λ (s : Nodes). s c) (asked-seen r) ∙ e)
@@ -181,7 +181,7 @@ asks_lock h0 h t u c k b l r xs same within boss is begun made put =
     below : All (λ d. d < n) xs
     below = all_below h0.world xs (subst (λ (x : Held). IsWithin x.world xs) (sym same) within)
 
--- no nodes of the world are an empty set
+-- no nodes are an empty set
 pub none_left : (world xs : List ℕ) → IsWithin world xs → (length xs == 0) ≡ is_empty (bound_of world) (set_of xs)
 none_left world xs within = go xs ∙ sym (nobody_is (bound_of world) xs (all_below world xs within))
   where

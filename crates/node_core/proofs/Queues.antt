@@ -6,7 +6,7 @@ use Rattle.protocol_model.specs.Event.{is_join}
 use Rattle.protocol_model.specs.Node.{Op as AnyOp}
 use Rattle.protocol_model.specs.Turn.{Turn, with_queue}
 use Rattle.protocol_model.specs.Registrar.{start_queue, ask_join, contact_left}
-use Rattle.term.specs.NodeSets.{set_of}
+use Rattle.term.specs.NodeSets.{with_older}
 use Rattle.transaction.specs.declared.op.Op.{Op}
 use Rattle.transaction.specs.declared.op.Op.TheVariants.{Join}
 use Rattle.transaction.specs.Ops.{op_of}
@@ -90,7 +90,7 @@ module _ (f h : Held) (s t : Made) (w : Work) (at : IsAtQueue f s h t) (begun : 
 
   -- a join ends whose contact has left, and the loop goes on
   pub goes_on_at : (w2 : Work) (u : Made) (i m : ℕ) → starts None h.registrar ≡ true → w.current ≡ Some (Join i m)
-      → set_of h.told m ≡ true → w2 ≡ record w { current = None; awaited = [] }
+      → with_older h.told m ≡ true → w2 ≡ record w { current = None; awaited = [] }
       → Makes (λ n a. contact_left n a i m) (node_at w2) t (node_at w2) u → IsAtQueue f s (node_at w2) u
   goes_on_at w2 u i m some cur gone ended M =
       let b = begins some (Join i m) cur in
@@ -114,7 +114,7 @@ module _ (f h : Held) (s t : Made) (w : Work) (at : IsAtQueue f s h t) (begun : 
 
   -- a join whose contact hasn't left begins, and the loop ends
   pub asks_at : (k : Held) (u : Made) (i m : ℕ) → starts None h.registrar ≡ true → w.current ≡ Some (Join i m)
-      → set_of h.told m ≡ false → Makes (λ n a. ask_join n a i m) (node_at w) t k u
+      → with_older h.told m ≡ false → Makes (λ n a. ask_join n a i m) (node_at w) t k u
       → Makes (λ n a v. start_queue n a v.node.queue v) f s k u
   asks_at k u i m some cur here M =
       let b = begins some (Join i m) cur in
@@ -130,7 +130,7 @@ module _ (f h : Held) (s t : Made) (w : Work) (at : IsAtQueue f s h t) (begun : 
             else ask_join n0 f.name i m (with_queue (map op_of b.0) (turn_of h t))) (sym here) ∙ b.1.turn;
       }
 
--- of what was started, all is of the world
+-- of what was started, all that it knows of has started
 started_within : (h : Held) (w : Work) → IsWhole h → w ≡ started None h.registrar → IsWorkWithin h.world w
 started_within h w whole begun = subst (IsWorkWithin h.world) (sym begun)
     (go h.registrar.current h.registrar.queue whole.current whole.queue)
@@ -159,9 +159,9 @@ whole_freed h w w2 whole begun ended = whole_at h w2 whole (subst (IsWorkWithin 
   awaited = λ c e. cc;
 }))
 
--- the contact of the join that was started is of the world
+-- the contact of the join that was started has started
 pub contact_within : (h : Held) (w : Work) (i m : ℕ) → IsWhole h → w ≡ started None h.registrar
-    → w.current ≡ Some (Join i m) → set_of h.world m ≡ true
+    → w.current ≡ Some (Join i m) → with_older h.world m ≡ true
 contact_within h w i m whole begun cur = subst (IsCurrentWithin h.world) cur (started_within h w whole begun).current
 
 -- a join that becomes current stood at the front

@@ -1,4 +1,5 @@
--- What a node knows of, and whom it sends to: nodes of its world alone. What it sends can be relied on.
+-- What a node knows of, and whom it sends to: nodes that have started alone. What it sends can be relied on. The world is here all
+-- nodes that have started.
 use Rattle.std.proofs.Common.{ℕ, zero, suc, Bool, true, false, ◌==◌, ◌≡◌, ◌<◌, List, [], ◌∷◌, ◌++◌, get_or, map, refl, ap, ◌∙◌, inl, inr, arith}
 use Rattle.std.specs.Prelude.{◌&&◌, not, if◌then◌else◌, All}
 use Rattle.std.proofs.lemmas.Bool.{cases_lt, eqb-true}

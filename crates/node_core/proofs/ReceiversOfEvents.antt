@@ -1,4 +1,4 @@
--- What an event makes goes to nodes of the world, where it may be heard.
+-- What an event makes goes to nodes that have started, where it may be heard.
 use Rattle.std.proofs.Common.{ℕ, Bool, true, false, ◌==◌, ◌≡◌, ◌+◌, Option, Some, None, List, [], ◌∷◌, ◌++◌, get_or, map, refl, sym, ap, ◌∙◌, subst, arith}
 use Rattle.std.specs.Prelude.{◌&&◌, ◌||◌, not, if◌then◌else◌, All}
 use Rattle.std.proofs.lemmas.Bool.{eq-eqb, eqb-true, ne_eqb}
@@ -16,7 +16,8 @@ use Rattle.protocol_model.specs.Turn.{Turn, begun, count_call, enter}
 use Rattle.protocol_model.specs.Registrar.{retry_global}
 use Rattle.protocol_model.specs.Client.{new_call, retry_locks}
 use Rattle.protocol_model.specs.Calling.{event, call, die}
-use Rattle.term.specs.NodeSets.{set_of}
+use Rattle.term.specs.NodeSets.{set_of, with_older}
+use Rattle.term.proofs.Older.{held}
 use Rattle.lock_calls.specs.Held.{seen}
 use Rattle.locker.proofs.Marks.{asked-seen}
 use Rattle.transaction.specs.declared.op.Op.{Op}
@@ -37,13 +38,13 @@ use Rattle.node_events.specs.Letters.{send_of, letter_of}
 use Rattle.node_core.specs.Seen.{node_of, turn_by, current_of}
 use Rattle.node_events.specs.Seen.{call_of}
 use Rattle.node_core.specs.Steps.{IsTurn, IsSaidBy, IsAskedWithin, IsHeardWithin, GoWithin}
-use Rattle.node_core.proofs.Bounds.{below_bound}
-use Rattle.node_core.proofs.Receivers.{IsFit, IsSent, GoTo, IsOpOf, AreOpsOf, IsCurrentOf, IsPhaseOf, IsWithin, ops-push, greatest-within, queues, sends_all}
+use Rattle.node_core.proofs.Bounds.{below_bound, of_world}
+use Rattle.node_core.proofs.Receivers.{AreOf, IsFit, IsSent, GoTo, IsOpOf, AreOpsOf, IsCurrentOf, IsPhaseOf, IsWithin, ops-push, greatest-within, queues, sends_all}
 use Rattle.node_core.proofs.ReceiversOfLocks.{tries, deletes, retries_calls}
 use Rattle.node_core.proofs.ReceiversOfOperations.{asks, starts}
 use Rattle.node_core.proofs.ReceiversOfLetters.{dies, staying, HasBoss, receives}
 
--- the contact of a join is of the world
+-- the contact of a join has started
 abbrev IsAskedOf : Nodes → Call → Type 0
 IsAskedOf world (JoinBy m) = world m ≡ true
 IsAskedOf world _ = Unit {0}
@@ -75,9 +76,11 @@ module _ {n a : ℕ} {world : Nodes} where
   exits : (p : Process) (u : Turn) → IsWithin n a world u → IsWithin n a world (event n a world (AnyEvent.Exiting p) u)
   exits p u W = starts (die n a p (enter (AnyEntry.Exit p) u)) (dies p (enter (AnyEntry.Exit p) u) W)
 
-  -- what a leave does
-  leaves : (u : Turn) → IsWithin n a world u → IsWithin n a world (event n a world AnyEvent.Leave u)
-  leaves u W = sends_all W (λ c. world c && not (c == a)) AnyLetter.Down (λ c e. both (world c) (c == a) e)
+  -- what a leave does: it is told to the nodes at present
+  leaves : (present : Nodes) → AreOf world present → (u : Turn) → IsWithin n a world u
+      → IsWithin n a world (event n a present AnyEvent.Leave u)
+  leaves present of u W = sends_all W (λ c. present c && not (c == a)) AnyLetter.Down
+      (λ c e. let d = both (present c) (c == a) e in (of c d.0, d.1))
     where
       both : (b d : Bool) → (b && not d) ≡ true → (b ≡ true) × (d ≡ false)
       both true false e = (refl, refl)
@@ -99,17 +102,20 @@ module _ (h : Held) (whole : IsWhole h) (rising : is_rising h.table ≡ true) wh
   n = bound_of h.world
 
   abbrev world : Nodes
-  world = set_of h.world
+  world = with_older h.world
 
-  -- a node that is whole knows of nodes of its world alone
+  -- it is one of those
+  is_here : set_of h.world h.name ≡ true
+  is_here = whole.members h.name whole.self
+
+  -- a node that is whole knows of nodes alone that have started
   opens_within : IsWithin n h.name world (begun (node_of h))
   opens_within = record {
-    members = whole.members;
-    told = whole.told;
+    members = of_world h.world h.members whole.members;
+    told = whole.told.started;
     rising = rising;
-    boss = whole.members (greatest n (set_of h.members))
-        (greatest-within n (set_of h.members) h.name (below_bound h.world h.name
-        (whole.members h.name whole.self)) whole.self);
+    boss = of_world h.world h.members whole.members (greatest n (set_of h.members))
+        (greatest-within n (set_of h.members) h.name (below_bound h.world h.name is_here) whole.self);
     queue = all_are h.registrar.queue whole.queue;
     current = current h.registrar.current h.phase whole.current whole.phase;
     calls = λ k d l. call_within (get_or (seen h.calls) k d).phase (whole.called k d l);
@@ -146,9 +152,9 @@ module _ (h : Held) (whole : IsWhole h) (rising : is_rising h.table ≡ true) wh
   -- the members but another one have a boss
   has_boss : (f : ℕ) (l : Letter) → IsSaidBy h.world h.name f l
       → HasBoss n world f l (begun (node_of h))
-  has_boss f Down said = whole.members boss (others (boss == f)
+  has_boss f Down said = of_world h.world h.members whole.members boss (others (boss == f)
       (greatest-within n (without_node f (set_of h.members)) h.name
-      (below_bound h.world h.name (whole.members h.name whole.self)) (stays (h.name == f) refl)))
+      (below_bound h.world h.name is_here) (stays (h.name == f) refl)))
     where
       boss : ℕ
       boss = greatest n (without_node f (set_of h.members))
@@ -173,7 +179,7 @@ module _ (h : Held) (whole : IsWhole h) (rising : is_rising h.table ≡ true) wh
     said,
     of boss (boss == body.joiner) refl
         (greatest-within n (with_node body.joiner (set_of h.members)) h.name
-        (below_bound h.world h.name (whole.members h.name whole.self)) (stays (h.name == body.joiner))),
+        (below_bound h.world h.name is_here) (stays (h.name == body.joiner))),
   )
     where
       boss : ℕ
@@ -186,21 +192,21 @@ module _ (h : Held) (whole : IsWhole h) (rising : is_rising h.table ≡ true) wh
       of : (x : ℕ) (b : Bool) → (x == body.joiner) ≡ b → (if b then true else set_of h.members x) ≡ true
           → world x ≡ true
       of x true same e = ap world (eqb-true x body.joiner same) ∙ said
-      of x false other e = whole.members x e
+      of x false other e = of_world h.world h.members whole.members x e
   has_boss f (Welcome body) said = (
     said.members,
     said.told,
     said.rising,
     said.members boss (both (set_of body.value.members boss) _
-        (greatest-within n (staying (set_of body.value.members) (set_of body.value.told) (begun (node_of h)))
-        h.name (below_bound h.world h.name (whole.members h.name whole.self))
-        (stays (set_of body.value.members h.name) (set_of h.told h.name) (set_of body.value.told h.name) said.self whole.here
-        said.here))),
+        (greatest-within n (staying (set_of body.value.members) (with_older body.value.told) (begun (node_of h)))
+        h.name (below_bound h.world h.name is_here)
+        (stays (set_of body.value.members h.name) (with_older h.told h.name) (with_older body.value.told h.name) said.self
+        (whole.apart h.name whole.self) said.here))),
   )
     where
       boss : ℕ
       boss = greatest n
-          (staying (set_of body.value.members) (set_of body.value.told) (begun (node_of h)))
+          (staying (set_of body.value.members) (with_older body.value.told) (begun (node_of h)))
 
       both : (b d : Bool) → (b && d) ≡ true → b ≡ true
       both true d e = refl
@@ -221,7 +227,7 @@ module _ (h : Held) (whole : IsWhole h) (rising : is_rising h.table ≡ true) wh
   has_boss f (Apply change) said = tt
   has_boss f Applied said = tt
 
-  -- a call's contact is of the world
+  -- a call's contact has started
   asked_of : (c : Call) → IsAskedWithin h.world c → IsAskedOf world c
   asked_of Spawn of = tt
   asked_of (Whereis x) of = tt
@@ -234,7 +240,7 @@ module _ (h : Held) (whole : IsWhole h) (rising : is_rising h.table ≡ true) wh
   asked_of (DeletesLock p id nodes) of = tt
   asked_of (JoinBy m) of = of
 
-  -- an event's turn sends to nodes of the world
+  -- an event's turn sends to nodes that have started
   turn_within : (number : ℕ → ℕ) (e : Event) (u : Turn) → IsHeardWithin h.world h.name e → IsTurn number e h u
       → GoTo h.name world u.sends
   turn_within number (Calls c) u heard is = subst (λ (v : Turn). GoTo h.name world v.sends) (sym (is heard))
@@ -245,18 +251,18 @@ module _ (h : Held) (whole : IsWhole h) (rising : is_rising h.table ≡ true) wh
   turn_within number (Exit p) u heard is = subst (λ (v : Turn). GoTo h.name world v.sends) (sym is)
       (exits p (begun (node_of h)) opens_within).sends
   turn_within number Leave u heard is = subst (λ (v : Turn). GoTo h.name world v.sends) (sym is)
-      (leaves (begun (node_of h)) opens_within).sends
+      (leaves (set_of h.world) (held h.world) (begun (node_of h)) opens_within).sends
   turn_within number (FromPeer f l) u heard is = subst (λ (v : Turn). GoTo h.name world v.sends) (sym (is heard.1))
       (receives number f l (begun (node_of h)) heard.0 (has_boss f l heard.1) opens_within).sends
 
   -- what is sent so may be heard
   said : (t : ℕ) (l : Letter) → IsFit h.name world t (letter_of l) → IsSaidBy h.world t h.name l
-  said t (JoinAsk pairs) fit = whole.members h.name whole.self
+  said t (JoinAsk pairs) fit = held h.world h.name is_here
   said t (Admit body) fit = fit
   said t (Welcome body) fit =
       record { members = fit.0; told = fit.1; self = fit.2; here = fit.3; rising = fit.4 }
   said t Down fit = (
-    whole.members h.name whole.self,
+    held h.world h.name is_here,
     ne_eqb h.name t (λ same. true_false (sym (eq-eqb t h.name (sym same)) ∙ fit)),
   )
     where

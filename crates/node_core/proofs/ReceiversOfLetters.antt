@@ -1,4 +1,4 @@
--- What a node does with a letter sends to nodes of its world.
+-- What a node does with a letter sends to nodes that have started.
 use Rattle.std.proofs.Common.{ℕ, Bool, true, false, ◌==◌, ◌≡◌, Option, Some, None, List, [], ◌∷◌, ◌++◌, refl, ◌∙◌}
 use Rattle.std.specs.Prelude.{◌&&◌, ◌||◌, not, if◌then◌else◌, fold}
 use Rattle.std.proofs.lemmas.List.Elements.{All-filter}
@@ -20,7 +20,7 @@ use Rattle.protocol_model.specs.Client.{hear_lock, owe_less}
 use Rattle.protocol_model.specs.Deciding.{hear_answer}
 use Rattle.protocol_model.specs.Reading.{with_member, noted, admitted, welcomed, bereft, asked_to_admit, refused_join, welcome, judge, hear, take_back, told_of, lose_join, lose_current, bereave, read, receive}
 use Rattle.protocol_model.specs.Calling.{die, kill, queued}
-use Rattle.term.specs.NodeSets.{set_of}
+use Rattle.term.specs.NodeSets.{set_of, with_older}
 use Rattle.lock_table.specs.Ids.{id_of}
 use Rattle.exchange.specs.Bodies.{settled_in, fate_in}
 use Rattle.node_events.specs.declared.events.Letter.{Letter}
@@ -54,8 +54,8 @@ abbrev pub HasBoss : ℕ → Nodes → ℕ → Letter → Turn → Type 0
 HasBoss n world f (Admit body) u =
     (world body.joiner ≡ true) × (world (greatest n (with_node body.joiner u.node.replica.members)) ≡ true)
 HasBoss n world f (Welcome body) u =
-    AreOf world (set_of body.value.members) × AreOf world (set_of body.value.told) × (is_rising body.value.pairs.items ≡ true)
-    × (world (greatest n (staying (set_of body.value.members) (set_of body.value.told) u)) ≡ true)
+    AreOf world (set_of body.value.members) × AreOf world (with_older body.value.told) × (is_rising body.value.pairs.items ≡ true)
+    × (world (greatest n (staying (set_of body.value.members) (with_older body.value.told) u)) ≡ true)
 HasBoss n world f Down u = world (greatest n (without_node f u.node.replica.members)) ≡ true
 HasBoss n world f _ u = Unit {0}
 
@@ -211,8 +211,8 @@ module _ {n a : ℕ} {world : Nodes} where
     reads_letter f JoinRefused u e boss W = is_refused f u.node.current u W
     reads_letter f (Admit body) u e boss W =
         admits f body.joiner (settled_in body) u e boss.0 boss.1 W
-    reads_letter f (Welcome body) u e boss W = is_welcome f (set_of body.value.members) body.value.pairs.items (set_of body.value.told)
-        (fate_in body.value) u.node.current u e boss.0 boss.1 boss.2 boss.3 W
+    reads_letter f (Welcome body) u e boss W = is_welcome f (set_of body.value.members) body.value.pairs.items
+        (with_older body.value.told) (fate_in body.value) u.node.current u e boss.0 boss.1 boss.2 boss.3 W
     reads_letter f Down u e boss W = bereaves f u e boss W
 
     pub receives : (f : ℕ) (l : Letter) (u : Turn) → world f ≡ true → HasBoss n world f l u → IsWithin n a world u

@@ -1,4 +1,4 @@
--- The rules of lock calls send to nodes of the world.
+-- The rules of lock calls send to nodes that have started.
 use Rattle.std.proofs.Common.{ℕ, Bool, true, false, ◌==◌, ◌≡◌, List, [], ◌∷◌, refl}
 use Rattle.std.specs.Prelude.{◌&&◌, not, if◌then◌else◌, All, fold}
 use Rattle.std.specs.List.{list_any}

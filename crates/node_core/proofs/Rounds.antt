@@ -13,7 +13,7 @@ use Rattle.protocol_model.specs.Deciding.{held, end_by, end_round, hear_answer, 
 use Rattle.protocol_model.specs.Reading.{lose_current}
 use Rattle.protocol_model.specs.Watch.{Watch as AnyWatch, owed}
 use Rattle.exit_watch.specs.Held.{Held as Watch, process_of}
-use Rattle.term.specs.NodeSets.{IsNodeSet, set_of}
+use Rattle.term.specs.NodeSets.{IsNodeSet, set_of, with_older}
 use Rattle.boss_order.specs.Boss.{others_of}
 use Rattle.term.proofs.Subsets.{set_of-filter}
 use Rattle.locker.specs.declared.ending.Ending.{Ending}
@@ -28,21 +28,21 @@ use Rattle.node_events.specs.declared.events.Letter.{Letter}
 use Rattle.node_core.specs.declared.node.Phase.{Phase}
 use Rattle.node_core.specs.declared.node.Phase.TheVariants.{Asking}
 use Rattle.node_events.specs.Made.{Made, sent, SendsAll}
-use Rattle.node_core.specs.Held.{Held, bound_of, IsWithin, IsPhaseWithin}
+use Rattle.node_core.specs.Held.{Held, bound_of, AreOf, IsWithin, IsPhaseWithin}
 use Rattle.node_events.specs.Letters.{letter_of}
 use Rattle.node_core.specs.Seen.{node_of, turn_of, current_of, phase_of}
 use Rattle.node_core.specs.Steps.{Makes, Works}
-use Rattle.node_core.proofs.Bounds.{all_below}
+use Rattle.node_core.proofs.Bounds.{all_below, of_world}
 use Rattle.node_core.proofs.Sends.{sent_is, sent_all_is}
 
 -- the boss is asked
 pub asks_global : (h0 h : Held) (t u : Made) (b : ℕ) (l : Letter) (r : HeldRound) → h0 ≡ h
-    → IsWithin h0.world h0.members
+    → AreOf h0.world h0.members
     → ((n : ℕ) → All (λ c. c < n) h0.members → b ≡ greatest n (set_of h0.members))
     → letter_of l ≡ AnyLetter.SetLock (Global h0.name) (registrar h0.name)
     → ((n : ℕ) → All (λ c. c < n) h0.members → seen r ≡ begin n (set_of h0.members))
     → u ≡ sent b l t → Works (λ op n a. ask_global n a op) h t (record h0 { phase = Asking r }) u
-asks_global h0 h t u b l r same within boss is begun made =
+asks_global h0 h t u b l r same are boss is begun made =
     subst (λ (x : Held). Works (λ op n a. ask_global n a op) x t (record h0 { phase = Asking r }) u) same
     (λ op cur. record {
       name = refl;
@@ -63,7 +63,7 @@ asks_global h0 h t u b l r same within boss is begun made =
     n = bound_of h0.world
 
     below : All (λ c. c < n) h0.members
-    below = all_below h0.world h0.members within
+    below = all_below h0.world h0.members (of_world h0.world h0.members are)
 
 -- the first of these nodes are of them
 within_first : (k : ℕ) (xs : List ℕ) (c : ℕ) → set_of (take k xs) c ≡ true → set_of xs c ≡ true
@@ -85,7 +85,7 @@ first_passes false b e = e
 pub asks_rest : (h : Held) (t u : Made) (r : HeldRound) (f : ℕ) (g : Bool) (xs ys : List ℕ) (l : Letter) → IsNodeSet ys
     → IsWithin h.world r.nodes
     → xs ≡ others_of r.nodes → set_of xs ≡ rest (seen r)
-    → ((c : ℕ) → set_of ys c ≡ (set_of xs c && not (set_of h.told c))) → opens f g (seen r) ≡ true
+    → ((c : ℕ) → set_of ys c ≡ (set_of xs c && not (with_older h.told c))) → opens f g (seen r) ≡ true
     → SendsAll ys l t u
     → Makes (λ n a. ask_rest n a f g (letter_of l) (seen r)) h t h u
 asks_rest h t u r f g xs ys l set within others is are first made = record {
@@ -94,11 +94,11 @@ asks_rest h t u r f g xs ys l set within others is are first made = record {
   turn = sent_all_is h t u ys l made set
       (λ c e. within c (within_first (length r.nodes - 1) r.nodes c
       (subst (λ (zs : List ℕ). set_of zs c ≡ true) others
-      (first_passes (set_of xs c) (not (set_of h.told c)) (sym (are c) ∙ e)))))
+      (first_passes (set_of xs c) (not (with_older h.told c)) (sym (are c) ∙ e)))))
       ∙ ap (λ (s : Nodes). send_all (bound_of h.world) s (letter_of l) (turn_of h t))
-      (fun_ext are ∙ ap {B = Nodes} (λ (s : Nodes). λ x. s x && not (set_of h.told x)) is)
+      (fun_ext are ∙ ap {B = Nodes} (λ (s : Nodes). λ x. s x && not (with_older h.told x)) is)
       ∙ ap (λ (b : Bool). if b
-      then send_all (bound_of h.world) (λ x. rest (seen r) x && not (set_of h.told x)) (letter_of l) (turn_of h t)
+      then send_all (bound_of h.world) (λ x. rest (seen r) x && not (with_older h.told x)) (letter_of l) (turn_of h t)
       else turn_of h t) (sym first);
 }
 
@@ -216,7 +216,7 @@ granted_within world members xs r e within value is = go (is_won members r) (sym
         same : GiveBack xs ≡ GiveBack (granted_by r) → xs ≡ granted_by r
         same g = cc
 
--- the round of a phase is of the world
+-- the nodes of a phase's round have started
 pub round_within : (world : List ℕ) (p : Phase) (r : HeldRound) → p ≡ Asking r → IsPhaseWithin world p
     → IsWithin world r.nodes
 round_within world p r is within = subst (λ (q : Phase). IsPhaseWithin world q) is within
@@ -253,11 +253,11 @@ module _ (h0 h : Held) (t : Made) (r : HeldRound) (over : Bool) (same : h0 ≡ h
         else turn_of h0 t) (sym not_over ∙ ends n0 nodes_below);
   })
 
-  module _ (members : IsWithin h0.world h0.members) (e : Ending)
+  module _ (members : AreOf h0.world h0.members) (e : Ending)
       (is_end : (n : ℕ) → All (λ c. c < n) r.nodes → All (λ c. c < n) h0.members
       → EndsAs e (ending n (set_of h0.members) (seen r))) where
     end_here : EndsAs e (ending n0 (set_of h0.members) (seen r))
-    end_here = is_end n0 nodes_below (all_below h0.world h0.members members)
+    end_here = is_end n0 nodes_below (all_below h0.world h0.members (of_world h0.world h0.members members))
 
     -- the round ends so
     ends_so : (number : ℕ → ℕ) (op : Op) (x : AnyEnding) → over ≡ true → ending n0 (set_of h0.members) (seen r) ≡ x

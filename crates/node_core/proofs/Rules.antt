@@ -20,7 +20,7 @@ use Rattle.protocol_model.specs.Deciding.{held}
 use Rattle.name_table.specs.declared.change.Change.{Change}
 use Rattle.name_table.specs.Changes.{change_of}
 use Rattle.lock_calls.proofs.Standing.{without_is}
-use Rattle.term.specs.NodeSets.{IsNodeSet, set_of, without_node}
+use Rattle.term.specs.NodeSets.{IsNodeSet, set_of, with_older, without_node}
 use Rattle.transaction.specs.declared.op.NameCall.{NameCall}
 use Rattle.transaction.specs.declared.op.Op.{Op}
 use Rattle.transaction.specs.declared.op.Op.TheVariants.{Name as NameOp}
@@ -35,13 +35,13 @@ use Rattle.node_events.specs.declared.events.Reply.TheVariants.{Yes, Ok}
 use Rattle.node_core.specs.declared.node.Phase.{Phase}
 use Rattle.node_core.specs.declared.node.Phase.TheVariants.{Writing}
 use Rattle.node_events.specs.Made.{Made, SendsAll, entered}
-use Rattle.node_core.specs.Held.{Held, bound_of, IsWithin, IsWhole}
+use Rattle.node_core.specs.Held.{Held, bound_of, AreOf, IsWithin, IsWhole}
 use Rattle.node_events.specs.Letters.{letter_of}
 use Rattle.node_core.specs.Seen.{turn_of, phase_of, current_of}
 use Rattle.node_events.specs.Seen.{reply_of, entry_of}
 use Rattle.node_core.specs.Steps.{Makes, Works}
 use Rattle.node_core.proofs.Whole.{IsWorkWithin, whole_at}
-use Rattle.node_core.proofs.Bounds.{all_below}
+use Rattle.node_core.proofs.Bounds.{all_below, of_world}
 use Rattle.node_core.proofs.Sends.{sent_all_is}
 
 -- one rule behind another
@@ -79,7 +79,7 @@ phased h t op p is = ap (λ (o : Option Op). at_work (current_of o h.registrar.a
 -- the end: the answer, and the lock goes back to those that were asked and haven't gone: less
 pub finishes : (h0 h : Held) (t u v : Made) (w : Work) (asked less : List ℕ) (reply : Option AnyReply) → h0 ≡ h
     → w ≡ record h0.registrar { current = None; awaited = [] }
-    → ((c : ℕ) → set_of less c ≡ (set_of asked c && not (set_of h0.told c)))
+    → ((c : ℕ) → set_of less c ≡ (set_of asked c && not (with_older h0.told c)))
     → Works (λ op n a. answer_op n a op reply) h t h u → Makes (λ n a. give_global n a (set_of less)) h u h v
     → Works (λ op n a. finish n a op (set_of asked) reply) h t (record h0 { registrar = w }) v
 finishes h0 h t u v w asked less reply same ended are =
@@ -92,7 +92,7 @@ finishes h0 h t u v w asked less reply same ended are =
       turn = ap (λ (x : Work). turn_of (record h0 { registrar = x }) v) ended
           ∙ ap (at_work Current.Free) (G.turn
           ∙ ap (λ (s : Nodes). give_global (bound_of h0.world) h0.name s (turn_of h0 u)) (fun_ext are)
-          ∙ ap (give_global (bound_of h0.world) h0.name (λ c. set_of asked c && not (set_of h0.told c)))
+          ∙ ap (give_global (bound_of h0.world) h0.name (λ c. set_of asked c && not (with_older h0.told c)))
           (A op is).turn);
     })
 
@@ -112,17 +112,17 @@ does h0 h k t u v a asked reply same here made W =
 
 -- the change goes to every member
 pub writes : (h0 h : Held) (t u : Made) (w : Work) (asked : List ℕ) (reply : Option Reply) (change : Change) → h0 ≡ h
-    → IsNodeSet h0.members → IsWithin h0.world h0.members
+    → IsNodeSet h0.members → AreOf h0.world h0.members
     → w ≡ record h0.registrar { awaited = h0.members } → SendsAll h0.members (Apply change) t u
     → Works (λ op n a. write n a op (set_of asked) (option_map reply_of reply) (change_of change)) h t
     (record h0 { registrar = w; phase = Writing asked reply }) u
-writes h0 h t u w asked reply change same set within awaits made =
+writes h0 h t u w asked reply change same set are awaits made =
     subst (λ (x : Held). Works rule x t (record h0 { registrar = w; phase = Writing asked reply }) u) same
     (subst (λ (y : Work). Works rule h0 t (record h0 { registrar = y; phase = Writing asked reply }) u) (sym awaits)
     (λ op is. record {
       name = refl;
       world = refl;
-      turn = sent_all_is k t u h0.members (Apply change) made set within
+      turn = sent_all_is k t u h0.members (Apply change) made set (of_world h0.world h0.members are)
           ∙ ap (λ (x : Turn). send_all (bound_of h0.world) (set_of h0.members) (AnyLetter.Apply (change_of change)) x)
           (ap (λ (o : Option Op). at_work (current_of o h0.members (Writing asked reply)) (turn_of h0 t)) is);
     }))
@@ -207,6 +207,15 @@ nobody_is n (x ∷ xs) below =
     (ap (λ (b : Bool). b || set_of xs x) (eq-eqb x x refl))
 
 -- one node less
+pub less_are : (world xs : List ℕ) (f : ℕ) → AreOf world xs → AreOf world (without_node xs f)
+less_are world xs f are = λ c e. are c (passes (set_of xs c) (not (c == f))
+    (sym (set_of-filter (λ m. not (m == f)) xs c) ∙ e))
+  where
+    passes : (a b : Bool) → (a && b) ≡ true → a ≡ true
+    passes true b e = refl
+    passes false b e = e
+
+-- the same of nodes that have started
 pub less_within : (world xs : List ℕ) (f : ℕ) → IsWithin world xs → IsWithin world (without_node xs f)
 less_within world xs f within = λ c e. within c (passes (set_of xs c) (not (c == f))
     (sym (set_of-filter (λ m. not (m == f)) xs c) ∙ e))

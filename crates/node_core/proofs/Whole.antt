@@ -1,12 +1,16 @@
 -- A whole node stays whole with other parts of which the same holds.
-use Rattle.std.proofs.Common.{ℕ, ◌≡◌, List, refl, ◌∙◌}
+use Rattle.std.proofs.Common.{ℕ, ◌≡◌, List, Option, refl, sym, ◌∙◌, subst}
 use Rattle.std.specs.Prelude.{All}
+use Rattle.locker.specs.Held.{Held as HeldRound}
 use Rattle.transaction.specs.Work.{Work}
 use Rattle.exit_watch.specs.Held.{Held as Watch, AreSuspected}
 use Rattle.lock_calls.specs.Held.{Held as LockCalls, seen}
+use Rattle.node_events.specs.declared.events.Reply.{Reply}
+use Rattle.node_core.specs.declared.node.Phase.TheVariants.{Asking, Writing}
 use Rattle.node_core.specs.Held.{Held, IsWhole, IsWithin, IsOpWithin, IsCurrentWithin, IsCallWithin}
+use Rattle.node_core.proofs.Bounds.{of_world}
 
--- the operations of a registrar and whom it awaits are of the world
+-- the other nodes of a registrar's operations and whom it awaits have started
 pub record IsWorkWithin (world : List ℕ) (w : Work) : Type 0 where
   pub queue : All (IsOpWithin world) w.queue
   pub current : IsCurrentWithin world w.current
@@ -20,7 +24,7 @@ whole_of h r w cs whole work watch suspected calls called = record {
   self = whole.self;
   members = whole.members;
   told = whole.told;
-  here = whole.here;
+  apart = whole.apart;
   queue = work.queue;
   current = work.current;
   awaited = work.awaited;
@@ -49,3 +53,40 @@ pub whole_with : (h : Held) (cs : LockCalls) → IsWhole h → cs.node ≡ h.cal
     → All (λ c. IsCallWithin h.world c.phase) (seen cs) → IsWhole (record h { calls = cs })
 whole_with h cs whole calls called =
     whole_of h h.registrar h.watch cs whole (work_within h whole) refl whole.suspected calls called
+
+-- once it writes, and awaits these nodes
+pub whole_writing : (h : Held) (w : Work) (all asked : List ℕ) (reply : Option Reply) → IsWhole h
+    → w ≡ record h.registrar { awaited = all } → IsWithin h.world all → IsWithin h.world asked
+    → IsWhole (record h { registrar = w; phase = Writing asked reply })
+whole_writing h w all asked reply whole is within asked_within =
+    subst (λ (x : Work). IsWhole (record h { registrar = x; phase = Writing asked reply })) (sym is) (record {
+      self = whole.self;
+      members = whole.members;
+      told = whole.told;
+      apart = whole.apart;
+      queue = whole.queue;
+      current = whole.current;
+      awaited = within;
+      phase = asked_within;
+      watch = whole.watch;
+      suspected = whole.suspected;
+      calls = whole.calls;
+      called = whole.called;
+    })
+
+-- once it asks its members
+pub whole_asking : (h : Held) (r : HeldRound) → IsWhole h → r.nodes ≡ h.members → IsWhole (record h { phase = Asking r })
+whole_asking h r whole is = record {
+  self = whole.self;
+  members = whole.members;
+  told = whole.told;
+  apart = whole.apart;
+  queue = whole.queue;
+  current = whole.current;
+  awaited = whole.awaited;
+  phase = subst (IsWithin h.world) (sym is) (of_world h.world h.members whole.members);
+  watch = whole.watch;
+  suspected = whole.suspected;
+  calls = whole.calls;
+  called = whole.called;
+}

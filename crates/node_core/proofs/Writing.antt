@@ -9,7 +9,7 @@ use Rattle.protocol_model.specs.Reading.{asked_to_admit}
 use Rattle.protocol_model.specs.Calling.{queued}
 use Rattle.protocol_model.specs.Turn.{with_replica}
 use Rattle.protocol_model.specs.Watch.{Watch as AnyWatch}
-use Rattle.term.specs.NodeSets.{set_of}
+use Rattle.term.specs.NodeSets.{with_older}
 use Rattle.exit_watch.specs.Held.{Held as Watch}
 use Rattle.transaction.specs.declared.op.Op.{Op}
 use Rattle.transaction.specs.Ops.{op_of}
@@ -38,10 +38,10 @@ unwritten h h1 t w same table watch =
 
 -- this was written in place of a change, as a node writes that was told of departures
 pub written : (h h1 : Held) (made : Made) (t : Table) (w : Watch) (done change : Change) → h ≡ h1
-    → t ≡ changed done h.table → done ≡ unless_told (set_of h1.told) change → w.watch ≡ h.watch.watch
+    → t ≡ changed done h.table → done ≡ unless_told (with_older h1.told) change → w.watch ≡ h.watch.watch
     → Makes (λ n a. with_replica (wrote change)) h1 made (record h { table = t; watch = w }) made
 written h h1 made t w done change same table is watch =
-    subst (λ (x : Held). done ≡ unless_told (set_of x.told) change
+    subst (λ (x : Held). done ≡ unless_told (with_older x.told) change
     → Makes (λ n a. with_replica (wrote change)) x made (record h { table = t; watch = w }) made) same
     (λ this. record {
       name = refl;

@@ -10,13 +10,13 @@ use Rattle.protocol_model.specs.Node.{Op, Current, wrote}
 use Rattle.protocol_model.specs.Turn.{Turn}
 use Rattle.protocol_model.specs.Watch.{is_live}
 use Rattle.protocol_model.specs.Calling.{die}
-use Rattle.term.specs.NodeSets.{set_of}
+use Rattle.term.specs.NodeSets.{set_of, with_older}
 use Rattle.transaction.specs.Ops.{op_of}
 use Rattle.exchange.specs.declared.bodies.Welcome.{Welcome}
 use Rattle.node_events.specs.declared.events.Letter.{Letter}
 use Rattle.node_events.specs.Letters.{letter_of}
 use Rattle.node_events.specs.Made.{Made, sent, SendsAll}
-use Rattle.node_core.specs.Held.{Held, IsWithin}
+use Rattle.node_core.specs.Held.{Held, HaveStarted, IsWithin}
 
 -- the number of the join that waits for its contact, if one does
 abbrev pub join_number_of : Current → Option ℕ
@@ -28,12 +28,12 @@ abbrev pub join_by : ℕ → Current → Option ℕ
 join_by c (Current.Joining k m) = if m == c then Some k else None
 join_by c _ = None
 
--- The welcome is one to node a: its nodes are of the world, a is a member and hasn't left, and the names rise
+-- The welcome is one to node a: its nodes have started, a is a member and hasn't left, and the names rise
 pub record IsWelcomeTo (world : List ℕ) (a : ℕ) (w : Welcome) : Type 0 where
   pub members : IsWithin world w.members
-  pub told : IsWithin world w.told
+  pub told : HaveStarted world (with_older w.told)
   pub self : set_of w.members a ≡ true
-  pub here : set_of w.told a ≡ false
+  pub here : with_older w.told a ≡ false
   pub rising : is_rising w.pairs.items ≡ true
 
 -- the current operation is the admission of j, which has these names
@@ -47,7 +47,7 @@ TellsToAdmit h j s t u = (l : Letter) × (letter_of l ≡ AnyLetter.Admit j s) �
 -- j is sent all that the node has, and what is settled
 abbrev pub Welcomes : Held → ℕ → Settled → Made → Made → Type 0
 Welcomes h j s t u = (m : Letter)
-    × (letter_of m ≡ AnyLetter.Welcome (with_node j (set_of h.members)) (with_settled s h.table) (set_of h.told) s.fate)
+    × (letter_of m ≡ AnyLetter.Welcome (with_node j (set_of h.members)) (with_settled s h.table) (with_older h.told) s.fate)
     × (u ≡ sent j m t)
 
 -- p dies, if it lives here

@@ -3,7 +3,7 @@ use Rattle.std.specs.Prelude.{ℕ, Bool, true, false, Option, Some, None, List, 
 use Rattle.std.specs.Option.{option_map}
 use Rattle.protocol_model.specs.Node.{Node, Current}
 use Rattle.protocol_model.specs.Turn.{Turn}
-use Rattle.term.specs.NodeSets.{set_of}
+use Rattle.term.specs.NodeSets.{set_of, with_older}
 use Rattle.lock_table.specs.declared.verdict.Verdict.{Verdict}
 use Rattle.lock_table.specs.declared.verdict.Verdict.TheVariants.{Grant}
 use Rattle.locker.specs.Held.{seen}
@@ -36,7 +36,7 @@ node_of h = record {
   replica = record {
     table = h.table;
     members = set_of h.members;
-    told = set_of h.told;
+    told = with_older h.told;
     joined = h.joined;
     notices = λ serial. list_under serial h.notices;
   };

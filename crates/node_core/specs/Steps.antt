@@ -5,7 +5,7 @@ use Rattle.protocol_model.specs.Node.{Op as AnyOp}
 use Rattle.protocol_model.specs.Turn.{Turn, begun}
 use Rattle.protocol_model.specs.Calling.{event}
 use Rattle.protocol_model.specs.Reading.{receive}
-use Rattle.term.specs.NodeSets.{set_of}
+use Rattle.term.specs.NodeSets.{set_of, with_older}
 use Rattle.transaction.specs.declared.op.Op.{Op}
 use Rattle.transaction.specs.Ops.{op_of}
 use Rattle.node_events.specs.declared.events.Event.{Event}
@@ -63,22 +63,22 @@ Works rule h t k u = (op : Op) → h.registrar.current ≡ Some op → Makes (ru
 abbrev pub EntersCall : ℕ → ℕ → NameCall → Reply → Made → Made → Type 0
 EntersCall a call c r t u = (s : Reply) × (reply_of s ≡ reply_of r) × (u ≡ entered (Name a call c s) t)
 
--- another node of the world
+-- another node that has started
 abbrev pub IsOther : List ℕ → ℕ → ℕ → Type 0
-IsOther world a f = (set_of world f ≡ true) × ((f == a) ≡ false)
+IsOther world a f = (with_older world f ≡ true) × ((f == a) ≡ false)
 
--- What node a relies on of a letter that f sends: who asks to join and who is admitted are of the world, a welcome is
--- one to a, and who has left is another node of the world
+-- What node a relies on of a letter that f sends: who asks to join and who is admitted have started, a welcome is one to a, and who
+-- has left is another node that has started
 abbrev pub IsSaidBy : List ℕ → ℕ → ℕ → Letter → Type 0
-IsSaidBy world a f (JoinAsk pairs) = set_of world f ≡ true
-IsSaidBy world a f (Admit body) = set_of world body.joiner ≡ true
+IsSaidBy world a f (JoinAsk pairs) = with_older world f ≡ true
+IsSaidBy world a f (Admit body) = with_older world body.joiner ≡ true
 IsSaidBy world a f (Welcome body) = IsWelcomeTo world a body.value
 IsSaidBy world a f Down = IsOther world a f
 IsSaidBy world a f _ = Unit {0}
 
--- what a node relies on of a call: the contact of a join is of the world
+-- what a node relies on of a call: the contact of a join has started
 abbrev pub IsAskedWithin : List ℕ → ClientCall → Type 0
-IsAskedWithin world (JoinBy m) = set_of world m ≡ true
+IsAskedWithin world (JoinBy m) = with_older world m ≡ true
 IsAskedWithin world _ = Unit {0}
 
 -- the rule of an event is carried out
@@ -117,18 +117,18 @@ abbrev pub cause_of : Option StepFault → Option AnyRefusal
 cause_of None = None
 cause_of (Some fault) = fault_of fault
 
--- what node a relies on of an event: of its call, or of its letter, which is from a node of the world
+-- what node a relies on of an event: of its call, or of its letter, which is from a node that has started
 abbrev pub IsHeardWithin : List ℕ → ℕ → Event → Type 0
 IsHeardWithin world a (Call c) = IsAskedWithin world c
-IsHeardWithin world a (FromPeer f l) = (set_of world f ≡ true) × IsSaidBy world a f l
+IsHeardWithin world a (FromPeer f l) = (with_older world f ≡ true) × IsSaidBy world a f l
 IsHeardWithin world a _ = Unit {0}
 
--- each of these letters of node a goes to a node of the world, and to another one where it says that a has left
+-- each of these letters of node a goes to a node that has started, and to another one where it says that a has left
 abbrev pub GoWithin : List ℕ → ℕ → List (ℕ × Letter) → Type 0
-GoWithin world a ss = All (λ s. (set_of world s.0 ≡ true) × IsSaidBy world s.0 a s.1) ss
+GoWithin world a ss = All (λ s. (with_older world s.0 ≡ true) × IsSaidBy world s.0 a s.1) ss
 
--- An event was accepted, and the protocol's node makes its turn. What it sends goes to nodes of the world alone, where
--- it hears none but those
+-- An event was accepted, and the protocol's node makes its turn. What it sends goes to nodes that have started alone, where it
+-- hears none but those
 pub record Steps (e : Event) (old new : Held) (made : Made) : Type 0 where
   pub name : new.name ≡ old.name
   pub world : new.world ≡ old.world

@@ -60,9 +60,10 @@ impl Phase {
 pub struct NodeCore<N: Names> {
     alloc: Global,
     node: Node,
+    /// The nodes at present: the last one of each name that has started.
     world: NodeSet,
     members: NodeSet,
-    /// The nodes of the world that it was told have left.
+    /// Of each name the last node that it was told has left; it was told so of all older ones, too.
     told: NodeSet,
     joined: bool,
     table: N,
@@ -137,9 +138,10 @@ impl<N: Names<Memory = Global>> NodeCore<N> {
     ghost use Rattle.registry_model.specs.Table.{is_rising};
 
     /// Takes the step of a cause, and gives what it makes: letters, each with the name of its receiver, entries of the history, and
-    /// answers. The letters go to nodes of its world and say what their readers rely on, where what it reads does. A refused cause
-    /// changes nothing; where `Memory` is refused the node is as before, as the protocol sees it, and the cause may be given again.
-    /// Of what no node of the world says (a departure of this node or of a stranger, a join of a stranger) no clause says what it does.
+    /// answers. The letters go to nodes that have started and say what their readers rely on, where what it reads does. A refused
+    /// cause changes nothing; where `Memory` is refused the node is as before, as the protocol sees it, and the cause may be given
+    /// again. Of what no node says that has started (a departure of this node, or of one that hasn't; a join of such a one) no
+    /// clause says what it does.
     pub fn turn(&mut self, cause: Cause<'_>) -> Result<Turn, StepFault>
         ensures name { self.new.name ≡ self.old.name }
         ensures world { self.new.world ≡ self.old.world }
@@ -478,7 +480,7 @@ impl<N: Names<Memory = Global>> NodeCore<N> {
         &self.table
     }
 
-    /// The nodes of its world, itself among them.
+    /// The nodes of its world at present, one of each name.
     pub fn world(&self) -> &NodeSet
         ensures world { result.now ≡ self.now.world }
         ensures whole { IsWhole self.now }
@@ -494,7 +496,7 @@ impl<N: Names<Memory = Global>> NodeCore<N> {
         &self.members
     }
 
-    /// The nodes that it was told have left.
+    /// Of each name the last node that it was told has left; it was told so of all older ones, too.
     pub fn told(&self) -> &NodeSet
         ensures told { result.now ≡ self.now.told }
         ensures whole { IsWhole self.now }
@@ -533,19 +535,28 @@ impl<N: Names<Memory = Global>> NodeCore<N> {
 }
 
 impl<N: Names<Memory = Global>> NodeCore<N> {
-    ghost use Rattle.std.specs.Prelude.{true};
+    ghost use Rattle.std.specs.Prelude.{ℕ, true, false, [], ◌∷◌};
+    ghost use Rattle.std.specs.List.{All};
     ghost use Rattle.protocol_model.specs.Node.{opening_node};
-    ghost use Rattle.term.specs.NodeSets.{set_of};
-    ghost use Rattle.node_core.specs.Held.{IsWithin, fresh};
+    ghost use Rattle.term.specs.Nodes.{IsFirst};
+    ghost use Rattle.term.specs.NodeSets.{set_of, with_older, succeeded};
+    ghost use Rattle.node_core.specs.Held.{AreOf, IsNext, HaveLeft, fresh, fresh_behind};
     ghost use Rattle.node_core.specs.Seen.{node_of};
 
-    /// A node at its beginning: one of the world's, with its members, and without names, processes and operations. It takes no
-    /// memory.
-    pub fn new(alloc: Global, node: Node, world: &NodeSet, members: &NodeSet, joined: bool) -> Self
+    /// A node at its beginning, which was told of these departures: it has its members, and no names, processes and operations.
+    fn opened(
+        alloc: Global,
+        node: Node,
+        world: &NodeSet,
+        members: &NodeSet,
+        left: &NodeSet,
+        joined: bool,
+    ) -> Self
         requires own { set_of members.now node ≡ true }
-        requires members { IsWithin world.now members.now }
-        ensures fresh { result ≡ fresh node world.now members.now joined }
-        ensures opening { joined ≡ true → node_of result ≡ opening_node (set_of members.now) node }
+        requires members { AreOf world.now members.now }
+        requires left { HaveLeft world.now left.now }
+        requires apart { (c : ℕ) → set_of members.now c ≡ true → with_older left.now c ≡ false }
+        ensures { result ≡ fresh_behind node world.now members.now left.now joined }
     {
         let watch = Watch::new(alloc, node.copy());
         let calls = LockCalls::new(alloc, node.copy());
@@ -554,7 +565,7 @@ impl<N: Names<Memory = Global>> NodeCore<N> {
             node,
             world: world.copy(),
             members: members.copy(),
-            told: NodeSet::empty(),
+            told: left.copy(),
             joined,
             table: N::empty(alloc),
             notices: NoticeLists::new(alloc),
@@ -565,5 +576,39 @@ impl<N: Names<Memory = Global>> NodeCore<N> {
             calls,
             last_call: 0,
         }
+    }
+
+    /// A node at its beginning: one of the world's, which are the first ones of their names, with its members, and without names,
+    /// processes and operations. It takes no memory.
+    pub fn new(alloc: Global, node: Node, world: &NodeSet, members: &NodeSet, joined: bool) -> Self
+        requires own { set_of members.now node ≡ true }
+        requires members { AreOf world.now members.now }
+        requires first { All IsFirst world.now }
+        ensures fresh { result ≡ fresh node world.now members.now joined }
+        ensures opening { joined ≡ true → node_of result ≡ opening_node (set_of members.now) node }
+    {
+        NodeCore::opened(alloc, node, world, members, &NodeSet::empty(), joined)
+    }
+
+    /// A node whose name has come back, at its beginning: it is lone, and was told of all that have left. It takes no memory.
+    pub fn come_back(alloc: Global, node: Node, world: &NodeSet, left: &NodeSet) -> Self
+        requires known { set_of world.now node ≡ true }
+        requires left { HaveLeft world.now left.now }
+        requires stays { with_older left.now node ≡ false }
+        ensures { result ≡ fresh_behind node world.now (node ∷ []) left.now false }
+    {
+        let alone = NodeSet::one(node.copy());
+        NodeCore::opened(alloc, node, world, &alone, left, false)
+    }
+
+    /// The name of another node, of which this one was told that it has left, has come back: the next node of that name takes its
+    /// place in the world.
+    pub fn replace(&mut self, older: &Node, next: &Node)
+        requires next { IsNext older.now next.now }
+        requires known { set_of self.old.world older.now ≡ true }
+        requires told { with_older self.old.told older.now ≡ true }
+        ensures { self.new ≡ record self.old { world = succeeded older.now next.now self.old.world } }
+    {
+        self.world = self.world.with_next(older, next);
     }
 }

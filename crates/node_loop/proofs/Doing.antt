@@ -12,7 +12,9 @@ use Rattle.protocol_model.specs.World.{Opening, in_world, other}
 use Rattle.protocol_model.specs.World.{WorldEvent as AnyWorldEvent}
 use Rattle.closings.specs.Alone.{Stamped as StampedLetter, Entry as SeenEntry, Made, IsTurnOf}
 use Rattle.closings.specs.Guarded.{SaysFit, ReadsIfFit, DoesIfFit}
-use Rattle.term.specs.NodeSets.{set_of}
+use Rattle.term.specs.Nodes.{IsFirst}
+use Rattle.term.specs.NodeSets.{set_of, with_older}
+use Rattle.term.proofs.Older.{held}
 use Rattle.node_log.specs.declared.Call.{Call as ClientCall}
 use Rattle.node_log.specs.declared.Call.TheVariants.{Spawn, Whereis, RegisteredNames, Notices, Register, ReRegister, Unregister, SetLock, DelLock, Join as JoinBy}
 use Rattle.node_log.specs.declared.CoreEvent.TheVariants.{FromPeer}
@@ -28,19 +30,19 @@ use Rattle.node_log.specs.NodeCoreSteps.{Steps, IsSaidBy, IsAskedWithin, IsHeard
 use Rattle.node_log.specs.Events.{node_event, own_event_of, knows_contact}
 use Rattle.node_loop.specs.Said.{IsSaid}
 use Rattle.node_loop.specs.Sound.{IsNodeOf}
-use Rattle.node_loop.proofs.Saying.{said_as, as_said}
+use Rattle.node_loop.proofs.Saying.{of_first, said_as, as_said}
 
 abbrev Goes : List ℕ → ℕ → ℕ × Letter → Type 0
-Goes world a s = (set_of world s.0 ≡ true) × IsSaidBy world s.0 a s.1
+Goes world a s = (with_older world s.0 ≡ true) × IsSaidBy world s.0 a s.1
 
--- of letters that go within a world each says what its receiver relies on
-says : (world : List ℕ) (a c : ℕ) (ss : List (ℕ × Letter)) → GoWithin world a ss
+-- of letters that go within a world of first nodes each says what its receiver relies on
+says : (world : List ℕ) → All IsFirst world → (a c : ℕ) (ss : List (ℕ × Letter)) → GoWithin world a ss
     → All (IsSaid (set_of world) a c) (sent_to c (map send_of ss))
-says world a c [] h = All-nil (IsSaid (set_of world) a c)
-says world a c (s ∷ ss) h = go (cases_eq s.0 c) (says world a c ss (All-tail (Goes world a) s ss h))
+says world alone a c [] h = All-nil (IsSaid (set_of world) a c)
+says world alone a c (s ∷ ss) h = go (cases_eq s.0 c) (says world alone a c ss (All-tail (Goes world a) s ss h))
   where
     first : s.0 ≡ c → IsSaid (set_of world) a c (letter_of s.1)
-    first e = as_said world c a s.1 (subst (λ (x : ℕ). IsSaidBy world x a s.1) e (All-head (Goes world a) s ss h).1)
+    first e = as_said world alone c a s.1 (subst (λ (x : ℕ). IsSaidBy world x a s.1) e (All-head (Goes world a) s ss h).1)
 
     go : (s.0 ≡ c) ⊎ (s.0 ≡ c → ⊥) → All (IsSaid (set_of world) a c) (sent_to c (map send_of ss))
         → All (IsSaid (set_of world) a c) (sent_to c (map send_of (s ∷ ss)))
@@ -48,7 +50,7 @@ says world a c (s ∷ ss) h = go (cases_eq s.0 c) (says world a c ss (All-tail (
         (All-cons (IsSaid (set_of world) a c) (letter_of s.1) (sent_to c (map send_of ss)) (first e) rest)
     go (inr ne) rest = rw (ne_eqb s.0 c ne) rest
 
--- a call's contact, if it has one, is of the world
+-- a call's contact, if it has one, has started
 asks : (nodes : List ℕ) (c : ClientCall) → knows_contact nodes (Call c) ≡ true → IsAskedWithin nodes c
 asks nodes Spawn known = tt
 asks nodes (Whereis x) known = tt
@@ -91,7 +93,7 @@ module _ (o : Opening) (h : Held) (I : IsNodeOf o h) where
   other_inside (Call (Unregister x)) known = here
   other_inside (Call (SetLock p id asked retries)) known = here
   other_inside (Call (DelLock p id asked)) known = here
-  other_inside (Call (JoinBy m)) known = inside m known
+  other_inside (Call (JoinBy m)) known = inside m (of_first h.world I.first m known)
   other_inside Retry known = here
   other_inside (Exit p) known = here
   other_inside Leave known = here
@@ -112,7 +114,7 @@ module _ (o : Opening) (h : Held) (I : IsNodeOf o h) where
 
     says_fit : GoWithin h.world h.name turn.letters → SaysFit (IsSaid (in_world o)) h.name (made core turn entry)
     says_fit within = λ c. subst (λ (s : Nodes). All (IsSaid s h.name c) (sent_to c (map send_of turn.letters))) (sym I.inside)
-        (says h.world h.name c turn.letters within)
+        (says h.world I.first h.name c turn.letters within)
 
     -- the node's turn, as its world has it
     event_is : (e : AnyEvent) → turn_by unnumbered core turn ≡ event (bound_of h.world) h.name (set_of h.world) e (begun (node_of h))
@@ -139,7 +141,7 @@ module _ (o : Opening) (h : Held) (I : IsNodeOf o h) where
           later,
           λ fit. (
             (λ number. is_turn number _ (S.turn number (said fit) ∙ λ j. receive (sym I.bound j) h.name number f (letter_of l) (begun (node_of h)))),
-            says_fit (S.within (sym (ap (λ (s : Nodes). s f) I.inside) ∙ known, said fit)),
+            says_fit (S.within (held h.world f (sym (ap (λ (s : Nodes). s f) I.inside) ∙ known), said fit)),
           ),
         )
       where

@@ -12,7 +12,8 @@ use Rattle.table_steps.proofs.Steps.{letters_write, events_keep}
 use Rattle.name_table.specs.declared.change.Change.{Change}
 use Rattle.name_table.specs.declared.change.Pair.{Pair}
 use Rattle.name_table.specs.Changes.{change_of}
-use Rattle.term.specs.NodeSets.{set_of}
+use Rattle.term.specs.NodeSets.{set_of, with_older}
+use Rattle.term.proofs.Older.{held}
 use Rattle.node_log.specs.declared.Event.{Event}
 use Rattle.node_log.specs.declared.Event.TheVariants as event
 use Rattle.node_log.specs.declared.Answer.{Answer}
@@ -224,27 +225,27 @@ module _ (f : ℕ) (h : Held) where
   }
 
   -- a letter of a node that is told to have left is dropped
-  pub dropped : (c : Change) → set_of h.told f ≡ true → NotedBy Nothing f (Apply c) h
-  dropped c told = noted_as Nothing (Apply c) refl tt (λ e. λ j. showing (at (set_of h.told f) told j) e)
+  pub dropped : (c : Change) → with_older h.told f ≡ true → NotedBy Nothing f (Apply c) h
+  dropped c told = noted_as Nothing (Apply c) refl tt (λ e. λ j. showing (at (with_older h.told f) told j) e)
     where
       at : (b : Bool) → b ≡ true
           → (if b && true then (node_of h).replica else behind_letter h.name f (letter_of (Apply c)) (node_of h).current (node_of h).replica).table ≡ h.table
       at true q = refl
       at false q = cc
 
-  pub written : (c w : Change) → set_of h.told f ≡ false → change_of w ≡ unless_told (set_of h.told) (change_of c)
+  pub written : (c w : Change) → with_older h.told f ≡ false → change_of w ≡ unless_told (with_older h.told) (change_of c)
       → NotedBy (One (edit.Write w)) f (Apply c) h
   written c w told is = noted_as (One (edit.Write w)) (Apply c) refl tt
-      (λ e. λ j. showing ((at (set_of h.told f) told ∙ ap (λ x. changed x h.table) (sym is)) j) e)
+      (λ e. λ j. showing ((at (with_older h.told f) told ∙ ap (λ x. changed x h.table) (sym is)) j) e)
     where
       at : (b : Bool) → b ≡ false
           → (if b && true then (node_of h).replica else behind_letter h.name f (letter_of (Apply c)) (node_of h).current (node_of h).replica).table
-          ≡ changed (unless_told (set_of h.told) (change_of c)) h.table
+          ≡ changed (unless_told (with_older h.told) (change_of c)) h.table
       at true q = cc
       at false q = refl
 
   pub gone : set_of h.world f ≡ true → (f == h.name) ≡ false → NotedBy (One (edit.Departure f)) f Down h
-  gone inside other = noted_as (One (edit.Departure f)) Down refl (inside, other) (λ e. λ j. showing (at (set_of h.told f) j) e)
+  gone inside other = noted_as (One (edit.Departure f)) Down refl (held h.world f inside, other) (λ e. λ j. showing (at (with_older h.told f) j) e)
     where
       at : (b : Bool)
           → (if b && false then (node_of h).replica else behind_letter h.name f AnyLetter.Down (node_of h).current (node_of h).replica).table
@@ -255,7 +256,7 @@ module _ (f : ℕ) (h : Held) where
   -- what writes nothing leaves the table, whether it is read or dropped
   still : (l : Letter) → IsSaidBy h.world h.name f l
       → behind_letter h.name f (letter_of l) (node_of h).current (node_of h).replica ≡ (node_of h).replica → NotedBy Nothing f l h
-  still l said same = noted_as Nothing l refl said (λ e. λ j. showing (at (set_of h.told f && not (is_down (letter_of l))) j).table e)
+  still l said same = noted_as Nothing l refl said (λ e. λ j. showing (at (with_older h.told f && not (is_down (letter_of l))) j).table e)
     where
       at : (b : Bool)
           → (if b then (node_of h).replica else behind_letter h.name f (letter_of l) (node_of h).current (node_of h).replica) ≡ (node_of h).replica
@@ -263,7 +264,7 @@ module _ (f : ℕ) (h : Held) where
       at false = same
 
   pub asked : (pairs : Vec Pair Global) → set_of h.world f ≡ true → NotedBy Nothing f (JoinAsk pairs) h
-  asked pairs inside = still (JoinAsk pairs) inside refl
+  asked pairs inside = still (JoinAsk pairs) (held h.world f inside) refl
 
   -- so does any letter but those that say of names or members
   pub quiet : (l : Letter) → ((c : Change) → l ≡ Apply c → ⊥) → ((pairs : _) → l ≡ JoinAsk pairs → ⊥)

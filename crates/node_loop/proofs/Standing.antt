@@ -1,6 +1,7 @@
 -- A loop that tells of the steps of its node, as these become more.
 use Rattle.std.proofs.Common.{◌≡◌, ◌≤◌, ◌+◌, ℕ, Bool, true, false, List, [], ◌∷◌, ◌++◌, map, refl, sym, ap, subst, ◌∙◌, inl, inr, arith, append_assoc, true≢false}
 use Rattle.std.specs.Prelude.{◌⊎◌}
+use Rattle.std.specs.List.{All}
 use Rattle.std.specs.List.Sorted.{IsStrictlyIncreasing}
 use Rattle.std.proofs.lemmas.Bool.{cases_eq, ne_eqb}
 use Rattle.std.proofs.lemmas.List.{map-append}
@@ -10,6 +11,7 @@ use Rattle.protocol_model.specs.World.{Opening, in_world, in_cluster, place, oth
 use Rattle.closings.specs.Alone.{Stamped as StampedLetter, Made, letters_to, sent, unread_after, unread_behind, AreBelow, is_leave, IsStep, Plays, node_behind}
 use Rattle.closings.specs.Guarded.{DoesIfFit}
 use Rattle.closings.proofs.Growing.{plays_longer, unread_behind_longer, plays_more, node_on, unread_on, sent_on, below_from, below_on, staying_on}
+use Rattle.term.specs.Nodes.{IsFirst}
 use Rattle.term.specs.NodeSets.{set_of}
 use Rattle.node_log.specs.NodeCoreHeld.{Held, bound_of}
 use Rattle.node_log.specs.NodeCoreMade.{Made as Turn}
@@ -37,6 +39,7 @@ of_same o h k I n w = record {
   bound = I.bound ∙ ap bound_of (sym w);
   inside = I.inside ∙ ap set_of (sym w);
   here = ap (λ (x : List ℕ). set_of x k.name) w ∙ (ap (set_of h.world) n ∙ I.here);
+  first = subst (All IsFirst) (sym w) I.first;
 }
 
 -- what its letters were at its opening goes by its name

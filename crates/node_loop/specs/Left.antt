@@ -2,7 +2,7 @@
 use Rattle.std.specs.Prelude.{ℕ, Bool, true, false, ◌≡◌, ◌==◌, ◌&&◌, Contains, Ok}
 use Rattle.std.specs.List.{list_any}
 use Rattle.node_log.specs.declared.WorldEvent.{WorldEvent}
-use Rattle.node_log.specs.declared.WorldEvent.TheVariants.{At, Deliver}
+use Rattle.node_log.specs.declared.WorldEvent.TheVariants.{At, Deliver, Restart}
 use Rattle.node_log.specs.Events.{is_leave}
 use Rattle.node_loop.specs.declared.item.Ticket.{Ticket}
 use Rattle.node_loop.specs.Told.{Told, Left}
@@ -13,6 +13,7 @@ use Rattle.node_loop.specs.Coming.{IsLoopOf}
 abbrev pub is_leave_of : ℕ → WorldEvent → Bool
 is_leave_of node (At n e) = (n == node) && is_leave e
 is_leave_of node (Deliver f t) = false
+is_leave_of node (Restart x) = false
 
 -- some step of the log is the leave of its node
 abbrev pub logs_leave : Written → Bool

@@ -1,11 +1,13 @@
 -- A node's loop that is sound: its log, its core and its links tell of the same steps.
 use Rattle.std.specs.Prelude.{ℕ, Bool, true, false, ◌≡◌, ◌⊎◌, ◌+◌, List, [], ◌++◌, map, MatchResult}
+use Rattle.std.specs.List.{All}
 use Rattle.std.specs.List.Sorted.{IsStrictlyIncreasing}
 use Rattle.protocol_model.specs.Node.{Node, opening_node}
 use Rattle.protocol_model.specs.World.{Opening, in_world, in_cluster}
 use Rattle.closings.specs.Alone.{Stamped, Made, sent, unread_behind, AreBelow, AreStaying, Plays, node_behind}
 use Rattle.closings.specs.Guarded.{DoesIfFit, Vouches}
 use Rattle.registry_model.specs.Table.{Table}
+use Rattle.term.specs.Nodes.{IsFirst}
 use Rattle.term.specs.NodeSets.{set_of}
 use Rattle.node_log.specs.NodeCoreHeld.{Held, bound_of}
 use Rattle.node_log.specs.NodeCoreSeen.{node_of}
@@ -16,11 +18,12 @@ use Rattle.node_loop.specs.Held.{Looping, Written}
 use Rattle.node_loop.specs.Steps.{Outcome}
 use Rattle.node_loop.specs.Dealings.{Dealt, nothing_dealt, letters_in, took, put, receivers, waiting_for, Deals}
 
--- a node is one of a world that opens so
+-- a node is one of a world that opens so, of the first nodes of their names
 pub record IsNodeOf (o : Opening) (h : Held) : Type 0 where
   pub bound : o.bound ≡ bound_of h.world
   pub inside : in_world o ≡ set_of h.world
   pub here : set_of h.world h.name ≡ true
+  pub first : All IsFirst h.world
 
 -- what the node that this is was at its opening
 abbrev pub opened : Opening → Held → Node

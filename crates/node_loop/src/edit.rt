@@ -2,7 +2,7 @@
 ghost use Rattle.std.specs.Prelude.{◌≡◌};
 ghost use Rattle.protocol_model.specs.Node.{unless_told};
 ghost use Rattle.name_table.specs.Changes.{change_of};
-ghost use Rattle.term.specs.NodeSets.{set_of};
+ghost use Rattle.term.specs.NodeSets.{with_older};
 ghost use Rattle.node_loop.specs.Editions.{NotedBy};
 ghost use Rattle.node_loop.specs.Owing.{with_note};
 
@@ -83,10 +83,10 @@ impl Owed {
 
 /// What a node writes that is told to write this: a name isn't given to a process of a node that has left.
 fn written_for(told: &NodeSet, change: &Change) -> Change
-    ensures { change_of result ≡ unless_told (set_of told.now) (change_of change.now) }
+    ensures { change_of result ≡ unless_told (with_older told.now) (change_of change.now) }
 {
     match change {
-        Change::Put(pair) if told.contains(&pair.owner.node) => Change::Remove(pair.name.copy()),
+        Change::Put(pair) if told.reaches(&pair.owner.node) => Change::Remove(pair.name.copy()),
         other => other.copy(),
     }
 }
@@ -102,7 +102,7 @@ pub(crate) fn note_of<N: Names<Memory = Global>>(
     let is_known = core.world().contains(from);
     let is_own = from == core.node();
     match letter {
-        Letter::Apply(_) if core.told().contains(from) => Note::Nothing,
+        Letter::Apply(_) if core.told().reaches(from) => Note::Nothing,
         Letter::Apply(change) => Note::One(Edit::Write(written_for(core.told(), change))),
         Letter::Down if is_known && !is_own => Note::One(Edit::Departure(from.copy())),
         Letter::JoinAsk(_) if is_known => Note::Nothing,

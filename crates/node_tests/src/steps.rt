@@ -21,10 +21,13 @@ const ROUNDS: u32 = 16;
 
 /// The core of the node `a`, which is its own only member, in a world with `b`.
 fn core(alloc: Global, joined: bool) -> Option<Core> {
-    let (Ok(a), Ok(world)) = (parse_node("a"), parse_nodes("a,b")) else {
+    let (Ok(a), Ok(names)) = (parse_node("a"), parse_nodes("a,b")) else {
         return None;
     };
-    let world = NodeSet::first_of(&world);
+    if names.len() != 2 {
+        return None;
+    }
+    let world = NodeSet::first_of(&names);
     let members = NodeSet::one(a.copy());
     if !members.contains(&a) || !world.contains(&a) {
         return None;

@@ -26,7 +26,8 @@ use Rattle.replay.specs.Ends.{End, logs_of}
 use Rattle.replay.specs.Steps.{log_of}
 use Rattle.replay.specs.Replaying.{AreAll}
 use Rattle.replay.specs.Consistent.{AreConsistent}
-use Rattle.replay.proofs.Listed.{world_is, known_place, no_place}
+use Rattle.replay.proofs.Listed.{known_place, no_place}
+use Rattle.replay.proofs.Opened.{world_is}
 use Rattle.replay.proofs.Merging.{alone, found, log_is, set_of-at}
 use Rattle.node_threads.specs.Givers.{receivers}
 use Rattle.node_seats.specs.Addresses.{Inbox}

@@ -15,7 +15,6 @@ use Rattle.node_loop.specs.declared.item.Item.{Item}
 use Rattle.node_loop.specs.declared.item.Item.TheVariants.{Letter, Task}
 use Rattle.node_loop.specs.Dealings.{with_sent, with_taken, nothing_dealt, Deals}
 use Rattle.node_seats.specs.Lines.{Sent, with_parcel, with_parcel_to}
-use Rattle.replay.proofs.Listed.{is_some-place}
 use Rattle.node_threads.specs.declared.ruled_end.Traffic.{Traffic}
 use Rattle.node_threads.specs.Givers.{receivers, node_under}
 use Rattle.node_threads.specs.Traffics.{Posts, Takes}
@@ -23,7 +22,7 @@ use Rattle.node_threads.specs.Wires.{unused}
 use Rattle.node_threads.specs.Ends.{are_inside, leads_inside, fixed}
 use Rattle.node_threads.specs.Dealings.{put_on, sent_to, taken_from, dealt_of, dealt_by}
 use Rattle.node_threads.proofs.Lines.{receivers_kept, unused_kept}
-use Rattle.node_threads.proofs.Places.{place_mapped}
+use Rattle.node_threads.proofs.Places.{place_mapped, is_some-place}
 
 both : (x y : Bool) → (x && y) ≡ true → (x ≡ true) × (y ≡ true)
 both true y e = (refl, e)

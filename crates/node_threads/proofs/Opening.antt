@@ -12,8 +12,8 @@ use Rattle.registry_model.specs.Process.{Nodes, nobody}
 use Rattle.registry_model.specs.Table.{without}
 use Rattle.protocol_model.specs.Node.{opening_node}
 use Rattle.protocol_model.specs.World.{Opening as AnyOpening, in_world, in_cluster}
-use Rattle.replay.proofs.Consistent.{opening_same}
-use Rattle.replay.proofs.Listed.{world_is}
+use Rattle.replay.proofs.Opened.{opening_same, world_is}
+use Rattle.term.specs.Nodes.{IsFirst}
 use Rattle.term.specs.NodeSets.{set_of, most_nodes}
 use Rattle.term.proofs.Subsets.{set_of-append}
 use Rattle.node_loop.specs.declared.StartFault.TheVariants.{SameNode, TooManyNodes}
@@ -106,12 +106,13 @@ module _ (nodes cluster : List ℕ) where
       go c false e = and-false (in_world (opening_with nodes cluster) c)
 
   -- it is one of the world that opens so, as it opens
-  of_world : (a : ℕ) → set_of nodes a ≡ true → IsNodeOf (opening_with nodes cluster) (opening_core nodes cluster a)
-  of_world a known = record {
+  of_world : All IsFirst nodes → (a : ℕ) → set_of nodes a ≡ true → IsNodeOf (opening_with nodes cluster) (opening_core nodes cluster a)
+  of_world first a known = record {
     bound = ap bound_of (sym (opens_world a));
     inside = world_is nodes cluster ∙ ap set_of (sym (opens_world a));
     here = ap (λ (ns : List ℕ). set_of ns (opening_core nodes cluster a).name) (opens_world a)
         ∙ ap (set_of nodes) (opens_name a) ∙ known;
+    first = subst (All IsFirst) (sym (opens_world a)) first;
   }
 
   as_opened : ((c : ℕ) → set_of cluster c ≡ true → set_of nodes c ≡ true) → (a : ℕ)
@@ -127,23 +128,24 @@ module _ (cluster lone : List ℕ) (o : Opened) (is : IsOpening cluster lone o) 
   abbrev core_at : ℕ → Held
   core_at a = opening_core o.nodes o.cluster a
 
-  opens_one : (w : Wired) → set_of (cluster ++ lone) (name_of w) ≡ true → w.core ≡ core_at (name_of w) → Opens cluster lone w
-  opens_one w known core = record {
+  opens_one : All IsFirst o.nodes → (w : Wired) → set_of (cluster ++ lone) (name_of w) ≡ true → w.core ≡ core_at (name_of w)
+      → Opens cluster lone w
+  opens_one first w known core = record {
     name = ap (λ (h : Held). h.name) core ∙ opens_name o.nodes o.cluster (name_of w);
     of = subst (IsNodeOf (opening_with (cluster ++ lone) cluster)) (sym core)
         (subst (λ (p : AnyOpening). IsNodeOf p (core_at (name_of w))) (opening_same cluster lone o is)
-        (of_world o.nodes o.cluster (name_of w) (is.nodes (name_of w) ∙ known)));
+        (of_world o.nodes o.cluster first (name_of w) (is.nodes (name_of w) ∙ known)));
     node = subst (λ (h : Held). node_of h ≡ opened (opening_with (cluster ++ lone) cluster) h) (sym core)
         (subst (λ (p : AnyOpening). node_of (core_at (name_of w)) ≡ opened p (core_at (name_of w))) (opening_same cluster lone o is)
         (as_opened o.nodes o.cluster joined_within (name_of w)));
   }
 
   -- so do all of these, however they were connected since
-  pub opens_all : (before bs : List Berthed) → map name_of (wired_of before) ≡ cluster ++ lone → All (IsOpened o) before
+  pub opens_all : All IsFirst o.nodes → (before bs : List Berthed) → map name_of (wired_of before) ≡ cluster ++ lone → All (IsOpened o) before
       → map opened_of bs ≡ map opened_of before → All (Opens cluster lone) (wired_of bs)
-  opens_all before bs names all same = All-map (Opens cluster lone) (λ b. b.wired) bs (λ k d lt.
+  opens_all first before bs names all same = All-map (Opens cluster lone) (λ b. b.wired) bs (λ k d lt.
       let h = All-same (Opens cluster lone) (map opened_of bs) (map opened_of before) same
-      (All-map (Opens cluster lone) opened_of before (λ i b l. opens_one (opened_of (get_or before i b)) (known i b l) (all i b l).core)) k
+      (All-map (Opens cluster lone) opened_of before (λ i b l. opens_one first (opened_of (get_or before i b)) (known i b l) (all i b l).core)) k
       (opened_of d) (omega (arith, lt, length-map bs opened_of)) in
       as_wired (get_or bs k d) (subst (Opens cluster lone) (get_or-map opened_of bs k d (opened_of d) lt) h))
     where

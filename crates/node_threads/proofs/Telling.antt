@@ -6,13 +6,15 @@ use Rattle.std.proofs.lemmas.Bool.{cases_eq, eq-eqb, eqb-true, ne_eqb}
 use Rattle.std.proofs.lemmas.List.{map-append, length-map}
 use Rattle.registry_model.specs.Table.{Table}
 use Rattle.protocol_model.specs.World.{Opening}
+use Rattle.term.specs.Nodes.{name_of}
 use Rattle.term.specs.NodeSets.{set_of}
+use Rattle.term.proofs.Older.{below_name}
 use Rattle.closing_runs.specs.Laws.{steps_below, HasARun}
 use Rattle.closing_runs.specs.Merging.{events_in}
 use Rattle.closing_runs.proofs.Playing.{consistent_ends_have_a_run}
-use Rattle.replay.proofs.Agreeing.{headline_after}
-use Rattle.replay.proofs.Locks.{locks_behind_all}
-use Rattle.replay.proofs.Leftovers.{nothing_left_after}
+use Rattle.replay.proofs.Theorem.{agreement}
+use Rattle.replay.proofs.ClientLocks.{client_locks}
+use Rattle.replay.proofs.Nothing.{nothing_is_left}
 use Rattle.node_loop.specs.NodeCoreHeld.{bound_of}
 use Rattle.node_loop.specs.Openings.{opening_with, repeats}
 use Rattle.replay.specs.Entries.{Entry, Logged}
@@ -145,7 +147,8 @@ below_bound [] a here = absurd (cc here)
 below_bound (c ∷ cs) a here = go (c == a) refl here (λ k. below_bound cs a k)
   where
     go : (b : Bool) → (c == a) ≡ b → (b || set_of cs a) ≡ true → (set_of cs a ≡ true → a < bound_of cs) → a < bound_of (c ∷ cs)
-    go true is here rest = omega (arith, eqb-true c a is)
+    go true is here rest =
+        let own = below_name a in let named : name_of c ≡ name_of a = ap name_of (eqb-true c a is) in omega (arith, own, named)
     go false is here rest = omega (arith, rest here)
 
 -- consistent ends that are told of ran out
@@ -165,9 +168,9 @@ ran_out contents cluster lone ends ended C names once T =
           (λ a here. below_bound (cluster ++ lone) a (sym (ap (λ (nodes : List ℕ). set_of nodes a) names) ∙ here)))
           ∙ sym run.count;
       holds = record {
-        headline = headline_after o (events_in run.steps);
-        locks = locks_behind_all o (events_in run.steps);
-        leaves_nothing = nothing_left_after o (events_in run.steps);
+        headline = agreement o (events_in run.steps);
+        locks = client_locks o (events_in run.steps);
+        leaves_nothing = nothing_is_left o (events_in run.steps);
       };
     }
 

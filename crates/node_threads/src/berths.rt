@@ -1,6 +1,7 @@
 //! All nodes of a cluster before their threads start.
 ghost use Rattle.std.specs.Prelude.{◌≡◌, ◌+◌, ◌≤◌, ◌++◌, true, None, map, length, All, IfOk, OnOk};
 ghost use Rattle.std.specs.Vec.{vec_len};
+ghost use Rattle.term.specs.Nodes.{IsFirst};
 ghost use Rattle.term.specs.NodeSets.{set_of};
 ghost use Rattle.node_loop.specs.Openings.{start_refused, IsOpening};
 ghost use Rattle.node_threads.specs.Wires.{name_of, AreWired, IsCrew};
@@ -97,6 +98,7 @@ where
     R: Wait + Drop + Copy,
     requires lists { start_refused cluster.now lone.now ≡ None }
     requires opens { IsOpening cluster.now lone.now opening.now }
+    requires first { All IsFirst opening.now.nodes }
     ensures { IfOk result (λ berths. IsCrew cluster.now lone.now (wired_of berths.items)) }
 {
     let mut berths = Vec::new(alloc);

@@ -35,3 +35,4 @@ pub mod LockRows
 pub mod DepartureRows
 pub mod JoinRows
 pub mod RuleRows
+pub mod NamedEvents

@@ -8,7 +8,7 @@ use Rattle.std.specs.List.{slice_get}
 use Rattle.std.specs.Option.{option_map}
 use Rattle.std.specs.Prelude.{if◌then◌else◌, ◌||◌, ◌&&◌, nat_lt, MatchBool}
 use Rattle.std.proofs.Math.Bool.{or-true}
-use Rattle.protocol_model.specs.World.{Opening}
+use Rattle.cluster_world.specs.NodeNames.{NamedOpening}
 use Rattle.term.specs.NodeSets.{set_of}
 use Rattle.node_log.specs.Openings.{repeats}
 use Rattle.node_log.specs.Entries.{Entry, Logged}
@@ -109,7 +109,7 @@ next_behind logs b t s T S up = elim (cases_eq t.node s.node) [ inl e ↦ own e 
         (T.least s (ap (slice_get (log_of s.node logs)) (sym (count-other s.node b t ne)) ∙ S.head))
         (λ e. ne (sym e))
 
-module _ (logs : List Logged) (o : Opening) where
+module _ (logs : List Logged) (o : NamedOpening) where
   -- so steps that were taken are in order
   in_order : (b : List Step) (t : Step) (ss : List Step) → IsNext logs b t → AreTaken logs o (b ++ t ∷ []) ss
       → IsInOrder (t ∷ ss)

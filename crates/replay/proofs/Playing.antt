@@ -4,13 +4,14 @@ use Rattle.std.proofs.lemmas.List.{map-append}
 use Rattle.std.specs.List.{slice_get}
 use Rattle.node_log.specs.Openings.{repeats}
 use Rattle.replay.specs.Steps.{steps_of}
-use Rattle.protocol_model.specs.World.{Opening, World, WorldEvent as AnyWorldEvent, happens, opening_world, run}
+use Rattle.protocol_model.specs.NamedEvents.{NamedEvent}
+use Rattle.cluster_world.specs.NodeNames.{NamedOpening}
+use Rattle.cluster_world.specs.NamedWorld.{NamedWorld, opening_named, happens_named, run_named, as_events}
 use Rattle.cluster_world.specs.Held.{Held}
 use Rattle.cluster_world.specs.Agreeing.{AgreesAfter}
 use Rattle.cluster_world.specs.Locks.{LocksAfter}
 use Rattle.cluster_world.specs.Playing.{Keeps}
-use Rattle.cluster_world.specs.Seen.{opening_of, seen}
-use Rattle.cluster_world.proofs.Agreeing.{same_opening}
+use Rattle.cluster_world.specs.Seen.{names_of, opening_of, seen, named}
 use Rattle.cluster_world.proofs.Leftovers.{nothing_left}
 use Rattle.node_log.specs.Entries.{Entry, Logged}
 use Rattle.replay.specs.declared.merge.Reader.{Reader}
@@ -35,47 +36,48 @@ use Rattle.replay.proofs.Reading.{own_log, comes_next, read_on, all_read}
 pub record SoFar (logs : List Logged) (old : Held) (events : ℕ) (new : Held) (rs : List Reader) : Type 0 where
   pub steps : List Step
   pub count : events ≡ length steps
-  pub taken : AreTaken logs (opening_of old) [] steps
+  pub taken : AreTaken logs (names_of old) [] steps
   pub kept : Keeps old new
   pub run : IsRun steps new
   pub stand : StandBehind logs steps rs
 
-takes_all : (o : Opening) (w : World) (ss : List Step) (s : Step) → TakesAll o w ss → Takes o (run o w (events_in ss)) s
+takes_all : (o : NamedOpening) (w : NamedWorld) (ss : List Step) (s : Step) → TakesAll o w ss
+    → Takes o (run_named o w (events_in ss)) s
     → TakesAll o w (ss ++ s ∷ [])
 takes_all o w [] s all t = (t, tt)
-takes_all o w (r ∷ ss) s all t = (all.0, takes_all o (happens o w (happening r)) ss s all.1 t)
+takes_all o w (r ∷ ss) s all t = (all.0, takes_all o (happens_named o w (happening r)) ss s all.1 t)
 
 events_push : (ss : List Step) (s : Step) → events_in (ss ++ s ∷ []) ≡ events_in ss ++ happening s ∷ []
 events_push ss s = map-append happening ss (s ∷ [])
 
 -- what the world is behind a run
-pub is_behind : (ss : List Step) (h : Held) → IsRun ss h → seen h ≡ world_behind (opening_of h) ss
+pub is_behind : (ss : List Step) (h : Held) → IsRun ss h → named h ≡ world_behind (names_of h) ss
 is_behind ss h R = R.agrees.is_run
 
 pub kept_on : (old mid new : Held) → Keeps old mid → Keeps mid new → Keeps old new
-kept_on old mid new K L = record { nodes = L.nodes ∙ K.nodes; cluster = L.cluster ∙ K.cluster }
+kept_on old mid new K L = record { names = L.names ∙ K.names; cluster = L.cluster ∙ K.cluster }
 
 -- a run goes on by a step that the world takes
 pub run_on : (ss : List Step) (s : Step) (old new : Held) → IsRun ss old → Moves s old new → IsRun (ss ++ s ∷ []) new
 run_on ss s old new R M = record {
-  takes = subst (λ (o : Opening). TakesAll o (opening_world o) (ss ++ s ∷ [])) (sym (same_opening old new M.kept))
-      (takes_all (opening_of old) (opening_world (opening_of old)) ss s R.takes
-      (subst (λ (w : World). Takes (opening_of old) w s) (is_behind ss old R) M.takes));
+  takes = subst (λ (o : NamedOpening). TakesAll o (opening_named o) (ss ++ s ∷ [])) (sym M.kept.names)
+      (takes_all (names_of old) (opening_named (names_of old)) ss s R.takes
+      (subst (λ (w : NamedWorld). Takes (names_of old) w s) (is_behind ss old R) M.takes));
   agrees = agrees;
-  locks = subst (λ (es : List AnyWorldEvent). LocksAfter (opening_of new) es (seen new)) (sym (events_push ss s))
-      (M.locks (events_in ss) R.agrees.is_run);
+  locks = subst (λ (es : List NamedEvent). LocksAfter (opening_of new) (as_events (names_of new) es) (seen new))
+      (sym (events_push ss s)) (M.locks (events_in ss) R.agrees.is_run);
   leaves_nothing = nothing_left (events_in (ss ++ s ∷ [])) new agrees;
 }
   where
     agrees : AgreesAfter (events_in (ss ++ s ∷ [])) new
-    agrees = subst (λ (es : List AnyWorldEvent). AgreesAfter es new) (sym (events_push ss s))
+    agrees = subst (λ (es : List NamedEvent). AgreesAfter es new) (sym (events_push ss s))
         (M.agrees (events_in ss) R.agrees.is_run).0
 
 -- the world behind these steps of a world that opened so
 pub behind : (logs : List Logged) (old : Held) (events : ℕ) (mid : Held) (rs : List Reader) (S : SoFar logs old events mid rs)
-    → seen mid ≡ world_behind (opening_of old) S.steps
+    → named mid ≡ world_behind (names_of old) S.steps
 behind logs old events mid rs S =
-    is_behind S.steps mid S.run ∙ ap (λ (o : Opening). world_behind o S.steps) (same_opening old mid S.kept)
+    is_behind S.steps mid S.run ∙ ap (λ (o : NamedOpening). world_behind o S.steps) S.kept.names
 
 -- one step more was played
 pub so_far_more : (logs : List Logged) (old mid new : Held) (events : ℕ) (rs qs : List Reader) (S : SoFar logs old events mid rs) (s : Step)
@@ -84,9 +86,9 @@ pub so_far_more : (logs : List Logged) (old mid new : Held) (events : ℕ) (rs q
 so_far_more logs old mid new events rs qs S s next up M stand = record {
   steps = S.steps ++ s ∷ [];
   count = ap (λ (n : ℕ). n + 1) S.count ∙ sym (length-push S.steps s);
-  taken = taken_push logs (opening_of old) S.steps s S.taken next up
-      (subst (λ (w : World). Takes (opening_of old) w s) (behind logs old events mid rs S)
-      (subst (λ (o : Opening). Takes o (seen mid) s) (same_opening old mid S.kept) M.takes));
+  taken = taken_push logs (names_of old) S.steps s S.taken next up
+      (subst (λ (w : NamedWorld). Takes (names_of old) w s) (behind logs old events mid rs S)
+      (subst (λ (o : NamedOpening). Takes o (named mid) s) S.kept.names M.takes));
   kept = kept_on old mid new S.kept M.kept;
   run = run_on S.steps s mid new S.run M;
   stand = stand;
@@ -98,7 +100,7 @@ module _ (logs : List Logged) (once : repeats (map (λ (l : Logged). l.node) log
   run_through none = record {
     steps = S.steps;
     count = S.count;
-    merged = all_merged logs (opening_of old) S.steps S.taken (all_read logs once S.steps rs S.stand none);
+    merged = all_merged logs (names_of old) S.steps S.taken (all_read logs once S.steps rs S.stand none);
     kept = S.kept;
     run = S.run;
   }
@@ -120,7 +122,7 @@ module _ (logs : List Logged) (once : repeats (map (λ (l : Logged). l.node) log
 
   -- or it wasn't
   pub stuck_next : (fault : CloseFault) (k : ℕ) (L : IsLeastOther (λ (r : Reader). head_of r ≡ None) goes_first rs (length rs) k)
-      → StopsReader fault L.item mid → StopsLogs fault logs (opening_of old)
+      → StopsReader fault L.item mid → StopsLogs fault logs (names_of old)
   stuck_next (Torn a at) k L h = record {
     steps = S.steps;
     taken = S.taken;
@@ -129,9 +131,8 @@ module _ (logs : List Logged) (once : repeats (map (λ (l : Logged). l.node) log
     whose = sym h.0;
     place = h.1 ∙ S.stand.at k L.item L.here ∙ ap (λ (c : ℕ). length (steps_of c S.steps)) (sym h.0);
     refused = λ up takes. h.4 (subst (λ (T : Type 0). T) (rising k L.item h.2 L.here) up)
-        (subst (λ (w : World). Takes (opening_of mid) w (step_of L.item h.2)) (sym (behind logs old events mid rs S))
-        (subst (λ (o : Opening). Takes o (world_behind (opening_of old) S.steps) (step_of L.item h.2))
-        (sym (same_opening old mid S.kept)) takes));
+        (subst (λ (w : NamedWorld). Takes (names_of mid) w (step_of L.item h.2)) (sym (behind logs old events mid rs S))
+        (subst (λ (o : NamedOpening). Takes o (world_behind (names_of old) S.steps) (step_of L.item h.2)) (sym S.kept.names) takes));
   }
   stuck_next (LeftInHold a) k L h = h
   stuck_next (Stranger seat) k L h = h
@@ -164,7 +165,7 @@ module _ (logs : List Logged) (once : repeats (map (λ (l : Logged). l.node) log
       (same_item k L r h) (λ N. let e = some_entry (head_of L.item) L.other in played_next k L e.0 new e.1 N) M)
 
   pub stuck_at : (fault : CloseFault) (k : ℕ) (L : IsLeastOther (λ (r : Reader). head_of r ≡ None) goes_first rs (length rs) k)
-      (r : Reader) → slice_get rs k ≡ Some r → StopsReader fault r mid → StopsLogs fault logs (opening_of old)
+      (r : Reader) → slice_get rs k ≡ Some r → StopsReader fault r mid → StopsLogs fault logs (names_of old)
   stuck_at fault k L r h stop =
       stuck_next fault k L (subst (λ (x : Reader). StopsReader fault x mid) (sym (same_item k L r h)) stop)
 

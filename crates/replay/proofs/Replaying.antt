@@ -1,16 +1,16 @@
 -- What a replay comes to, put together.
-use Rattle.std.proofs.Common.{ℕ, true, false, [], get_or, ◌≡◌, ◌∙◌, inl, inr, Some, List, ◌++◌, length, map, sym, ap, subst}
+use Rattle.std.proofs.Common.{ℕ, true, false, [], get_or, ◌==◌, ◌≡◌, refl, ◌∙◌, inl, inr, Some, List, ◌++◌, length, map, sym, ap, subst}
 use Rattle.std.proofs.lemmas.Option.{slice_get-map, slice_get-get_or}
 use Rattle.std.specs.List.{slice_get}
 use Rattle.std.specs.Option.{option_map}
+use Rattle.std.proofs.lemmas.Bool.{eq-eqb}
 use Rattle.std.specs.Prelude.{All}
 use Rattle.term.specs.NodeSets.{set_of}
 use Rattle.cluster_world.proofs.Leftovers.{nothing_left}
-use Rattle.cluster_world.specs.Held.{Held}
+use Rattle.cluster_world.specs.Held.{Held, nodes_of}
 use Rattle.cluster_world.specs.Playing.{Keeps}
-use Rattle.cluster_world.specs.Seen.{opening_of, seen}
+use Rattle.cluster_world.specs.Seen.{names_of, opening_of, seen, named}
 use Rattle.node_log.specs.Openings.{repeats}
-use Rattle.cluster_world.specs.Starting.{Opens}
 use Rattle.cluster_world.specs.Agreeing.{AgreesAfter}
 use Rattle.cluster_world.specs.Locks.{LocksAfter}
 use Rattle.node_log.specs.Entries.{Entry, Logged}
@@ -21,9 +21,14 @@ use Rattle.replay.specs.declared.faults.CloseFault.TheVariants.{Torn, LeftInHold
 use Rattle.replay.specs.Ends.{End, logs_of, is_lesser, EndedWell, HasTableOf}
 use Rattle.replay.specs.Least.{AllSuch, IsLeastOther}
 use Rattle.replay.specs.Playing.{IsRun}
-use Rattle.replay.specs.Replaying.{AreAll, IsFault, IsLeastEnd, PlaysOut, Replayed, RunsThrough, StopsLogs}
+use Rattle.replay.specs.Replaying.{Opens, AreAll, IsFault, IsLeastEnd, PlaysOut, Replayed, RunsThrough, StopsLogs}
 use Rattle.replay.specs.Steps.{log_of}
 use Rattle.replay.specs.Transcripts.{Fits, has_lesser_seat}
+use Rattle.cluster_world.specs.NodeNames.{NamedOpening}
+use Rattle.cluster_world.specs.NamedWorld.{NamedWorld, opening_named}
+use Rattle.term.specs.Nodes.{IsFirst, text_in}
+use Rattle.cluster_world.specs.Openings.{present_in}
+use Rattle.replay.proofs.FirstNodes.{present_first, present_stays, first_of, some_passes}
 use Rattle.replay.proofs.Merging.{log_is, set_of-at}
 
 some_one : {X : Type 0} (x y : X) → Some x ≡ Some y → x ≡ y
@@ -31,10 +36,7 @@ some_one x y e = cc
 
 -- what opened so is so still
 still_opens : (cluster lone : List ℕ) (old new : Held) → Opens cluster lone old → Keeps old new → Opens cluster lone new
-still_opens cluster lone old new O K = record {
-  nodes = λ c. ap (λ (ns : List ℕ). set_of ns c) K.nodes ∙ O.nodes c;
-  joined = λ c. ap (λ (ns : List ℕ). set_of ns c) K.cluster ∙ O.joined c;
-}
+still_opens cluster lone old new O K = K.names ∙ O
 
 pub as_many : {X : Type 0} (Q : X → Type 0) (xs : List X) (n : ℕ) → n ≡ length xs → AllSuch Q xs n → AreAll Q xs
 as_many Q xs n e h = subst (AllSuch Q xs) e h
@@ -42,7 +44,7 @@ as_many Q xs n e h = subst (AllSuch Q xs) e h
 module _ (cluster lone : List ℕ) (ends : List End) (ts : List Transcript) where
   -- the logs stop
   pub stopped : (old : Held) (fault : CloseFault) → Opens cluster lone old → AreAll EndedWell ends
-      → StopsLogs fault (logs_of ends) (opening_of old) → IsFault cluster lone ends ts fault
+      → StopsLogs fault (logs_of ends) (names_of old) → IsFault cluster lone ends ts fault
   stopped old (Torn a k) O well h = (well, inl (record { opening = old; opens = O; stuck = h }))
   stopped old (LeftInHold a) O well h = absurd h
   stopped old (Stranger seat) O well h = absurd h
@@ -121,12 +123,22 @@ opened_run h A E = record { takes = tt; agrees = A; locks = E; leaves_nothing = 
 
 -- the node of an end is one of the world
 pub of_world : {N M : Type 0} (cluster lone : List ℕ) (es : List (NodeEnd N Logged M)) (old new : Held) (events : ℕ) (logs : List Logged)
-    → Opens cluster lone old → RunsThrough logs events old new
+    → All IsFirst (cluster ++ lone) → Opens cluster lone old → RunsThrough logs events old new
     → ((c : ℕ) → set_of (map (λ (e : NodeEnd N Logged M). e.log.node) es) c ≡ set_of (cluster ++ lone) c)
-    → All (λ (e : NodeEnd N Logged M). set_of new.nodes e.log.node ≡ true) es
-of_world {N} {M} cluster lone es old new events logs O R each k d l =
-    (still_opens cluster lone old new O R.kept).nodes (get_or es k d).log.node
-    ∙ sym (each (get_or es k d).log.node)
-    ∙ set_of-at (map (λ (e : NodeEnd N Logged M). e.log.node) es) k (get_or es k d).log.node
-    (slice_get-map (λ (e : NodeEnd N Logged M). e.log.node) es k
-    ∙ ap (option_map (λ (e : NodeEnd N Logged M). e.log.node)) (slice_get-get_or es k d l))
+    → All (λ (e : NodeEnd N Logged M). set_of (nodes_of new) e.log.node ≡ true) es
+of_world {N} {M} cluster lone es old new events logs first O R each k d l =
+    present_first (nodes_of new) c (λ x. ap (λ (p : ℕ → ℕ). p x) present) (first_of (cluster ++ lone) first c inside)
+    (ap (λ (n : NamedOpening). n.names (text_in c)) (still_opens cluster lone old new O R.kept)
+    ∙ some_passes (λ m. text_in m == text_in c) (cluster ++ lone) c inside (eq-eqb (text_in c) (text_in c) refl))
+  where
+    c : ℕ
+    c = (get_or es k d).log.node
+
+    inside : set_of (cluster ++ lone) c ≡ true
+    inside = sym (each c) ∙ set_of-at (map (λ (e : NodeEnd N Logged M). e.log.node) es) k c
+        (slice_get-map (λ (e : NodeEnd N Logged M). e.log.node) es k
+        ∙ ap (option_map (λ (e : NodeEnd N Logged M). e.log.node)) (slice_get-get_or es k d l))
+
+    present : present_in (nodes_of new) ≡ (λ x. 1)
+    present = ap (λ (w : NamedWorld). w.present) R.run.agrees.is_run
+        ∙ present_stays (names_of new) (opening_named (names_of new)) R.steps R.run.takes

@@ -1,48 +1,53 @@
 -- Steps that a world plays.
-use Rattle.std.specs.Prelude.{ℕ, ◌≡◌, None, List, [], ◌∷◌, ◌++◌, map, length}
-use Rattle.protocol_model.specs.Leftovers.{NothingIsLeft}
-use Rattle.protocol_model.specs.World.{Opening, World, place, refusal, happens, answers, opening_world, run}
+use Rattle.std.specs.Prelude.{ℕ, false, ◌≡◌, None, List, [], ◌∷◌, ◌++◌, map, length}
+use Rattle.protocol_model.specs.World.{place}
+use Rattle.cluster_world.specs.NodeNames.{NamedOpening}
+use Rattle.cluster_world.specs.NamedWorld.{NamedWorld, opening_named, named_refusal, happens_named, named_answers, run_named, as_events}
+use Rattle.cluster_world.specs.NamedLeftovers.{NothingIsLeftOfNames}
+use Rattle.node_log.specs.Events.{event_of}
 use Rattle.node_log.specs.NodeEventsSeen.{answer_of}
 use Rattle.node_log.specs.Entries.{Logged}
 use Rattle.cluster_world.specs.Held.{Held}
-use Rattle.cluster_world.specs.Seen.{opening_of, seen}
+use Rattle.cluster_world.specs.Seen.{names_of, opening_of, seen, named}
 use Rattle.cluster_world.specs.Agreeing.{AgreesAfter}
 use Rattle.cluster_world.specs.Locks.{LocksAfter}
-use Rattle.replay.specs.Steps.{Step, happening, events_in, steps_of}
+use Rattle.replay.specs.Steps.{Step, happening, events_in, steps_of, is_restart}
 use Rattle.replay.specs.Merging.{IsNext, RisesBehind}
 
--- the world takes the step: its event is one of its own node, it is accepted, and it is answered just as the log has it
-pub record Takes (o : Opening) (w : World) (s : Step) : Type 0 where
-  pub own : place (happening s) ≡ s.node
-  pub accepted : refusal o w (happening s) ≡ None
-  pub answers : map answer_of s.entry.answers ≡ answers o w (happening s)
+-- The world takes the step: its event is one of its own node, it is accepted, and it is answered just as the log has it. Nodes that run
+-- are never restarted, so a log with a restart is none of theirs
+pub record Takes (o : NamedOpening) (w : NamedWorld) (s : Step) : Type 0 where
+  pub own : place (event_of s.entry.event) ≡ s.node
+  pub stays : is_restart s.entry.event ≡ false
+  pub accepted : named_refusal o w (happening s) ≡ None
+  pub answers : map answer_of s.entry.answers ≡ named_answers o w (happening s)
 
 -- it takes these steps, one after the other
-abbrev pub TakesAll : Opening → World → List Step → Type 0
+abbrev pub TakesAll : NamedOpening → NamedWorld → List Step → Type 0
 TakesAll o w [] = Unit {0}
-TakesAll o w (s ∷ ss) = Takes o w s × TakesAll o (happens o w (happening s)) ss
+TakesAll o w (s ∷ ss) = Takes o w s × TakesAll o (happens_named o w (happening s)) ss
 
 -- these steps, from its opening on, made the world what it is, and took place in it; behind them the headline and the
 -- laws of clients' locks hold, and nothing is left over
 pub record IsRun (ss : List Step) (h : Held) : Type 0 where
-  pub takes : TakesAll (opening_of h) (opening_world (opening_of h)) ss
+  pub takes : TakesAll (names_of h) (opening_named (names_of h)) ss
   pub agrees : AgreesAfter (events_in ss) h
-  pub locks : LocksAfter (opening_of h) (events_in ss) (seen h)
-  pub leaves_nothing : NothingIsLeft (opening_of h) (events_in ss) (seen h)
+  pub locks : LocksAfter (opening_of h) (as_events (names_of h) (events_in ss)) (seen h)
+  pub leaves_nothing : NothingIsLeftOfNames (names_of h) (events_in ss) (named h)
 
 -- what a world that opened so is behind these steps
-abbrev pub world_behind : Opening → List Step → World
-world_behind o ss = run o (opening_world o) (events_in ss)
+abbrev pub world_behind : NamedOpening → List Step → NamedWorld
+world_behind o ss = run_named o (opening_named o) (events_in ss)
 
 -- behind the steps before, each of these steps came next, its stamp rose in its log, and the world took it
-abbrev pub AreTaken : List Logged → Opening → List Step → List Step → Type 0
+abbrev pub AreTaken : List Logged → NamedOpening → List Step → List Step → Type 0
 AreTaken logs o before [] = Unit {0}
 AreTaken logs o before (s ∷ ss) = IsNext logs before s × RisesBehind logs before s × Takes o (world_behind o before) s
     × AreTaken logs o (before ++ s ∷ []) ss
 
 -- Behind steps that were taken, entry k of node a's log comes next, and isn't: its stamp doesn't rise, or the world
 -- doesn't take it
-pub record IsStuck (logs : List Logged) (o : Opening) (a k : ℕ) : Type 0 where
+pub record IsStuck (logs : List Logged) (o : NamedOpening) (a k : ℕ) : Type 0 where
   pub steps : List Step
   pub taken : AreTaken logs o [] steps
   pub step : Step

@@ -1,10 +1,10 @@
 -- What a replay comes to.
-use Rattle.std.specs.Prelude.{ℕ, ◌≡◌, ◌⊎◌, List, length}
-use Rattle.protocol_model.specs.World.{Opening}
+use Rattle.std.specs.Prelude.{ℕ, ◌≡◌, ◌⊎◌, List, ◌++◌, length}
+use Rattle.cluster_world.specs.NodeNames.{NamedOpening}
 use Rattle.cluster_world.specs.Held.{Held}
 use Rattle.cluster_world.specs.Playing.{Keeps}
-use Rattle.cluster_world.specs.Seen.{opening_of, seen}
-use Rattle.cluster_world.specs.Starting.{Opens}
+use Rattle.cluster_world.specs.Seen.{names_of, seen}
+use Rattle.cluster_world.specs.Openings.{named_opening}
 use Rattle.node_log.specs.Entries.{Logged}
 use Rattle.node_log.specs.declared.transcript.Transcript.{Transcript}
 use Rattle.replay.specs.declared.faults.CloseFault.{CloseFault}
@@ -15,6 +15,10 @@ use Rattle.replay.specs.Playing.{IsRun, IsStuck}
 use Rattle.replay.specs.Least.{AllSuch, IsLeastOther}
 use Rattle.replay.specs.Ends.{End, logs_of, is_lesser, EndedWell, HasTableOf}
 use Rattle.replay.specs.Transcripts.{Fits, has_lesser_seat}
+
+-- the world was started with these lists
+abbrev pub Opens : List ℕ → List ℕ → Held → Type 0
+Opens cluster lone h = names_of h ≡ named_opening (cluster ++ lone) cluster
 
 -- a world that was started with these lists played the merged logs to their end
 pub record PlaysOut (cluster lone : List ℕ) (logs : List Logged) (ss : List Step) (h : Held) : Type 0 where
@@ -31,7 +35,7 @@ pub record RunsThrough (logs : List Logged) (events : ℕ) (old new : Held) : Ty
   pub run : IsRun steps new
 
 -- a world that opens so is stuck in the logs; want of memory says nothing of it
-abbrev pub StopsLogs : CloseFault → List Logged → Opening → Type 0
+abbrev pub StopsLogs : CloseFault → List Logged → NamedOpening → Type 0
 StopsLogs (Torn a k) logs o = IsStuck logs o a k
 StopsLogs (LeftInHold a) logs o = ⊥
 StopsLogs (Stranger seat) logs o = ⊥
@@ -61,7 +65,7 @@ pub record IsLeastEnd (Q : End → Type 0) (ends : List End) (a : ℕ) : Type 0 
 pub record StopsAt (cluster lone : List ℕ) (logs : List Logged) (a k : ℕ) : Type 0 where
   pub opening : Held
   pub opens : Opens cluster lone opening
-  pub stuck : IsStuck logs (opening_of opening) a k
+  pub stuck : IsStuck logs (names_of opening) a k
 
 -- all was played, and node a is the least whose table is another one; k is the length of its log
 pub record HasOtherTable (cluster lone : List ℕ) (ends : List End) (a k : ℕ) : Type 0 where

@@ -1,8 +1,10 @@
 -- The steps of a run, and the logs that they stand in.
-use Rattle.std.specs.Prelude.{ℕ, Bool, ◌==◌, ◌&&◌, ◌||◌, nat_lt, Option, List, [], ◌∷◌, filter, map, length, if◌then◌else◌}
+use Rattle.std.specs.Prelude.{ℕ, Bool, true, false, ◌==◌, ◌&&◌, ◌||◌, nat_lt, Option, List, [], ◌∷◌, filter, map, length, if◌then◌else◌}
 use Rattle.std.specs.List.{slice_get}
-use Rattle.protocol_model.specs.World.{WorldEvent as AnyWorldEvent}
-use Rattle.node_log.specs.Events.{event_of}
+use Rattle.protocol_model.specs.NamedEvents.{NamedEvent}
+use Rattle.node_log.specs.declared.WorldEvent.{WorldEvent}
+use Rattle.node_log.specs.declared.WorldEvent.TheVariants.{Restart}
+use Rattle.node_log.specs.Events.{named_event}
 use Rattle.node_log.specs.Entries.{Entry, Logged}
 
 -- a step: whose it is, and its entry in that node's log
@@ -28,9 +30,14 @@ abbrev pub is_before : Step → Step → Bool
 is_before s t = nat_lt s.entry.stamp t.entry.stamp || ((s.entry.stamp == t.entry.stamp) && nat_lt s.node t.node)
 
 -- the event of a step, as the protocol has it
-abbrev pub happening : Step → AnyWorldEvent
-happening s = event_of s.entry.event
+abbrev pub happening : Step → NamedEvent
+happening s = named_event s.entry.event
 
 -- the events of steps
-abbrev pub events_in : List Step → List AnyWorldEvent
+abbrev pub events_in : List Step → List NamedEvent
 events_in ss = map happening ss
+
+-- a name comes back by it
+abbrev pub is_restart : WorldEvent → Bool
+is_restart (Restart x) = true
+is_restart _ = false

@@ -1,6 +1,7 @@
 //! What a run came to.
 ghost use Rattle.std.specs.Prelude.{◌≡◌, is_some, IfSome};
 ghost use Rattle.term.specs.NodeSets.{set_of};
+ghost use Rattle.cluster_world.specs.Held.{nodes_of};
 ghost use Rattle.cluster_world.specs.Seen.{seen};
 
 use cluster_world::{KeptEntry, World};
@@ -27,7 +28,7 @@ impl<N: Names<Memory = Global>> Closed<N> {
 
     /// The last table of a node, or `None` where the node isn't of the cluster.
     pub fn table(&self, node: &Node) -> Option<&N>
-        ensures here { is_some result ≡ set_of self.now.world.nodes node.now }
+        ensures here { is_some result ≡ set_of (nodes_of self.now.world) node.now }
         ensures table { IfSome result (λ table. N.contents table.now ≡ ((seen self.now.world).node node.now).replica.table) }
     {
         self.world.table(node)

@@ -1,15 +1,14 @@
 //! Steps that a world plays.
-ghost use Rattle.std.specs.Prelude.{◌≡◌, ◌==◌, Some, IfOk, IfErr, OnOk, MatchBool, [], ◌∷◌};
+ghost use Rattle.std.specs.Prelude.{ℕ, ◌≡◌, ◌==◌, Some, IfOk, IfErr, OnOk, MatchBool, [], ◌∷◌};
 ghost use Rattle.protocol_model.specs.World.{place};
 ghost use Rattle.node_log.specs.Events.{event_of};
 ghost use Rattle.cluster_world.specs.Agreeing.{Agrees};
-ghost use Rattle.cluster_world.specs.Locks.{LocksBehind};
 ghost use Rattle.cluster_world.specs.Playing.{Keeps, Played, RefusedWith};
-ghost use Rattle.cluster_world.specs.Seen.{opening_of, seen};
 ghost use Rattle.node_log.specs.Logs.{event_of as logged_event, entry_of};
 ghost use Rattle.replay.specs.Merging.{Rises};
-ghost use Rattle.replay.specs.Moves.{Moves, Refuses, StopsReader, MovesReader};
+ghost use Rattle.replay.specs.Moves.{Moves, LocksBehind, Refuses, StopsReader, MovesReader};
 ghost use Rattle.replay.specs.Reading.{head_of};
+ghost use Rattle.replay.specs.Steps.{is_restart};
 
 use crate::equal::same_answers;
 use crate::faults::CloseFault;
@@ -26,7 +25,7 @@ fn is_own(node: &Node, event: &WorldEvent) -> bool
 {
     match event {
         WorldEvent::At(place, _) => *place == *node,
-        WorldEvent::Deliver(_, receiver) => node.is_first_of(receiver),
+        WorldEvent::Deliver(_, name) | WorldEvent::Restart(name) => node.is_first_of(name),
     }
 }
 
@@ -38,12 +37,15 @@ fn play_logged<N: Names<Memory = Global>>(
 ) -> Result<Vec<Answer>, Refusal>
     ensures kept { Keeps world.old world.new }
     ensures agrees { IfOk result (λ answers. Agrees (logged_event node.now event.now ∷ []) answers.items world.old world.new) }
-    ensures locks { IfOk result (λ _. LocksBehind (logged_event node.now event.now ∷ []) world.old world.new) }
+    ensures locks { IfOk result (λ _. LocksBehind (logged_event node.now event.now) world.old world.new) }
     ensures ok { IfOk result (λ answers. Played (logged_event node.now event.now) world.old world.new [] answers.items) }
     ensures refused { IfErr result (λ refusal. RefusedWith refusal (logged_event node.now event.now) world.old) }
 {
     match event {
-        LoggedEvent::Delivery(sender) => world.play_delivery(sender, node),
+        LoggedEvent::Delivery(sender) => {
+            let (from, to) = (sender.name().copy(), node.name().copy());
+            world.play(&WorldEvent::Deliver(from, to))
+        }
         LoggedEvent::Other(event) => world.play(event),
     }
 }
@@ -58,6 +60,13 @@ fn is_own_logged(node: &Node, event: &LoggedEvent<'_>) -> bool
     }
 }
 
+/// Whether a name comes back by an event.
+fn is_restart(event: &LoggedEvent<'_>) -> bool
+    ensures { (node : ℕ) → result ≡ is_restart (logged_event node event.now) }
+{
+    matches!(event, LoggedEvent::Other(WorldEvent::Restart(_)))
+}
+
 /// Plays a step of a node, and tells whether it is one that the world takes. What the world is where it isn't, isn't said.
 fn takes<N: Names<Memory = Global>>(
     world: &mut World<N>,
@@ -68,7 +77,7 @@ fn takes<N: Names<Memory = Global>>(
         (Moves (record { node = node.now; entry = entry_of node.now entry.now }) world.old world.new)
         (Refuses (record { node = node.now; entry = entry_of node.now entry.now }) world.old)) }
 {
-    if !is_own_logged(node, &entry.event) {
+    if !is_own_logged(node, &entry.event) || is_restart(&entry.event) {
         return Ok(false);
     }
     match play_logged(world, node, &entry.event) {

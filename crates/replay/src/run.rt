@@ -1,7 +1,7 @@
 //! Plays the logs of closed nodes on a world.
 ghost use Rattle.std.specs.Prelude.{◌≡◌, ◌++◌, ◌<◌, ℕ, [], true, false, None, Some, length, map, IfOk, IfErr, slice_get};
 ghost use Rattle.term.specs.NodeSets.{set_of};
-ghost use Rattle.cluster_world.specs.Seen.{opening_of};
+ghost use Rattle.cluster_world.specs.Seen.{names_of};
 ghost use Rattle.cluster_world.specs.Playing.{Keeps};
 ghost use Rattle.node_log.specs.Openings.{repeats, start_refused};
 ghost use Rattle.replay.specs.Consistent.{AreConsistent, is_torn};
@@ -30,7 +30,7 @@ fn play_logs<N: Names<Memory = Global>>(
     requires once { repeats (map (λ e. e.log.node) ends.now) ≡ false }
     requires opens { IsRun [] world.old }
     ensures ok { IfOk result (λ events. RunsThrough (logs_of (map (end_of N.contents) ends.now)) events world.old world.new) }
-    ensures stopped { IfErr result (λ fault. StopsLogs fault (logs_of (map (end_of N.contents) ends.now)) (opening_of world.old)) }
+    ensures stopped { IfErr result (λ fault. StopsLogs fault (logs_of (map (end_of N.contents) ends.now)) (names_of world.old)) }
 {
     let mut readers = open(alloc, ends)?;
     for events in 0..u64::MAX {

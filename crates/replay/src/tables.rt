@@ -1,6 +1,7 @@
 //! The nodes' last tables beside those of the world.
 ghost use Rattle.std.specs.Prelude.{◌≡◌, ◌<◌, true, length, map, nat_lt, All, IfOk, IfSome, MatchBool};
 ghost use Rattle.term.specs.NodeSets.{set_of};
+ghost use Rattle.cluster_world.specs.Held.{nodes_of};
 ghost use Rattle.cluster_world.specs.Seen.{seen};
 ghost use Rattle.replay.specs.Ends.{end_of, is_lesser, EndedWell, HasTableOf};
 ghost use Rattle.replay.specs.Least.{LeastOther, IsChosen};
@@ -47,7 +48,7 @@ fn has_table<N: Names<Memory = Global>>(
     world: &World<N>,
     end: &NodeEnd<N>,
 ) -> Result<bool, AllocError>
-    requires { set_of world.now.nodes end.now.log.node ≡ true }
+    requires { set_of (nodes_of world.now) end.now.log.node ≡ true }
     ensures { IfOk result (λ same. MatchBool same (HasTableOf (seen world.now) (end_of N.contents end.now))
         (HasTableOf (seen world.now) (end_of N.contents end.now) → ⊥)) }
 {
@@ -65,7 +66,7 @@ pub(crate) fn least_other_table<N: Names<Memory = Global>>(
     world: &World<N>,
     ends: &[NodeEnd<N>],
 ) -> Result<Option<usize>, AllocError>
-    requires { All (λ e. set_of world.now.nodes e.log.node ≡ true) ends.now }
+    requires { All (λ e. set_of (nodes_of world.now) e.log.node ≡ true) ends.now }
     ensures { IfOk result (LeastOther (HasTableOf (seen world.now)) is_lesser (map (end_of N.contents) ends.now) (length ends.now)) }
 {
     let mut least: Option<usize> = None;

@@ -36,7 +36,9 @@ fn how_answered(event: &WorldEvent) -> Answering
             Event::Call(Call::Spawn | Call::Whereis(_) | Call::RegisteredNames | Call::Notices(_)),
         ) => Answering::AtOnce,
         WorldEvent::At(_, Event::Call(_)) => Answering::Later,
-        WorldEvent::At(_, _) | WorldEvent::Deliver(_, _) => Answering::Never,
+        WorldEvent::At(_, _) | WorldEvent::Deliver(_, _) | WorldEvent::Restart(_) => {
+            Answering::Never
+        }
     }
 }
 
@@ -60,7 +62,7 @@ fn is_event(node: &Node, event: &LoggedEvent<'_>, other: &WorldEvent) -> bool
         (LoggedEvent::Delivery(sender), WorldEvent::Deliver(from, to)) => {
             sender.is_first_of(from) && node.is_first_of(to)
         }
-        (LoggedEvent::Delivery(_), WorldEvent::At(_, _)) => false,
+        (LoggedEvent::Delivery(_), WorldEvent::At(_, _) | WorldEvent::Restart(_)) => false,
     }
 }
 

@@ -6,7 +6,7 @@ use replay::{
     Answer, Call, CloseFault, Closed, Event, Log, NodeEnd, Reply, World, WorldEvent, replay,
 };
 use std::alloc::Global;
-use term::{Node, NodeSet, Pid, Rule, parse_name, parse_node, parse_nodes};
+use term::{Node, NodeName, NodeSet, Pid, Rule, parse_name, parse_node, parse_nodes};
 
 /// The table of the tests.
 type Table = ListTable<Global>;
@@ -69,13 +69,16 @@ impl Run {
     }
 
     /// Delivers the oldest letter of a link, and writes it down with its answers. Whether it was taken.
-    fn deliver(&mut self, sender: &Node, receiver: &Node) -> bool {
-        let Ok(answers) = self.world.play_delivery(sender, receiver) else {
+    fn deliver(&mut self, sender: NodeName, receiver: NodeName) -> bool {
+        let from = Node::first(sender.copy());
+        let to = Node::first(receiver.copy());
+        let event = WorldEvent::Deliver(sender, receiver);
+        let Ok(answers) = self.world.play(&event) else {
             return false;
         };
         let stamp = self.next_stamp();
-        let log = self.log(receiver);
-        if log.begin_delivery(stamp, sender).is_err() {
+        let log = self.log(&to);
+        if log.begin_delivery(stamp, &from).is_err() {
             return false;
         }
         log.answer(answers);
@@ -88,7 +91,7 @@ impl Run {
             let Some((sender, receiver)) = self.world.waiting() else {
                 return true;
             };
-            if !self.deliver(&sender, &receiver) {
+            if !self.deliver(sender, receiver) {
                 return false;
             }
         }

@@ -7,6 +7,8 @@ pub mod NodePlaces
 pub mod NodeSets
 pub mod Numbers
 mod NodeTexts
+mod Latest
+pub mod Older
 pub mod OneNode
 pub mod NamesOf
 mod Parts
@@ -15,3 +17,4 @@ mod ExactRules
 pub mod Serials
 pub mod Texts
 pub mod Subsets
+mod Succeeded

@@ -9,7 +9,7 @@ use Rattle.std.proofs.lemmas.List.Folds.{list_any_none, list_any_at, list_any-ap
 use Rattle.std.proofs.lemmas.List.Kept.{AllPairs-from_increasing, IsStrictlyIncreasing-filter}
 use Rattle.std.proofs.lemmas.List.Sums.{position_or_len_is}
 use Rattle.std.proofs.lemmas.List.Sorted.{searched}
-use Rattle.std.specs.List.{insert, remove, position, position_or_len}
+use Rattle.std.specs.List.{insert, remove, list_any, position, position_or_len}
 use Rattle.std.specs.List.Sorted.{IsStrictlyIncreasing, IsBinarySearchResult}
 use Rattle.std.specs.Ordering.{nat_cmp}
 use Rattle.term.specs.NodeSets.{IsNodeSet, set_of, with_node, without_node, most_nodes}
@@ -267,27 +267,31 @@ next_same below false above all h = h
 next_same true true above all h = refl
 next_same false true above all h = refl
 
--- the nodes below, the node and those above are the nodes and the node
-parted : (xs : List ℕ) (c d : ℕ)
-    → (set_of (filter (λ m. nat_lt m c) xs) d || ((c == d) || set_of (filter (λ m. nat_lt c m) xs) d))
-    ≡ (set_of xs d || (c == d))
-parted [] c d = or-false (c == d)
-parted (x ∷ xs) c d =
+-- one of the nodes below, the node and those above passes where one of the nodes or the node does
+parted : (p : ℕ → Bool) (xs : List ℕ) (c : ℕ)
+    → (list_any p (filter (λ m. nat_lt m c) xs) || (p c || list_any p (filter (λ m. nat_lt c m) xs)))
+    ≡ (list_any p xs || p c)
+parted p [] c = or-false (p c)
+parted p (x ∷ xs) c =
     elim (cases_lt x c) [
       | inl below ↦ rw (lt-ltb x c below, le-ltb c x (omega arith))
-          (next_below (x == d) _ (c == d) _ (set_of xs d) (parted xs c d))
+          (next_below (p x) _ (p c) _ (list_any p xs) (parted p xs c))
       | inr not_below ↦ elim (cases_lt c x) [
         | inl above ↦ rw (le-ltb x c not_below, lt-ltb c x above)
-            (next_above (x == d) _ (c == d) _ (set_of xs d) (parted xs c d))
+            (next_above (p x) _ (p c) _ (list_any p xs) (parted p xs c))
         | inr not_above ↦ let same : x ≡ c = omega arith in
-            rw (same, le-ltb c c (omega arith)) (next_same _ (c == d) _ (set_of xs d) (parted xs c d))
+            rw (same, le-ltb c c (omega arith)) (next_same _ (p c) _ (list_any p xs) (parted p xs c))
       ]
     ]
 
+-- one of the set with a node passes where one of the set or the node does
+pub list_any-with_node : (p : ℕ → Bool) (xs : List ℕ) (c : ℕ) → list_any p (with_node xs c) ≡ (list_any p xs || p c)
+list_any-with_node p xs c =
+    list_any-append p (filter (λ m. nat_lt m c) xs) (c ∷ filter (λ m. nat_lt c m) xs) ∙ parted p xs c
+
 -- the set with a node holds what it held, and the node
 pub set_of-with_node : (xs : List ℕ) (c d : ℕ) → set_of (with_node xs c) d ≡ (set_of xs d || (c == d))
-set_of-with_node xs c d =
-    list_any-append (λ m. m == d) (filter (λ m. nat_lt m c) xs) (c ∷ filter (λ m. nat_lt c m) xs) ∙ parted xs c d
+set_of-with_node xs c d = list_any-with_node (λ m. m == d) xs c
 
 pub set_of-grown : (xs ys : List ℕ) (c : ℕ) → ys ≡ with_node xs c → (d : ℕ) → set_of ys d ≡ (set_of xs d || (c == d))
 set_of-grown xs ys c e d = ap (λ (zs : List ℕ). set_of zs d) e ∙ set_of-with_node xs c d

@@ -1,5 +1,5 @@
 -- Sets of nodes, as the program holds them: the list of their nodes, rising.
-use Rattle.std.specs.Prelude.{◌≡◌, ℕ, false, not, nat_lt, ◌==◌, ◌≤◌, List, ◌∷◌, ◌++◌, length, filter}
+use Rattle.std.specs.Prelude.{◌≡◌, ℕ, false, not, nat_lt, nat_le, ◌==◌, ◌≤◌, ◌&&◌, List, ◌∷◌, ◌++◌, length, filter, map, if◌then◌else◌}
 use Rattle.std.specs.List.{All, list_any}
 use Rattle.std.specs.List.Sorted.{IsStrictlyIncreasing}
 use Rattle.registry_model.specs.Process.{Nodes}
@@ -28,6 +28,14 @@ set_of nodes = λ c. list_any (λ m. m == c) nodes
 -- the set of the names of the nodes listed
 abbrev pub names_in : List ℕ → Nodes
 names_in nodes = λ x. list_any (λ m. name_of m == x) nodes
+
+-- the nodes listed, and all that are older than one of them: of the same name, and of an earlier creation
+abbrev pub with_older : List ℕ → Nodes
+with_older nodes = λ c. list_any (λ m. (name_of m == name_of c) && nat_le c m) nodes
+
+-- the nodes listed, where the younger one stands for the older one
+abbrev pub succeeded : ℕ → ℕ → List ℕ → List ℕ
+succeeded older younger nodes = map (λ c. if c == older then younger else c) nodes
 
 -- the rising list of these nodes and one more, or of these alone where it is one of them
 abbrev pub with_node : List ℕ → ℕ → List ℕ

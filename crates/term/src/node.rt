@@ -45,7 +45,8 @@ impl MadeWith<Blank> for Node {
 impl Node {
     /// The first node of a name.
     pub fn first(name: NodeName) -> Self
-        ensures { result ≡ name }
+        ensures node { result ≡ name }
+        ensures first { IsFirst name }
     {
         Node::of(name, 1)
     }

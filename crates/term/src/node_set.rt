@@ -3,7 +3,7 @@ ghost use Rattle.std.specs.Prelude.{◌≡◌, ℕ, ◌-◌, ◌<◌, ◌==◌, 
 ghost use Rattle.std.specs.List.{list_any, position as place_of};
 ghost use Rattle.std.specs.Option.{option_copied};
 ghost use Rattle.term.specs.Nodes.{name_of};
-ghost use Rattle.term.specs.NodeSets.{IsNodeSet, HasNoRoom, set_of, with_node, without_node};
+ghost use Rattle.term.specs.NodeSets.{IsNodeSet, HasNoRoom, set_of, with_node, without_node, with_older};
 ghost use Rattle.term.specs.NodeLists.{list_of_nodes};
 
 use crate::faults::TextFault;
@@ -105,6 +105,16 @@ impl NodeSet {
         ensures { result ≡ set_of self.now node.now }
     {
         self.nodes.contains(node)
+    }
+
+    /// Whether it holds the node or a younger one of its name.
+    pub fn reaches(&self, node: &Node) -> bool
+        ensures { result ≡ with_older self.now node.now }
+    {
+        self.nodes
+            .as_slice()
+            .iter()
+            .any(|own| own.name() == node.name() && node <= own)
     }
 
     /// Whether it holds a node of the name.

@@ -200,3 +200,36 @@ fn holds_nodes_of_one_name(rt: HostRuntime) -> Result<(), Fail> {
     assert!(rt; nodes.named(&parse_nodes("a,c")?) == set_of("a/2 a/10")?);
     Ok(())
 }
+
+#[test]
+fn reaches_older_nodes(rt: HostRuntime) -> Result<(), Fail> {
+    let nodes = set_of("a/3 b")?;
+    assert!(rt; nodes.reaches(&parse_node("a/3")?) && nodes.reaches(&parse_node("a")?));
+    assert!(rt; !nodes.reaches(&parse_node("a/4")?) && !nodes.reaches(&parse_node("ab")?));
+    assert!(rt; set_of("a/2 a/4 ab b")?.beyond(&nodes) == set_of("a/4 ab")?);
+    Ok(())
+}
+
+#[test]
+fn holds_the_last_within_a_world(rt: HostRuntime) -> Result<(), Fail> {
+    let (nodes, others) = (set_of("a/2 b d")?, set_of("a/3 a c/2")?);
+    let world = set_of("a/5 a b/4 c e")?;
+    assert!(rt; nodes.last_within(&others, &world) == set_of("a a/3 b c")?);
+    Ok(())
+}
+
+/// Whether a set becomes this one where the next node of a name comes for one of its nodes.
+fn gives_way(nodes: &NodeSet, older: &Node, wanted: &NodeSet) -> bool {
+    match older.next() {
+        Some(next) => !nodes.contains(&next) && nodes.with_next(older, &next) == *wanted,
+        None => false,
+    }
+}
+
+#[test]
+fn gives_way_to_the_next_node(rt: HostRuntime) -> Result<(), Fail> {
+    let nodes = set_of("a a/2 b")?;
+    assert!(rt; gives_way(&nodes, &parse_node("a/2")?, &set_of("a a/3 b")?));
+    assert!(rt; gives_way(&nodes, &parse_node("c")?, &nodes));
+    Ok(())
+}

@@ -1,7 +1,10 @@
 -- The nodes that are gathered for a world.
 use Rattle.std.proofs.Common.{ℕ, suc, Bool, true, false, ◌≡◌, ◌≤◌, ◌+◌, List, [], ◌∷◌, length, length-append, filter, refl, arith}
 use Rattle.std.specs.Prelude.{if◌then◌else◌, nat_lt, Result, Ok, Err, MatchResult, OnOk, is_ok}
+use Rattle.std.specs.List.{All}
 use Rattle.std.proofs.lemmas.Bool.Decides.{nat_tests}
+use Rattle.std.proofs.lemmas.List.Elements.{All-filter, All-append, All-cons}
+use Rattle.term.specs.Nodes.{IsFirst}
 use Rattle.term.specs.NodeSets.{with_node}
 
 -- what stands on success
@@ -39,3 +42,9 @@ pub matched_ok : {T E : Type 0} (P : T → Type 0) (Q : E → Type 0) (r : Resul
     → (x : T) × P x
 matched_ok P Q (Ok x) e p = (x, p)
 matched_ok P Q (Err y) e p = cc
+
+-- with a first node more all are first nodes
+pub first-with_node : (xs : List ℕ) (c : ℕ) → All IsFirst xs → IsFirst c → All IsFirst (with_node xs c)
+first-with_node xs c first here = All-append IsFirst (filter (λ m. nat_lt m c) xs) (c ∷ filter (λ m. nat_lt c m) xs)
+    (All-filter (λ m. nat_lt m c) IsFirst xs first)
+    (All-cons IsFirst c (filter (λ m. nat_lt c m) xs) here (All-filter (λ m. nat_lt c m) IsFirst xs first))

@@ -2,7 +2,9 @@
 use Rattle.std.specs.Prelude.{ℕ, Bool, true, false, ◌||◌, ◌≡◌, nat_lt, Option, Some, None, List, [], ◌∷◌, ◌++◌, length, if◌then◌else◌}
 use Rattle.protocol_model.specs.World.{Opening as AnyOpening}
 use Rattle.term.specs.NodeSets.{set_of, most_nodes}
-use Rattle.node_core.specs.Held.{Held as Core, bound_of, fresh}
+use Rattle.std.specs.List.{All}
+use Rattle.term.specs.Nodes.{IsFirst}
+use Rattle.node_core.specs.Held.{Held as Core, AreOf, bound_of, fresh}
 use Rattle.world_events.specs.declared.opening.StartFault.{StartFault}
 use Rattle.world_events.specs.declared.opening.StartFault.TheVariants.{NoNode, SameNode, TooManyNodes, Memory}
 
@@ -10,6 +12,11 @@ use Rattle.world_events.specs.declared.opening.StartFault.TheVariants.{NoNode, S
 pub record Opened : Type 0 where
   pub nodes : List ℕ
   pub cluster : List ℕ
+
+-- all are the first nodes of their names, and those that are joined are of the world
+pub record IsOpened (o : Opened) : Type 0 where
+  pub first : All IsFirst o.nodes
+  pub within : AreOf o.nodes o.cluster
 
 -- a world of these nodes, of which those of the cluster are joined
 abbrev pub opening_with : List ℕ → List ℕ → AnyOpening

@@ -39,12 +39,12 @@ impl Event {
         matches!(self, Event::Leave)
     }
 
-    /// Whether the contact of the event is among these nodes, if it has one.
+    /// Whether the contact of the event is among these nodes or older than one of its name, if it has one.
     pub fn knows_contact(&self, nodes: &NodeSet) -> bool
         ensures { result ≡ knows_contact nodes.now self.now }
     {
         match self {
-            Event::Call(Call::Join(contact)) => nodes.contains(contact),
+            Event::Call(Call::Join(contact)) => nodes.reaches(contact),
             _ => true,
         }
     }
@@ -55,6 +55,8 @@ impl Event {
 pub enum WorldEvent {
     /// An event at a node.
     At(Node, Event),
-    /// The oldest letter from the node of the first name to that of the second is delivered.
+    /// The oldest letter from the nodes of the first name to the present node of the second is delivered.
     Deliver(NodeName, NodeName),
+    /// A name comes back: its next node starts, and is told of all nodes that have left.
+    Restart(NodeName),
 }

@@ -1,8 +1,9 @@
 //! How a world opens.
 ghost use Rattle.std.specs.Prelude.{◌≡◌, ◌+◌, ◌≤◌, ◌++◌, ◌||◌, ℕ, true, None, Some, length, if◌then◌else◌, OnOk, OnErr, IfOk, IfErr};
+ghost use Rattle.std.specs.List.{All};
+ghost use Rattle.term.specs.Nodes.{IsFirst};
 ghost use Rattle.term.specs.NodeSets.{set_of, most_nodes};
-ghost use Rattle.node_core.specs.Held.{IsWithin};
-ghost use Rattle.world_events.specs.Openings.{opening_core, repeats, start_refused, start_fault_of, IsOpening};
+ghost use Rattle.world_events.specs.Openings.{IsOpened, opening_core, repeats, start_refused, start_fault_of, IsOpening};
 
 use name_table::Names;
 use node_core::NodeCore;
@@ -46,14 +47,13 @@ pub struct Opening {
 }
 
 impl Model for Opening {
-    ghost use Rattle.node_core.specs.Held.{IsWithin};
-    ghost use Rattle.world_events.specs.Openings.{Opened};
+    ghost use Rattle.world_events.specs.Openings.{Opened, IsOpened};
 
     ghost Value = { Opened };
 
     ghost view = { λ o. record { nodes = o.nodes; cluster = o.cluster } };
 
-    ghost invariant = { λ o. IsWithin o.nodes o.cluster };
+    ghost invariant = { λ o. IsOpened (record { nodes = o.nodes; cluster = o.cluster }) };
 }
 
 /// Whether one of these nodes stands twice, here or among the others.
@@ -87,6 +87,7 @@ fn start_fault(cluster: &[NodeName], lone: &[NodeName]) -> Option<StartFault>
 fn gather(set: &mut NodeSet, nodes: &[NodeName]) -> Result<(), StartFault>
     requires { length set.old + length nodes.now ≤ most_nodes }
     ensures ok { OnOk result ((c : ℕ) → set_of set.new c ≡ (set_of set.old c || set_of nodes.now c)) }
+    ensures first { OnOk result (All IsFirst set.old → All IsFirst set.new) }
     ensures room { OnOk result (length set.new ≤ length set.old + length nodes.now) }
     ensures all { OnErr result ⊥ }
 {
@@ -124,7 +125,7 @@ impl Opening {
     /// All its nodes.
     pub fn nodes(&self) -> &NodeSet
         ensures nodes { result.now ≡ self.now.nodes }
-        ensures within { IsWithin self.now.nodes self.now.cluster }
+        ensures opened { IsOpened self.now }
     {
         &self.nodes
     }

@@ -1,11 +1,11 @@
 //! Why an event is refused.
 ghost use Rattle.std.specs.Prelude.{◌≡◌};
 ghost use Rattle.world_events.specs.declared.refusal.Refusal.{Refusal};
-ghost use Rattle.world_events.specs.Refusals.{refusal_on, out_of_memory};
+ghost use Rattle.world_events.specs.Refusals.{out_of_memory};
 
-use link::LinkFault;
 use node_core::StepFault;
 use std::alloc::AllocError;
+use term::Node;
 use thiserror::Error;
 
 /// Why an event is refused, in the order in which the causes are looked for.
@@ -20,8 +20,17 @@ pub enum Refusal {
     /// Nothing is on the link.
     #[error("empty_link")]
     EmptyLink,
-    /// The node doesn't take the step; or memory was refused, there, on the links or for the history. Either way nothing has happened, and
-    /// where memory was refused the event may be played again later.
+    /// The present node of the name that is to come back hasn't left.
+    #[error("still_running")]
+    StillRunning,
+    /// It has left, and a running node, of which this is the least, wasn't told so yet.
+    #[error("not_told_yet")]
+    NotToldYet(Node),
+    /// It was the last node that this name can have.
+    #[error("creations_spent")]
+    CreationsSpent,
+    /// The node doesn't take the step; or memory was refused, there, on the links or for the history. Either way nothing has
+    /// happened, and where memory was refused the event may be played again later.
     #[error("{0}")]
     Step(StepFault),
 }
@@ -39,18 +48,5 @@ impl From<StepFault> for Refusal {
 
     fn from(fault: StepFault) -> Refusal {
         Refusal::Step(fault)
-    }
-}
-
-/// A mesh is never full, so the third case doesn't come; where room is refused it reads as memory that is.
-impl From<LinkFault> for Refusal {
-    ghost from_gives = { λ fault refusal. refusal ≡ refusal_on fault };
-
-    fn from(fault: LinkFault) -> Refusal {
-        match fault {
-            LinkFault::NoSuchNode => Refusal::NoSuchNode,
-            LinkFault::EmptyLink => Refusal::EmptyLink,
-            LinkFault::Full | LinkFault::Memory => Refusal::Step(StepFault::Memory),
-        }
     }
 }

@@ -1,5 +1,5 @@
 -- The entries that a world keeps, and what is kept of them.
-use Rattle.std.specs.Prelude.{ℕ}
+use Rattle.std.specs.Prelude.{ℕ, ◌==◌, List, [], ◌∷◌, if◌then◌else◌}
 use Rattle.transaction.specs.declared.op.NameCall.{NameCall}
 use Rattle.node_events.specs.declared.events.Entry.{Entry}
 use Rattle.node_events.specs.declared.events.Entry.TheVariants as at_node
@@ -12,7 +12,7 @@ use Rattle.world_history.specs.declared.kept.KeptCall.TheVariants.{Register, ReR
 use Rattle.world_history.specs.declared.kept.KeptReply.{KeptReply}
 use Rattle.world_history.specs.declared.kept.KeptReply.TheVariants.{Yes, No, Ok, UnknownNode, True, False, Joined, NotMember, ContactLeft, Pid, Undefined, Names, Notices as AllNotices}
 use Rattle.world_history.specs.declared.kept.Kept.{Kept}
-use Rattle.world_history.specs.declared.kept.Kept.TheVariants.{Name, Strike, Join, Done, Exit, Left, Told, Whereis, RegisteredNames as AllNames, Notices as NoticesOf, Whole}
+use Rattle.world_history.specs.declared.kept.Kept.TheVariants.{Name, Strike, Join, Done, Exit, Left, Told, Whereis, RegisteredNames as AllNames, Notices as NoticesOf, Restart, Whole}
 
 -- the call that is kept
 abbrev pub call_in : KeptCall → NameCall
@@ -65,4 +65,10 @@ entry_in (Told a d) = HistoryEntry.Told a.value d.value
 entry_in (Whereis a x r) = HistoryEntry.Read a.value (Look.Whereis x) (reply_in r)
 entry_in (AllNames a r) = HistoryEntry.Read a.value Look.RegisteredNames (reply_in r)
 entry_in (NoticesOf a p r) = HistoryEntry.Read a.value (Look.Notices p) (reply_in r)
+entry_in (Restart a) = HistoryEntry.Restart a.value
 entry_in (Whole e) = entered_in e.value
+
+-- the nodes listed, where the first that is the older one is replaced
+abbrev pub replaced : ℕ → ℕ → List ℕ → List ℕ
+replaced older next [] = []
+replaced older next (c ∷ nodes) = if c == older then next ∷ nodes else c ∷ replaced older next nodes

@@ -1,7 +1,7 @@
 //! Entries as their nodes made them.
-ghost use Rattle.std.specs.Prelude.{◌≡◌, true, IfOk, OnErr};
+ghost use Rattle.std.specs.Prelude.{◌≡◌, ℕ, true, List, IfOk, OnErr};
 ghost use Rattle.node_events.specs.Seen.{is_list};
-ghost use Rattle.world_history.specs.Histories.{entry_of, has_list};
+ghost use Rattle.world_history.specs.Histories.{made_by, has_list};
 ghost use Rattle.world_history.specs.Kept.{entered_in};
 
 use crate::entry::HistoryEntry;
@@ -18,7 +18,8 @@ pub(crate) struct Entered {
 
 /// A look-up of the node, and what it was answered. Only a list takes memory.
 fn read(node: &Node, look: &Look, reply: &Reply) -> Result<HistoryEntry, AllocError>
-    ensures entry { IfOk result (λ entry. entry_of entry ≡ entry_of (HistoryEntry.Read node.now look.now reply.now)) }
+    ensures entry { IfOk result (λ entry. (left : List ℕ)
+        → made_by entry left ≡ made_by (HistoryEntry.Read node.now look.now reply.now) left) }
     ensures refused { OnErr result (is_list reply.now ≡ true) }
 {
     let look = match look {
@@ -32,7 +33,7 @@ fn read(node: &Node, look: &Look, reply: &Reply) -> Result<HistoryEntry, AllocEr
 impl Entered {
     /// The entry as a history says it. Only a list takes memory.
     pub(crate) fn entry(&self) -> Result<HistoryEntry, AllocError>
-        ensures entry { IfOk result (λ entry. entry_of entry ≡ entry_of (entered_in self.now)) }
+        ensures entry { IfOk result (λ entry. (left : List ℕ) → made_by entry left ≡ made_by (entered_in self.now) left) }
         ensures refused { OnErr result (has_list (entered_in self.now) ≡ true) }
     {
         Ok(match &self.entry {

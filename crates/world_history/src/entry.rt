@@ -22,4 +22,6 @@ pub enum HistoryEntry {
     Told(Node, Node),
     /// A look-up was answered.
     Read(Node, Look, Reply),
+    /// A name came back, and this node of it started: it was told of all nodes that had left until then.
+    Restart(Node),
 }

@@ -1,8 +1,8 @@
 //! The history of a world.
-ghost use Rattle.std.specs.Prelude.{◌≡◌, ◌≤◌, ◌<◌, ◌+◌, OnOk};
+ghost use Rattle.std.specs.Prelude.{◌≡◌, ℕ, ◌≤◌, ◌<◌, ◌+◌, List, [], ◌∷◌, OnOk};
 ghost use Rattle.std.specs.Vec.{vec_len};
 ghost use Rattle.node_events.specs.Seen.{entry_by};
-ghost use Rattle.world_history.specs.Histories.{entry_of};
+ghost use Rattle.world_history.specs.Histories.{made_by, entries_of};
 
 use crate::entered::Entered;
 use crate::keeper::Keeper;
@@ -50,7 +50,7 @@ fn fill(spare: &mut Vec<Box<Entered>>, more: usize, node: &Node) -> Result<(), A
 /// Keeps an entry small, or where memory is refused in spare memory, whose entry is then in its place.
 fn keep(keeper: &Keeper, spare: &mut Vec<Box<Entered>>, entry: &mut Entry, number: u32) -> KeptEntry
     requires { 0 < vec_len spare.old }
-    ensures kept { entry_of result ≡ entry_by (λ _. number) entry.old }
+    ensures kept { (left : List ℕ) → made_by result left ≡ entry_by (λ _. number) entry.old ∷ [] }
     ensures spare { vec_len spare.old ≤ vec_len spare.new + 1 }
 {
     match keeper.entry(entry, number) {
@@ -65,7 +65,8 @@ fn keep(keeper: &Keeper, spare: &mut Vec<Box<Entered>>, entry: &mut Entry, numbe
 }
 
 impl History {
-    ghost use Rattle.std.specs.Prelude.{[], ◌∷◌, ◌++◌, map, IfOk};
+    ghost use Rattle.std.specs.Prelude.{◌++◌, IfOk, OnErr};
+    ghost use Rattle.world_history.specs.declared.entry.HistoryEntry.{HistoryEntry};
 
     /// The history of a world of these nodes, without an entry and without room for one.
     pub fn new(alloc: Global, nodes: &NodeSet) -> Result<Self, AllocError>
@@ -101,10 +102,24 @@ impl History {
     /// Where that decided a join of another node, `number` is that of its call there. What is left in the entry's place says nothing.
     pub fn enter(&mut self, entry: &mut Entry, number: u32)
         requires { 0 < self.old.room }
-        ensures entries { map entry_of self.new.entries ≡ map entry_of self.old.entries ++ entry_by (λ _. number) entry.old ∷ [] }
+        ensures entries { entries_of self.new.entries ≡ entries_of self.old.entries ++ entry_by (λ _. number) entry.old ∷ [] }
         ensures room { self.old.room ≤ self.new.room + 1 }
     {
         let kept = keep(&self.keeper, &mut self.spare, entry, number);
         self.entries.push_reserved(kept);
+    }
+
+    /// Puts at the end that a name has come back: the next node of it has started, which takes the older one's place among the
+    /// nodes that entries share. Where memory is refused, no entry is put.
+    pub fn enter_restart(&mut self, older: &Node, next: &Node) -> Result<(), AllocError>
+        ensures entries { OnOk result (self.new.entries ≡ self.old.entries ++ HistoryEntry.Restart next.now ∷ []) }
+        ensures unchanged { OnErr result (self.new.entries ≡ self.old.entries) }
+    {
+        let shared = self.keeper.node(next)?;
+        let kept = KeptEntry::new(Kept::Restart(shared.clone()?));
+        self.entries.reserve(1)?;
+        self.keeper.replace(older, shared);
+        self.entries.push_reserved(kept);
+        Ok(())
     }
 }

@@ -1,11 +1,11 @@
 //! What makes entries small.
-ghost use Rattle.std.specs.Prelude.{◌≡◌, map, IfOk};
+ghost use Rattle.std.specs.Prelude.{◌≡◌, ℕ, List, [], ◌∷◌, map, IfOk};
 ghost use Rattle.registry_model.specs.History.{Entry as AnyEntry};
 ghost use Rattle.transaction.specs.Ops.{name_call_of};
 ghost use Rattle.node_events.specs.Seen.{reply_of, entry_by};
 ghost use Rattle.world_history.specs.declared.entry.HistoryEntry.{HistoryEntry};
-ghost use Rattle.world_history.specs.Histories.{entry_of};
-ghost use Rattle.world_history.specs.Kept.{reply_in, call_in, entry_in};
+ghost use Rattle.world_history.specs.Histories.{made_by};
+ghost use Rattle.world_history.specs.Kept.{reply_in, call_in, entry_in, replaced};
 
 use crate::kept::{Decision, Kept, KeptCall, KeptEntry, KeptPair, KeptPid, KeptReply};
 use crate::kept_name::KeptName;
@@ -41,7 +41,7 @@ impl Keeper {
     }
 
     /// Keeps a node. Only one outside the world takes memory.
-    fn node(&self, node: &Node) -> Result<Rc<Node>, AllocError>
+    pub(crate) fn node(&self, node: &Node) -> Result<Rc<Node>, AllocError>
         ensures { IfOk result (λ kept. kept.value ≡ node.now) }
     {
         for shared in &self.nodes {
@@ -50,6 +50,19 @@ impl Keeper {
             }
         }
         Ok(Rc::new(self.alloc(), node.copy())?)
+    }
+
+    /// Shares this node from now on in place of an older one, where it has that.
+    pub(crate) fn replace(&mut self, older: &Node, next: Rc<Node>)
+        ensures { map (λ n. n.value) self.new.nodes.items
+            ≡ replaced older.now next.value (map (λ n. n.value) self.old.nodes.items) }
+    {
+        for place in 0..self.nodes.len() {
+            if self.nodes[place].as_ref() == older {
+                self.nodes[place] = next;
+                return;
+            }
+        }
     }
 
     /// Keeps a name.
@@ -134,8 +147,8 @@ impl Keeper {
         call: &NameCall,
         reply: &Reply,
     ) -> Result<Kept, AllocError>
-        ensures { IfOk result (λ kept. entry_of (entry_in kept)
-            ≡ AnyEntry.Name node.now number (name_call_of call.now) (reply_of reply.now)) }
+        ensures { IfOk result (λ kept. (left : List ℕ) → made_by (entry_in kept) left
+            ≡ AnyEntry.Name node.now number (name_call_of call.now) (reply_of reply.now) ∷ []) }
     {
         let decision = Decision {
             node: self.node(node)?,
@@ -162,7 +175,7 @@ impl Keeper {
 
     /// Keeps an entry of a node. Where that decided a join of another node, `number` is that of its call there.
     pub(crate) fn entry(&self, entry: &Entry, number: u32) -> Result<KeptEntry, AllocError>
-        ensures { IfOk result (λ kept. entry_of kept ≡ entry_by (λ _. number) entry.now) }
+        ensures { IfOk result (λ kept. (left : List ℕ) → made_by kept left ≡ entry_by (λ _. number) entry.now ∷ []) }
     {
         let kept = match entry {
             Entry::Name(node, number, call, reply) => self.decision(node, *number, call, reply)?,

@@ -1,7 +1,7 @@
 //! What a world keeps of its history: entries in little memory.
-ghost use Rattle.std.specs.Prelude.{◌≡◌, true, IfOk, OnErr};
+ghost use Rattle.std.specs.Prelude.{◌≡◌, ℕ, true, List, IfOk, OnErr};
 ghost use Rattle.node_events.specs.Seen.{reply_of, is_list};
-ghost use Rattle.world_history.specs.Histories.{entry_of, has_list};
+ghost use Rattle.world_history.specs.Histories.{made_by, has_list};
 ghost use Rattle.world_history.specs.Kept.{reply_in, call_in, entry_in};
 
 use crate::entered::Entered;
@@ -162,6 +162,7 @@ pub(crate) enum Kept {
     Whereis(Rc<Node>, KeptName, KeptReply),
     RegisteredNames(Rc<Node>, KeptReply),
     Notices(Rc<Node>, KeptPid, KeptReply),
+    Restart(Rc<Node>),
     Whole(Box<Entered>),
 }
 
@@ -195,7 +196,7 @@ impl KeptEntry {
 
     /// The entry, made again. Only a list takes memory.
     pub fn entry(&self) -> Result<HistoryEntry, AllocError>
-        ensures entry { IfOk result (λ entry. entry_of entry ≡ entry_of self.now) }
+        ensures entry { IfOk result (λ entry. (left : List ℕ) → made_by entry left ≡ made_by self.now left) }
         ensures refused { OnErr result (has_list self.now ≡ true) }
     {
         Ok(match &self.kept {
@@ -223,6 +224,7 @@ impl KeptEntry {
                 let look = Look::Notices(process.process());
                 HistoryEntry::Read(node.copy(), look, reply.reply()?)
             }
+            Kept::Restart(node) => HistoryEntry::Restart(node.copy()),
             Kept::Whole(entered) => entered.entry()?,
         })
     }

@@ -1,13 +1,16 @@
 //! Worlds, played by the lines of scripts.
 use cluster_world::{
-    HistoryEntry, Look, NameCall, Refusal, Reply, StartFault, StepFault, World, WorldEvent,
+    Event, HistoryEntry, Look, NameCall, Refusal, Reply, StartFault, StepFault, World, WorldEvent,
 };
 use command_lines::{Task, read_task};
 use name_table::{ListTable, Names, Pair};
 use std::alloc::Global;
 use std::fmt::Write;
 use std::test::Fail;
-use term::{Node, Rule, TextFault, parse_name, parse_node, parse_nodes, parse_pid};
+use term::{
+    Node, NodeName, Rule, TextFault, parse_name, parse_node, parse_node_name, parse_nodes,
+    parse_pid,
+};
 use text_lines::Line;
 
 pub(crate) type Cluster = World<ListTable<Global>>;
@@ -38,10 +41,20 @@ fn task(alloc: Global, line: &str) -> Option<Task> {
     }
 }
 
+/// Plays an event at the node of a name at present. Whether it was taken.
+fn play_at(world: &mut Cluster, name: &NodeName, event: Event) -> bool {
+    let Some(node) = world.present(name) else {
+        return false;
+    };
+    let event = WorldEvent::At(node.copy(), event);
+    world.play(&event).is_ok()
+}
+
 /// Plays a line of a script. Whether it was taken.
 fn play_line(alloc: Global, world: &mut Cluster, line: &str) -> bool {
     match task(alloc, line) {
         Some(Task::Play(event)) => world.play(&event).is_ok(),
+        Some(Task::At(name, event)) => play_at(world, &name, event),
         Some(Task::Settle) => settle(world),
         _ => false,
     }
@@ -120,12 +133,14 @@ fn gives_its_history_back(rt: HostRuntime) -> Result<(), Fail> {
     Ok(())
 }
 
-/// The events of a script's lines, parted by commas.
+/// The events of a script's lines, parted by commas, in a world of first nodes.
 fn events(alloc: Global, lines: &str) -> Result<Vec<WorldEvent>, Fail> {
     let mut events = Vec::new(alloc);
     for line in lines.split(", ") {
-        if let Some(Task::Play(event)) = task(alloc, line) {
-            events.push(event)?;
+        match task(alloc, line) {
+            Some(Task::Play(event)) => events.push(event)?,
+            Some(Task::At(name, event)) => events.push(WorldEvent::At(Node::first(name), event))?,
+            _ => {}
         }
     }
     Ok(events)
@@ -142,7 +157,7 @@ fn runs_up_to_a_refusal(rt: HostRuntime) -> Result<(), Fail> {
     let end = world.run(list.as_slice());
     assert!(rt; end.played == 3 && end.answers.len() == 1);
     assert!(rt; end.refusal == Some(Refusal::NoSuchNode));
-    assert!(rt; world.waiting() == Some((parse_node("a")?, parse_node("a")?)));
+    assert!(rt; world.waiting() == Some((parse_node_name("a")?, parse_node_name("a")?)));
     Ok(())
 }
 

@@ -18,7 +18,7 @@ impl<N: Names<Memory = Global>> NodeCore<N> {
     ghost use Rattle.protocol_model.specs.Turn.{count_call, enter as entering};
     ghost use Rattle.protocol_model.specs.Calling.{spawned, looked, queued, die, call as called};
     ghost use Rattle.lock_calls.specs.declared.call.CallPhase.TheVariants.{Waiting};
-    ghost use Rattle.term.specs.NodeSets.{set_of};
+    ghost use Rattle.term.specs.NodeSets.{with_older};
     ghost use Rattle.transaction.specs.Ops.{name_call_of};
     ghost use Rattle.transaction.specs.Calls.{target_of};
     ghost use Rattle.node_events.specs.declared.events.Call.TheVariants.{Spawn, SetLock as SetsLock, DelLock as DeletesLock};
@@ -274,17 +274,17 @@ impl<N: Names<Memory = Global>> NodeCore<N> {
         Ok(())
     }
 
-    /// A join is numbered, and goes to the back of the queue. One by a stranger is passed over. Where memory is refused the node is
-    /// as it was.
+    /// A join is numbered, and goes to the back of the queue. One by a node that hasn't started is passed over. Where memory is
+    /// refused the node is as it was.
     fn enqueue_join(&mut self, contact: &Node) -> Result<(), AllocError>
         requires { (self.old.last_call == last_u32) ≡ false }
-        ensures turn { (made : Made) → set_of self.old.world contact.now ≡ true
+        ensures turn { (made : Made) → with_older self.old.world contact.now ≡ true
             → OnOk result (Makes (λ n a u. queued n a (AnyOp.Join (u.node.last_call + 1) contact.now) (count_call u)) self.old made self.new made) }
         ensures kept { Keeps self.old self.new }
         ensures joins { joins_in self.new.registrar.queue ≤ joins_in self.old.registrar.queue + 1 }
         ensures unchanged { OnErr result (self.new ≡ self.old) }
     {
-        if !self.world.contains(contact) {
+        if !self.world.reaches(contact) {
             return Ok(());
         }
         self.registrar

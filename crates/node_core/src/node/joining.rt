@@ -1,7 +1,7 @@
 //! The rules of joins: a lone node asks a contact, which lets it in under the global lock.
 ghost use Rattle.std.specs.Prelude.{◌≡◌, ℕ, true, false, ◌&&◌, ◌||◌, OnOk, IfOk};
 ghost use Rattle.registry_model.specs.Table.{is_rising, without};
-ghost use Rattle.term.specs.NodeSets.{set_of};
+ghost use Rattle.term.specs.NodeSets.{set_of, with_older};
 ghost use Rattle.exit_watch.specs.Held.{AreSuspected, KeepsSuspects};
 
 use crate::node::{NodeCore, Phase};
@@ -20,7 +20,7 @@ fn table_of<N: Names<Memory = Global>>(
     pairs: &[Pair],
     gone: &NodeSet,
 ) -> Result<N, AllocError>
-    ensures table { is_rising pairs.now ≡ true → IfOk result (λ table. N.contents table ≡ without (set_of gone.now) pairs.now) }
+    ensures table { is_rising pairs.now ≡ true → IfOk result (λ table. N.contents table ≡ without (with_older gone.now) pairs.now) }
     ensures node { watch.new.node ≡ watch.old.node }
     ensures watch { watch.new.watch ≡ watch.old.watch }
     ensures ok { IfOk result (λ table. AreSuspected watch.new (N.contents table)) }
@@ -28,7 +28,7 @@ fn table_of<N: Names<Memory = Global>>(
 {
     let mut table = N::empty(alloc);
     for pair in pairs {
-        if !gone.contains(&pair.owner.node) {
+        if !gone.reaches(&pair.owner.node) {
             watch.note_owner(&pair.owner)?;
             table.write(Change::Put(pair.copy()))?;
         }
@@ -81,7 +81,7 @@ impl<N: Names<Memory = Global>> NodeCore<N> {
         contact: Node,
     ) -> Result<(), AllocError>
         requires current { IsTrue (is_some self.old.registrar.current) }
-        requires within { set_of self.old.world contact ≡ true }
+        requires within { with_older self.old.world contact ≡ true }
         requires room { HasRoom 1 0 0 turn.old }
         ensures turn { OnOk result (Makes (λ n a. ask_join n a number contact) self.old turn.old self.new turn.new) }
         ensures kept { Keeps self.old self.new }
@@ -117,8 +117,8 @@ impl<N: Names<Memory = Global>> NodeCore<N> {
         }
     }
 
-    /// A lone node asks to join: its admission goes to the back of the queue, or is refused by a lone node. A stranger is
-    /// passed over. Where memory is refused the node is as it was.
+    /// A lone node asks to join: its admission goes to the back of the queue, or is refused by a lone node. One that hasn't started
+    /// is passed over. Where memory is refused the node is as it was.
     pub(super) fn asked_to_admit(
         &mut self,
         turn: &mut Turn,
@@ -130,11 +130,11 @@ impl<N: Names<Memory = Global>> NodeCore<N> {
         ensures next { begins_with_join self.old.registrar.queue ≡ false → begins_with_join self.new.registrar.queue ≡ false }
         ensures joins { joins_in self.new.registrar.queue ≤ joins_in self.old.registrar.queue + 1 }
         ensures unchanged { OnErr result (self.new ≡ self.old) }
-        ensures turn { set_of self.old.world from.now ≡ true
+        ensures turn { with_older self.old.world from.now ≡ true
             → OnOk result (Makes (λ n a. asked_to_admit n a unnumbered from.now pairs.now.items) self.old turn.old self.new turn.new) }
         ensures kept { Keeps self.old self.new }
     {
-        if !self.world.contains(from) {
+        if !self.world.reaches(from) {
             return Ok(());
         }
         if !self.joined {
@@ -245,7 +245,7 @@ impl<N: Names<Memory = Global>> NodeCore<N> {
         settled: &Settled,
     ) -> Result<(), AllocError>
         requires current { IsTrue (is_some self.old.registrar.current) }
-        requires joiner { set_of self.old.world joiner ≡ true }
+        requires joiner { with_older self.old.world joiner ≡ true }
         requires within { IsWithin self.old.world asked }
         requires room { HasRoom 9 1 1 turn.old }
         ensures spends { Spends 9 1 1 turn.old turn.new }
@@ -254,7 +254,7 @@ impl<N: Names<Memory = Global>> NodeCore<N> {
         ensures kept { KeepsCalls self.old self.new }
         ensures unchanged { OnErr result (self.new ≡ self.old) }
     {
-        if self.told.contains(&joiner) {
+        if self.told.reaches(&joiner) {
             self.finish(turn, &asked, None);
             return Ok(());
         }
@@ -290,11 +290,11 @@ impl<N: Names<Memory = Global>> NodeCore<N> {
 
     /// A node is a member, unless it has left.
     fn add_member(&mut self, joiner: &Node)
-        ensures turn { (made : Made) → set_of self.old.world joiner.now ≡ true
+        ensures turn { (made : Made) → with_older self.old.world joiner.now ≡ true
             → Makes (λ n a. with_replica (with_member joiner.now)) self.old made self.new made }
         ensures kept { KeepsQueue self.old self.new }
     {
-        if !self.told.contains(joiner) {
+        if !self.told.reaches(joiner) {
             self.members = self.members.with_within(joiner, &self.world);
         }
     }
@@ -338,7 +338,7 @@ impl<N: Names<Memory = Global>> NodeCore<N> {
         from: &Node,
         admission: &Admission,
     ) -> Result<(), AllocError>
-        ensures turn { set_of self.old.world admission.now.joiner ≡ true → OnOk result
+        ensures turn { with_older self.old.world admission.now.joiner ≡ true → OnOk result
             (Makes (λ n a u. send from.now AnyLetter.Applied (kill n a (settled_in admission.now).fate.kills
             (with_replica (admitted a admission.now.joiner (settled_in admission.now)) u))) self.old turn.old self.new turn.new) }
         ensures kept { KeepsQueue self.old self.new }
@@ -355,20 +355,23 @@ impl<N: Names<Memory = Global>> NodeCore<N> {
         Ok(())
     }
 
-    /// This node is joined: it has the members and the names of its sponsor, less those that either was told have left.
+    /// This node is joined: it has the members and the names of its sponsor, less those that either was told have left. No welcome
+    /// to it says that it has left itself: of one that did it would take in no departure.
     fn move_in(&mut self, welcome: &Welcome) -> Result<(), AllocError>
         ensures turn { (made : Made) → IsWelcomeTo self.old.world self.old.name welcome.now → OnOk result
             (Makes (λ n a. with_replica (joined_with (set_of welcome.now.members) welcome.now.pairs.items
-            (λ d. set_of self.old.told d || set_of welcome.now.told d))) self.old made self.new made) }
+            (λ d. with_older self.old.told d || with_older welcome.now.told d))) self.old made self.new made) }
         ensures kept { KeepsQueue self.old self.new }
     {
         let alloc = self.alloc;
-        let mut told = self.told.union_within(&welcome.told, &self.world);
-        told.remove(&self.node);
+        let mut told = self.told.last_within(&welcome.told, &self.world);
+        if told.reaches(&self.node) {
+            told = self.told.copy();
+        }
         self.table = table_of(alloc, &mut self.watch, welcome.pairs.as_slice(), &told)?;
         self.members = welcome
             .members
-            .difference(&told)
+            .beyond(&told)
             .with_within(&self.node, &self.world);
         self.told = told;
         self.joined = true;
@@ -385,7 +388,7 @@ impl<N: Names<Memory = Global>> NodeCore<N> {
         requires { HasRoom 1 0 0 turn.old }
         ensures turn { IsWelcomeTo self.old.world self.old.name body.now → OnOk result
             (Makes (λ n a u. welcome n a unnumbered from.now (set_of body.now.members) body.now.pairs.items
-            (set_of body.now.told) (fate_in body.now) u.node.current u) self.old turn.old self.new turn.new) }
+            (with_older body.now.told) (fate_in body.now) u.node.current u) self.old turn.old self.new turn.new) }
         ensures kept { KeepsQueue self.old self.new }
         ensures adds { Adds 0 1 turn.old turn.new }
         ensures room { OnOk result (HasRoom 1 0 0 turn.new) }

@@ -7,7 +7,7 @@ use lock_calls::CallPhase;
 use name_table::Names;
 use node_events::{Entry, Letter, Turn};
 use std::alloc::{AllocError, Global};
-use term::{Node, Pid};
+use term::{Node, NodeSet, Pid};
 
 impl<N: Names<Memory = Global>> NodeCore<N> {
     ghost use Rattle.std.specs.Prelude.{true, ◌+◌, ◌*◌, length, map, OnErr};
@@ -24,7 +24,7 @@ impl<N: Names<Memory = Global>> NodeCore<N> {
     ghost use Rattle.node_core.specs.Rare.{is_admission};
     ghost use Rattle.node_core.specs.Steps.{IsOther, KeepsQueue, KeepsCalls, Makes};
 
-    /// The node leaves: it says so to every other node of the world.
+    /// The node leaves: it says so to every other node at present.
     pub(super) fn leave(&mut self, turn: &mut Turn)
         requires { HasRoom 8 1 0 turn.old }
         ensures turn { Makes (λ n a. event n a (set_of self.old.world) Leaves) self.old turn.old self.new turn.new }
@@ -56,7 +56,8 @@ impl<N: Names<Memory = Global>> NodeCore<N> {
         ensures spends { Spends 0 1 0 turn.old turn.new }
     {
         self.enter_told(turn, gone);
-        self.told = self.told.with_within(gone, &self.world);
+        let gone_alone = NodeSet::one(gone.copy());
+        self.told = self.told.last_within(&gone_alone, &self.world);
         self.members.remove(gone);
         self.table.drop_node(gone);
         self.locks.drop_node(gone);
@@ -115,9 +116,9 @@ impl<N: Names<Memory = Global>> NodeCore<N> {
         }
     }
 
-    /// Another node of the world has gone down: this one is told, a join by that node ends, and the registrar and then the
-    /// lock calls are told. Word that this node itself or a stranger has left is passed over: a node is always one of its own
-    /// members. These are the processes that have a lock call. Memory is refused only where a round asks for an admission.
+    /// Another node has gone down: this one is told, a join by that node ends, and the registrar and then the lock calls are told.
+    /// Word that this node itself has left, or one that hasn't started, is passed over: a node is always one of its own members.
+    /// These are the processes that have a lock call. Memory is refused only where a round asks for an admission.
     pub(super) fn bereave(
         &mut self,
         turn: &mut Turn,
@@ -133,7 +134,7 @@ impl<N: Names<Memory = Global>> NodeCore<N> {
         ensures spends { Spends (9 + 8 * length holders.now) 3 (2 + length holders.now) turn.old turn.new }
         ensures refused { OnErr result (is_admission self.old.registrar.current ≡ true) }
     {
-        if !self.world.contains(gone) || *gone == self.node {
+        if !self.world.reaches(gone) || *gone == self.node {
             return Ok(());
         }
         self.take_in(turn, gone);

@@ -41,7 +41,7 @@ impl<N: Names<Memory = Global>> NodeCore<N> {
     ghost use Rattle.protocol_model.specs.Turn.{send, with_replica};
     ghost use Rattle.protocol_model.specs.Reading.{judge, hear, take_back, bereave, read, receive};
     ghost use Rattle.lock_table.specs.Ids.{id_of};
-    ghost use Rattle.term.specs.NodeSets.{set_of};
+    ghost use Rattle.term.specs.NodeSets.{with_older};
     ghost use Rattle.node_events.specs.Letters.{letter_of};
     ghost use Rattle.node_events.specs.Made.{Made, HasRoom, Spends, IsSameMade};
     ghost use Rattle.node_events.specs.Seen.{unnumbered};
@@ -110,10 +110,10 @@ impl<N: Names<Memory = Global>> NodeCore<N> {
 
     /// A put whose owner's node is told to have left removes the name instead; all else is written as it stands.
     fn unless_told(&self, change: &Change) -> Change
-        ensures { change_of result ≡ unless_told (set_of self.now.told) (change_of change.now) }
+        ensures { change_of result ≡ unless_told (with_older self.now.told) (change_of change.now) }
     {
         match change {
-            Change::Put(pair) if self.told.contains(&pair.owner.node) => {
+            Change::Put(pair) if self.told.reaches(&pair.owner.node) => {
                 Change::Remove(pair.name.copy())
             }
             _ => change.copy(),
@@ -238,7 +238,7 @@ impl<N: Names<Memory = Global>> NodeCore<N> {
             → begins_with_join self.old.registrar.queue ≡ false → IsAsBefore self.old self.new) }
     {
         Self::make_room(turn, letter)?;
-        if !self.told.contains(from) || matches!(letter, Letter::Down) {
+        if !self.told.reaches(from) || matches!(letter, Letter::Down) {
             self.read(turn, from, letter)?;
         }
         self.start(turn)

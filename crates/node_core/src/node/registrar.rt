@@ -95,7 +95,7 @@ impl<N: Names<Memory = Global>> NodeCore<N> {
         ensures spends { Spends 8 0 1 turn.old turn.new }
     {
         self.answer_op(turn, reply);
-        self.give_global(turn, &asked.difference(&self.told));
+        self.give_global(turn, &asked.beyond(&self.told));
         self.registrar.finish();
     }
 

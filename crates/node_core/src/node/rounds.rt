@@ -70,7 +70,7 @@ impl<N: Names<Memory = Global>> NodeCore<N> {
                 return Ok(());
             };
             let (number, contact) = (*number, contact.copy());
-            if !self.told.contains(&contact) {
+            if !self.told.reaches(&contact) {
                 return self.ask_join(turn, number, contact);
             }
             self.registrar.finish();
@@ -110,7 +110,7 @@ impl<N: Names<Memory = Global>> NodeCore<N> {
         if !round.opens(from, granted) {
             return;
         }
-        turn.send_all(&round.rest().difference(&self.told), request);
+        turn.send_all(&round.rest().beyond(&self.told), request);
     }
 
     /// The round ends, where it is over. Memory is refused only where it asks for an admission.

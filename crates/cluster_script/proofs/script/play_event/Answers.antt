@@ -2,9 +2,8 @@ use Rattle.std.proofs.Common.{ℕ, Bool, List, Result, ◌∙◌, subst, sym, re
 use Rattle.std.proofs.lemmas.Result.{err_from_is_err_and}
 use Rattle.std.specs.Io.KnownBytes.{Appends}
 use Rattle.std.proofs.KnownBytes.{Appends-trans}
-use Rattle.protocol_model.specs.Script.{Play}
-use Rattle.command_lines.specs.Events.{event_of}
-use Rattle.cluster_world.specs.Seen.{opening_of}
+use Rattle.protocol_model.specs.NamedEvents.{Play}
+use Rattle.command_lines.specs.Events.{named_event}
 use Rattle.command_lines.specs.Refusals.{refusal_of}
 use Rattle.text_lines.specs.declared.faults.WriteFault.{WriteFault}
 use Rattle.cluster_script.specs.Script.{Plays}
@@ -15,7 +14,7 @@ use Rattle.command_lines.specs.Printing.{answers_text}
 use Rattle.text_lines.specs.Writing.{AppendsPart}
 use Rattle.text_lines.proofs.Written.{AppendsPart-behind, AppendsPart-more}
 use Rattle.cluster_script.proofs.Writing.{PlaysAsked-err}
-use Rattle.cluster_script.proofs.Playing.{opening_of-same, play-accepted, text-accepted, event-refused, event-unwritten}
+use Rattle.cluster_script.proofs.Playing.{play-accepted, text-accepted, event-refused, event-unwritten}
 use Rattle.std.proofs.Common.{map}
 use Rattle.cluster_script.proofs.script.play_event.Goals as goal
 
@@ -23,47 +22,47 @@ pub returns-in_err-write_accepted-in-Ok : goal.returns-in_err-write_accepted-in-
 returns-in_err-write_accepted-in-Ok g c =
     let p = err_from_is_err_and c.from_residual.result c.from_residual.ensures.1 in
     let e = text-accepted c.args.world.now c.play.new.self c.args.event.now c.in-Ok.answers.items c.in-Ok.ensures.ok in
-    PlaysAsked-err c.args.world.now c.play.new.self (Ok (Play (event_of c.args.event.now)))
-    (Plays (Play (event_of c.args.event.now)))
+    PlaysAsked-err c.args.world.now c.play.new.self (Ok (Play (named_event c.args.event.now)))
+    (Plays (Play (named_event c.args.event.now)))
     (g.W.Write.contents c.args.writer.now)
     (g.W.Write.contents c.write_accepted.new.writer) c.from_residual.result p.0 p.1 refl
     (subst (λ (t : List ℕ). AppendsPart (g.W.Write.contents c.args.writer.now)
     (g.W.Write.contents c.write_accepted.new.writer) t) e
     (AppendsPart-more (g.W.Write.contents c.args.writer.now) (g.W.Write.contents c.write_accepted.new.writer)
-    (okay_text (opening_of c.args.world.now) c.args.event.now)
+    (okay_text c.args.world.now c.args.event.now)
     (answers_text (map answer_of c.in-Ok.answers.items))
-    (c.in_err-write_accepted-in-Ok.ensures (opening_of c.args.world.now))))
+    (c.in_err-write_accepted-in-Ok.ensures c.args.world.now c.in-Ok.answers.items c.in-Ok.ensures.ok)))
 
 pub returns-in_err-write_answers-in-Ok : goal.returns-in_err-write_answers-in-Ok
 returns-in_err-write_answers-in-Ok g c =
     let p = err_from_is_err_and c.from_residual-in_err-write_answers-in-Ok.result
     c.from_residual-in_err-write_answers-in-Ok.ensures.1 in
     let e = text-accepted c.args.world.now c.play.new.self c.args.event.now c.in-Ok.answers.items c.in-Ok.ensures.ok in
-    PlaysAsked-err c.args.world.now c.play.new.self (Ok (Play (event_of c.args.event.now)))
-    (Plays (Play (event_of c.args.event.now)))
+    PlaysAsked-err c.args.world.now c.play.new.self (Ok (Play (named_event c.args.event.now)))
+    (Plays (Play (named_event c.args.event.now)))
     (g.W.Write.contents c.args.writer.now)
     (g.W.Write.contents c.write_answers.new.writer) c.from_residual-in_err-write_answers-in-Ok.result p.0 p.1 refl
     (subst (λ (t : List ℕ). AppendsPart (g.W.Write.contents c.args.writer.now)
     (g.W.Write.contents c.write_answers.new.writer) t) e
     (AppendsPart-behind (g.W.Write.contents c.args.writer.now) (g.W.Write.contents c.write_accepted.new.writer)
-    (g.W.Write.contents c.write_answers.new.writer) (okay_text (opening_of c.args.world.now) c.args.event.now)
+    (g.W.Write.contents c.write_answers.new.writer) (okay_text c.args.world.now c.args.event.now)
     (answers_text (map answer_of c.in-Ok.answers.items))
-    (c.in_ok-write_accepted-in-Ok.ensures (opening_of c.args.world.now))
+    (c.in_ok-write_accepted-in-Ok.ensures c.args.world.now c.in-Ok.answers.items c.in-Ok.ensures.ok)
     (subst (λ (xs : List Answer). AppendsPart (g.W.Write.contents c.write_accepted.new.writer)
     (g.W.Write.contents c.write_answers.new.writer) (answers_text (map answer_of xs)))
     c.deref.ensures.value c.in_err-write_answers-in-Ok.ensures)))
 
 pub returns-in_ok-write_answers-in-Ok : goal.returns-in_ok-write_answers-in-Ok
 returns-in_ok-write_answers-in-Ok g c = (
-  Plays (Play (event_of c.args.event.now)),
+  Plays (Play (named_event c.args.event.now)),
   refl,
   play-accepted c.args.world.now c.play.new.self c.args.event.now c.in-Ok.answers.items
       (g.W.Write.contents c.args.writer.now)
       (g.W.Write.contents c.write_answers.new.writer) c.in-Ok.ensures.ok
       (Appends-trans (g.W.Write.contents c.args.writer.now) (g.W.Write.contents c.write_accepted.new.writer)
-      (g.W.Write.contents c.write_answers.new.writer) (okay_text (opening_of c.args.world.now) c.args.event.now)
+      (g.W.Write.contents c.write_answers.new.writer) (okay_text c.args.world.now c.args.event.now)
       (answers_text (map answer_of c.in-Ok.answers.items))
-      (c.in_ok-write_accepted-in-Ok.ensures (opening_of c.args.world.now))
+      (c.in_ok-write_accepted-in-Ok.ensures c.args.world.now c.in-Ok.answers.items c.in-Ok.ensures.ok)
       (subst (λ (xs : List Answer). Appends (g.W.Write.contents c.write_accepted.new.writer)
       (g.W.Write.contents c.write_answers.new.writer) (answers_text (map answer_of xs)))
       c.deref.ensures.value c.in_ok-write_answers-in-Ok.ensures)),
@@ -77,8 +76,8 @@ returns-in_err-write_text-in-Err g c =
     let b = g.W.Write.contents c.write_text.new.writer in
     let p = err_from_is_err_and c.from_residual-in_err-write_text-in-Err.result
     c.from_residual-in_err-write_text-in-Err.ensures.1 in
-    subst (λ (r : Result Bool WriteFault). PlaysAsked (Ok (Play (event_of c.args.event.now))) old new a b r) (sym p.1)
-    (event-unwritten old new c.args.event.now (opening_of-same old new c.play.ensures.kept.nodes c.play.ensures.kept.cluster)
+    subst (λ (r : Result Bool WriteFault). PlaysAsked (Ok (Play (named_event c.args.event.now))) old new a b r) (sym p.1)
+    (event-unwritten old new (named_event c.args.event.now) c.play.ensures.kept.names
     c.in-Err.ensures.as_before (refusal_of c.in-Err.refusal) c.in-Err.ensures.refused a b
     (subst (λ (t : List ℕ). AppendsPart a b t) (c.as_bytes.ensures.value ∙ c.refusal_line.ensures)
     c.in_err-write_text-in-Err.ensures) p.0)
@@ -89,7 +88,7 @@ returns-in_ok-write_text-in-Err g c =
     let new = c.play.new.self in
     let a = g.W.Write.contents c.args.writer.now in
     let b = g.W.Write.contents c.write_text.new.writer in
-    event-refused old new c.args.event.now (opening_of-same old new c.play.ensures.kept.nodes c.play.ensures.kept.cluster)
+    event-refused old new (named_event c.args.event.now) c.play.ensures.kept.names
     c.in-Err.ensures.as_before (refusal_of c.in-Err.refusal) c.in-Err.ensures.refused a b
     (subst (λ (t : List ℕ). Appends a b t) (c.as_bytes.ensures.value ∙ c.refusal_line.ensures)
     c.in_ok-write_text-in-Err.ensures)

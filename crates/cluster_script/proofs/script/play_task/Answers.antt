@@ -17,9 +17,9 @@ refused task f e = rw e refl
 pub returns-in_err-write_text-in-Err : goal.returns-in_err-write_text-in-Err
 returns-in_err-write_text-in-Err g c =
     let p = err_from_is_err_and c.from_residual.result c.from_residual.ensures.1 in
-    PlaysAsked-err c.args.world.now c.args.world.now (asked_by c.args.task.now) (Fails c.in-Err.fault)
+    PlaysAsked-err c.args.world.now c.args.world.now (asked_by c.args.task) (Fails c.in-Err.fault)
     (g.W.Write.contents c.args.writer.now) (g.W.Write.contents c.write_text.new.writer)
-    c.from_residual.result p.0 p.1 (inl (refused c.args.task.now c.in-Err.fault c.in-Err.is))
+    c.from_residual.result p.0 p.1 (inl (refused c.args.task c.in-Err.fault c.in-Err.is))
     (subst (λ (t : List ℕ). AppendsPart (g.W.Write.contents c.args.writer.now)
     (g.W.Write.contents c.write_text.new.writer) t)
     (c.as_bytes.ensures.value ∙ c.line.ensures ∙ text-fault c.args.world.now c.in-Err.fault)
@@ -28,7 +28,7 @@ returns-in_err-write_text-in-Err g c =
 pub returns-in_ok-write_text-in-Err : goal.returns-in_ok-write_text-in-Err
 returns-in_ok-write_text-in-Err g c = (
   Fails c.in-Err.fault,
-  inl (refused c.args.task.now c.in-Err.fault c.in-Err.is),
+  inl (refused c.args.task c.in-Err.fault c.in-Err.is),
   play-fault c.args.world.now c.args.world.now c.in-Err.fault (g.W.Write.contents c.args.writer.now)
       (g.W.Write.contents c.write_text.new.writer) refl refl
       (subst (λ (t : List ℕ). Appends (g.W.Write.contents c.args.writer.now) (g.W.Write.contents c.write_text.new.writer)

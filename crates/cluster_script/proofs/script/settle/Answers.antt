@@ -1,13 +1,12 @@
 use Rattle.std.proofs.Common.{ℕ, Bool, List, Option, Result, ◌∙◌, map, ap, refl, sym, subst, Ok, None, true}
 use Rattle.std.proofs.lemmas.Option.{MatchOption-at_some, MatchOption-at_none}
 use Rattle.std.proofs.lemmas.Result.{err_from_is_err_and}
-use Rattle.protocol_model.specs.Script.{Settle}
+use Rattle.protocol_model.specs.NamedEvents.{Settle}
 use Rattle.std.specs.Io.KnownBytes.{Appends}
 use Rattle.command_lines.specs.NodeEventsSeen.{answer_of}
 use Rattle.command_lines.specs.declared.Answer.{Answer}
 use Rattle.command_lines.specs.Printing.{answers_text}
 use Rattle.text_lines.specs.Writing.{AppendsPart}
-use Rattle.cluster_script.proofs.Playing.{opening_of-same}
 use Rattle.cluster_script.proofs.Writing.{PlaysAsked-err}
 use Rattle.cluster_script.proofs.Settling.{Settles-start, Settles-next, settle-stopped, settle-ended, settle-broken, none_waits, none_left, settled-waits, is_none-by, answers-written, answers-part}
 use Rattle.cluster_world.specs.Held.{Held}
@@ -42,8 +41,7 @@ returns-in-Err g c =
     let b = g.W.Write.contents c.loop.writer in
     settle-broken c.loop.counter c.args.world.now c.loop.world (g.W.Write.contents c.args.writer.now) b c.loop.invariant
     _ c.in-Err.ensures.waits.next c.loop-test.true c.deliver_next.new.self b (g.W.Write.contents c.refuse_memory.new.writer)
-    (opening_of-same c.loop.world c.deliver_next.new.self c.deliver_next.ensures.kept.nodes
-    c.deliver_next.ensures.kept.cluster)
+    c.deliver_next.ensures.kept.names
     c.in-Err.ensures.as_before refl c.refuse_memory.result c.refuse_memory.ensures.text c.refuse_memory.ensures.fine
 
 pub returns-in_err-write_answers-in-Ok-Some : goal.returns-in_err-write_answers-in-Ok-Some
@@ -68,8 +66,7 @@ loop-preserved g c =
     let d = g.W.Write.contents c.write_answers.new.writer in
     Settles-next c.loop.counter c.args.world.now c.loop.world a b c.loop.invariant
     _ next.next c.loop-test.true c.deliver_next.new.self d
-    (opening_of-same c.loop.world c.deliver_next.new.self c.deliver_next.ensures.kept.nodes
-    c.deliver_next.ensures.kept.cluster)
+    c.deliver_next.ensures.kept.names
     next.played.happens
     (answers-written c.loop.world c.deliver_next.new.self _ c.in-Ok-Some.answers.items b d next.played
     (subst (λ (xs : List Answer). Appends b d (answers_text (map answer_of xs))) c.deref.ensures.value

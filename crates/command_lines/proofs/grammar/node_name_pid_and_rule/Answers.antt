@@ -10,8 +10,8 @@ returns-in_err-parse_rule c =
     let r = c.from_residual-in_err-parse_rule.result in
     let p = err_from_is_err_and r c.from_residual-in_err-parse_rule.ensures.1 in
     MatchResult-err _ _ r p.0 p.1 (inr (
-      c.in_ok-first_node.field-0,
-      c.in_ok-first_node.ensures,
+      c.in_ok-parse_node_name.field-0,
+      c.in_ok-parse_node_name.ensures,
       inr (
         c.in_ok-parse_name.field-0,
         c.in_ok-parse_name.ensures,

@@ -1,7 +1,7 @@
 use Rattle.std.proofs.Common.{◌==◌, ℕ, List, sym, ap, subst, ◌∙◌}
 use Rattle.protocol_model.specs.Node.{unless_told}
 use Rattle.name_table.specs.Changes.{change_of}
-use Rattle.term.specs.NodeSets.{set_of}
+use Rattle.term.specs.NodeSets.{set_of, with_older}
 use Rattle.node_log.specs.declared.Letter.{Letter}
 use Rattle.node_log.specs.declared.Letter.TheVariants.{Down}
 use Rattle.node_loop.specs.Editions.{NotedBy}
@@ -14,14 +14,14 @@ pub returns-in-Apply : goal.returns-in-Apply
 returns-in-Apply g c =
     subst (λ (l : Letter). NotedBy Nothing c.args.from.now l c.args.core.now) (sym c.in-Apply.is)
     (dropped c.args.from.now c.args.core.now c.in-Apply.field-0
-    (ap (λ (s : List ℕ). set_of s c.args.from.now) (sym c.told.ensures.told) ∙ (sym c.contains.ensures ∙ c.if-contains.true)))
+    (ap (λ (s : List ℕ). with_older s c.args.from.now) (sym c.told.ensures.told) ∙ (sym c.reaches.ensures ∙ c.if-reaches.true)))
 
 pub returns-in-Apply-2 : goal.returns-in-Apply-2
 returns-in-Apply-2 g c =
     subst (λ (l : Letter). NotedBy (One (Write c.written_for.result)) c.args.from.now l c.args.core.now) (sym c.in-Apply-2.is)
     (written c.args.from.now c.args.core.now c.in-Apply-2.change c.written_for.result
-    (ap (λ (s : List ℕ). set_of s c.args.from.now) (sym c.told.ensures.told) ∙ (sym c.contains.ensures ∙ c.if-contains.false))
-    (c.written_for.ensures ∙ ap (λ (s : List ℕ). unless_told (set_of s) (change_of c.in-Apply-2.change)) c.told-in-Apply-2.ensures.told))
+    (ap (λ (s : List ℕ). with_older s c.args.from.now) (sym c.told.ensures.told) ∙ (sym c.reaches.ensures ∙ c.if-reaches.false))
+    (c.written_for.ensures ∙ ap (λ (s : List ℕ). unless_told (with_older s) (change_of c.in-Apply-2.change)) c.told-in-Apply-2.ensures.told))
 
 pub returns-in-Down : goal.returns-in-Down
 returns-in-Down g c =

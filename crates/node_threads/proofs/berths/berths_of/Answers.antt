@@ -56,7 +56,7 @@ returns g c =
     let crew : IsCrew c.args.cluster.now c.args.lone.now (wired_of c.connect.new.berths) = record {
       names = names_all c.args.cluster.now c.args.lone.now c.args.opening.now c.requires.opens before c.connect.new.berths names same;
       wired = c.in_ok-connect.ensures.wired;
-      opens = opens_all c.args.cluster.now c.args.lone.now c.args.opening.now c.requires.opens before c.connect.new.berths names
+      opens = opens_all c.args.cluster.now c.args.lone.now c.args.opening.now c.requires.opens c.requires.first before c.connect.new.berths names
           c.in_ok-open_all-2.ensures.opened same;
     } in
     subst (λ (bs : List Berthed). IsCrew c.args.cluster.now c.args.lone.now (wired_of bs))

@@ -15,7 +15,7 @@ loop-node-preserved g c =
           ∙ ap (λ (l : List ℕ). l ++ name_of c.in_ok-open.field-0.wired ∷ []) c.loop-node.invariant.names
           ∙ append_assoc before (take c.loop-node.node-index c.args.nodes.now) (name_of c.in_ok-open.field-0.wired ∷ [])
           ∙ ap (λ (n : ℕ). before ++ (take c.loop-node.node-index c.args.nodes.now ++ n ∷ []))
-          (c.in_ok-open.ensures.name ∙ c.first-own.ensures ∙ c.copy.ensures ∙ c.node-item.is)
+          (c.in_ok-open.ensures.name ∙ c.first-own.ensures.node ∙ c.copy.ensures ∙ c.node-item.is)
           ∙ ap (λ (l : List ℕ). before ++ l)
           (sym (take_more c.args.nodes.now c.loop-node.node-index c.node-item.result c.loop-node-test.true));
       opened = All-same (IsOpened c.args.opening.now) c.push.new.self.items (c.loop-node.berths.items ++ c.in_ok-open.field-0 ∷ [])

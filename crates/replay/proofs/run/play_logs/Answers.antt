@@ -1,5 +1,5 @@
 use Rattle.std.proofs.Common.{◌≡◌, ◌∙◌, List, None, length, map, subst, ap, rules}
-use Rattle.cluster_world.specs.Seen.{opening_of}
+use Rattle.cluster_world.specs.Seen.{names_of}
 use Rattle.node_log.specs.Openings.{repeats}
 use Rattle.replay.specs.declared.merge.Reader.{Reader}
 use Rattle.replay.specs.Ends.{end_of, logs_of}
@@ -20,7 +20,7 @@ returns-in_default-clause-ok g c =
 pub returns-in_err-play_next-clause-stopped : goal.returns-in_err-play_next-clause-stopped
 returns-in_err-play_next-clause-stopped g c =
     let stop : StopsLogs c.in_err-play_next.field-0.0 (logs_of (map (end_of g.N.Names.contents) c.args.ends.now))
-    (opening_of c.args.world.now) =
+    (names_of c.args.world.now) =
     stuck_at (logs_of (map (end_of g.N.Names.contents) c.args.ends.now))
     (ap repeats (nodes_are g.N.Names.contents c.args.ends.now) ∙ c.requires.once) c.args.world.now
     c.loop-events.events c.loop-events.world c.loop-events.readers.items c.loop-events.invariant

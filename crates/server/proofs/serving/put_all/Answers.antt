@@ -6,7 +6,7 @@ pub loop-node-preserved : goal.loop-node-preserved
 loop-node-preserved c =
     gathers_next c.args.set.now c.args.nodes.now c.loop-node.set c.insert.new.self c.loop-node.node-index
     c.first.result c.insert.result c.loop-node-test.true
-    (c.first.ensures ∙ c.copy.ensures ∙ c.node-item.is
-    ∙ ap (λ (n : ℕ). get_or c.args.nodes.now c.loop-node.node-index n) (sym (c.first.ensures ∙ c.copy.ensures)))
+    (c.first.ensures.node ∙ c.copy.ensures ∙ c.node-item.is
+    ∙ ap (λ (n : ℕ). get_or c.args.nodes.now c.loop-node.node-index n) (sym (c.first.ensures.node ∙ c.copy.ensures)))
     c.insert.ensures.inserted c.insert.ensures.holds
     c.insert.ensures.refused c.loop-node.invariant

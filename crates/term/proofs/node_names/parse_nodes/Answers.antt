@@ -27,7 +27,7 @@ loop-part-preserved c =
     rw (c.is_err-is_over.ensures.value)
     (read_more _ _ c.args.text.now _ _ c.in-Some.part c.first.result _ _ _ c.insert.result c.loop-part.invariant
     c.in-Some.ensures.steps
-    (subst (SpellsNodeName c.in-Some.part.now) (sym c.first.ensures) c.in_ok-name.ensures) c.insert.ensures.inserted c.insert.ensures.set)
+    (subst (SpellsNodeName c.in-Some.part.now) (sym c.first.ensures.node) c.in_ok-name.ensures) c.insert.ensures.inserted c.insert.ensures.set)
 
 pub returns-then-is_over : goal.returns-then-is_over
 returns-then-is_over c =

@@ -1,21 +1,47 @@
-use Rattle.std.proofs.Common.{◌∙◌, Option, ap, sym}
-use Rattle.protocol_model.specs.Links.{posted}
-use Rattle.link.specs.Held.{seen}
-use Rattle.cluster_world.specs.Links.{Unsent, letters_to, with_unsent}
+use Rattle.std.proofs.Common.{ℕ, true, ◌≡◌, ◌∙◌, Some, ap, sym, subst}
+use Rattle.std.specs.List.{All}
+use Rattle.term.specs.NodeSets.{with_older}
+use Rattle.node_core.specs.declared.Letter.{Letter}
+use Rattle.cluster_world.specs.Links.{Unsent}
+use Rattle.cluster_world.specs.Mail.{Mailed, links_of}
+use Rattle.cluster_world.proofs.Mails.{links_drained, outbox_own}
 use Rattle.cluster_world.proofs.mail.Mail.drain.Goals as goal
+
+pub post-requires-clause-within : goal.post-requires-clause-within
+post-requires-clause-within c =
+    let v : Mailed = record {
+      nodes = c.self.inside.nodes;
+      departed = c.self.inside.departed;
+      mesh = c.self.inside.mesh;
+      unsent = c.self.inside.unsent;
+    } in
+    subst (λ (x : Unsent). All (λ (s : ℕ × Letter). with_older c.self.inside.nodes s.0 ≡ true) x.letters) (sym c.outbox.view_is)
+    (outbox_own v c.self.invariant c.in-Some.outbox (sym c.take.ensures.value ∙ c.in-Some.is)).letters
 
 pub returns-in-Some-unsent-clause-links : goal.returns-in-Some-unsent-clause-links
 returns-in-Some-unsent-clause-links c =
+    let v : Mailed = record {
+      nodes = c.self.inside.nodes;
+      departed = c.self.inside.departed;
+      mesh = c.self.inside.mesh;
+      unsent = c.self.inside.unsent;
+    } in
+    let x : Unsent = record { sender = c.outbox.inside.sender; letters = c.outbox.inside.letters.items } in
     c.post.ensures.links
-    ∙ ap (λ (u : Option Unsent). posted c.outbox.inside.sender (λ t. letters_to t c.outbox.inside.letters.items)
-    (with_unsent u (seen c.args.self.now.mesh))) c.take.ensures.after
-    ∙ ap (λ (u : Unsent). posted u.sender (λ t. letters_to t u.letters) (seen c.args.self.now.mesh)) c.outbox.view_is
-    ∙ ap (λ (u : Option Unsent). with_unsent u (seen c.args.self.now.mesh)) (sym c.in-Some.is ∙ c.take.ensures.value)
+    ∙ links_drained v c.take.new.self x c.take.ensures.after
+    (sym c.take.ensures.value ∙ c.in-Some.is ∙ ap Some (sym c.outbox.view_is))
+    ∙ ap (λ (h : Mailed). links_of h) c.self.view_is
 
 pub returns-clause-links : goal.returns-clause-links
 returns-clause-links c =
+    let v : Mailed = record {
+      nodes = c.self.inside.nodes;
+      departed = c.self.inside.departed;
+      mesh = c.self.inside.mesh;
+      unsent = c.self.inside.unsent;
+    } in
+    let x : Unsent = record { sender = c.outbox.inside.sender; letters = c.outbox.inside.letters.items } in
     c.post.ensures.links
-    ∙ ap (λ (u : Option Unsent). posted c.outbox.inside.sender (λ t. letters_to t c.outbox.inside.letters.items)
-    (with_unsent u (seen c.args.self.now.mesh))) c.take.ensures.after
-    ∙ ap (λ (u : Unsent). posted u.sender (λ t. letters_to t u.letters) (seen c.args.self.now.mesh)) c.outbox.view_is
-    ∙ ap (λ (u : Option Unsent). with_unsent u (seen c.args.self.now.mesh)) (sym c.in-Some.is ∙ c.take.ensures.value)
+    ∙ links_drained v c.take.new.self x c.take.ensures.after
+    (sym c.take.ensures.value ∙ c.in-Some.is ∙ ap Some (sym c.outbox.view_is))
+    ∙ ap (λ (h : Mailed). links_of h) c.self.view_is

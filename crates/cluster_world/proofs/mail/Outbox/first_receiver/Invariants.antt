@@ -1,7 +1,7 @@
 use Rattle.std.proofs.Common.{take}
-use Rattle.link.specs.Held.{seen}
+use Rattle.term.specs.NodeSets.{with_older}
 use Rattle.cluster_world.specs.Links.{IsLeastOpen}
 use Rattle.cluster_world.proofs.mail.Outbox.first_receiver.Given as goal
 
 abbrev pub invariant-loop-to : goal.invariant-loop-to
-invariant-loop-to l = IsLeastOpen (seen l.mesh).closed (take l.to-index l.to-items) l.first
+invariant-loop-to l = IsLeastOpen (with_older l.departed) (take l.to-index l.to-items) l.first

@@ -8,19 +8,19 @@ use Rattle.cluster_world.proofs.world.World.play.Goals as goal
 pub returns-in_err-place-clause-still_agrees : goal.returns-in_err-place-clause-still_agrees
 returns-in_err-place-clause-still_agrees g c =
     let p = err_from_is_err_and c.from_residual.result c.from_residual.ensures.1 in
-    rw p.1 (agrees_unchanged c.args.self.now c.args.self.now (record { nodes = refl; cluster = refl }) refl)
+    rw p.1 (agrees_unchanged c.args.self.now c.args.self.now (record { names = refl; cluster = refl }) refl)
 
 pub returns-in_err-place-clause-still_locks : goal.returns-in_err-place-clause-still_locks
 returns-in_err-place-clause-still_locks g c =
     let p = err_from_is_err_and c.from_residual.result c.from_residual.ensures.1 in
     rw p.1 (locks_behind [] [] c.args.self.now c.args.self.now
-    (agrees_unchanged c.args.self.now c.args.self.now (record { nodes = refl; cluster = refl }) refl))
+    (agrees_unchanged c.args.self.now c.args.self.now (record { names = refl; cluster = refl }) refl))
 
 pub returns-in_err-place-clause-still_leaves_nothing : goal.returns-in_err-place-clause-still_leaves_nothing
 returns-in_err-place-clause-still_leaves_nothing g c =
     let p = err_from_is_err_and c.from_residual.result c.from_residual.ensures.1 in
     rw p.1 (leaves_nothing [] [] c.args.self.now c.args.self.now
-    (agrees_unchanged c.args.self.now c.args.self.now (record { nodes = refl; cluster = refl }) refl))
+    (agrees_unchanged c.args.self.now c.args.self.now (record { names = refl; cluster = refl }) refl))
 
 pub returns-in_err-accept-clause-still_agrees : goal.returns-in_err-accept-clause-still_agrees
 returns-in_err-accept-clause-still_agrees g c =

@@ -8,7 +8,7 @@ pub returns-clause-agrees : goal.returns-clause-agrees
 returns-clause-agrees g c =
     agrees (take c.play_all.result.played c.args.events.now) c.play_all.result.answers.items c.args.self.now
     c.play_all.new.self
-    (record { nodes = c.play_all.ensures.nodes; cluster = c.play_all.ensures.cluster }) c.play_all.ensures.world
+    (record { names = c.play_all.ensures.names; cluster = c.play_all.ensures.cluster }) c.play_all.ensures.world
     c.play_all.ensures.answers
 
 pub returns-clause-locks : goal.returns-clause-locks

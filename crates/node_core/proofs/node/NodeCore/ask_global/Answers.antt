@@ -3,7 +3,11 @@ use Rattle.protocol_model.specs.Letter.{Global, Letter as AnyLetter}
 use Rattle.protocol_model.specs.Registrar.{registrar}
 use Rattle.node_core.specs.Held.{Held}
 use Rattle.node_core.proofs.Rounds.{asks_global}
+use Rattle.node_core.proofs.Whole.{whole_asking}
 use Rattle.node_core.proofs.node.NodeCore.ask_global.Goals as goal
+
+pub invariant_of-self : goal.invariant_of-self
+invariant_of-self g c = whole_asking _ c.begin.result c.self.invariant c.begin.ensures.nodes
 
 pub returns-clause-turn : goal.returns-clause-turn
 returns-clause-turn g c =

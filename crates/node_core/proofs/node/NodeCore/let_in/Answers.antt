@@ -1,9 +1,19 @@
-use Rattle.std.proofs.Common.{true, ◌≡◌, refl, ap, sym, subst}
+use Rattle.std.proofs.Common.{true, None, ◌≡◌, refl, ap, sym, subst}
 use Rattle.term.specs.NodeSets.{IsNodeSet, set_of}
-use Rattle.node_core.specs.Held.{Held}
+use Rattle.node_core.specs.Held.{Held, IsWithin}
 use Rattle.node_core.specs.Joining.{TellsToAdmit, Welcomes}
+use Rattle.node_core.proofs.Bounds.{of_world}
+use Rattle.node_core.proofs.Gone.{more_within}
 use Rattle.node_core.proofs.Joining.{lets_in}
+use Rattle.node_core.proofs.Whole.{whole_writing}
 use Rattle.node_core.proofs.node.NodeCore.let_in.Goals as goal
+
+pub invariant_of-self : goal.invariant_of-self
+invariant_of-self g c =
+    whole_writing _ c.await_from.new.self c.with_within.result c.args.asked None c.self.invariant c.await_from.ensures
+    (of_world c.self.inside.world c.with_within.result
+    (more_within c.self.inside.world c.self.inside.members c.with_within.result c.args.joiner c.with_within.ensures))
+    (subst (λ (h : Held). IsWithin h.world c.args.asked) (sym c.self.view_is) c.requires.within)
 
 pub returns-clause-turn : goal.returns-clause-turn
 returns-clause-turn g c = λ pairs admitting.

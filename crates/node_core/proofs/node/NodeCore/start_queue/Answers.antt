@@ -16,8 +16,8 @@ never b yes_ not_ = cc
 pub invariant_of-self-in_default : goal.invariant_of-self-in_default
 invariant_of-self-in_default g c = whole_started _ c.start.new.self c.self.invariant c.start.ensures.state
 
-pub invariant_of-self-then-not-contains : goal.invariant_of-self-then-not-contains
-invariant_of-self-then-not-contains g c = whole_started _ c.start.new.self c.self.invariant c.start.ensures.state
+pub invariant_of-self-then-not-reaches : goal.invariant_of-self-then-not-reaches
+invariant_of-self-then-not-reaches g c = whole_started _ c.start.new.self c.self.invariant c.start.ensures.state
 
 pub ask_join-requires-clause-within : goal.ask_join-requires-clause-within
 ask_join-requires-clause-within g c =
@@ -67,12 +67,12 @@ loop-self-preserved g c = record {
       (sym c.start.ensures.began ∙ c.loop-self-test.true)
       (sym c.in-Some-Join.ensures ∙ ap (λ (op : Op). Some op) (c.in-Some-Join.field-0-is
       ∙ ap (λ (m : ℕ). Join c.in-Some-Join.number m) (sym c.copy-contact.ensures)))
-      (sym c.contains.ensures ∙ c.if-not-contains.false) c.finish.ensures (reserved c.reserve.ensures.made
+      (sym c.reaches.ensures ∙ c.if-not-reaches.false) c.finish.ensures (reserved c.reserve.ensures.made
       c.contact_left.ensures.turn);
 }
 
-pub returns-then-not-contains-clause-turn : goal.returns-then-not-contains-clause-turn
-returns-then-not-contains-clause-turn g c =
+pub returns-then-not-reaches-clause-turn : goal.returns-then-not-reaches-clause-turn
+returns-then-not-reaches-clause-turn g c =
     on_ok_weaker c.ask_join.result
     (λ M. asks_at c.args.self.now _ c.args.turn.now c.loop-self.turn c.start.new.self
     (subst (λ (h : Held). IsAtQueue c.args.self.now c.args.turn.now h c.loop-self.turn) (sym c.self.view_is)
@@ -81,5 +81,5 @@ returns-then-not-contains-clause-turn g c =
     (sym c.start.ensures.began ∙ c.loop-self-test.true)
     (sym c.in-Some-Join.ensures ∙ ap (λ (op : Op). Some op) (c.in-Some-Join.field-0-is
     ∙ ap (λ (m : ℕ). Join c.in-Some-Join.number m) (sym c.copy-contact.ensures)))
-    (sym c.contains.ensures ∙ c.if-not-contains.true) M)
+    (sym c.reaches.ensures ∙ c.if-not-reaches.true) M)
     c.ask_join.ensures.turn

@@ -5,7 +5,7 @@ use Rattle.node_core.specs.Held.{Held}
 use Rattle.node_core.specs.Joining.{IsWelcomeTo}
 use Rattle.node_events.specs.Seen.{unnumbered}
 use Rattle.node_core.specs.Steps.{Makes}
-use Rattle.term.specs.NodeSets.{set_of}
+use Rattle.term.specs.NodeSets.{set_of, with_older}
 use Rattle.exchange.specs.Bodies.{fate_in}
 use Rattle.node_core.proofs.Joining.{arrives, welcomes}
 use Rattle.node_core.proofs.Rooms.{roomier}
@@ -17,7 +17,7 @@ returns-clause-turn g c = λ to.
     c.send.new.self c.args.from.now c.copy.result c.in-Some.number c.finish.new.self c.args.body.now c.answer.result
     unnumbered c.self.view_is c.in-Some.ensures.number c.finish.ensures
     (arrives _ c.move_in.new.self c.note.new.self c.args.turn.now (set_of c.args.body.now.members)
-    c.args.body.now.pairs.items (set_of c.args.body.now.told) (fate_in c.args.body.now)
+    c.args.body.now.pairs.items (with_older c.args.body.now.told) (fate_in c.args.body.now)
     (c.in_ok-move_in.ensures.turn c.args.turn.now
     (subst (λ (h : Held). IsWelcomeTo h.world h.name c.args.body.now) (sym c.self.view_is) to))
     (c.in_ok-note.ensures.turn c.args.turn.now (fate_in c.args.body.now) (sym c.as_slice.ensures.value)))

@@ -1,0 +1,25 @@
+-- A name comes back: what its next node takes over, which is its place alone.
+use Rattle.std.specs.Prelude.{ℕ, true, false, ◌≡◌, Option, None, Some, ◌<◌, List, Contains, if◌then◌else◌}
+use Rattle.term.specs.NodeSets.{set_of, with_older, succeeded}
+use Rattle.node_core.specs.Held.{Held as Core}
+use Rattle.cluster_world.specs.Held.{Held}
+
+-- a core takes the next node of a name in its world, unless its own node has left
+abbrev pub replaced_in : List ℕ → ℕ → ℕ → Core → Core
+replaced_in departed older next c =
+    if with_older departed c.name then c else record c { world = succeeded older next c.world }
+
+-- the core of a running node, which has the older node in its world, and was told that it has left
+abbrev pub CanReplace : List ℕ → ℕ → Core → Type 0
+CanReplace departed older c = with_older departed c.name ≡ false
+    → (set_of c.world older ≡ true) × (with_older c.told older ≡ true)
+
+-- the core of a running node wasn't told that a node has left
+abbrev pub IsUntold : ℕ → Held → Core → Type 0
+IsUntold gone h c = (with_older h.links.departed c.name ≡ false) × (with_older c.told gone ≡ false)
+
+-- the least node of such a core, if there is one
+abbrev pub IsFirstUntold : ℕ → Held → Option ℕ → Type 0
+IsFirstUntold gone h None = (c : Core) → Contains h.cores c → IsUntold gone h c → ⊥
+IsFirstUntold gone h (Some a) = (c : Core) × Contains h.cores c × (c.name ≡ a) × IsUntold gone h c
+    × ((d : Core) → Contains h.cores d → d.name < a → IsUntold gone h d → ⊥)
