@@ -1,8 +1,9 @@
 -- The core of a node, found by its name in a list of cores that has them in the order of their names.
 use Rattle.std.proofs.Common.{ℕ, zero, suc, Bool, true, false, ◌==◌, ◌≡◌, ◌<◌, Option, Some, None, List, [], ◌∷◌, length, get_or, set, map, refl, sym, ap, ◌∙◌, arith}
 use Rattle.std.specs.Prelude.{if◌then◌else◌, ◌||◌, find}
-use Rattle.std.specs.List.{list_any}
+use Rattle.std.specs.List.{All, list_any}
 use Rattle.std.proofs.lemmas.Bool.{eq-eqb, ne_eqb}
+use Rattle.std.proofs.lemmas.List.Elements.{All-head, All-tail}
 use Rattle.std.proofs.lemmas.List.Folds.{find_past}
 use Rattle.std.proofs.lemmas.List.Quantifiers.{position-Some}
 use Rattle.registry_model.proofs.Updates.{by_test}
@@ -77,3 +78,10 @@ module _ {C : Type 0} (name : C → ℕ) where
           ≡ None
       go true e more = cc
       go false e more = more e
+
+  -- nor has one that is none of them
+  pub not_among : (a : ℕ) (cs : List C) → All (λ c. name c ≡ a → ⊥) cs → core_of a cs ≡ None
+  not_among a [] none = refl
+  not_among a (c ∷ cs) none = ap (λ (b : Bool). if b then Some c else core_of a cs)
+      (ne_eqb (name c) a (All-head (λ (d : C). name d ≡ a → ⊥) c cs none))
+      ∙ not_among a cs (All-tail (λ (d : C). name d ≡ a → ⊥) c cs none)

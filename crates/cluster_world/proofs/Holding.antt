@@ -1,11 +1,10 @@
 -- Who holds the global lock, by what the cores say.
-use Rattle.std.proofs.Common.{ℕ, zero, suc, Bool, true, false, ◌==◌, ◌≡◌, ◌<◌, ◌≤◌, ◌+◌, Option, Some, None, List, [], ◌∷◌, length, get_or, map, refl, sym, ap, subst, ◌∙◌, arith, inl, inr}
+use Rattle.std.proofs.Common.{ℕ, zero, suc, Bool, true, false, ◌≡◌, ◌<◌, ◌≤◌, ◌+◌, Option, Some, None, List, [], ◌∷◌, length, get_or, map, refl, sym, ap, subst, ◌∙◌, arith, inl, inr}
 use Rattle.std.specs.Prelude.{if◌then◌else◌, not, nat_lt, ◌&&◌, find, option_map, Contains}
 use Rattle.std.specs.List.{All}
 use Rattle.std.specs.List.Sorted.{IsStrictlyIncreasing}
-use Rattle.std.proofs.lemmas.Bool.{cases_lt, ne_eqb, ltb-true, and_parts}
-use Rattle.std.proofs.lemmas.List.{length-map, get_or_default}
-use Rattle.std.proofs.lemmas.List.Elements.{All-head, All-tail}
+use Rattle.std.proofs.lemmas.Bool.{cases_lt, ltb-true, and_parts}
+use Rattle.std.proofs.lemmas.List.{get_or_default}
 use Rattle.registry_model.specs.Process.{nodes_of as all_below}
 use Rattle.registry_model.proofs.NodeLists.{are_nodes_below}
 use Rattle.protocol_model.specs.Node.{Node, holds_global}
@@ -16,14 +15,14 @@ use Rattle.term.proofs.NodeLists.{rising-tail}
 use Rattle.term.proofs.NodeSets.{rises}
 use Rattle.term.proofs.Older.{held}
 use Rattle.node_core.specs.Held.{Held as Core, HaveLeft}
-use Rattle.node_core.specs.Seen.{node_of}
 use Rattle.cluster_world.specs.Cores.{core_of}
 use Rattle.cluster_world.specs.Held.{Held, nodes_of}
 use Rattle.cluster_world.specs.Seen.{opening_of, or_else, node_with, seen, is_holding}
 use Rattle.cluster_world.specs.Whole.{IsWhole}
-use Rattle.cluster_world.proofs.Cores.{no_core}
+use Rattle.cluster_world.proofs.Cores.{no_core, not_among}
 use Rattle.cluster_world.proofs.Naming.{started_inside}
-use Rattle.cluster_world.proofs.Restarting.{core_seen, set_contains, contains_set}
+use Rattle.cluster_world.proofs.Succeeding.{contains_set}
+use Rattle.cluster_world.proofs.Untold.{core_seen}
 use Rattle.cluster_world.proofs.Steps.{core_name}
 
 -- nobody holds among the first i cores
@@ -94,15 +93,7 @@ found_same p xs ys R T there back = go (find p xs) (find p ys) refl refl
 -- no core was kept of a node that hasn't started
 none_kept : (nodes : List ℕ) (y : ℕ) (ps : List Core) → with_older nodes y ≡ false
     → All (λ c. (with_older nodes c.name ≡ true) × (set_of nodes c.name ≡ false)) ps → core_of y ps ≡ None
-none_kept nodes y [] e all = refl
-none_kept nodes y (p ∷ ps) e all =
-    ap (λ (t : Bool). if t then Some p else core_of y ps)
-    (ne_eqb p.name y (λ f. cc (
-      e,
-      (All-head (λ (c : Core). (with_older nodes c.name ≡ true) × (set_of nodes c.name ≡ false)) p ps all).0,
-      ap (with_older nodes) f,
-    )))
-    ∙ none_kept nodes y ps e (All-tail (λ (c : Core). (with_older nodes c.name ≡ true) × (set_of nodes c.name ≡ false)) p ps all)
+none_kept nodes y ps e all = not_among core_name y ps (λ k d l f. cc (e, (all k d l).0, ap (with_older nodes) f))
 
 module _ (h : Held) (whole : IsWhole h) (went : HaveLeft (nodes_of h) h.links.departed) where
   -- whether a node with this state holds, and has it left

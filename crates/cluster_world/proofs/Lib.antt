@@ -22,6 +22,8 @@ mod Taking
 mod Holding
 mod Deliveries
 mod Starting
+mod Untold
+mod Succeeding
 mod Restarting
 mod Returning
 mod Replaced

@@ -1,5 +1,5 @@
 -- The places of nodes in their list.
-use Rattle.std.proofs.Common.{ℕ, true, false, ◌==◌, ◌≡◌, ◌≤◌, Option, Some, None, List, length, sym, ap, ◌∙◌, arith}
+use Rattle.std.proofs.Common.{ℕ, true, false, ◌==◌, ◌≡◌, ◌≤◌, Some, None, List, length, sym, ap, ◌∙◌, arith}
 use Rattle.std.specs.List.{position_or_len}
 use Rattle.std.proofs.lemmas.Grind.{common_steps}
 use Rattle.std.proofs.lemmas.List.{get_or_default}

@@ -21,8 +21,7 @@ use Rattle.link.specs.Reopening.{reopened}
 use Rattle.link.proofs.Places.{queue-stranger}
 use Rattle.node_core.specs.declared.Letter.{Letter}
 use Rattle.node_core.specs.Held.{HaveLeft, IsNext}
-use Rattle.node_core.proofs.Gone.{one_way, stands}
-use Rattle.node_core.proofs.Replacing.{not_yet}
+use Rattle.node_core.proofs.Gone.{one_way}
 use Rattle.cluster_world.specs.Links.{SentLetter, Unsent, IsFirstSender, WaitsFirst}
 use Rattle.cluster_world.specs.Mail.{Mailed, IsSound, AreOwn, letters_of, on_links}
 use Rattle.cluster_world.proofs.Listed.{no_place}

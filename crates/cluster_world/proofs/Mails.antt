@@ -1,5 +1,5 @@
 -- What a mail is behind each of its steps.
-use Rattle.std.proofs.Common.{ℕ, Bool, true, false, ◌≡◌, ◌<◌, Option, Some, None, List, [], ◌∷◌, length, map, refl, sym, ap, subst, ◌∙◌, inl, inr}
+use Rattle.std.proofs.Common.{ℕ, true, false, ◌≡◌, ◌<◌, Option, Some, None, List, [], ◌∷◌, length, map, refl, sym, ap, subst, ◌∙◌, inl, inr}
 use Rattle.std.specs.Prelude.{◌&&◌, ◌||◌, slice_get, Result, OnOk, IfErr, IfSome, if◌then◌else◌, ◌==◌}
 use Rattle.std.specs.Option.{option_map}
 use Rattle.std.specs.List.{All}
@@ -16,13 +16,13 @@ use Rattle.link.specs.Faults.{IsStranger, IsUndelivered}
 use Rattle.link.specs.Held.{Held as Mesh, only_to, place, node_at, seen as on_mesh}
 use Rattle.link.specs.Reopening.{reopened}
 use Rattle.node_core.specs.declared.Letter.{Letter}
-use Rattle.node_core.specs.Held.{HaveLeft, IsNext}
+use Rattle.node_core.specs.Held.{IsNext}
 use Rattle.node_core.proofs.Gone.{stands, told_is, left_too}
 use Rattle.node_core.proofs.Replacing.{left_then}
 use Rattle.cluster_world.specs.Links.{SentLetter, Unsent, letters_to, rest_as, earlier, with_unsent, IsFirstSender, IsLeastOpen, WaitsFirst}
 use Rattle.cluster_world.specs.Mail.{Mailed, IsSound, AreOwn, on_links, links_of}
 use Rattle.cluster_world.proofs.Mailing.{Fits, IsOf, by_nodes, nothing_at, oldest_first, sender_started, fits_of, sound_of, fits_posted, posted_by, fits_taken, taken_by, fits_closed, closed_by, fits_reopened, reopened_by, delivered, known_so, front_of}
-use Rattle.cluster_world.proofs.Outboxes.{closed_as, closed_behind, first_still, first_unsent, none_unsent, waits_with, rest_own, rest_posts, shut_posts}
+use Rattle.cluster_world.proofs.Outboxes.{closed_as, closed_behind, first_still, first_unsent, none_unsent, waits_with, rest_posts, shut_posts}
 use Rattle.cluster_world.proofs.Posting.{posted-cons}
 
 module _ (h : Mailed) (sound : IsSound h) where
@@ -184,17 +184,6 @@ module _ (h : Mailed) (sound : IsSound h) where
       (waits_with h.nodes h.departed sound.left (on_links h)
       (sender_started h.nodes h.departed (on_mesh h.mesh) sound.left (fits_of h sound)) u
       (subst (λ (o : Option Unsent). IfSome o (AreOwn h.nodes)) all sound.own) first r on least)
-
-  -- the letters that are left are those of an outbox
-  pub sound_left : (a : ℕ) (ls : List (ℕ × Letter)) (u : Option Unsent) → u ≡ rest_as a ls → set_of h.nodes a ≡ true
-      → All (λ (s : ℕ × Letter). with_older h.nodes s.0 ≡ true) ls → IsSound (record h { unsent = u })
-  sound_left a ls u is here within = sound_of h.nodes h.departed h.mesh u sound.left sound.names (fits_of h sound)
-      (subst (λ (o : Option Unsent). IfSome o (AreOwn h.nodes)) (sym is) (rest_own h.nodes a ls here within))
-
-  -- none is left
-  pub sound_drained : (u : Option Unsent) → u ≡ None → IsSound (record h { unsent = u })
-  sound_drained u none = sound_of h.nodes h.departed h.mesh u sound.left sound.names (fits_of h sound)
-      (subst (λ (o : Option Unsent). IfSome o (AreOwn h.nodes)) (sym none) tt)
 
 -- the same of the letter that was found at the front
 pub letter_found : (h : Mailed) → IsSound h → (f t y z : ℕ) → y ≡ name_of f → z ≡ name_of t → set_of h.nodes t ≡ true → h.unsent ≡ None

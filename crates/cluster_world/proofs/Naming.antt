@@ -1,16 +1,16 @@
 -- Nodes at present, one of each name, and the world of all creations of their names.
-use Rattle.std.proofs.Common.{ℕ, Bool, true, false, ◌==◌, ◌≡◌, ◌<◌, ◌≤◌, ◌+◌, ◌-◌, ◌*◌, ◌^◌, ◌⊎◌, Option, Some, None, List, [], ◌∷◌, inl, inr, refl, sym, ap, subst, ◌∙◌, arith}
+use Rattle.std.proofs.Common.{ℕ, Bool, true, false, ◌==◌, ◌≡◌, ◌<◌, ◌≤◌, ◌+◌, ◌-◌, ◌*◌, ◌^◌, Option, Some, List, [], ◌∷◌, inl, inr, refl, sym, ap, ◌∙◌, arith}
 use Rattle.std.specs.Prelude.{find, max, nat_lt, not, ◌&&◌, ◌||◌, if◌then◌else◌}
 use Rattle.std.proofs.Math.Path.{fun_ext}
 use Rattle.std.proofs.Math.Bool.{and-false}
-use Rattle.std.proofs.lemmas.Bool.{cases_eq, cases_lt, eq-eqb, ne_eqb, eqb-true, lt-ltb, le-ltb, or_cases, or_left, or_right, and_from, false_from_ne_true, not-true}
+use Rattle.std.proofs.lemmas.Bool.{cases_eq, cases_lt, eq-eqb, ne_eqb, eqb-true, lt-ltb, le-ltb, or_cases, or_left, or_right, false_from_ne_true}
 use Rattle.registry_model.proofs.Updates.{by_test}
-use Rattle.protocol_model.specs.World.{in_world, left}
-use Rattle.creations.specs.NodeNames.{NamedOpening, is_name, span, opening_of as all_creations}
-use Rattle.creations.specs.NamedWorld.{NamedWorld, present_node, has_started}
+use Rattle.protocol_model.specs.World.{in_world}
+use Rattle.creations.specs.NodeNames.{is_name, span, opening_of as all_creations}
+use Rattle.creations.specs.NamedWorld.{present_node, has_started}
 use Rattle.creations.specs.Restarts.{IsUp, IsReplaced}
 use Rattle.creations.proofs.Numbers.{inside-name}
-use Rattle.creations.proofs.Standing.{started_from, started_to}
+use Rattle.creations.proofs.Standing.{started_from}
 use Rattle.registry_model.specs.Process.{at}
 use Rattle.term.specs.Nodes.{text_in, name_of, creation_of, first_node}
 use Rattle.term.specs.NodeSets.{set_of, names_in, with_older, succeeded}

@@ -1,14 +1,13 @@
 -- Letters that aren't on their links yet, beside those that are.
 use Rattle.std.proofs.Common.{ℕ, Bool, true, false, ◌==◌, ◌≡◌, ◌<◌, ◌≤◌, Option, Some, None, List, [], ◌∷◌, ◌++◌, map, refl, sym, ap, subst, ◌∙◌, inl, inr, arith}
 use Rattle.std.specs.Prelude.{if◌then◌else◌, not, nat_lt, nat_le, filter, ◌&&◌, ◌||◌, ◌⊎◌, IfSome}
-use Rattle.std.specs.List.{All}
 use Rattle.std.proofs.Math.Path.{fun_ext}
 use Rattle.std.proofs.lemmas.Bool.{cases_eq, eq-eqb, eqb-true, eqb-false, ne_eqb, ltb-true, ltb-false, leb-true, leb-false, or_cases, and_parts, false≢true}
 use Rattle.std.proofs.lemmas.List.{append-nil}
 use Rattle.registry_model.specs.Process.{Nodes}
 use Rattle.protocol_model.specs.Links.{Links, is_nil, posted, closed_out}
 use Rattle.term.specs.Nodes.{name_of}
-use Rattle.term.specs.NodeSets.{set_of, with_older}
+use Rattle.term.specs.NodeSets.{with_older}
 use Rattle.link.specs.Held.{only_to}
 use Rattle.node_core.specs.declared.Letter.{Letter}
 use Rattle.node_core.specs.Held.{HaveLeft}
@@ -35,16 +34,6 @@ closed_behind (Some u) d w = ap (λ (q : ℕ → ℕ → List Letter). record (c
     go x y true true = refl
     go x y true false = refl
     go x y false a = refl
-
--- a letter is put back in front of the others: what they are, posted on links that stayed, is what all of them are
-pub put_back : (a r : ℕ) (l k : Letter) (qs ls rest : List (ℕ × Letter)) (m w all : Links Letter)
-    → qs ≡ (r, k) ∷ rest → k ≡ l → ls ≡ (r, l) ∷ rest → m ≡ w
-    → posted a (λ t. letters_to t ls) w ≡ all → posted a (λ t. letters_to t qs) m ≡ all
-put_back a r l k qs ls rest m w all put same were stayed posts =
-    ap (λ (v : Links Letter). posted a (λ t. letters_to t qs) v) stayed
-    ∙ ap (λ (ss : List (ℕ × Letter)). posted a (λ t. letters_to t ss) w)
-    (put ∙ ap (λ (y : Letter). (r, y) ∷ rest) same ∙ sym were)
-    ∙ posts
 
 -- the letters of one more behind
 letters_to-push : (t : ℕ) (ss : List (ℕ × Letter)) (s : ℕ × Letter) → letters_to t (ss ++ s ∷ [])
@@ -155,12 +144,6 @@ pub rest_posts : (a : ℕ) (ls : List (ℕ × Letter)) (w : Links Letter)
     → with_unsent (rest_as a ls) w ≡ posted a (λ t. letters_to t ls) w
 rest_posts a [] w = sym (posted-nothing a w)
 rest_posts a (l ∷ ls) w = refl
-
--- of a node at present, if they go to nodes that have started
-pub rest_own : (nodes : List ℕ) (a : ℕ) (ls : List (ℕ × Letter)) → set_of nodes a ≡ true
-    → All (λ (s : ℕ × Letter). with_older nodes s.0 ≡ true) ls → IfSome (rest_as a ls) (AreOwn nodes)
-rest_own nodes a [] here all = tt
-rest_own nodes a (l ∷ ls) here all = record { sender = here; letters = all }
 
 -- a letter for one that has left posts nothing
 pub shut_posts : (a : ℕ) (s : ℕ × Letter) (ss : List (ℕ × Letter)) (w : Links Letter) → w.closed s.0 ≡ true

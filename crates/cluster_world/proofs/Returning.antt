@@ -12,13 +12,13 @@ use Rattle.world_events.specs.declared.events.WorldEvent.{WorldEvent}
 use Rattle.world_history.specs.declared.entry.HistoryEntry.{HistoryEntry}
 use Rattle.cluster_world.specs.Held.{Held, nodes_of}
 use Rattle.cluster_world.specs.Mail.{Mailed, links_of}
-use Rattle.cluster_world.specs.Playing.{Keeps, Played}
+use Rattle.cluster_world.specs.Playing.{Played}
 use Rattle.cluster_world.specs.Restarting.{replaced_in, CanReplace}
-use Rattle.cluster_world.specs.Seen.{names_of}
 use Rattle.cluster_world.specs.Steps.{IsAdmitted}
 use Rattle.cluster_world.specs.Whole.{IsWhole}
 use Rattle.cluster_world.proofs.Listed.{known_place}
-use Rattle.cluster_world.proofs.Restarting.{gone_then, further, next_named, not_left, there_now, can_replace, unanswered, comes_back, names_back, whole_back}
+use Rattle.cluster_world.proofs.Restarting.{gone_then, further, next_named, can_replace, unanswered, comes_back, names_back, whole_back}
+use Rattle.cluster_world.proofs.Succeeding.{not_left, there_now}
 use Rattle.cluster_world.proofs.Steps.{core_name}
 
 -- what was written through a slice of all is all there is
@@ -153,14 +153,6 @@ module _ (old h : Held) (is_old : h ≡ old) (whole : IsWhole h) (went : HaveLef
       pub restarted_whole : IsWhole behind
       restarted_whole = whole_back h whole went a x p there own here.accepted cores past links history core (get_or cs p fresh) is
           made past_is was nodes_so left_are linked entered_so
-
-      names_then : names_of behind ≡ names_of old
-      names_then = names_back h whole went a x p there own here.accepted cores past links history core (get_or cs p fresh) is made
-          past_is was nodes_so left_are linked entered_so
-          ∙ ap names_of is_old
-
-      pub restarted_keeps : Keeps old behind
-      restarted_keeps = record { names = names_then; cluster = ap (λ (k : Held). k.cluster) is_old }
 
       pub restarted_played : Played (WorldEvent.Restart x) old behind [] []
       restarted_played = subst (λ (k : Held). Played (WorldEvent.Restart x) k behind [] []) is_old (record {

@@ -11,7 +11,7 @@ use Rattle.registry_model.specs.Table.{without}
 use Rattle.protocol_model.specs.Letter.{Letter as AnyLetter}
 use Rattle.protocol_model.specs.Links.{Links, no_letters}
 use Rattle.protocol_model.specs.Node.{Node, opening_node}
-use Rattle.protocol_model.specs.World.{Opening, World, in_world, in_cluster}
+use Rattle.protocol_model.specs.World.{Opening, in_world, in_cluster}
 use Rattle.creations.specs.NodeNames.{opening_of as all_creations}
 use Rattle.creations.specs.NamedWorld.{NamedWorld, opening_named}
 use Rattle.term.specs.Nodes.{IsFirst, text_in, name_of, creation_of}
@@ -20,12 +20,11 @@ use Rattle.term.proofs.Older.{held}
 use Rattle.boss_order.proofs.Sets.{set_of-item}
 use Rattle.node_core.specs.declared.Letter.{Letter}
 use Rattle.node_core.specs.Held.{Held as Core, AreOf, fresh}
-use Rattle.node_core.specs.Letters.{letter_of}
 use Rattle.node_core.specs.Seen.{node_of}
 use Rattle.node_core.specs.Steps.{IsSaidBy}
 use Rattle.cluster_world.specs.Links.{AreFit}
 use Rattle.cluster_world.specs.Mail.{Mailed, links_of}
-use Rattle.cluster_world.specs.Held.{Held, nodes_of}
+use Rattle.cluster_world.specs.Held.{Held}
 use Rattle.cluster_world.specs.Whole.{IsWhole}
 use Rattle.world_history.specs.declared.entry.HistoryEntry.{HistoryEntry}
 use Rattle.world_history.specs.Histories.{entries_of}

@@ -1,12 +1,8 @@
 -- What a world holds.
-use Rattle.std.specs.Prelude.{ℕ, true, false, ◌≡◌, List, map}
-use Rattle.std.specs.List.{All}
-use Rattle.term.specs.Nodes.{IsFirst}
-use Rattle.term.specs.NodeSets.{IsNodeSet, set_of, with_older}
+use Rattle.std.specs.Prelude.{ℕ, List}
 use Rattle.node_core.specs.Held.{Held as Core}
 use Rattle.world_history.specs.declared.entry.HistoryEntry.{HistoryEntry}
-use Rattle.cluster_world.specs.Mail.{Mailed, links_of}
-use Rattle.cluster_world.specs.Links.{AreFit}
+use Rattle.cluster_world.specs.Mail.{Mailed}
 
 pub record Held : Type 0 where
   pub cluster : List ℕ  -- the nodes that were joined at first, rising

@@ -1,5 +1,5 @@
 -- What is on the links of a world, and what was sent and isn't there yet.
-use Rattle.std.specs.Prelude.{ℕ, true, false, ◌==◌, ◌≡◌, ◌≤◌, Option, List, [], map, filter, AllPairs, IfSome, if◌then◌else◌}
+use Rattle.std.specs.Prelude.{ℕ, true, ◌==◌, ◌≡◌, ◌≤◌, Option, List, [], map, filter, AllPairs, IfSome, if◌then◌else◌}
 use Rattle.std.specs.List.{All}
 use Rattle.protocol_model.specs.Links.{Links}
 use Rattle.term.specs.Nodes.{name_of}

@@ -1,5 +1,5 @@
 -- What is held, seen as the protocol's world of named nodes.
-use Rattle.std.specs.Prelude.{ℕ, Bool, not, ◌&&◌, ◌||◌, Option, Some, None, List, [], ◌∷◌, map, if◌then◌else◌}
+use Rattle.std.specs.Prelude.{ℕ, Bool, not, ◌&&◌, Option, Some, None, List, [], ◌∷◌, map, if◌then◌else◌}
 use Rattle.protocol_model.specs.Letter.{Letter as AnyLetter}
 use Rattle.protocol_model.specs.Links.{Links}
 use Rattle.protocol_model.specs.Node.{Node, opening_node, holds_global}

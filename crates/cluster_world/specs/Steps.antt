@@ -1,9 +1,7 @@
 -- The step of one node within its world.
-use Rattle.std.specs.Prelude.{ℕ, false, true, ◌≡◌, ◌≤◌, Some, None, List, length, slice_index_or}
-use Rattle.protocol_model.specs.World.{left}
+use Rattle.std.specs.Prelude.{ℕ, ◌≡◌, ◌≤◌, Some, None, List, length, slice_index_or}
 use Rattle.creations.specs.NamedWorld.{named_refusal}
 use Rattle.term.specs.Nodes.{name_of}
-use Rattle.term.specs.NodeSets.{set_of}
 use Rattle.link.specs.Held.{place}
 use Rattle.node_core.specs.declared.Answer.{Answer}
 use Rattle.node_core.specs.Held.{Held as Core}

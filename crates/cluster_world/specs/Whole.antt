@@ -1,5 +1,5 @@
 -- What holds of a world at any time.
-use Rattle.std.specs.Prelude.{ℕ, true, false, ◌≡◌, List, map}
+use Rattle.std.specs.Prelude.{true, false, ◌≡◌, List, map}
 use Rattle.std.specs.List.{All}
 use Rattle.term.specs.Nodes.{IsFirst}
 use Rattle.term.specs.NodeSets.{IsNodeSet, set_of, with_older}

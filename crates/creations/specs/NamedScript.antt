@@ -1,8 +1,7 @@
 -- Scripts on worlds of named nodes: lines that are played one after the other, and what the world prints for each.
 use Rattle.std.specs.Prelude.{ℕ, zero, suc, not, Option, Some, None, is_none, map, find, flat_map, List, [], ◌∷◌, ◌++◌, if◌then◌else◌}
 use Rattle.registry_model.specs.Process.{nodes_of}
-use Rattle.registry_model.specs.Table.{Table}
-use Rattle.protocol_model.specs.Event.{Event, Answer, NoSuchNode, NodeLeft}
+use Rattle.protocol_model.specs.Event.{Event, NoSuchNode, NodeLeft}
 use Rattle.protocol_model.specs.World.{left, WorldEvent, all_answers}
 pub use Rattle.protocol_model.specs.NamedEvents.{NamedLine, Play, Settle, TableAt, MembersAt, NamedOutput, Said, Okay, Started, Error, Settled, SettleLimit, TableIs, MembersAre}
 use Rattle.creations.specs.NodeNames.{NamedOpening, is_name, opening_of}

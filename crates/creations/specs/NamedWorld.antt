@@ -3,7 +3,7 @@
 -- x and y are node names, n, f and t nodes, e is an event.
 use Rattle.std.specs.Prelude.{ℕ, not, ◌≡◌, ◌+◌, nat_lt, Option, Some, None, is_none, option_map, find, filter, map, flat_map, fold, List, [], ◌∷◌, ◌++◌, if◌then◌else◌}
 use Rattle.registry_model.specs.Process.{Nodes, at, nodes_of}
-use Rattle.protocol_model.specs.Event.{Event, Answer, Refusal, NoSuchNode}
+use Rattle.protocol_model.specs.Event.{Event, Answer, NoSuchNode}
 use Rattle.protocol_model.specs.Links.{is_nil}
 use Rattle.protocol_model.specs.World.{World, left, WorldEvent, other, opening_world, refusal, run, all_answers}
 use Rattle.protocol_model.specs.Course.{is_down_first}

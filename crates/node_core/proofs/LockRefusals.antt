@@ -4,7 +4,7 @@ use Rattle.std.specs.Prelude.{not, if◌then◌else◌, is_some}
 use Rattle.std.specs.Bool.{then_some}
 use Rattle.std.specs.Option.{option_or, option_map, option_copied}
 use Rattle.registry_model.specs.Process.{Text, Process}
-use Rattle.protocol_model.specs.Event.{Refusal, Cause, cause, first_cause, lock_causes, global_resource}
+use Rattle.protocol_model.specs.Event.{Refusal, Cause, first_cause, lock_causes, global_resource}
 use Rattle.protocol_model.specs.Event as refused
 use Rattle.protocol_model.specs.Node.{call_of}
 use Rattle.protocol_model.specs.Watch.{is_live}

@@ -1,5 +1,5 @@
 -- Consistent ends are never torn.
-use Rattle.std.proofs.Common.{ℕ, zero, suc, Bool, true, false, ◌==◌, ◌≡◌, ◌<◌, ◌≤◌, inl, inr, Option, Some, None, List, [], ◌∷◌, ◌++◌, length, map, filter, refl, sym, ap, subst, ◌∙◌, arith, get_or}
+use Rattle.std.proofs.Common.{ℕ, zero, suc, Bool, true, false, ◌==◌, ◌≡◌, inl, inr, Option, Some, None, List, [], ◌∷◌, ◌++◌, length, map, filter, refl, sym, ap, subst, ◌∙◌}
 use Rattle.std.specs.Prelude.{if◌then◌else◌, ◌||◌, ◌&&◌, not, nat_lt, All}
 use Rattle.std.specs.List.{slice_get, list_all}
 use Rattle.std.specs.Option.{option_map}
@@ -57,7 +57,8 @@ steps_seen a (s ∷ ss) = go (s.node == a) (steps_seen a ss)
   where
     go : (b : Bool) → alone.steps_of a (map seen_step ss) ≡ map seen_entry (steps_of a ss)
         → map (λ (r : alone.Step). r.entry)
-        (if b then seen_step s ∷ filter (λ (r : alone.Step). r.node == a) (map seen_step ss) else filter (λ (r : alone.Step). r.node == a) (map seen_step ss))
+        (if b then seen_step s ∷ filter (λ (r : alone.Step). r.node == a) (map seen_step ss) else filter
+        (λ (r : alone.Step). r.node == a) (map seen_step ss))
         ≡ map seen_entry (map (λ (r : Step). r.entry)
         (if b then s ∷ filter (λ (r : Step). r.node == a) ss else filter (λ (r : Step). r.node == a) ss))
     go true h = ap (λ (es : List Alone). seen_entry s.entry ∷ es) h
@@ -85,7 +86,8 @@ is_next_seen logs ss s N = record {
         → alone.is_before t (seen_step s) ≡ false
     go t None is e = cc
     go t (Some x) is e =
-        ap (λ (d : Alone). alone.is_before (record { node = t.node; entry = d }) (seen_step s)) (sym (some_one (seen_entry x) t.entry e))
+        ap (λ (d : Alone). alone.is_before (record { node = t.node; entry = d }) (seen_step s))
+        (sym (some_one (seen_entry x) t.entry e))
         ∙ N.least (record { node = t.node; entry = x }) is
 
 -- and which came next
@@ -215,7 +217,8 @@ module _ (cluster lone : List ℕ) (first : All IsFirst (cluster ++ lone)) (ends
   o = first_opening names
 
   consistent : ConsistentEnds o logs C.tables
-  consistent = subst (λ (p : Opening). ConsistentEnds p logs C.tables) (sym (first_is (cluster ++ lone) cluster first (All-first IsFirst cluster lone first))) C.consistent
+  consistent = subst (λ (p : Opening). ConsistentEnds p logs C.tables) (sym
+      (first_is (cluster ++ lone) cluster first (All-first IsFirst cluster lone first))) C.consistent
 
   -- the world of first nodes takes the steps that come next
   all_taken : (before ss : List alone.Step) → alone.AreNext logs [] before → alone.AreNext logs before ss
@@ -233,7 +236,8 @@ module _ (cluster lone : List ℕ) (first : All IsFirst (cluster ++ lone)) (ends
     alike = nobody_came_back names (alone.events_in (map seen_step ss)) (all_first names (opening_world o) (map seen_step ss) T)
 
     world_same : world_behind names ss ≡ named_world names (alone.events_in (map seen_step ss))
-    world_same = ap (λ (es : List NamedEvent). run_named names (opening_named names) es) (events_same (cluster ++ lone) cluster (opening_world o) ss T)
+    world_same = ap (λ (es : List NamedEvent). run_named names (opening_named names) es)
+        (events_same (cluster ++ lone) cluster (opening_world o) ss T)
 
     takes_same : (s : Step) → alone.Takes o (alone.world_behind o (map seen_step ss)) (seen_step s) → Takes names (world_behind names ss) s
     takes_same s t = record {
@@ -281,7 +285,8 @@ module _ (cluster lone : List ℕ) (first : All IsFirst (cluster ++ lone)) (ends
       L = H.other.least
 
       plays : PlaysToEnd o C.tables (map seen_step H.steps)
-      plays = consistent_ends_play o logs C.tables (map seen_step H.steps) consistent (merged_seen (logs_of ends) H.steps H.out.merged)
+      plays = consistent_ends_play o logs C.tables (map seen_step H.steps) consistent
+          (merged_seen (logs_of ends) H.steps H.out.merged)
 
 -- so the run isn't torn
 pub never_torn : (cluster lone : List ℕ) (ends : List End) (ts : List Transcript) (fault : CloseFault) → All IsFirst (cluster ++ lone)

@@ -1,6 +1,6 @@
 -- Worlds in which no name has come back: their nodes are the first ones of their names.
-use Rattle.std.proofs.Common.{ℕ, Bool, true, false, ◌==◌, ◌≡◌, ◌<◌, ◌≤◌, ◌+◌, ◌*◌, ◌%◌, ◌^◌, inl, inr, Option, Some, None, List, [], ◌∷◌, ◌++◌, length, refl, sym, ap, subst, ◌∙◌, arith, get_or}
-use Rattle.std.specs.Prelude.{◌&&◌, ◌||◌, not, All, find, if◌then◌else◌}
+use Rattle.std.proofs.Common.{ℕ, Bool, true, false, ◌==◌, ◌≡◌, ◌<◌, ◌≤◌, inl, inr, Option, Some, None, List, [], ◌∷◌, ◌++◌, refl, sym, ap, subst, ◌∙◌, arith, get_or}
+use Rattle.std.specs.Prelude.{◌&&◌, ◌||◌, All, find, if◌then◌else◌}
 use Rattle.std.specs.List.{list_any}
 use Rattle.std.proofs.Math.Path.{fun_ext}
 use Rattle.std.proofs.Math.Bool.{and-false, and-true, or-true}
@@ -8,10 +8,8 @@ use Rattle.std.proofs.lemmas.Bool.{eq-eqb, eqb-true, ne_eqb, cases_eq}
 use Rattle.std.proofs.lemmas.List.Elements.{All-head, All-tail}
 use Rattle.std.proofs.lemmas.Option.{slice_get-get_or}
 use Rattle.registry_model.specs.Process.{Nodes}
-use Rattle.protocol_model.specs.Event.{Event, Answer}
-use Rattle.protocol_model.specs.World.{Opening}
-use Rattle.cluster_world.specs.NodeNames.{NamedOpening, opening_of as all_creations}
-use Rattle.cluster_world.specs.NamedWorld.{NamedWorld, NamedEvent, opening_named, named_refusal, happens_named, run_named}
+use Rattle.cluster_world.specs.NodeNames.{NamedOpening}
+use Rattle.cluster_world.specs.NamedWorld.{NamedWorld, named_refusal, happens_named, run_named}
 use Rattle.cluster_world.specs.NobodyBack.{first_opening}
 use Rattle.term.specs.Nodes.{IsFirst, name_of, text_in, creation_of}
 use Rattle.term.specs.NodeSets.{set_of, names_in}

@@ -108,14 +108,16 @@ module _ (logs : List Logged) (once : repeats (map (λ (l : Logged). l.node) log
   -- the stamp of what a reader has next rises behind these steps, where it rises in the log that it reads
   rising : (k : ℕ) (r : Reader) (e : Entry) → slice_get rs k ≡ Some r
       → RisesBehind logs S.steps (step_of r e) ≡ Rises r.log.now.entries r.at
-  rising k r e h = ap (λ (es : List Entry). Rises es (length (steps_of r.log.now.node S.steps))) (own_log logs once S.steps rs S.stand k r h)
+  rising k r e h = ap (λ (es : List Entry). Rises es (length (steps_of r.log.now.node S.steps)))
+      (own_log logs once S.steps rs S.stand k r h)
       ∙ ap (Rises r.log.now.entries) (sym (S.stand.at k r h))
 
   -- the step that came next was played
   pub played_next : (k : ℕ) (L : IsLeastOther (λ (r : Reader). head_of r ≡ None) goes_first rs (length rs) k) (e : Entry) (new : Held)
       → head_of L.item ≡ Some e → MovesReader L.item mid new
       → SoFar logs old (events + 1) new (set rs k (record L.item { at = L.item.at + 1 }))
-  played_next k L e new h M = so_far_more logs old mid new events rs (set rs k (record L.item { at = L.item.at + 1 })) S (step_of L.item e)
+  played_next k L e new h M = so_far_more logs old mid new events rs (set rs k (record L.item { at = L.item.at + 1 })) S
+      (step_of L.item e)
       (comes_next logs once S.steps rs S.stand k L e h)
       (subst (λ (T : Type 0). T) (sym (rising k L.item e L.here)) (M e h).0) (M e h).1
       (read_on logs once S.steps rs S.stand k L.item e L.here)
@@ -132,7 +134,8 @@ module _ (logs : List Logged) (once : repeats (map (λ (l : Logged). l.node) log
     place = h.1 ∙ S.stand.at k L.item L.here ∙ ap (λ (c : ℕ). length (steps_of c S.steps)) (sym h.0);
     refused = λ up takes. h.4 (subst (λ (T : Type 0). T) (rising k L.item h.2 L.here) up)
         (subst (λ (w : NamedWorld). Takes (names_of mid) w (step_of L.item h.2)) (sym (behind logs old events mid rs S))
-        (subst (λ (o : NamedOpening). Takes o (world_behind (names_of old) S.steps) (step_of L.item h.2)) (sym S.kept.names) takes));
+        (subst (λ (o : NamedOpening). Takes o (world_behind (names_of old) S.steps) (step_of L.item h.2)) (sym S.kept.names)
+        takes));
   }
   stuck_next (LeftInHold a) k L h = h
   stuck_next (Stranger seat) k L h = h

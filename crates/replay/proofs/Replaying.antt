@@ -9,7 +9,7 @@ use Rattle.term.specs.NodeSets.{set_of}
 use Rattle.cluster_world.proofs.Leftovers.{nothing_left}
 use Rattle.cluster_world.specs.Held.{Held, nodes_of}
 use Rattle.cluster_world.specs.Playing.{Keeps}
-use Rattle.cluster_world.specs.Seen.{names_of, opening_of, seen, named}
+use Rattle.cluster_world.specs.Seen.{names_of, opening_of, seen}
 use Rattle.node_log.specs.Openings.{repeats}
 use Rattle.cluster_world.specs.Agreeing.{AgreesAfter}
 use Rattle.cluster_world.specs.Locks.{LocksAfter}

@@ -17,4 +17,4 @@ mod ExactRules
 pub mod Serials
 pub mod Texts
 pub mod Subsets
-mod Succeeded
+pub mod Succeeded

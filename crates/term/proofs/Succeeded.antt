@@ -15,7 +15,7 @@ abbrev pub next_of : ℕ → ℕ → ℕ → ℕ
 next_of a b c = if c == a then b else c
 
 -- two nodes stay in order, unless the upper one is the next already
-keeps_order : (a b x y : ℕ) → b ≡ a + 1 → x < y → (y ≡ b → ⊥) → next_of a b x < next_of a b y
+pub keeps_order : (a b x y : ℕ) → b ≡ a + 1 → x < y → (y ≡ b → ⊥) → next_of a b x < next_of a b y
 keeps_order a b x y next l ne = by (cases_eq x a) (cases_eq y a)
   where
     by : (x ≡ a) ⊎ (x ≡ a → ⊥) → (y ≡ a) ⊎ (y ≡ a → ⊥) → next_of a b x < next_of a b y

@@ -1,4 +1,4 @@
-use Rattle.std.proofs.Common.{ℕ, Bool, List, Result, Ok, Some, refl, sym, subst, ◌∙◌}
+use Rattle.std.proofs.Common.{Bool, Result, Ok, Some, refl, sym, subst, ◌∙◌}
 use Rattle.std.proofs.lemmas.Result.{err_from_is_err_and}
 use Rattle.protocol_model.specs.Event.{NoSuchNode}
 use Rattle.protocol_model.specs.NamedEvents.{At, Plain, Play}

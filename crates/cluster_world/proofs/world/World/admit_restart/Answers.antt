@@ -3,20 +3,24 @@ use Rattle.cluster_world.specs.Held.{Held}
 use Rattle.cluster_world.specs.Mail.{links_of}
 use Rattle.cluster_world.specs.Restarting.{IsFirstUntold}
 use Rattle.cluster_world.specs.Whole.{IsWhole}
-use Rattle.cluster_world.proofs.Restarting.{refuses_running, refuses_untold, refuses_spent, admits}
+use Rattle.cluster_world.proofs.Untold.{refuses_running, refuses_untold, refuses_spent, admits}
 use Rattle.cluster_world.proofs.world.World.admit_restart.Goals as goal
 
 pub returns-then-not-has_left-clause-refused : goal.returns-then-not-has_left-clause-refused
-returns-then-not-has_left-clause-refused g c = refuses_running c.args.self.now (subst IsWhole c.self.view_is c.self.invariant) c.in-Some.ensures.left
-    c.in-Some.ensures.place.0 c.args.name.now c.in-Some.place c.node-node.result.now c.in-Some.ensures.place.1 c.in-Some.ensures.place.2
+returns-then-not-has_left-clause-refused g c = refuses_running c.args.self.now (subst IsWhole c.self.view_is c.self.invariant)
+    c.in-Some.ensures.left
+    c.in-Some.ensures.place.0 c.args.name.now c.in-Some.place c.node-node.result.now c.in-Some.ensures.place.1
+    c.in-Some.ensures.place.2
     c.index.result.now (subst (λ (h : Held). c.index.result.now ≡ get_or h.cores c.in-Some.place c.index.result.now) c.self.view_is
     c.index.ensures) c.node-node.ensures.name c.has_left.result
     (subst (λ (h : Held). c.has_left.result ≡ (links_of h.links).closed c.node-node.result.now) c.self.view_is c.has_left.ensures)
     c.if-not-has_left.true
 
 pub returns-in-Some-first_untold-clause-refused : goal.returns-in-Some-first_untold-clause-refused
-returns-in-Some-first_untold-clause-refused g c = refuses_untold c.args.self.now (subst IsWhole c.self.view_is c.self.invariant) c.in-Some.ensures.left
-    c.in-Some.ensures.place.0 c.args.name.now c.in-Some.place c.node-node.result.now c.in-Some.ensures.place.1 c.in-Some.ensures.place.2
+returns-in-Some-first_untold-clause-refused g c = refuses_untold c.args.self.now (subst IsWhole c.self.view_is c.self.invariant)
+    c.in-Some.ensures.left
+    c.in-Some.ensures.place.0 c.args.name.now c.in-Some.place c.node-node.result.now c.in-Some.ensures.place.1
+    c.in-Some.ensures.place.2
     c.index.result.now (subst (λ (h : Held). c.index.result.now ≡ get_or h.cores c.in-Some.place c.index.result.now) c.self.view_is
     c.index.ensures) c.node-node.ensures.name c.has_left.result
     c.copy.result
@@ -31,16 +35,20 @@ returns-in-Some-next-clause-ok g c = record {
   place = c.in-Some.ensures.place.1;
   own = c.in-Some.ensures.place.2;
   accepted = admits c.args.self.now (subst IsWhole c.self.view_is c.self.invariant) c.in-Some.ensures.left
-      c.in-Some.ensures.place.0 c.args.name.now c.in-Some.place c.node-node.result.now c.in-Some.ensures.place.1 c.in-Some.ensures.place.2
-      c.index.result.now (subst (λ (h : Held). c.index.result.now ≡ get_or h.cores c.in-Some.place c.index.result.now) c.self.view_is
+      c.in-Some.ensures.place.0 c.args.name.now c.in-Some.place c.node-node.result.now c.in-Some.ensures.place.1
+      c.in-Some.ensures.place.2
+      c.index.result.now (subst (λ (h : Held). c.index.result.now ≡ get_or h.cores c.in-Some.place c.index.result.now)
+      c.self.view_is
       c.index.ensures) c.node-node.ensures.name c.has_left.result
       (subst (λ (h : Held). c.has_left.result ≡ (links_of h.links).closed c.node-node.result.now) c.self.view_is c.has_left.ensures)
       c.if-not-has_left.false c.in_default-first_untold.ensures c.in-Some-next.ensures.0;
 }
 
 pub returns-in-None-clause-refused : goal.returns-in-None-clause-refused
-returns-in-None-clause-refused g c = refuses_spent c.args.self.now (subst IsWhole c.self.view_is c.self.invariant) c.in-Some.ensures.left
-    c.in-Some.ensures.place.0 c.args.name.now c.in-Some.place c.node-node.result.now c.in-Some.ensures.place.1 c.in-Some.ensures.place.2
+returns-in-None-clause-refused g c = refuses_spent c.args.self.now (subst IsWhole c.self.view_is c.self.invariant)
+    c.in-Some.ensures.left
+    c.in-Some.ensures.place.0 c.args.name.now c.in-Some.place c.node-node.result.now c.in-Some.ensures.place.1
+    c.in-Some.ensures.place.2
     c.index.result.now (subst (λ (h : Held). c.index.result.now ≡ get_or h.cores c.in-Some.place c.index.result.now) c.self.view_is
     c.index.ensures) c.node-node.ensures.name c.has_left.result
     (subst (λ (h : Held). c.has_left.result ≡ (links_of h.links).closed c.node-node.result.now) c.self.view_is c.has_left.ensures)

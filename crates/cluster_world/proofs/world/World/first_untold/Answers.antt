@@ -4,7 +4,7 @@ use Rattle.term.specs.NodeSets.{with_older}
 use Rattle.cluster_world.specs.Held.{Held}
 use Rattle.cluster_world.specs.Restarting.{IsFirstUntold}
 use Rattle.cluster_world.proofs.Posting.{closed_is}
-use Rattle.cluster_world.proofs.Restarting.{AllToldBefore, told_more, first_is}
+use Rattle.cluster_world.proofs.Untold.{AllToldBefore, told_more, first_is}
 use Rattle.cluster_world.proofs.world.World.first_untold.Goals.{else-not-has_left-via-then-not-has_left+else-not-reaches, else-not-has_left-via-else-not-has_left}
 use Rattle.cluster_world.proofs.world.World.first_untold.Goals as goal
 

@@ -1,4 +1,4 @@
-use Rattle.cluster_world.proofs.Restarting.{AllToldBefore}
+use Rattle.cluster_world.proofs.Untold.{AllToldBefore}
 use Rattle.cluster_world.proofs.world.World.first_untold.Given as goal
 
 abbrev pub invariant-loop-core : goal.invariant-loop-core

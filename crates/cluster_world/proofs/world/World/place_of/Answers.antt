@@ -4,7 +4,7 @@ use Rattle.term.specs.Nodes.{name_of}
 use Rattle.term.specs.NodeSets.{names_in}
 use Rattle.link.specs.Held.{place}
 use Rattle.cluster_world.specs.Held.{Held, nodes_of}
-use Rattle.cluster_world.proofs.Restarting.{placed}
+use Rattle.cluster_world.proofs.Untold.{placed}
 use Rattle.cluster_world.proofs.world.World.place_of.Goals as goal
 
 pub returns-clause-place : goal.returns-clause-place

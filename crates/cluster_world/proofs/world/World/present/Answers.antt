@@ -6,7 +6,7 @@ use Rattle.term.specs.NodeSets.{set_of, names_in}
 use Rattle.cluster_world.specs.Held.{Held, nodes_of}
 use Rattle.cluster_world.specs.Seen.{names_of, named}
 use Rattle.cluster_world.proofs.Naming.{OneOfEach, names_in-of, present_of}
-use Rattle.cluster_world.proofs.Restarting.{text_of_name}
+use Rattle.cluster_world.proofs.Untold.{text_of_name}
 use Rattle.cluster_world.proofs.world.World.present.Goals as goal
 
 abbrev Finds : {B : Type 0} → Option B → (B → ℕ) → List ℕ → ℕ → Type 0

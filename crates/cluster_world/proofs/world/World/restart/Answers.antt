@@ -1,9 +1,11 @@
-use Rattle.std.proofs.Common.{◌∙◌, refl, ap}
+use Rattle.std.proofs.Common.{ℕ, ◌≡◌, ◌∙◌, List, get_or, map, refl, ap}
 use Rattle.std.proofs.lemmas.Result.{err_from_is_err_and}
 use Rattle.term.specs.NodeSets.{succeeded}
+use Rattle.cluster_world.specs.Restarting.{replaced_in}
 use Rattle.cluster_world.specs.Seen.{named}
-use Rattle.cluster_world.proofs.Returning.{read_at, slice_is, slice_put, not_last, long_then, older_known, older_left, were_told, next_known, next_stays, restarted_whole, restarted_keeps, restarted_played}
+use Rattle.cluster_world.proofs.Returning.{read_at, slice_is, slice_put, not_last, long_then, older_known, older_left, were_told, next_known, next_stays, restarted_whole, restarted_played}
 use Rattle.cluster_world.proofs.Steps.{rested, rested_whole}
+use Rattle.cluster_world.proofs.world.World.restart.Given.{Over}
 use Rattle.cluster_world.proofs.world.World.restart.Goals as goal
 
 pub unreachable-requires : goal.unreachable-requires
@@ -96,98 +98,62 @@ put_core-requires g c =
     c.self.inside.cores.ok.0
     c.as_mut_slice-2.ensures.value)
 
+-- what holds once the name is back
+module _ (g : Over) (c : goal.After-self-2-1 g) where
+  abbrev nodes : List ℕ
+  nodes = c.self.inside.links.nodes
+
+  abbrev departed : List ℕ
+  departed = c.self.inside.links.departed
+
+  abbrev older : ℕ
+  older = c.copy-older.result
+
+  abbrev next : ℕ
+  next = c.in-Some.next
+
+  at : older ≡ get_or nodes c.args.place older
+  at = read_at c.as_slice.result.now c.nodes.result.now nodes c.args.place older c.index-as_slice-place.result
+      c.copy-older.ensures c.index-as_slice-place.is c.as_slice.ensures.nodes c.nodes.ensures.nodes
+
+  left : c.reopen.new.self.departed ≡ departed
+  left = c.reopen.ensures.departed ∙ c.drain.ensures.departed
+
+  later : c.reopen.new.self.nodes ≡ succeeded older next nodes
+  later = c.reopen.ensures.nodes ∙ ap (succeeded older next) c.drain.ensures.nodes
+
+  took : c.as_mut_slice-2.result.now ≡ map (replaced_in c.departed.result.now older next) c.self.inside.cores.items
+  took = slice_is c.departed.result.now older next c.self.inside.cores.len c.self.inside.cores.items c.replace_in.new.cores
+      c.as_mut_slice.result.now _ c.as_mut_slice-2.result.now c.as_mut_slice.ensures.value c.replace_in.ensures
+      c.self.inside.cores.ok.0 c.as_mut_slice-2.ensures.value
+
 pub invariant_of-self-2 : goal.invariant_of-self-2
 invariant_of-self-2 g c =
-    restarted_whole c.args.self.now _ c.self.view_is c.self.invariant c.nodes.ensures.left c.args.place c.args.name.now
-    c.copy-older.result c.requires
-    (read_at c.as_slice.result.now c.nodes.result.now c.self.inside.links.nodes c.args.place c.copy-older.result
-    c.index-as_slice-place.result
-    c.copy-older.ensures c.index-as_slice-place.is c.as_slice.ensures.nodes c.nodes.ensures.nodes)
-    c.in-Some.next c.in-Some.ensures.1 c.departed.result.now c.departed-2.result.now c.nodes-2.result.now
-    c.as_mut_slice-2.result.now _ _
-    c.reopen.new.self c.enter_restart.new.self.entries c.come_back-core.result
-    (c.departed.ensures.departed ∙ (c.reopen.ensures.departed ∙ c.drain.ensures.departed))
-    (c.departed-2.ensures.departed ∙ (c.reopen.ensures.departed ∙ c.drain.ensures.departed))
-    (c.nodes-2.ensures.nodes ∙ (c.reopen.ensures.nodes ∙ ap (succeeded c.copy-older.result c.in-Some.next) c.drain.ensures.nodes))
-    (slice_is c.departed.result.now c.copy-older.result c.in-Some.next c.self.inside.cores.len c.self.inside.cores.items
-    c.replace_in.new.cores
-    c.as_mut_slice.result.now _ c.as_mut_slice-2.result.now c.as_mut_slice.ensures.value c.replace_in.ensures
-    c.self.inside.cores.ok.0
-    c.as_mut_slice-2.ensures.value)
-    c.come_back-core.ensures
-    (slice_put c.departed.result.now c.copy-older.result c.in-Some.next c.self.inside.cores.len c.args.place
+    restarted_whole c.args.self.now _ c.self.view_is c.self.invariant c.nodes.ensures.left c.args.place c.args.name.now (older g c)
+    c.requires (at g c) (next g c) c.in-Some.ensures.1 c.departed.result.now c.departed-2.result.now c.nodes-2.result.now
+    c.as_mut_slice-2.result.now _ _ c.reopen.new.self c.enter_restart.new.self.entries c.come_back-core.result
+    (c.departed.ensures.departed ∙ left g c) (c.departed-2.ensures.departed ∙ left g c) (c.nodes-2.ensures.nodes ∙ later g c)
+    (took g c)
+    c.come_back-core.ensures (slice_put c.departed.result.now (older g c) (next g c) c.self.inside.cores.len c.args.place
     c.self.inside.cores.items
-    c.as_mut_slice-2.result.now c.put_core.new.cores _ c.come_back-core.result
-    (slice_is c.departed.result.now c.copy-older.result c.in-Some.next c.self.inside.cores.len c.self.inside.cores.items
-    c.replace_in.new.cores
-    c.as_mut_slice.result.now _ c.as_mut_slice-2.result.now c.as_mut_slice.ensures.value c.replace_in.ensures
-    c.self.inside.cores.ok.0
-    c.as_mut_slice-2.ensures.value)
-    c.self.inside.cores.ok.0 c.put_core.ensures.cores)
-    c.put_core.ensures.past (c.reopen.ensures.nodes ∙ ap (succeeded c.copy-older.result c.in-Some.next) c.drain.ensures.nodes)
-    (c.reopen.ensures.departed ∙ c.drain.ensures.departed) (c.reopen.ensures.links ∙ c.drain.ensures.links)
-    c.in_ok-enter_restart.ensures.entries
-
-pub returns-clause-kept : goal.returns-clause-kept
-returns-clause-kept g c =
-    restarted_keeps c.args.self.now _ c.self.view_is c.self.invariant c.nodes.ensures.left c.args.place c.args.name.now
-    c.copy-older.result c.requires
-    (read_at c.as_slice.result.now c.nodes.result.now c.self.inside.links.nodes c.args.place c.copy-older.result
-    c.index-as_slice-place.result
-    c.copy-older.ensures c.index-as_slice-place.is c.as_slice.ensures.nodes c.nodes.ensures.nodes)
-    c.in-Some.next c.in-Some.ensures.1 c.departed.result.now c.departed-2.result.now c.nodes-2.result.now
-    c.as_mut_slice-2.result.now _ _
-    c.reopen.new.self c.enter_restart.new.self.entries c.come_back-core.result
-    (c.departed.ensures.departed ∙ (c.reopen.ensures.departed ∙ c.drain.ensures.departed))
-    (c.departed-2.ensures.departed ∙ (c.reopen.ensures.departed ∙ c.drain.ensures.departed))
-    (c.nodes-2.ensures.nodes ∙ (c.reopen.ensures.nodes ∙ ap (succeeded c.copy-older.result c.in-Some.next) c.drain.ensures.nodes))
-    (slice_is c.departed.result.now c.copy-older.result c.in-Some.next c.self.inside.cores.len c.self.inside.cores.items
-    c.replace_in.new.cores
-    c.as_mut_slice.result.now _ c.as_mut_slice-2.result.now c.as_mut_slice.ensures.value c.replace_in.ensures
-    c.self.inside.cores.ok.0
-    c.as_mut_slice-2.ensures.value)
-    c.come_back-core.ensures
-    (slice_put c.departed.result.now c.copy-older.result c.in-Some.next c.self.inside.cores.len c.args.place
-    c.self.inside.cores.items
-    c.as_mut_slice-2.result.now c.put_core.new.cores _ c.come_back-core.result
-    (slice_is c.departed.result.now c.copy-older.result c.in-Some.next c.self.inside.cores.len c.self.inside.cores.items
-    c.replace_in.new.cores
-    c.as_mut_slice.result.now _ c.as_mut_slice-2.result.now c.as_mut_slice.ensures.value c.replace_in.ensures
-    c.self.inside.cores.ok.0
-    c.as_mut_slice-2.ensures.value)
-    c.self.inside.cores.ok.0 c.put_core.ensures.cores)
-    c.put_core.ensures.past (c.reopen.ensures.nodes ∙ ap (succeeded c.copy-older.result c.in-Some.next) c.drain.ensures.nodes)
-    (c.reopen.ensures.departed ∙ c.drain.ensures.departed) (c.reopen.ensures.links ∙ c.drain.ensures.links)
+    c.as_mut_slice-2.result.now c.put_core.new.cores _ c.come_back-core.result (took g c) c.self.inside.cores.ok.0
+    c.put_core.ensures.cores) c.put_core.ensures.past (later g c) (left g c) (c.reopen.ensures.links ∙ c.drain.ensures.links)
     c.in_ok-enter_restart.ensures.entries
 
 pub returns-clause-ok : goal.returns-clause-ok
 returns-clause-ok g c =
-    restarted_played c.args.self.now _ c.self.view_is c.self.invariant c.nodes.ensures.left c.args.place c.args.name.now
-    c.copy-older.result c.requires
-    (read_at c.as_slice.result.now c.nodes.result.now c.self.inside.links.nodes c.args.place c.copy-older.result
-    c.index-as_slice-place.result
-    c.copy-older.ensures c.index-as_slice-place.is c.as_slice.ensures.nodes c.nodes.ensures.nodes)
-    c.in-Some.next c.in-Some.ensures.1 c.departed.result.now c.departed-2.result.now c.nodes-2.result.now
-    c.as_mut_slice-2.result.now _ _
-    c.reopen.new.self c.enter_restart.new.self.entries c.come_back-core.result
-    (c.departed.ensures.departed ∙ (c.reopen.ensures.departed ∙ c.drain.ensures.departed))
-    (c.departed-2.ensures.departed ∙ (c.reopen.ensures.departed ∙ c.drain.ensures.departed))
-    (c.nodes-2.ensures.nodes ∙ (c.reopen.ensures.nodes ∙ ap (succeeded c.copy-older.result c.in-Some.next) c.drain.ensures.nodes))
-    (slice_is c.departed.result.now c.copy-older.result c.in-Some.next c.self.inside.cores.len c.self.inside.cores.items
-    c.replace_in.new.cores
-    c.as_mut_slice.result.now _ c.as_mut_slice-2.result.now c.as_mut_slice.ensures.value c.replace_in.ensures
-    c.self.inside.cores.ok.0
-    c.as_mut_slice-2.ensures.value)
-    c.come_back-core.ensures
-    (slice_put c.departed.result.now c.copy-older.result c.in-Some.next c.self.inside.cores.len c.args.place
+    restarted_played c.args.self.now _ c.self.view_is c.self.invariant c.nodes.ensures.left c.args.place c.args.name.now (older g c)
+    c.requires (at g c) (next g c) c.in-Some.ensures.1 c.departed.result.now c.departed-2.result.now c.nodes-2.result.now
+    c.as_mut_slice-2.result.now _ _ c.reopen.new.self c.enter_restart.new.self.entries c.come_back-core.result
+    (c.departed.ensures.departed ∙ left g c) (c.departed-2.ensures.departed ∙ left g c) (c.nodes-2.ensures.nodes ∙ later g c)
+    (took g c)
+    c.come_back-core.ensures (slice_put c.departed.result.now (older g c) (next g c) c.self.inside.cores.len c.args.place
     c.self.inside.cores.items
-    c.as_mut_slice-2.result.now c.put_core.new.cores _ c.come_back-core.result
-    (slice_is c.departed.result.now c.copy-older.result c.in-Some.next c.self.inside.cores.len c.self.inside.cores.items
-    c.replace_in.new.cores
-    c.as_mut_slice.result.now _ c.as_mut_slice-2.result.now c.as_mut_slice.ensures.value c.replace_in.ensures
-    c.self.inside.cores.ok.0
-    c.as_mut_slice-2.ensures.value)
-    c.self.inside.cores.ok.0 c.put_core.ensures.cores)
-    c.put_core.ensures.past (c.reopen.ensures.nodes ∙ ap (succeeded c.copy-older.result c.in-Some.next) c.drain.ensures.nodes)
-    (c.reopen.ensures.departed ∙ c.drain.ensures.departed) (c.reopen.ensures.links ∙ c.drain.ensures.links)
+    c.as_mut_slice-2.result.now c.put_core.new.cores _ c.come_back-core.result (took g c) c.self.inside.cores.ok.0
+    c.put_core.ensures.cores) c.put_core.ensures.past (later g c) (left g c) (c.reopen.ensures.links ∙ c.drain.ensures.links)
     c.in_ok-enter_restart.ensures.entries
+
+pub returns-clause-kept : goal.returns-clause-kept
+returns-clause-kept g c =
+    let played = returns-clause-ok g c in
+    record { names = played.names; cluster = played.cluster }

@@ -14,7 +14,8 @@ pub invariant_of-result : goal.invariant_of-result
 invariant_of-result g c = opens_whole c.in_ok-opening.opening.nodes c.copy.result c.nodes.ensures.opened.first
     (subst (AreOf c.in_ok-opening.opening.nodes) (sym (c.copy.ensures ∙ c.cluster.ensures)) c.nodes.ensures.opened.within)
     c.in_ok-cores.cores.items _ c.in_ok-links.links c.in_ok-history.history.entries
-    (c.in_ok-cores.ensures.cores ∙ ap (λ (ks : List ℕ). map (opening_core c.in_ok-opening.opening.nodes ks) c.in_ok-opening.opening.nodes) (sym (c.copy.ensures ∙ c.cluster.ensures)))
+    (c.in_ok-cores.ensures.cores ∙ ap (λ (ks : List ℕ). map (opening_core c.in_ok-opening.opening.nodes ks)
+    c.in_ok-opening.opening.nodes) (sym (c.copy.ensures ∙ c.cluster.ensures)))
     (rw c.new-3.ensures refl) (c.in_ok-links.ensures.nodes ∙ c.nodes.ensures.nodes) c.in_ok-links.ensures.links
     c.in_ok-history.ensures c.in_ok-cores.ensures.set
 
@@ -29,7 +30,8 @@ pub returns-clause-world : goal.returns-clause-world
 returns-clause-world g c = opens_named c.in_ok-opening.opening.nodes c.copy.result c.nodes.ensures.opened.first
     (subst (AreOf c.in_ok-opening.opening.nodes) (sym (c.copy.ensures ∙ c.cluster.ensures)) c.nodes.ensures.opened.within)
     c.in_ok-cores.cores.items _ c.in_ok-links.links c.in_ok-history.history.entries
-    (c.in_ok-cores.ensures.cores ∙ ap (λ (ks : List ℕ). map (opening_core c.in_ok-opening.opening.nodes ks) c.in_ok-opening.opening.nodes) (sym (c.copy.ensures ∙ c.cluster.ensures)))
+    (c.in_ok-cores.ensures.cores ∙ ap (λ (ks : List ℕ). map (opening_core c.in_ok-opening.opening.nodes ks)
+    c.in_ok-opening.opening.nodes) (sym (c.copy.ensures ∙ c.cluster.ensures)))
     (rw c.new-3.ensures refl) (c.in_ok-links.ensures.nodes ∙ c.nodes.ensures.nodes) c.in_ok-links.ensures.links
     c.in_ok-history.ensures
 
