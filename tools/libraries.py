@@ -3,12 +3,15 @@
 
 usage: tools/libraries.py CRATE [--jobs N]
 
-  --jobs N  N of them at a time; without it, as many as there are processors and memory, at most 4
+  --jobs N  N of them at a time, each in one job; without it, as many as there are processors and memory, at most 4. Then the one that
+            most others wait for, one after another, is proved in three jobs, and each in two where few can be proved at a time: the
+            processors would wait at the end for a chain of crates whose proofs had one job each
 
 It says 'libraries to prove: N' first, 'proving NAME' as it begins with a library, and 'proved NAME' behind it. A library that stands
 as it is isn't built again. The status is 0 where all stand, 1 where one isn't proved, and 2 where nothing was tried.
 """
 import argparse
+import contextlib
 import copy
 import importlib.machinery
 import importlib.util
@@ -23,6 +26,8 @@ import threading
 sys.dont_write_bytecode = True
 ROOT = os.path.dirname(os.path.dirname(os.path.realpath(__file__)))
 MOST_LANES = 4
+# What a proof in several jobs may take: node_core, the largest, took 4 GB.
+LANE_BYTES = 5_000_000_000
 PRINTING = threading.Lock()
 
 
@@ -78,6 +83,36 @@ def load_kit(jobs):
     return kit
 
 
+@contextlib.contextmanager
+def lanes_of_one(kit):
+    """Has the kit begin with a crate wherever a lane is free, so that the jobs of each are chosen here. Without it, a crate that starts
+    as the last lane gets free has one job, however many are free later."""
+    asked = os.environ.get("RT_JOBS")
+    os.environ["RT_JOBS"] = asked or str(max(1, min(kit.processors(), int(kit.free() / LANE_BYTES))))
+    try:
+        yield
+    finally:
+        if not asked:
+            del os.environ["RT_JOBS"]
+
+
+def chains(crates):
+    """The source lines of each of these crates and of those that wait for it, along the longest chain. Each crate comes behind those below it."""
+    longest = {it.name: 0 for it in crates}
+    for crate in reversed(crates):
+        longest[crate.name] += crate.count(rb"\n")
+        for it in crate.below():
+            if it.name in longest:
+                longest[it.name] = max(longest[it.name], longest[crate.name])
+    return longest
+
+
+def jobs_of(crate, at_hand, longest):
+    """How many jobs a crate gets, by those that are being proved or could be."""
+    most = 3 if crate.name == max(at_hand, key=longest.get) else 2 if len(at_hand) <= 3 else 1
+    return min(most, int(os.environ["RT_JOBS"]))
+
+
 def build(crate, jobs):
     """Builds a library as rt lib does, and returns whether it stands."""
     crate = copy.copy(crate)
@@ -104,15 +139,24 @@ def build_missing(kit, libraries, unbuilt):
     held = kit.rtlib.lock(libraries)
     missing = unbuilt(kit, libraries)
     say(f"libraries to prove: {len(missing)}")
+    chosen = "RT_JOBS" not in os.environ
+    waits = {crate.name: [(it.name, "proof") for it in crate.below() if it in missing] for crate in missing}
+    longest = chains(missing)
+
+    def jobs_now(crate, given):
+        known = dict(given)
+        at_hand = [name for name, those in waits.items() if (name, "proof") not in known and all(it in known for it in those)]
+        return jobs_of(crate, at_hand, longest) if chosen else 1
+
     tasks = {}
     for crate in missing:
-        waits = [(it.name, "proof") for it in crate.below() if it in missing]
 
-        def work(given, jobs, crate=crate, waits=waits):
-            return all(given[it] for it in waits) and build(crate, jobs)
+        def work(given, jobs, crate=crate):
+            return all(given[it] for it in waits[crate.name]) and build(crate, jobs_now(crate, given))
 
-        tasks[crate.name, "proof"] = waits, crate.count(rb"\n"), kit.need(crate), work
-    given = kit.in_lanes(tasks)
+        tasks[crate.name, "proof"] = waits[crate.name], crate.count(rb"\n"), kit.need(crate), work
+    with lanes_of_one(kit):
+        given = kit.in_lanes(tasks)
     for it in held:
         os.close(it)
     return {name for (name, _), is_built in given.items() if not is_built}

@@ -84,7 +84,7 @@ module _ (o : Opening) where
     pub along : I (opening_world o) → (es : List WorldEvent) → Both (run o (opening_world o) es)
     along opens es = Runs.run_keeps o Both both_wide both_keeps (record { base = base_opens; here = opens }) es
 
-    both_event : (w : World) (e : WorldEvent) → Both w → refusal o w e ≡ None → Both (accepted o w e)
+    pub both_event : (w : World) (e : WorldEvent) → Both w → refusal o w e ≡ None → Both (accepted o w e)
     both_event w e b h = (Runs.accepted_keeps o Both both_wide both_keeps w e
         (record { kept = b; ordered = b.base.ordered; once = b.base.once }) h).kept
 

@@ -53,8 +53,9 @@ settles (Rules.Finishes op asked awaited reply) = true
 settles (Rules.RefusesJoin f pairs) = true
 settles _ = false
 
--- it settles nothing, or does so by a letter
+-- it settles nothing, or does so by a letter; and by no letter a refused round begins anew
 abbrev pub is_allowed : Bool → Rule → Bool
+is_allowed delivered (Rules.Retries op) = not delivered
 is_allowed delivered r = not (settles r) || delivered
 
 -- it leaves the lock table of its node as it is

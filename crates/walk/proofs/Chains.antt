@@ -1,9 +1,10 @@
 -- Chains of rules: one behind another, and one rule more.
+use mathlib.Core.Logic.{◌⊎◌, inl, inr}
 use Rattle.std.proofs.Common.{ℕ, suc, Bool, true, false, ◌≡◌, Option, Some, None, List, [], ◌∷◌, ◌++◌, drop, length, refl, sym, subst, ap, ◌∙◌, arith}
-use Rattle.std.specs.Prelude.{◌&&◌, nat_lt}
-use Rattle.std.specs.List.{list_all}
+use Rattle.std.specs.Prelude.{◌&&◌, ◌||◌, nat_lt, is_some}
+use Rattle.std.specs.List.{list_all, list_any}
 use Rattle.std.proofs.lemmas.List.{append-nil, append_assoc}
-use Rattle.std.proofs.lemmas.List.Folds.{list_all-append}
+use Rattle.std.proofs.lemmas.List.Folds.{list_all-append, list_any-append}
 use Rattle.std.proofs.lemmas.Bool.{eq-eqb, lt-ltb, le-ltb}
 use Rattle.registry_model.specs.History.{Entry}
 use Rattle.protocol_model.specs.Letter.{Letter}
@@ -105,6 +106,24 @@ gone_by-delivery w f a l rest front =
 abbrev pub TakeGone : Opening → ℕ → World → World → List Rule → Type 0
 TakeGone o a w b rs = list_all (λ r. is_gone_by w b a (Rules.takes o a r)) rs ≡ true
 
+-- The world is the same, or one of these rules took the letter
+abbrev pub Came : Opening → ℕ → World → World → List Rule → Type 0
+Came o a w b rs = (b ≡ w) ⊎ (list_any (λ r. is_some (Rules.takes o a r)) rs ≡ true)
+
+-- so it is for one rule more, which leaves the world or takes it
+came_more : (o : Opening) (a : ℕ) (w b c : World) (rs : List Rule) (r : Rule) → Came o a w b rs
+    → ((c ≡ b) ⊎ (is_some (Rules.takes o a r) ≡ true)) → Came o a w c (rs ++ r ∷ [])
+came_more o a w b c rs r (inl e) (inl k) = inl (k ∙ e)
+came_more o a w b c rs r (inr t) (inl k) = inr (list_any-append (λ s. is_some (Rules.takes o a s)) rs (r ∷ [])
+    ∙ ap (λ (x : Bool). x || (is_some (Rules.takes o a r) || false)) t)
+came_more o a w b c rs r came (inr k) = inr (list_any-append (λ s. is_some (Rules.takes o a s)) rs (r ∷ [])
+    ∙ ap (λ (x : Bool). list_any (λ s. is_some (Rules.takes o a s)) rs || (x || false)) k
+    ∙ last (list_any (λ s. is_some (Rules.takes o a s)) rs))
+  where
+    last : (x : Bool) → (x || true) ≡ true
+    last true = refl
+    last false = refl
+
 module _ (o : Opening) (a : ℕ) (K : Kind) where
   -- From world w a chain that begins with these rules has come as far as turn u, which stands behind world b: w, or w
   -- without the letter that was taken
@@ -115,6 +134,7 @@ module _ (o : Opening) (a : ℕ) (K : Kind) where
     pub allowed : list_all (is_allowed (may_go_on K)) rest ≡ true
     pub locks : LeaveLocks (first ++ rest)
     pub letters : TakeGone o a w b (first ++ rest)
+    pub came : Came o a w b (first ++ rest)
     pub may : Rules.MayAll o a (first ++ rest) w
     pub world : Rules.effects o a (first ++ rest) w ≡ apply a u b
     pub entries : Rules.entries_by o a (first ++ rest) w ≡ u.entries
@@ -130,6 +150,7 @@ module _ (o : Opening) (a : ℕ) (K : Kind) where
         allowed = refl;
         locks = refl;
         letters = refl;
+        came = inl refl;
         may = tt;
         world = sym
             (apply-begun a w);
@@ -139,9 +160,11 @@ module _ (o : Opening) (a : ℕ) (K : Kind) where
 
   -- a first rule
   pub chain_one : (w b : World) (r : Rule) → Rules.May o a w r → is_gone_by w b a (Rules.takes o a r) ≡ true
+      → ((b ≡ w) ⊎ (is_some (Rules.takes o a r) ≡ true))
       → Rules.effect o a r w ≡ apply a (Rules.turn_by o a w r) b
       → Chain w (r ∷ []) b (Rules.turn_by o a w r)
-  chain_one w b r m gone e = record {
+  chain_one w b r m gone came e = record {
+    came = came_more o a w w b [] r (inl refl) came;
     rest = [];
     quiet = refl;
     fit = refl;
@@ -156,9 +179,11 @@ module _ (o : Opening) (a : ℕ) (K : Kind) where
 
   -- a first rule that counts among the rest
   pub chain_quiet : (w b : World) (r : Rule) → Rules.May o a w r → is_gone_by w b a (Rules.takes o a r) ≡ true
+      → ((b ≡ w) ⊎ (is_some (Rules.takes o a r) ≡ true))
       → may_begin K r ≡ true → Rules.effect o a r w ≡ apply a (Rules.turn_by o a w r) b
       → Chain w [] b (Rules.turn_by o a w r)
-  chain_quiet w b r m gone q e = record {
+  chain_quiet w b r m gone came q e = record {
+    came = came_more o a w w b [] r (inl refl) came;
     rest = r ∷ [];
     quiet = ap (λ (t : Bool). t && true) (begin_quiet K r q);
     fit = ap (λ (t : Bool). t && true) (begin_suits K r q);
@@ -183,11 +208,13 @@ module _ (o : Opening) (a : ℕ) (K : Kind) where
   -- one rule more, by its effect on the world so far
   chain_on : (w : World) (first : List Rule) (b c : World) (u v : Turn) (r : Rule)
       → Chain w first b u → ((t : Option Taken) → is_gone_by w b a t ≡ true → is_gone_by w c a t ≡ true)
-      → is_gone_by w c a (Rules.takes o a r) ≡ true → is_fit K r ≡ true → Rules.May o a (apply a u b) r
+      → is_gone_by w c a (Rules.takes o a r) ≡ true → ((c ≡ b) ⊎ (is_some (Rules.takes o a r) ≡ true))
+      → is_fit K r ≡ true → Rules.May o a (apply a u b) r
       → Rules.turn_by o a (apply a u b) r ≡ v
       → Rules.effect o a r (apply a u b) ≡ apply a (onto u v) c
       → Chain w first c (onto u v)
-  chain_on w first b c u v r h on gone q m same e = record {
+  chain_on w first b c u v r h on gone came q m same e = record {
+    came = subst (Came o a w c) (append_assoc first h.rest (r ∷ [])) (came_more o a w b c (first ++ h.rest) r h.came came);
     rest = h.rest ++ r ∷ [];
     quiet = list_all-append is_quiet h.rest (r ∷ []) ∙ ap (λ (t : Bool). t && (is_quiet r && true)) h.quiet
         ∙ ap (λ (t : Bool). t && true) (fit_quiet K r q);
@@ -261,7 +288,7 @@ module _ (o : Opening) (a : ℕ) (K : Kind) where
     chain_more w first b u r running h q none tested =
         subst (Chain w first b) (sym (turn_extended o a (join_number (apply a u b)) r u))
         (chain_on w first b b u (Rules.made o a (join_number (apply a u b)) r (begun u.node)) r h
-        (λ t k. k) (ap (is_gone_by w b a) none) q (may_more b u r running none tested) (turn_behind b u r)
+        (λ t k. k) (ap (is_gone_by w b a) none) (inl refl) q (may_more b u r running none tested) (turn_behind b u r)
         (effect_more b u r (fit_quiet K r q) none))
 
     -- two first rules, of which the second takes no letter
@@ -279,6 +306,7 @@ module _ (o : Opening) (a : ℕ) (K : Kind) where
           allowed = refl;
           locks = ap (λ (t : Bool). t && true) (untaken_leaves o a s none);
           letters = rw (untaken, none) refl;
+          came = inl refl;
           may = (m, (subst (λ (x : World). Rules.May o a x s) (sym e) (may_more w u s running none tested), tt));
           world = ap (λ (x : World). Rules.effect o a s x) e ∙ effect_more w u s q none;
           entries = ap (λ (x : World). u.entries ++ ((Rules.turn_by o a x s).entries ++ [])) e
@@ -303,7 +331,7 @@ module _ (o : Opening) (a : ℕ) (K : Kind) where
         (chain_on w first w (letter_taken (Deliver f a) w) u
         (Rules.made o a (join_number (apply a u w)) r (begun u.node)) r h
         (gone_by-itself w (letter_taken (Deliver f a) w) a)
-        (ap (is_gone_by w (letter_taken (Deliver f a) w) a) some ∙ gone_by-delivery w f a l rest front) q may
+        (ap (is_gone_by w (letter_taken (Deliver f a) w) a) some ∙ gone_by-delivery w f a l rest front) (inr (ap is_some some)) q may
         (turn_behind w u r) effect)
       where
         may : Rules.May o a (apply a u w) r

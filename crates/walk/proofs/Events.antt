@@ -117,7 +117,7 @@ module _ (o : Opening) (a : ℕ) (inside : in_world o a ≡ true) (w : World) (r
   begins : (r : Rule) → Rules.takes o a r ≡ None → Rules.Tested o a w (w.node a) r
       → Rules.effect o a r w ≡ apply a (Rules.turn_by o a w r) w
       → Chain o a Aside w (r ∷ []) w (Rules.turn_by o a w r)
-  begins r none tested e = chain_one o a Aside w w r (own_rule r none tested) (ap (is_gone_by w w a) none) e
+  begins r none tested e = chain_one o a Aside w w r (own_rule r none tested) (ap (is_gone_by w w a) none) (inl refl) e
 
   -- a new lock call
   is_new : (p : Process) (r q : Text) (target : Target) (retries : Retries)
@@ -273,6 +273,6 @@ module _ (o : Opening) (a : ℕ) (inside : in_world o a ≡ true) (w : World) (r
       (retry_locks-chain o a inside w [] w running (w.node a) (retry_global o.bound a (w.node a).current
       (begun (w.node a)))
       (retry_global-calls o.bound a (w.node a).current (begun (w.node a)))
-      (retry_global-chain o a (Again (w.node a)) inside w [] w running (begun (w.node a))
+      (retry_global-chain o a (Again (w.node a)) inside w [] w running (λ op. refl) (begun (w.node a))
       (chain_none o a (Again (w.node a)) w))
       (ap (is_ordered a) (retry_global-calls o.bound a (w.node a).current (begun (w.node a))) ∙ sorted))

@@ -1,6 +1,6 @@
 -- What a node makes of a letter, before it starts anew: chains of rules.
-use Rattle.std.proofs.Common.{ℕ, Bool, true, false, ◌==◌, ◌≡◌, Option, Some, None, List, [], ◌∷◌, refl, sym, subst, ap, ◌∙◌}
-use Rattle.std.specs.Prelude.{if◌then◌else◌}
+use Rattle.std.proofs.Common.{ℕ, Bool, true, false, ◌==◌, ◌≡◌, Option, Some, None, List, [], ◌∷◌, refl, sym, subst, ap, ◌∙◌, inr}
+use Rattle.std.specs.Prelude.{is_some, if◌then◌else◌}
 use Rattle.std.proofs.lemmas.List.Elements.{All-contains_itself}
 use Rattle.std.proofs.lemmas.Bool.{eqb-true, eq-eqb}
 use Rattle.registry_model.specs.Process.{Process, is_process, Nodes, at}
@@ -46,7 +46,7 @@ module _ (o : Opening) (a : ℕ) (inside : in_world o a ≡ true) (w : World) (r
         front = subst (Rules.FrontTaken o a w) (sym some) (known, (rest, front));
         tested = tested;
       })
-      (ap (is_gone_by w (letter_taken (Deliver f a) w) a) some ∙ gone_by-delivery w f a l rest front) q
+      (ap (is_gone_by w (letter_taken (Deliver f a) w) a) some ∙ gone_by-delivery w f a l rest front) (inr (ap is_some some)) q
       (closed_by-quiet o a r (apply a (Rules.turn_by o a w r) (Rules.without_letter o a (Rules.takes o a r) w))
       (begin_quiet Hearing r q)
       ∙ ap (λ (t : Option Rules.Taken). apply a (Rules.turn_by o a w r) (Rules.without_letter o a t w)) some)

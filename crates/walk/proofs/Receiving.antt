@@ -1,5 +1,5 @@
 -- A letter is received: a chain of rules, which ends with the start of the registrar's next operation.
-use Rattle.std.proofs.Common.{ℕ, Bool, true, false, ◌==◌, ◌≡◌, List, [], ◌∷◌, refl, sym, subst, ap, ◌∙◌}
+use Rattle.std.proofs.Common.{ℕ, Bool, true, false, ◌==◌, ◌≡◌, List, [], ◌∷◌, refl, sym, subst, ap, ◌∙◌, inr}
 use Rattle.std.specs.Prelude.{◌&&◌, not, if◌then◌else◌}
 use Rattle.registry_model.specs.Process.{is_process, Nodes}
 use Rattle.registry_model.specs.Table.{Table}
@@ -101,7 +101,7 @@ module _ (o : Opening) (a : ℕ) (inside : in_world o a ≡ true) (w : World) (r
       left_contact = lose_contact-chain o a inside w (Rules.IsTold f ∷ []) (letter_taken (Deliver f a) w) running f told
           (chain_one o a Hearing w (letter_taken (Deliver f a) w) (Rules.IsTold f)
           (record { inside = inside; running = running; front = (known, (rest, front)); tested = tt })
-          (gone_by-delivery w f a Letter.Down rest front) refl)
+          (gone_by-delivery w f a Letter.Down rest front) (inr refl) refl)
           (at_same (w.node a).replica.told f true)
 
       idle : (k m : ℕ) → (w.node a).current ≡ Current.Joining k m → (t : Bool)

@@ -8,7 +8,7 @@ use Rattle.protocol_model.specs.Registrar.{contact_left, ask_join, start_queue, 
 use Rattle.protocol_model.specs.World.{Opening, in_world, World, left}
 use Rattle.moves.proofs.Rules
 use Rattle.moves.proofs.Rules.{Rule}
-use Rattle.walk.proofs.ChainKinds.{Kind}
+use Rattle.walk.proofs.ChainKinds.{is_fit, Kind}
 use Rattle.walk.proofs.Chains.{Chain, chain_more}
 
 -- the queue as it was doesn't count where its operations are given
@@ -73,12 +73,12 @@ module _ (o : Opening) (a : ℕ) (K : Kind) (inside : in_world o a ≡ true) (w 
       go (Current.Joining k m) e = h
 
   -- a refused round of the registrar begins anew
-  pub retry_global-chain : (u : Turn) → Chain o a K w first b u
+  pub retry_global-chain : ((op : Op) → is_fit K (Rules.Retries op) ≡ true) → (u : Turn) → Chain o a K w first b u
       → Chain o a K w first b (retry_global o.bound a u.node.current u)
-  retry_global-chain u h = go u.node.current refl
+  retry_global-chain may u h = go u.node.current refl
     where
       go : (c : Current) → u.node.current ≡ c → Chain o a K w first b (retry_global o.bound a c u)
-      go (Current.Waiting op) e = chain_more o a K inside w first b u (Rules.Retries op) running h refl refl e
+      go (Current.Waiting op) e = chain_more o a K inside w first b u (Rules.Retries op) running h (may op) refl e
       go (Current.Asking op r) e = h
       go Current.Free e = h
       go (Current.Writing op asked awaited reply) e = h

@@ -11,7 +11,7 @@ use Rattle.protocol_model.specs.Fit.{is_delivery}
 use Rattle.moves.proofs.Rules
 use Rattle.moves.proofs.Rules.{Rule, Ordered, Walked, is_quiet}
 use Rattle.walk.proofs.ChainKinds.{Kind, Aside, Again, Hearing, suits, may_go_on, is_allowed}
-use Rattle.walk.proofs.Chains.{Chain, LeaveLocks, TakeGone}
+use Rattle.walk.proofs.Chains.{Chain, LeaveLocks, TakeGone, Came}
 use Rattle.walk.proofs.Receiving.{WelcomeWidens, receive-chain}
 use Rattle.walk.proofs.Events.{no_cause, Accepted, accepted_of, IsSecond, CallWalk, call-chain, exit-chain, retry-chain}
 
@@ -40,6 +40,7 @@ pub record OrderedWalk (o : Opening) (w : World) (e : WorldEvent) : Type 0 where
   pub locks : LeaveLocks (Rules.first_by o (place e) w e ++ walk.rest)
   pub letters : TakeGone o (place e) w (letter_taken e w) (Rules.first_by o (place e) w e ++ walk.rest)
   pub allowed : list_all (is_allowed (is_delivery e)) walk.rest ≡ true
+  pub came : Came o (place e) w (letter_taken e w) (Rules.first_by o (place e) w e ++ walk.rest)
 
 -- an event whose turn is reached by a chain is walked, unless it closes a node out
 walked_by : (o : Opening) (w : World) (e : WorldEvent) (k : Kind)
@@ -59,6 +60,7 @@ walked_by o w e k same h order by = record {
   in_order = order h.fit;
   locks = h.locks;
   letters = h.letters;
+  came = h.came;
   allowed = subst (λ (t : Bool). list_all (is_allowed t) h.rest ≡ true) by h.allowed;
 }
 
@@ -77,6 +79,7 @@ walked_call o a inside w running (Call.SetLock p r q target retries) h = record 
   in_order = (h.second, (h.chain.rest, (refl, h.is_second, h.chain.fit)));
   locks = h.chain.locks;
   letters = h.chain.letters;
+  came = inl refl;
   allowed = ap (λ t. t && list_all (is_allowed false) h.chain.rest) (allowed_second h.is_second) ∙ h.chain.allowed;
 }
   where
@@ -97,6 +100,7 @@ walked_call o a inside w running (Call.DelLock p r q target) h = record {
   in_order = (h.second, (h.chain.rest, (refl, h.is_second, h.chain.fit)));
   locks = h.chain.locks;
   letters = h.chain.letters;
+  came = inl refl;
   allowed = ap (λ t. t && list_all (is_allowed false) h.chain.rest) (allowed_second h.is_second) ∙ h.chain.allowed;
 }
   where
@@ -136,6 +140,7 @@ walked_leave o a w h = record {
   in_order = refl;
   locks = refl;
   letters = refl;
+  came = inl refl;
   allowed = refl;
 }
 
