@@ -1,0 +1,93 @@
+"""Tests that wait: what a server that stays does while nobody says anything, or when who waits has gone.
+
+A connection whose first line doesn't come is ended after ten seconds; behind that line it may be silent for as long as it likes, and so
+may all who could come.
+"""
+
+import time
+from functools import partial
+
+from .outcomes import Failure, Test, expect_same
+from .served import Console, Served
+from .talks import hears
+
+# For longer than a first line may take.
+SILENCE = 12
+COOKIE = "0123456789abcdef"
+OVER_TCP = ("--cookie", COOKIE)
+
+
+def attach(options, node="a"):
+    """The line that attaches a console, with the cookie where there is one."""
+    return f"attach {' '.join([node, *options[1:]])}".encode()
+
+
+def shut_down(served, console, seconds):
+    expect_same("an answer", b"ok", hears(console, b"shutdown", seconds))
+    served.expect_closed()
+
+
+def silent_console_goes_on(program, *options):
+    """A console that is silent behind its first line is served when it speaks."""
+    with Served(program, ["--stay", "--nodes", "a", "--consoles", "1", *options]) as served:
+        console = Console(served)
+        expect_same("an answer", b"ok", hears(console, attach(options), program.seconds))
+        time.sleep(SILENCE)
+        expect_same("the answer behind the silence", b"undefined", hears(console, b"whereis x", program.seconds))
+        shut_down(served, console, program.seconds)
+
+
+def idle_server_stays(program, *options):
+    """A server to which nobody comes, or whose only client has gone, is still there."""
+    with Served(program, ["--stay", "--nodes", "a", "--consoles", "1", *options]) as served:
+        for _ in range(2):
+            time.sleep(SILENCE)
+            console = Console(served)
+            expect_same("an answer", b"ok", hears(console, attach(options), program.seconds))
+            expect_same("an answer", b"undefined", hears(console, b"whereis x", program.seconds))
+            expect_same("an answer", b"ok", hears(console, b"quit", program.seconds))
+            console.go()
+        console = until_there_is_a_place(served, attach(options), program.seconds)
+        shut_down(served, console, program.seconds)
+
+
+def until_there_is_a_place(served, line, seconds):
+    """A console that is attached, once the server has a place for it."""
+    until = time.monotonic() + seconds
+    while time.monotonic() < until:
+        console = Console(served)
+        if hears(console, line, seconds) == b"ok":
+            return console
+        console.go()
+    raise Failure("there is no place for a console in time")
+
+
+def given_up_call_frees_its_place(program, *options):
+    """A client goes whose call waits for a lock, for a process that isn't linked: the call is given up, the process lives on, and
+    another console has the place."""
+    with Served(program, ["--stay", "--nodes", "a", "--consoles", "2", *options]) as served:
+        seconds = program.seconds
+        first, second = Console(served), Console(served)
+        for line, answer in [(attach(options), b"ok"), (b"spawn", b"a.1"), (b"set_lock a.1 leader one all 0", b"true")]:
+            expect_same("an answer", answer, hears(first, line, seconds))
+        for line, answer in [(attach(options), b"ok"), (b"spawn", b"a.2")]:
+            expect_same("an answer", answer, hears(second, line, seconds))
+        second.say(b"set_lock a.2 leader two all infinity\n")
+        ask, found = b"set_lock a.2 leader two all 0", b"false"
+        while found == b"false":
+            found = hears(first, ask, seconds)
+        expect_same("the answer while it waits", b"error busy", found)
+        second.go()
+        third = until_there_is_a_place(served, attach(options), seconds)
+        expect_same("an answer", b"a.3", hears(third, b"spawn", seconds))
+        shut_down(served, third, seconds)
+
+
+def tests(program, root):
+    for name, test in [
+        ("silent_console_goes_on", silent_console_goes_on),
+        ("idle_server_stays", idle_server_stays),
+        ("given_up_call_frees_its_place", given_up_call_frees_its_place),
+    ]:
+        yield Test(f"waits/{name}_at_a_socket", partial(test, program))
+        yield Test(f"waits/{name}_over_tcp", partial(test, program, *OVER_TCP))
