@@ -1,0 +1,133 @@
+"""The client in Python, and its examples, at a served cluster."""
+
+import importlib.util
+import os
+import signal
+import subprocess
+import sys
+import time
+from functools import partial
+
+from .outcomes import Failure, Test
+from .served import Served, wait_for
+
+COOKIE = "0123456789abcdef"
+
+
+def client_of(root):
+    """The client as a module."""
+    found = importlib.util.spec_from_file_location("yaltzumin", f"{root}/clients/python/yaltzumin.py")
+    module = importlib.util.module_from_spec(found)
+    sys.modules.setdefault("yaltzumin", module)
+    found.loader.exec_module(module)
+    return module
+
+
+def expect(what, wanted, found):
+    if wanted != found:
+        raise Failure(f"{what}: expected {wanted!r}, got {found!r}")
+
+
+def expect_refused(client, word, call, *given):
+    try:
+        answer = call(*given)
+    except client.Refused as why:
+        expect("the word", word, why.word)
+    else:
+        raise Failure(f"expected `{word}`, got {answer!r}")
+
+
+def has_it_all(program, root, *options):
+    """Each call of a connection, once."""
+    client = client_of(root)
+    cookie = options[1] if options else None
+    with Served(program, ["--stay", "--nodes", "a,b", "--lone", "c", "--consoles", "3", *options]) as served:
+        expect_refused(client, "not_allowed" if cookie else "no_such_node", client.connect, served.address, "z")
+        with client.connect(served.address, "a", cookie) as one, client.connect(served.address, "c", cookie) as other:
+            first, second, lone = one.spawn(), one.spawn_for_good(), other.spawn()
+            expect("the processes", ("a.1", "a.2", "c.1"), (first, second, lone))
+            expect("a new name", True, one.register("x", first, "notify"))
+            expect("a name that somebody has", False, one.register("x", second))
+            expect("its owner", first, one.whereis("x"))
+            one.re_register("y", second)
+            one.unregister("y")
+            expect("no owner", None, one.whereis("y"))
+            expect("a name of a lone node", True, other.register("x", lone))
+            expect("the join", "joined", other.join("a"))
+            expect("the notices", [client.Notice("x", None)], other.notices(lone))
+            expect("the names", ["x"], other.names())
+            with one.lock("r", first, "me"):
+                expect("the lock of another", False, other.set_lock("r", lone, "it", retries=0))
+            expect("the lock when it is free", True, other.set_lock("r", lone, "it", retries=0))
+            other.del_lock("r", lone, "it")
+            expect_refused(client, "not_live", one.set_lock, "r", "a.9", "me")
+            one.exit(second)
+            status = one.status()
+            told = (status.node, status.is_joined, status.members, status.names, status.serials, status.consoles)
+            expect("the status", ("a", True, ("a", "b", "c"), 1, 2, 2), told)
+            other.shutdown()
+            if not one.wait_for_end(program.seconds):
+                raise Failure("the other connection hasn't ended in time")
+            try:
+                one.names()
+            except client.Disconnected:
+                pass
+            else:
+                raise Failure("a connection that has ended is answered")
+        served.expect_closed()
+
+
+class Candidate:
+    """A program that stands for election."""
+
+    def __init__(self, root, served, name):
+        words = [sys.executable, f"{root}/clients/python/examples/election.py", served.socket, name]
+        self.name, self.seconds = name, served.seconds
+        environment = {**os.environ, "PYTHONDONTWRITEBYTECODE": "1"}
+        self.process = subprocess.Popen(words, stdin=subprocess.DEVNULL, stdout=subprocess.PIPE, env=environment)
+
+    def expect(self, text):
+        wait_for(self.process.stdout, time.monotonic() + self.seconds, f"line of {self.name}")
+        expect("the line of a candidate", f"{self.name} {text}\n".encode(), self.process.stdout.readline())
+
+    def end(self):
+        self.process.send_signal(signal.SIGKILL)
+        self.process.communicate()
+
+
+def elects(program, root):
+    """Of two candidates the second leads when the first is killed; and after the server was killed and came back one leads again."""
+    client = client_of(root)
+    with Served(program, ["--stay", "--nodes", "a", "--consoles", "4"]) as served:
+        one = Candidate(root, served, "one")
+        two = None
+        try:
+            one.expect("leads")
+            two = Candidate(root, served, "two")
+            with client.connect(served.address) as watcher:
+                until = time.monotonic() + program.seconds
+                while watcher.status().consoles < 3 and time.monotonic() < until:
+                    time.sleep(0.01)
+                expect("the leader", "a.1", watcher.whereis("leader"))
+                one.end()
+                two.expect("leads")
+            served.process.kill()
+            served.end()
+            two.expect("leads no more")
+            served.start([program.path, "serve", "--stay", "--listen", f"unix:{served.socket}", "--nodes", "a"])
+            served.read_line()
+            two.expect("leads")
+            with client.connect(served.address) as watcher:
+                watcher.shutdown()
+            two.expect("leads no more")
+            served.expect_closed()
+        finally:
+            one.end()
+            if two:
+                two.end()
+
+
+def tests(program, root):
+    yield Test("clients/has_it_all_at_a_socket", partial(has_it_all, program, root))
+    yield Test("clients/has_it_all_over_tcp", partial(has_it_all, program, root, "--cookie", COOKIE))
+    yield Test("clients/elects", partial(elects, program, root))
