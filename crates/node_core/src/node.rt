@@ -1,8 +1,8 @@
 //! One node.
-ghost use Rattle.std.specs.Prelude.{◌≡◌, IfOk};
-ghost use Rattle.node_core.specs.Copies.{IsSamePhase};
+ghost use Rattle.std.specs.Prelude.{◌≡◌};
 
 mod calling;
+mod copying;
 mod joining;
 mod leaving;
 mod locking;
@@ -35,23 +35,6 @@ pub(crate) enum Phase {
     Writing(NodeSet, Option<Reply>),
     /// It is a join, under this number, that waits for its contact.
     Joining(u32, Node),
-}
-
-impl Phase {
-    /// The same phase. Memory is refused only for a list of names, which no operation is answered.
-    fn copy(&self) -> Result<Self, AllocError>
-        ensures { IfOk result (IsSamePhase self.now) }
-    {
-        Ok(match self {
-            Phase::Asking(round) => Phase::Asking(round.copy()),
-            Phase::Waiting => Phase::Waiting,
-            Phase::Writing(asked, None) => Phase::Writing(asked.copy(), None),
-            Phase::Writing(asked, Some(reply)) => {
-                Phase::Writing(asked.copy(), Some(reply.copy()?))
-            }
-            Phase::Joining(number, contact) => Phase::Joining(*number, contact.copy()),
-        })
-    }
 }
 
 /// One node: its table, its locks, its processes and their lock calls, its registrar, and the numbers that it has given.
@@ -131,7 +114,6 @@ impl<N: Names<Memory = Global>> NodeCore<N> {
     ghost use Rattle.node_core.specs.Joining.{join_number_of};
     ghost use Rattle.node_events.specs.Made.{Made, HasRoom, IsNothing, nothing};
     ghost use Rattle.node_core.specs.Causes.{event_by};
-    ghost use Rattle.node_core.specs.Copies.{IsAsBounded};
     ghost use Rattle.node_core.specs.Steps.{Makes};
     ghost use Rattle.protocol_model.specs.Registrar.{retry_global};
     ghost use Rattle.protocol_model.specs.Client.{retry_locks};
@@ -294,29 +276,6 @@ impl<N: Names<Memory = Global>> NodeCore<N> {
         ensures { result ≡ min (2 ^ 64 - 1) (most_answers self.now) }
     {
         self.most_entries().saturating_add(self.calls.len())
-    }
-
-    /// The same node, in memory of its own, as the protocol sees it.
-    fn copy(&self) -> Result<Self, AllocError>
-        ensures copy { IfOk result (IsAsBefore self.now) }
-        ensures bounds { IfOk result (IsAsBounded self.now) }
-    {
-        Ok(NodeCore {
-            alloc: self.alloc,
-            node: self.node.copy(),
-            world: self.world.copy(),
-            members: self.members.copy(),
-            told: self.told.copy(),
-            joined: self.joined,
-            table: self.table.copy(self.alloc)?,
-            notices: self.notices.copy()?,
-            locks: self.locks.copy()?,
-            watch: self.watch.copy()?,
-            registrar: self.registrar.copy()?,
-            phase: self.phase.copy()?,
-            calls: self.calls.copy()?,
-            last_call: self.last_call,
-        })
     }
 
     /// What a step makes goes into this: nothing is made yet, and it has no memory.

@@ -100,8 +100,8 @@ impl<N: Names<Memory = Global>> NodeCore<N> {
         }
     }
 
-    /// Why a `set_lock` is refused, if it is.
-    fn set_refusal(&self, holder: &Pid, id: &LockId, nodes: &Nodes) -> Option<StepFault>
+    /// Why a `set_lock` is refused, if it is. It takes no memory: the call itself, which may, needn't be made before.
+    pub fn set_refusal(&self, holder: &Pid, id: &LockId, nodes: &Nodes) -> Option<StepFault>
         ensures cause { (requester : Text) (retries : AnyRetries) → cause_of result
             ≡ first_cause (call_causes self.now.name (node_of self.now) (AnyCall.SetLock holder.now id.now.resource requester (target_of nodes.now) retries)) }
         ensures never_memory { result ≡ Some Memory → ⊥ }
