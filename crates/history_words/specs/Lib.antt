@@ -1,0 +1,4 @@
+pub mod Notices
+pub mod Shown
+pub mod Entries
+pub mod Rows

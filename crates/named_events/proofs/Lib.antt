@@ -1,0 +1,4 @@
+pub mod OfNodes
+pub mod Rows
+pub mod Settling
+pub mod Printing

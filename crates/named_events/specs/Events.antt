@@ -1,0 +1,72 @@
+-- What a named event is in the world that the world of named nodes is made of. It is so behind restarts, too.
+-- x, f and t are node names, c and d creations, n, m and s nodes.
+use mathlib.Core.Logic.{◌⊎◌}
+use Rattle.std.specs.Prelude.{ℕ, ◌≡◌, ◌<◌, ◌≤◌, option_map, Some, List, [], ◌∷◌, ◌++◌}
+use Rattle.protocol_model.specs.Event.{Event, NoSuchNode}
+use Rattle.protocol_model.specs.World.{WorldEvent, opening_world, refusal, answers, happens}
+use Rattle.protocol_model.specs.SharedLaws.{NamesNode}
+use Rattle.creations.specs.NodeNames.{NamedOpening, node_of, name_of, creation_of, opening_of}
+use Rattle.creations.specs.NamedWorld.{NamedWorld, NamedEvent, At, AtNode, Deliver, NamedRefusal, Plain, named_refusal, named_answers, happens_named, after_events}
+
+module _ (o : NamedOpening) (w : NamedWorld) where
+  -- n has started: it is the present node of its name, or an older one
+  abbrev pub HasStarted : ℕ → Type 0
+  HasStarted n = creation_of o n ≤ w.present (name_of o n)
+
+  -- The named event is this event of the world: it is refused and answered as that is, and makes of the world what that makes; the
+  -- present creations stay
+  pub record IsTheEvent (named : NamedEvent) (e : WorldEvent) : Type 0 where
+    pub refused : named_refusal o w named ≡ option_map Plain (refusal (opening_of o) w.world e)
+    pub answered : named_answers o w named ≡ answers (opening_of o) w.world e
+    pub world : (happens_named o w named).world ≡ happens (opening_of o) w.world e
+    pub present : (happens_named o w named).present ≡ w.present
+
+  -- it is refused for this reason, so nothing is answered and nothing changes
+  pub record IsRefused (named : NamedEvent) (why : NamedRefusal) : Type 0 where
+    pub refused : named_refusal o w named ≡ Some why
+    pub unanswered : named_answers o w named ≡ []
+    pub unchanged : happens_named o w named ≡ w
+
+  -- both are refused the same, are answered the same, and make the same of the world
+  pub record AreOne (named other : NamedEvent) : Type 0 where
+    pub refused : named_refusal o w named ≡ named_refusal o w other
+    pub answered : named_answers o w named ≡ named_answers o w other
+    pub happened : happens_named o w named ≡ happens_named o w other
+
+  -- s is the oldest node of f of which a letter waits for n; where there is none, the present one
+  pub record IsOldestSender (f n s : ℕ) : Type 0 where
+    pub creation : ℕ
+    pub first : 1 ≤ creation
+    pub last : creation ≤ w.present f
+    pub node : s ≡ node_of o f creation
+    pub older : (d : ℕ) → 1 ≤ d → d < creation → w.world.links.queue (node_of o f d) n ≡ []
+    pub waits : (w.world.links.queue s n ≡ [] → ⊥) ⊎ (creation ≡ w.present f)
+
+  pub record EventsAreOfNodes : Type 0 where
+    -- an event at a node is that event of the world, where the node has started and so has the contact that it names, if it names one
+    pub at_node : (n : ℕ) (e : Event) → ((m : ℕ) → NamesNode (WorldEvent.At n e) m → HasStarted m) →
+        IsTheEvent (AtNode n e) (WorldEvent.At n e)
+    -- what hasn't started is no node
+    pub at_none : (n m : ℕ) (e : Event) → NamesNode (WorldEvent.At n e) m → (HasStarted m → ⊥) →
+        IsRefused (AtNode n e) (Plain NoSuchNode)
+    -- an event at a name is that at its present node
+    pub at_name : (x : ℕ) (e : Event) → AreOne (At x e) (AtNode (node_of o x (w.present x)) e)
+    -- a delivery from name to name is that from the first node of the sender that has a letter to the present node of the receiver
+    pub delivery : (f t : ℕ) → (s : ℕ) × IsOldestSender f (node_of o t (w.present t)) s
+        × IsTheEvent (Deliver f t) (WorldEvent.Deliver s (node_of o t (w.present t)))
+    -- whatever is refused is answered nothing and changes nothing, a restart, too
+    pub refused : (e : NamedEvent) (why : NamedRefusal) → named_refusal o w e ≡ Some why → IsRefused e why
+
+-- So it is behind all events
+abbrev pub NamedEventsAreOfNodes : Type 0
+NamedEventsAreOfNodes = (o : NamedOpening) (es : List NamedEvent) → EventsAreOfNodes o (after_events o es)
+
+-- A world of named nodes opens as a world does, each name with its first node, and events happen one after the other
+pub record EventsFollow (o : NamedOpening) : Type 0 where
+  pub world : (after_events o []).world ≡ opening_world (opening_of o)
+  pub present : (x : ℕ) → (after_events o []).present x ≡ 1
+  pub next : (es : List NamedEvent) (e : NamedEvent) → after_events o (es ++ e ∷ []) ≡ happens_named o (after_events o es) e
+
+-- So it is in every opening
+abbrev pub NamedEventsFollow : Type 0
+NamedEventsFollow = (o : NamedOpening) → EventsFollow o
