@@ -115,7 +115,8 @@ module _ (cluster : Nodes) where
       → IsOpen h n
   hold_open h n None e q = absurd (cc q)
   hold_open h n (Some hold) e q =
-      let L : IsLeftOut cluster h hold = left_out-hold_at cluster h (standing_of cluster h) (Holds-standing_of cluster h) n hold e in
+      let L : IsLeftOut cluster h hold =
+      left_out-hold_at cluster h (standing_of cluster h) (Holds-standing_of cluster h) n hold e in
       let same : hold.node ≡ n = eqb-true hold.node n q in
       record {
         before = L.before;
@@ -129,7 +130,8 @@ module _ (cluster : Nodes) where
   -- and an operation that isn't done holds
   open_holds : (h : List Entry) (n : ℕ) → IsLegal cluster h → IsOpen h n → is_holding (standing_of cluster h) n ≡ true
   open_holds h n l O =
-      let H : IsHeld (standing_of cluster h) n O.entry = holds_law cluster h l O.before O.later O.entry n O.split O.granted O.not_done in
+      let H : IsHeld (standing_of cluster h) n O.entry =
+      holds_law cluster h l O.before O.later O.entry n O.split O.granted O.not_done in
       ap (is_hold_of n) H.1 ∙ eq-eqb H.0.node n H.2
 
   says_what_stood : (h : List Entry) → IsLegal cluster h → SaysWhatStood cluster h
@@ -140,7 +142,8 @@ module _ (cluster : Nodes) where
         (legal_at before later (Strike p) s) in
         Died-dead cluster p before (in_registry before (λ r. r.dead p) true l.1);
     joins = λ before later j k m reply s. join_reply before j k m reply (legal_at before later (Join j k m reply) s);
-    told = λ before later n d s. left_entered cluster d before (in_registry before (λ r. r.left d) true (legal_at before later (Told n d) s));
+    told = λ before later n d s.
+        left_entered cluster d before (in_registry before (λ r. r.left d) true (legal_at before later (Told n d) s));
     leaves_once = λ before later d s c. cc (
       not-true ((standing_of cluster before).registry.left d) (leaving before later d s).0,
       ap (λ (r : Registry). r.left d) (registry-standing_of cluster before) ∙ entered_left cluster d before c,

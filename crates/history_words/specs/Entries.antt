@@ -1,18 +1,20 @@
 -- What stands before an entry of a legal history, in words: the entries before it, and not what they come to.
--- cluster: the nodes that are joined at first; h, before, later, earlier, middle: parts of a history, the oldest first. p is a process,
--- d a node that left, j a joiner, m its contact, k the number of a call.
-use Rattle.std.specs.Prelude.{ℕ, true, ◌≡◌, ◌↔◌, Contains, Some, List, ◌∷◌, ◌++◌}
+-- cluster: the nodes that are joined at first; h, before, later and earlier: parts of a history, the oldest entry first. p is a
+-- process, d a node that left, j a joiner, m its contact, k the number of a call.
+use Rattle.std.specs.Prelude.{ℕ, true, false, ◌≡◌, ◌↔◌, Contains, Some, List, ◌∷◌, ◌++◌}
 use Rattle.registry_model.specs.Process.{Process, Nodes}
 use Rattle.registry_model.specs.Call.{Reply, Joined, NotMember, ContactLeft}
 use Rattle.registry_model.specs.History.{Entry, Strike, Join, Done, Left, Told, registry_of, granted_to}
 use Rattle.registry_model.specs.HistoryLaws.{decided_by, Died}
 use Rattle.registry_model.specs.Legal.{IsLegal}
-use Rattle.protocol_model.specs.World.{Opening, in_cluster, WorldEvent, opening_world, run}
+use Rattle.protocol_model.specs.World.{Opening, in_cluster, WorldEvent, happens}
+use Rattle.headline.specs.Clauses.{world}
 
 -- n was told that d has left: by a notice, or when it joined by a contact that was told
 pub data WasTold : List Entry → ℕ → ℕ → Type 0 where
   ByNotice : (h : List Entry) (n d : ℕ) → Contains h (Told n d) → WasTold h n d
-  ByContact : (h before later : List Entry) (n k m d : ℕ) → h ≡ before ++ Join n k m Joined ∷ later → WasTold before m d → WasTold h n d
+  ByContact : (h before later : List Entry) (n k m d : ℕ) → h ≡ before ++ Join n k m Joined ∷ later → WasTold before m d →
+      WasTold h n d
 
 -- n has joined: it was of the cluster at first, or a join of it was granted
 pub data HasJoined (cluster : Nodes) (h : List Entry) (n : ℕ) : Type 0 where
@@ -40,7 +42,7 @@ pub record TellsItsEntries (cluster : Nodes) (h : List Entry) : Type 0 where
   pub told : (n d : ℕ) → ((registry_of cluster h).told n d ≡ true) ↔ WasTold h n d
   pub joined : (n : ℕ) → ((registry_of cluster h).joined n ≡ true) ↔ HasJoined cluster h n
 
--- What stands before a join that is granted: the joiner hasn't joined, its contact has, and the contact wasn't told that the joiner left
+-- What stands before a join that is granted: the joiner hasn't joined, and its contact has and wasn't told that the joiner left
 pub record MayBeAdmitted (cluster : Nodes) (before : List Entry) (j m : ℕ) : Type 0 where
   pub lone : HasJoined cluster before j → ⊥
   pub contact : HasJoined cluster before m
@@ -74,6 +76,12 @@ pub record SaysWhatStood (cluster : Nodes) (h : List Entry) : Type 0 where
 abbrev pub LegalSaysWhatStood : Type 0
 LegalSaysWhatStood = (cluster : Nodes) (h : List Entry) → IsLegal cluster h → SaysWhatStood cluster h
 
--- and in that of each world, behind all events
+-- And in that of each world, behind all events
 abbrev pub WorldsSayWhatStood : Type 0
-WorldsSayWhatStood = (o : Opening) (es : List WorldEvent) → SaysWhatStood (in_cluster o) (run o (opening_world o) es).history
+WorldsSayWhatStood = (o : Opening) (es : List WorldEvent) → SaysWhatStood (in_cluster o) (world o es).history
+
+-- And who refuses a join shows then that it isn't joined. e is an event that a world accepts or not
+abbrev pub RefusesWhileLone : Type 0
+RefusesWhileLone = (o : Opening) (es : List WorldEvent) (e : WorldEvent) (earlier later : List Entry) (j k m : ℕ) →
+    (happens o (world o es) e).history ≡ (world o es).history ++ (earlier ++ Join j k m NotMember ∷ later) →
+    ((world o es).node m).replica.joined ≡ false

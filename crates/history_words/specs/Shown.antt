@@ -32,7 +32,7 @@ abbrev pub ShowsTheRegistry : Type 0
 ShowsTheRegistry = (cluster : Nodes) (h : List Entry) (n : ℕ) →
     IsSeenOf (registry_of cluster h) n (replica_of (registry_of cluster h) n)
 
--- What a running node a shows behind events: the registry's, or, while an operation of its group holds, that of the registry without it
+-- What a running node shows behind events: the registry; while an operation of its group holds, with that operation or without it
 pub record ShowsInWords (o : Opening) (es : List WorldEvent) (a : ℕ) : Type 0 where
   pub free : IsRunning o (so_far o es) a → IsTrue (is_free (so_far o es) a) →
       IsSeenOf (so_far o es).registry a ((world o es).node a).replica

@@ -8,7 +8,7 @@ ghost use Rattle.protocol_model.specs.World.{Opening};
 ghost use Rattle.protocol_model.specs.Check.{Computes};
 ghost use Rattle.history_words.specs.Notices.{GetsItsOwn, SendsInOrder};
 ghost use Rattle.history_words.specs.Shown.{ShowsTheRegistry, NodesShowInWords};
-ghost use Rattle.history_words.specs.Entries.{TellsItsEntries, LegalSaysWhatStood, WorldsSayWhatStood};
+ghost use Rattle.history_words.specs.Entries.{TellsItsEntries, LegalSaysWhatStood, WorldsSayWhatStood, RefusesWhileLone};
 ghost use Rattle.history_words.specs.Rows.{two_notices_of_one_join, both_are_sent_two};
 
 /// A process gets exactly the notices of a list that are for it, in their order.
@@ -16,20 +16,20 @@ pub fn gets_its_own()
     ensures { GetsItsOwn }
 {}
 
-/// What a node has to show of the registry of a history, in words: its group's table and members, but for nodes that it was told have
-/// left, whom it was told of, and what each of its processes was sent, dead or not.
+/// What a node has to show of the registry of a history, in words: its group's table and members, but for nodes that it was told
+/// have left, whom it was told of, and what each of its processes was sent, dead or not.
 pub fn shows_the_registry()
     ensures { ShowsTheRegistry }
 {}
 
-/// At first nobody was sent anything; a join that is granted adds for each process what that gets of its settlement, behind what it was
-/// sent before, and no other entry adds any.
+/// At first nobody was sent anything; a join that is granted adds for each process the notices that it is sent, rising by name,
+/// behind what it was sent before, and no other entry adds any.
 pub fn sends_in_order()
     ensures { (cluster : Nodes) (h : List Entry) → SendsInOrder cluster h }
 {}
 
-/// No node opens with a notice; and behind all events a running node shows, in these words, the registry of the history, or that without
-/// the operation of its group that holds. A look-up of a process's notices is answered those that its node shows.
+/// No node opens with a notice; and behind all events a running node shows, in these words, the registry of the history, or that
+/// without the operation of its group that holds. A look-up of a process's notices is answered those that its node shows.
 pub fn nodes_show_in_words()
     ensures { (o : Opening) → NodesShowInWords o }
 {}
@@ -39,9 +39,9 @@ pub fn tells_its_entries()
     ensures { (cluster : Nodes) (h : List Entry) → TellsItsEntries cluster h }
 {}
 
-/// In a legal history who is struck had died; a join is granted to a node that hasn't joined by a contact that has, refused by a node that
-/// isn't admitted, or ended since the joiner was told that its contact left; who is told of has left; a node leaves once, and with nothing
-/// undone; who decides hasn't left; and what is done was granted, and not done before.
+/// In a legal history who is struck had died; a join is granted to a node that hasn't joined by a contact that has, refused by a
+/// node that isn't admitted, or ended since the joiner was told that its contact left; whom a node is told of has left; a node
+/// leaves once, and with nothing undone; who decides hasn't left; and what is done was granted, and not done before.
 pub fn legal_says_what_stood()
     ensures { LegalSaysWhatStood }
 {}
@@ -49,6 +49,11 @@ pub fn legal_says_what_stood()
 /// So it is in the history of each world, behind all events.
 pub fn worlds_say_what_stood()
     ensures { WorldsSayWhatStood }
+{}
+
+/// And who refuses a join as no member shows then that it isn't joined.
+pub fn refuses_while_lone()
+    ensures { RefusesWhileLone }
 {}
 
 /// Worked scripts, computed: two notices of one join, and none that is for another process of the node.

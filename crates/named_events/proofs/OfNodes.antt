@@ -20,6 +20,11 @@ use Rattle.creations.proofs.Standing.{Sound, started_from, started_to}
 use Rattle.creations.proofs.Always.{always}
 use Rattle.named_events.specs.Events.{HasStarted, IsTheEvent, IsRefused, IsOldestSender, EventsAreOfNodes, NamedEventsAreOfNodes, NamedEventsFollow}
 
+-- a link on which nothing is found to wait is empty
+empty : (ls : List Letter) → not (is_nil ls) ≡ false → ls ≡ []
+empty [] e = refl
+empty (l ∷ ls) e = absurd (cc e)
+
 module _ (o : NamedOpening) where
   -- What is found among the first nodes of a name
   abbrev Finds : (ℕ → Bool) → ℕ → ℕ → Option ℕ → Type 0
@@ -49,12 +54,14 @@ module _ (o : NamedOpening) where
     refused_is : (named : NamedEvent) (why : NamedRefusal) → named_refusal o w named ≡ Some why → IsRefused o w named why
     refused_is named why r = record {
       refused = r;
-      unanswered = ap (λ (x : Option NamedRefusal). all_answers (opening_of o) w.world (if is_none x then plain o w named else [])) r;
+      unanswered = ap (λ (x : Option NamedRefusal).
+          all_answers (opening_of o) w.world (if is_none x then plain o w named else [])) r;
       unchanged = ap (λ (x : Option NamedRefusal). if is_none x then accepted_named o w named else w) r;
     }
 
     -- what is one event of the world
-    one_event : (named : NamedEvent) (e : WorldEvent) → named_refusal o w named ≡ option_map Plain (refusal (opening_of o) w.world e)
+    one_event : (named : NamedEvent) (e : WorldEvent)
+        → named_refusal o w named ≡ option_map Plain (refusal (opening_of o) w.world e)
         → plain o w named ≡ e ∷ [] → present_after o w named ≡ w.present → IsTheEvent o w named e
     one_event named e r p k = go (refusal (opening_of o) w.world e) refl
       where
@@ -99,7 +106,8 @@ module _ (o : NamedOpening) where
         (ap (λ (b : Bool). if b then plain_refusal o w (WorldEvent.At n e) else Some (Plain NoSuchNode))
         (started n ((tells_its_places.names (WorldEvent.At n e) n).1 (inl refl)))
         ∙ plainly (WorldEvent.At n e)
-        (started (other (WorldEvent.At n e)) ((tells_its_places.names (WorldEvent.At n e) (other (WorldEvent.At n e))).1 (inr refl))))
+        (started (other (WorldEvent.At n e))
+        ((tells_its_places.names (WorldEvent.At n e) (other (WorldEvent.At n e))).1 (inr refl))))
         refl refl
       where
         started : (m : ℕ) → NamesNode (WorldEvent.At n e) m → has_started o w m ≡ true
@@ -115,7 +123,8 @@ module _ (o : NamedOpening) where
         by k false q = refl
         by (inl here) true q = absurd (cc (ap (has_started o w) here, unstarted m none, q))
         by (inr there) true q =
-            ap (λ (b : Bool). if b then option_map Plain (refusal (opening_of o) w.world (WorldEvent.At n e)) else Some (Plain NoSuchNode))
+            ap (λ (b : Bool).
+            if b then option_map Plain (refusal (opening_of o) w.world (WorldEvent.At n e)) else Some (Plain NoSuchNode))
             (ap (has_started o w) (sym there) ∙ unstarted m none)
 
   module _ (w : NamedWorld) (s : Sound o w) where
@@ -139,10 +148,6 @@ module _ (o : NamedOpening) where
       older = λ d i l. empty (w.world.links.queue (node_of o f d) n) (F d i (omega (arith, l)));
       waits = inr refl;
     }
-      where
-        empty : (ls : List Letter) → not (is_nil ls) ≡ false → ls ≡ []
-        empty [] e = refl
-        empty (l ∷ ls) e = absurd (cc e)
     sender_is f n (Some m) F = record {
       creation = F.0;
       first = F.1;
@@ -151,10 +156,6 @@ module _ (o : NamedOpening) where
       older = λ d i l. empty (w.world.links.queue (node_of o f d) n) (F.5 d i l);
       waits = inl (λ e. cc (F.4, ap (λ (ls : List Letter). not (is_nil ls)) e));
     }
-      where
-        empty : (ls : List Letter) → not (is_nil ls) ≡ false → ls ≡ []
-        empty [] e = refl
-        empty (l ∷ ls) e = absurd (cc e)
 
     pub sender : (f n : ℕ) → IsOldestSender o w f n
         (or_present o w f (find (λ m. not (is_nil (w.world.links.queue m n))) (first_nodes o f (w.present f))))

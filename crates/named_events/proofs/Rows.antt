@@ -61,7 +61,8 @@ module _ (p : NamedEvent → Bool) where
       (go (find p (map (λ t. Deliver f t) ts)) (from_one f ts S) (find p (flat_map (λ g. map (λ t. Deliver g t) ts) fs))
       (from_all fs ts R.1 S))
     where
-      go : (x : Option NamedEvent) → FromOne f ts x → (y : Option NamedEvent) → FromAll fs ts y → FromAll (f ∷ fs) ts (option_or x y)
+      go : (x : Option NamedEvent) → FromOne f ts x → (y : Option NamedEvent) → FromAll fs ts y
+          → FromAll (f ∷ fs) ts (option_or x y)
       go (Some e) F y G = (
         f,
         F.0,

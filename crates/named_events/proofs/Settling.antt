@@ -21,13 +21,14 @@ use Rattle.creations.proofs.Standing.{Sound, started_to, present_started, up_pre
 use Rattle.creations.proofs.NamedRuns.{happens-plain}
 use Rattle.creations.proofs.Always.{always, happens_keeps}
 use Rattle.named_events.specs.Events.{IsOldestSender}
-use Rattle.named_events.specs.Settling.{LetterWaitsByName, IsFirstByName, SettlesByName, SettlingByName}
+use Rattle.named_events.specs.Settling.{LetterWaitsByName, NothingWaits, IsFirstByName, SettlesByName, SettlingByName}
 use Rattle.named_events.proofs.OfNodes.{sender, delivery}
 use Rattle.named_events.proofs.Rows.{FromAll, from_all}
 
 -- what a world refuses of a delivery, by what is tested
 abbrev by_tests : Bool → Bool → Bool → List Letter → Option Refusal
-by_tests i j l ls = if not i || not j then Some NoSuchNode else (if l then Some NodeLeft else (if is_nil ls then Some EmptyLink else None))
+by_tests i j l ls =
+    if not i || not j then Some NoSuchNode else (if l then Some NodeLeft else (if is_nil ls then Some EmptyLink else None))
 
 record Passes (i j l : Bool) (ls : List Letter) : Type 0 where
   pub receiver : i ≡ true
@@ -125,7 +126,7 @@ module _ (o : NamedOpening) (w : NamedWorld) (s : Sound o w) where
 
   -- what the next delivery says of the letters that wait
   abbrev Says : Option NamedEvent → Type 0
-  Says None = (f t : ℕ) → LetterWaitsByName o w f t → ⊥
+  Says None = NothingWaits o w
   Says (Some e) = IsFirstByName o w e
 
   pub next_says : Says (next_named o w)
@@ -143,7 +144,7 @@ module _ (o : NamedOpening) (w : NamedWorld) (s : Sound o w) where
 
   -- where no letter waits by names, none waits for a node that has started and runs
   module _ (es : List NamedEvent) where
-    quiet_by : ((f t : ℕ) → LetterWaitsByName o w f t → ⊥) → NamesAreQuiet o es w
+    quiet_by : NothingWaits o w → NamesAreQuiet o es w
     quiet_by none f c i up = go (has_started o w f) refl (w.world.links.queue f c) refl
       where
         here : c ≡ present_node o w (name_of o c)
@@ -166,7 +167,7 @@ module _ (o : NamedOpening) (w : NamedWorld) (s : Sound o w) where
           ));
         }))
 
-    none_by : NamesAreQuiet o es w → (f t : ℕ) → LetterWaitsByName o w f t → ⊥
+    none_by : NamesAreQuiet o es w → NothingWaits o w
     none_by quiet f t L = L.waits (quiet (node_of o f L.creation) (present_node o w t)
         (inside f L.creation L.first L.last ∙ L.sender) (record {
           inside = present_inside t ∙ L.receiver;
@@ -174,12 +175,12 @@ module _ (o : NamedOpening) (w : NamedWorld) (s : Sound o w) where
           stays = L.runs;
         }))
 
-    next_quiet : (next_named o w ≡ None) ↔ NamesAreQuiet o es w
-    next_quiet = (λ h. quiet_by (subst Says h next_says), λ quiet. go quiet (next_named o w) next_says)
-      where
-        go : NamesAreQuiet o es w → (x : Option NamedEvent) → Says x → x ≡ None
-        go quiet None S = refl
-        go quiet (Some e) S = absurd (none_by quiet S.sender S.receiver S.waits)
+  next_none : (next_named o w ≡ None) ↔ NothingWaits o w
+  next_none = (λ h. subst Says h next_says, λ none. go none (next_named o w) next_says)
+    where
+      go : NothingWaits o w → (x : Option NamedEvent) → Says x → x ≡ None
+      go none None S = refl
+      go none (Some e) S = absurd (none S.sender S.receiver S.waits)
 
   next_first : (e : NamedEvent) → next_named o w ≡ Some e → IsFirstByName o w e
   next_first e h = subst Says h next_says
@@ -228,22 +229,18 @@ module _ (o : NamedOpening) where
       go by None = omega arith
       go by (Some e) = omega (arith, by (happens_named o w e))
 
-  -- no letter waits in a world, whatever events it is behind
-  abbrev IsQuiet : NamedWorld → Type 0
-  IsQuiet w = (es : List NamedEvent) → NamesAreQuiet o es w
-
-  stops_quiet : (most : ℕ) (w : NamedWorld) → Sound o w → length (named_deliveries_left o most w) < most
-      → IsQuiet (run_named o w (named_deliveries_left o most w))
-  stops_quiet zero w s h = absurd (omega (arith, h))
-  stops_quiet (suc most) w s h = subst (λ (es : List NamedEvent). IsQuiet (run_named o w es)) (sym (settle_is most w))
-      (go (stops_quiet most) (next_named o w) refl
+  stops_there : (most : ℕ) (w : NamedWorld) → Sound o w → length (named_deliveries_left o most w) < most
+      → NothingWaits o (run_named o w (named_deliveries_left o most w))
+  stops_there zero w s h = absurd (omega (arith, h))
+  stops_there (suc most) w s h = subst (λ (es : List NamedEvent). NothingWaits o (run_named o w es)) (sym (settle_is most w))
+      (go (stops_there most) (next_named o w) refl
       (subst (λ (es : List NamedEvent). length es < suc most) (settle_is most w) h))
     where
       go : ((v : NamedWorld) → Sound o v → length (named_deliveries_left o most v) < most
-          → IsQuiet (run_named o v (named_deliveries_left o most v)))
+          → NothingWaits o (run_named o v (named_deliveries_left o most v)))
           → (x : Option NamedEvent) → next_named o w ≡ x → length (settle_by most w x) < suc most
-          → IsQuiet (run_named o w (settle_by most w x))
-      go by None i l = λ es. (next_quiet o w s es).0 i
+          → NothingWaits o (run_named o w (settle_by most w x))
+      go by None i l = (next_none o w s).0 i
       go by (Some e) i l = by (happens_named o w e) (happens_keeps o w e s) (omega (arith, l))
 
   -- the answers to an event and those to more of them
@@ -268,30 +265,30 @@ module _ (o : NamedOpening) where
       last : List NamedOutput
       last = settled o (next_named o (run_named o w (e ∷ ds))) ∷ []
 
-  prints_settled : (w : NamedWorld) → Sound o w → (es : List NamedEvent) → NamesAreQuiet o es w
-      → printed o w NamedLine.Settle [] ≡ Settled ∷ []
-  prints_settled w s es quiet =
-      ap (λ (x : Option NamedEvent). settled o x ∷ []) ((next_quiet o w s es).1 quiet)
+  prints_settled : (w : NamedWorld) → Sound o w → NothingWaits o w → printed o w NamedLine.Settle [] ≡ Settled ∷ []
+  prints_settled w s none =
+      ap (λ (x : Option NamedEvent). settled o x ∷ []) ((next_none o w s).1 none)
 
-  prints_unsettled : (w : NamedWorld) → Sound o w → (es : List NamedEvent) → (NamesAreQuiet o es w → ⊥)
+  prints_unsettled : (w : NamedWorld) → Sound o w → (NothingWaits o w → ⊥)
       → printed o w NamedLine.Settle [] ≡ SettleLimit ∷ []
-  prints_unsettled w s es waits = go (next_named o w) refl
+  prints_unsettled w s waits = go (next_named o w) refl
     where
       go : (x : Option NamedEvent) → next_named o w ≡ x → settled o x ∷ [] ≡ SettleLimit ∷ []
-      go None e = absurd (waits ((next_quiet o w s es).0 e))
+      go None e = absurd (waits ((next_none o w s).0 e))
       go (Some d) e = refl
 
   settles : (es : List NamedEvent) (w : NamedWorld) → Sound o w → SettlesByName o es w
   settles es w s = record {
-    none = next_quiet o w s es;
+    none = next_none o w s;
     some = next_first o w s;
     each = λ most before after e h. each_first most w s before after e h;
     limit = λ most. in_limit most w;
-    stops = λ most h. stops_quiet most w s h (es ++ named_deliveries_left o most w);
+    stops = λ most h. stops_there most w s h;
     answers = prints_first w;
-    settled = prints_settled w s es;
-    unsettled = prints_unsettled w s es;
+    settled = prints_settled w s;
+    unsettled = prints_unsettled w s;
     plays = λ most. refl;
+    quiet = (quiet_by o w s es, none_by o w s es);
   }
 
 pub settling_delivers_the_first : SettlingByName

@@ -43,7 +43,7 @@ module _ (o : NamedOpening) (w : NamedWorld) where
     pub waits : (w.world.links.queue s n ≡ [] → ⊥) ⊎ (creation ≡ w.present f)
 
   pub record EventsAreOfNodes : Type 0 where
-    -- an event at a node is that event of the world, where the node has started and so has the contact that it names, if it names one
+    -- an event at a node is that event of the world, where the node has started, and the contact, if it names one
     pub at_node : (n : ℕ) (e : Event) → ((m : ℕ) → NamesNode (WorldEvent.At n e) m → HasStarted m) →
         IsTheEvent (AtNode n e) (WorldEvent.At n e)
     -- what hasn't started is no node

@@ -10,7 +10,7 @@ use Rattle.creations.specs.NodeNames.{NamedOpening, span, is_name, node_of}
 use Rattle.creations.specs.NamedWorld.{NamedWorld, NamedEvent, At, AtNode, Deliver, Restart, NamedRefusal, Plain, named_refusal, named_answers, run_named, after_events}
 use Rattle.creations.specs.NamedScript.{NamedLine, Play, TableAt, MembersAt, NamedOutput, Said, Okay, Started, Error, TableIs, MembersAre, events_in, printed, output_of}
 
--- What is printed of an event before what is printed of its answers, by what happens at its node: of an exit and a leave that they were
+-- What is printed of an accepted event before its answers, by what happens at its node: of an exit and a leave that they were
 -- accepted, and of a call or a retry nothing
 pub data BeginsAtNode : Event → List NamedOutput → Type 0 where
   Exits : (p : Process) → BeginsAtNode (Event.Exiting p) (Okay ∷ [])

@@ -19,6 +19,10 @@ module _ (o : NamedOpening) (w : NamedWorld) where
     pub last : creation ≤ w.present f
     pub waits : w.world.links.queue (node_of o f creation) (node_of o t (w.present t)) ≡ [] → ⊥
 
+  -- no letter does
+  abbrev pub NothingWaits : Type 0
+  NothingWaits = (f t : ℕ) → LetterWaitsByName f t → ⊥
+
   -- the event is the delivery from the first name of which a letter waits, by senders, then receivers
   pub record IsFirstByName (e : NamedEvent) : Type 0 where
     pub sender : ℕ
@@ -29,8 +33,8 @@ module _ (o : NamedOpening) (w : NamedWorld) where
 
 -- What is delivered next in a world of named nodes, what `settle` delivers, and what it prints
 pub record SettlesByName (o : NamedOpening) (es : List NamedEvent) (w : NamedWorld) : Type 0 where
-  -- the next delivery is the first, and there is none exactly where no letter waits for a node that has started and runs
-  pub none : (next_named o w ≡ None) ↔ NamesAreQuiet o es w
+  -- the next delivery is the first, and there is none exactly where no letter waits
+  pub none : (next_named o w ≡ None) ↔ NothingWaits o w
   pub some : (e : NamedEvent) → next_named o w ≡ Some e → IsFirstByName o w e
   -- each delivery of `settle` is the first in the world behind those before it
   pub each : (most : ℕ) (before after : List NamedEvent) (e : NamedEvent) → named_deliveries_left o most w ≡ before ++ e ∷ after →
@@ -38,15 +42,17 @@ pub record SettlesByName (o : NamedOpening) (es : List NamedEvent) (w : NamedWor
   -- there are no more than are allowed, and where there are fewer no letter waits behind them
   pub limit : (most : ℕ) → length (named_deliveries_left o most w) ≤ most
   pub stops : (most : ℕ) → length (named_deliveries_left o most w) < most →
-      NamesAreQuiet o (es ++ named_deliveries_left o most w) (run_named o w (named_deliveries_left o most w))
+      NothingWaits o (run_named o w (named_deliveries_left o most w))
   -- the line prints the answers to its deliveries, first those to the first
   pub answers : (e : NamedEvent) (ds : List NamedEvent) → printed o w NamedLine.Settle (e ∷ ds)
       ≡ map Said (named_answers o w e) ++ printed o (happens_named o w e) NamedLine.Settle ds
   -- and behind them `settled` where no letter waits any more, and else that the limit was reached
-  pub settled : NamesAreQuiet o es w → printed o w NamedLine.Settle [] ≡ Settled ∷ []
-  pub unsettled : (NamesAreQuiet o es w → ⊥) → printed o w NamedLine.Settle [] ≡ SettleLimit ∷ []
+  pub settled : NothingWaits o w → printed o w NamedLine.Settle [] ≡ Settled ∷ []
+  pub unsettled : (NothingWaits o w → ⊥) → printed o w NamedLine.Settle [] ≡ SettleLimit ∷ []
   -- and these deliveries are the events of the line
   pub plays : (most : ℕ) → events_in o most w NamedLine.Settle ≡ named_deliveries_left o most w
+  -- no letter waits by names exactly where none waits on a link to a node that has started and runs
+  pub quiet : NothingWaits o w ↔ NamesAreQuiet o es w
 
 -- So it is behind all events
 abbrev pub SettlingByName : Type 0

@@ -5,9 +5,9 @@ ghost use Rattle.named_events.specs.Events.{NamedEventsAreOfNodes, NamedEventsFo
 ghost use Rattle.named_events.specs.Settling.{SettlingByName};
 ghost use Rattle.named_events.specs.Printing.{PrintingByName};
 
-/// An event at a node that has started is that event of the world, refused, answered and carried out as there; at a name it is that at the
-/// name's present node, and a delivery from name to name takes the letters of older nodes first. What hasn't started is no node, and what
-/// is refused changes nothing.
+/// An event at a node that has started is that event of the world, refused, answered and carried out as there; at a name it is that
+/// at the name's present node, and a delivery from name to name takes the letters of older nodes first. What hasn't started is no
+/// node, and what is refused changes nothing.
 pub fn events_are_of_nodes()
     ensures { NamedEventsAreOfNodes }
 {}
@@ -17,14 +17,14 @@ pub fn events_follow_each_other()
     ensures { NamedEventsFollow }
 {}
 
-/// `settle` delivers the first letter that waits, by names, again and again; it prints the answers in that order, and `settled` exactly
-/// where no letter waits for a running node any more.
+/// `settle` delivers the first letter that waits, by names, again and again; it prints the answers in that order, and `settled`
+/// exactly where no letter waits for a running node any more.
 pub fn settling_delivers_the_first()
     ensures { SettlingByName }
 {}
 
-/// A line of a script prints the answers of its event, or why it is refused; a look prints the table or the members of the name's present
-/// node; and lines are printed one after the other.
+/// A line of a script prints the answers of its event, or why it is refused; a look prints the table or the members of the name's
+/// present node; and lines are printed one after the other.
 pub fn printing_is_by_name()
     ensures { PrintingByName }
 {}
