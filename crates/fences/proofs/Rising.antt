@@ -1,0 +1,46 @@
+-- Merged ends are a run, and where places rise as nodes do, numbers rise along it.
+use Rattle.std.proofs.Common.{ℕ, true, ◌≡◌, inl, inr, List, [], ◌∷◌, ◌++◌, subst}
+use Rattle.protocol_model.specs.World.{Opening, in_world, World, opening_world, run}
+use Rattle.closings.specs.Merging.{Step, is_before, happening, events_in, world_behind, Takes, TakesAll}
+use Rattle.closings.proofs.Merged.{consistent_ends_play}
+use Rattle.lock_answers.proofs.Events.{accepted_of}
+use Rattle.fences.specs.Laws.{MergedEndsAreRuns, FencesRise}
+use Rattle.fences.proofs.Numbers.{by_stamp, by_place}
+use Rattle.fences.proofs.Orders.{is_before_cases, order_behind, takes_behind, leads_all, LeadsAll}
+
+pub merged_ends_are_runs : MergedEndsAreRuns
+merged_ends_are_runs o logs tables ss C M =
+    record { order = M.order; takes = (consistent_ends_play o logs tables ss C M).takes }
+
+-- a step that the world takes is one of its nodes'
+pub node_inside : (o : Opening) (w : World) (s : Step) → Takes o w s → in_world o s.node ≡ true
+node_inside o w s T =
+    subst (λ (a : ℕ). in_world o a ≡ true) T.own (accepted_of o w (happening s) T.accepted).place_inside
+
+-- one of these steps leads those behind it
+pub leads_one : (s : Step) (us : List Step) (t : Step) (ts : List Step) → LeadsAll s (us ++ t ∷ ts) → is_before s t ≡ true
+leads_one s [] t ts h = h.0
+leads_one s (u ∷ us) t ts h = leads_one s us t ts h.1
+
+pub fences_rise : FencesRise
+fences_rise o place before between later s t P rise R = elim (is_before_cases s t first) [
+  | inl h ↦ by_stamp s.entry.stamp t.entry.stamp (place s.node) (place t.node) (P s.node inside_first) h
+  | inr h ↦ by_place s.entry.stamp t.entry.stamp (place s.node) (place t.node) h.0
+      (rise s.node t.node inside_first inside_second h.1)
+]
+  where
+    first : is_before s t ≡ true
+    first = leads_one s between t later
+        (leads_all s (between ++ t ∷ later) (order_behind before (s ∷ between ++ t ∷ later) R.order))
+
+    taken : TakesAll o (world_behind o before) (s ∷ between ++ t ∷ later)
+    taken = takes_behind o (opening_world o) before (s ∷ between ++ t ∷ later) R.takes
+
+    inside_first : in_world o s.node ≡ true
+    inside_first = node_inside o (world_behind o before) s taken.0
+
+    inside_second : in_world o t.node ≡ true
+    inside_second = node_inside o w t (takes_behind o (world_behind o before) (s ∷ between) (t ∷ later) taken).0
+      where
+        w : World
+        w = run o (world_behind o before) (events_in (s ∷ between))

@@ -1,0 +1,91 @@
+-- Grants in a run: which node holds what when they are answered, and the number that goes with each.
+use Rattle.std.specs.Prelude.{ℕ, true, ◌≡◌, ◌<◌, ◌+◌, ◌*◌, Contains, Some, List, [], ◌∷◌, ◌++◌}
+use Rattle.registry_model.specs.Process.{Text, Process}
+use Rattle.registry_model.specs.Call.{True}
+use Rattle.protocol_model.specs.Letter.{Client}
+use Rattle.protocol_model.specs.LockTable.{Locks, count}
+use Rattle.protocol_model.specs.Event.{Answer}
+use Rattle.protocol_model.specs.ClientLocks.{holds_count}
+use Rattle.protocol_model.specs.LockAnswers.{Tries, tries_of}
+use Rattle.protocol_model.specs.Leftovers.{Runs}
+use Rattle.protocol_model.specs.World.{Opening, in_world, opening_world}
+use Rattle.closings.specs.Merging.{Step, IsInOrder, events_in, world_behind, TakesAll}
+
+-- a run: steps by their stamps, and those of one stamp by their nodes, which a world that opens so takes one after the other
+pub record IsRun (o : Opening) (ss : List Step) : Type 0 where
+  pub order : IsInOrder ss
+  pub takes : TakesAll o (opening_world o) ss
+
+-- the number of a step: its stamp, and behind it the place of its node, of which there are eight
+abbrev pub fence : (ℕ → ℕ) → Step → ℕ
+fence place s = s.entry.stamp * 8 + place s.node
+
+-- each node of the world has one of these places
+abbrev pub ArePlaces : Opening → (ℕ → ℕ) → Type 0
+ArePlaces o place = (a : ℕ) → in_world o a ≡ true → place a < 8
+
+-- p's last try is answered `true`
+abbrev pub true_to : Process → Tries → Answer
+true_to p t = record { node = p.node; number = t.last.number; reply = True }
+
+-- a grant: a step of the run answers `true` to the last `set_lock` of a process
+pub record Grant (o : Opening) (ss : List Step) : Type 0 where
+  pub before : List Step
+  pub step : Step
+  pub later : List Step
+  pub split : ss ≡ before ++ step ∷ later
+  pub holder : Process
+  pub resource : Text
+  pub requester : Text
+  pub tries : Tries
+  pub last : tries_of o (events_in (before ++ step ∷ [])) holder ≡ Some tries
+  pub id : tries.last.id ≡ Client resource requester
+  pub given : Contains step.entry.answers (true_to holder tries)
+
+-- the lock table has the resource under this requester, and under no other
+pub record IsUnder (t : Locks) (resource requester : Text) : Type 0 where
+  pub holder : Process
+  pub has : 0 < count (Client resource requester) holder t
+  pub alone : (q : Process) (other : Text) → 0 < count (Client resource other) q t → other ≡ requester
+
+module _ {o : Opening} {ss : List Step} where
+  -- the steps up to that of a grant, and with it
+  abbrev pub up_to : Grant o ss → List Step
+  up_to g = g.before ++ g.step ∷ []
+
+  -- how often the holder of a grant has its lock at node c behind these steps
+  abbrev pub held : Grant o ss → ℕ → List Step → ℕ
+  held g c steps = holds_count o (events_in steps) g.holder (Client g.resource g.requester) c
+
+  -- when the grant is answered, node c runs
+  abbrev pub RunsAt : Grant o ss → ℕ → Type 0
+  RunsAt g c = Runs o (world_behind o (up_to g)) c
+
+  -- when the grant is answered, node c's lock table has the resource under its requester alone
+  abbrev pub StandsAt : Grant o ss → ℕ → Type 0
+  StandsAt g c = IsUnder ((world_behind o (up_to g)).node c).locks g.resource g.requester
+
+  -- the step of h comes behind that of g
+  abbrev pub IsLater : Grant o ss → Grant o ss → Type 0
+  IsLater g h = (between : List Step) × (h.before ≡ g.before ++ g.step ∷ between)
+
+  -- two grants of one resource under different requesters, both of which asked node c
+  pub record AreRivals (g h : Grant o ss) (c : ℕ) : Type 0 where
+    pub resource : g.resource ≡ h.resource
+    pub requesters : g.requester ≡ h.requester → ⊥
+    pub asked : g.tries.last.asks c ≡ true
+    pub asked_too : h.tries.last.asks c ≡ true
+
+  -- Grant g comes first at node c, and then h
+  pub record ComesFirst (g h : Grant o ss) (c : ℕ) : Type 0 where
+    pub later : IsLater g h
+    pub stamps : g.step.entry.stamp < h.step.entry.stamp
+    -- when g is answered, its holder has the lock at c, and the other's hasn't
+    pub has : 0 < held g c (up_to g)
+    pub not_yet : held h c (up_to g) ≡ 0
+    -- when h is answered, its holder has it, and the other's has it no more
+    pub has_now : 0 < held h c (up_to h)
+    pub no_more : held g c (up_to h) ≡ 0
+    -- and so does c's lock table
+    pub stands : StandsAt g c
+    pub stands_now : StandsAt h c

@@ -1,0 +1,32 @@
+//! Fences: a number for each `true` that a `set_lock` is answered, by which who holds a resource later has the greater one. The laws
+//! are of a run of the nodes of one cluster; each is the contract of a function with an empty body.
+#![tactic(auto)]
+
+ghost use Rattle.fences.specs.Laws.{FencesAreOrdered, MergedEndsAreRuns, FencesRise, LaterGrantsAreGreater, GrantsAreInTurn};
+
+/// A step's number is its stamp times eight and its node's place, so numbers are ordered by stamp, and those of one stamp by place.
+pub fn fences_are_ordered()
+    ensures { FencesAreOrdered }
+{}
+
+/// Consistent ends, merged by stamp and then by node, are such a run.
+pub fn merged_ends_are_runs()
+    ensures { MergedEndsAreRuns }
+{}
+
+/// Where places rise as nodes do, of any two steps of a run the later has the greater number.
+pub fn fences_rise()
+    ensures { FencesRise }
+{}
+
+/// Whatever the places, of two grants of one resource under different requesters that asked a common node, which runs when the later
+/// is answered, the later has the greater stamp, and so the greater number.
+pub fn later_grants_are_greater()
+    ensures { LaterGrantsAreGreater }
+{}
+
+/// And where that node runs when each is answered, they have the resource there in turn, first the one with the lesser number: when it
+/// is answered its holder has the lock there and the other's hasn't, and when the other is answered it is the other way round.
+pub fn grants_are_in_turn()
+    ensures { GrantsAreInTurn }
+{}
