@@ -1,10 +1,12 @@
 -- Merged ends are a run, and where places rise as nodes do, numbers rise along it.
-use Rattle.std.proofs.Common.{ℕ, true, ◌≡◌, inl, inr, List, [], ◌∷◌, ◌++◌, subst}
+use Rattle.std.proofs.Common.{ℕ, true, ◌≡◌, ◌<◌, inl, inr, List, [], ◌∷◌, ◌++◌, ap, subst, arith}
+use Rattle.std.specs.Prelude.{◌⊎◌}
 use Rattle.protocol_model.specs.World.{Opening, in_world, World, opening_world, run}
 use Rattle.closings.specs.Merging.{Step, is_before, happening, events_in, world_behind, Takes, TakesAll}
 use Rattle.closings.proofs.Merged.{consistent_ends_play}
 use Rattle.lock_answers.proofs.Events.{accepted_of}
-use Rattle.fences.specs.Laws.{MergedEndsAreRuns, FencesRise}
+use Rattle.fences.specs.Grants.{IsRun, fence}
+use Rattle.fences.specs.Laws.{MergedEndsAreRuns, FencesRise, OwnFencesRise}
 use Rattle.fences.proofs.Numbers.{by_stamp, by_place}
 use Rattle.fences.proofs.Orders.{is_before_cases, order_behind, takes_behind, leads_all, LeadsAll}
 
@@ -22,17 +24,28 @@ pub leads_one : (s : Step) (us : List Step) (t : Step) (ts : List Step) → Lead
 leads_one s [] t ts h = h.0
 leads_one s (u ∷ us) t ts h = leads_one s us t ts h.1
 
+-- the first of two steps of a run is before the second
+one_before : (o : Opening) (before between later : List Step) (s t : Step) → IsRun o (before ++ (s ∷ between ++ t ∷ later))
+    → is_before s t ≡ true
+one_before o before between later s t R = leads_one s between t later
+    (leads_all s (between ++ t ∷ later) (order_behind before (s ∷ between ++ t ∷ later) R.order))
+
+pub own_fences_rise : OwnFencesRise
+own_fences_rise o place before between later s t same R =
+    go (is_before_cases s t (one_before o before between later s t R)) (ap place same)
+  where
+    go : (s.entry.stamp < t.entry.stamp) ⊎ ((s.entry.stamp ≡ t.entry.stamp) × (s.node < t.node)) → place s.node ≡ place t.node
+        → fence place s < fence place t
+    go (inl h) e = omega (arith, h, e)
+    go (inr h) e = absurd (omega (arith, h.1, same))
+
 pub fences_rise : FencesRise
-fences_rise o place before between later s t P rise R = elim (is_before_cases s t first) [
+fences_rise o place before between later s t P rise R = elim (is_before_cases s t (one_before o before between later s t R)) [
   | inl h ↦ by_stamp s.entry.stamp t.entry.stamp (place s.node) (place t.node) (P s.node inside_first) h
   | inr h ↦ by_place s.entry.stamp t.entry.stamp (place s.node) (place t.node) h.0
       (rise s.node t.node inside_first inside_second h.1)
 ]
   where
-    first : is_before s t ≡ true
-    first = leads_one s between t later
-        (leads_all s (between ++ t ∷ later) (order_behind before (s ∷ between ++ t ∷ later) R.order))
-
     taken : TakesAll o (world_behind o before) (s ∷ between ++ t ∷ later)
     taken = takes_behind o (opening_world o) before (s ∷ between ++ t ∷ later) R.takes
 

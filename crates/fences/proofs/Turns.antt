@@ -1,8 +1,9 @@
 -- Two rival grants of a run come in turn at a node that both asked, and the later has the greater stamp.
-use Rattle.std.proofs.Common.{ℕ, true, false, ◌==◌, ◌≡◌, ◌<◌, ◌≤◌, inl, inr, Some, List, [], ◌∷◌, ◌++◌, refl, sym, ap, ◌∙◌, subst, arith}
+use Rattle.std.proofs.Common.{ℕ, Bool, true, false, ◌==◌, ◌≡◌, ◌<◌, ◌≤◌, inl, inr, Some, List, [], ◌∷◌, ◌++◌, refl, sym, ap, ◌∙◌, subst, arith}
 use Rattle.std.specs.Prelude.{Contains}
 use Rattle.std.proofs.lemmas.Bool.{cases_lt, eqb-true, eq-eqb}
-use Rattle.std.proofs.lemmas.List.{append_assoc}
+use Rattle.std.proofs.lemmas.List.{append-nil, append_assoc, append_cancel_left}
+use Rattle.std.specs.List.{list_any}
 use Rattle.registry_model.specs.Process.{Text}
 use Rattle.protocol_model.specs.Letter.{Client}
 use Rattle.protocol_model.specs.LockTable.{Locks, count}
@@ -16,14 +17,51 @@ use Rattle.leftovers.proofs.LockTables.{one_requester}
 use Rattle.lock_answers.proofs.ClientLocks.{client_locks}
 use Rattle.lock_answers.proofs.GrantEvents.{ground_run}
 use Rattle.lock_answers.proofs.Nothing.{nothing_is_left}
-use Rattle.lock_answers.proofs.Pushed.{answer_place}
-use Rattle.fences.specs.Grants.{IsRun, fence, ArePlaces, true_to, Grant, up_to, held, RunsAt, IsLater, AreRivals, ComesFirst, StandsAt}
-use Rattle.fences.specs.Laws.{LaterGrantsAreGreater, GrantsAreInTurn}
+use Rattle.lock_answers.proofs.Pushed.{answers_turn, answer_place}
+use Rattle.fences.specs.Grants.{IsRun, fence, ArePlaces, true_to, Grant, up_to, held, RunsAt, IsRequested, IsLater, AreRivals, ComesFirst, StandsAt, takes_request}
+use Rattle.fences.specs.Laws.{GrantsAreRequested, LaterGrantsAreGreater, GrantsAreInTurn}
 use Rattle.fences.proofs.Numbers.{by_stamp}
 use Rattle.fences.proofs.Orders.{order_behind, order_front, takes_behind, takes_front, all_elsewhere, AreElsewhere}
 use Rattle.fences.proofs.Elsewhere.{events_push, world_push, kept}
 use Rattle.fences.proofs.Granted as Granted
+use Rattle.protocol_model.proofs.Finding.{found_any}
+use Rattle.lock_answers.proofs.Spared.{is_lock_answer}
+use Rattle.fences.proofs.Requests.{takes_silent}
+use Rattle.fences.proofs.LastRequests.{Along, along_at, along_step, Stands, TakesNone, Found, last_request}
 use Rattle.fences.proofs.Rising.{node_inside}
+
+-- one list, taken apart at two places: the one is behind the other, or they are one
+data Apart (before : List Step) (s : Step) (front : List Step) (t : Step) : Type 0 where
+  Behind : (between : List Step) → front ≡ before ++ s ∷ between → Apart before s front t
+  Same : before ≡ front → s ≡ t → Apart before s front t
+  Before : (between : List Step) → before ≡ front ++ t ∷ between → Apart before s front t
+
+apart_at : (before : List Step) (s : Step) (later : List Step) (front : List Step) (t : Step) (rest : List Step)
+    → before ++ s ∷ later ≡ front ++ t ∷ rest → Apart before s front t
+apart_at [] s later [] t rest e = Same refl (first e)
+  where
+    first : s ∷ later ≡ t ∷ rest → s ≡ t
+    first e = cc
+apart_at [] s later (y ∷ front) t rest e = Behind front (ap (λ (x : Step). x ∷ front) (first e))
+  where
+    first : s ∷ later ≡ y ∷ front ++ t ∷ rest → y ≡ s
+    first e = cc
+apart_at (x ∷ before) s later [] t rest e = Before before (ap (λ (y : Step). y ∷ before) (first e))
+  where
+    first : x ∷ before ++ s ∷ later ≡ t ∷ rest → x ≡ t
+    first e = cc
+apart_at (x ∷ before) s later (y ∷ front) t rest e = go (apart_at before s later front t rest (behind e))
+  where
+    first : x ∷ before ++ s ∷ later ≡ y ∷ front ++ t ∷ rest → x ≡ y
+    first e = cc
+
+    behind : x ∷ before ++ s ∷ later ≡ y ∷ front ++ t ∷ rest → before ++ s ∷ later ≡ front ++ t ∷ rest
+    behind e = cc
+
+    go : Apart before s front t → Apart (x ∷ before) s (y ∷ front) t
+    go (Behind between i) = Behind between (ap (λ (z : Step). z ∷ front) (sym (first e)) ∙ ap (λ (zs : List Step). x ∷ zs) i)
+    go (Same i j) = Same (ap (λ (z : Step). z ∷ before) (first e) ∙ ap (λ (zs : List Step). y ∷ zs) i) j
+    go (Before between i) = Before between (ap (λ (z : Step). z ∷ before) (first e) ∙ ap (λ (zs : List Step). y ∷ zs) i)
 
 module _ (o : Opening) (ss : List Step) (R : IsRun o ss) where
   module _ (g : Grant o ss) where
@@ -78,6 +116,48 @@ module _ (o : Opening) (ss : List Step) (R : IsRun o ss) where
           where
             most : {m n : ℕ} → 0 < m → m ≤ n → 0 < n
             most h l = omega (arith, h, l)
+
+    -- by its step no request is taken
+    takes_none : (c : ℕ)
+        → takes_request (world_behind o g.before) (happening g.step) g.holder (Client g.resource g.requester) c ≡ false
+    takes_none c = go (takes_request (world_behind o g.before) (happening g.step) g.holder (Client g.resource g.requester) c) refl
+      where
+        go : (b : Bool)
+            → takes_request (world_behind o g.before) (happening g.step) g.holder (Client g.resource g.requester) c ≡ b → b ≡ false
+        go false e = refl
+        go true e = cc (
+          found_any is_lock_answer (answers o (world_behind o g.before) (happening g.step)) (true_to g.holder g.tries) given refl,
+          ap (list_any is_lock_answer) (answers_turn o (events_in g.before) (happening g.step) taken.accepted),
+          takes_silent o g.holder c (Client g.resource g.requester) (world_behind o g.before) (happening g.step) e,
+        )
+
+    -- the request was taken before
+    requested : (c : ℕ) → g.tries.last.asks c ≡ true → RunsAt g c → IsRequested g c
+    requested c asked up = record {
+      before = F.before;
+      step = F.step;
+      between = F.between;
+      split = F.split;
+      takes = F.takes;
+      last = λ front s rest e. subst
+          (λ (xs : List Step). takes_request (world_behind o xs) (happening s) g.holder (Client g.resource g.requester) c ≡ false)
+          (append_assoc F.before (F.step ∷ []) front)
+          (along_step (Stands o g.holder c (Client g.resource g.requester))
+          (TakesNone o g.holder c (Client g.resource g.requester)) (F.before ++ F.step ∷ []) front s rest
+          (subst (Along (Stands o g.holder c (Client g.resource g.requester))
+          (TakesNone o g.holder c (Client g.resource g.requester)) (F.before ++ F.step ∷ [])) e F.along));
+      stands = λ front rest e. subst (Stands o g.holder c (Client g.resource g.requester))
+          (append_assoc F.before (F.step ∷ []) front)
+          (along_at (Stands o g.holder c (Client g.resource g.requester))
+          (TakesNone o g.holder c (Client g.resource g.requester)) (F.before ++ F.step ∷ []) front rest
+          (subst (Along (Stands o g.holder c (Client g.resource g.requester))
+          (TakesNone o g.holder c (Client g.resource g.requester)) (F.before ++ F.step ∷ [])) e F.along));
+    }
+      where
+        F : Found o g.holder c (Client g.resource g.requester) g.before
+        F = last_request o g.holder c (Client g.resource g.requester) g.before g.step
+            (takes_front o (opening_world o) (up_to g) g.later (subst (TakesAll o (opening_world o))
+            (g.split ∙ sym (append_assoc g.before (g.step ∷ []) g.later)) R.takes)) up.0 up.1 (has c asked) (takes_none c)
 
   -- rivals never have their locks at once at a node that runs
   apart : (g h : Grant o ss) (c : ℕ) → AreRivals g h c → (k : Grant o ss) → RunsAt k c → 0 < held g c (up_to k)
@@ -145,6 +225,37 @@ module _ (o : Opening) (ss : List Step) (R : IsRun o ss) where
     greater place c P V runs = by_stamp g.step.entry.stamp h.step.entry.stamp (place g.step.node) (place h.step.node)
         (P g.step.node (inside g)) (stamps c V runs)
 
+    -- the node takes the request of h behind the step of g: before, the lock would stand there for both
+    request_later : (c : ℕ) → AreRivals g h c → RunsAt g c → (N : IsRequested h c)
+        → (between : List Step) × (N.before ≡ g.before ++ g.step ∷ between)
+    request_later c V now N = go (apart_at g.before g.step (later.0 ++ []) N.before N.step N.between split_here)
+      where
+        split_here : g.before ++ g.step ∷ (later.0 ++ []) ≡ N.before ++ N.step ∷ N.between
+        split_here = ap (λ (xs : List Step). g.before ++ g.step ∷ xs) (append-nil later.0) ∙ sym later.1 ∙ N.split
+
+        both_stand : (xs : List Step) → up_to g ≡ xs → 0 < count (Client h.resource h.requester) h.holder
+            ((world_behind o xs).node c).locks → ⊥
+        both_stand xs e k = V.requesters (sym ((stands g c V.asked now).alone h.holder h.requester
+            (subst (λ (r : Text). 0 < count (Client r h.requester) h.holder ((world_behind o (up_to g)).node c).locks)
+            (sym V.resource) (subst (λ (ys : List Step). 0 < count (Client h.resource h.requester) h.holder
+            ((world_behind o ys).node c).locks) (sym e) k))))
+
+        go : Apart g.before g.step N.before N.step → (between : List Step) × (N.before ≡ g.before ++ g.step ∷ between)
+        go (Behind between i) = (between, i)
+        go (Same i j) = absurd (both_stand (N.before ++ N.step ∷ [])
+            (ap (λ (xs : List Step). xs ++ g.step ∷ []) i ∙ ap (λ (s : Step). N.before ++ s ∷ []) j) (N.stands [] N.between refl))
+        go (Before between i) = absurd (both_stand (N.before ++ N.step ∷ (between ++ g.step ∷ []))
+            (ap (λ (xs : List Step). xs ++ g.step ∷ []) i ∙ append_assoc N.before (N.step ∷ between) (g.step ∷ []))
+            (N.stands (between ++ g.step ∷ []) later.0 (append_cancel_left (N.before ++ N.step ∷ []) N.between
+            ((between ++ g.step ∷ []) ++ later.0) rest)))
+          where
+            rest : (N.before ++ N.step ∷ []) ++ N.between ≡ (N.before ++ N.step ∷ []) ++ ((between ++ g.step ∷ []) ++ later.0)
+            rest = append_assoc N.before (N.step ∷ []) N.between ∙ sym N.split ∙ later.1
+                ∙ ap (λ (xs : List Step). xs ++ g.step ∷ later.0) i
+                ∙ append_assoc N.before (N.step ∷ between) (g.step ∷ later.0)
+                ∙ sym (append_assoc N.before (N.step ∷ []) (between ++ g.step ∷ later.0))
+                ∙ ap (λ (xs : List Step). (N.before ++ N.step ∷ []) ++ xs) (sym (append_assoc between (g.step ∷ []) later.0))
+
     comes_first : (c : ℕ) → AreRivals g h c → RunsAt g c → RunsAt h c → ComesFirst g h c
     comes_first c V now then = record {
       later = later;
@@ -155,43 +266,15 @@ module _ (o : Opening) (ss : List Step) (R : IsRun o ss) where
       no_more = none (held g c (up_to h)) (λ l. apart g h c V h then l (has h c V.asked_too));
       stands = stands g c V.asked now;
       stands_now = stands h c V.asked_too then;
+      request = requested h c V.asked_too then;
+      request_later = request_later c V now (requested h c V.asked_too then);
     }
+
+pub grants_are_requested : GrantsAreRequested
+grants_are_requested o ss g c R asked up = requested o ss R g c asked up
 
 pub later_grants_are_greater : LaterGrantsAreGreater
 later_grants_are_greater o place ss g h c P R V runs later = greater o ss R g h later place c P V runs
-
--- one list, taken apart at two places: the one is behind the other, or they are one
-data Apart (before : List Step) (s : Step) (front : List Step) (t : Step) : Type 0 where
-  Behind : (between : List Step) → front ≡ before ++ s ∷ between → Apart before s front t
-  Same : before ≡ front → s ≡ t → Apart before s front t
-  Before : (between : List Step) → before ≡ front ++ t ∷ between → Apart before s front t
-
-apart_at : (before : List Step) (s : Step) (later : List Step) (front : List Step) (t : Step) (rest : List Step)
-    → before ++ s ∷ later ≡ front ++ t ∷ rest → Apart before s front t
-apart_at [] s later [] t rest e = Same refl (first e)
-  where
-    first : s ∷ later ≡ t ∷ rest → s ≡ t
-    first e = cc
-apart_at [] s later (y ∷ front) t rest e = Behind front (ap (λ (x : Step). x ∷ front) (first e))
-  where
-    first : s ∷ later ≡ y ∷ front ++ t ∷ rest → y ≡ s
-    first e = cc
-apart_at (x ∷ before) s later [] t rest e = Before before (ap (λ (y : Step). y ∷ before) (first e))
-  where
-    first : x ∷ before ++ s ∷ later ≡ t ∷ rest → x ≡ t
-    first e = cc
-apart_at (x ∷ before) s later (y ∷ front) t rest e = go (apart_at before s later front t rest (behind e))
-  where
-    first : x ∷ before ++ s ∷ later ≡ y ∷ front ++ t ∷ rest → x ≡ y
-    first e = cc
-
-    behind : x ∷ before ++ s ∷ later ≡ y ∷ front ++ t ∷ rest → before ++ s ∷ later ≡ front ++ t ∷ rest
-    behind e = cc
-
-    go : Apart before s front t → Apart (x ∷ before) s (y ∷ front) t
-    go (Behind between i) = Behind between (ap (λ (z : Step). z ∷ front) (sym (first e)) ∙ ap (λ (zs : List Step). x ∷ zs) i)
-    go (Same i j) = Same (ap (λ (z : Step). z ∷ before) (first e) ∙ ap (λ (zs : List Step). y ∷ zs) i) j
-    go (Before between i) = Before between (ap (λ (z : Step). z ∷ before) (first e) ∙ ap (λ (zs : List Step). y ∷ zs) i)
 
 pub grants_are_in_turn : GrantsAreInTurn
 grants_are_in_turn o place ss g h c P R V now then =

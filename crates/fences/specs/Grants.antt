@@ -1,15 +1,15 @@
 -- Grants in a run: which node holds what when they are answered, and the number that goes with each.
-use Rattle.std.specs.Prelude.{ℕ, true, ◌≡◌, ◌<◌, ◌+◌, ◌*◌, Contains, Some, List, [], ◌∷◌, ◌++◌}
+use Rattle.std.specs.Prelude.{ℕ, Bool, true, false, ◌≡◌, ◌==◌, ◌&&◌, ◌<◌, ◌+◌, ◌*◌, Contains, Some, List, [], ◌∷◌, ◌++◌}
 use Rattle.registry_model.specs.Process.{Text, Process}
 use Rattle.registry_model.specs.Call.{True}
-use Rattle.protocol_model.specs.Letter.{Client}
+use Rattle.protocol_model.specs.Letter.{Id, Client}
 use Rattle.protocol_model.specs.LockTable.{Locks, count}
 use Rattle.protocol_model.specs.Event.{Answer}
 use Rattle.protocol_model.specs.ClientLocks.{holds_count}
-use Rattle.protocol_model.specs.LockAnswers.{Tries, tries_of}
+use Rattle.protocol_model.specs.LockAnswers.{Tries, is_asked_first, tries_of}
 use Rattle.protocol_model.specs.Leftovers.{Runs}
-use Rattle.protocol_model.specs.World.{Opening, in_world, opening_world}
-use Rattle.closings.specs.Merging.{Step, IsInOrder, events_in, world_behind, TakesAll}
+use Rattle.protocol_model.specs.World.{Opening, in_world, World, WorldEvent, Deliver, opening_world}
+use Rattle.closings.specs.Merging.{Step, IsInOrder, happening, events_in, world_behind, TakesAll}
 
 -- a run: steps by their stamps, and those of one stamp by their nodes, which a world that opens so takes one after the other
 pub record IsRun (o : Opening) (ss : List Step) : Type 0 where
@@ -48,6 +48,13 @@ pub record IsUnder (t : Locks) (resource requester : Text) : Type 0 where
   pub has : 0 < count (Client resource requester) holder t
   pub alone : (q : Process) (other : Text) → 0 < count (Client resource other) q t → other ≡ requester
 
+-- by the event node c takes p's request for this lock
+abbrev pub takes_request : World → WorldEvent → Process → Id → ℕ → Bool
+takes_request w e p id c = elim e [
+  | Deliver f t ↦ (f == p.node) && (t == c) && is_asked_first id p (w.links.queue f t)
+  | _ ↦ false
+]
+
 module _ {o : Opening} {ss : List Step} where
   -- the steps up to that of a grant, and with it
   abbrev pub up_to : Grant o ss → List Step
@@ -64,6 +71,19 @@ module _ {o : Opening} {ss : List Step} where
   -- when the grant is answered, node c's lock table has the resource under its requester alone
   abbrev pub StandsAt : Grant o ss → ℕ → Type 0
   StandsAt g c = IsUnder ((world_behind o (up_to g)).node c).locks g.resource g.requester
+
+  -- where node c takes the request that the grant answers, its holder's last one for the lock; from then on until it is answered
+  -- the lock stands in c's lock table
+  pub record IsRequested (g : Grant o ss) (c : ℕ) : Type 0 where
+    pub before : List Step
+    pub step : Step
+    pub between : List Step
+    pub split : g.before ≡ before ++ step ∷ between
+    pub takes : takes_request (world_behind o before) (happening step) g.holder (Client g.resource g.requester) c ≡ true
+    pub last : (front : List Step) (s : Step) (rest : List Step) → between ≡ front ++ s ∷ rest →
+        takes_request (world_behind o (before ++ step ∷ front)) (happening s) g.holder (Client g.resource g.requester) c ≡ false
+    pub stands : (front rest : List Step) → between ≡ front ++ rest →
+        0 < count (Client g.resource g.requester) g.holder ((world_behind o (before ++ step ∷ front)).node c).locks
 
   -- the step of h comes behind that of g
   abbrev pub IsLater : Grant o ss → Grant o ss → Type 0
@@ -89,3 +109,6 @@ module _ {o : Opening} {ss : List Step} where
     -- and so does c's lock table
     pub stands : StandsAt g c
     pub stands_now : StandsAt h c
+    -- c takes the request that h answers behind the step of g
+    pub request : IsRequested h c
+    pub request_later : (between : List Step) × (request.before ≡ g.before ++ g.step ∷ between)

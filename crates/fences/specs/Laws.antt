@@ -5,7 +5,7 @@ use Rattle.protocol_model.specs.World.{Opening, in_world}
 use Rattle.closings.specs.Alone.{Entry}
 use Rattle.closings.specs.Merging.{Step, IsMerged}
 use Rattle.closings.specs.Laws.{ConsistentEnds}
-use Rattle.fences.specs.Grants.{IsRun, fence, ArePlaces, Grant, RunsAt, IsLater, AreRivals, ComesFirst}
+use Rattle.fences.specs.Grants.{IsRun, fence, ArePlaces, Grant, RunsAt, IsRequested, IsLater, AreRivals, ComesFirst}
 
 -- numbers are ordered by stamp, and those of one stamp by place
 abbrev pub FencesAreOrdered : Type 0
@@ -23,6 +23,17 @@ abbrev pub FencesRise : Type 0
 FencesRise = (o : Opening) (place : ℕ → ℕ) (before between later : List Step) (s t : Step) → ArePlaces o place →
     ((a b : ℕ) → in_world o a ≡ true → in_world o b ≡ true → a < b → place a < place b) →
     IsRun o (before ++ (s ∷ between ++ t ∷ later)) → fence place s < fence place t
+
+-- and whatever the places, those of one node rise along it
+abbrev pub OwnFencesRise : Type 0
+OwnFencesRise = (o : Opening) (place : ℕ → ℕ) (before between later : List Step) (s t : Step) → s.node ≡ t.node →
+    IsRun o (before ++ (s ∷ between ++ t ∷ later)) → fence place s < fence place t
+
+-- Where a grant asked a node that runs when it is answered, that node took its request before, and has had the lock for its holder
+-- since
+abbrev pub GrantsAreRequested : Type 0
+GrantsAreRequested = (o : Opening) (ss : List Step) (g : Grant o ss) (c : ℕ) → IsRun o ss → g.tries.last.asks c ≡ true →
+    RunsAt g c → IsRequested g c
 
 -- Whatever the places, of two grants of one resource under different requesters that asked a common node, which runs when the
 -- later is answered, the later has the greater number

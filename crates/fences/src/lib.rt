@@ -1,8 +1,9 @@
-//! Fences: a number for each `true` that a `set_lock` is answered, by which who holds a resource later has the greater one. The laws
-//! are of a run of the nodes of one cluster; each is the contract of a function with an empty body.
+//! Fences: a number for each `true` that a `set_lock` is answered, by which who holds a resource later has the greater one. The
+//! laws are of a run of the nodes of one cluster; each is the contract of a function with an empty body.
 #![tactic(auto)]
 
-ghost use Rattle.fences.specs.Laws.{FencesAreOrdered, MergedEndsAreRuns, FencesRise, LaterGrantsAreGreater, GrantsAreInTurn};
+ghost use Rattle.fences.specs.Sample.{TwoGrants};
+ghost use Rattle.fences.specs.Laws.{FencesAreOrdered, MergedEndsAreRuns, FencesRise, OwnFencesRise, GrantsAreRequested, LaterGrantsAreGreater, GrantsAreInTurn};
 
 /// A step's number is its stamp times eight and its node's place, so numbers are ordered by stamp, and those of one stamp by place.
 pub fn fences_are_ordered()
@@ -19,14 +20,31 @@ pub fn fences_rise()
     ensures { FencesRise }
 {}
 
-/// Whatever the places, of two grants of one resource under different requesters that asked a common node, which runs when the later
-/// is answered, the later has the greater stamp, and so the greater number.
+/// And whatever the places, of two steps of one node the later has the greater number.
+pub fn own_fences_rise()
+    ensures { OwnFencesRise }
+{}
+
+/// Where a grant asked a node that runs when it is answered, that node took its request before, the last one of its holder for this
+/// lock, and has had the lock for the holder since.
+pub fn grants_are_requested()
+    ensures { GrantsAreRequested }
+{}
+
+/// Whatever the places, of two grants of one resource under different requesters that asked a common node, which runs when the
+/// later is answered, the later has the greater stamp, and so the greater number.
 pub fn later_grants_are_greater()
     ensures { LaterGrantsAreGreater }
 {}
 
-/// And where that node runs when each is answered, they have the resource there in turn, first the one with the lesser number: when it
-/// is answered its holder has the lock there and the other's hasn't, and when the other is answered it is the other way round.
+/// And where that node runs when each is answered, they have the resource there in turn, first the one with the lesser number. When
+/// it is answered its holder has the lock there and the other's hasn't; then the node takes the request of the other, and when that
+/// is answered it is the other way round.
 pub fn grants_are_in_turn()
     ensures { GrantsAreInTurn }
+{}
+
+/// Such grants exist: in a run of two nodes, which is computed, two processes hold a resource in turn.
+pub fn two_grants()
+    ensures { TwoGrants }
 {}
