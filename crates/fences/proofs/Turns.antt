@@ -274,7 +274,8 @@ pub grants_are_requested : GrantsAreRequested
 grants_are_requested o ss g c R asked up = requested o ss R g c asked up
 
 pub later_grants_are_greater : LaterGrantsAreGreater
-later_grants_are_greater o place ss g h c P R V runs later = greater o ss R g h later place c P V runs
+later_grants_are_greater o place ss g h c P R V runs later =
+    (stamps o ss R g h later c V runs, greater o ss R g h later place c P V runs)
 
 pub grants_are_in_turn : GrantsAreInTurn
 grants_are_in_turn o place ss g h c P R V now then =

@@ -35,11 +35,12 @@ abbrev pub GrantsAreRequested : Type 0
 GrantsAreRequested = (o : Opening) (ss : List Step) (g : Grant o ss) (c : ℕ) → IsRun o ss → g.tries.last.asks c ≡ true →
     RunsAt g c → IsRequested g c
 
--- Whatever the places, of two grants of one resource under different requesters that asked a common node, which runs when the
--- later is answered, the later has the greater number
+-- Of two grants of one resource under different requesters that asked a common node, which runs when the later is answered, the
+-- later has the greater stamp, and so the greater number, whatever the places
 abbrev pub LaterGrantsAreGreater : Type 0
 LaterGrantsAreGreater = (o : Opening) (place : ℕ → ℕ) (ss : List Step) (g h : Grant o ss) (c : ℕ) → ArePlaces o place →
-    IsRun o ss → AreRivals g h c → RunsAt h c → IsLater g h → fence place g.step < fence place h.step
+    IsRun o ss → AreRivals g h c → RunsAt h c → IsLater g h →
+    (g.step.entry.stamp < h.step.entry.stamp) × (fence place g.step < fence place h.step)
 
 -- And where it runs when each is answered, they have it there in turn, first the one with the lesser number
 abbrev pub GrantsAreInTurn : Type 0

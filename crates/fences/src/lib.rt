@@ -31,8 +31,8 @@ pub fn grants_are_requested()
     ensures { GrantsAreRequested }
 {}
 
-/// Whatever the places, of two grants of one resource under different requesters that asked a common node, which runs when the
-/// later is answered, the later has the greater stamp, and so the greater number.
+/// Of two grants of one resource under different requesters that asked a common node, which runs when the later is answered, the
+/// later has the greater stamp, and so the greater number, whatever the places.
 pub fn later_grants_are_greater()
     ensures { LaterGrantsAreGreater }
 {}
