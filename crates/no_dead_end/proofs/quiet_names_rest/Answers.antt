@@ -1,0 +1,5 @@
+use Rattle.no_dead_end.proofs.NamedQuiet.{quiet_names_rest as law}
+use Rattle.no_dead_end.proofs.quiet_names_rest.Goals as goal
+
+pub returns : goal.returns
+returns c = law

@@ -1,0 +1,5 @@
+use Rattle.no_dead_end.proofs.CallsAnswered.{quiet_worlds_answer as law}
+use Rattle.no_dead_end.proofs.quiet_worlds_answer.Goals as goal
+
+pub returns : goal.returns
+returns c = law

@@ -1,0 +1,5 @@
+use Rattle.no_dead_end.proofs.Bounded.{work_is_bounded as law}
+use Rattle.no_dead_end.proofs.work_is_bounded.Goals as goal
+
+pub returns : goal.returns
+returns c = law
