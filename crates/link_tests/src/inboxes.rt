@@ -134,6 +134,14 @@ struct Taken {
 }
 
 impl Taken {
+    /// Nothing was taken yet.
+    const NOTHING: Taken = Taken {
+        count: 0,
+        first: None,
+        second: None,
+        rises: true,
+    };
+
     /// With one item more.
     fn with(self, item: Stamped) -> Self {
         let stamp = Some(item.stamp);
@@ -158,14 +166,9 @@ impl Taken {
     }
 }
 
-/// Tries so many times to take an item.
-fn take_all<R: Wait>(rt: &R, mut mailbox: Mailbox<Stamped>, tries: u64) -> Taken {
-    let mut taken = Taken {
-        count: 0,
-        first: None,
-        second: None,
-        rises: true,
-    };
+/// Tries so many times to take an item: what was taken, with what was before.
+fn take_all<R: Wait>(rt: &R, mailbox: &mut Mailbox<Stamped>, before: Taken, tries: u64) -> Taken {
+    let mut taken = before;
     for _ in 0..tries {
         if let Some(item) = mailbox.take(rt) {
             taken = taken.with(item);
@@ -174,25 +177,27 @@ fn take_all<R: Wait>(rt: &R, mut mailbox: Mailbox<Stamped>, tries: u64) -> Taken
     taken
 }
 
-/// Whether, of what two threads put, a third takes no more than was put, and of each sender in order.
+/// Whether, of what two threads put while a third takes, all is taken in the end, in the order of each sender.
 fn passes_on<R: Threads + Wait + Sync>(rt: &R, alloc: Global, capacity: usize) -> bool
     requires { 0 < capacity }
 {
     match open::<Stamped>(alloc, capacity) {
-        Ok((mut root, mailbox)) => match (root.port(), root.port()) {
+        Ok((mut root, mut mailbox)) => match (root.port(), root.port()) {
             (Ok(one), Ok(two)) => {
                 let (first, (second, taken)) = join(
                     rt,
                     move || put_all(rt, one, 300),
-                    move || {
+                    || {
                         join(
                             rt,
                             move || put_all(rt, two, 300),
-                            move || take_all(rt, mailbox, 900),
+                            || take_all(rt, &mut mailbox, Taken::NOTHING, 900),
                         )
                     },
                 );
-                taken.rises && taken.count <= first.saturating_add(second)
+                // Nobody puts any more, so what is left is found.
+                let all = take_all(rt, &mut mailbox, taken, 601);
+                all.rises && all.count > 0 && all.count == first.saturating_add(second)
             }
             _ => false,
         },
