@@ -6,3 +6,5 @@
 mod rules;
 #[cfg(test)]
 mod streams;
+#[cfg(test)]
+mod words;
