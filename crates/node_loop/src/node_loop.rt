@@ -3,6 +3,7 @@ ghost use Rattle.std.specs.Prelude.{◌≡◌, ◌∷◌, [], false, length, map
 ghost use Rattle.tray.specs.Held.{none_for};
 ghost use Rattle.node_log.specs.NodeCoreHeld.{spans_of};
 ghost use Rattle.node_loop.specs.Told.{told_by};
+ghost use Rattle.node_loop.specs.Coming.{begun};
 ghost use Rattle.node_loop.specs.Desks.{empty_desk};
 ghost use Rattle.node_loop.specs.Held.{owes, written};
 ghost use Rattle.node_loop.specs.Sound.{BeginsSound, KeepsSound, LeavesSound};
@@ -82,12 +83,21 @@ impl<N: Names<Memory = Global>, L: Record> NodeLoop<N, L> {
         }) }
         ensures sound { IfOk result (BeginsSound core) }
     {
+        let tray = Tray::new(alloc, core.world())?;
+        Ok(NodeLoop::with_tray(alloc, core, tray))
+    }
+
+    /// The loop of a node that hasn't taken a step in it, with a tray of its world in which nothing waits.
+    fn with_tray(alloc: Global, core: NodeCore<N>, tray: Tray<Item>) -> Self
+        requires { tray ≡ map none_for core.world }
+        ensures begun { result ≡ begun core }
+        ensures sound { BeginsSound core result }
+    {
         let world = core.world().copy();
         let log = L::new(alloc, core.node().copy(), &world);
-        let tray = Tray::new(alloc, &world)?;
         let own = world.position(core.node()).unwrap_or(0);
         let courtesy = Courtesy::new(Ring::new(world.len(), own));
-        Ok(NodeLoop {
+        NodeLoop {
             core,
             world,
             log,
@@ -101,7 +111,7 @@ impl<N: Names<Memory = Global>, L: Record> NodeLoop<N, L> {
             },
             left: false,
             worked: false,
-        })
+        }
     }
 
     /// One turn: it asks the gate, sends what waits, takes one item from the inbox, and makes its step; where that is no letter, or it finds
