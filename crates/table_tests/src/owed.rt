@@ -4,8 +4,7 @@ ghost use Rattle.exit_watch.specs.Held.{AreSuspected};
 use exit_watch::Watch;
 use name_table::{Change, ListTable, Names, Pair};
 use std::alloc::Global;
-use std::test::Fail;
-use term::{Name, Pid, Rule, parse_name, parse_node, parse_pid};
+use term::{Name, Node, Pid, Rule, parse_name, parse_node, parse_pid};
 
 type Table = ListTable<Global>;
 
@@ -106,11 +105,17 @@ fn is_copied(watch: &Watch, table: &Table, wanted: &str) -> bool
     }
 }
 
+/// Whether strikes are owed so by the watch of a node that has given serial 9 last.
+fn owes(alloc: Global, node: Node) -> bool {
+    let mut watch = Watch::resume(alloc, node, 9);
+    let mut table: Table = Names::empty(alloc);
+    plays(&mut watch, &mut table) && is_copied(&watch, &table, "a.4")
+}
+
 #[test]
-fn owes_strikes_of_the_dead(rt: HostRuntime) -> Result<(), Fail> {
-    let mut watch = Watch::resume(rt.alloc(), parse_node("a")?, 9);
-    let mut table: Table = Names::empty(rt.alloc());
-    assert!(rt; plays(&mut watch, &mut table));
-    assert!(rt; is_copied(&watch, &table, "a.4"));
-    Ok(())
+fn owes_strikes_of_the_dead(rt: HostRuntime) {
+    match parse_node("a") {
+        Ok(node) => assert!(rt; owes(rt.alloc(), node)),
+        Err(_) => assert!(rt; false),
+    }
 }
