@@ -3,8 +3,6 @@
 #![tactic(auto)]
 
 #[cfg(test)]
-mod clashes;
-#[cfg(test)]
 mod seats;
 #[cfg(test)]
 mod worlds;

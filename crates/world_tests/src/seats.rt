@@ -1,10 +1,8 @@
 //! Work under the locks of a world's clients.
-use crate::worlds::{Cluster, plays, world};
+use crate::worlds::{Cluster, is_text, played};
 use cluster_world::{Event, Refusal, SeatFault, StepFault, WorldEvent, WorldSeat};
 use name_table::ListTable;
 use std::alloc::Global;
-use std::fmt::Write;
-use std::test::Fail;
 use term::{LockId, Pid, parse_pid, parse_requester, parse_resource};
 use transaction::{LockSeat, Nodes, Outcome, Retries, TransFault, trans};
 
@@ -12,11 +10,20 @@ use transaction::{LockSeat, Nodes, Outcome, Retries, TransFault, trans};
 type Worked = Result<Outcome<u32>, TransFault<u32, SeatFault>>;
 
 /// The lock of a requester on the resource `r`.
-fn lock(requester: &str) -> Result<LockId, Fail> {
-    Ok(LockId {
-        resource: parse_resource("r")?,
-        requester: parse_requester(requester)?,
+fn lock(requester: &str) -> Option<LockId> {
+    let (Ok(resource), Ok(requester)) = (parse_resource("r"), parse_requester(requester)) else {
+        return None;
+    };
+    Some(LockId {
+        resource,
+        requester,
     })
+}
+
+/// A process dies.
+fn kill(world: &mut Cluster, process: &Pid) {
+    let exit = Event::Exit(process.copy());
+    let _ = world.play(&WorldEvent::At(process.node.copy(), exit));
 }
 
 /// What seven comes to that a holder answers under a lock, and dies meanwhile, where it is to.
@@ -29,71 +36,93 @@ fn seven(world: &mut Cluster, holder: &Pid, id: &LockId, retries: Retries, dies:
         retries,
         |held: &mut WorldSeat<ListTable<Global>>| {
             if dies {
-                let exit = Event::Exit(holder.copy());
-                let _ = held.world.play(&WorldEvent::At(holder.node.copy(), exit));
+                kill(held.world, holder);
             }
             7
         },
     )
 }
 
-/// Whether a holder is granted a lock at once.
-fn is_free(world: &mut Cluster, holder: &Pid, id: &LockId) -> bool {
-    let mut seat = WorldSeat::new(world, holder.copy());
-    let granted = seat.set_lock(id, &Nodes::All, Retries::Times(0)) == Ok(true);
-    granted && seat.replies().len() == 1
-}
-
-#[test]
-fn works_under_a_lock(rt: HostRuntime) -> Result<(), Fail> {
-    let alloc = rt.alloc();
-    let (one, two) = (parse_pid("a.1")?, parse_pid("a.2")?);
-    let (ours, theirs) = (lock("q")?, lock("z")?);
-    let mut world = world(alloc, "a,b", "d")?;
-    assert!(rt; plays(alloc, &mut world, "spawn a, spawn a"));
-    let done = seven(&mut world, &one, &ours, Retries::Times(0), false);
-    assert!(rt; done == Ok(Outcome::Done(7)));
-    assert!(rt; is_free(&mut world, &two, &theirs));
-    let aborted = seven(&mut world, &one, &ours, Retries::Times(0), false);
-    assert!(rt; aborted == Ok(Outcome::Aborted));
-    let unanswered = seven(&mut world, &one, &ours, Retries::Endless, false);
-    assert!(rt; unanswered == Err(TransFault::Set(SeatFault::NoAnswer)));
-    Ok(())
-}
-
-#[test]
-fn loses_the_lock_with_its_holder(rt: HostRuntime) -> Result<(), Fail> {
-    let alloc = rt.alloc();
-    let (one, two) = (parse_pid("a.1")?, parse_pid("a.2")?);
-    let (ours, theirs) = (lock("q")?, lock("z")?);
-    let mut world = world(alloc, "a,b", "d")?;
-    assert!(rt; plays(alloc, &mut world, "spawn a, spawn a"));
-    let lost = seven(&mut world, &one, &ours, Retries::Times(0), true);
-    assert!(rt;
-        matches!(
-            lost,
-            Err(TransFault::Del(SeatFault::Refused(Refusal::Step(StepFault::NotLive(_))), 7))
-        )
-    );
-    assert!(rt; is_free(&mut world, &two, &theirs));
-    Ok(())
-}
-
-/// The words of why a call at a seat got no reply, parted by spaces.
-fn words(alloc: Global) -> Result<String, Fail> {
-    let mut text = String::new(alloc);
-    for fault in [
-        SeatFault::Refused(Refusal::Step(StepFault::Reserved)),
-        SeatFault::NoMemory,
-        SeatFault::NoAnswer,
-    ] {
-        write!(text, "{fault} ")?;
+/// A word of what work came to.
+fn word(worked: &Worked) -> &'static str {
+    match worked {
+        Ok(Outcome::Done(7)) => "seven",
+        Ok(Outcome::Aborted) => "aborted",
+        Err(TransFault::Set(SeatFault::NoAnswer)) => "no_answer",
+        Err(TransFault::Del(SeatFault::Refused(Refusal::Step(StepFault::NotLive(_))), 7)) => {
+            "not_live"
+        }
+        _ => "other",
     }
-    Ok(text)
+}
+
+/// What such work comes to in the name of a requester.
+fn works(
+    world: &mut Cluster,
+    holder: &str,
+    requester: &str,
+    retries: Retries,
+    dies: bool,
+) -> &'static str {
+    match (parse_pid(holder), lock(requester)) {
+        (Ok(holder), Some(id)) => word(&seven(world, &holder, &id, retries, dies)),
+        _ => "no lock",
+    }
+}
+
+/// Whether a holder is granted a lock at once.
+fn is_granted(world: &mut Cluster, holder: Pid, id: &LockId) -> bool {
+    let mut seat = WorldSeat::new(world, holder);
+    let is_granted = matches!(seat.set_lock(id, &Nodes::All, Retries::Times(0)), Ok(true));
+    is_granted && seat.replies().len() == 1
+}
+
+/// Whether a holder is granted the lock of a requester at once.
+fn is_free(world: &mut Cluster, holder: &str, requester: &str) -> bool {
+    match (parse_pid(holder), lock(requester)) {
+        (Ok(holder), Some(id)) => is_granted(world, holder, &id),
+        _ => false,
+    }
+}
+
+/// Whether work is done under a lock that is free, and not while another has it.
+fn works_while_free(world: &mut Cluster) -> bool {
+    works(world, "a.1", "q", Retries::Times(0), false) == "seven"
+        && is_free(world, "a.2", "z")
+        && works(world, "a.1", "q", Retries::Times(0), false) == "aborted"
+        && works(world, "a.1", "q", Retries::Endless, false) == "no_answer"
 }
 
 #[test]
-fn names_what_gets_no_reply(rt: HostRuntime) -> Result<(), Fail> {
-    assert!(rt; words(rt.alloc())?.as_str() == "reserved no_memory no_answer ");
-    Ok(())
+fn works_under_a_lock(rt: HostRuntime) {
+    match played(rt.alloc(), "a,b", "spawn a, spawn a") {
+        Some(mut world) => assert!(rt; works_while_free(&mut world)),
+        None => assert!(rt; false),
+    }
+}
+
+/// Whether a holder that dies at work loses the lock.
+fn loses_when_dead(world: &mut Cluster) -> bool {
+    works(world, "a.1", "q", Retries::Times(0), true) == "not_live" && is_free(world, "a.2", "z")
+}
+
+#[test]
+fn loses_the_lock_with_its_holder(rt: HostRuntime) {
+    match played(rt.alloc(), "a,b", "spawn a, spawn a") {
+        Some(mut world) => assert!(rt; loses_when_dead(&mut world)),
+        None => assert!(rt; false),
+    }
+}
+
+/// Whether a fault is shown so.
+fn is_shown(alloc: Global, fault: &SeatFault, wanted: &str) -> bool {
+    is_text(format!(in alloc; "{fault}"), wanted)
+}
+
+#[test]
+fn names_what_gets_no_reply(rt: HostRuntime) {
+    let refused = SeatFault::Refused(Refusal::Step(StepFault::Reserved));
+    assert!(rt; is_shown(rt.alloc(), &refused, "reserved"));
+    assert!(rt; is_shown(rt.alloc(), &SeatFault::NoMemory, "no_memory"));
+    assert!(rt; is_shown(rt.alloc(), &SeatFault::NoAnswer, "no_answer"));
 }

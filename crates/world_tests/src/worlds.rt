@@ -1,16 +1,13 @@
-//! Worlds, played by the lines of scripts.
+//! Worlds, played by the lines of scripts. A test owns a world and does no more than ask it one thing; what is played and looked at
+//! borrows it, since a proof grows with what may be dropped where a function ends.
 use cluster_world::{
-    Event, HistoryEntry, Look, NameCall, Refusal, Reply, StartFault, StepFault, World, WorldEvent,
+    Call, Event, HistoryEntry, Look, NameCall, Refusal, Reply, StartFault, StepFault, World,
+    WorldEvent,
 };
 use command_lines::{Task, read_task};
 use name_table::{ListTable, Names, Pair};
-use std::alloc::Global;
-use std::fmt::Write;
-use std::test::Fail;
-use term::{
-    Node, NodeName, Rule, TextFault, parse_name, parse_node, parse_node_name, parse_nodes,
-    parse_pid,
-};
+use std::alloc::{AllocError, Global};
+use term::{Name, Node, Rule, parse_name, parse_node, parse_node_name, parse_nodes, parse_pid};
 use text_lines::Line;
 
 pub(crate) type Cluster = World<ListTable<Global>>;
@@ -33,35 +30,27 @@ fn settle(world: &mut Cluster) -> bool {
     false
 }
 
-/// What a line of a script asks for, if it is one.
-fn task(alloc: Global, line: &str) -> Option<Task> {
-    match line.as_bytes().to_vec(alloc) {
-        Ok(bytes) => read_task(alloc, &Line::Text(bytes)).ok(),
-        Err(_) => None,
+/// The event that a line of a script asks for, if it asks for one, in a world of first nodes.
+fn event_of(alloc: Global, line: &str) -> Option<WorldEvent> {
+    let line = Line::Text(line.as_bytes().to_vec(alloc).ok()?);
+    let task = read_task(alloc, &line).ok()?;
+    match task {
+        Task::Play(event) => Some(event),
+        Task::At(name, event) => Some(WorldEvent::At(Node::first(name), event)),
+        _ => None,
     }
-}
-
-/// Plays an event at the node of a name at present. Whether it was taken.
-fn play_at(world: &mut Cluster, name: &NodeName, event: Event) -> bool {
-    let Some(node) = world.present(name) else {
-        return false;
-    };
-    let event = WorldEvent::At(node.copy(), event);
-    world.play(&event).is_ok()
 }
 
 /// Plays a line of a script. Whether it was taken.
 fn play_line(alloc: Global, world: &mut Cluster, line: &str) -> bool {
-    match task(alloc, line) {
-        Some(Task::Play(event)) => world.play(&event).is_ok(),
-        Some(Task::At(name, event)) => play_at(world, &name, event),
-        Some(Task::Settle) => settle(world),
-        _ => false,
+    match event_of(alloc, line) {
+        Some(event) => world.play(&event).is_ok(),
+        None => line == "settle" && settle(world),
     }
 }
 
 /// Plays the lines of a script, parted by commas. Whether all were taken.
-pub(crate) fn plays(alloc: Global, world: &mut Cluster, lines: &str) -> bool {
+fn plays(alloc: Global, world: &mut Cluster, lines: &str) -> bool {
     for line in lines.split(", ") {
         if !play_line(alloc, world, line) {
             return false;
@@ -70,24 +59,21 @@ pub(crate) fn plays(alloc: Global, world: &mut Cluster, lines: &str) -> bool {
     true
 }
 
-/// All entries of the history, made again.
-fn entries(alloc: Global, world: &Cluster) -> Result<Vec<HistoryEntry>, Fail> {
-    let mut entries = Vec::new(alloc);
-    for kept in world.history() {
-        entries.push(kept.entry()?)?;
+/// A world of these joined nodes, parted by commas, and of the lone node d.
+fn start(alloc: Global, cluster: &str) -> Option<Cluster> {
+    let (Ok(cluster), Ok(lone)) = (parse_nodes(cluster), parse_nodes("d")) else {
+        return None;
+    };
+    World::start(alloc, cluster.as_slice(), lone.as_slice()).ok()
+}
+
+/// Such a world that has played the lines of a script, parted by commas.
+pub(crate) fn played(alloc: Global, cluster: &str, lines: &str) -> Option<Cluster> {
+    let mut world = start(alloc, cluster)?;
+    if !plays(alloc, &mut world, lines) {
+        return None;
     }
-    Ok(entries)
-}
-
-/// The first node of a name.
-pub(crate) fn first(name: &str) -> Result<Node, TextFault> {
-    Ok(parse_node(name)?)
-}
-
-/// A world of these joined nodes and this lone one, parted by commas.
-pub(crate) fn world(alloc: Global, cluster: &str, lone: &str) -> Result<Cluster, Fail> {
-    let (cluster, lone) = (parse_nodes(cluster)?, parse_nodes(lone)?);
-    Ok(World::start(alloc, cluster.as_slice(), lone.as_slice())?)
+    Some(world)
 }
 
 /// Each kind of entry, with names of 16 bytes, of 17, and of 64, and with a process of a node outside the world.
@@ -98,17 +84,20 @@ re_register a sixty-four_bytes@4567890123456789012345678901234567890123456789_ b
 unregister a seventeen_bytes_1, settle, register a z stranger.7, settle, \
 join d a, settle, exit b.1, settle, leave b, settle";
 
-#[test]
-fn gives_its_history_back(rt: HostRuntime) -> Result<(), Fail> {
-    let alloc = rt.alloc();
-    let (a, owner, name) = (first("a")?, parse_pid("b.1")?, parse_name(LONG)?);
-    let mut world = world(alloc, "a,b", "d")?;
-    assert!(rt; plays(alloc, &mut world, EACH_KIND));
-    let entries = entries(alloc, &world)?;
-    assert!(rt; entries.len() == 21);
-    assert!(rt;
-        matches!(
-            entries.as_slice(),
+/// All entries of the history, made again.
+fn entries(alloc: Global, world: &Cluster) -> Result<Vec<HistoryEntry>, AllocError> {
+    let mut entries = Vec::new(alloc);
+    for kept in world.history() {
+        entries.push(kept.entry()?)?;
+    }
+    Ok(entries)
+}
+
+/// Whether entries are of these kinds, in this order.
+fn are_of_each_kind(entries: &[HistoryEntry]) -> bool {
+    entries.len() == 21
+        && matches!(
+            entries,
             [
                 HistoryEntry::Read(..),
                 HistoryEntry::Read(..),
@@ -126,115 +115,207 @@ fn gives_its_history_back(rt: HostRuntime) -> Result<(), Fail> {
                 HistoryEntry::Told(..),
             ]
         )
-    );
-    let rule = Rule::Notify;
-    let call = NameCall::ReRegister(Pair { name, owner, rule });
-    assert!(rt; entries.contains(&HistoryEntry::Name(a, 3, call, Reply::Yes)));
-    Ok(())
 }
 
-/// The events of a script's lines, parted by commas, in a world of first nodes.
-fn events(alloc: Global, lines: &str) -> Result<Vec<WorldEvent>, Fail> {
-    let mut events = Vec::new(alloc);
-    for line in lines.split(", ") {
-        match task(alloc, line) {
-            Some(Task::Play(event)) => events.push(event)?,
-            Some(Task::At(name, event)) => events.push(WorldEvent::At(Node::first(name), event))?,
-            _ => {}
+/// The entry of the longest name, which call 3 of node a registered.
+fn entry_of_longest() -> Option<HistoryEntry> {
+    let (Ok(node), Ok(name), Ok(owner)) = (parse_node("a"), parse_name(LONG), parse_pid("b.1"))
+    else {
+        return None;
+    };
+    let rule = Rule::Notify;
+    let call = NameCall::ReRegister(Pair { name, owner, rule });
+    Some(HistoryEntry::Name(node, 3, call, Reply::Yes))
+}
+
+/// Whether the history of a world has each kind of entry, and one of the longest name.
+fn has_each_kind(alloc: Global, world: &Cluster) -> bool {
+    match (entries(alloc, world), entry_of_longest()) {
+        (Ok(entries), Some(longest)) => {
+            are_of_each_kind(entries.as_slice()) && entries.contains(&longest)
         }
+        _ => false,
     }
-    Ok(events)
 }
 
 #[test]
-fn runs_up_to_a_refusal(rt: HostRuntime) -> Result<(), Fail> {
-    let alloc = rt.alloc();
-    let list = events(
+fn gives_its_history_back(rt: HostRuntime) {
+    match played(rt.alloc(), "a,b", EACH_KIND) {
+        Some(world) => assert!(rt; has_each_kind(rt.alloc(), &world)),
+        None => assert!(rt; false),
+    }
+}
+
+/// Puts the event of a line behind the others.
+fn push_event(alloc: Global, events: &mut Vec<WorldEvent>, line: &str) -> bool {
+    match event_of(alloc, line) {
+        Some(event) => events.push(event).is_ok(),
+        None => false,
+    }
+}
+
+/// The events of a script's lines, parted by commas, up to the first that asks for none.
+fn events(alloc: Global, lines: &str) -> Vec<WorldEvent> {
+    let mut events = Vec::new(alloc);
+    for line in lines.split(", ") {
+        if !push_event(alloc, &mut events, line) {
+            break;
+        }
+    }
+    events
+}
+
+/// Whether three of these events are played, with one answer, and the next is refused for a node outside the world.
+fn stops_at_fourth(world: &mut Cluster, events: &[WorldEvent]) -> bool {
+    let end = world.run(events);
+    end.played == 3 && end.answers.len() == 1 && end.refusal == Some(Refusal::NoSuchNode)
+}
+
+/// Whether a letter of this node to itself is delivered next.
+fn waits_at(world: &Cluster, node: &str) -> bool {
+    match (world.waiting(), parse_node_name(node)) {
+        (Some((sender, receiver)), Ok(name)) => sender == name && receiver == name,
+        _ => false,
+    }
+}
+
+/// Whether a run ends at the first event that is refused.
+fn runs(alloc: Global, world: &mut Cluster) -> bool {
+    let events = events(
         alloc,
         "spawn a, register a x a.1, deliver a a, spawn z, spawn a",
-    )?;
-    let mut world = world(alloc, "a", "d")?;
-    let end = world.run(list.as_slice());
-    assert!(rt; end.played == 3 && end.answers.len() == 1);
-    assert!(rt; end.refusal == Some(Refusal::NoSuchNode));
-    assert!(rt; world.waiting() == Some((parse_node_name("a")?, parse_node_name("a")?)));
-    Ok(())
+    );
+    stops_at_fourth(world, events.as_slice()) && waits_at(world, "a")
+}
+
+#[test]
+fn runs_up_to_a_refusal(rt: HostRuntime) {
+    match played(rt.alloc(), "a", "settle") {
+        Some(mut world) => assert!(rt; runs(rt.alloc(), &mut world)),
+        None => assert!(rt; false),
+    }
 }
 
 /// The node `a` registers a name, and holds the lock.
 const HELD: &str =
     "spawn a, register a x a.1, deliver a c, deliver c a, deliver a a, deliver a b, deliver a a, deliver b a";
 
-#[test]
-fn shows_its_nodes(rt: HostRuntime) -> Result<(), Fail> {
-    let alloc = rt.alloc();
-    let (a, c, d) = (first("a")?, first("c")?, first("d")?);
-    let x = parse_name("x")?;
-    let mut world = world(alloc, "a,b,c", "d")?;
-    assert!(rt; plays(alloc, &mut world, HELD));
-    assert!(rt; world.holder() == Some(a.copy()));
-    assert!(rt; plays(alloc, &mut world, "settle, leave c, settle"));
-    assert!(rt; world.holder().is_none() && world.waiting().is_none());
-    assert!(rt; world.nodes().len() == 4 && world.has_left(&c) && !world.has_left(&a));
-    assert!(rt; world.members(&a).is_some_and(|members| members.len() == 2));
-    assert!(rt; world.members(&c).is_some_and(|members| members.len() == 3));
-    assert!(rt; world.told(&d).is_some_and(|told| told.contains(&c)));
-    assert!(rt; world.table(&c).is_some_and(|table| table.get(&x).is_some()));
-    assert!(rt; world.table(&d).is_some_and(|table| table.get(&x).is_none()));
-    Ok(())
-}
-
-/// The words of refusals, parted by spaces.
-fn words(alloc: Global) -> Result<String, Fail> {
-    let process = parse_pid("a.1")?;
-    let mut text = String::new(alloc);
-    for refusal in [
-        Refusal::NoSuchNode,
-        Refusal::NodeLeft,
-        Refusal::EmptyLink,
-        Refusal::Step(StepFault::NotLive(process.copy())),
-        Refusal::Step(StepFault::Busy(process)),
-        Refusal::Step(StepFault::Reserved),
-        Refusal::Step(StepFault::UnknownNode),
-        Refusal::Step(StepFault::AlreadyJoined),
-        Refusal::Step(StepFault::NoSuchProcess),
-        Refusal::Step(StepFault::AlreadyExited),
-        Refusal::Step(StepFault::SerialsSpent),
-        Refusal::Step(StepFault::NothingToRetry),
-        Refusal::Step(StepFault::HoldsLock),
-        Refusal::Step(StepFault::CallsSpent),
-        Refusal::Step(StepFault::Memory),
-    ] {
-        write!(text, "{refusal} ")?;
+/// Whether this node holds the global lock.
+fn is_held(world: &Cluster, node: &Node) -> bool {
+    match world.holder() {
+        Some(holder) => holder == *node,
+        None => false,
     }
-    Ok(text)
 }
 
-#[test]
-fn names_its_refusals(rt: HostRuntime) -> Result<(), Fail> {
-    let said =
-        "no_such_node node_left empty_link not_live busy reserved unknown_node already_joined no_such_process \
-already_exited serials_spent nothing_to_retry holds_lock calls_spent memory ";
-    assert!(rt; words(rt.alloc())?.as_str() == said);
-    Ok(())
+/// How many members a node at present has.
+fn count_members(world: &Cluster, node: &Node) -> Option<usize> {
+    Some(world.members(node)?.len())
 }
 
-/// The words of why a world isn't started, parted by spaces.
-fn start_words(alloc: Global) -> Result<String, Fail> {
-    let mut text = String::new(alloc);
-    for fault in [
-        StartFault::NoNode,
-        StartFault::SameNode,
-        StartFault::TooManyNodes,
-        StartFault::Memory,
-    ] {
-        write!(text, "{fault} ")?;
+/// Whether a node at present was told that another has left.
+fn is_told(world: &Cluster, node: &Node, other: &Node) -> bool {
+    match world.told(node) {
+        Some(told) => told.contains(other),
+        None => false,
     }
-    Ok(text)
+}
+
+/// Whether a node at present knows a name.
+fn knows(world: &Cluster, node: &Node, name: &Name) -> Option<bool> {
+    Some(world.table(node)?.get(name).is_some())
+}
+
+/// Whether nobody holds the lock and no letter waits once c has left, whose members and names stay as they were.
+fn shows_departure(world: &Cluster, a: &Node, c: &Node, d: &Node, x: &Name) -> bool {
+    world.holder().is_none()
+        && world.waiting().is_none()
+        && world.nodes().len() == 4
+        && world.has_left(c)
+        && !world.has_left(a)
+        && count_members(world, a) == Some(2)
+        && count_members(world, c) == Some(3)
+        && is_told(world, d, c)
+        && knows(world, c, x) == Some(true)
+        && knows(world, d, x) == Some(false)
+}
+
+/// Whether a world shows how its nodes stand while `a` holds the lock, and once `c` has left.
+fn shows_nodes(alloc: Global, world: &mut Cluster) -> bool {
+    match (
+        parse_node("a"),
+        parse_node("c"),
+        parse_node("d"),
+        parse_name("x"),
+    ) {
+        (Ok(a), Ok(c), Ok(d), Ok(x)) => {
+            is_held(world, &a)
+                && plays(alloc, world, "settle, leave c, settle")
+                && shows_departure(world, &a, &c, &d, &x)
+        }
+        _ => false,
+    }
 }
 
 #[test]
-fn names_what_starts_no_world(rt: HostRuntime) -> Result<(), Fail> {
-    assert!(rt; start_words(rt.alloc())?.as_str() == "no_node same_node too_many_nodes memory ");
-    Ok(())
+fn shows_its_nodes(rt: HostRuntime) {
+    match played(rt.alloc(), "a,b,c", HELD) {
+        Some(mut world) => assert!(rt; shows_nodes(rt.alloc(), &mut world)),
+        None => assert!(rt; false),
+    }
+}
+
+/// Whether a node doesn't tell what a process of another node was sent, as if there were no such process.
+fn is_no_process(world: &mut Cluster, node: &str, process: &str) -> bool {
+    let (Ok(node), Ok(process)) = (parse_node(node), parse_pid(process)) else {
+        return false;
+    };
+    let event = WorldEvent::At(node, Event::Call(Call::Notices(process)));
+    match world.play(&event) {
+        Ok(_) => false,
+        Err(refusal) => refusal == Refusal::Step(StepFault::NoSuchProcess),
+    }
+}
+
+#[test]
+fn refuses_to_look_elsewhere(rt: HostRuntime) {
+    match played(rt.alloc(), "a,b", "spawn a, spawn b") {
+        Some(mut world) => assert!(rt; is_no_process(&mut world, "a", "b.1")),
+        None => assert!(rt; false),
+    }
+}
+
+/// Whether this text was printed.
+pub(crate) fn is_text(printed: Result<String, AllocError>, wanted: &str) -> bool {
+    match printed {
+        Ok(text) => text.as_str() == wanted,
+        Err(_) => false,
+    }
+}
+
+/// Whether a refusal is shown so.
+fn is_shown(alloc: Global, refusal: &Refusal, wanted: &str) -> bool {
+    is_text(format!(in alloc; "{refusal}"), wanted)
+}
+
+#[test]
+fn names_its_refusals(rt: HostRuntime) {
+    assert!(rt; is_shown(rt.alloc(), &Refusal::NoSuchNode, "no_such_node"));
+    assert!(rt; is_shown(rt.alloc(), &Refusal::NodeLeft, "node_left"));
+    assert!(rt; is_shown(rt.alloc(), &Refusal::EmptyLink, "empty_link"));
+    assert!(rt;
+        is_shown(
+            rt.alloc(),
+            &Refusal::Step(StepFault::HoldsLock),
+            "holds_lock"
+        )
+    );
+}
+
+#[test]
+fn names_what_starts_no_world(rt: HostRuntime) {
+    let (none, same) = (StartFault::NoNode, StartFault::SameNode);
+    let (many, memory) = (StartFault::TooManyNodes, StartFault::Memory);
+    let shown = format!(in rt.alloc(); "{none} {same} {many} {memory}");
+    assert!(rt; is_text(shown, "no_node same_node too_many_nodes memory"));
 }
