@@ -1,22 +1,26 @@
 -- A named event is an event of the world that it is made of.
 use mathlib.Core.Logic.{◌⊎◌, inl, inr}
 use Rattle.std.proofs.Common.{ℕ, zero, suc, Bool, true, false, ◌≡◌, ◌<◌, ◌≤◌, ◌+◌, Option, Some, None, List, [], ◌∷◌, refl, sym, ap, subst, ◌∙◌, arith}
-use Rattle.std.specs.Prelude.{is_none, option_map, find, not, if◌then◌else◌}
+use Rattle.std.specs.Prelude.{is_none, option_map, find, map, not, if◌then◌else◌}
 use Rattle.std.specs.Option.{option_or}
-use Rattle.std.proofs.lemmas.Bool.{cases_eq}
+use Rattle.std.proofs.lemmas.Bool.{cases_eq, lt-ltb}
 use Rattle.std.proofs.lemmas.List.{append-nil}
 use Rattle.std.proofs.lemmas.List.Folds.{find-append}
 use Rattle.std.proofs.lemmas.List.Sums.{fold-append}
 use Rattle.protocol_model.specs.Links.{is_nil}
 use Rattle.protocol_model.specs.Letter.{Letter}
 use Rattle.protocol_model.specs.Event.{Event, Refusal, NoSuchNode}
-use Rattle.protocol_model.specs.World.{WorldEvent, other, refusal, turn_of, answers, accepted, run, all_answers}
+use Rattle.protocol_model.specs.World.{WorldEvent, other, in_world, refusal, turn_of, answers, accepted, run, all_answers}
 use Rattle.protocol_model.specs.SharedLaws.{NamesNode}
 use Rattle.protocol_model.proofs.Places.{tells_its_places}
-use Rattle.creations.specs.NodeNames.{NamedOpening, node_of, name_of, creation_of, first_nodes, opening_of, HasNumber}
-use Rattle.creations.specs.NamedWorld.{NamedWorld, NamedEvent, AtNode, Deliver, NamedRefusal, Plain, opening_named, present_node, has_started, or_present, sender_to, plain, plain_refusal, named_refusal, present_after, accepted_named, happens_named, after_events}
-use Rattle.creations.proofs.Numbers.{name-node, creation-node}
+use Rattle.creations.specs.NodeNames.{NamedOpening, is_name, node_of, name_of, creation_of, first_nodes, opening_of, HasNumber}
+use Rattle.creations.specs.NamedWorld.{NamedWorld, NamedEvent, AtNode, Deliver, Restart, NamedRefusal, Plain, opening_named, present_node, has_started, or_present, sender_to, next_node, plain, plain_refusal, named_refusal, present_after, accepted_named, plain_accepted, happens_named, after_events}
+use Rattle.creations.specs.Restarts.{who_left}
+use Rattle.creations.proofs.Numbers.{name-node, creation-node, inside-name}
 use Rattle.creations.proofs.Standing.{Sound, started_from, started_to}
+use Rattle.creations.proofs.Catching.{who_waits}
+use Rattle.creations.proofs.Restarting.{MayRestart, may_restart}
+use Rattle.creations.proofs.NamedRuns.{after_events-push, as_events-push}
 use Rattle.creations.proofs.Always.{always}
 use Rattle.named_events.specs.Events.{HasStarted, IsTheEvent, IsRefused, IsOldestSender, EventsAreOfNodes, NamedEventsAreOfNodes, NamedEventsFollow}
 
@@ -54,6 +58,7 @@ module _ (o : NamedOpening) where
     refused_is : (named : NamedEvent) (why : NamedRefusal) → named_refusal o w named ≡ Some why → IsRefused o w named why
     refused_is named why r = record {
       refused = r;
+      unplayed = ap (λ (x : Option NamedRefusal). if is_none x then plain o w named else []) r;
       unanswered = ap (λ (x : Option NamedRefusal).
           all_answers (opening_of o) w.world (if is_none x then plain o w named else [])) r;
       unchanged = ap (λ (x : Option NamedRefusal). if is_none x then accepted_named o w named else w) r;
@@ -70,6 +75,8 @@ module _ (o : NamedOpening) where
             let q : named_refusal o w named ≡ None = r ∙ ap (option_map Plain) i in
             record {
               refused = r;
+              played = ap (λ (x : Option NamedRefusal). if is_none x then plain o w named else []) q
+                  ∙ p ∙ sym (ap (λ (x : Option Refusal). if is_none x then e ∷ [] else []) i);
               answered = ap (λ (x : Option NamedRefusal).
                   all_answers (opening_of o) w.world (if is_none x then plain o w named else [])) q
                   ∙ ap (all_answers (opening_of o) w.world) p ∙ append-nil (answers (opening_of o) w.world e);
@@ -81,6 +88,7 @@ module _ (o : NamedOpening) where
             let d : IsRefused o w named (Plain y) = refused_is named (Plain y) (r ∙ ap (option_map Plain) i) in
             record {
               refused = r;
+              played = d.unplayed ∙ sym (ap (λ (x : Option Refusal). if is_none x then e ∷ [] else []) i);
               answered = d.unanswered
                   ∙ sym (ap (λ (x : Option Refusal). if is_none x then (turn_of (opening_of o) w.world e).answers else []) i);
               world = ap (λ (v : NamedWorld). v.world) d.unchanged
@@ -169,12 +177,37 @@ module _ (o : NamedOpening) where
         (plainly w (WorldEvent.Deliver (sender_to o w f t) (present_node o w t))
         (ap (has_started o w) from.node ∙ started_one f from.creation from.first from.last)) refl refl
 
+    -- the notices of those that have left wait for the node that starts, and nothing else does
+    restart : (x : ℕ) → named_refusal o w (Restart x) ≡ None
+        → plain_accepted o w (Restart x) ≡ map (λ d. WorldEvent.Deliver d (next_node o w x)) (who_left o w)
+    restart x r = ap (λ (y : Option NamedRefusal). if is_none y then plain o w (Restart x) else []) r
+        ∙ ap (map (λ d. WorldEvent.Deliver d n)) (who_waits o w s n unstarted inside)
+      where
+        n : ℕ
+        n = next_node o w x
+
+        may : MayRestart o w x
+        may = may_restart o w x r
+
+        number : HasNumber o (w.present x + 1)
+        number = let l : w.present x < o.last = may.further in record { first = omega arith; last = omega arith }
+
+        unstarted : has_started o w n ≡ false
+        unstarted =
+            let c : creation_of o n ≡ w.present x + 1 = creation-node o x (w.present x + 1) number in
+            let p : w.present (name_of o n) ≡ w.present x = ap w.present (name-node o x (w.present x + 1) number) in
+            ap not (lt-ltb (w.present (name_of o n)) (creation_of o n) (omega (arith, c, p)))
+
+        inside : in_world (opening_of o) n ≡ true
+        inside = inside-name o n ∙ ap (is_name o) (name-node o x (w.present x + 1) number) ∙ may.known
+
     are_of_nodes : EventsAreOfNodes o w
     are_of_nodes = record {
       at_node = at_node w;
       at_none = at_none w;
-      at_name = λ x e. record { refused = refl; answered = refl; happened = refl };
+      at_name = λ x e. record { refused = refl; played = refl; answered = refl; happened = refl };
       delivery = λ f t. (sender_to o w f t, sender f (present_node o w t), delivery f t);
+      restart = restart;
       refused = refused_is w;
     }
 
@@ -185,5 +218,8 @@ pub events_follow_each_other : NamedEventsFollow
 events_follow_each_other o = record {
   world = refl;
   present = λ x. refl;
-  next = λ es e. fold-append (happens_named o) (opening_named o) es (e ∷ []);
+  next = after_events-push o;
+  unplayed = refl;
+  plays = as_events-push o;
+  behind = λ es ds. sym (fold-append (happens_named o) (opening_named o) es ds);
 }

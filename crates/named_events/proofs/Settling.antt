@@ -21,7 +21,7 @@ use Rattle.creations.proofs.Standing.{Sound, started_to, present_started, up_pre
 use Rattle.creations.proofs.NamedRuns.{happens-plain}
 use Rattle.creations.proofs.Always.{always, happens_keeps}
 use Rattle.named_events.specs.Events.{IsOldestSender}
-use Rattle.named_events.specs.Settling.{LetterWaitsByName, NothingWaits, IsFirstByName, SettlesByName, SettlingByName}
+use Rattle.named_events.specs.Settling.{LetterWaitsByName, NoLetterWaits, IsFirstByName, SettlesByName, SettlingByName}
 use Rattle.named_events.proofs.OfNodes.{sender, delivery}
 use Rattle.named_events.proofs.Rows.{FromAll, from_all}
 
@@ -126,7 +126,7 @@ module _ (o : NamedOpening) (w : NamedWorld) (s : Sound o w) where
 
   -- what the next delivery says of the letters that wait
   abbrev Says : Option NamedEvent → Type 0
-  Says None = NothingWaits o w
+  Says None = NoLetterWaits o w
   Says (Some e) = IsFirstByName o w e
 
   pub next_says : Says (next_named o w)
@@ -144,7 +144,7 @@ module _ (o : NamedOpening) (w : NamedWorld) (s : Sound o w) where
 
   -- where no letter waits by names, none waits for a node that has started and runs
   module _ (es : List NamedEvent) where
-    quiet_by : NothingWaits o w → NamesAreQuiet o es w
+    quiet_by : NoLetterWaits o w → NamesAreQuiet o es w
     quiet_by none f c i up = go (has_started o w f) refl (w.world.links.queue f c) refl
       where
         here : c ≡ present_node o w (name_of o c)
@@ -167,7 +167,7 @@ module _ (o : NamedOpening) (w : NamedWorld) (s : Sound o w) where
           ));
         }))
 
-    none_by : NamesAreQuiet o es w → NothingWaits o w
+    none_by : NamesAreQuiet o es w → NoLetterWaits o w
     none_by quiet f t L = L.waits (quiet (node_of o f L.creation) (present_node o w t)
         (inside f L.creation L.first L.last ∙ L.sender) (record {
           inside = present_inside t ∙ L.receiver;
@@ -175,10 +175,10 @@ module _ (o : NamedOpening) (w : NamedWorld) (s : Sound o w) where
           stays = L.runs;
         }))
 
-  next_none : (next_named o w ≡ None) ↔ NothingWaits o w
+  next_none : (next_named o w ≡ None) ↔ NoLetterWaits o w
   next_none = (λ h. subst Says h next_says, λ none. go none (next_named o w) next_says)
     where
-      go : NothingWaits o w → (x : Option NamedEvent) → Says x → x ≡ None
+      go : NoLetterWaits o w → (x : Option NamedEvent) → Says x → x ≡ None
       go none None S = refl
       go none (Some e) S = absurd (none S.sender S.receiver S.waits)
 
@@ -230,16 +230,16 @@ module _ (o : NamedOpening) where
       go by (Some e) = omega (arith, by (happens_named o w e))
 
   stops_there : (most : ℕ) (w : NamedWorld) → Sound o w → length (named_deliveries_left o most w) < most
-      → NothingWaits o (run_named o w (named_deliveries_left o most w))
+      → NoLetterWaits o (run_named o w (named_deliveries_left o most w))
   stops_there zero w s h = absurd (omega (arith, h))
-  stops_there (suc most) w s h = subst (λ (es : List NamedEvent). NothingWaits o (run_named o w es)) (sym (settle_is most w))
+  stops_there (suc most) w s h = subst (λ (es : List NamedEvent). NoLetterWaits o (run_named o w es)) (sym (settle_is most w))
       (go (stops_there most) (next_named o w) refl
       (subst (λ (es : List NamedEvent). length es < suc most) (settle_is most w) h))
     where
       go : ((v : NamedWorld) → Sound o v → length (named_deliveries_left o most v) < most
-          → NothingWaits o (run_named o v (named_deliveries_left o most v)))
+          → NoLetterWaits o (run_named o v (named_deliveries_left o most v)))
           → (x : Option NamedEvent) → next_named o w ≡ x → length (settle_by most w x) < suc most
-          → NothingWaits o (run_named o w (settle_by most w x))
+          → NoLetterWaits o (run_named o w (settle_by most w x))
       go by None i l = (next_none o w s).0 i
       go by (Some e) i l = by (happens_named o w e) (happens_keeps o w e s) (omega (arith, l))
 
@@ -265,11 +265,11 @@ module _ (o : NamedOpening) where
       last : List NamedOutput
       last = settled o (next_named o (run_named o w (e ∷ ds))) ∷ []
 
-  prints_settled : (w : NamedWorld) → Sound o w → NothingWaits o w → printed o w NamedLine.Settle [] ≡ Settled ∷ []
+  prints_settled : (w : NamedWorld) → Sound o w → NoLetterWaits o w → printed o w NamedLine.Settle [] ≡ Settled ∷ []
   prints_settled w s none =
       ap (λ (x : Option NamedEvent). settled o x ∷ []) ((next_none o w s).1 none)
 
-  prints_unsettled : (w : NamedWorld) → Sound o w → (NothingWaits o w → ⊥)
+  prints_unsettled : (w : NamedWorld) → Sound o w → (NoLetterWaits o w → ⊥)
       → printed o w NamedLine.Settle [] ≡ SettleLimit ∷ []
   prints_unsettled w s waits = go (next_named o w) refl
     where

@@ -20,8 +20,8 @@ module _ (o : NamedOpening) (w : NamedWorld) where
     pub waits : w.world.links.queue (node_of o f creation) (node_of o t (w.present t)) ≡ [] → ⊥
 
   -- no letter does
-  abbrev pub NothingWaits : Type 0
-  NothingWaits = (f t : ℕ) → LetterWaitsByName f t → ⊥
+  abbrev pub NoLetterWaits : Type 0
+  NoLetterWaits = (f t : ℕ) → LetterWaitsByName f t → ⊥
 
   -- the event is the delivery from the first name of which a letter waits, by senders, then receivers
   pub record IsFirstByName (e : NamedEvent) : Type 0 where
@@ -34,7 +34,7 @@ module _ (o : NamedOpening) (w : NamedWorld) where
 -- What is delivered next in a world of named nodes, what `settle` delivers, and what it prints
 pub record SettlesByName (o : NamedOpening) (es : List NamedEvent) (w : NamedWorld) : Type 0 where
   -- the next delivery is the first, and there is none exactly where no letter waits
-  pub none : (next_named o w ≡ None) ↔ NothingWaits o w
+  pub none : (next_named o w ≡ None) ↔ NoLetterWaits o w
   pub some : (e : NamedEvent) → next_named o w ≡ Some e → IsFirstByName o w e
   -- each delivery of `settle` is the first in the world behind those before it
   pub each : (most : ℕ) (before after : List NamedEvent) (e : NamedEvent) → named_deliveries_left o most w ≡ before ++ e ∷ after →
@@ -42,17 +42,17 @@ pub record SettlesByName (o : NamedOpening) (es : List NamedEvent) (w : NamedWor
   -- there are no more than are allowed, and where there are fewer no letter waits behind them
   pub limit : (most : ℕ) → length (named_deliveries_left o most w) ≤ most
   pub stops : (most : ℕ) → length (named_deliveries_left o most w) < most →
-      NothingWaits o (run_named o w (named_deliveries_left o most w))
+      NoLetterWaits o (run_named o w (named_deliveries_left o most w))
   -- the line prints the answers to its deliveries, first those to the first
   pub answers : (e : NamedEvent) (ds : List NamedEvent) → printed o w NamedLine.Settle (e ∷ ds)
       ≡ map Said (named_answers o w e) ++ printed o (happens_named o w e) NamedLine.Settle ds
-  -- and behind them `settled` where no letter waits any more, and else that the limit was reached
-  pub settled : NothingWaits o w → printed o w NamedLine.Settle [] ≡ Settled ∷ []
-  pub unsettled : (NothingWaits o w → ⊥) → printed o w NamedLine.Settle [] ≡ SettleLimit ∷ []
+  -- behind these, and so where there are none, stands `settled` if no letter waits, and else that the limit was reached
+  pub settled : NoLetterWaits o w → printed o w NamedLine.Settle [] ≡ Settled ∷ []
+  pub unsettled : (NoLetterWaits o w → ⊥) → printed o w NamedLine.Settle [] ≡ SettleLimit ∷ []
   -- and these deliveries are the events of the line
   pub plays : (most : ℕ) → events_in o most w NamedLine.Settle ≡ named_deliveries_left o most w
   -- no letter waits by names exactly where none waits on a link to a node that has started and runs
-  pub quiet : NothingWaits o w ↔ NamesAreQuiet o es w
+  pub quiet : NoLetterWaits o w ↔ NamesAreQuiet o es w
 
 -- So it is behind all events
 abbrev pub SettlingByName : Type 0

@@ -5,14 +5,14 @@ ghost use Rattle.named_events.specs.Events.{NamedEventsAreOfNodes, NamedEventsFo
 ghost use Rattle.named_events.specs.Settling.{SettlingByName};
 ghost use Rattle.named_events.specs.Printing.{PrintingByName};
 
-/// An event at a node that has started is that event of the world, refused, answered and carried out as there; at a name it is that
-/// at the name's present node, and a delivery from name to name takes the letters of older nodes first. What hasn't started is no
-/// node, and what is refused changes nothing.
+/// An event at a node that has started is that event of the world, refused, answered, played and carried out as there; at a name it
+/// is that at the name's present node, a delivery from name to name takes the letters of older nodes first, and a restart delivers
+/// the notices of those that have left. What hasn't started is no node, and what is refused changes nothing.
 pub fn events_are_of_nodes()
     ensures { NamedEventsAreOfNodes }
 {}
 
-/// A world of named nodes opens with the first node of each name, and events happen one after the other.
+/// A world of named nodes opens with the first node of each name, and events happen and are played one after the other.
 pub fn events_follow_each_other()
     ensures { NamedEventsFollow }
 {}
