@@ -15,7 +15,7 @@ use Rattle.registry_model.proofs.Updates.{at_same, at_other}
 use Rattle.registry_model.proofs.Groups.{left-with_table, told-with_table}
 use Rattle.registry_model.proofs.HistoryParts.{registry_of-append, registry_of-push}
 use Rattle.registry_model.proofs.Deaths.{IsJoinOf, joined-effect, joined_stays_after, joined_after}
-use Rattle.history_words.specs.Entries.{WasTold, ByNotice, ByContact, HasJoined, AtFirst, ByJoin, TellsItsEntries}
+use Rattle.history_words.specs.Entries.{WasTold, ByNotice, ByContact, HasJoined, ByJoin, TellsItsEntries}
 
 -- what an entry does to who has left
 left-effect : (r : Registry) (e : Entry) (d : ℕ) → (e ≡ Left d) ⊎ ((effect e r).left d ≡ r.left d)
@@ -179,10 +179,10 @@ module _ (cluster : Nodes) where
       ∙ tells_later before later (Join n k m Joined) n d (ByIts k m (entered_told before m d w))
 
   pub joined_entered : (n : ℕ) (h : List Entry) → (after h).joined n ≡ true → HasJoined cluster h n
-  joined_entered n h = by_push (λ h. (after h).joined n ≡ true → HasJoined cluster h n) AtFirst more h
+  joined_entered n h = by_push (λ h. (after h).joined n ≡ true → HasJoined cluster h n) HasJoined.AtFirst more h
     where
       longer : (h : List Entry) (e : Entry) → HasJoined cluster h n → HasJoined cluster (h ++ e ∷ []) n
-      longer h e (AtFirst q) = AtFirst q
+      longer h e (HasJoined.AtFirst q) = HasJoined.AtFirst q
       longer h e (ByJoin k m c) = ByJoin k m (Contains-append_left h (e ∷ []) (Join n k m Joined) c)
 
       more : (h : List Entry) (e : Entry) → ((after h).joined n ≡ true → HasJoined cluster h n)
@@ -196,7 +196,7 @@ module _ (cluster : Nodes) where
               (old (sym keeps ∙ ap (λ (r : Registry). r.joined n) (sym (registry_of-push cluster h e)) ∙ q))
 
   pub entered_joined : (n : ℕ) (h : List Entry) → HasJoined cluster h n → (after h).joined n ≡ true
-  entered_joined n h (AtFirst q) = joined_stays_after (opening cluster) h n q
+  entered_joined n h (HasJoined.AtFirst q) = joined_stays_after (opening cluster) h n q
   entered_joined n h (ByJoin k m c) =
       let split : (before : List Entry) × (later : List Entry) × (h ≡ before ++ Join n k m Joined ∷ later) =
       Contains-split h (Join n k m Joined) c in

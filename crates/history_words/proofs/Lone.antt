@@ -2,7 +2,7 @@
 use mathlib.Core.Logic.{inl, inr}
 use Rattle.std.proofs.Common.{ℕ, Bool, true, false, ◌≡◌, Option, Some, None, List, [], ◌∷◌, ◌++◌, refl, sym, ap, ◌∙◌, subst}
 use Rattle.std.specs.Prelude.{Contains, is_none, if◌then◌else◌}
-use Rattle.std.proofs.lemmas.List.{append_cancel_left, append-nil}
+use Rattle.std.proofs.lemmas.List.{append_cancel_left}
 use Rattle.std.proofs.lemmas.List.Elements.{Contains-append_cases, Contains-append_right}
 use Rattle.registry_model.specs.Call.{Reply, NotMember}
 use Rattle.registry_model.specs.History.{Entry, Join}
@@ -14,7 +14,7 @@ use Rattle.protocol_model.specs.Turn.{Turn, begun}
 use Rattle.protocol_model.specs.Registrar.{answer_op}
 use Rattle.protocol_model.specs.Client.{is_spent}
 use Rattle.protocol_model.specs.Event.{Event, Refusal}
-use Rattle.protocol_model.specs.World.{Opening, World, WorldEvent, At, Deliver, place, join_number, refusal, turn_of, accepted}
+use Rattle.protocol_model.specs.World.{Opening, World, WorldEvent, At, Deliver, place, join_number, turn_of, accepted}
 use Rattle.moves.proofs.Rules
 use Rattle.moves.proofs.Rules.{Rule}
 use Rattle.walk.proofs.Joins.{admitted-joined}
@@ -108,7 +108,7 @@ module _ (o : Opening) (a : ℕ) where
       ]
 
 -- what an accepted event enters stands behind the history
-entered_behind : (o : Opening) (w : World) (e : WorldEvent) → (accepted o w e).history ≡ w.history ++ (turn_of o w e).entries
+pub entered_behind : (o : Opening) (w : World) (e : WorldEvent) → (accepted o w e).history ≡ w.history ++ (turn_of o w e).entries
 entered_behind o w (At a (Event.Calling c)) = refl
 entered_behind o w (At a Event.Retry) = refl
 entered_behind o w (At a (Event.Exiting p)) = refl
@@ -116,7 +116,7 @@ entered_behind o w (At a Event.Leave) = refl
 entered_behind o w (Deliver f t) = refl
 
 pub refuses_while_lone : RefusesWhileLone
-refuses_while_lone o es e earlier later j k m s = go (refusal o (world o es) e) refl s
+refuses_while_lone o es e earlier later j k m r s = ap (λ (n : ℕ). (w.node n).replica.joined) L.here ∙ L.lone
   where
     w : World
     w = world o es
@@ -127,20 +127,17 @@ refuses_while_lone o es e earlier later j k m s = go (refusal o (world o es) e) 
     W : Whole o w
     W = whole o es
 
-    among : Contains (earlier ++ refused ∷ later) refused
-    among = Contains-append_right earlier (refused ∷ later) refused (Contains-front refused later)
+    h : OrderedWalk o w e
+    h = walked_in_order o w e W.ordered (widens o w W.kept W.once) r
 
-    by : refusal o w e ≡ None → Contains (turn_of o w e).entries refused → ((world o es).node m).replica.joined ≡ false
-    by r c =
-        let h : OrderedWalk o w e = walked_in_order o w e W.ordered (widens o w W.kept W.once) r in
-        let L : IsLone o (place e) w m = chain_lone o (place e) (Rules.first_by o (place e) w e ++ h.walk.rest) w h.walk.may j k m
-        (subst (λ (xs : List Entry). Contains xs refused) (sym h.walk.entries) c) in
-        ap (λ (n : ℕ). (w.node n).replica.joined) L.here ∙ L.lone
+    is_new : earlier ++ refused ∷ later ≡ (turn_of o w e).entries
+    is_new = append_cancel_left w.history (earlier ++ refused ∷ later) (turn_of o w e).entries
+        (sym s ∙ ap (λ (x : Option Refusal). (if is_none x then accepted o w e else w).history) r ∙ entered_behind o w e)
 
-    go : (x : Option Refusal) → refusal o w e ≡ x
-        → (if is_none x then accepted o w e else w).history ≡ w.history ++ (earlier ++ refused ∷ later)
-        → ((world o es).node m).replica.joined ≡ false
-    go None r q = by r (subst (λ (xs : List Entry). Contains xs refused)
-        (append_cancel_left w.history (earlier ++ refused ∷ later) (turn_of o w e).entries (sym q ∙ entered_behind o w e)) among)
-    go (Some y) r q = absurd (Contains-nil refused (subst (λ (xs : List Entry). Contains xs refused)
-        (append_cancel_left w.history (earlier ++ refused ∷ later) [] (sym q ∙ sym (append-nil w.history))) among))
+    among : Contains (turn_of o w e).entries refused
+    among = subst (λ (xs : List Entry). Contains xs refused) is_new
+        (Contains-append_right earlier (refused ∷ later) refused (Contains-front refused later))
+
+    L : IsLone o (place e) w m
+    L = chain_lone o (place e) (Rules.first_by o (place e) w e ++ h.walk.rest) w h.walk.may j k m
+        (subst (λ (xs : List Entry). Contains xs refused) (sym h.walk.entries) among)

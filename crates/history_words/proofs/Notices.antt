@@ -2,7 +2,8 @@
 use mathlib.Core.Logic.{inl, inr}
 use Rattle.std.proofs.Common.{suc, Bool, true, false, ◌≡◌, ◌<◌, arith, Option, Some, get_or, List, [], ◌∷◌, ◌++◌, map, refl, sym, ap, ◌∙◌, subst}
 use Rattle.std.specs.Prelude.{Contains, AllPairs, filter, if◌then◌else◌}
-use Rattle.std.proofs.lemmas.List.Elements.{Contains-get_or}
+use Rattle.std.proofs.lemmas.List.{map-append}
+use Rattle.std.proofs.lemmas.List.Elements.{Contains-get_or, filter-append}
 use Rattle.std.proofs.lemmas.List.Kept.{AllPairs-cons}
 use Rattle.registry_model.specs.Process.{Text, Process, is_process, Nodes}
 use Rattle.registry_model.specs.Settlement.{Notice, Noted, notices_to, settle}
@@ -17,20 +18,20 @@ use Rattle.registry_model.proofs.NoticesStay.{notices_law}
 use Rattle.registry_model.proofs.Rising.{Rises, Rises-registry_of, is_rising-view}
 use Rattle.registry_model.proofs.Settlements.{settle_law}
 use Rattle.registry_model.proofs.Tables.{get_from_entry}
-use Rattle.history_words.specs.Notices.{Gets, Nothing, Its, Anothers, GetsItsOwn, GetsWhatIsSent, Sends, SendsInOrder}
+use Rattle.history_words.specs.Notices.{GetsItsOwn, GetsWhatIsSent, SendsNotices, SendsInOrder}
+
+-- what p gets of a list, notice by notice
+data Gets (p : Process) : List Noted → List Notice → Type 0 where
+  Nothing : Gets p [] []
+  Its : (n : Noted) (ns : List Noted) (gs : List Notice) → n.process ≡ p → Gets p ns gs → Gets p (n ∷ ns) (n.notice ∷ gs)
+  Anothers : (n : Noted) (ns : List Noted) (gs : List Notice) → (n.process ≡ p → ⊥) → Gets p ns gs → Gets p (n ∷ ns) gs
 
 -- what is kept of a list whose first notice is for p, or not
 abbrev kept : Process → Noted → List Noted → Bool → List Notice
 kept p n ns b =
     let rest : List Noted = filter (λ m. is_process m.process p) ns in map (λ m. m.notice) (if b then n ∷ rest else rest)
 
-there : (p : Process) (ns : List Noted) (gs : List Notice) → Gets p ns gs → gs ≡ notices_to p ns
-there p _ _ Nothing = refl
-there p _ _ (Its n ns gs e G) =
-    ap (λ (hs : List Notice). n.notice ∷ hs) (there p ns gs G) ∙ sym (ap (kept p n ns) (is_process-eq n.process p e))
-there p _ _ (Anothers n ns gs ne G) = there p ns gs G ∙ sym (ap (kept p n ns) (is_process-other n.process p ne))
-
-pub own : (p : Process) (ns : List Noted) → Gets p ns (notices_to p ns)
+own : (p : Process) (ns : List Noted) → Gets p ns (notices_to p ns)
 own p [] = Nothing
 own p (n ∷ ns) = go (own p ns) (is_process n.process p) refl
   where
@@ -38,8 +39,14 @@ own p (n ∷ ns) = go (own p ns) (is_process n.process p) refl
     go more true e = Its n ns (notices_to p ns) (is_process-true n.process p e) more
     go more false e = Anothers n ns (notices_to p ns) (λ i. cc (e, is_process-eq n.process p i)) more
 
-pub gets_its_own : GetsItsOwn
-gets_its_own p ns gs = (there p ns gs, λ e. subst (Gets p ns) (sym e) (own p ns))
+pub gets_its_own : (p : Process) → GetsItsOwn p
+gets_its_own p = record {
+  none = refl;
+  own = λ n e. ap (kept p n []) (is_process-eq n.process p e);
+  others = λ n ne. ap (kept p n []) (is_process-other n.process p ne);
+  in_order = λ ns ms. ap (map (λ (n : Noted). n.notice)) (filter-append (λ (n : Noted). is_process n.process p) ns ms)
+      ∙ map-append (λ (n : Noted). n.notice) (filter (λ n. is_process n.process p) ns) (filter (λ n. is_process n.process p) ms);
+}
 
 -- one of these is before each that stands behind it
 first_before : {A : Type 0} (R : A → A → Type 0) (x : A) (xs : List A) (y : A) → AllPairs R (x ∷ xs) → Contains xs y → R x y
@@ -134,11 +141,11 @@ module _ (table pairs : Table) where
       }
 
 -- what an entry sends, in words
-in_words : (r : Registry) → Rises r → (p : Process) (e : Entry) (gs : List Notice) → Known.Sends r p e gs → Sends r p e gs
-in_words r R p _ _ (Known.Sends.ByJoin j k m) = Sends.ByJoin j k m (notices_to p (settle (view r m) (r.lone j)).fate.notices)
+in_words : (r : Registry) → Rises r → (p : Process) (e : Entry) (gs : List Notice) → Known.Sends r p e gs → SendsNotices r p e gs
+in_words r R p _ _ (Known.Sends.ByJoin j k m) = SendsNotices.ByJoin j k m (notices_to p (settle (view r m) (r.lone j)).fate.notices)
     (gets_what_is_sent (view r m) (r.lone j) (is_rising-view r R m) (R.lone j) p
     (notices_to p (settle (view r m) (r.lone j)).fate.notices) (own p (settle (view r m) (r.lone j)).fate.notices))
-in_words r R p _ _ (Known.Sends.ByNone e none) = Sends.ByNone e none
+in_words r R p _ _ (Known.Sends.ByNone e none) = SendsNotices.ByNone e none
 
 pub sends_in_order : (cluster : Nodes) (h : List Entry) → SendsInOrder cluster h
 sends_in_order cluster h = record {

@@ -11,7 +11,7 @@ use Rattle.registry_model.specs.SharedLaws.{IsWithout}
 use Rattle.registry_model.specs.History.{Entry, registry_of, Hold, Standing, hold_at, old_or, old, standing_of}
 use Rattle.registry_model.specs.HistoryLaws.{IsLeftOut}
 use Rattle.registry_model.proofs.Changes.{without_law}
-use Rattle.registry_model.proofs.Rising.{Rises, Rises-registry_of}
+use Rattle.registry_model.proofs.Rising.{Rises, Rises-registry_of, is_rising-view}
 use Rattle.registry_model.proofs.HistoryParts.{registry-standing_of}
 use Rattle.registry_model.proofs.Holding.{Holds-standing_of, left_out-hold_at}
 use Rattle.protocol_model.specs.World.{Opening, in_cluster, WorldEvent}
@@ -19,11 +19,12 @@ use Rattle.protocol_model.specs.Course.{entries_of}
 use Rattle.protocol_model.specs.Headline.{Headline}
 use Rattle.headline.specs.Clauses.{now, events}
 use Rattle.headline.proofs.Theorem.{agreement}
-use Rattle.history_words.specs.Shown.{IsSeenOf, ShowsTheRegistry, ShowsInWords, NodesShowInWords}
+use Rattle.history_words.specs.Shown.{IsShownOf, ShowsTheRegistry, ShowsInWords, NodesShowInWords}
 
 -- what a node has to show of a registry whose tables rise
-seen_of : (r : Registry) → Rises r → (n : ℕ) → IsSeenOf r n (replica_of r n)
-seen_of r rises n = record {
+pub shown_of : (r : Registry) → Rises r → (n : ℕ) → IsShownOf r n (replica_of r n)
+shown_of r rises n = record {
+  rises = is_rising-view r rises n;
   cluster = λ j. subst (λ (b : Bool). IsWithout (r.told n) r.table (without (r.told n) (if b then r.table else r.lone n))) (sym j)
       (without_law (r.told n) r.table rises.table).so;
   lone = λ j. subst (λ (b : Bool). IsWithout (r.told n) (r.lone n) (without (r.told n) (if b then r.table else r.lone n))) (sym j)
@@ -47,7 +48,7 @@ seen_of r rises n = record {
 }
 
 pub shows_the_registry : ShowsTheRegistry
-shows_the_registry cluster h n = seen_of (registry_of cluster h) (Rises-registry_of cluster h) n
+shows_the_registry cluster h n = shown_of (registry_of cluster h) (Rises-registry_of cluster h) n
 
 module _ (cluster : Nodes) (h : List Entry) where
   abbrev stands : Standing
@@ -57,7 +58,7 @@ module _ (cluster : Nodes) (h : List Entry) where
   rises_now : Rises stands.registry
   rises_now = subst Rises (sym (registry-standing_of cluster h)) (Rises-registry_of cluster h)
 
-  rises_old : (a : ℕ) → Rises (old stands a)
+  pub rises_old : (a : ℕ) → Rises (old stands a)
   rises_old a = go (hold_at stands a) refl
     where
       go : (x : Option Hold) → hold_at stands a ≡ x → Rises (old_or stands.registry x)
@@ -70,13 +71,13 @@ shows : (o : Opening) (es : List WorldEvent) (a : ℕ) → ShowsInWords o es a
 shows o es a =
     let H : Headline o (events o es) (now o es) = agreement o es in
     record {
-      free = λ runs free. subst (IsSeenOf (stands (in_cluster o) h).registry a) (sym (H.free a runs free))
-          (seen_of (stands (in_cluster o) h).registry (rises_now (in_cluster o) h) a);
+      free = λ runs free. subst (IsShownOf (stands (in_cluster o) h).registry a) (sym (H.free a runs free))
+          (shown_of (stands (in_cluster o) h).registry (rises_now (in_cluster o) h) a);
       held = λ runs. elim (H.held a runs) [
-        | inl e ↦ inl (subst (IsSeenOf (stands (in_cluster o) h).registry a) (sym e)
-            (seen_of (stands (in_cluster o) h).registry (rises_now (in_cluster o) h) a))
-        | inr e ↦ inr (subst (IsSeenOf (old (stands (in_cluster o) h) a) a) (sym e)
-            (seen_of (old (stands (in_cluster o) h) a) (rises_old (in_cluster o) h a) a))
+        | inl e ↦ inl (subst (IsShownOf (stands (in_cluster o) h).registry a) (sym e)
+            (shown_of (stands (in_cluster o) h).registry (rises_now (in_cluster o) h) a))
+        | inr e ↦ inr (subst (IsShownOf (old (stands (in_cluster o) h) a) a) (sym e)
+            (shown_of (old (stands (in_cluster o) h) a) (rises_old (in_cluster o) h a) a))
       ];
       answered = λ p runs may. H.reads a (NoticesOf p) runs may;
     }

@@ -1,23 +1,30 @@
 -- What stood before an entry of a legal history.
 use mathlib.Core.Logic.{◌⊎◌, inl, inr}
 use Rattle.std.proofs.Common.{ℕ, Bool, true, false, ◌≡◌, Option, Some, None, List, [], ◌∷◌, ◌++◌, refl, sym, ap, ◌∙◌, subst}
-use Rattle.std.specs.Prelude.{not, Contains}
-use Rattle.std.proofs.lemmas.Bool.{and_parts, not-true, eqb-true, eq-eqb}
+use Rattle.std.specs.Prelude.{not, ◌==◌, Contains, if◌then◌else◌}
+use Rattle.std.proofs.lemmas.Bool.{and_parts, or_cases, not-true, eqb-true, eq-eqb}
 use Rattle.registry_model.specs.Process.{Nodes}
-use Rattle.registry_model.specs.Call.{Reply, Joined, NotMember, ContactLeft}
-use Rattle.registry_model.specs.Registry.{Registry}
+use Rattle.registry_model.specs.Call.{Look, Reply, Joined, NotMember, ContactLeft, is_reply, seen_in}
+use Rattle.registry_model.specs.Registry.{Registry, in_group, replica_of}
 use Rattle.registry_model.specs.History.{Entry, Name, Strike, Join, Done, Exit, Left, Told, Read, registry_of, granted_to, Hold, Standing, hold_at, is_free, is_hold_of, is_holding, old_or, old, standing_of}
 use Rattle.registry_model.specs.HistoryLaws.{decided_by, IsLeftOut}
 use Rattle.registry_model.specs.Legal.{IsLegal, is_legal, may_decide}
 use Rattle.registry_model.proofs.Lists.{Contains-front, Contains-behind}
 use Rattle.registry_model.proofs.HistoryParts.{registry-standing_of, is_legal-at, IsLegal-front}
-use Rattle.registry_model.proofs.Legality.{name_is_legal, JoinIsLegal, join_is_legal}
+use Rattle.registry_model.proofs.Legality.{is_reply-true, name_is_legal, JoinIsLegal, join_is_legal}
 use Rattle.registry_model.proofs.Deaths.{Died-dead}
-use Rattle.registry_model.proofs.Holding.{Holds-standing_of, left_out-hold_at, IsHeld, holds_law}
-use Rattle.protocol_model.specs.World.{in_cluster}
+use Rattle.registry_model.proofs.LookUps.{look_law}
+use Rattle.registry_model.proofs.Rising.{Rises, Rises-registry_of, is_rising-view}
+use Rattle.registry_model.proofs.Holding.{Holds, Holds-standing_of, left_out-hold_at, IsHeld, holds_law}
+use Rattle.protocol_model.specs.World.{in_cluster, World}
+use Rattle.creations.specs.NodeNames.{opening_of}
+use Rattle.creations.specs.NamedWorld.{as_events}
+use Rattle.creations.proofs.NamedRuns.{named_runs_are_runs}
 use Rattle.headline.specs.Clauses.{world}
 use Rattle.headline.proofs.Theorem.{history_is_legal}
-use Rattle.history_words.specs.Entries.{HasJoined, AtFirst, ByJoin, IsAdmitted, FromFirst, ByDone, IsOpen, IsJoinReply, Granted, OfLone, OfGone, SaysWhatStood, LegalSaysWhatStood, WorldsSayWhatStood}
+use Rattle.history_words.specs.Entries.{HasJoined, ByJoin, IsAdmitted, ByDone, OperationHolds, IsJoinReply, Granted, OfLone, OfGone, ShowsTheReply, IsReadReply, ByAll, WithoutOne, SaysWhatStood, LegalSaysWhatStood, WorldsSayWhatStood, NamedWorldsSayWhatStood, WorldSaysWhatStood}
+use Rattle.history_words.proofs.Shown.{shown_of}
+use Rattle.history_words.proofs.Acting.{acts_while_there}
 use Rattle.history_words.proofs.Entries.{left_entered, entered_left, told_entered, entered_told, joined_entered, entered_joined}
 
 -- the element between two parts of a list
@@ -61,13 +68,13 @@ decider_stays s (Read m look reply) n l d = absurd (cc d)
 module _ (cluster : Nodes) where
   -- an admitted node has joined, also without an operation that is left out
   admitted_before : (h : List Entry) (n : ℕ) → IsAdmitted cluster h n → HasJoined cluster h n
-  admitted_before h n (FromFirst q) = AtFirst q
+  admitted_before h n (IsAdmitted.AtFirst q) = HasJoined.AtFirst q
   admitted_before h n (ByDone before later k m s d) =
       ByJoin k m (subst (λ (xs : List Entry). Contains xs (Join n k m Joined)) (sym s) (among before later (Join n k m Joined)))
 
   admitted_without : (h : List Entry) (n : ℕ) (hold : Hold) → IsAdmitted cluster h n → (L : IsLeftOut cluster h hold)
       → HasJoined cluster (L.before ++ L.later) n
-  admitted_without h n hold (FromFirst q) L = AtFirst q
+  admitted_without h n hold (IsAdmitted.AtFirst q) L = HasJoined.AtFirst q
   admitted_without h n hold (ByDone before later k m s d) L =
       elim (two_splits before later L.before L.later (Join n k m Joined) hold.entry (sym s ∙ L.split)) [
         | inl same ↦
@@ -112,7 +119,7 @@ module _ (cluster : Nodes) where
 
   -- a hold is of an operation that isn't done
   hold_open : (h : List Entry) (n : ℕ) (x : Option Hold) → hold_at (standing_of cluster h) n ≡ x → is_hold_of n x ≡ true
-      → IsOpen h n
+      → OperationHolds h n
   hold_open h n None e q = absurd (cc q)
   hold_open h n (Some hold) e q =
       let L : IsLeftOut cluster h hold =
@@ -128,11 +135,67 @@ module _ (cluster : Nodes) where
       }
 
   -- and an operation that isn't done holds
-  open_holds : (h : List Entry) (n : ℕ) → IsLegal cluster h → IsOpen h n → is_holding (standing_of cluster h) n ≡ true
+  open_holds : (h : List Entry) (n : ℕ) → IsLegal cluster h → OperationHolds h n → is_holding (standing_of cluster h) n ≡ true
   open_holds h n l O =
       let H : IsHeld (standing_of cluster h) n O.entry =
       holds_law cluster h l O.before O.later O.entry n O.split O.granted O.not_done in
       ap (is_hold_of n) H.1 ∙ eq-eqb H.0.node n H.2
+
+  -- what is seen in what a rising registry has to show
+  shows_reply : (r : Registry) → Rises r → (n : ℕ) (look : Look) (reply : Reply)
+      → is_reply reply (seen_in (replica_of r n) look) ≡ true → ShowsTheReply r n look reply
+  shows_reply r rises n look reply e = record {
+    shown = replica_of r n;
+    of_registry = shown_of r rises n;
+    seen = (look_law (replica_of r n) look reply (is_rising-view r rises n)).1
+        (is_reply-true reply (seen_in (replica_of r n) look) e);
+  }
+
+  -- an operation that holds at n is of a node of its group
+  hold_group : (h : List Entry) (n : ℕ) (hold : Hold) → hold_at (standing_of cluster h) n ≡ Some hold
+      → in_group (registry_of cluster h) n hold.node ≡ true
+  hold_group h n hold e = ap (λ (r : Registry). in_group r n hold.node) (sym (registry-standing_of cluster h))
+      ∙ go ((standing_of cluster h).registry.joined n) e
+    where
+      known : Holds cluster h (standing_of cluster h)
+      known = Holds-standing_of cluster h
+
+      go : (b : Bool) → (if b then (standing_of cluster h).held else (standing_of cluster h).lone_held n) ≡ Some hold
+          → (if b then (standing_of cluster h).registry.joined hold.node else hold.node == n) ≡ true
+      go true q = known.joined hold q
+      go false q = eq-eqb hold.node n (known.lone n hold q)
+
+  read_reply : (h : List Entry) (n : ℕ) (look : Look) (reply : Reply)
+      → is_legal (standing_of cluster h) (Read n look reply) ≡ true → IsReadReply cluster h n look reply
+  read_reply h n look reply l = elim (or_cases
+      (is_reply reply (seen_in (replica_of (standing_of cluster h).registry n) look))
+      (is_reply reply (seen_in (replica_of (old (standing_of cluster h) n) n) look)) l) [
+        | inl e ↦ all e
+        | inr e ↦ without (hold_at (standing_of cluster h) n) refl e
+      ]
+    where
+      all : is_reply reply (seen_in (replica_of (standing_of cluster h).registry n) look) ≡ true
+          → IsReadReply cluster h n look reply
+      all e = ByAll (shows_reply (registry_of cluster h) (Rises-registry_of cluster h) n look reply
+          (in_registry h (λ r. is_reply reply (seen_in (replica_of r n) look)) true e))
+
+      without : (x : Option Hold) → hold_at (standing_of cluster h) n ≡ x
+          → is_reply reply (seen_in (replica_of (old_or (standing_of cluster h).registry x) n) look) ≡ true
+          → IsReadReply cluster h n look reply
+      without None q e = all e
+      without (Some hold) q e =
+          let L : IsLeftOut cluster h hold =
+          left_out-hold_at cluster h (standing_of cluster h) (Holds-standing_of cluster h) n hold q in
+          WithoutOne hold.node (record {
+            before = L.before;
+            later = L.later;
+            entry = hold.entry;
+            split = L.split;
+            granted = L.holder;
+            not_done = L.not_done;
+          }) (hold_group h n hold q)
+          (shows_reply (registry_of cluster (L.before ++ L.later)) (Rises-registry_of cluster (L.before ++ L.later)) n look reply
+          (ap (λ (r : Registry). is_reply reply (seen_in (replica_of r n) look)) (sym L.old) ∙ e))
 
   says_what_stood : (h : List Entry) → IsLegal cluster h → SaysWhatStood cluster h
   says_what_stood h legal = record {
@@ -156,6 +219,7 @@ module _ (cluster : Nodes) where
       decider_stays (standing_of cluster before) e n (legal_at before later e s) d,
       ap (λ (r : Registry). r.left n) (registry-standing_of cluster before) ∙ entered_left cluster n before c,
     );
+    reads = λ before later n look reply s. read_reply before n look reply (legal_at before later (Read n look reply) s);
     done = λ before later n s.
         hold_open before n (hold_at (standing_of cluster before) n) refl (legal_at before later (Done n) s);
   }
@@ -175,4 +239,12 @@ pub legal_says_what_stood : LegalSaysWhatStood
 legal_says_what_stood cluster h legal = says_what_stood cluster h legal
 
 pub worlds_say_what_stood : WorldsSayWhatStood
-worlds_say_what_stood o es = says_what_stood (in_cluster o) (world o es).history (history_is_legal o es)
+worlds_say_what_stood o es = record {
+  stood = says_what_stood (in_cluster o) (world o es).history (history_is_legal o es);
+  acts = acts_while_there o es;
+}
+
+pub named_worlds_say_what_stood : NamedWorldsSayWhatStood
+named_worlds_say_what_stood o es =
+    subst (λ (w : World). WorldSaysWhatStood (in_cluster (opening_of o)) w.history) (sym (named_runs_are_runs o es))
+    (worlds_say_what_stood (opening_of o) (as_events o es))

@@ -3,6 +3,7 @@
 use mathlib.Core.Logic.{◌⊎◌}
 use Rattle.std.specs.Prelude.{ℕ, true, false, ◌≡◌, ◌↔◌, IsTrue, filter, List, [], ◌∷◌}
 use Rattle.registry_model.specs.Process.{Process, Nodes}
+use Rattle.registry_model.specs.Table.{is_rising}
 use Rattle.registry_model.specs.Call.{Reply, NoticesOf}
 use Rattle.registry_model.specs.Registry.{Registry, Replica, replica_of}
 use Rattle.registry_model.specs.SharedLaws.{IsWithout}
@@ -15,8 +16,10 @@ use Rattle.protocol_model.specs.Refusals.{MayLookUp}
 use Rattle.headline.specs.Clauses.{world, events, so_far}
 
 -- What n shows is the registry's
-pub record IsSeenOf (r : Registry) (n : ℕ) (v : Replica) : Type 0 where
-  -- the table of the cluster, or that of n where n is lone, but for the names on nodes that n was told have left
+pub record IsShownOf (r : Registry) (n : ℕ) (v : Replica) : Type 0 where
+  -- the names rise, each once; it is the table of the cluster, or that of n where n is lone, but for names on nodes that n was told
+  -- have left
+  pub rises : IsTrue (is_rising v.table)
   pub cluster : r.joined n ≡ true → IsWithout (r.told n) r.table v.table
   pub lone : r.joined n ≡ false → IsWithout (r.told n) (r.lone n) v.table
   -- all joined nodes, or n alone, but for those nodes
@@ -30,14 +33,14 @@ pub record IsSeenOf (r : Registry) (n : ℕ) (v : Replica) : Type 0 where
 -- What a node has to show of a history's registry is that
 abbrev pub ShowsTheRegistry : Type 0
 ShowsTheRegistry = (cluster : Nodes) (h : List Entry) (n : ℕ) →
-    IsSeenOf (registry_of cluster h) n (replica_of (registry_of cluster h) n)
+    IsShownOf (registry_of cluster h) n (replica_of (registry_of cluster h) n)
 
 -- What a running node shows behind events: the registry; while an operation of its group holds, with that operation or without it
 pub record ShowsInWords (o : Opening) (es : List WorldEvent) (a : ℕ) : Type 0 where
   pub free : IsRunning o (so_far o es) a → IsTrue (is_free (so_far o es) a) →
-      IsSeenOf (so_far o es).registry a ((world o es).node a).replica
-  pub held : IsRunning o (so_far o es) a → IsSeenOf (so_far o es).registry a ((world o es).node a).replica
-      ⊎ IsSeenOf (old (so_far o es) a) a ((world o es).node a).replica
+      IsShownOf (so_far o es).registry a ((world o es).node a).replica
+  pub held : IsRunning o (so_far o es) a → IsShownOf (so_far o es).registry a ((world o es).node a).replica
+      ⊎ IsShownOf (old (so_far o es) a) a ((world o es).node a).replica
   -- and a look-up of the notices of its process p is answered those that it shows
   pub answered : (p : Process) → IsRunning o (so_far o es) a → MayLookUp (events o es) a (NoticesOf p) →
       filter is_unnumbered (answers o (world o es) (At a (Event.Calling (Call.LookUp (NoticesOf p)))))

@@ -2,18 +2,18 @@
 #![tactic(auto)]
 
 ghost use Rattle.std.specs.Prelude.{List};
-ghost use Rattle.registry_model.specs.Process.{Nodes};
+ghost use Rattle.registry_model.specs.Process.{Process, Nodes};
 ghost use Rattle.registry_model.specs.History.{Entry};
 ghost use Rattle.protocol_model.specs.World.{Opening};
 ghost use Rattle.protocol_model.specs.Check.{Computes};
 ghost use Rattle.history_words.specs.Notices.{GetsItsOwn, SendsInOrder};
 ghost use Rattle.history_words.specs.Shown.{ShowsTheRegistry, NodesShowInWords};
-ghost use Rattle.history_words.specs.Entries.{TellsItsEntries, LegalSaysWhatStood, WorldsSayWhatStood, RefusesWhileLone};
+ghost use Rattle.history_words.specs.Entries.{TellsItsEntries, LegalSaysWhatStood, WorldsSayWhatStood, NamedWorldsSayWhatStood, RefusesWhileLone};
 ghost use Rattle.history_words.specs.Rows.{two_notices_of_one_join, both_are_sent_two};
 
 /// A process gets exactly the notices of a list that are for it, in their order.
 pub fn gets_its_own()
-    ensures { GetsItsOwn }
+    ensures { (p : Process) → GetsItsOwn p }
 {}
 
 /// What a node has to show of the registry of a history, in words: its group's table and members, but for nodes that it was told
@@ -41,14 +41,20 @@ pub fn tells_its_entries()
 
 /// In a legal history who is struck had died; a join is granted to a node that hasn't joined by a contact that has, refused by a
 /// node that isn't admitted, or ended since the joiner was told that its contact left; whom a node is told of has left; a node
-/// leaves once, and with nothing undone; who decides hasn't left; and what is done was granted, and not done before.
+/// leaves once, and with nothing undone; who decides hasn't left; a look-up is answered by the entries before it, with or without
+/// the one whose operation holds; and what is done was granted, and not done before.
 pub fn legal_says_what_stood()
     ensures { LegalSaysWhatStood }
 {}
 
-/// So it is in the history of each world, behind all events.
+/// So it is in the history of each world, behind all events; and there whoever makes an entry hasn't left before it.
 pub fn worlds_say_what_stood()
     ensures { WorldsSayWhatStood }
+{}
+
+/// And in that of each world of named nodes, behind restarts, too.
+pub fn named_worlds_say_what_stood()
+    ensures { NamedWorldsSayWhatStood }
 {}
 
 /// And who refuses a join as no member shows then that it isn't joined.
