@@ -8,3 +8,4 @@ mod LastRequests
 pub mod Rising
 pub mod Turns
 mod Sampling
+pub mod ByName

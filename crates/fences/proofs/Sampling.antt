@@ -4,7 +4,6 @@ use Rattle.std.specs.Prelude.{is_some}
 use Rattle.registry_model.specs.Call.{True}
 use Rattle.registry_model.proofs.Lists.{Contains-front}
 use Rattle.protocol_model.specs.LockAnswers.{Tries, tries_of}
-use Rattle.protocol_model.specs.Event.{Answer}
 use Rattle.protocol_model.specs.World.{World, place, refusal, answers}
 use Rattle.closings.specs.Merging.{Step, happening, events_in, Takes}
 use Rattle.fences.specs.Grants.{IsRun, Grant, AreRivals}

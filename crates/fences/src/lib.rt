@@ -2,6 +2,7 @@
 //! laws are of a run of the nodes of one cluster; each is the contract of a function with an empty body.
 #![tactic(auto)]
 
+ghost use Rattle.fences.specs.Named.{RunsByNamesAreRuns};
 ghost use Rattle.fences.specs.Sample.{TwoGrants};
 ghost use Rattle.fences.specs.Laws.{FencesAreOrdered, MergedEndsAreRuns, FencesRise, OwnFencesRise, GrantsAreRequested, LaterGrantsAreGreater, GrantsAreInTurn};
 
@@ -13,6 +14,11 @@ pub fn fences_are_ordered()
 /// Consistent ends, merged by stamp and then by node, are such a run.
 pub fn merged_ends_are_runs()
     ensures { MergedEndsAreRuns }
+{}
+
+/// And so are steps by names, which tell what events of named nodes are in the world: each creation of a name is a node of its own.
+pub fn runs_by_names_are_runs()
+    ensures { RunsByNamesAreRuns }
 {}
 
 /// Where places rise as nodes do, of any two steps of a run the later has the greater number.
