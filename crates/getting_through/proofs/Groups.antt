@@ -1,15 +1,13 @@
 -- In a quiet world nodes that have a common member have the same members, and all of these run.
-use Rattle.std.proofs.Common.{ℕ, Bool, true, false, ◌==◌, ◌≡◌, ◌<◌, Option, Some, None, List, refl, sym, ap, subst, ◌∙◌}
+use Rattle.std.proofs.Common.{ℕ, Bool, true, false, ◌==◌, ◌≡◌, ◌<◌, Option, Some, None, refl, sym, ap, ◌∙◌}
 use Rattle.std.specs.Prelude.{not, ◌&&◌, nat_lt, if◌then◌else◌}
-use Rattle.std.proofs.Math.Path.{fun_ext}
 use Rattle.std.proofs.lemmas.Bool.{eqb-true, ltb-true}
-use Rattle.registry_model.specs.Process.{Nodes}
 use Rattle.registry_model.specs.Registry.{Registry, Replica, replica_of}
 use Rattle.registry_model.specs.History.{Hold, hold_at}
 use Rattle.protocol_model.specs.Node.{Current, is_writing}
-use Rattle.protocol_model.specs.World.{Opening, in_world, World, left}
+use Rattle.protocol_model.specs.World.{Opening, World, left}
 use Rattle.protocol_model.specs.Leftovers.{IsQuiet}
-use Rattle.moves.proofs.Indices.{both, not_true}
+use Rattle.moves.proofs.Indices.{both}
 use Rattle.moves.proofs.Invariants.{IsUp, standing_at}
 use Rattle.replicas.proofs.States
 use Rattle.leftovers.proofs.Families.{Whole}

@@ -1,12 +1,11 @@
 -- Someone gets through, and who asks alone does.
-use mathlib.Core.Logic.{◌⊎◌}
 use Rattle.std.proofs.Common.{ℕ, Bool, true, false, ◌==◌, ◌≡◌, ◌+◌, Option, Some, None, List, [], ◌∷◌, ◌++◌, refl, sym, ap, subst, ◌∙◌, inl, inr}
 use Rattle.std.specs.Prelude.{Contains, if◌then◌else◌}
 use Rattle.std.specs.List.{list_all}
 use Rattle.std.proofs.lemmas.Bool.{eq-eqb, eqb-true, cases_eq, ne_eqb}
 use Rattle.std.proofs.lemmas.List.Elements.{Contains-append_right}
 use Rattle.registry_model.specs.Process.{Nodes}
-use Rattle.registry_model.specs.Call.{NameCall, Joined}
+use Rattle.registry_model.specs.Call.{NameCall}
 use Rattle.registry_model.specs.History.{Entry}
 use Rattle.registry_model.proofs.Lists.{Contains-front}
 use Rattle.registry_model.proofs.Updates.{at_same}
@@ -16,14 +15,14 @@ use Rattle.protocol_model.specs.Node.{Node, Op, Current}
 use Rattle.protocol_model.specs.Turn.{Turn, begun, with_queue, count_call, sent_to}
 use Rattle.protocol_model.specs.Registrar.{registrar, ask_global, start_queue, start_next, start_free}
 use Rattle.protocol_model.specs.Calling.{queued}
-use Rattle.protocol_model.specs.Event.{Call, Event, Answer}
-use Rattle.protocol_model.specs.World.{Opening, World, left, WorldEvent, At, Deliver, opening_world, accepted, turn_of, happens, run}
-use Rattle.protocol_model.specs.Course.{entries_of, answers_of, course}
+use Rattle.protocol_model.specs.Event.{Call, Event}
+use Rattle.protocol_model.specs.World.{Opening, World, left, WorldEvent, At, Deliver, opening_world, turn_of, happens, run}
+use Rattle.protocol_model.specs.Course.{entries_of, course}
 use Rattle.protocol_model.specs.Fit.{is_delivery}
 use Rattle.protocol_model.specs.Answers.{answer_to}
 use Rattle.protocol_model.specs.Leftovers.{Always, Runs, IsQuiet, IsSettled, world}
 use Rattle.protocol_model.proofs.Courses.{run-append}
-use Rattle.moves.proofs.Indices.{both, greatest_in}
+use Rattle.moves.proofs.Indices.{greatest_in}
 use Rattle.moves.proofs.Invariants.{IsUp}
 use Rattle.moves.proofs.Sends.{sent_to-one}
 use Rattle.walk.proofs.Events.{accepted_of}
@@ -42,7 +41,8 @@ use Rattle.getting_through.proofs.StormEvents.{is_stormy, Known, run_on, heated,
 use Rattle.getting_through.proofs.Entered.{history_more, entered_answered}
 
 -- What was decided behind these events ends that operation
-module _ (o : Opening) (es fs : List WorldEvent) (q : IsQuiet o (run o (world o es) fs)) (stay : left (run o (world o es) fs) ≡ left (world o es))
+module _ (o : Opening) (es fs : List WorldEvent) (q : IsQuiet o (run o (world o es) fs))
+    (stay : left (run o (world o es) fs) ≡ left (world o es))
     (ops : ℕ → Option Op) (D : Decided o (world o es) ops (run o (world o es) fs)) where
   abbrev w : World
   w = world o es
@@ -67,7 +67,8 @@ module _ (o : Opening) (es fs : List WorldEvent) (q : IsQuiet o (run o (world o 
           (subst (λ (h : List Entry). Contains h (Entry.Name D.node k call (reply_now w D.node call))) (sym (history_more o es fs))
           (Contains-append_right w.history (entries_of (course o w fs)) (Entry.Name D.node k call (reply_now w D.node call)) c))
 
-      here : Contains (if D.node == D.node then answer_to D.node k (reply_now w D.node call) ∷ [] else []) (answer_to D.node k (reply_now w D.node call))
+      here : Contains (if D.node == D.node then answer_to D.node k (reply_now w D.node call) ∷ [] else [])
+          (answer_to D.node k (reply_now w D.node call))
       here = subst (λ (b : Bool). Contains (if b then answer_to D.node k (reply_now w D.node call) ∷ [] else [])
           (answer_to D.node k (reply_now w D.node call))) (sym (eq-eqb D.node D.node refl))
           (Contains-front (answer_to D.node k (reply_now w D.node call)) [])
@@ -121,11 +122,13 @@ boss_runs : (o : Opening) (es : List WorldEvent) (Q : IsQuiet o (world o es)) (o
     → IsUp o (world o es) (boss o (world o es) ops a)
 boss_runs o es Q ops a up = member_runs o (world o es) (whole o es) Q a up (boss o (world o es) ops a)
     (greatest_in o.bound (members o (world o es) ops a) a
-    (below o (world o es) (whole o es) Q a up a ((whole o es).base.all.proper.itself a up)) ((whole o es).base.all.proper.itself a up))
+    (below o (world o es) (whole o es) Q a up a ((whole o es).base.all.proper.itself a up))
+    ((whole o es).base.all.proper.itself a up))
 
 module _ (o : Opening) (es : List WorldEvent) (ops : ℕ → Option Op) (may : Nodes)
     (retries : (c : ℕ) (x : Op) → may c ≡ true → ((world o es).node c).current ≡ Current.Waiting x → ops c ≡ Some x)
-    (a : ℕ) (op : Op) (allowed : may a ≡ true) (waits : ((world o es).node a).current ≡ Current.Waiting op) (up : IsUp o (world o es) a)
+    (a : ℕ) (op : Op) (allowed : may a ≡ true) (waits : ((world o es).node a).current ≡ Current.Waiting op)
+    (up : IsUp o (world o es) a)
     (xs ys : List WorldEvent) (S : IsStorm o (world o es) a xs ys)
     (before : list_all (is_stormy may) xs ≡ true) (later : list_all (is_stormy may) ys ≡ true) where
   abbrev b : ℕ
@@ -149,7 +152,8 @@ module _ (o : Opening) (es : List WorldEvent) (ops : ℕ → Option Op) (may : N
       D : Decided o (world o es) ops (run o (world o es) (xs ++ At a Event.Retry ∷ ys))
       D = decided_at_last o (world o es) (whole o es) S.before ops may retries b (boss_runs o es S.before ops a up)
           (run o (world o es) (xs ++ At a Event.Retry ∷ ys))
-          (subst (Whole o) (run-append o (opening_world o) es (xs ++ At a Event.Retry ∷ ys)) (whole o (es ++ (xs ++ At a Event.Retry ∷ ys))))
+          (subst (Whole o) (run-append o (opening_world o) es (xs ++ At a Event.Retry ∷ ys))
+          (whole o (es ++ (xs ++ At a Event.Retry ∷ ys))))
           S.behind hot
 
 pub someone_gets_through : Always SomeoneGetsThrough
@@ -157,12 +161,14 @@ someone_gets_through o es a op xs ys up waits S = (E.0, E.1, E.2, is_waiting_op 
   where
     E : (c : ℕ) × (x : Op) × Runs o (world o es) c × (waiting_op ((world o es).node c).current ≡ Some x)
         × End o es (world o es) c x (xs ++ At a Event.Retry ∷ ys)
-    E = someone o es (λ c. waiting_op ((world o es).node c).current) (λ c. true) (λ c x h e. ap waiting_op e) a op refl waits up xs ys S
+    E = someone o es (λ c. waiting_op ((world o es).node c).current) (λ c. true) (λ c x h e. ap waiting_op e) a op refl waits up xs
+        ys S
         (all_stormy (λ c. true) (λ c. refl) xs S.first) (all_stormy (λ c. true) (λ c. refl) ys S.later)
 
 pub retries_alone_end : Always RetriesAloneEnd
 retries_alone_end o es a op ds up waits A =
-    let E : (c : ℕ) × (x : Op) × Runs o (world o es) c × (only a op c ≡ Some x) × End o es (world o es) c x (At a Event.Retry ∷ ds) =
+    let E : (c : ℕ) × (x : Op) × Runs o (world o es) c × (only a op c ≡ Some x)
+    × End o es (world o es) c x (At a Event.Retry ∷ ds) =
     someone o es (only a op) (λ c. c == a) only_retried a op (eq-eqb a a refl) waits up [] ds (record {
       before = A.before;
       first = refl;
@@ -226,18 +232,22 @@ module _ (o : Opening) (es : List WorldEvent) (a : ℕ) (call : NameCall) (ds : 
 
   link_is : (after_turn a v u None).links.queue a host ≡ request ∷ []
   link_is = posted-here a (λ c. sent_to c u.sends) v.links host (boss_runs o es A.before (only a op) a up).1
-      ∙ ap (λ (ls : List Letter). ls ++ sent_to host u.sends) (A.before a host up.0 (boss_runs o es A.before (only a op) a up)) ∙ to_host
+      ∙ ap (λ (ls : List Letter). ls ++ sent_to host u.sends) (A.before a host up.0 (boss_runs o es A.before (only a op) a up))
+      ∙ to_host
 
   active : Active o v (only a op) host (after_turn a v u None)
   active = Asked a up (λ e. cc (sym (ap (found request_in) link_is) ∙ e))
 
-  known : Known o v (whole o es) A.before (only a op) (λ c. false) none_retried host (boss_runs o es A.before (only a op) a up) true (happens o v calls)
-  known = subst (Known o v (whole o es) A.before (only a op) (λ c. false) none_retried host (boss_runs o es A.before (only a op) a up) true)
+  known : Known o v (whole o es) A.before (only a op) (λ c. false) none_retried host (boss_runs o es A.before (only a op) a up)
+      true (happens o v calls)
+  known = subst (Known o v (whole o es) A.before (only a op) (λ c. false) none_retried host
+      (boss_runs o es A.before (only a op) a up) true)
       (sym (happens-accepted o v calls A.accepted)) (record {
         base = subst (Base o) (run-append o (opening_world o) es (calls ∷ []) ∙ happens-accepted o v calls A.accepted)
             (whole o (es ++ calls ∷ [])).base;
         stay = refl;
-        state = inl (subst (λ (t : Turn). Still o v (only a op) (after_turn a v t None) × ((c : ℕ) → IsAt o v (only a op) c (after_turn a v t None))
+        state = inl (subst (λ (t : Turn). Still o v (only a op) (after_turn a v t None)
+            × ((c : ℕ) → IsAt o v (only a op) c (after_turn a v t None))
             × (true ≡ true → Active o v (only a op) host (after_turn a v t None))) (sym turn_is) (
               still_after o v (only a op) v a u None (still_first o es A.before (only a op)) (record {
                 parts = record { replica = refl; watch = refl; queue = sym ((whole o es).started a free.0).queue };
@@ -266,14 +276,18 @@ module _ (o : Opening) (es : List WorldEvent) (a : ℕ) (call : NameCall) (ds : 
   through = subst (λ (x : Op). End o es v a x (calls ∷ ds)) (sym one.1)
       (subst (λ (c : ℕ). End o es v c D.op (calls ∷ ds)) one.0 (ended o es (calls ∷ ds) A.behind last.stay (only a op) D))
     where
-      last : Known o v (whole o es) A.before (only a op) (λ c. false) none_retried host (boss_runs o es A.before (only a op) a up) true
+      last : Known o v (whole o es) A.before (only a op) (λ c. false) none_retried host (boss_runs o es A.before (only a op) a up)
+          true
           (run o v (calls ∷ ds))
-      last = run_on o v (whole o es) A.before (only a op) (λ c. false) none_retried host (boss_runs o es A.before (only a op) a up) true ds
+      last = run_on o v (whole o es) A.before (only a op) (λ c. false) none_retried host (boss_runs o es A.before (only a op) a up)
+          true ds
           (all_delivered (λ c. false) ds A.delivered) (happens o v calls) known
 
       D : Decided o v (only a op) (run o v (calls ∷ ds))
-      D = decided_at_last o v (whole o es) A.before (only a op) (λ c. false) none_retried host (boss_runs o es A.before (only a op) a up)
-          (run o v (calls ∷ ds)) (subst (Whole o) (run-append o (opening_world o) es (calls ∷ ds)) (whole o (es ++ calls ∷ ds))) A.behind last
+      D = decided_at_last o v (whole o es) A.before (only a op) (λ c. false) none_retried host
+          (boss_runs o es A.before (only a op) a up)
+          (run o v (calls ∷ ds)) (subst (Whole o) (run-append o (opening_world o) es (calls ∷ ds)) (whole o (es ++ calls ∷ ds)))
+          A.behind last
 
       one : (D.node ≡ a) × (op ≡ D.op)
       one = only_one a op D.node D.op D.may

@@ -1,4 +1,5 @@
--- Registrars that were refused ask again: what is known of each world behind the quiet one, as long as none of their operations is decided.
+-- Registrars that were refused ask again: what is known of each world behind the quiet one, as long as none of their operations is
+-- decided.
 -- ops: what a node may ask for; c, d and t are nodes, b the boss of a group.
 use mathlib.Core.Logic.{◌⊎◌}
 use Rattle.std.proofs.Common.{ℕ, Bool, true, false, ◌==◌, ◌≡◌, Option, Some, None, List, [], ◌∷◌, ◌++◌, drop, refl, sym, ap, subst, ◌∙◌, inl, inr}
@@ -9,12 +10,10 @@ use Rattle.std.proofs.lemmas.List.{append-nil, append_assoc}
 use Rattle.std.proofs.lemmas.List.Elements.{Contains-append_left}
 use Rattle.registry_model.specs.Process.{Nodes}
 use Rattle.registry_model.specs.Call.{Joined}
-use Rattle.registry_model.specs.Registry.{Replica}
 use Rattle.registry_model.specs.History.{Entry}
 use Rattle.registry_model.proofs.Updates.{by_test}
 use Rattle.protocol_model.specs.Round.{Mark, Out, Later, Owes, Granted, Refused, Lost, Gone, Round, greatest}
-use Rattle.protocol_model.specs.Letter.{Id, Global, Client, Letter}
-use Rattle.protocol_model.specs.Watch.{Watch}
+use Rattle.protocol_model.specs.Letter.{Global, Letter}
 use Rattle.protocol_model.specs.Node.{Node, Op, Current}
 use Rattle.protocol_model.specs.Turn.{Turn, sent_to}
 use Rattle.protocol_model.specs.World.{Opening, in_world, World, left}
@@ -156,7 +155,8 @@ module _ (o : Opening) (w : World) (ops : ℕ → Option Op) where
 
   simple_each : (f c : ℕ) (ls : List Letter) → list_all is_simple ls ≡ true → Each (Plain f c) ls
   simple_each f c [] h = tt
-  simple_each f c (l ∷ ls) h = let p : (is_simple l ≡ true) × (list_all is_simple ls ≡ true) = both (is_simple l) (list_all is_simple ls) h in
+  simple_each f c (l ∷ ls) h = let p : (is_simple l ≡ true) × (list_all is_simple ls ≡ true) =
+      both (is_simple l) (list_all is_simple ls) h in
       (ap (λ (t : Bool). t || is_refusal l && (f == boss c)) p.0, simple_each f c ls p.1)
 
   -- a turn of node t, which takes this letter
@@ -186,7 +186,8 @@ module _ (o : Opening) (w : World) (ops : ℕ → Option Op) where
   -- Who asks or has the lock
   module _ (v : World) (t : ℕ) (u : Turn) (l : Option Taken) (b : ℕ) (open_link : left v b ≡ false) where
     -- a letter that is no request leaves the requests on its link
-    popped_found : FrontTaken o t v l → NoRequest o w l → (r : ℕ) → IsUp o w r → found request_in (popped_queue t l v.links.queue r b) ≡ []
+    popped_found : FrontTaken o t v l → NoRequest o w l → (r : ℕ) → IsUp o w r
+        → found request_in (popped_queue t l v.links.queue r b) ≡ []
         → found request_in (v.links.queue r b) ≡ []
     popped_found = go l
       where
@@ -200,9 +201,11 @@ module _ (o : Opening) (w : World) (ops : ℕ → Option Op) where
                 → found request_in (v.links.queue r b) ≡ []
             by true true i j e =
                 let here : v.links.queue r b ≡ k.letter ∷ front.1.0 =
-                ap (λ (z : ℕ). v.links.queue z b) (eqb-true r k.sender i) ∙ ap (v.links.queue k.sender) (eqb-true b t j) ∙ front.1.1 in
+                ap (λ (z : ℕ). v.links.queue z b) (eqb-true r k.sender i) ∙ ap (v.links.queue k.sender) (eqb-true b t j)
+                ∙ front.1.1 in
                 ap (found request_in) here ∙ ap (λ (zs : _). zs ++ found request_in front.1.0)
-                (none (subst (IsUp o w) (eqb-true r k.sender i) up)) ∙ sym (ap (λ (ls : List Letter). found request_in (drop 1 ls)) here) ∙ e
+                (none (subst (IsUp o w) (eqb-true r k.sender i) up))
+                ∙ sym (ap (λ (ls : List Letter). found request_in (drop 1 ls)) here) ∙ e
             by true false i j e = e
             by false y i j e = e
 
@@ -216,7 +219,8 @@ module _ (o : Opening) (w : World) (ops : ℕ → Option Op) where
         first_nil (x ∷ xs) ys e = cc e
 
         by : (x y : Bool) → y ≡ false
-            → found request_in (if x && not y then popped_queue t l v.links.queue r b ++ sent_to b u.sends else popped_queue t l v.links.queue r b) ≡ []
+            → found request_in (if x && not y then popped_queue t l v.links.queue r b ++ sent_to b u.sends
+            else popped_queue t l v.links.queue r b) ≡ []
             → found request_in (popped_queue t l v.links.queue r b) ≡ []
         by true false k e = first_nil (found request_in (popped_queue t l v.links.queue r b)) (found request_in (sent_to b u.sends))
             (sym (found-append request_in (popped_queue t l v.links.queue r b) (sent_to b u.sends)) ∙ e)
@@ -224,7 +228,8 @@ module _ (o : Opening) (w : World) (ops : ℕ → Option Op) where
         by false y k e = e
 
     -- at other nodes than t, or where what is taken is no request
-    pub active_after : (b ≡ t → FrontTaken o t v l × NoRequest o w l) → ((x k : ℕ) → b ≡ t → share x (globals (v.node t).locks) ≡ Some k
+    pub active_after : (b ≡ t → FrontTaken o t v l × NoRequest o w l)
+        → ((x k : ℕ) → b ≡ t → share x (globals (v.node t).locks) ≡ Some k
         → (j : ℕ) × (share x (globals u.node.locks) ≡ Some j)) → Active b v → Active b (after_turn t v u l)
     active_after calm keeps (Held x k e) =
         let h : (j : ℕ) × (share x (globals ((after_turn t v u l).node b).locks) ≡ Some j) =
@@ -243,7 +248,8 @@ module _ (o : Opening) (w : World) (ops : ℕ → Option Op) where
             untouched None j e = e
             untouched (Some k) j e = by (r == k.sender) (b == t) j e
               where
-                by : (x y : Bool) → y ≡ false → found request_in (if x && y then drop 1 (v.links.queue r b) else v.links.queue r b) ≡ []
+                by : (x y : Bool) → y ≡ false → found request_in (if x && y then drop 1 (v.links.queue r b) else v.links.queue r b)
+                    ≡ []
                     → found request_in (v.links.queue r b) ≡ []
                 by true false k e = e
                 by true true k e = cc k

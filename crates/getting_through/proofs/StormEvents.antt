@@ -1,16 +1,15 @@
 -- Registrars ask again along deliveries and retries: once no letter waits one of their operations is decided.
 use mathlib.Core.Logic.{◌⊎◌}
 use Rattle.std.proofs.Common.{ℕ, Bool, true, false, ◌==◌, ◌≡◌, Option, Some, None, List, [], ◌∷◌, ◌++◌, refl, sym, ap, subst, ◌∙◌, inl, inr}
-use Rattle.std.specs.Prelude.{◌&&◌, ◌||◌, is_none, fold, if◌then◌else◌}
+use Rattle.std.specs.Prelude.{◌&&◌, is_none, fold, if◌then◌else◌}
 use Rattle.std.specs.List.{list_all}
-use Rattle.std.proofs.lemmas.Bool.{eq-eqb}
 use Rattle.std.proofs.lemmas.List.Folds.{list_all-append}
 use Rattle.registry_model.specs.Process.{Process, Nodes}
 use Rattle.registry_model.proofs.Updates.{at_same}
 use Rattle.protocol_model.specs.Letter.{Letter, Global, Client, Id}
 use Rattle.protocol_model.specs.LockTable.{Locks}
 use Rattle.protocol_model.specs.Node.{Node, Op, Current, LockPhase, LockCall, targets}
-use Rattle.protocol_model.specs.Round.{Round, is_empty, begin, is_granted}
+use Rattle.protocol_model.specs.Round.{is_empty, begin, is_granted}
 use Rattle.protocol_model.specs.Turn.{Turn, begun}
 use Rattle.protocol_model.specs.Registrar.{start_free, start, retry_global}
 use Rattle.protocol_model.specs.Client.{one_less, close_call, ask_lock, try_lock, retry_in, retry_locks}
@@ -137,14 +136,16 @@ is_stormy may (At c Event.Retry) = may c
 is_stormy may _ = false
 
 module _ (o : Opening) (w : World) (W : Whole o w) (Q : IsQuiet o w) (ops : ℕ → Option Op) (may : Nodes)
-    (retries : (c : ℕ) (x : Op) → may c ≡ true → (w.node c).current ≡ Current.Waiting x → ops c ≡ Some x) (b : ℕ) (up_b : IsUp o w b) where
+    (retries : (c : ℕ) (x : Op) → may c ≡ true → (w.node c).current ≡ Current.Waiting x → ops c ≡ Some x) (b : ℕ)
+    (up_b : IsUp o w b) where
   -- what is known of a world behind it; where it is hot somebody asks b, or has the lock there
   pub record Known (hot : Bool) (v : World) : Type 0 where
     pub base : Base o v
     pub stay : left v ≡ left w
     pub state : (Still o w ops v × ((c : ℕ) → IsAt o w ops c v) × (hot ≡ true → Active o w ops b v)) ⊎ Decided o w ops v
 
-  chain_on : (hot : Bool) (t : ℕ) (rs : List Rule) (v : World) → Known hot v → Rules.MayAll o t rs v → list_all (is_mild (may t)) rs ≡ true
+  chain_on : (hot : Bool) (t : ℕ) (rs : List Rule) (v : World) → Known hot v → Rules.MayAll o t rs v
+      → list_all (is_mild (may t)) rs ≡ true
       → Known hot (Rules.effects o t rs v)
   chain_on hot t [] v k m h = k
   chain_on hot t (r ∷ rs) v k m h =
@@ -156,7 +157,8 @@ module _ (o : Opening) (w : World) (W : Whole o w) (Q : IsQuiet o w) (ops : ℕ 
         state = on k.state p.0;
       }) m.1 p.1
     where
-      on : (Still o w ops v × ((c : ℕ) → IsAt o w ops c v) × (hot ≡ true → Active o w ops b v)) ⊎ Decided o w ops v → is_mild (may t) r ≡ true
+      on : (Still o w ops v × ((c : ℕ) → IsAt o w ops c v) × (hot ≡ true → Active o w ops b v)) ⊎ Decided o w ops v
+          → is_mild (may t) r ≡ true
           → (Still o w ops (Rules.effect o t r v) × ((c : ℕ) → IsAt o w ops c (Rules.effect o t r v))
           × (hot ≡ true → Active o w ops b (Rules.effect o t r v))) ⊎ Decided o w ops (Rules.effect o t r v)
       on (inl s) mild = elim (step o w W Q ops may retries v k.base s.0 s.1 t (m.0.inside, m.0.running) r m.0 mild) [
@@ -172,13 +174,15 @@ module _ (o : Opening) (w : World) (W : Whole o w) (Q : IsQuiet o w) (ops : ℕ 
       go (Some x) e = k
       go None e =
           let h : OrderedWalk o v (Deliver f t) = walked_in_order o v (Deliver f t) k.base.ordered (wide o v k.base) e in
-          subst (Known hot) h.walk.world (chain_on hot t (Rules.first_by_letter o t f (v.links.queue f t) ++ h.walk.rest) v k h.walk.may
+          subst (Known hot) h.walk.world (chain_on hot t (Rules.first_by_letter o t f (v.links.queue f t) ++ h.walk.rest) v k
+          h.walk.may
           (list_all-append (is_mild (may t)) (Rules.first_by_letter o t f (v.links.queue f t)) h.walk.rest
           ∙ ap (λ (c : Bool). c && list_all (is_mild (may t)) h.walk.rest) (mild_first o (may t) t f (v.links.queue f t))
           ∙ mild_letters (may t) h.walk.rest h.walk.quiet h.allowed))
   event_on hot (At c Event.Retry) s v k = go (refusal o v (At c Event.Retry)) refl
     where
-      go : (x : Option Refusal) → refusal o v (At c Event.Retry) ≡ x → Known hot (if is_none x then accepted o v (At c Event.Retry) else v)
+      go : (x : Option Refusal) → refusal o v (At c Event.Retry) ≡ x
+          → Known hot (if is_none x then accepted o v (At c Event.Retry) else v)
       go (Some x) e = k
       go None e =
           let h : OrderedWalk o v (At c Event.Retry) = walked_in_order o v (At c Event.Retry) k.base.ordered (wide o v k.base) e in
@@ -188,14 +192,17 @@ module _ (o : Opening) (w : World) (W : Whole o w) (Q : IsQuiet o w) (ops : ℕ 
   event_on hot (At c (Event.Exiting p)) s v k = cc s
   event_on hot (At c Event.Leave) s v k = cc s
 
-  pub run_on : (hot : Bool) (fs : List WorldEvent) → list_all (is_stormy may) fs ≡ true → (v : World) → Known hot v → Known hot (run o v fs)
+  pub run_on : (hot : Bool) (fs : List WorldEvent) → list_all (is_stormy may) fs ≡ true → (v : World) → Known hot v
+      → Known hot (run o v fs)
   run_on hot [] s v k = k
   run_on hot (e ∷ fs) s v k =
-      let p : (is_stormy may e ≡ true) × (list_all (is_stormy may) fs ≡ true) = both (is_stormy may e) (list_all (is_stormy may) fs) s in
+      let p : (is_stormy may e ≡ true) × (list_all (is_stormy may) fs ≡ true) =
+      both (is_stormy may e) (list_all (is_stormy may) fs) s in
       run_on hot fs p.1 (happens o v e) (event_on hot e p.0 v k)
 
   -- a retry of one that was refused makes its group hot
-  pub heated : (a : ℕ) (op : Op) → may a ≡ true → (w.node a).current ≡ Current.Waiting op → boss o w ops a ≡ b → (v : World) → Known false v
+  pub heated : (a : ℕ) (op : Op) → may a ≡ true → (w.node a).current ≡ Current.Waiting op → boss o w ops a ≡ b → (v : World)
+      → Known false v
       → refusal o v (At a Event.Retry) ≡ None → Known true (happens o v (At a Event.Retry))
   heated a op allowed waits home v k h = go k.state
     where
@@ -206,7 +213,8 @@ module _ (o : Opening) (w : World) (W : Whole o w) (Q : IsQuiet o w) (ops : ℕ 
           → ((happens o v (At a Event.Retry)).node a).current ≡ Current.Asking y (begin o.bound (v.node a).replica.members)
       asks y e = ap (λ (u : World). (u.node a).current) (happens-accepted o v (At a Event.Retry) h)
           ∙ ap (λ (f : ℕ → Node). (f a).current) (accepted-node o v (At a Event.Retry))
-          ∙ ap (λ (u : Node). u.current) (at_same v.node a (turn_of o v (At a Event.Retry)).node) ∙ asks_again o.bound a y (v.node a) e
+          ∙ ap (λ (u : Node). u.current) (at_same v.node a (turn_of o v (At a Event.Retry)).node)
+          ∙ asks_again o.bound a y (v.node a) e
 
       begins : (y : Op) → (v.node a).current ≡ Current.Waiting y → Known true (happens o v (At a Event.Retry))
       begins y e = record { base = next.base; stay = next.stay; state = by next.state }
@@ -259,7 +267,8 @@ module _ (o : Opening) (w : World) (W : Whole o w) (Q : IsQuiet o w) (ops : ℕ 
               P : (s : Stage) × Session v x b s × (requests_at s ≡ []) × (answers_at s ≡ [])
               P = still o v V q x b (is_up x (i, j)) (is_up b up_b)
 
-              granted : (s : Stage) → share_at s ≡ Some n → requests_at s ≡ [] → answers_at s ≡ [] → (m : _) → fits s m ≡ true → is_granted m ≡ true
+              granted : (s : Stage) → share_at s ≡ Some n → requests_at s ≡ [] → answers_at s ≡ [] → (m : _) → fits s m ≡ true
+                  → is_granted m ≡ true
               granted Sessions.HasGrant h y z m f = f
               granted Sessions.Returning h y z m f = cc y
               granted Sessions.AskedAgain h y z m f = cc y
@@ -276,7 +285,8 @@ module _ (o : Opening) (w : World) (W : Whole o w) (Q : IsQuiet o w) (ops : ℕ 
               unmarked (Current.Asking x r) y z = cc y
               unmarked (Current.Writing x s awaited reply) y z = cc y
 
-      go : (Still o w ops v × ((c : ℕ) → IsAt o w ops c v) × (true ≡ true → Active o w ops b v)) ⊎ Decided o w ops v → Decided o w ops v
+      go : (Still o w ops v × ((c : ℕ) → IsAt o w ops c v) × (true ≡ true → Active o w ops b v)) ⊎ Decided o w ops v
+          → Decided o w ops v
       go (inr d) = d
       go (inl s) = absurd (cold s.0 (s.2 refl))
 

@@ -1,8 +1,7 @@
 -- Rounds that ask exactly the members, and that only the boss may refuse.
-use mathlib.Core.Logic.{◌⊎◌}
 use Rattle.std.proofs.Common.{ℕ, Bool, true, false, ◌==◌, ◌≡◌, ◌<◌, Option, List, [], ◌∷◌, ◌++◌, zero, suc, refl, sym, ap, subst, ◌∙◌, inl, inr}
-use Rattle.std.specs.Prelude.{not, ◌&&◌, ◌||◌, if◌then◌else◌}
-use Rattle.std.proofs.lemmas.Bool.{cases_eq, eq-eqb}
+use Rattle.std.specs.Prelude.{◌&&◌, ◌||◌, if◌then◌else◌}
+use Rattle.std.proofs.lemmas.Bool.{cases_eq}
 use Rattle.registry_model.specs.Process.{Nodes, nodes_of}
 use Rattle.registry_model.proofs.Updates.{by_test}
 use Rattle.protocol_model.specs.Round.{Mark, Out, Later, Owes, Granted, Refused, Lost, Gone, Round, Ending, GiveBack, is_empty, is_out, is_owes, is_refused, is_gone, is_granted, has_granted, asked_too, mark_down, greatest, begin, owes, opens, answer, down, is_over, granted, is_held, ending}
@@ -44,7 +43,8 @@ module _ (o : Opening) (w : World) (ops : ℕ → Option Op) (c : ℕ) (below : 
   asked_later x Gone i = i
 
   -- an answer that is owed; the boss alone may refuse
-  pub marks_answer : (f : ℕ) (g : Bool) (r : Round) → owes r f ≡ true → (g ≡ false → f ≡ boss o w ops c) → Marks r → Marks (answer f g r)
+  pub marks_answer : (f : ℕ) (g : Bool) (r : Round) → owes r f ≡ true → (g ≡ false → f ≡ boss o w ops c) → Marks r
+      → Marks (answer f g r)
   marks_answer f g r owe refuses M x = go (opens f g r) refl
     where
       its : members o w ops c f ≡ true
@@ -101,7 +101,8 @@ module _ (o : Opening) (w : World) (ops : ℕ → Option Op) (c : ℕ) (below : 
         | inl same ↦ ap (λ (y : ℕ). is_granted (r.mark y)) same ∙ ap is_granted i
         | inr ne ↦ ungranted (r.mark x) (F.early (ap has_granted i) x ne)
       ]
-      by Granted i x = absurd (let yes : is_held o.bound (members o w ops c) r ≡ true = rw (ap has_granted i, none, all, some) refl in
+      by Granted i x = absurd (let yes : is_held o.bound (members o w ops c) r ≡ true =
+          rw (ap has_granted i, none, all, some) refl in
           cc (yes, not_held))
         where
           has_marks : (y : ℕ) (m : Mark) → r.mark y ≡ m → is_refused m ≡ true → y ≡ r.boss
@@ -149,7 +150,10 @@ module _ (o : Opening) (w : World) (ops : ℕ → Option Op) (c : ℕ) (below : 
               go false h = refl
               go true h = cc (empty_at o.bound (granted r) h r.boss (below r.boss member), ap is_granted i)
       by Out i x = absurd (cc (ap (λ (m : Mark). is_refused m || is_gone m || has_granted m && is_empty o.bound (owes r)) i, over))
-      by Later i x = absurd (cc (ap (λ (m : Mark). is_refused m || is_gone m || has_granted m && is_empty o.bound (owes r)) i, over))
+      by Later i x = absurd (cc (
+        ap (λ (m : Mark). is_refused m || is_gone m || has_granted m && is_empty o.bound (owes r)) i,
+        over,
+      ))
       by Owes i x = absurd (cc (ap (λ (m : Mark). is_refused m || is_gone m || has_granted m && is_empty o.bound (owes r)) i, over))
       by Lost i x = absurd (subst (IsMark o w ops c r.boss) i (M r.boss))
       by Gone i x = absurd (subst (IsMark o w ops c r.boss) i (M r.boss))

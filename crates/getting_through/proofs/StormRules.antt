@@ -1,7 +1,7 @@
 -- What each rule makes of a world in which refused registrars ask again, as long as nobody calls, exits or leaves.
 use mathlib.Core.Logic.{◌⊎◌}
-use Rattle.std.proofs.Common.{ℕ, Bool, true, false, ◌==◌, ◌≡◌, ◌<◌, Option, Some, None, List, [], ◌∷◌, ◌++◌, refl, sym, ap, subst, ◌∙◌, inl, inr}
-use Rattle.std.specs.Prelude.{not, ◌&&◌, ◌||◌, map, Contains, if◌then◌else◌}
+use Rattle.std.proofs.Common.{ℕ, Bool, true, false, ◌==◌, ◌≡◌, Option, Some, None, List, [], ◌∷◌, ◌++◌, refl, sym, ap, subst, ◌∙◌, inl, inr}
+use Rattle.std.specs.Prelude.{not, ◌&&◌, ◌||◌, Contains, if◌then◌else◌}
 use Rattle.std.proofs.Math.Path.{fun_ext}
 use Rattle.std.proofs.lemmas.Bool.{cases_eq, eq-eqb, eqb-true}
 use Rattle.registry_model.specs.Process.{Process, Nodes, nodes_of}
@@ -10,12 +10,12 @@ use Rattle.registry_model.specs.Registry.{Replica}
 use Rattle.registry_model.specs.History.{Entry}
 use Rattle.registry_model.proofs.Lists.{Contains-front, Contains-nil}
 use Rattle.registry_model.proofs.Updates.{by_test, at_same}
-use Rattle.protocol_model.specs.Round.{Mark, Out, Later, Owes, Granted, Refused, Lost, Gone, Round, rest, is_owes, is_granted, has_granted, owes, asked, granted, greatest, opens, answer, down, begin, Ending, ending}
+use Rattle.protocol_model.specs.Round.{Mark, Out, Later, Owes, Granted, Refused, Lost, Gone, Round, rest, is_owes, is_granted, has_granted, greatest, opens, answer, down, begin, Ending, ending}
 use Rattle.protocol_model.specs.Letter.{Id, Global, Client, Letter}
-use Rattle.protocol_model.specs.LockTable.{is_free_for, grant, give_back, Locks}
+use Rattle.protocol_model.specs.LockTable.{is_free_for, give_back, Locks}
 use Rattle.protocol_model.specs.Watch.{owed}
 use Rattle.protocol_model.specs.Node.{Node, Op, Current, LockPhase, LockCall, call_of, targets}
-use Rattle.protocol_model.specs.Turn.{Turn, Send, begun, send_all, keep_call, sent_to}
+use Rattle.protocol_model.specs.Turn.{Turn, begun, send_all, keep_call, sent_to}
 use Rattle.protocol_model.specs.Registrar.{registrar}
 use Rattle.protocol_model.specs.Client.{is_spent, in_phase, close_call, give_lock}
 use Rattle.protocol_model.specs.Reading.{judge}
@@ -29,8 +29,7 @@ use Rattle.moves.proofs.SendTests.{all_pass, pass_each}
 use Rattle.moves.proofs.Sends.{to_each, sent_to-one}
 use Rattle.client_locks.proofs.Rounds.{answer_boss, given_back}
 use Rattle.lock_sessions.proofs.Base.{is_leave, effect-turn, after_turn, each-one, posted-here}
-use Rattle.lock_sessions.proofs.LockTables.{is_global, globals, Row, grants_of, share, once, globals-grant-client, globals-give_back-client, is_free_for-globals, grant-row, Rowed, one_share}
-use Rattle.lock_sessions.proofs.LockTables
+use Rattle.lock_sessions.proofs.LockTables.{is_global, globals, Row, grants_of, share, once, globals-grant-client, globals-give_back-client, is_free_for-globals, grant-row, one_share}
 use Rattle.lock_sessions.proofs.Locking.{IsNamed, BossFirst, IsRound, is_unasked, call_of-client}
 use Rattle.lock_sessions.proofs.Sessions.{Stage, Request, Returns, Session, fits, mark_in, requests_at, share_at, found, found-append, request_in}
 use Rattle.lock_sessions.proofs.Sessions
@@ -40,8 +39,8 @@ use Rattle.leftovers.proofs.Quiet.{rid, at_ease, registrars}
 use Rattle.leftovers.proofs.Rest.{WorkRests}
 use Rattle.getting_through.specs.GettingThrough.{reply_now}
 use Rattle.getting_through.proofs.Groups.{below, apart, member_runs, same_members}
-use Rattle.getting_through.proofs.Storm.{is_simple, is_refusal, Parts, parts_self, NoRequest, members, boss, Plain, IsMark, Active, Held, Asked, Still, Round_at, IsAt, Before, Asking, Again, DecidedIn, Decided, Calm, Goes, Turned, simple_sends, still_after, active_after}
-use Rattle.getting_through.proofs.StormRounds.{marks_begin, asked_mark, marks_answer, marks_down, refused_by_boss, nobody_of}
+use Rattle.getting_through.proofs.Storm.{is_simple, Parts, parts_self, NoRequest, members, boss, Plain, IsMark, Active, Held, Asked, Still, Round_at, IsAt, Before, Asking, Again, DecidedIn, Goes, Turned, simple_sends, still_after, active_after}
+use Rattle.getting_through.proofs.StormRounds.{marks_begin, marks_answer, marks_down, refused_by_boss, nobody_of}
 
 -- rules that no call, exit or leave begins with; a node that may be retried
 abbrev pub is_mild : Bool → Rule → Bool
@@ -143,7 +142,8 @@ module _ (o : Opening) (w : World) (W : Whole o w) (Q : IsQuiet o w) (ops : ℕ 
 
     boss_up : (c : ℕ) → IsUp o w c → IsUp o w (boss o w ops c)
     boss_up c u = member_runs o w W Q c u (boss o w ops c)
-        (greatest_in o.bound (members o w ops c) c (below o w W Q c u c (W.base.all.proper.itself c u)) (W.base.all.proper.itself c u))
+        (greatest_in o.bound (members o w ops c) c (below o w W Q c u c (W.base.all.proper.itself c u))
+        (W.base.all.proper.itself c u))
 
     -- A turn in which the node's locks stay, or change so
     module _ (r : Rule) (e : is_leave r ≡ false) (m : Rules.May o t v r) where
@@ -179,7 +179,8 @@ module _ (o : Opening) (w : World) (W : Whole o w) (Q : IsQuiet o w) (ops : ℕ 
           (λ x k i s. (k, ap (λ (ls : Locks). share x (globals ls)) same ∙ s))
 
       at_same_current : u.node.current ≡ (v.node t).current
-          → ((b : ℕ) → IsUp o w b → Active o w ops b v → Active o w ops b (after_turn t v u l)) → IsAt o w ops t (after_turn t v u l)
+          → ((b : ℕ) → IsUp o w b → Active o w ops b v → Active o w ops b (after_turn t v u l))
+          → IsAt o w ops t (after_turn t v u l)
       at_same_current same A = go (K t)
         where
           is : ((after_turn t v u l).node t).current ≡ (v.node t).current
@@ -351,7 +352,8 @@ module _ (o : Opening) (w : World) (W : Whole o w) (Q : IsQuiet o w) (ops : ℕ 
               P : (s : Stage) × Session v b t s
               P = B.all.locks.pairs b t (is_up b ub) up
 
-              holds : (s : Stage) → share_at s ≡ Some k → (m : Mark) → fits s m ≡ true → requests_at s ≡ found request_in (v.links.queue b t)
+              holds : (s : Stage) → share_at s ≡ Some k → (m : Mark) → fits s m ≡ true
+                  → requests_at s ≡ found request_in (v.links.queue b t)
                   → (is_owes m || is_granted m) ≡ true
               holds Sessions.GrantComing h m q z = ap (λ (y : Bool). y || is_granted m) q
               holds Sessions.HasGrant h m q z = last (is_owes m) (is_granted m) q
@@ -377,7 +379,8 @@ module _ (o : Opening) (w : World) (W : Whole o w) (Q : IsQuiet o w) (ops : ℕ 
               H = has_boss f (was_up f runs) mark_f other
 
               -- b asks t, so its members are f's
-              asks_t : (x : Current) → (v.node b).current ≡ x → (is_owes (mark_in x t) || is_granted (mark_in x t)) ≡ true → members o w ops b t ≡ true
+              asks_t : (x : Current) → (v.node b).current ≡ x → (is_owes (mark_in x t) || is_granted (mark_in x t)) ≡ true
+                  → members o w ops b t ≡ true
               asks_t Current.Free z y = cc y
               asks_t (Current.Waiting x) z y = cc y
               asks_t (Current.Joining x q) z y = cc y
@@ -430,7 +433,8 @@ module _ (o : Opening) (w : World) (W : Whole o w) (Q : IsQuiet o w) (ops : ℕ 
       answer_plain true e = refl
       answer_plain false e = elim (cases_eq t (boss o w ops f)) [
         | inl same ↦ eq-eqb t (boss o w ops f) same
-        | inr ne ↦ absurd (let h : (b : ℕ) × (k : ℕ) × (globals (v.node t).locks ≡ grants_of (Row.Held b k)) = held_by e in no_other ne h.0 h.1 h.2)
+        | inr ne ↦ absurd (let h : (b : ℕ) × (k : ℕ) × (globals (v.node t).locks ≡ grants_of (Row.Held b k)) = held_by e in
+            no_other ne h.0 h.1 h.2)
       ]
 
       abbrev judged : Bool → Turn
@@ -474,8 +478,10 @@ module _ (o : Opening) (w : World) (W : Whole o w) (Q : IsQuiet o w) (ops : ℕ 
         where
           A : (b : ℕ) → IsUp o w b → Active o w ops b v → Active o w ops b (after_turn t v (judged verdict) taken)
           A b u_b H = elim (cases_eq b t) [
-            | inl same ↦ subst (λ (z : ℕ). Active o w ops z (after_turn t v (judged verdict) taken)) (sym same) (active_here verdict refl)
-            | inr ne ↦ active_after o w ops v t (judged verdict) taken b (is_up b u_b).1 (λ i. absurd (ne i)) (λ x k i s. absurd (ne i)) H
+            | inl same ↦ subst (λ (z : ℕ). Active o w ops z (after_turn t v (judged verdict) taken)) (sym same)
+                (active_here verdict refl)
+            | inr ne ↦ active_after o w ops v t (judged verdict) taken b (is_up b u_b).1 (λ i. absurd (ne i))
+                (λ x k i s. absurd (ne i)) H
           ]
 
     -- a request is judged
@@ -510,7 +516,8 @@ module _ (o : Opening) (w : World) (W : Whole o w) (Q : IsQuiet o w) (ops : ℕ 
     judges f (Global b) p m =
         let N : (b ≡ f) × (p ≡ registrar f) =
         (subst (λ (ls : List Letter). Each (IsNamed f t) ls) m.front.1.1 (B.all.locks.named f t up.1)).0 in
-        subst (λ (q : Process). Rules.May o t v (Rules.Judges f (Global b) q) → Goes o w ops v (Rules.effect o t (Rules.Judges f (Global b) q) v)) (sym N.1)
+        subst (λ (q : Process). Rules.May o t v (Rules.Judges f (Global b) q)
+        → Goes o w ops v (Rules.effect o t (Rules.Judges f (Global b) q) v)) (sym N.1)
         (subst (λ (c : ℕ). Rules.May o t v (Rules.Judges f (Global c) (registrar f))
         → Goes o w ops v (Rules.effect o t (Rules.Judges f (Global c) (registrar f)) v)) (sym N.0)
         (λ k. judges_global f k.front.0 k.front.1 k.tested k)) m
@@ -527,12 +534,14 @@ module _ (o : Opening) (w : World) (W : Whole o w) (Q : IsQuiet o w) (ops : ℕ 
         A : (k : Bool) → Rules.May o t v (Rules.TakesBack f (Client r z) p k)
             → globals (Rules.turn_by o t v (Rules.TakesBack f (Client r z) p k)).node.locks ≡ globals (v.node t).locks
             → (b : ℕ) → IsUp o w b → Active o w ops b v
-            → Active o w ops b (after_turn t v (Rules.turn_by o t v (Rules.TakesBack f (Client r z) p k)) (Rules.taking f (Letter.GiveBack (Client r z) p k)))
+            → Active o w ops b (after_turn t v (Rules.turn_by o t v (Rules.TakesBack f (Client r z) p k))
+            (Rules.taking f (Letter.GiveBack (Client r z) p k)))
         A k n h b u_b = active_after o w ops v t (Rules.turn_by o t v (Rules.TakesBack f (Client r z) p k))
             (Rules.taking f (Letter.GiveBack (Client r z) p k)) b (is_up b u_b).1 (λ i. (n.front, λ u. refl))
             (λ x j i s. (j, ap (share x) h ∙ s))
 
-        go : (k : Bool) → Rules.May o t v (Rules.TakesBack f (Client r z) p k) → Goes o w ops v (Rules.effect o t (Rules.TakesBack f (Client r z) p k) v)
+        go : (k : Bool) → Rules.May o t v (Rules.TakesBack f (Client r z) p k)
+            → Goes o w ops v (Rules.effect o t (Rules.TakesBack f (Client r z) p k) v)
         go true n = goes (Rules.TakesBack f (Client r z) p true) refl n (record {
           parts = record { replica = refl; watch = refl; queue = refl };
           sends = simple_sends o w ops t (Rules.turn_by o t v (Rules.TakesBack f (Client r z) p true)) refl;
@@ -553,7 +562,8 @@ module _ (o : Opening) (w : World) (W : Whole o w) (Q : IsQuiet o w) (ops : ℕ 
     client : (c : LockCall) → call_of c.holder (v.node t).calls ≡ Some c → is_global c.id ≡ false
     client c e = (call_of-client c.holder (v.node t).calls c (B.all.locks.calls t) e).0
 
-    same_parts : (x : Node) → x.replica ≡ (v.node t).replica → x.watch ≡ (v.node t).watch → x.queue ≡ (v.node t).queue → Parts x (v.node t)
+    same_parts : (x : Node) → x.replica ≡ (v.node t).replica → x.watch ≡ (v.node t).watch → x.queue ≡ (v.node t).queue
+        → Parts x (v.node t)
     same_parts x b c d = record { replica = b; watch = c; queue = d }
 
     hears_lock : (f : ℕ) (id : Id) (g : Bool) (c : LockCall) (r : Round) → Rules.May o t v (Rules.HearsLock f id g c r)
@@ -563,7 +573,8 @@ module _ (o : Opening) (w : World) (W : Whole o w) (Q : IsQuiet o w) (ops : ℕ 
       where
         turn : Bool → Turn
         turn b = keep_call (in_phase (LockPhase.Asking (answer f g r)) c)
-            (if b then send_all o.bound (λ x. rest r x && not ((v.node t).replica.told x)) (Letter.SetLock c.id c.holder) (begun (v.node t))
+            (if b then send_all o.bound (λ x. rest r x && not ((v.node t).replica.told x)) (Letter.SetLock c.id c.holder)
+            (begun (v.node t))
             else begun (v.node t))
 
         asked_too : (b : Bool) → all_pass is_simple (turn b).sends ≡ true
@@ -577,7 +588,8 @@ module _ (o : Opening) (w : World) (W : Whole o w) (Q : IsQuiet o w) (ops : ℕ 
 
     gives_up_lock : (c : LockCall) (r : Round) (s : Nodes) → Rules.May o t v (Rules.GivesUpLock c r s)
         → Goes o w ops v (Rules.effect o t (Rules.GivesUpLock c r s) v)
-    gives_up_lock c r s m = calls_alone (Rules.GivesUpLock c r s) refl m (stays (is_spent c.retries)).0 (stays (is_spent c.retries)).1
+    gives_up_lock c r s m = calls_alone (Rules.GivesUpLock c r s) refl m (stays (is_spent c.retries)).0
+        (stays (is_spent c.retries)).1
         (stays (is_spent c.retries)).2 (stays (is_spent c.retries)).3 (stays (is_spent c.retries)).4 tt
       where
         turn : Bool → Turn
@@ -598,7 +610,8 @@ module _ (o : Opening) (w : World) (W : Whole o w) (Q : IsQuiet o w) (ops : ℕ 
     -- Rules of the registrar's round
     hears : (f : ℕ) (id : Id) (g : Bool) (x : Op) (r : Round) → Rules.May o t v (Rules.HearsAnswer f id g x r)
         → Goes o w ops v (Rules.effect o t (Rules.HearsAnswer f id g x r) v)
-    hears f id g x r m = round_on (Rules.HearsAnswer f id g x r) refl m (stays (opens f g r)).0 (stays (opens f g r)).1 (stays (opens f g r)).2
+    hears f id g x r m = round_on (Rules.HearsAnswer f id g x r) refl m (stays (opens f g r)).0 (stays (opens f g r)).1
+        (stays (opens f g r)).2
         (stays (opens f g r)).3 (λ u. refl) x (answer f g r) refl (record {
           up = up_t;
           op = R.0.op;
@@ -611,29 +624,39 @@ module _ (o : Opening) (w : World) (W : Whole o w) (Q : IsQuiet o w) (ops : ℕ 
         R : Round_at o w ops t x r × Active o w ops (boss o w ops t) v
         R = asking t up_t x r m.tested.1
 
-        refuses : (i : Id) → IsNamed f t (Letter.LockAnswer i (registrar t) g) → Plain o w ops f t (Letter.LockAnswer i (registrar t) g)
+        refuses : (i : Id) → IsNamed f t (Letter.LockAnswer i (registrar t) g)
+            → Plain o w ops f t (Letter.LockAnswer i (registrar t) g)
             → g ≡ false → f ≡ boss o w ops t
         refuses (Client s z) N P h = cc N
         refuses (Global b) N P h = eqb-true f (boss o w ops t)
             (subst (λ (c : Bool). ((false || c) || not c && (f == boss o w ops t)) ≡ true) h P)
 
         turn : Bool → Turn
-        turn b = if b then send_all o.bound (λ y. rest r y && not ((v.node t).replica.told y)) (Letter.SetLock (Global t) (registrar t)) (begun (v.node t))
+        turn b = if b then send_all o.bound (λ y. rest r y && not ((v.node t).replica.told y))
+            (Letter.SetLock (Global t) (registrar t)) (begun (v.node t))
             else begun (v.node t)
 
         stays : (b : Bool) → Parts (record (turn b).node { current = Current.Asking x (answer f g r) }) (v.node t)
             × ((turn b).node.locks ≡ (v.node t).locks) × (all_pass is_simple (turn b).sends ≡ true) × ((turn b).entries ≡ [])
-        stays true = (same_parts _ refl refl refl, refl, to_all (λ y. rest r y && not ((v.node t).replica.told y)) (Letter.SetLock (Global t) (registrar t)) refl, refl)
+        stays true = (
+          same_parts _ refl refl refl,
+          refl,
+          to_all (λ y. rest r y && not ((v.node t).replica.told y))
+              (Letter.SetLock (Global t) (registrar t)) refl,
+          refl,
+        )
         stays false = (same_parts _ refl refl refl, refl, refl, refl)
 
     marks_gone : (d : ℕ) (x : Op) (r : Round) → Rules.May o t v (Rules.MarksDown d x r)
         → Goes o w ops v (Rules.effect o t (Rules.MarksDown d x r) v)
-    marks_gone d x r m = round_on (Rules.MarksDown d x r) refl m (same_parts _ refl refl refl) refl refl refl tt x (down d r) refl (record {
-      up = up_t;
-      op = R.0.op;
-      its_boss = R.0.its_boss;
-      marks = marks_down o w ops t (below o w W Q t up_t) d r outside (λ i. cc (outside, ap (members o w ops t) i, boss_in)) R.0.marks;
-    }) (inl R.1)
+    marks_gone d x r m = round_on (Rules.MarksDown d x r) refl m (same_parts _ refl refl refl) refl refl refl tt x (down d r) refl
+        (record {
+          up = up_t;
+          op = R.0.op;
+          its_boss = R.0.its_boss;
+          marks = marks_down o w ops t (below o w W Q t up_t) d r outside (λ i. cc (outside, ap (members o w ops t) i, boss_in))
+              R.0.marks;
+        }) (inl R.1)
       where
         R : Round_at o w ops t x r × Active o w ops (boss o w ops t) v
         R = asking t up_t x r m.tested.1
@@ -650,7 +673,8 @@ module _ (o : Opening) (w : World) (W : Whole o w) (Q : IsQuiet o w) (ops : ℕ 
     gives_up x r s m = goes (Rules.GivesUp x r s) refl m (record {
       parts = same_parts _ refl refl refl;
       sends = simple_sends o w ops t (Rules.turn_by o t v (Rules.GivesUp x r s))
-          (ap (λ (ns : List ℕ). all_pass is_simple (to_each ns (Letter.GiveBack (Global t) (registrar t) false))) (nobody_of o.bound s nobody));
+          (ap (λ (ns : List ℕ). all_pass is_simple (to_each ns (Letter.GiveBack (Global t) (registrar t) false)))
+          (nobody_of o.bound s nobody));
       locks = λ d k out. k;
       entries = refl;
     }) (actives (Rules.GivesUp x r s) refl m refl tt)
@@ -661,15 +685,18 @@ module _ (o : Opening) (w : World) (W : Whole o w) (Q : IsQuiet o w) (ops : ℕ 
 
         nobody : (y : ℕ) → s y ≡ false
         nobody y = ap (λ (q : Nodes). q y) (given_back o.bound (v.node t).replica.members r s m.tested.2)
-            ∙ refused_by_boss o w ops t (below o w W Q t up_t) r R.0.marks R.0.its_boss (subst IsRound m.tested.0 (B.all.locks.rounds t))
+            ∙ refused_by_boss o w ops t (below o w W Q t up_t) r R.0.marks R.0.its_boss
+            (subst IsRound m.tested.0 (B.all.locks.rounds t))
             m.tested.1 s (ap (λ (q : Nodes). Round_ending q) (sym members_are) ∙ m.tested.2) y
           where
             Round_ending : Nodes → Ending
             Round_ending q = ending o.bound q r
 
     -- a refused round begins anew
-    retried : (x : Op) → may t ≡ true → (m : Rules.May o t v (Rules.Retries x)) → Goes o w ops v (Rules.effect o t (Rules.Retries x) v)
-    retried x allowed m = round_on (Rules.Retries x) refl m (same_parts _ refl refl refl) refl refl refl tt x (begin o.bound (members o w ops t))
+    retried : (x : Op) → may t ≡ true → (m : Rules.May o t v (Rules.Retries x))
+        → Goes o w ops v (Rules.effect o t (Rules.Retries x) v)
+    retried x allowed m = round_on (Rules.Retries x) refl m (same_parts _ refl refl refl) refl refl refl tt x
+        (begin o.bound (members o w ops t))
         (ap (λ (s : Nodes). Current.Asking x (begin o.bound s)) members_are) (record {
           up = up_t;
           op = its (K t);
@@ -695,13 +722,16 @@ module _ (o : Opening) (w : World) (W : Whole o w) (Q : IsQuiet o w) (ops : ℕ 
         open_link : left v (boss o w ops t) ≡ false
         open_link = (is_up (boss o w ops t) (boss_up t up_t)).1
 
-        to_boss : sent_to (boss o w ops t) (record { to = greatest o.bound (v.node t).replica.members; letter = first } ∷ []) ≡ first ∷ []
+        to_boss : sent_to (boss o w ops t) (record { to = greatest o.bound (v.node t).replica.members; letter = first } ∷ [])
+            ≡ first ∷ []
         to_boss = sent_to-one (boss o w ops t) (greatest o.bound (v.node t).replica.members) first
             ∙ rw (eq-eqb (greatest o.bound (v.node t).replica.members) (boss o w ops t) (ap (greatest o.bound) members_are)) refl
 
-        found_of : found request_in ((after_turn t v (Rules.turn_by o t v (Rules.Retries x)) None).links.queue t (boss o w ops t)) ≡ []
+        found_of : found request_in ((after_turn t v (Rules.turn_by o t v (Rules.Retries x)) None).links.queue t (boss o w ops t))
+            ≡ []
             → found request_in (v.links.queue t (boss o w ops t)) ++ Sessions.Asks ∷ [] ≡ []
-        found_of e = sym (ap (found request_in) (posted-here t (λ c. sent_to c (Rules.turn_by o t v (Rules.Retries x)).sends) v.links (boss o w ops t) open_link
+        found_of e = sym (ap (found request_in) (posted-here t (λ c. sent_to c (Rules.turn_by o t v (Rules.Retries x)).sends)
+            v.links (boss o w ops t) open_link
             ∙ ap (λ (ls : List Letter). v.links.queue t (boss o w ops t) ++ ls) to_boss)
             ∙ found-append request_in (v.links.queue t (boss o w ops t)) (first ∷ [])) ∙ e
 
@@ -732,14 +762,19 @@ module _ (o : Opening) (w : World) (W : Whole o w) (Q : IsQuiet o w) (ops : ℕ 
     step (Rules.HearsAnswer f id g x r) m h = hears f id g x r m
     step (Rules.MarksDown d x r) m h = marks_gone d x r m
     step (Rules.GivesUp x r s) m h = gives_up x r s m
-    step (Rules.Grants k call r) m h = decides (Rules.Grants k call r) refl m (Op.Name k call) (held_op (Op.Name k call) r m.tested.0)
+    step (Rules.Grants k call r) m h = decides (Rules.Grants k call r) refl m (Op.Name k call)
+        (held_op (Op.Name k call) r m.tested.0)
         (first _ _ (named k call))
-    step (Rules.Denies k call r) m h = decides (Rules.Denies k call r) refl m (Op.Name k call) (held_op (Op.Name k call) r m.tested.0)
+    step (Rules.Denies k call r) m h = decides (Rules.Denies k call r) refl m (Op.Name k call)
+        (held_op (Op.Name k call) r m.tested.0)
         (first _ _ (named k call))
-    step (Rules.Strikes p r) m h = decides (Rules.Strikes p r) refl m (Op.Strike p) (held_op (Op.Strike p) r m.tested) (Contains-front (Entry.Strike p) [])
-    step (Rules.Admits j pairs r) m h = decides (Rules.Admits j pairs r) refl m (Op.Admission j pairs) (held_op (Op.Admission j pairs) r m.tested.0)
+    step (Rules.Strikes p r) m h = decides (Rules.Strikes p r) refl m (Op.Strike p) (held_op (Op.Strike p) r m.tested)
+        (Contains-front (Entry.Strike p) [])
+    step (Rules.Admits j pairs r) m h = decides (Rules.Admits j pairs r) refl m (Op.Admission j pairs)
+        (held_op (Op.Admission j pairs) r m.tested.0)
         (inr (join_number v j, Contains-front (Entry.Join j (join_number v j) t Joined) []))
-    step (Rules.Passes j pairs r) m h = decides (Rules.Passes j pairs r) refl m (Op.Admission j pairs) (held_op (Op.Admission j pairs) r m.tested.0)
+    step (Rules.Passes j pairs r) m h = decides (Rules.Passes j pairs r) refl m (Op.Admission j pairs)
+        (held_op (Op.Admission j pairs) r m.tested.0)
         (inl (sym (ap (λ (x : Replica). x.told j) (C.parts t).replica) ∙ m.tested.1))
     step (Rules.CountsApplied f x s awaited reply) m h = absurd (not_writing t up_t x s awaited reply m.tested.1)
     step (Rules.CountsDown d x s awaited reply) m h = absurd (not_writing t up_t x s awaited reply m.tested.1)
@@ -760,7 +795,8 @@ module _ (o : Opening) (w : World) (W : Whole o w) (Q : IsQuiet o w) (ops : ℕ 
         none (Letter.GivenBack q) e c = Contains-nil p c
         none x e c = cc e
     step (Rules.IsAdmitted f j s) m h = absurd (cc (front f (Letter.Admit j s) m.front.0 m.front.1))
-    step (Rules.IsWelcomed f k ms pairs told fate) m h = absurd (cc (front f (Letter.Welcome ms pairs told fate) m.front.0 m.front.1))
+    step (Rules.IsWelcomed f k ms pairs told fate) m h =
+        absurd (cc (front f (Letter.Welcome ms pairs told fate) m.front.0 m.front.1))
     step (Rules.IsTold f) m h = absurd (cc (front f Letter.Down m.front.0 m.front.1))
     step (Rules.LosesContact k c) m h = absurd (keeps_contact k c m.tested.0 m.tested.1)
     step (Rules.Ignores f l) m h = calls_alone (Rules.Ignores f l) refl m (parts_self (v.node t)) refl refl refl refl
@@ -770,12 +806,15 @@ module _ (o : Opening) (w : World) (W : Whole o w) (Q : IsQuiet o w) (ops : ℕ 
     step (Rules.AsksLock c) m h = calls_alone (Rules.AsksLock c) refl m (same_parts _ refl refl refl) refl refl refl refl tt
     step (Rules.FailsLock c) m h = calls_alone (Rules.FailsLock c) refl m (same_parts _ refl refl refl) refl refl refl refl tt
     step (Rules.HearsLock f id g c r) m h = hears_lock f id g c r m
-    step (Rules.MarksLockDown d c r) m h = calls_alone (Rules.MarksLockDown d c r) refl m (same_parts _ refl refl refl) refl refl refl refl tt
+    step (Rules.MarksLockDown d c r) m h = calls_alone (Rules.MarksLockDown d c r) refl m (same_parts _ refl refl refl) refl refl
+        refl refl tt
     step (Rules.WinsLock c r) m h = calls_alone (Rules.WinsLock c r) refl m (same_parts _ refl refl refl) refl refl refl refl tt
     step (Rules.GivesUpLock c r s) m h = gives_up_lock c r s m
     step (Rules.DeletesLock c) m h = calls_alone (Rules.DeletesLock c) refl m (same_parts _ refl refl refl) refl refl
-        (to_all (targets (v.node t).replica.members c.target) (Letter.GiveBack c.id c.holder true) (ap (λ (i : Id). not (is_global i)) m.tested.0.id)) refl tt
-    step (Rules.DeletesNothing c) m h = calls_alone (Rules.DeletesNothing c) refl m (same_parts _ refl refl refl) refl refl refl refl tt
+        (to_all (targets (v.node t).replica.members c.target) (Letter.GiveBack c.id c.holder true)
+        (ap (λ (i : Id). not (is_global i)) m.tested.0.id)) refl tt
+    step (Rules.DeletesNothing c) m h = calls_alone (Rules.DeletesNothing c) refl m (same_parts _ refl refl refl) refl refl refl
+        refl tt
     step (Rules.CountsGivenBack f c owing) m h =
         calls_alone (Rules.CountsGivenBack f c owing) refl m (same_parts _ refl refl refl) refl refl refl refl (λ u. refl)
     step (Rules.EndsDeletion f c owing) m h =
