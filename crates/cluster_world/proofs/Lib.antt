@@ -37,3 +37,4 @@ mod Winning
 mod Spent
 mod Counting
 mod Seats
+mod Unmade

@@ -156,7 +156,7 @@ module _ (h : Held) (whole : IsWhole h) (went : HaveLeft (nodes_of h) h.links.de
   )
 
   -- the node that starts
-  next_is : next_node (names_of h) (named h) (text_in x) ≡ a + 1
+  pub next_is : next_node (names_of h) (named h) (text_in x) ≡ a + 1
   next_is = ap (λ (c : ℕ). text_in x * 4294967296 + (c + 1 - 1)) (now_is h whole went a x known same)
       ∙ ap (λ (t : ℕ). t * 4294967296 + (creation_of a + 1 - 1)) (text_of_name a x same) ∙ omega arith
 

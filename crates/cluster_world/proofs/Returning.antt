@@ -3,7 +3,8 @@ use Rattle.std.proofs.Common.{ℕ, true, false, ◌≡◌, ◌<◌, ◌+◌, Som
 use Rattle.std.specs.List.{All}
 use Rattle.std.proofs.Math.Seq.{take-append_seam}
 use Rattle.std.proofs.lemmas.List.{length-map, length-set, get_or-map, get_or_default}
-use Rattle.term.specs.Nodes.{name_of, creation_of, last_creation}
+use Rattle.creations.specs.NamedWorld.{next_node}
+use Rattle.term.specs.Nodes.{name_of, text_in, creation_of, last_creation}
 use Rattle.term.specs.NodeSets.{set_of, with_older, succeeded}
 use Rattle.term.proofs.NodePlaces.{place-Some}
 use Rattle.link.specs.Held.{place}
@@ -14,10 +15,11 @@ use Rattle.cluster_world.specs.Held.{Held, nodes_of}
 use Rattle.cluster_world.specs.Mail.{Mailed, links_of}
 use Rattle.cluster_world.specs.Playing.{Played}
 use Rattle.cluster_world.specs.Restarting.{replaced_in, CanReplace}
+use Rattle.cluster_world.specs.Seen.{names_of, named}
 use Rattle.cluster_world.specs.Steps.{IsAdmitted}
 use Rattle.cluster_world.specs.Whole.{IsWhole}
 use Rattle.cluster_world.proofs.Listed.{known_place}
-use Rattle.cluster_world.proofs.Restarting.{gone_then, further, next_named, can_replace, unanswered, comes_back, names_back, whole_back}
+use Rattle.cluster_world.proofs.Restarting.{gone_then, further, next_named, next_is, can_replace, unanswered, comes_back, names_back, whole_back}
 use Rattle.cluster_world.proofs.Succeeding.{not_left, there_now}
 use Rattle.cluster_world.proofs.Steps.{core_name}
 
@@ -108,6 +110,14 @@ module _ (old h : Held) (is_old : h ≡ old) (whole : IsWhole h) (went : HaveLef
     next_stays ds e = ap (λ (es : List ℕ). with_older es b) e
         ∙ subst (λ (n : ℕ). with_older h.links.departed n ≡ false) (sym next)
         (not_left (nodes_of h) h.links.departed went a known gone (next_named h whole went a x p there own here.accepted))
+
+    -- it is entered so
+    pub restarted_entered : (history : List HistoryEntry) → history ≡ h.history ++ HistoryEntry.Restart b ∷ []
+        → history ≡ old.history ++ HistoryEntry.Restart (next_node (names_of old) (named old) (text_in x)) ∷ []
+    restarted_entered history entered =
+        subst (λ (k : Held). history ≡ k.history ++ HistoryEntry.Restart (next_node (names_of k) (named k) (text_in x)) ∷ []) is_old
+        (entered ∙ ap (λ (n : ℕ). h.history ++ HistoryEntry.Restart n ∷ [])
+        (next ∙ sym (next_is h whole went a x p there own here.accepted)))
 
     module _ (ds es ns : List ℕ) (cs cores past : List Core) (links : Mailed) (history : List HistoryEntry) (fresh : Core)
         (ds_are : ds ≡ h.links.departed) (es_are : es ≡ h.links.departed) (ns_are : ns ≡ later)

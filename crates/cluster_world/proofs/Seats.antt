@@ -1,6 +1,6 @@
 -- A call that waits, while events are played one after the other.
 use Rattle.std.proofs.Common.{ℕ, zero, suc, Bool, true, false, ◌≡◌, ◌<◌, ◌+◌, ◌-◌, arith, Option, Some, None, List, [], ◌∷◌, ◌++◌, map, refl, sym, ap, ◌∙◌, subst, inl, inr, zero-add, add-zero}
-use Rattle.std.specs.Prelude.{Result, Ok, Err, IsErrAnd, is_some, is_none, option_map, ◌&&◌, if◌then◌else◌}
+use Rattle.std.specs.Prelude.{Result, Ok, Err, IfErr, IsErrAnd, is_some, is_none, option_map, ◌&&◌, if◌then◌else◌}
 use Rattle.std.proofs.lemmas.List.{append_assoc, append-nil, map-append}
 use Rattle.protocol_model.specs.Event.{Event as AnyEvent, Answer as AnyAnswer, Refusal as AnyRefusal}
 use Rattle.creations.specs.NodeNames.{NamedOpening}
@@ -23,7 +23,7 @@ use Rattle.cluster_world.specs.Steps.{IsAdmitted}
 use Rattle.cluster_world.specs.Held.{Held, nodes_of}
 use Rattle.cluster_world.specs.Playing.{Keeps, Played, RefusedWith, WaitsOn, events_of, accepts_all, answers_to_all}
 use Rattle.world_events.specs.Refusals.{refusal_of, is_memory, out_of_memory}
-use Rattle.cluster_world.specs.Seats.{most_events, verdict_in, next_number, next_for, awaiting, until_answered, WentThrough, Waited, HasWaited, Called, SetsLock, Unanswered}
+use Rattle.cluster_world.specs.Seats.{most_events, verdict_in, next_number, next_for, awaiting, until_answered, WentThrough, Waited, HasWaited, Called, SetsLock, IsUnplayed, Unanswered}
 use Rattle.cluster_world.specs.Seen.{names_of, opening_of, seen, named, or_else, node_with}
 use Rattle.cluster_world.specs.Agreeing.{Agrees}
 use Rattle.world_events.proofs.Faults.{has_cause}
@@ -386,30 +386,33 @@ module _ (a : ℕ) (c : Call) (old mid : Held) (now : List Answer) (P : Played (
 pub next_of : (a : ℕ) (h : Held) (c : Core) → Some c ≡ core_of a h.cores → c.last_call + 1 ≡ next_number a (seen h)
 next_of a h c e = ap (λ (o : Option Core). (node_with (opening_of h) a (or_else o (core_of a h.past))).last_call + 1) e
 
--- the world refuses the call of the node that the seat looked up
-pub refused_call : (a node b : ℕ) (c : Call) (old : Held) (result : Result Bool SeatFault) (r : Refusal)
-    → IsErrAnd result (λ y. y ≡ Refused r) → node ≡ a → b ≡ node → RefusedWith r (At b (Calls c)) old
-    → SetsLock a c old old result
-refused_call a node b c old (Ok x) r h node_is b_is refused = absurd h
-refused_call a node b c old (Err y) r h node_is b_is refused = subst (Unanswered a c old old) (sym h) (
-  subst (λ (x : ℕ). RefusedWith r (At x (Calls c)) old) (b_is ∙ node_is) refused,
-  λ kept. refl,
-  λ out. inl refl,
-)
+-- an event is refused
+pub refused_event : {X : Type 0} (e : WorldEvent) (old new : Held) (result : Result X SeatFault) (r : Refusal)
+    → IsErrAnd result (λ y. y ≡ Refused r) → RefusedWith r e old → (is_memory r ≡ false → new ≡ old) → named new ≡ named old
+    → IfErr result (IsUnplayed e old new)
+refused_event e old new (Ok x) r h refused kept still = absurd h
+refused_event e old new (Err y) r h refused kept still = subst (IsUnplayed e old new) (sym h) (refused, kept, still)
 
--- or memory is refused before it is played
-pub unplayed_call : (a node b p : ℕ) (c : Call) (old new : Held) (result : Result Bool SeatFault)
-    → IsErrAnd result (λ y. y ≡ Refused out_of_memory) → node ≡ a → b ≡ node → IsAdmitted p (At b (Calls c)) old
-    → named new ≡ named old → SetsLock a c old new result
-unplayed_call a node b p c old new (Ok x) h node_is b_is admitted same = absurd h
-unplayed_call a node b p c old new (Err y) h node_is b_is admitted same = subst (Unanswered a c old new) (sym h) (
-  subst (λ (x : ℕ). RefusedWith out_of_memory (At x (Calls c)) old) (b_is ∙ node_is) admitted.accepted,
-  λ kept. absurd (no_memory kept),
-  λ out. inl same,
-)
+-- or there is no memory for it
+pub unplayed_event : {X : Type 0} (e : WorldEvent) (old new : Held) (p : ℕ) (result : Result X SeatFault)
+    → IsErrAnd result (λ y. y ≡ Refused out_of_memory) → IsAdmitted p e old → named new ≡ named old
+    → IfErr result (IsUnplayed e old new)
+unplayed_event e old new p result h admitted still =
+    refused_event e old new result out_of_memory h admitted.accepted (λ kept. absurd (no_memory kept)) still
   where
     no_memory : true ≡ false → ⊥
     no_memory e = cc
+
+-- so the call of the node that the seat looked up isn't answered
+pub unplayed_call : (a node b : ℕ) (c : Call) (old new : Held) (fault : SeatFault) → node ≡ a → b ≡ node
+    → IsUnplayed (At b (Calls c)) old new fault → Unanswered a c old new fault
+unplayed_call a node b c old new (Refused r) node_is b_is (refused, kept, still) = (
+  subst (λ (x : ℕ). RefusedWith r (At x (Calls c)) old) (b_is ∙ node_is) refused,
+  kept,
+  λ out. inl still,
+)
+unplayed_call a node b c old new NoMemory node_is b_is none = absurd none
+unplayed_call a node b c old new NoAnswer node_is b_is none = absurd none
 
 -- the same, where node and number are those that the seat looked up before the call was admitted at a place
 module _ (a node b n p : ℕ) (c : Call) (old mid : Held) (now given : List Answer) (v : Option Bool) (node_is : node ≡ a)

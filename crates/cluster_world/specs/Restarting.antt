@@ -1,8 +1,14 @@
--- A name comes back: what its next node takes over, which is its place alone.
-use Rattle.std.specs.Prelude.{ℕ, true, false, ◌≡◌, Option, None, Some, ◌<◌, List, Contains, if◌then◌else◌}
+-- A name comes back: what its next node takes over, which is its place alone, and what is entered of it.
+use Rattle.std.specs.Prelude.{ℕ, true, false, ◌≡◌, Option, None, Some, ◌<◌, List, [], ◌∷◌, ◌++◌, Contains, if◌then◌else◌}
+use Rattle.creations.specs.NamedWorld.{next_node}
+use Rattle.term.specs.Nodes.{text_in}
 use Rattle.term.specs.NodeSets.{set_of, with_older, succeeded}
 use Rattle.node_core.specs.Held.{Held as Core}
+use Rattle.world_events.specs.declared.events.WorldEvent.{WorldEvent}
+use Rattle.world_events.specs.declared.events.WorldEvent.TheVariants.{Restart}
+use Rattle.world_history.specs.declared.entry.HistoryEntry.{HistoryEntry}
 use Rattle.cluster_world.specs.Held.{Held}
+use Rattle.cluster_world.specs.Seen.{names_of, named}
 
 -- a core takes the next node of a name in its world, unless its own node has left
 abbrev pub replaced_in : List ℕ → ℕ → ℕ → Core → Core
@@ -23,3 +29,9 @@ abbrev pub IsFirstUntold : ℕ → Held → Option ℕ → Type 0
 IsFirstUntold gone h None = (c : Core) → Contains h.cores c → IsUntold gone h c → ⊥
 IsFirstUntold gone h (Some a) = (c : Core) × Contains h.cores c × (c.name ≡ a) × IsUntold gone h c
     × ((d : Core) → Contains h.cores d → d.name < a → IsUntold gone h d → ⊥)
+
+-- where a name comes back, the history has one entry more: that the next node of the name has started
+abbrev pub EntersRestart : WorldEvent → Held → Held → Type 0
+EntersRestart (Restart x) old new =
+    new.history ≡ old.history ++ HistoryEntry.Restart (next_node (names_of old) (named old) (text_in x)) ∷ []
+EntersRestart _ old new = Unit {0}

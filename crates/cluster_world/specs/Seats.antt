@@ -129,19 +129,35 @@ names_nodes (SetLock p id nodes retries) = is_named nodes
 names_nodes (DelLock p id nodes) = is_named nodes
 names_nodes _ = false
 
+-- why the world refuses an event, if it does; where it has nothing against it, only memory may be refused
+abbrev pub IsWhyRefused : Option Refusal → WorldEvent → Held → Type 0
+IsWhyRefused None e old = RefusedWith out_of_memory e old
+IsWhyRefused (Some r) e old = RefusedWith r e old
+
+-- why a call isn't played that there was no memory to make, by why the world refuses it, if it does
+abbrev pub unmade : Option Refusal → SeatFault
+unmade None = NoMemory
+unmade (Some r) = Refused r
+
 -- memory was refused before a call of node a was played, and nothing was; or while it waits, and what was played until then
 -- stands
 abbrev pub HasBegun : ℕ → Call → Held → Held → Type 0
 HasBegun a c old new =
     (named new ≡ named old) ⊎ ((most : ℕ) × (most ≤ most_events) × Called a c most old new None)
 
+-- an event wasn't played: the world refused it, which changes nothing, or memory was refused
+abbrev pub IsUnplayed : WorldEvent → Held → Held → SeatFault → Type 0
+IsUnplayed e old new (Refused r) = RefusedWith r e old × (is_memory r ≡ false → new ≡ old) × (named new ≡ named old)
+IsUnplayed e old new _ = ⊥
+
 -- why a call got no reply: it was refused as the protocol refuses it, which changes nothing; or it was accepted, and
--- memory was refused; or it names nodes and there was no memory to make it; or no answer came
+-- memory was refused; or it names nodes and there was no memory to make it, and the world had nothing against it; or no
+-- answer came
 abbrev pub Unanswered : ℕ → Call → Held → Held → SeatFault → Type 0
 Unanswered a c old new (Refused r) =
     RefusedWith r (At a (Calls c)) old × (is_memory r ≡ false → new ≡ old)
     × (is_memory r ≡ true → HasBegun a c old new)
-Unanswered a c old new NoMemory = (new ≡ old) × (names_nodes c ≡ true)
+Unanswered a c old new NoMemory = (new ≡ old) × (names_nodes c ≡ true) × RefusedWith out_of_memory (At a (Calls c)) old
 Unanswered a c old new NoAnswer = Called a c most_events old new None
 
 -- what a `set_lock` comes to

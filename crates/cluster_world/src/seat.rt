@@ -1,9 +1,12 @@
 //! Seats of lock holders, over a world.
-ghost use Rattle.std.specs.Prelude.{◌≡◌, map, if◌then◌else◌};
+ghost use Rattle.std.specs.Prelude.{ℕ, ◌≡◌, ◌<◌, [], map, if◌then◌else◌, OnOk, IfOk, IfErr};
+ghost use Rattle.std.specs.Vec.{vec_len, vec_capacity};
 ghost use Rattle.node_core.specs.NodeEventsSeen.{answer_of};
 ghost use Rattle.cluster_world.specs.declared.seat.SeatFault.TheVariants.{Refused, NoAnswer};
 ghost use Rattle.world_events.specs.Refusals.{is_memory, out_of_memory};
-ghost use Rattle.cluster_world.specs.Seats.{verdict_to, verdict_in};
+ghost use Rattle.cluster_world.specs.Playing.{Keeps, Played};
+ghost use Rattle.cluster_world.specs.Steps.{IsAdmitted};
+ghost use Rattle.cluster_world.specs.Seats.{verdict_to, verdict_in, unmade, IsUnplayed};
 
 use crate::world::World;
 use name_table::Names;
@@ -23,7 +26,8 @@ pub enum SeatFault {
     /// until then stands, and the call goes on waiting in the world.
     #[error("{0}")]
     Refused(Refusal),
-    /// There was no memory for the call itself, which names the nodes that it asks. Nothing was played.
+    /// There was no memory for the call itself, which names the nodes that it asks, and the world had nothing else against it.
+    /// Nothing was played.
     #[error("no_memory")]
     NoMemory,
     /// No answer came. The call goes on waiting in the world.
@@ -84,13 +88,48 @@ fn no_answer(refusal: &Refusal) -> SeatFault
     }
 }
 
+/// Why a call isn't played that there was no memory to make: what the world has against it comes first.
+fn unmade(refusal: Option<Refusal>) -> SeatFault
+    ensures { result ≡ unmade refusal }
+{
+    match refusal {
+        Some(refusal) => SeatFault::Refused(refusal),
+        None => SeatFault::NoMemory,
+    }
+}
+
 impl<N: Names<Memory = Global>> World<N> {
-    ghost use Rattle.std.specs.Prelude.{true, Some, OnErr, IfOk, IfErr};
+    ghost use Rattle.std.specs.Prelude.{true, Some, OnErr};
+    ghost use Rattle.transaction.specs.declared.nodes.Nodes.{Nodes as AnyNodes};
+    ghost use Rattle.transaction.specs.declared.nodes.Retries.{Retries as AnyRetries};
     ghost use Rattle.term.specs.NodeSets.{set_of};
     ghost use Rattle.cluster_world.specs.Held.{nodes_of};
-    ghost use Rattle.cluster_world.specs.Playing.{Keeps};
-    ghost use Rattle.cluster_world.specs.Seats.{next_number, PlaysNext, RefusesNext, HasWaited};
+    ghost use Rattle.cluster_world.specs.Seats.{next_number, PlaysNext, RefusesNext, HasWaited, IsWhyRefused};
     ghost use Rattle.cluster_world.specs.Seen.{seen, named};
+
+    /// Why a `set_lock` of a process is refused, if it is. It takes no memory.
+    fn set_refusal(&self, holder: &Pid, id: &LockId, nodes: &Nodes) -> Option<Refusal>
+        ensures { (retries : AnyRetries) → IsWhyRefused result (WorldEvent.At holder.now.node
+            (Event.Call (Call.SetLock holder.now id.now nodes.now retries))) self.now }
+    {
+        match self.running(&holder.node) {
+            Ok(place) => {
+                let fault = self.cores[place].set_refusal(holder, id, nodes)?;
+                Some(Refusal::Step(fault))
+            }
+            Err(refusal) => Some(refusal),
+        }
+    }
+
+    /// Why a `del_lock` of a process is refused, if it is, whichever nodes it asks. It takes no memory.
+    fn deletion_refusal(&self, holder: &Pid, id: &LockId) -> Option<Refusal>
+        ensures { (nodes : AnyNodes) → IsWhyRefused result (WorldEvent.At holder.now.node
+            (Event.Call (Call.DelLock holder.now id.now nodes))) self.now }
+    {
+        let call = Call::DelLock(holder.copy(), id.copy(), Nodes::All);
+        let event = WorldEvent::At(holder.node.copy(), Event::Call(call));
+        self.admit(&event).err()
+    }
 
     /// The number of the next numbered call of a node at present.
     fn next_number(&self, node: &Node) -> u64
@@ -136,6 +175,25 @@ impl<N: Names<Memory = Global>> World<N> {
     }
 }
 
+/// Plays an event for a lock holder, for whom there is room for one reply more then. That is made behind all that the world has
+/// against the event.
+fn begin<N: Names<Memory = Global>>(
+    world: &mut World<N>,
+    replies: &mut Vec<LockReply>,
+    event: &WorldEvent,
+) -> Result<Vec<Answer>, SeatFault>
+    ensures replies { replies.new.items ≡ replies.old.items }
+    ensures room { OnOk result (vec_len replies.new < vec_capacity replies.new) }
+    ensures kept { Keeps world.old world.new }
+    ensures admitted { OnOk result ((place : ℕ) × IsAdmitted place event.now world.old) }
+    ensures played { IfOk result (λ answers. Played event.now world.old world.new [] answers.items) }
+    ensures unplayed { IfErr result (λ fault. IsUnplayed event.now world.old world.new fault) }
+{
+    let place = world.admit(event)?;
+    replies.reserve(1)?;
+    Ok(world.accept(place, event)?)
+}
+
 /// The seat of one lock holder over a world. A call at it is played at the holder's node, and then the world goes on until the
 /// call is answered: the next delivery, by the order of links, or where all links are empty a retry of that node. After 100,000
 /// such events, or where there is nothing to retry, it has no answer. Answers to other calls that come meanwhile are dropped.
@@ -148,9 +206,6 @@ pub struct WorldSeat<'a, N: Names> {
 }
 
 impl<'a, N: Names<Memory = Global>> WorldSeat<'a, N> {
-    ghost use Rattle.std.specs.Prelude.{[], ◌<◌, OnOk};
-    ghost use Rattle.std.specs.Vec.{vec_len, vec_capacity};
-    ghost use Rattle.cluster_world.specs.Playing.{Keeps};
     ghost use Rattle.cluster_world.specs.Seats.{holder_of, replies_of, SetsLock};
 
     /// The seat of this holder, without replies. Who it is isn't asked before a call is made.
@@ -187,9 +242,7 @@ impl<'a, N: Names<Memory = Global>> WorldSeat<'a, N> {
         let node = self.holder.node.copy();
         let number = self.world.next_number(&node);
         let event = WorldEvent::At(node.copy(), Event::Call(call));
-        let place = self.world.admit(&event)?;
-        self.replies.reserve(1)?;
-        let answers = self.world.accept(place, &event)?;
+        let answers = begin(self.world, &mut self.replies, &event)?;
         match verdict_in(answers.as_slice(), &node, number) {
             Some(granted) => Ok(granted),
             None => self.world.wait(&node, number),
@@ -200,7 +253,6 @@ impl<'a, N: Names<Memory = Global>> WorldSeat<'a, N> {
 impl<'a, N: Names<Memory = Global>> LockSeat for WorldSeat<'a, N> {
     ghost use Rattle.transaction.specs.Counts.{set_replies, deletion_replies};
     ghost use Rattle.node_core.specs.declared.Call.TheVariants.{SetLock, DelLock};
-    ghost use Rattle.cluster_world.specs.Playing.{Keeps};
     ghost use Rattle.cluster_world.specs.Seats.{holder_of, replies_of, Grows, SetsLock, DeletesLock};
 
     type Fault = SeatFault;
@@ -220,7 +272,7 @@ impl<'a, N: Names<Memory = Global>> LockSeat for WorldSeat<'a, N> {
         retries: Retries,
     ) -> Result<bool, SeatFault> {
         let Ok(nodes) = nodes.copy() else {
-            return Err(SeatFault::NoMemory);
+            return Err(unmade(self.world.set_refusal(&self.holder, id, nodes)));
         };
         let call = Call::SetLock(self.holder.copy(), id.copy(), nodes, retries);
         let granted = self.call(call)?;
@@ -231,7 +283,7 @@ impl<'a, N: Names<Memory = Global>> LockSeat for WorldSeat<'a, N> {
 
     fn del_lock(&mut self, id: &LockId, nodes: &Nodes) -> Result<(), SeatFault> {
         let Ok(nodes) = nodes.copy() else {
-            return Err(SeatFault::NoMemory);
+            return Err(unmade(self.world.deletion_refusal(&self.holder, id)));
         };
         let call = Call::DelLock(self.holder.copy(), id.copy(), nodes);
         self.call(call)?;

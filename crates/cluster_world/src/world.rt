@@ -1,9 +1,10 @@
 //! A world of up to eight names of nodes.
-ghost use Rattle.std.specs.Prelude.{◌≡◌, ◌<◌, ◌≤◌, ◌-◌, ◌^◌, [], ◌∷◌, ◌++◌, length, slice_set, slice_index_or, min, map, None, OnOk};
+ghost use Rattle.std.specs.Prelude.{◌≡◌, ◌<◌, ◌≤◌, ◌-◌, ◌^◌, [], ◌∷◌, ◌++◌, length, slice_set, slice_index_or, min, map, None, OnOk, OnErr};
 ghost use Rattle.std.specs.List.{All};
 ghost use Rattle.term.specs.NodeSets.{with_older, succeeded};
 ghost use Rattle.cluster_world.specs.NodeCoreHeld.{HaveLeft, IsNext};
 ghost use Rattle.node_core.specs.Rare.{most_entries};
+ghost use Rattle.world_history.specs.declared.entry.HistoryEntry.{HistoryEntry};
 ghost use Rattle.cluster_world.specs.Mail.{links_of};
 ghost use Rattle.cluster_world.specs.Restarting.{CanReplace, replaced_in};
 ghost use Rattle.cluster_world.specs.Seen.{is_holding};
@@ -87,6 +88,25 @@ fn make_room<N: Names<Memory = Global>>(
     history.reserve(core.most_entries(), core.node())
 }
 
+/// Enters that the name of a node comes back, whose next node this is: all that was sent is on its links then. Where memory is
+/// refused nothing is entered, and what the world holds stays.
+fn enter_restart(
+    links: &mut Mail,
+    history: &mut History,
+    older: &Node,
+    next: &Node,
+) -> Result<(), AllocError>
+    ensures nodes { links.new.nodes ≡ links.old.nodes }
+    ensures departed { links.new.departed ≡ links.old.departed }
+    ensures links { links_of links.new ≡ links_of links.old }
+    ensures all { OnOk result (links.new.unsent ≡ None) }
+    ensures entered { OnOk result (history.new.entries ≡ history.old.entries ++ HistoryEntry.Restart next.now ∷ []) }
+    ensures unchanged { OnErr result (history.new.entries ≡ history.old.entries) }
+{
+    links.drain()?;
+    history.enter_restart(older, next)
+}
+
 /// A core takes the next node of a name in place of the one before it, unless its own node has left.
 fn replace_one<N: Names<Memory = Global>>(
     core: &mut NodeCore<N>,
@@ -135,7 +155,7 @@ fn put_core<N: Names<Memory = Global>>(
 }
 
 impl<N: Names<Memory = Global>> World<N> {
-    ghost use Rattle.std.specs.Prelude.{ℕ, true, false, [], ◌∷◌, Some, None, take, is_some, OnErr, IfOk, IfErr, IfSome, MatchOption};
+    ghost use Rattle.std.specs.Prelude.{ℕ, true, false, [], ◌∷◌, Some, None, take, is_some, IfOk, IfErr, IfSome, MatchOption};
     ghost use Rattle.std.specs.Option.{option_copied};
     ghost use Rattle.protocol_model.specs.World.{holder, left};
     ghost use Rattle.creations.specs.NamedWorld.{present_node};
@@ -148,22 +168,28 @@ impl<N: Names<Memory = Global>> World<N> {
     ghost use Rattle.cluster_world.specs.Cores.{core_of};
     ghost use Rattle.cluster_world.specs.Links.{IsFirstSender};
     ghost use Rattle.cluster_world.specs.Seen.{names_of, opening_of, seen, named};
+    ghost use Rattle.world_events.specs.declared.events.Event.{Event as NodeEvent};
+    ghost use Rattle.world_events.specs.Events.{knows_contact};
     ghost use Rattle.world_events.specs.Refusals.{is_memory};
     ghost use Rattle.cluster_world.specs.Steps.{IsAdmitted, AreFew};
     ghost use Rattle.cluster_world.specs.Playing.{Keeps, Played, RefusedWith, Ran, WaitsOn};
     ghost use Rattle.cluster_world.specs.Agreeing.{Agrees};
     ghost use Rattle.cluster_world.specs.Locks.{LocksBehind};
     ghost use Rattle.cluster_world.specs.Leftovers.{LeavesNothing};
-    ghost use Rattle.cluster_world.specs.Restarting.{IsFirstUntold};
+    ghost use Rattle.cluster_world.specs.Restarting.{IsFirstUntold, EntersRestart};
     ghost use Rattle.cluster_world.specs.Settling.{IsNextLetter, HasNext, DeliversNext};
 
-    /// The place of the node that an event of a node is played at, or why the event is refused. It takes no memory.
-    fn admit_own(&self, node: &Node, event: &Event) -> Result<usize, Refusal>
-        ensures ok { IfOk result (λ place. IsAdmitted place (WorldEvent.At node.now event.now) self.now) }
-        ensures refused { IfErr result (λ refusal. RefusedWith refusal (WorldEvent.At node.now event.now) self.now) }
+    /// The place of a node that runs, or why its events are refused: those whose contact, if they have one, has started. It takes
+    /// no memory.
+    pub(crate) fn running(&self, node: &Node) -> Result<usize, Refusal>
+        ensures ok { IfOk result (λ place. (place_in node.now (nodes_of self.now) ≡ Some place)
+            × (with_older self.now.links.departed node.now ≡ false)) }
+        ensures refused { IfErr result (λ refusal. (event : NodeEvent) → knows_contact (nodes_of self.now) event ≡ true
+            → RefusedWith refusal (WorldEvent.At node.now event) self.now) }
+        ensures left { HaveLeft (nodes_of self.now) self.now.links.departed }
     {
         let nodes = self.links.nodes();
-        if !nodes.reaches(node) || !event.knows_contact(nodes) {
+        if !nodes.reaches(node) {
             return Err(Refusal::NoSuchNode);
         }
         // An older node than the one at present has left.
@@ -173,6 +199,18 @@ impl<N: Names<Memory = Global>> World<N> {
         if self.links.has_left(node) {
             return Err(Refusal::NodeLeft);
         }
+        Ok(place)
+    }
+
+    /// The place of the node that an event of a node is played at, or why the event is refused. It takes no memory.
+    fn admit_own(&self, node: &Node, event: &Event) -> Result<usize, Refusal>
+        ensures ok { IfOk result (λ place. IsAdmitted place (WorldEvent.At node.now event.now) self.now) }
+        ensures refused { IfErr result (λ refusal. RefusedWith refusal (WorldEvent.At node.now event.now) self.now) }
+    {
+        if !event.knows_contact(self.links.nodes()) {
+            return Err(Refusal::NoSuchNode);
+        }
+        let place = self.running(node)?;
         match self.cores[place].refusal(event.cause()) {
             Some(fault) => Err(Refusal::Step(fault)),
             None => Ok(place),
@@ -361,6 +399,7 @@ impl<N: Names<Memory = Global>> World<N> {
         requires { IsAdmitted place (WorldEvent.Restart name.now) self.old }
         ensures kept { Keeps self.old self.new }
         ensures ok { OnOk result (Played (WorldEvent.Restart name.now) self.old self.new [] []) }
+        ensures entered { OnOk result (EntersRestart (WorldEvent.Restart name.now) self.old self.new) }
         ensures as_before { OnErr result (named self.new ≡ named self.old) }
     {
         let alloc: Global = *self.cores.allocator();
@@ -368,8 +407,7 @@ impl<N: Names<Memory = Global>> World<N> {
         let Some(next) = older.next() else {
             unreachable!()
         };
-        self.links.drain()?;
-        self.history.enter_restart(&older, &next)?;
+        enter_restart(&mut self.links, &mut self.history, &older, &next)?;
         self.links.reopen(&older, &next);
         replace_in(
             self.cores.as_mut_slice(),
@@ -392,6 +430,7 @@ impl<N: Names<Memory = Global>> World<N> {
         requires { IsAdmitted place event.now self.old }
         ensures kept { Keeps self.old self.new }
         ensures ok { IfOk result (λ answers. Played event.now self.old self.new [] answers.items) }
+        ensures entered { OnOk result (EntersRestart event.now self.old self.new) }
         ensures few { IfOk result (λ answers. AreFew place self.old answers.items) }
         ensures as_before { OnErr result (named self.new ≡ named self.old) }
     {
@@ -406,7 +445,7 @@ impl<N: Names<Memory = Global>> World<N> {
     }
 
     /// Plays one event, and gives what its step answers. A refused event changes nothing. So it is where `Memory` is refused, too: the
-    /// event may be played again later, and nothing is lost.
+    /// event may be played again later, and nothing is lost. Where a name comes back the history says so by one entry.
     ///
     /// Whatever was played on a world since it opened, the headline holds behind that and this event: the answers to name
     /// calls and joins are those of one sequential registry that takes the granted operations in lock order, and whenever the
@@ -423,6 +462,7 @@ impl<N: Names<Memory = Global>> World<N> {
         ensures still_locks { OnErr result (LocksBehind [] self.old self.new) }
         ensures still_leaves_nothing { OnErr result (LeavesNothing [] self.old self.new) }
         ensures ok { IfOk result (λ answers. Played event.now self.old self.new [] answers.items) }
+        ensures entered { OnOk result (EntersRestart event.now self.old self.new) }
         ensures refused { IfErr result (λ refusal. RefusedWith refusal event.now self.old) }
         ensures unchanged { IfErr result (λ refusal. is_memory refusal ≡ false → self.new ≡ self.old) }
         ensures as_before { OnErr result (named self.new ≡ named self.old) }

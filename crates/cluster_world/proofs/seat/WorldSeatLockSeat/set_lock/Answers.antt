@@ -1,4 +1,5 @@
-use Rattle.std.proofs.Common.{◌≡◌, ◌∙◌, ◌++◌, ◌∷◌, [], List, ap, subst, Some}
+use Rattle.std.proofs.Common.{◌≡◌, ◌∙◌, ◌++◌, ◌∷◌, [], List, ap, refl, subst, sym, Some}
+use Rattle.std.proofs.lemmas.List.{append-nil}
 use Rattle.term.specs.declared.lock_id.LockId.{LockId}
 use Rattle.transaction.specs.declared.nodes.Nodes.{Nodes}
 use Rattle.transaction.specs.declared.reply.LockReply.{LockReply}
@@ -6,7 +7,8 @@ use Rattle.transaction.specs.declared.reply.LockReply.TheVariants.{Set}
 use Rattle.registry_model.specs.Process.{Process}
 use Rattle.node_core.specs.declared.Call.{Call}
 use Rattle.node_core.specs.declared.Call.TheVariants.{SetLock}
-use Rattle.cluster_world.specs.Seats.{most_events, Called}
+use Rattle.cluster_world.specs.Seats.{most_events, Called, Unanswered}
+use Rattle.cluster_world.proofs.Unmade.{unmade_call}
 use Rattle.cluster_world.proofs.seat.WorldSeatLockSeat.set_lock.Goals as goal
 
 pub returns : goal.returns
@@ -27,3 +29,13 @@ returns g c =
       subst (λ (k : Call). Called c.args.self.now.holder.node k most_events c.args.self.now.world.now c.call.new.self.world.now
           (Some c.in_ok-granted.granted)) call c.in_ok-granted.ensures.called,
     )
+
+pub returns-in_default : goal.returns-in_default
+returns-in_default g c = (
+  record { replies = sym (append-nil c.args.self.now.replies.items); holder = refl; same_world = refl },
+  record { names = refl; cluster = refl },
+  subst (Unanswered c.args.self.now.holder.node (SetLock c.args.self.now.holder c.args.id.now c.args.nodes.now c.args.retries)
+      c.args.self.now.world.now c.args.self.now.world.now) (sym c.unmade.ensures)
+      (unmade_call c.args.self.now.holder.node (SetLock c.args.self.now.holder c.args.id.now c.args.nodes.now c.args.retries)
+      c.args.self.now.world.now c.set_refusal.result (c.set_refusal.ensures c.args.retries) c.in_default.ensures.named),
+)

@@ -1,102 +1,71 @@
-use Rattle.std.proofs.Common.{ℕ, Bool, true, false, ◌≡◌, ◌∙◌, List, Some, refl, ap, sym, subst}
+use Rattle.std.proofs.Common.{ℕ, Bool, true, false, ◌≡◌, ◌∙◌, List, get_or, refl, ap, sym, subst}
 use Rattle.std.specs.Prelude.{◌&&◌}
+use Rattle.std.proofs.lemmas.Result.{err_from_is_err_and}
 use Rattle.term.specs.NodeSets.{with_older}
-use Rattle.node_core.specs.declared.Event.{Event as NodeEvent}
-use Rattle.node_core.specs.Steps.{refusal_of}
-use Rattle.world_events.specs.declared.events.WorldEvent.TheVariants.{At}
-use Rattle.world_events.specs.declared.refusal.Refusal.TheVariants.{NoSuchNode, NodeLeft, Step}
-use Rattle.world_events.specs.Events.{knows_contact}
-use Rattle.cluster_world.proofs.Listed.{no_place}
-use Rattle.cluster_world.proofs.Plays.{refuses_strange, refuses_gone, refuses_step, free_by_node}
 use Rattle.link.specs.Held.{place}
+use Rattle.node_core.specs.declared.Event.{Event as NodeEvent}
 use Rattle.node_core.specs.Held.{HaveLeft}
+use Rattle.node_core.specs.Steps.{refusal_of}
 use Rattle.world_events.specs.declared.events.Event.{Event}
+use Rattle.world_events.specs.declared.events.WorldEvent.TheVariants.{At}
+use Rattle.world_events.specs.declared.refusal.Refusal.TheVariants.{NoSuchNode}
+use Rattle.world_events.specs.Events.{knows_contact}
 use Rattle.cluster_world.specs.Held.{Held, nodes_of}
 use Rattle.cluster_world.specs.Playing.{RefusedWith}
-use Rattle.cluster_world.specs.Steps.{IsAdmitted}
 use Rattle.cluster_world.specs.Whole.{IsWhole}
-use Rattle.cluster_world.proofs.Posting.{closed_is}
-use Rattle.cluster_world.proofs.Taking.{refused}
+use Rattle.cluster_world.proofs.Plays.{refuses_strange, refuses_step, free_by_node}
 use Rattle.cluster_world.proofs.world.World.admit_own.Goals as goal
-use Rattle.cluster_world.proofs.world.World.admit_own.Goals.{then-not-reaches-via-then-not-reaches, then-not-reaches-via-else-not-reaches+then-not-knows_contact}
 
--- a node that is unknown, or has left, where what is held is whole
-strange : (h : Held) → IsWhole h → HaveLeft (nodes_of h) h.links.departed → (a : ℕ) (e : Event)
-    → (with_older (nodes_of h) a && knows_contact (nodes_of h) e) ≡ false → RefusedWith NoSuchNode (At a e) h
-strange h whole left a e s = refuses_strange h left a e s
+-- the contact of the event is unknown
+strange : (old h : Held) → h ≡ old → HaveLeft (nodes_of h) h.links.departed → (a : ℕ) (e : Event)
+    → knows_contact (nodes_of h) e ≡ false → RefusedWith NoSuchNode (At a e) old
+strange old h same left a e none = subst (RefusedWith NoSuchNode (At a e)) same
+    (refuses_strange h left a e (and_false (with_older (nodes_of h) a) (knows_contact (nodes_of h) e) none))
+  where
+    and_false : (b d : Bool) → d ≡ false → (b && d) ≡ false
+    and_false true d e = e
+    and_false false d e = refl
 
-gone : (h : Held) → IsWhole h → HaveLeft (nodes_of h) h.links.departed → (a : ℕ) (e : Event) → with_older (nodes_of h) a ≡ true
-    → knows_contact (nodes_of h) e ≡ true → with_older h.links.departed a ≡ true → RefusedWith NodeLeft (At a e) h
-gone h whole left a e x y z = refuses_gone h left a e x y z
+pub returns-then-not-knows_contact-clause-refused : goal.returns-then-not-knows_contact-clause-refused
+returns-then-not-knows_contact-clause-refused g c =
+    strange c.args.self.now _ c.self.view_is c.nodes.ensures.left c.args.node.now c.args.event.now
+    (ap (λ (ns : List ℕ). knows_contact ns c.args.event.now) (sym c.nodes.ensures.nodes)
+    ∙ sym c.knows_contact.ensures ∙ c.if-not-knows_contact.true)
 
-and_false : (b d : Bool) → d ≡ false → (b && d) ≡ false
-and_false true d e = e
-and_false false d e = refl
+pub returns-in_err-place-clause-refused : goal.returns-in_err-place-clause-refused
+returns-in_err-place-clause-refused g c =
+    let why : RefusedWith c.in_err-place.field-0.0 (At c.args.node.now c.args.event.now) c.args.self.now =
+    c.in_err-place.ensures.refused c.args.event.now
+    (ap (λ (h : Held). knows_contact (nodes_of h) c.args.event.now) (sym c.self.view_is)
+    ∙ ap (λ (ns : List ℕ). knows_contact ns c.args.event.now) (sym c.nodes.ensures.nodes)
+    ∙ sym c.knows_contact.ensures ∙ c.if-not-knows_contact.false) in
+    let p = err_from_is_err_and c.from_residual.result c.from_residual.ensures.1 in
+    rw (p.1, p.2) why
 
-pub returns-then-not-reaches-clause-refused : goal.returns-then-not-reaches-clause-refused
-returns-then-not-reaches-clause-refused g c = elim c.then-not-reaches.branch [
-  | then-not-reaches-via-then-not-reaches w ↦
-      refused c.args.self.now _ c.self.view_is NoSuchNode (At c.args.node.now c.args.event.now)
-      (strange _ c.self.invariant c.nodes-nodes.ensures.left c.args.node.now c.args.event.now
-      (ap (λ (b : Bool). b && knows_contact c.self.inside.links.nodes c.args.event.now)
-      (ap (λ (ns : List ℕ). with_older ns c.args.node.now) (sym c.nodes-nodes.ensures.nodes)
-      ∙ sym c.reaches.ensures ∙ w.if-not-reaches.true)))
-  | then-not-reaches-via-else-not-reaches+then-not-knows_contact w ↦
-      refused c.args.self.now _ c.self.view_is NoSuchNode (At c.args.node.now c.args.event.now)
-      (strange _ c.self.invariant c.nodes-nodes.ensures.left c.args.node.now c.args.event.now
-      (and_false (with_older c.self.inside.links.nodes c.args.node.now) (knows_contact c.self.inside.links.nodes c.args.event.now)
-      (ap (λ (ns : List ℕ). knows_contact ns c.args.event.now) (sym c.nodes-nodes.ensures.nodes)
-      ∙ sym w.knows_contact.ensures ∙ w.if-not-knows_contact.true)))
-]
-
-pub returns-in_default-clause-refused : goal.returns-in_default-clause-refused
-returns-in_default-clause-refused g c =
-    let here : with_older c.self.inside.links.nodes c.args.node.now ≡ true =
-    ap (λ (ns : List ℕ). with_older ns c.args.node.now) (sym c.nodes-nodes.ensures.nodes)
-    ∙ sym c.reaches.ensures ∙ c.if-not-reaches.false in
-    refused c.args.self.now _ c.self.view_is NodeLeft (At c.args.node.now c.args.event.now)
-    (gone _ c.self.invariant c.nodes-nodes.ensures.left c.args.node.now c.args.event.now here
-    (ap (λ (ns : List ℕ). knows_contact ns c.args.event.now) (sym c.nodes-nodes.ensures.nodes) ∙ sym c.knows_contact.ensures
-    ∙ c.if-not-knows_contact.false)
-    (c.nodes-nodes.ensures.left.older c.args.node.now here (no_place c.self.inside.links.nodes c.args.node.now
-    (ap (λ (ns : List ℕ). place c.args.node.now ns) (sym c.nodes-nodes.ensures.nodes) ∙ sym c.position.ensures ∙ c.in_default.is))))
-
-pub returns-then-has_left-clause-refused : goal.returns-then-has_left-clause-refused
-returns-then-has_left-clause-refused g c =
-    refused c.args.self.now _ c.self.view_is NodeLeft (At c.args.node.now c.args.event.now)
-    (gone _ c.self.invariant c.nodes-nodes.ensures.left c.args.node.now c.args.event.now
-    (ap (λ (ns : List ℕ). with_older ns c.args.node.now) (sym c.nodes-nodes.ensures.nodes)
-    ∙ sym c.reaches.ensures ∙ c.if-not-reaches.false)
-    (ap (λ (ns : List ℕ). knows_contact ns c.args.event.now) (sym c.nodes-nodes.ensures.nodes) ∙ sym c.knows_contact.ensures
-    ∙ c.if-not-knows_contact.false)
-    (ap (λ (s : ℕ → Bool). s c.args.node.now) (sym (closed_is c.self.inside.links)) ∙ sym c.has_left.ensures ∙ c.if-has_left.true))
-
-pub returns-in-Some-refusal-clause-refused : goal.returns-in-Some-refusal-clause-refused
-returns-in-Some-refusal-clause-refused g c =
-    refused c.args.self.now _ c.self.view_is (Step c.in-Some-refusal.fault) (At c.args.node.now c.args.event.now)
-    (refuses_step _ c.self.invariant c.nodes-nodes.ensures.left c.args.node.now c.in-Some.place c.args.event.now c.index.result.now
-    (ap (λ (ns : List ℕ). place c.args.node.now ns) (sym c.nodes-nodes.ensures.nodes) ∙ sym c.position.ensures ∙ c.in-Some.is)
-    c.index.ensures
-    (ap (λ (ns : List ℕ). knows_contact ns c.args.event.now) (sym c.nodes-nodes.ensures.nodes) ∙ sym c.knows_contact.ensures
-    ∙ c.if-not-knows_contact.false)
-    (ap (λ (s : ℕ → Bool). s c.args.node.now) (sym (closed_is c.self.inside.links)) ∙ sym c.has_left.ensures ∙ c.if-has_left.false)
-    c.in-Some-refusal.fault
-    (ap (λ (e : NodeEvent). refusal_of e c.index.result.now) (sym c.cause.ensures) ∙ c.in-Some-refusal.ensures.cause))
+pub returns-in-Some-clause-refused : goal.returns-in-Some-clause-refused
+returns-in-Some-clause-refused g c =
+    refuses_step c.args.self.now (subst IsWhole c.self.view_is c.self.invariant) c.in_ok-place.ensures.left
+    c.args.node.now c.in_ok-place.place c.args.event.now c.index.result.now c.in_ok-place.ensures.ok.0
+    (subst (λ (h : Held). c.index.result.now ≡ get_or h.cores c.in_ok-place.place c.index.result.now) c.self.view_is
+    c.index.ensures)
+    (ap (λ (h : Held). knows_contact (nodes_of h) c.args.event.now) (sym c.self.view_is)
+    ∙ ap (λ (ns : List ℕ). knows_contact ns c.args.event.now) (sym c.nodes.ensures.nodes)
+    ∙ sym c.knows_contact.ensures ∙ c.if-not-knows_contact.false)
+    c.in_ok-place.ensures.ok.1 c.in-Some.fault
+    (ap (λ (e : NodeEvent). refusal_of e c.index.result.now) (sym c.cause.ensures) ∙ c.in-Some.ensures.cause)
 
 pub returns-in-None-clause-ok : goal.returns-in-None-clause-ok
-returns-in-None-clause-ok g c =
-    let there : place c.args.node.now c.self.inside.links.nodes ≡ Some c.in-Some.place =
-    ap (λ (ns : List ℕ). place c.args.node.now ns) (sym c.nodes-nodes.ensures.nodes) ∙ sym c.position.ensures ∙ c.in-Some.is in
-    subst (λ (h : Held). IsAdmitted c.in-Some.place (At c.args.node.now c.args.event.now) h) c.self.view_is
-    (record {
-      node = c.args.node.now;
-      place = there;
-      own = refl;
-      accepted = free_by_node _ c.self.invariant c.nodes-nodes.ensures.left c.args.node.now c.in-Some.place c.args.event.now
-          c.index.result.now there c.index.ensures
-          (ap (λ (ns : List ℕ). knows_contact ns c.args.event.now) (sym c.nodes-nodes.ensures.nodes) ∙ sym c.knows_contact.ensures
-          ∙ c.if-not-knows_contact.false)
-          (ap (λ (s : ℕ → Bool). s c.args.node.now) (sym (closed_is c.self.inside.links)) ∙ sym c.has_left.ensures
-          ∙ c.if-has_left.false)
-          (ap (λ (e : NodeEvent). refusal_of e c.index.result.now) (sym c.cause.ensures) ∙ c.in-None.ensures.cause);
-    })
+returns-in-None-clause-ok g c = record {
+  node = c.args.node.now;
+  place = c.in_ok-place.ensures.ok.0;
+  own = refl;
+  accepted = free_by_node c.args.self.now (subst IsWhole c.self.view_is c.self.invariant) c.in_ok-place.ensures.left
+      c.args.node.now c.in_ok-place.place c.args.event.now c.index.result.now c.in_ok-place.ensures.ok.0
+      (subst (λ (h : Held). c.index.result.now ≡ get_or h.cores c.in_ok-place.place c.index.result.now) c.self.view_is
+      c.index.ensures)
+      (ap (λ (h : Held). knows_contact (nodes_of h) c.args.event.now) (sym c.self.view_is)
+      ∙ ap (λ (ns : List ℕ). knows_contact ns c.args.event.now) (sym c.nodes.ensures.nodes)
+      ∙ sym c.knows_contact.ensures ∙ c.if-not-knows_contact.false)
+      c.in_ok-place.ensures.ok.1
+      (ap (λ (e : NodeEvent). refusal_of e c.index.result.now) (sym c.cause.ensures) ∙ c.in-None.ensures.cause);
+}

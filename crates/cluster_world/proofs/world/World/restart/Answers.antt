@@ -1,9 +1,9 @@
-use Rattle.std.proofs.Common.{ℕ, ◌≡◌, ◌∙◌, List, get_or, map, refl, ap}
+use Rattle.std.proofs.Common.{ℕ, ◌≡◌, ◌∙◌, List, get_or, map, ap}
 use Rattle.std.proofs.lemmas.Result.{err_from_is_err_and}
 use Rattle.term.specs.NodeSets.{succeeded}
 use Rattle.cluster_world.specs.Restarting.{replaced_in}
 use Rattle.cluster_world.specs.Seen.{named}
-use Rattle.cluster_world.proofs.Returning.{read_at, slice_is, slice_put, not_last, long_then, older_known, older_left, were_told, next_known, next_stays, restarted_whole, restarted_played}
+use Rattle.cluster_world.proofs.Returning.{read_at, slice_is, slice_put, not_last, long_then, older_known, older_left, were_told, next_known, next_stays, restarted_whole, restarted_played, restarted_entered}
 use Rattle.cluster_world.proofs.Steps.{rested, rested_whole}
 use Rattle.cluster_world.proofs.world.World.restart.Given.{Over}
 use Rattle.cluster_world.proofs.world.World.restart.Goals as goal
@@ -18,23 +18,14 @@ unreachable-requires g c =
 
 pub invariant_of-self : goal.invariant_of-self
 invariant_of-self g c =
-    rested_whole _ c.self.invariant c.drain.new.self _ c.drain.ensures.nodes c.drain.ensures.links refl
-
-pub returns-in_err-drain-clause-as_before : goal.returns-in_err-drain-clause-as_before
-returns-in_err-drain-clause-as_before g c =
-    let p = err_from_is_err_and c.from_residual.result c.from_residual.ensures.1 in
-    rw p.1 (rested _ c.self.invariant c.drain.new.self _ c.drain.ensures.nodes c.drain.ensures.links refl ∙ ap named c.self.view_is)
-
-pub invariant_of-self-in_err-enter_restart : goal.invariant_of-self-in_err-enter_restart
-invariant_of-self-in_err-enter_restart g c =
-    rested_whole _ c.self.invariant c.drain.new.self c.enter_restart.new.self.entries c.drain.ensures.nodes c.drain.ensures.links
-    c.in_err-enter_restart.ensures.unchanged
+    rested_whole _ c.self.invariant c.enter_restart.new.links c.enter_restart.new.history.entries c.enter_restart.ensures.nodes
+    c.enter_restart.ensures.links c.in_err-enter_restart.ensures.unchanged
 
 pub returns-in_err-enter_restart-clause-as_before : goal.returns-in_err-enter_restart-clause-as_before
 returns-in_err-enter_restart-clause-as_before g c =
-    let p = err_from_is_err_and c.from_residual-in_err-enter_restart.result c.from_residual-in_err-enter_restart.ensures.1 in
-    rw p.1 (rested _ c.self.invariant c.drain.new.self c.enter_restart.new.self.entries c.drain.ensures.nodes c.drain.ensures.links
-    c.in_err-enter_restart.ensures.unchanged ∙ ap named c.self.view_is)
+    let p = err_from_is_err_and c.from_residual.result c.from_residual.ensures.1 in
+    rw p.1 (rested _ c.self.invariant c.enter_restart.new.links c.enter_restart.new.history.entries c.enter_restart.ensures.nodes
+    c.enter_restart.ensures.links c.in_err-enter_restart.ensures.unchanged ∙ ap named c.self.view_is)
 
 pub reopen-requires-clause-present : goal.reopen-requires-clause-present
 reopen-requires-clause-present g c =
@@ -43,7 +34,7 @@ reopen-requires-clause-present g c =
     (read_at c.as_slice.result.now c.nodes.result.now c.self.inside.links.nodes c.args.place c.copy-older.result
     c.index-as_slice-place.result
     c.copy-older.ensures c.index-as_slice-place.is c.as_slice.ensures.nodes c.nodes.ensures.nodes)
-    c.drain.new.self c.drain.ensures.nodes
+    c.enter_restart.new.links c.enter_restart.ensures.nodes
 
 pub reopen-requires-clause-left : goal.reopen-requires-clause-left
 reopen-requires-clause-left g c =
@@ -52,7 +43,7 @@ reopen-requires-clause-left g c =
     (read_at c.as_slice.result.now c.nodes.result.now c.self.inside.links.nodes c.args.place c.copy-older.result
     c.index-as_slice-place.result
     c.copy-older.ensures c.index-as_slice-place.is c.as_slice.ensures.nodes c.nodes.ensures.nodes)
-    c.drain.new.self c.drain.ensures.departed
+    c.enter_restart.new.links c.enter_restart.ensures.departed
 
 pub replace_in-requires-clause-told : goal.replace_in-requires-clause-told
 replace_in-requires-clause-told g c =
@@ -62,7 +53,7 @@ replace_in-requires-clause-told g c =
     c.index-as_slice-place.result
     c.copy-older.ensures c.index-as_slice-place.is c.as_slice.ensures.nodes c.nodes.ensures.nodes)
     c.departed.result.now c.as_mut_slice.result.now (c.departed.ensures.departed ∙
-    (c.reopen.ensures.departed ∙ c.drain.ensures.departed)) c.as_mut_slice.ensures.value
+    (c.reopen.ensures.departed ∙ c.enter_restart.ensures.departed)) c.as_mut_slice.ensures.value
 
 pub come_back-core-requires-clause-known : goal.come_back-core-requires-clause-known
 come_back-core-requires-clause-known g c =
@@ -72,7 +63,7 @@ come_back-core-requires-clause-known g c =
     c.index-as_slice-place.result
     c.copy-older.ensures c.index-as_slice-place.is c.as_slice.ensures.nodes c.nodes.ensures.nodes)
     c.in-Some.next c.in-Some.ensures.1 c.nodes-2.result.now (c.nodes-2.ensures.nodes ∙
-    (c.reopen.ensures.nodes ∙ ap (succeeded c.copy-older.result c.in-Some.next) c.drain.ensures.nodes))
+    (c.reopen.ensures.nodes ∙ ap (succeeded c.copy-older.result c.in-Some.next) c.enter_restart.ensures.nodes))
 
 pub come_back-core-requires-clause-stays : goal.come_back-core-requires-clause-stays
 come_back-core-requires-clause-stays g c =
@@ -82,7 +73,7 @@ come_back-core-requires-clause-stays g c =
     c.index-as_slice-place.result
     c.copy-older.ensures c.index-as_slice-place.is c.as_slice.ensures.nodes c.nodes.ensures.nodes)
     c.in-Some.next c.in-Some.ensures.1 c.departed-2.result.now
-    (c.departed-2.ensures.departed ∙ (c.reopen.ensures.departed ∙ c.drain.ensures.departed))
+    (c.departed-2.ensures.departed ∙ (c.reopen.ensures.departed ∙ c.enter_restart.ensures.departed))
 
 pub put_core-requires : goal.put_core-requires
 put_core-requires g c =
@@ -117,10 +108,10 @@ module _ (g : Over) (c : goal.After-self-2-1 g) where
       c.copy-older.ensures c.index-as_slice-place.is c.as_slice.ensures.nodes c.nodes.ensures.nodes
 
   left : c.reopen.new.self.departed ≡ departed
-  left = c.reopen.ensures.departed ∙ c.drain.ensures.departed
+  left = c.reopen.ensures.departed ∙ c.enter_restart.ensures.departed
 
   later : c.reopen.new.self.nodes ≡ succeeded older next nodes
-  later = c.reopen.ensures.nodes ∙ ap (succeeded older next) c.drain.ensures.nodes
+  later = c.reopen.ensures.nodes ∙ ap (succeeded older next) c.enter_restart.ensures.nodes
 
   took : c.as_mut_slice-2.result.now ≡ map (replaced_in c.departed.result.now older next) c.self.inside.cores.items
   took = slice_is c.departed.result.now older next c.self.inside.cores.len c.self.inside.cores.items c.replace_in.new.cores
@@ -131,27 +122,32 @@ pub invariant_of-self-2 : goal.invariant_of-self-2
 invariant_of-self-2 g c =
     restarted_whole c.args.self.now _ c.self.view_is c.self.invariant c.nodes.ensures.left c.args.place c.args.name.now (older g c)
     c.requires (at g c) (next g c) c.in-Some.ensures.1 c.departed.result.now c.departed-2.result.now c.nodes-2.result.now
-    c.as_mut_slice-2.result.now _ _ c.reopen.new.self c.enter_restart.new.self.entries c.come_back-core.result
+    c.as_mut_slice-2.result.now _ _ c.reopen.new.self c.enter_restart.new.history.entries c.come_back-core.result
     (c.departed.ensures.departed ∙ left g c) (c.departed-2.ensures.departed ∙ left g c) (c.nodes-2.ensures.nodes ∙ later g c)
     (took g c)
     c.come_back-core.ensures (slice_put c.departed.result.now (older g c) (next g c) c.self.inside.cores.len c.args.place
     c.self.inside.cores.items
     c.as_mut_slice-2.result.now c.put_core.new.cores _ c.come_back-core.result (took g c) c.self.inside.cores.ok.0
-    c.put_core.ensures.cores) c.put_core.ensures.past (later g c) (left g c) (c.reopen.ensures.links ∙ c.drain.ensures.links)
-    c.in_ok-enter_restart.ensures.entries
+    c.put_core.ensures.cores) c.put_core.ensures.past (later g c) (left g c)
+    (c.reopen.ensures.links ∙ c.enter_restart.ensures.links) c.in_ok-enter_restart.ensures.entered
 
 pub returns-clause-ok : goal.returns-clause-ok
 returns-clause-ok g c =
     restarted_played c.args.self.now _ c.self.view_is c.self.invariant c.nodes.ensures.left c.args.place c.args.name.now (older g c)
     c.requires (at g c) (next g c) c.in-Some.ensures.1 c.departed.result.now c.departed-2.result.now c.nodes-2.result.now
-    c.as_mut_slice-2.result.now _ _ c.reopen.new.self c.enter_restart.new.self.entries c.come_back-core.result
+    c.as_mut_slice-2.result.now _ _ c.reopen.new.self c.enter_restart.new.history.entries c.come_back-core.result
     (c.departed.ensures.departed ∙ left g c) (c.departed-2.ensures.departed ∙ left g c) (c.nodes-2.ensures.nodes ∙ later g c)
     (took g c)
     c.come_back-core.ensures (slice_put c.departed.result.now (older g c) (next g c) c.self.inside.cores.len c.args.place
     c.self.inside.cores.items
     c.as_mut_slice-2.result.now c.put_core.new.cores _ c.come_back-core.result (took g c) c.self.inside.cores.ok.0
-    c.put_core.ensures.cores) c.put_core.ensures.past (later g c) (left g c) (c.reopen.ensures.links ∙ c.drain.ensures.links)
-    c.in_ok-enter_restart.ensures.entries
+    c.put_core.ensures.cores) c.put_core.ensures.past (later g c) (left g c)
+    (c.reopen.ensures.links ∙ c.enter_restart.ensures.links) c.in_ok-enter_restart.ensures.entered
+
+pub returns-clause-entered : goal.returns-clause-entered
+returns-clause-entered g c =
+    restarted_entered c.args.self.now _ c.self.view_is c.self.invariant c.nodes.ensures.left c.args.place c.args.name.now
+    (older g c) c.requires (at g c) (next g c) c.in-Some.ensures.1 _ c.in_ok-enter_restart.ensures.entered
 
 pub returns-clause-kept : goal.returns-clause-kept
 returns-clause-kept g c =
