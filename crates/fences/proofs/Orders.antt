@@ -65,10 +65,10 @@ pub leads_all : (s : Step) (ts : List Step) → IsInOrder (s ∷ ts) → LeadsAl
 leads_all s [] h = tt
 leads_all s (t ∷ ts) h = (h.0, before_rest s t ts h.0 (leads_all t ts h.1))
 
--- the last of these
-pub leads_last : (s : Step) (us : List Step) (t : Step) → LeadsAll s (us ++ t ∷ []) → is_before s t ≡ true
-leads_last s [] t h = h.0
-leads_last s (u ∷ us) t h = leads_last s us t h.1
+-- so it is before each of them
+pub leads_one : (s : Step) (us : List Step) (t : Step) (ts : List Step) → LeadsAll s (us ++ t ∷ ts) → is_before s t ≡ true
+leads_one s [] t ts h = h.0
+leads_one s (u ∷ us) t ts h = leads_one s us t ts h.1
 
 -- none of these steps is of node a
 abbrev pub AreElsewhere : ℕ → List Step → Type 0
@@ -83,7 +83,7 @@ AreAtMost n (s ∷ ss) = (s.entry.stamp ≤ n) × AreAtMost n ss
 at_most : (n : ℕ) (us : List Step) (t : Step) → t.entry.stamp ≤ n → IsInOrder (us ++ t ∷ []) → AreAtMost n (us ++ t ∷ [])
 at_most n [] t l h = (l, tt)
 at_most n (u ∷ us) t l h = (
-  below u.entry.stamp t.entry.stamp n (is_before_cases u t (leads_last u us t (leads_all u (us ++ t ∷ []) h))) l,
+  below u.entry.stamp t.entry.stamp n (is_before_cases u t (leads_one u us t [] (leads_all u (us ++ t ∷ []) h))) l,
   at_most n us t l (rest_order u (us ++ t ∷ []) h),
 )
   where

@@ -1,5 +1,5 @@
 -- Merged ends are a run, and where places rise as nodes do, numbers rise along it.
-use Rattle.std.proofs.Common.{ℕ, true, ◌≡◌, ◌<◌, inl, inr, List, [], ◌∷◌, ◌++◌, ap, subst, arith}
+use Rattle.std.proofs.Common.{ℕ, true, ◌≡◌, ◌<◌, inl, inr, List, ◌∷◌, ◌++◌, ap, subst, arith}
 use Rattle.std.specs.Prelude.{◌⊎◌}
 use Rattle.protocol_model.specs.World.{Opening, in_world, World, opening_world, run}
 use Rattle.closings.specs.Merging.{Step, is_before, happening, events_in, world_behind, Takes, TakesAll}
@@ -8,7 +8,7 @@ use Rattle.lock_answers.proofs.Events.{accepted_of}
 use Rattle.fences.specs.Grants.{IsRun, fence}
 use Rattle.fences.specs.Laws.{MergedEndsAreRuns, FencesRise, OwnFencesRise}
 use Rattle.fences.proofs.Numbers.{by_stamp, by_place}
-use Rattle.fences.proofs.Orders.{is_before_cases, order_behind, takes_behind, leads_all, LeadsAll}
+use Rattle.fences.proofs.Orders.{is_before_cases, order_behind, takes_behind, leads_all, leads_one}
 
 pub merged_ends_are_runs : MergedEndsAreRuns
 merged_ends_are_runs o logs tables ss C M =
@@ -18,11 +18,6 @@ merged_ends_are_runs o logs tables ss C M =
 pub node_inside : (o : Opening) (w : World) (s : Step) → Takes o w s → in_world o s.node ≡ true
 node_inside o w s T =
     subst (λ (a : ℕ). in_world o a ≡ true) T.own (accepted_of o w (happening s) T.accepted).place_inside
-
--- one of these steps leads those behind it
-pub leads_one : (s : Step) (us : List Step) (t : Step) (ts : List Step) → LeadsAll s (us ++ t ∷ ts) → is_before s t ≡ true
-leads_one s [] t ts h = h.0
-leads_one s (u ∷ us) t ts h = leads_one s us t ts h.1
 
 -- the first of two steps of a run is before the second
 one_before : (o : Opening) (before between later : List Step) (s t : Step) → IsRun o (before ++ (s ∷ between ++ t ∷ later))

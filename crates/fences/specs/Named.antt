@@ -12,13 +12,13 @@ AreTold o w [] = Unit {0}
 AreTold o w (s ∷ ss) = (place (happening s) ≡ s.node) × (s.entry.answers ≡ answers o w (happening s))
     × AreTold o (happens o w (happening s)) ss
 
--- steps by their stamps, and those of one stamp by their nodes, that are all which these events of named nodes are in the world; a
--- restart is there as the deliveries of its notices
+-- a run by names: steps by their stamps, and those of one stamp by their nodes, which are what these events of named nodes are in
+-- the world; a restart is there as the deliveries of its notices
 pub record IsNamedRun (o : NamedOpening) (es : List NamedEvent) (ss : List Step) : Type 0 where
   pub order : IsInOrder ss
   pub events : events_in ss ≡ as_events o es
   pub told : AreTold (opening_of o) (opening_world (opening_of o)) ss
 
--- they are a run
+-- it is a run
 abbrev pub RunsByNamesAreRuns : Type 0
 RunsByNamesAreRuns = (o : NamedOpening) (es : List NamedEvent) (ss : List Step) → IsNamedRun o es ss → IsRun (opening_of o) ss
