@@ -1,5 +1,5 @@
--- Registrars that were refused ask again: what is known of each world behind the quiet one, as long as none of their operations is
--- decided.
+-- Registrars that were refused ask again: what is known of each world behind the quiet one, as long as none of their
+-- operations is decided.
 -- ops: what a node may ask for; c, d and t are nodes, b the boss of a group.
 use mathlib.Core.Logic.{◌⊎◌}
 use Rattle.std.proofs.Common.{ℕ, Bool, true, false, ◌==◌, ◌≡◌, Option, Some, None, List, [], ◌∷◌, ◌++◌, drop, refl, sym, ap, subst, ◌∙◌, inl, inr}

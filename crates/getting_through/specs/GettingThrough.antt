@@ -1,8 +1,7 @@
 -- Whoever retries, someone gets through; and who asks for the global lock alone does. A quiet world is one in which no letter
--- waits; behind
--- it registrars are retried, or a name is called for, and letters are delivered, until none waits again.
--- es: the events so far; w: the world that they made; a and c: nodes; e: the event by which one begins alone; ds: the deliveries
--- behind it.
+-- waits; behind it registrars are retried, or a name is called for, and letters are delivered, until none waits again.
+-- es: the events so far; w: the world that they made; a and c: nodes; e: the event by which one begins alone; ds: the
+-- deliveries behind it.
 use mathlib.Core.Logic.{◌⊎◌}
 use Rattle.std.specs.Prelude.{ℕ, Bool, true, false, ◌+◌, ◌≡◌, Contains, None, List, ◌∷◌, ◌++◌}
 use Rattle.std.specs.List.{list_all}
@@ -29,8 +28,8 @@ is_delivery_or_retry (Deliver f t) = true
 is_delivery_or_retry (At a Event.Retry) = true
 is_delivery_or_retry _ = false
 
--- from a quiet world letters are delivered and nodes retried, a among them, until no letter waits; xs and ys: before and behind a's
--- retry
+-- from a quiet world letters are delivered and nodes retried, a among them, until no letter waits; xs and ys: before
+-- and behind a's retry
 pub record IsStorm (o : Opening) (w : World) (a : ℕ) (xs ys : List WorldEvent) : Type 0 where
   pub before : IsQuiet o w
   pub first : list_all is_delivery_or_retry xs ≡ true
@@ -56,8 +55,7 @@ module _ (o : Opening) (es : List WorldEvent) (w : World) where
   End a (Op.Join k m) fs = ⊥
 
   -- Whoever retries, someone gets through: where one refused registrar is retried, and no letter waits behind that and any
-  -- deliveries and
-  -- other retries, in any order, some registrar that was refused has ended its operation
+  -- deliveries and other retries, in any order, some registrar that was refused has ended its operation
   abbrev pub SomeoneGetsThrough : Type 0
   SomeoneGetsThrough = (a : ℕ) (op : Op) (xs ys : List WorldEvent) → Runs o w a → (w.node a).current ≡ Current.Waiting op →
       IsStorm o w a xs ys → (c : ℕ) × (x : Op) × Runs o w c × ((w.node c).current ≡ Current.Waiting x)

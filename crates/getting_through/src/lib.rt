@@ -1,5 +1,5 @@
-//! Whoever retries, someone gets through; and who asks for the global lock alone does. Each law is the contract of a function with an
-//! empty body.
+//! Whoever retries, someone gets through, and who asks for the global lock alone does. Each law is the contract of a function with
+//! an empty body.
 #![tactic(auto)]
 
 ghost use Rattle.protocol_model.specs.Leftovers.{Always};

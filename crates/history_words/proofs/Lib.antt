@@ -4,3 +4,4 @@ pub mod Entries
 pub mod Acting
 pub mod Stood
 pub mod Lone
+pub mod Beginning

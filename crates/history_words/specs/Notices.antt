@@ -23,8 +23,8 @@ pub record GetsWhatIsSent (table pairs : Table) (p : Process) (gs : List Notice)
   pub sent : (x : Notice) → Contains gs x ↔ IsSent table pairs p x
   pub rise : AllPairs (λ x y. x.name < y.name) gs
 
--- What an entry sends p: a join that is granted what p gets of the joiner's names against those that its contact sees, and any
--- other entry nothing
+-- What an entry sends p: a join that is granted what p gets of the joiner's names against those that its contact sees, and an entry
+-- that is no such join nothing
 pub data SendsNotices (r : Registry) (p : Process) : Entry → List Notice → Type 0 where
   ByJoin : (j k m : ℕ) (gs : List Notice) → GetsWhatIsSent (view r m) (r.lone j) p gs → SendsNotices r p (Join j k m Joined) gs
   ByNone : (e : Entry) → ((j k m : ℕ) → e ≡ Join j k m Joined → ⊥) → SendsNotices r p e []

@@ -17,8 +17,8 @@ use Rattle.headline.specs.Clauses.{world, events, so_far}
 
 -- What n shows is the registry's
 pub record IsShownOf (r : Registry) (n : ℕ) (v : Replica) : Type 0 where
-  -- the names rise, each once; it is the table of the cluster, or that of n where n is lone, but for names on nodes that n was told
-  -- have left
+  -- the names rise, so each stands once; the table is that of the cluster, or of n where n is lone, but for the names on nodes that
+  -- n was told have left
   pub rises : IsTrue (is_rising v.table)
   pub cluster : r.joined n ≡ true → IsWithout (r.told n) r.table v.table
   pub lone : r.joined n ≡ false → IsWithout (r.told n) (r.lone n) v.table

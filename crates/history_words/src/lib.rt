@@ -1,4 +1,5 @@
-//! What a history says, in words: who is sent which notices, and what stood before an entry that is legal.
+//! What a history says, in words: who is sent which notices, and what stood before an entry that is legal. And what a registrar
+//! begins, and whom it asks first.
 #![tactic(auto)]
 
 ghost use Rattle.std.specs.Prelude.{List};
@@ -9,6 +10,7 @@ ghost use Rattle.protocol_model.specs.Check.{Computes};
 ghost use Rattle.history_words.specs.Notices.{GetsItsOwn, SendsInOrder};
 ghost use Rattle.history_words.specs.Shown.{ShowsTheRegistry, NodesShowInWords};
 ghost use Rattle.history_words.specs.Entries.{TellsItsEntries, LegalSaysWhatStood, WorldsSayWhatStood, NamedWorldsSayWhatStood, RefusesWhileLone};
+ghost use Rattle.history_words.specs.Beginning.{TellsTheGreatest, StrikesComeFirst};
 ghost use Rattle.history_words.specs.Rows.{two_notices_of_one_join, both_are_sent_two};
 
 /// A process gets exactly the notices of a list that are for it, in their order.
@@ -60,6 +62,16 @@ pub fn named_worlds_say_what_stood()
 /// And who refuses a join as no member shows then that it isn't joined.
 pub fn refuses_while_lone()
     ensures { RefusesWhileLone }
+{}
+
+/// A strike that is owed comes first: what a registrar begins by an event while one is owed is that strike.
+pub fn strikes_come_first()
+    ensures { StrikesComeFirst }
+{}
+
+/// The greatest node of a set, by the function that picks whom a round asks first, is one of it, and none of it is greater.
+pub fn tells_the_greatest()
+    ensures { TellsTheGreatest }
 {}
 
 /// Worked scripts, computed: two notices of one join, and none that is for another process of the node.

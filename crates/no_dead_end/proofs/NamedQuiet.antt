@@ -1,6 +1,5 @@
 -- A quiet world of names rests, and has answered its calls: it does so as the world in which all nodes that haven't started were
--- told of
--- all that have left.
+-- told of all that have left.
 use Rattle.std.proofs.Common.{ℕ, Bool, true, false, ◌≡◌, List, [], ◌++◌, refl, sym, ap, subst, ◌∙◌}
 use Rattle.std.specs.Prelude.{Contains}
 use Rattle.protocol_model.specs.Watch.{owed, is_dead}

@@ -1,6 +1,5 @@
 -- The work of rounds: what begins one pays for its letters, an answer that opens it pays for those that it sends by the marks that
--- it
--- changes, and no other answer or departure adds to it.
+-- it changes, and no other answer or departure adds to it.
 use mathlib.Core.Logic.{◌⊎◌}
 use Rattle.std.proofs.Common.{ℕ, Bool, true, false, ◌==◌, ◌≡◌, ◌<◌, ◌≤◌, ◌+◌, ◌*◌, refl, sym, subst, inl, inr, arith}
 use Rattle.std.specs.Prelude.{length, not, ◌&&◌, if◌then◌else◌}

@@ -1,6 +1,5 @@
 -- What becomes of a total where a letter is taken, where a node goes on and sends letters, and where it is closed out. up: the
--- nodes that
--- count; W: the weights; b: above all nodes.
+-- nodes that count; W: the weights; b: above all nodes.
 use Rattle.std.proofs.Common.{ℕ, zero, suc, Bool, true, false, ◌==◌, ◌≡◌, ◌<◌, ◌≤◌, ◌+◌, List, [], ◌∷◌, ◌++◌, refl, sym, ap, subst, ◌∙◌, inl, inr, arith}
 use Rattle.std.specs.Prelude.{not, ◌&&◌, drop, map, if◌then◌else◌}
 use Rattle.std.proofs.lemmas.Bool.{cases_eq, eq-eqb, ne_eqb}

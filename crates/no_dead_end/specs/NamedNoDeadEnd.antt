@@ -1,6 +1,5 @@
 -- Deliveries end, and quiet worlds rest, where nodes have names and come back. At most one node of each name runs at once; nodes
--- that
--- haven't started are left out of account, with the `Down`s that wait for them.
+-- that haven't started are left out of account, with the `Down`s that wait for them.
 -- es: the events so far; w: the world that they made; x and y: names of nodes.
 use Rattle.std.specs.Prelude.{ℕ, not, ◌&&◌, ◌*◌, ◌≡◌, ◌<◌, ◌≤◌, None, length, List}
 use Rattle.registry_model.specs.Process.{Nodes, nodes_of}

@@ -17,8 +17,7 @@ admissions j v = length (filter (admits j) v.queue)
     + (elim v.current [ Current.Waiting op ↦ (if admits j op then 1 else 0) | _ ↦ 0 ])
 
 -- What c's registrar may be at: nothing, with nothing to do; a refused operation; or a join by a running joined contact, which is
--- itself
--- at a refused operation, and where this admission waits once
+-- itself at a refused operation, and where this admission waits once
 pub data AtRest (Up : ℕ → Type 0) (w : World) (c : ℕ) : Current → Type 0 where
   Idle : (w.node c).queue ≡ [] → owed c (w.node c).replica.table (w.node c).watch ≡ None → AtRest Up w c Current.Free
   Refused : (op : Op) → AtRest Up w c (Current.Waiting op)

@@ -1,6 +1,5 @@
 -- How much there is in a world: each letter, operation and lock call, and each name or kill that it has, counts one. The work is
--- bounded
--- by that. b: above all nodes; up: the nodes that count.
+-- bounded by that. b: above all nodes; up: the nodes that count.
 use Rattle.std.specs.Prelude.{ℕ, ◌+◌, ◌*◌, ◌≤◌, length, List}
 use Rattle.std.specs.List.{sum_by}
 use Rattle.registry_model.specs.Process.{Nodes}

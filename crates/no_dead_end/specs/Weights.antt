@@ -1,7 +1,6 @@
 -- Measures of a world, as sums of weights over its nodes and their letters.
 -- b: above all nodes of the world. up: the nodes that count. f and c: nodes, f the sender and c the receiver of a letter. A pair
--- counts at
--- the node of its owner.
+-- counts at the node of its owner.
 use Rattle.std.specs.Prelude.{ℕ, Bool, false, zero, suc, not, ◌&&◌, ◌==◌, ◌+◌, List, if◌then◌else◌}
 use Rattle.std.specs.List.{sum_by}
 use Rattle.registry_model.specs.Process.{Process, is_process, Nodes}
