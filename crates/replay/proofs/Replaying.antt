@@ -5,6 +5,7 @@ use Rattle.std.specs.List.{slice_get}
 use Rattle.std.specs.Option.{option_map}
 use Rattle.std.proofs.lemmas.Bool.{eq-eqb}
 use Rattle.std.specs.Prelude.{All}
+use Rattle.protocol_model.specs.World.{World}
 use Rattle.term.specs.NodeSets.{set_of}
 use Rattle.cluster_world.proofs.Leftovers.{nothing_left}
 use Rattle.cluster_world.specs.Held.{Held, nodes_of}
@@ -21,7 +22,7 @@ use Rattle.replay.specs.declared.faults.CloseFault.TheVariants.{Torn, LeftInHold
 use Rattle.replay.specs.Ends.{End, logs_of, is_lesser, EndedWell, HasTableOf}
 use Rattle.replay.specs.Least.{AllSuch, IsLeastOther}
 use Rattle.replay.specs.Playing.{IsRun}
-use Rattle.replay.specs.Replaying.{Opens, AreAll, IsFault, IsLeastEnd, PlaysOut, Replayed, RunsThrough, StopsLogs}
+use Rattle.replay.specs.Replaying.{Opens, AreAll, IsFault, IsLeastEnd, PlaysOut, Replayed, RunsThrough, StopsLogs, Differs}
 use Rattle.replay.specs.Steps.{log_of}
 use Rattle.replay.specs.Transcripts.{Fits, has_lesser_seat}
 use Rattle.cluster_world.specs.NodeNames.{NamedOpening}
@@ -41,6 +42,36 @@ still_opens cluster lone old new O K = K.names ∙ O
 pub as_many : {X : Type 0} (Q : X → Type 0) (xs : List X) (n : ℕ) → n ≡ length xs → AllSuch Q xs n → AreAll Q xs
 as_many Q xs n e h = subst (AllSuch Q xs) e h
 
+-- the node of the least end that isn't such
+least_end_is : (ends : List End) (Q : End → Type 0) (n k : ℕ) (a : ℕ) (e : End) → n ≡ length ends
+    → IsLeastOther Q is_lesser ends n k → slice_get ends k ≡ Some e → e.log.node ≡ a → IsLeastEnd Q ends a
+least_end_is ends Q n k a e same L here whose = record {
+  place = k;
+  least = subst (λ (m : ℕ). IsLeastOther Q is_lesser ends m k) same L;
+  whose = ap (λ (f : End). f.log.node) (some_one L.item e (sym L.here ∙ here)) ∙ whose;
+}
+
+-- what differs behind a run
+module _ (ends : List End) (ts : List Transcript) where
+  -- a table is another one
+  pub table_differs : (w : World) (n k a at : ℕ) (e : End) → repeats (map (λ (l : Logged). l.node) (logs_of ends)) ≡ false
+      → n ≡ length ends → IsLeastOther (HasTableOf w) is_lesser ends n k → slice_get ends k ≡ Some e → e.log.node ≡ a
+      → at ≡ length e.log.entries → Differs w ends ts (Torn a at)
+  table_differs w n k a at e once same L here whose long = (
+    least_end_is ends (HasTableOf w) n k a e same L here whose,
+    long
+        ∙ sym (ap (λ (es : List Entry). length es) (log_is (logs_of ends) once k e.log
+        (slice_get-map (λ (f : End). f.log) ends k ∙ ap (option_map (λ (f : End). f.log)) here)))
+        ∙ ap (λ (c : ℕ). length (log_of c (logs_of ends))) whose,
+  )
+
+  -- the tables are the world's, and a transcript doesn't fit
+  pub seat_differs : (w : World) (k seat : ℕ) (t : Transcript) → AreAll (HasTableOf w) ends
+      → IsLeastOther (Fits (logs_of ends) ts) has_lesser_seat ts (length ts) k → slice_get ts k ≡ Some t → t.seat ≡ seat
+      → Differs w ends ts (Stranger seat)
+  seat_differs w k seat t tables L here whose =
+      (tables, (k, L, ap (λ (u : Transcript). u.seat) (some_one L.item t (sym L.here ∙ here)) ∙ whose))
+
 module _ (cluster lone : List ℕ) (ends : List End) (ts : List Transcript) where
   -- the logs stop
   pub stopped : (old : Held) (fault : CloseFault) → Opens cluster lone old → AreAll EndedWell ends
@@ -55,17 +86,9 @@ module _ (cluster lone : List ℕ) (ends : List End) (ts : List Transcript) wher
       → PlaysOut cluster lone (logs_of ends) R.steps new
   out old new events O R = record { opens = still_opens cluster lone old new O R.kept; merged = R.merged; run = R.run }
 
-  least_end_is : (Q : End → Type 0) (n k : ℕ) (a : ℕ) (e : End) → n ≡ length ends → IsLeastOther Q is_lesser ends n k
-      → slice_get ends k ≡ Some e → e.log.node ≡ a → IsLeastEnd Q ends a
-  least_end_is Q n k a e same L here whose = record {
-    place = k;
-    least = subst (λ (m : ℕ). IsLeastOther Q is_lesser ends m k) same L;
-    whose = ap (λ (f : End). f.log.node) (some_one L.item e (sym L.here ∙ here)) ∙ whose;
-  }
-
   pub alone : (n k a : ℕ) (e : End) → n ≡ length ends → IsLeastOther EndedWell is_lesser ends n k → slice_get ends k ≡ Some e
       → e.log.node ≡ a → IsFault cluster lone ends ts (LeftInHold a)
-  alone n k a e same L here whose = least_end_is EndedWell n k a e same L here whose
+  alone n k a e same L here whose = least_end_is ends EndedWell n k a e same L here whose
 
   -- all was played and compared
   pub replayed : (old new : Held) (events : ℕ) → Opens cluster lone old → RunsThrough (logs_of ends) events old new
@@ -80,42 +103,28 @@ module _ (cluster lone : List ℕ) (ends : List End) (ts : List Transcript) wher
     transcripts = fits;
   }
 
-  -- all was played, and a table is another one
-  pub other_table : (old new : Held) (events n k a at : ℕ) (e : End) → Opens cluster lone old
-      → repeats (map (λ (l : Logged). l.node) (logs_of ends)) ≡ false → RunsThrough (logs_of ends) events old new
-      → AreAll EndedWell ends → n ≡ length ends → IsLeastOther (HasTableOf (seen new)) is_lesser ends n k
-      → slice_get ends k ≡ Some e → e.log.node ≡ a → at ≡ length e.log.entries → IsFault cluster lone ends ts (Torn a at)
-  other_table old new events n k a at e O once R well same L here whose long = (
+  -- all was played, and something differs
+  pub differs : (old new : Held) (events : ℕ) (fault : CloseFault) → Opens cluster lone old
+      → RunsThrough (logs_of ends) events old new → AreAll EndedWell ends → Differs (seen new) ends ts fault
+      → IsFault cluster lone ends ts fault
+  differs old new events (Torn a k) O R well D = (
     well,
-    inr (record {
-      steps = R.steps;
-      world = new;
-      out = out old new events O R;
-      other = least_end_is (HasTableOf (seen new)) n k a e same L here whose;
-      place = long
-          ∙ sym (ap (λ (es : List Entry). length es) (log_is (logs_of ends) once k e.log
-          (slice_get-map (λ (f : End). f.log) ends k ∙ ap (option_map (λ (f : End). f.log)) here)))
-          ∙ ap (λ (c : ℕ). length (log_of c (logs_of ends))) whose;
-    }),
+    inr (record { steps = R.steps; world = new; out = out old new events O R; other = D.0; place = D.1 }),
   )
-
-  -- all was played, the tables are the world's, and a transcript doesn't fit
-  pub stranger : (old new : Held) (events k seat : ℕ) (t : Transcript) → Opens cluster lone old
-      → RunsThrough (logs_of ends) events old new → AreAll EndedWell ends → AreAll (HasTableOf (seen new)) ends
-      → IsLeastOther (Fits (logs_of ends) ts) has_lesser_seat ts (length ts) k → slice_get ts k ≡ Some t → t.seat ≡ seat
-      → IsFault cluster lone ends ts (Stranger seat)
-  stranger old new events k seat t O R well tables L here whose = (
+  differs old new events (LeftInHold a) O R well D = absurd D
+  differs old new events (Stranger seat) O R well D = (
     well,
     record {
       steps = R.steps;
       world = new;
       out = out old new events O R;
-      tables = tables;
-      place = k;
-      least = L;
-      whose = ap (λ (u : Transcript). u.seat) (some_one L.item t (sym L.here ∙ here)) ∙ whose;
+      tables = D.0;
+      place = D.1.0;
+      least = D.1.1;
+      whose = D.1.2;
     },
   )
+  differs old new events Memory O R well D = well
 
 -- a world that was started is the run of no steps
 pub opened_run : (h : Held) → AgreesAfter [] h → LocksAfter (opening_of h) [] (seen h) → IsRun [] h

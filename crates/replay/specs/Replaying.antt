@@ -1,5 +1,6 @@
 -- What a replay comes to.
 use Rattle.std.specs.Prelude.{ℕ, ◌≡◌, ◌⊎◌, List, ◌++◌, length}
+use Rattle.protocol_model.specs.World.{World}
 use Rattle.cluster_world.specs.NodeNames.{NamedOpening}
 use Rattle.cluster_world.specs.Held.{Held}
 use Rattle.cluster_world.specs.Playing.{Keeps}
@@ -84,6 +85,15 @@ pub record IsStranger (cluster lone : List ℕ) (ends : List End) (ts : List Tra
   pub place : ℕ
   pub least : IsLeastOther (Fits (logs_of ends) ts) has_lesser_seat ts (length ts) place
   pub whose : least.item.seat ≡ seat
+
+-- Behind a run that made this world, the least node whose table is another one, and the length of its log; or, where the tables
+-- are the world's, the least seat with a transcript that doesn't fit. Want of memory says nothing of it
+abbrev pub Differs : World → List End → List Transcript → CloseFault → Type 0
+Differs w ends ts (Torn a k) = IsLeastEnd (HasTableOf w) ends a × (k ≡ length (log_of a (logs_of ends)))
+Differs w ends ts (LeftInHold a) = ⊥
+Differs w ends ts (Stranger seat) = AreAll (HasTableOf w) ends × ((place : ℕ)
+    × (least : IsLeastOther (Fits (logs_of ends) ts) has_lesser_seat ts (length ts) place) × (least.item.seat ≡ seat))
+Differs w ends ts Memory = Unit {0}
 
 -- why a run isn't one of the world's; want of memory says nothing of it
 abbrev pub IsFault : List ℕ → List ℕ → List End → List Transcript → CloseFault → Type 0

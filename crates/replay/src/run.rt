@@ -1,13 +1,14 @@
 //! Plays the logs of closed nodes on a world.
-ghost use Rattle.std.specs.Prelude.{◌≡◌, ◌++◌, ◌<◌, ℕ, [], true, false, None, Some, length, map, IfOk, IfErr, slice_get};
+ghost use Rattle.std.specs.Prelude.{◌≡◌, ◌++◌, ◌<◌, ℕ, [], true, false, None, Some, length, map, IfOk, IfErr, OnOk, All, slice_get};
 ghost use Rattle.term.specs.NodeSets.{set_of};
-ghost use Rattle.cluster_world.specs.Seen.{names_of};
-ghost use Rattle.cluster_world.specs.Playing.{Keeps};
+ghost use Rattle.cluster_world.specs.Held.{nodes_of};
+ghost use Rattle.cluster_world.specs.Seen.{names_of, seen};
 ghost use Rattle.node_log.specs.Openings.{repeats, start_refused};
 ghost use Rattle.replay.specs.Consistent.{AreConsistent, is_torn};
-ghost use Rattle.replay.specs.Ends.{end_of, logs_of};
+ghost use Rattle.replay.specs.Ends.{end_of, logs_of, HasTableOf};
 ghost use Rattle.replay.specs.Playing.{IsRun};
-ghost use Rattle.replay.specs.Replaying.{RunsThrough, StopsLogs, Replayed, IsFault};
+ghost use Rattle.replay.specs.Replaying.{RunsThrough, StopsLogs, AreAll, Differs, Replayed, IsFault};
+ghost use Rattle.replay.specs.Transcripts.{Fits};
 
 use crate::closed::Closed;
 use crate::faults::CloseFault;
@@ -44,6 +45,32 @@ fn play_logs<N: Names<Memory = Global>>(
     Err(CloseFault::Memory)
 }
 
+/// Compares a world that has played the logs of these nodes with them: their last tables, and then what seats were answered.
+fn compare<N: Names<Memory = Global>>(
+    alloc: Global,
+    world: &World<N>,
+    ends: &[NodeEnd<N>],
+    transcripts: &[Transcript],
+) -> Result<(), CloseFault>
+    requires once { repeats (map (λ e. e.log.node) ends.now) ≡ false }
+    requires nodes { All (λ e. set_of (nodes_of world.now) e.log.node ≡ true) ends.now }
+    ensures tables { OnOk result (AreAll (HasTableOf (seen world.now)) (map (end_of N.contents) ends.now)) }
+    ensures transcripts { OnOk result (AreAll (Fits (logs_of (map (end_of N.contents) ends.now)) transcripts.now) transcripts.now) }
+    ensures refused { IfErr result (λ fault. Differs (seen world.now) (map (end_of N.contents) ends.now) transcripts.now fault) }
+{
+    if let Some(place) = least_other_table(alloc, world, ends)? {
+        let log = &ends[place].log;
+        return Err(CloseFault::Torn {
+            node: log.node().copy(),
+            at: log.len(),
+        });
+    }
+    match least_stranger(ends, transcripts) {
+        Some(place) => Err(CloseFault::Stranger(transcripts[place].seat)),
+        None => Ok(()),
+    }
+}
+
 /// Plays the logs of a closed cluster's nodes, merged by stamp and then node, on a world that is started with the same lists, and
 /// compares all answers, the nodes' last tables and what seats were answered. Where that succeeds, the run of the threads was one of
 /// the world's. `CloseFault` says what is refused, and in which order. It is `Torn` for ends alone that aren't consistent: some node,
@@ -69,15 +96,6 @@ pub fn replay<N: Names<Memory = Global>>(
         return Err(CloseFault::Memory);
     };
     let events = play_logs(alloc, &mut world, ends)?;
-    if let Some(place) = least_other_table(alloc, &world, ends)? {
-        let log = &ends[place].log;
-        return Err(CloseFault::Torn {
-            node: log.node().copy(),
-            at: log.len(),
-        });
-    }
-    if let Some(place) = least_stranger(ends, transcripts) {
-        return Err(CloseFault::Stranger(transcripts[place].seat));
-    }
+    compare(alloc, &world, ends, transcripts)?;
     Ok(Closed { events, world })
 }
