@@ -1,5 +1,5 @@
 -- Someone gets through, and who asks alone does.
-use Rattle.std.proofs.Common.{ℕ, Bool, true, false, ◌==◌, ◌≡◌, ◌+◌, Option, Some, None, List, [], ◌∷◌, ◌++◌, refl, sym, ap, subst, ◌∙◌, inl, inr}
+use Rattle.std.proofs.Common.{ℕ, Bool, true, false, ◌==◌, ◌≡◌, ◌<◌, ◌+◌, Option, Some, None, List, [], ◌∷◌, ◌++◌, refl, sym, ap, subst, ◌∙◌, inl, inr, arith}
 use Rattle.std.specs.Prelude.{Contains, if◌then◌else◌}
 use Rattle.std.specs.List.{list_all}
 use Rattle.std.proofs.lemmas.Bool.{eq-eqb, eqb-true, cases_eq, ne_eqb}
@@ -16,7 +16,7 @@ use Rattle.protocol_model.specs.Turn.{Turn, begun, with_queue, count_call, sent_
 use Rattle.protocol_model.specs.Registrar.{registrar, ask_global, start_queue, start_next, start_free}
 use Rattle.protocol_model.specs.Calling.{queued}
 use Rattle.protocol_model.specs.Event.{Call, Event}
-use Rattle.protocol_model.specs.World.{Opening, World, left, WorldEvent, At, Deliver, opening_world, turn_of, happens, run}
+use Rattle.protocol_model.specs.World.{Opening, World, left, WorldEvent, At, Deliver, opening_world, accepted, turn_of, happens, run}
 use Rattle.protocol_model.specs.Course.{entries_of, course}
 use Rattle.protocol_model.specs.Fit.{is_delivery}
 use Rattle.protocol_model.specs.Answers.{answer_to}
@@ -31,8 +31,10 @@ use Rattle.lock_sessions.proofs.Base.{after_turn, posted-here}
 use Rattle.lock_sessions.proofs.Sessions.{append-cancel, found, request_in}
 use Rattle.leftovers.proofs.Families.{Whole, whole}
 use Rattle.leftovers.proofs.Grounds.{Base}
+use Rattle.no_dead_end.proofs.AdmitsJoined.{AdmitsJoined, known as admissions_known}
 use Rattle.no_dead_end.proofs.CallsAnswered.{rest_is_free}
 use Rattle.no_dead_end.proofs.QuietWorlds.{quiet_worlds_rest}
+use Rattle.getting_through.specs.Pending.{pending}
 use Rattle.getting_through.specs.GettingThrough.{IsAlone, IsStorm, is_delivery_or_retry, reply_now, Answers, End, SomeoneGetsThrough, RetriesAloneEnd, NameCallsAloneAnswered}
 use Rattle.getting_through.proofs.Groups.{below, member_runs}
 use Rattle.getting_through.proofs.Storm.{boss, members, DecidedIn, Decided, Still, IsAt, Before, Asking, Active, Asked, simple_sends, still_after}
@@ -134,33 +136,45 @@ module _ (o : Opening) (es : List WorldEvent) (ops : ℕ → Option Op) (may : N
   abbrev b : ℕ
   b = boss o (world o es) ops a
 
-  hot : Known o (world o es) (whole o es) S.before ops may retries b (boss_runs o es S.before ops a up) true
+  abbrev limit : ℕ
+  limit = pending o (world o es)
+
+  hot : Known o (world o es) (whole o es) S.before ops may retries b (boss_runs o es S.before ops a up) limit true
       (run o (world o es) (xs ++ At a Event.Retry ∷ ys))
-  hot = subst (Known o (world o es) (whole o es) S.before ops may retries b (boss_runs o es S.before ops a up) true)
+  hot = subst (Known o (world o es) (whole o es) S.before ops may retries b (boss_runs o es S.before ops a up) limit true)
       (sym (run-append o (world o es) xs (At a Event.Retry ∷ ys)))
-      (run_on o (world o es) (whole o es) S.before ops may retries b (boss_runs o es S.before ops a up) true ys later
+      (run_on o (world o es) (whole o es) S.before ops may retries b (boss_runs o es S.before ops a up) limit true ys later
       (happens o (run o (world o es) xs) (At a Event.Retry))
-      (heated o (world o es) (whole o es) S.before ops may retries b (boss_runs o es S.before ops a up) a op allowed waits refl
+      (heated o (world o es) (whole o es) S.before ops may retries b (boss_runs o es S.before ops a up) limit a op allowed waits refl
       (run o (world o es) xs)
-      (run_on o (world o es) (whole o es) S.before ops may retries b (boss_runs o es S.before ops a up) false xs before (world o es)
-      (record { base = (whole o es).base; stay = refl; state = inl (still_first o es S.before ops, λ c. Before refl, λ h. cc h) }))
+      (run_on o (world o es) (whole o es) S.before ops may retries b (boss_runs o es S.before ops a up) limit false xs before (world o es)
+      (record {
+        base = (whole o es).base;
+        admissions = (admissions_known o es).here;
+        stay = refl;
+        most = omega arith;
+        state = inl (still_first o es S.before ops, λ c. Before refl, λ h. cc h);
+      }))
       S.accepted))
 
   someone : (c : ℕ) × (x : Op) × Runs o (world o es) c × (ops c ≡ Some x) × End o es (world o es) c x (xs ++ At a Event.Retry ∷ ys)
-  someone = (D.node, D.op, D.runs, D.may, ended o es (xs ++ At a Event.Retry ∷ ys) S.behind hot.stay ops D)
+      × (pending o (run o (world o es) (xs ++ At a Event.Retry ∷ ys)) < pending o (world o es))
+  someone = (D.0.node, D.0.op, D.0.runs, D.0.may, ended o es (xs ++ At a Event.Retry ∷ ys) S.behind hot.stay ops D.0, D.1)
     where
       D : Decided o (world o es) ops (run o (world o es) (xs ++ At a Event.Retry ∷ ys))
-      D = decided_at_last o (world o es) (whole o es) S.before ops may retries b (boss_runs o es S.before ops a up)
+          × (pending o (run o (world o es) (xs ++ At a Event.Retry ∷ ys)) < limit)
+      D = decided_at_last o (world o es) (whole o es) S.before ops may retries b (boss_runs o es S.before ops a up) limit
           (run o (world o es) (xs ++ At a Event.Retry ∷ ys))
           (subst (Whole o) (run-append o (opening_world o) es (xs ++ At a Event.Retry ∷ ys))
           (whole o (es ++ (xs ++ At a Event.Retry ∷ ys))))
           S.behind hot
 
 pub someone_gets_through : Always SomeoneGetsThrough
-someone_gets_through o es a op xs ys up waits S = (E.0, E.1, E.2, is_waiting_op ((world o es).node E.0).current E.1 E.3, E.4)
+someone_gets_through o es a op xs ys up waits S = (E.0, E.1, E.2, is_waiting_op ((world o es).node E.0).current E.1 E.3, E.4, E.5)
   where
     E : (c : ℕ) × (x : Op) × Runs o (world o es) c × (waiting_op ((world o es).node c).current ≡ Some x)
         × End o es (world o es) c x (xs ++ At a Event.Retry ∷ ys)
+        × (pending o (run o (world o es) (xs ++ At a Event.Retry ∷ ys)) < pending o (world o es))
     E = someone o es (λ c. waiting_op ((world o es).node c).current) (λ c. true) (λ c x h e. ap waiting_op e) a op refl waits up xs
         ys S
         (all_stormy (λ c. true) (λ c. refl) xs S.first) (all_stormy (λ c. true) (λ c. refl) ys S.later)
@@ -168,7 +182,8 @@ someone_gets_through o es a op xs ys up waits S = (E.0, E.1, E.2, is_waiting_op 
 pub retries_alone_end : Always RetriesAloneEnd
 retries_alone_end o es a op ds up waits A =
     let E : (c : ℕ) × (x : Op) × Runs o (world o es) c × (only a op c ≡ Some x)
-    × End o es (world o es) c x (At a Event.Retry ∷ ds) =
+    × End o es (world o es) c x (At a Event.Retry ∷ ds)
+    × (pending o (run o (world o es) (At a Event.Retry ∷ ds)) < pending o (world o es)) =
     someone o es (only a op) (λ c. c == a) only_retried a op (eq-eqb a a refl) waits up [] ds (record {
       before = A.before;
       first = refl;
@@ -238,14 +253,21 @@ module _ (o : Opening) (es : List WorldEvent) (a : ℕ) (call : NameCall) (ds : 
   active : Active o v (only a op) host (after_turn a v u None)
   active = Asked a up (λ e. cc (sym (ap (found request_in) link_is) ∙ e))
 
+  abbrev at_call : ℕ
+  at_call = pending o (accepted o v calls)
+
   known : Known o v (whole o es) A.before (only a op) (λ c. false) none_retried host (boss_runs o es A.before (only a op) a up)
-      true (happens o v calls)
+      at_call true (happens o v calls)
   known = subst (Known o v (whole o es) A.before (only a op) (λ c. false) none_retried host
-      (boss_runs o es A.before (only a op) a up) true)
+      (boss_runs o es A.before (only a op) a up) at_call true)
       (sym (happens-accepted o v calls A.accepted)) (record {
         base = subst (Base o) (run-append o (opening_world o) es (calls ∷ []) ∙ happens-accepted o v calls A.accepted)
             (whole o (es ++ calls ∷ [])).base;
+        admissions = subst (AdmitsJoined o)
+            (run-append o (opening_world o) es (calls ∷ []) ∙ happens-accepted o v calls A.accepted)
+            (admissions_known o (es ++ calls ∷ [])).here;
         stay = refl;
+        most = omega arith;
         state = inl (subst (λ (t : Turn). Still o v (only a op) (after_turn a v t None)
             × ((c : ℕ) → IsAt o v (only a op) c (after_turn a v t None))
             × (true ≡ true → Active o v (only a op) host (after_turn a v t None))) (sym turn_is) (
@@ -277,17 +299,17 @@ module _ (o : Opening) (es : List WorldEvent) (a : ℕ) (call : NameCall) (ds : 
       (subst (λ (c : ℕ). End o es v c D.op (calls ∷ ds)) one.0 (ended o es (calls ∷ ds) A.behind last.stay (only a op) D))
     where
       last : Known o v (whole o es) A.before (only a op) (λ c. false) none_retried host (boss_runs o es A.before (only a op) a up)
-          true
+          at_call true
           (run o v (calls ∷ ds))
       last = run_on o v (whole o es) A.before (only a op) (λ c. false) none_retried host (boss_runs o es A.before (only a op) a up)
-          true ds
+          at_call true ds
           (all_delivered (λ c. false) ds A.delivered) (happens o v calls) known
 
       D : Decided o v (only a op) (run o v (calls ∷ ds))
-      D = decided_at_last o v (whole o es) A.before (only a op) (λ c. false) none_retried host
-          (boss_runs o es A.before (only a op) a up)
+      D = (decided_at_last o v (whole o es) A.before (only a op) (λ c. false) none_retried host
+          (boss_runs o es A.before (only a op) a up) at_call
           (run o v (calls ∷ ds)) (subst (Whole o) (run-append o (opening_world o) es (calls ∷ ds)) (whole o (es ++ calls ∷ ds)))
-          A.behind last
+          A.behind last).0
 
       one : (D.node ≡ a) × (op ≡ D.op)
       one = only_one a op D.node D.op D.may

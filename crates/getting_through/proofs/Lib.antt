@@ -1,7 +1,10 @@
-pub mod Entered
 pub mod Groups
 pub mod Storm
 pub mod StormRounds
+pub mod PendingParts
+pub mod PendingRules
 pub mod StormRules
 pub mod StormEvents
+pub mod Entered
 pub mod Laws
+pub mod Freeing

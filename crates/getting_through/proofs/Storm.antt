@@ -20,11 +20,11 @@ use Rattle.protocol_model.specs.World.{Opening, in_world, World, left}
 use Rattle.moves.proofs.Indices.{both}
 use Rattle.moves.proofs.Invariants.{Each, IsUp}
 use Rattle.moves.proofs.Rules
-use Rattle.moves.proofs.Rules.{Rule, Taken, FrontTaken}
+use Rattle.moves.proofs.Rules.{Rule, Taken, FrontTaken, awaits}
 use Rattle.moves.proofs.SendTests.{all_pass, pass_sent}
 use Rattle.lock_sessions.proofs.Base.{popped_queue, popped, after_turn, each-popped, each-posted}
 use Rattle.lock_sessions.proofs.LockTables.{is_global, globals, share}
-use Rattle.lock_sessions.proofs.Sessions.{found, found-append, request_in}
+use Rattle.lock_sessions.proofs.Sessions.{Request, Returns, found, found-append, request_in}
 use Rattle.join_gates.proofs.Still.{effect-history}
 use Rattle.getting_through.specs.GettingThrough.{reply_now}
 
@@ -40,6 +40,27 @@ is_simple _ = false
 abbrev pub is_refusal : Letter → Bool
 is_refusal (Letter.LockAnswer (Global b) p granted) = not granted
 is_refusal _ = false
+
+-- rules that no call, exit or leave begins with; a node that may be retried
+abbrev pub is_mild : Bool → Rule → Bool
+is_mild may (Rules.CallsName call) = false
+is_mild may (Rules.CallsJoin m) = false
+is_mild may Rules.CallsLock = false
+is_mild may Rules.Spawns = false
+is_mild may (Rules.LooksUp look) = false
+is_mild may (Rules.Exits p) = false
+is_mild may (Rules.Retries op) = may
+is_mild may Rules.Leaves = false
+is_mild may r = true
+
+-- rules by which an operation is decided, or passed over
+abbrev pub is_decision : Rule → Bool
+is_decision (Rules.Grants k call r) = true
+is_decision (Rules.Denies k call r) = true
+is_decision (Rules.Strikes p r) = true
+is_decision (Rules.Admits j pairs r) = true
+is_decision (Rules.Passes j pairs r) = true
+is_decision r = false
 
 -- what a letter makes of a node besides its locks, its calls and what its registrar is at
 pub record Parts (v u : Node) : Type 0 where
@@ -146,12 +167,12 @@ module _ (o : Opening) (w : World) (ops : ℕ → Option Op) where
     decided = decided_more D.node D.op D.more (Rules.turn_by o t v r).entries D.decided;
   }
 
-  -- from v to u nothing was decided, and who asked somewhere is there still; or something was
+  -- from v to u nothing was decided, and who asked somewhere is there still; or something was, by rule r
   abbrev pub Calm : World → World → Type 0
   Calm v u = Still u × ((c : ℕ) → IsAt c u) × ((b : ℕ) → IsUp o w b → Active b v → Active b u)
 
-  abbrev pub Goes : World → World → Type 0
-  Goes v u = Calm v u ⊎ Decided u
+  abbrev pub Goes : World → Rule → World → Type 0
+  Goes v r u = Calm v u ⊎ (Decided u × (is_decision r ≡ true))
 
   simple_each : (f c : ℕ) (ls : List Letter) → list_all is_simple ls ≡ true → Each (Plain f c) ls
   simple_each f c [] h = tt
@@ -254,3 +275,21 @@ module _ (o : Opening) (w : World) (ops : ℕ → Option Op) where
                 by true false k e = e
                 by true true k e = cc k
                 by false y k e = e
+
+-- what isn't awaited is no request
+pub ignored : (a : ℕ) (v : Node) (f : ℕ) (l : Letter) → awaits a v f l ≡ false → request_in l ≡ []
+ignored a v f (Letter.SetLock id p) h = cc h
+ignored a v f (Letter.GiveBack id p ack) h = cc h
+ignored a v f l h = refl
+
+-- plain letters give nothing back
+module _ (o : Opening) (w : World) (ops : ℕ → Option Op) (f t : ℕ) where
+  pub no_returns : (ls : List Letter) → Each (Plain o w ops f t) ls → (more : List Request) → found request_in ls ≡ Returns ∷ more → ⊥
+  no_returns [] E more e = cc e
+  no_returns (l ∷ ls) E more e = go l E.0 e (λ k. no_returns ls E.1 more k)
+    where
+      go : (x : Letter) → Plain o w ops f t x → request_in x ++ found request_in ls ≡ Returns ∷ more
+          → (found request_in ls ≡ Returns ∷ more → ⊥) → ⊥
+      go (Letter.GiveBack (Global b) p ack) P k on = cc P
+      go (Letter.SetLock (Global b) p) P k on = cc k
+      go x P k on = on k

@@ -1,7 +1,7 @@
 -- Registrars ask again along deliveries and retries: once no letter waits one of their operations is decided.
 use mathlib.Core.Logic.{◌⊎◌}
-use Rattle.std.proofs.Common.{ℕ, Bool, true, false, ◌==◌, ◌≡◌, Option, Some, None, List, [], ◌∷◌, ◌++◌, refl, sym, ap, subst, ◌∙◌, inl, inr}
-use Rattle.std.specs.Prelude.{◌&&◌, is_none, fold, if◌then◌else◌}
+use Rattle.std.proofs.Common.{ℕ, Bool, true, false, ◌==◌, ◌≡◌, ◌<◌, ◌≤◌, ◌+◌, Option, Some, None, List, [], ◌∷◌, ◌++◌, refl, sym, ap, subst, ◌∙◌, inl, inr, arith}
+use Rattle.std.specs.Prelude.{not, ◌&&◌, is_none, fold, if◌then◌else◌}
 use Rattle.std.specs.List.{list_all}
 use Rattle.std.proofs.lemmas.List.Folds.{list_all-append}
 use Rattle.registry_model.specs.Process.{Process, Nodes}
@@ -33,8 +33,31 @@ use Rattle.leftovers.proofs.Families.{Whole}
 use Rattle.leftovers.proofs.Grounds.{Base, base_keeps, wide}
 use Rattle.leftovers.proofs.LocksTold.{nobody_keeps_the_global_lock}
 use Rattle.leftovers.proofs.Quiet.{at_ease, registrars, still}
-use Rattle.getting_through.proofs.Storm.{Plain, Still, IsAt, Before, Asking, Again, Active, Held, Asked, Decided, decided_on, parts_self, boss}
-use Rattle.getting_through.proofs.StormRules.{is_mild, step}
+use Rattle.no_dead_end.specs.Weights.{total}
+use Rattle.no_dead_end.specs.Work.{running}
+use Rattle.no_dead_end.proofs.AdmitsJoined.{AdmitsJoined, keeps, along_ready}
+use Rattle.getting_through.specs.Pending.{pending_weights, pending}
+use Rattle.getting_through.proofs.PendingRules.{decided_one, rule_pending}
+use Rattle.getting_through.proofs.Storm.{is_mild, is_decision, Plain, Still, IsAt, Before, Asking, Again, Active, Held, Asked, Decided, decided_on, parts_self, boss}
+use Rattle.getting_through.proofs.StormRules.{step}
+
+-- nobody leaves by such a rule
+pub mild_stays : (b : Bool) (r : Rule) → is_mild b r ≡ true → is_leave r ≡ false
+mild_stays b Rules.Leaves h = cc h
+mild_stays b r h = refl
+
+-- a node that may be retried keeps to what any may
+mild_more : (b : Bool) (r : Rule) → is_mild b r ≡ true → is_mild true r ≡ true
+mild_more b (Rules.Retries op) h = refl
+mild_more b r h = h
+
+-- no rule of a delivery or a retry raises what is pending
+pub lower : (o : Opening) (t : ℕ) (v : World) → Base o v → AdmitsJoined o v → (r : Rule) → Rules.May o t v r → is_mild true r ≡ true
+    → pending o (Rules.effect o t r v) + decided_one (is_decision r) ≤ pending o v
+lower o t v B G r m h = subst (λ (s : Nodes). total o.bound pending_weights (λ c. in_world o c && not (s c)) (Rules.effect o t r v)
+    + decided_one (is_decision r) ≤ pending o v) (ap left (effect-turn o t v r (mild_stays true r h)))
+    (rule_pending o (running o v) t v (along_ready o t v v (record { base = B; admissions = G; stays = refl }) m.inside m.running)
+    r m h)
 
 -- rules of a delivery, and of a retry
 mild_by_letter : (b : Bool) (r : Rule) → is_quiet r ≡ true → is_allowed true r ≡ true → is_mild b r ≡ true
@@ -48,12 +71,7 @@ mild_by_letter b (Rules.Retries op) q l = cc l
 mild_by_letter b Rules.Leaves q l = cc q
 mild_by_letter b r q l = refl
 
--- nobody leaves by one
-mild_stays : (b : Bool) (r : Rule) → is_mild b r ≡ true → is_leave r ≡ false
-mild_stays b Rules.Leaves h = cc h
-mild_stays b r h = refl
-
-mild_letters : (b : Bool) (rs : List Rule) → list_all is_quiet rs ≡ true → list_all (is_allowed true) rs ≡ true
+pub mild_letters : (b : Bool) (rs : List Rule) → list_all is_quiet rs ≡ true → list_all (is_allowed true) rs ≡ true
     → list_all (is_mild b) rs ≡ true
 mild_letters b [] q l = refl
 mild_letters b (r ∷ rs) q l =
@@ -62,7 +80,7 @@ mild_letters b (r ∷ rs) q l =
     both (is_allowed true r) (list_all (is_allowed true) rs) l in
     rw (mild_by_letter b r p.0 k.0, mild_letters b rs p.1 k.1) refl
 
-mild_first : (o : Opening) (b : Bool) (t f : ℕ) (ls : List Letter) → list_all (is_mild b) (Rules.first_by_letter o t f ls) ≡ true
+pub mild_first : (o : Opening) (b : Bool) (t f : ℕ) (ls : List Letter) → list_all (is_mild b) (Rules.first_by_letter o t f ls) ≡ true
 mild_first o b t f (Letter.Down ∷ ls) = refl
 mild_first o b t f [] = refl
 mild_first o b t f (l ∷ ls) = refl
@@ -137,12 +155,19 @@ is_stormy may _ = false
 
 module _ (o : Opening) (w : World) (W : Whole o w) (Q : IsQuiet o w) (ops : ℕ → Option Op) (may : Nodes)
     (retries : (c : ℕ) (x : Op) → may c ≡ true → (w.node c).current ≡ Current.Waiting x → ops c ≡ Some x) (b : ℕ)
-    (up_b : IsUp o w b) where
-  -- what is known of a world behind it; where it is hot somebody asks b, or has the lock there
+    (up_b : IsUp o w b) (limit : ℕ) where
+  -- something was decided, and less is pending
+  abbrev pub Less : World → Type 0
+  Less v = Decided o w ops v × (pending o v < limit)
+
+  -- what is known of a world behind it, in which so much is pending at most, and less once something was decided; where it is
+  -- hot somebody asks b, or has the lock there
   pub record Known (hot : Bool) (v : World) : Type 0 where
     pub base : Base o v
+    pub admissions : AdmitsJoined o v
     pub stay : left v ≡ left w
-    pub state : (Still o w ops v × ((c : ℕ) → IsAt o w ops c v) × (hot ≡ true → Active o w ops b v)) ⊎ Decided o w ops v
+    pub most : pending o v ≤ limit
+    pub state : (Still o w ops v × ((c : ℕ) → IsAt o w ops c v) × (hot ≡ true → Active o w ops b v)) ⊎ Less v
 
   chain_on : (hot : Bool) (t : ℕ) (rs : List Rule) (v : World) → Known hot v → Rules.MayAll o t rs v
       → list_all (is_mild (may t)) rs ≡ true
@@ -151,21 +176,28 @@ module _ (o : Opening) (w : World) (W : Whole o w) (Q : IsQuiet o w) (ops : ℕ 
   chain_on hot t (r ∷ rs) v k m h =
       let p : (is_mild (may t) r ≡ true) × (list_all (is_mild (may t)) rs ≡ true) =
       both (is_mild (may t) r) (list_all (is_mild (may t)) rs) h in
+      let B : Base o (Rules.effect o t r v) = base_keeps o t v r k.base m.0 in
+      let less : pending o (Rules.effect o t r v) + decided_one (is_decision r) ≤ pending o v =
+      lower o t v k.base k.admissions r m.0 (mild_more (may t) r p.0) in
+      let before : pending o v ≤ limit = k.most in
       chain_on hot t rs (Rules.effect o t r v) (record {
-        base = base_keeps o t v r k.base m.0;
+        base = B;
+        admissions = keeps o t v r k.base B m.0 k.admissions;
         stay = sym (ap left (effect-turn o t v r (mild_stays (may t) r p.0))) ∙ k.stay;
-        state = on k.state p.0;
+        most = omega (arith, less, before);
+        state = on k.state p.0 less;
       }) m.1 p.1
     where
-      on : (Still o w ops v × ((c : ℕ) → IsAt o w ops c v) × (hot ≡ true → Active o w ops b v)) ⊎ Decided o w ops v
-          → is_mild (may t) r ≡ true
+      on : (Still o w ops v × ((c : ℕ) → IsAt o w ops c v) × (hot ≡ true → Active o w ops b v)) ⊎ Less v
+          → is_mild (may t) r ≡ true → pending o (Rules.effect o t r v) + decided_one (is_decision r) ≤ pending o v
           → (Still o w ops (Rules.effect o t r v) × ((c : ℕ) → IsAt o w ops c (Rules.effect o t r v))
-          × (hot ≡ true → Active o w ops b (Rules.effect o t r v))) ⊎ Decided o w ops (Rules.effect o t r v)
-      on (inl s) mild = elim (step o w W Q ops may retries v k.base s.0 s.1 t (m.0.inside, m.0.running) r m.0 mild) [
+          × (hot ≡ true → Active o w ops b (Rules.effect o t r v))) ⊎ Less (Rules.effect o t r v)
+      on (inl s) mild less = elim (step o w W Q ops may retries v k.base s.0 s.1 t (m.0.inside, m.0.running) r m.0 mild) [
         | inl n ↦ inl (n.0, n.1, λ h. n.2 b up_b (s.2 h))
-        | inr d ↦ inr d
+        | inr d ↦ let one : decided_one (is_decision r) ≡ 1 = ap decided_one d.1 in let before : pending o v ≤ limit = k.most in
+            inr (d.0, omega (arith, less, one, before))
       ]
-      on (inr d) mild = inr (decided_on o w ops t v r d)
+      on (inr d) mild less = let before : pending o v < limit = d.1 in inr (decided_on o w ops t v r d.0, omega (arith, less, before))
 
   event_on : (hot : Bool) (e : WorldEvent) → is_stormy may e ≡ true → (v : World) → Known hot v → Known hot (happens o v e)
   event_on hot (Deliver f t) s v k = go (refusal o v (Deliver f t)) refl
@@ -217,13 +249,19 @@ module _ (o : Opening) (w : World) (W : Whole o w) (Q : IsQuiet o w) (ops : ℕ 
           ∙ asks_again o.bound a y (v.node a) e
 
       begins : (y : Op) → (v.node a).current ≡ Current.Waiting y → Known true (happens o v (At a Event.Retry))
-      begins y e = record { base = next.base; stay = next.stay; state = by next.state }
+      begins y e = record {
+        base = next.base;
+        admissions = next.admissions;
+        stay = next.stay;
+        most = next.most;
+        state = by next.state;
+      }
         where
           u : World
           u = happens o v (At a Event.Retry)
 
-          by : (Still o w ops u × ((c : ℕ) → IsAt o w ops c u) × (false ≡ true → Active o w ops b u)) ⊎ Decided o w ops u
-              → (Still o w ops u × ((c : ℕ) → IsAt o w ops c u) × (true ≡ true → Active o w ops b u)) ⊎ Decided o w ops u
+          by : (Still o w ops u × ((c : ℕ) → IsAt o w ops c u) × (false ≡ true → Active o w ops b u)) ⊎ Less u
+              → (Still o w ops u × ((c : ℕ) → IsAt o w ops c u) × (true ≡ true → Active o w ops b u)) ⊎ Less u
           by (inr d) = inr d
           by (inl s) = inl (s.0, s.1, λ z. at (s.1 a))
             where
@@ -232,9 +270,15 @@ module _ (o : Opening) (w : World) (W : Whole o w) (Q : IsQuiet o w) (ops : ℕ 
               at (Again x m i) = cc (asks y e, i)
               at (Asking x r i R A) = subst (λ (c : ℕ). Active o w ops c u) home A
 
-      go : (Still o w ops v × ((c : ℕ) → IsAt o w ops c v) × (false ≡ true → Active o w ops b v)) ⊎ Decided o w ops v
+      go : (Still o w ops v × ((c : ℕ) → IsAt o w ops c v) × (false ≡ true → Active o w ops b v)) ⊎ Less v
           → Known true (happens o v (At a Event.Retry))
-      go (inr d) = event_on true (At a Event.Retry) allowed v (record { base = k.base; stay = k.stay; state = inr d })
+      go (inr d) = event_on true (At a Event.Retry) allowed v (record {
+        base = k.base;
+        admissions = k.admissions;
+        stay = k.stay;
+        most = k.most;
+        state = inr d;
+      })
       go (inl s) = at (s.1 a)
         where
           at : IsAt o w ops a v → Known true (happens o v (At a Event.Retry))
@@ -242,12 +286,14 @@ module _ (o : Opening) (w : World) (W : Whole o w) (Q : IsQuiet o w) (ops : ℕ 
           at (Again x m i) = begins x i
           at (Asking x r i R A) = event_on true (At a Event.Retry) allowed v (record {
             base = k.base;
+            admissions = k.admissions;
             stay = k.stay;
+            most = k.most;
             state = inl (s.0, s.1, λ z. subst (λ (c : ℕ). Active o w ops c v) home A);
           })
 
-  -- once no letter waits again one of them is decided
-  pub decided_at_last : (v : World) (V : Whole o v) (q : IsQuiet o v) → Known true v → Decided o w ops v
+  -- once no letter waits again one of them is decided, and less is pending
+  pub decided_at_last : (v : World) (V : Whole o v) (q : IsQuiet o v) → Known true v → Less v
   decided_at_last v V q k = go k.state
     where
       is_up : (c : ℕ) → IsUp o w c → IsUp o v c
@@ -285,8 +331,7 @@ module _ (o : Opening) (w : World) (W : Whole o w) (Q : IsQuiet o w) (ops : ℕ 
               unmarked (Current.Asking x r) y z = cc y
               unmarked (Current.Writing x s awaited reply) y z = cc y
 
-      go : (Still o w ops v × ((c : ℕ) → IsAt o w ops c v) × (true ≡ true → Active o w ops b v)) ⊎ Decided o w ops v
-          → Decided o w ops v
+      go : (Still o w ops v × ((c : ℕ) → IsAt o w ops c v) × (true ≡ true → Active o w ops b v)) ⊎ Less v → Less v
       go (inr d) = d
       go (inl s) = absurd (cold s.0 (s.2 refl))
 

@@ -39,38 +39,8 @@ use Rattle.leftovers.proofs.Quiet.{rid, at_ease, registrars}
 use Rattle.leftovers.proofs.Rest.{WorkRests}
 use Rattle.getting_through.specs.GettingThrough.{reply_now}
 use Rattle.getting_through.proofs.Groups.{below, apart, member_runs, same_members}
-use Rattle.getting_through.proofs.Storm.{is_simple, Parts, parts_self, NoRequest, members, boss, Plain, IsMark, Active, Held, Asked, Still, Round_at, IsAt, Before, Asking, Again, DecidedIn, Goes, Turned, simple_sends, still_after, active_after}
+use Rattle.getting_through.proofs.Storm.{is_mild, is_decision, ignored, no_returns, is_simple, Parts, parts_self, NoRequest, members, boss, Plain, IsMark, Active, Held, Asked, Still, Round_at, IsAt, Before, Asking, Again, DecidedIn, Goes, Turned, simple_sends, still_after, active_after}
 use Rattle.getting_through.proofs.StormRounds.{marks_begin, marks_answer, marks_down, refused_by_boss, nobody_of}
-
--- rules that no call, exit or leave begins with; a node that may be retried
-abbrev pub is_mild : Bool → Rule → Bool
-is_mild may (Rules.CallsName call) = false
-is_mild may (Rules.CallsJoin m) = false
-is_mild may Rules.CallsLock = false
-is_mild may Rules.Spawns = false
-is_mild may (Rules.LooksUp look) = false
-is_mild may (Rules.Exits p) = false
-is_mild may (Rules.Retries op) = may
-is_mild may Rules.Leaves = false
-is_mild may r = true
-
--- what isn't awaited is no request
-ignored : (a : ℕ) (v : Node) (f : ℕ) (l : Letter) → awaits a v f l ≡ false → request_in l ≡ []
-ignored a v f (Letter.SetLock id p) h = cc h
-ignored a v f (Letter.GiveBack id p ack) h = cc h
-ignored a v f l h = refl
-
--- plain letters give nothing back
-module _ (o : Opening) (w : World) (ops : ℕ → Option Op) (f t : ℕ) where
-  no_returns : (ls : List Letter) → Each (Plain o w ops f t) ls → (more : List Request) → found request_in ls ≡ Returns ∷ more → ⊥
-  no_returns [] E more e = cc e
-  no_returns (l ∷ ls) E more e = go l E.0 e (λ k. no_returns ls E.1 more k)
-    where
-      go : (x : Letter) → Plain o w ops f t x → request_in x ++ found request_in ls ≡ Returns ∷ more
-          → (found request_in ls ≡ Returns ∷ more → ⊥) → ⊥
-      go (Letter.GiveBack (Global b) p ack) P k on = cc P
-      go (Letter.SetLock (Global b) p) P k on = cc k
-      go x P k on = on k
 
 module _ (o : Opening) (w : World) (W : Whole o w) (Q : IsQuiet o w) (ops : ℕ → Option Op) (may : Nodes)
     (retries : (c : ℕ) (x : Op) → may c ≡ true → (w.node c).current ≡ Current.Waiting x → ops c ≡ Some x) where
@@ -168,8 +138,8 @@ module _ (o : Opening) (w : World) (W : Whole o w) (Q : IsQuiet o w) (ops : ℕ 
           go (Asking y q k R H) same = Asking y q (same ∙ k) R (A (boss o w ops c) (boss_up c R.up) H)
 
       goes : Turned o w ops v t u l → ((b : ℕ) → IsUp o w b → Active o w ops b v → Active o w ops b (after_turn t v u l))
-          → IsAt o w ops t (after_turn t v u l) → Goes o w ops v (Rules.effect o t r v)
-      goes S A here = subst (Goes o w ops v) (effect-turn o t v r e)
+          → IsAt o w ops t (after_turn t v u l) → Goes o w ops v r (Rules.effect o t r v)
+      goes S A here = subst (Goes o w ops v r) (effect-turn o t v r e)
           (inl (still_after o w ops v t u l C S, at_others S A here, A))
 
       -- locks that stay, and a letter that is no request
@@ -193,7 +163,7 @@ module _ (o : Opening) (w : World) (W : Whole o w) (Q : IsQuiet o w) (ops : ℕ 
 
       -- a turn that changes calls alone
       calls_alone : Parts u.node (v.node t) → u.node.current ≡ (v.node t).current → u.node.locks ≡ (v.node t).locks
-          → all_pass is_simple u.sends ≡ true → u.entries ≡ [] → NoRequest o w l → Goes o w ops v (Rules.effect o t r v)
+          → all_pass is_simple u.sends ≡ true → u.entries ≡ [] → NoRequest o w l → Goes o w ops v r (Rules.effect o t r v)
       calls_alone parts current locks sends entries none = goes (record {
         parts = parts;
         sends = simple_sends o w ops t u sends;
@@ -205,7 +175,7 @@ module _ (o : Opening) (w : World) (W : Whole o w) (Q : IsQuiet o w) (ops : ℕ 
       round_on : Parts u.node (v.node t) → u.node.locks ≡ (v.node t).locks → all_pass is_simple u.sends ≡ true → u.entries ≡ []
           → NoRequest o w l → (x : Op) (q : Round) → u.node.current ≡ Current.Asking x q → Round_at o w ops t x q
           → (Active o w ops (boss o w ops t) v ⊎ Active o w ops (boss o w ops t) (after_turn t v u l))
-          → Goes o w ops v (Rules.effect o t r v)
+          → Goes o w ops v r (Rules.effect o t r v)
       round_on parts locks sends entries none x q is R A = goes (record {
         parts = parts;
         sends = simple_sends o w ops t u sends;
@@ -219,16 +189,20 @@ module _ (o : Opening) (w : World) (W : Whole o w) (Q : IsQuiet o w) (ops : ℕ 
           by (inr H) = H
 
       -- its operation is decided
-      decides : (x : Op) → ops t ≡ Some x → DecidedIn o w ops t x u.entries → Goes o w ops v (Rules.effect o t r v)
-      decides x may_x D = subst (Goes o w ops v) (effect-turn o t v r e) (inr (record {
-        node = t;
-        op = x;
-        runs = up_t;
-        may = may_x;
-        more = u.entries;
-        history = ap (λ (h : List Entry). h ++ u.entries) C.history;
-        decided = D;
-      }))
+      decides : is_decision r ≡ true → (x : Op) → ops t ≡ Some x → DecidedIn o w ops t x u.entries
+          → Goes o w ops v r (Rules.effect o t r v)
+      decides by_rule x may_x D = subst (Goes o w ops v r) (effect-turn o t v r e) (inr (
+        record {
+          node = t;
+          op = x;
+          runs = up_t;
+          may = may_x;
+          more = u.entries;
+          history = ap (λ (h : List Entry). h ++ u.entries) C.history;
+          decided = D;
+        },
+        by_rule,
+      ))
 
     -- A request for the global lock
     module _ (f : ℕ) (inside : in_world o f ≡ true) (F : Rules.IsFront o t v f (Letter.SetLock (Global f) (registrar f)))
@@ -472,7 +446,7 @@ module _ (o : Opening) (w : World) (W : Whole o w) (Q : IsQuiet o w) (ops : ℕ 
       judged_current false = refl
 
       pub judges_global : (m : Rules.May o t v (Rules.Judges f (Global f) (registrar f)))
-          → Goes o w ops v (Rules.effect o t (Rules.Judges f (Global f) (registrar f)) v)
+          → Goes o w ops v (Rules.Judges f (Global f) (registrar f)) (Rules.effect o t (Rules.Judges f (Global f) (registrar f)) v)
       judges_global m = goes (Rules.Judges f (Global f) (registrar f)) refl m (turned_by verdict refl) A
           (at_same_current (Rules.Judges f (Global f) (registrar f)) refl m (judged_current verdict) A)
         where
@@ -486,7 +460,7 @@ module _ (o : Opening) (w : World) (W : Whole o w) (Q : IsQuiet o w) (ops : ℕ 
 
     -- a request is judged
     judges : (f : ℕ) (id : Id) (p : Process) → Rules.May o t v (Rules.Judges f id p)
-        → Goes o w ops v (Rules.effect o t (Rules.Judges f id p) v)
+        → Goes o w ops v (Rules.Judges f id p) (Rules.effect o t (Rules.Judges f id p) v)
     judges f (Client r z) p m = goes (Rules.Judges f (Client r z) p) refl m (record {
       parts = (same free).0;
       sends = simple_sends o w ops t (judged free) (simple free);
@@ -517,14 +491,14 @@ module _ (o : Opening) (w : World) (W : Whole o w) (Q : IsQuiet o w) (ops : ℕ 
         let N : (b ≡ f) × (p ≡ registrar f) =
         (subst (λ (ls : List Letter). Each (IsNamed f t) ls) m.front.1.1 (B.all.locks.named f t up.1)).0 in
         subst (λ (q : Process). Rules.May o t v (Rules.Judges f (Global b) q)
-        → Goes o w ops v (Rules.effect o t (Rules.Judges f (Global b) q) v)) (sym N.1)
+        → Goes o w ops v (Rules.Judges f (Global b) q) (Rules.effect o t (Rules.Judges f (Global b) q) v)) (sym N.1)
         (subst (λ (c : ℕ). Rules.May o t v (Rules.Judges f (Global c) (registrar f))
-        → Goes o w ops v (Rules.effect o t (Rules.Judges f (Global c) (registrar f)) v)) (sym N.0)
+        → Goes o w ops v (Rules.Judges f (Global c) (registrar f)) (Rules.effect o t (Rules.Judges f (Global c) (registrar f)) v)) (sym N.0)
         (λ k. judges_global f k.front.0 k.front.1 k.tested k)) m
 
     -- a grant of a client comes back
     takes_back : (f : ℕ) (id : Id) (p : Process) (ack : Bool) → Rules.May o t v (Rules.TakesBack f id p ack)
-        → Goes o w ops v (Rules.effect o t (Rules.TakesBack f id p ack) v)
+        → Goes o w ops v (Rules.TakesBack f id p ack) (Rules.effect o t (Rules.TakesBack f id p ack) v)
     takes_back f (Global b) p ack m = absurd (cc (front f (Letter.GiveBack (Global b) p ack) m.front.0 m.front.1))
     takes_back f (Client r z) p ack m = go ack m
       where
@@ -541,7 +515,7 @@ module _ (o : Opening) (w : World) (W : Whole o w) (Q : IsQuiet o w) (ops : ℕ 
             (λ x j i s. (j, ap (share x) h ∙ s))
 
         go : (k : Bool) → Rules.May o t v (Rules.TakesBack f (Client r z) p k)
-            → Goes o w ops v (Rules.effect o t (Rules.TakesBack f (Client r z) p k) v)
+            → Goes o w ops v (Rules.TakesBack f (Client r z) p k) (Rules.effect o t (Rules.TakesBack f (Client r z) p k) v)
         go true n = goes (Rules.TakesBack f (Client r z) p true) refl n (record {
           parts = record { replica = refl; watch = refl; queue = refl };
           sends = simple_sends o w ops t (Rules.turn_by o t v (Rules.TakesBack f (Client r z) p true)) refl;
@@ -567,7 +541,7 @@ module _ (o : Opening) (w : World) (W : Whole o w) (Q : IsQuiet o w) (ops : ℕ 
     same_parts x b c d = record { replica = b; watch = c; queue = d }
 
     hears_lock : (f : ℕ) (id : Id) (g : Bool) (c : LockCall) (r : Round) → Rules.May o t v (Rules.HearsLock f id g c r)
-        → Goes o w ops v (Rules.effect o t (Rules.HearsLock f id g c r) v)
+        → Goes o w ops v (Rules.HearsLock f id g c r) (Rules.effect o t (Rules.HearsLock f id g c r) v)
     hears_lock f id g c r m = calls_alone (Rules.HearsLock f id g c r) refl m (stays (opens f g r)).0 (stays (opens f g r)).1
         (stays (opens f g r)).2 (asked_too (opens f g r)) (stays (opens f g r)).3 (λ u. refl)
       where
@@ -587,7 +561,7 @@ module _ (o : Opening) (w : World) (W : Whole o w) (Q : IsQuiet o w) (ops : ℕ 
         stays false = (same_parts _ refl refl refl, refl, refl, refl)
 
     gives_up_lock : (c : LockCall) (r : Round) (s : Nodes) → Rules.May o t v (Rules.GivesUpLock c r s)
-        → Goes o w ops v (Rules.effect o t (Rules.GivesUpLock c r s) v)
+        → Goes o w ops v (Rules.GivesUpLock c r s) (Rules.effect o t (Rules.GivesUpLock c r s) v)
     gives_up_lock c r s m = calls_alone (Rules.GivesUpLock c r s) refl m (stays (is_spent c.retries)).0
         (stays (is_spent c.retries)).1
         (stays (is_spent c.retries)).2 (stays (is_spent c.retries)).3 (stays (is_spent c.retries)).4 tt
@@ -609,7 +583,7 @@ module _ (o : Opening) (w : World) (W : Whole o w) (Q : IsQuiet o w) (ops : ℕ 
 
     -- Rules of the registrar's round
     hears : (f : ℕ) (id : Id) (g : Bool) (x : Op) (r : Round) → Rules.May o t v (Rules.HearsAnswer f id g x r)
-        → Goes o w ops v (Rules.effect o t (Rules.HearsAnswer f id g x r) v)
+        → Goes o w ops v (Rules.HearsAnswer f id g x r) (Rules.effect o t (Rules.HearsAnswer f id g x r) v)
     hears f id g x r m = round_on (Rules.HearsAnswer f id g x r) refl m (stays (opens f g r)).0 (stays (opens f g r)).1
         (stays (opens f g r)).2
         (stays (opens f g r)).3 (λ u. refl) x (answer f g r) refl (record {
@@ -648,7 +622,7 @@ module _ (o : Opening) (w : World) (W : Whole o w) (Q : IsQuiet o w) (ops : ℕ 
         stays false = (same_parts _ refl refl refl, refl, refl, refl)
 
     marks_gone : (d : ℕ) (x : Op) (r : Round) → Rules.May o t v (Rules.MarksDown d x r)
-        → Goes o w ops v (Rules.effect o t (Rules.MarksDown d x r) v)
+        → Goes o w ops v (Rules.MarksDown d x r) (Rules.effect o t (Rules.MarksDown d x r) v)
     marks_gone d x r m = round_on (Rules.MarksDown d x r) refl m (same_parts _ refl refl refl) refl refl refl tt x (down d r) refl
         (record {
           up = up_t;
@@ -669,7 +643,7 @@ module _ (o : Opening) (w : World) (W : Whole o w) (Q : IsQuiet o w) (ops : ℕ 
             (W.base.all.proper.itself t up_t)
 
     gives_up : (x : Op) (r : Round) (s : Nodes) → Rules.May o t v (Rules.GivesUp x r s)
-        → Goes o w ops v (Rules.effect o t (Rules.GivesUp x r s) v)
+        → Goes o w ops v (Rules.GivesUp x r s) (Rules.effect o t (Rules.GivesUp x r s) v)
     gives_up x r s m = goes (Rules.GivesUp x r s) refl m (record {
       parts = same_parts _ refl refl refl;
       sends = simple_sends o w ops t (Rules.turn_by o t v (Rules.GivesUp x r s))
@@ -694,7 +668,7 @@ module _ (o : Opening) (w : World) (W : Whole o w) (Q : IsQuiet o w) (ops : ℕ 
 
     -- a refused round begins anew
     retried : (x : Op) → may t ≡ true → (m : Rules.May o t v (Rules.Retries x))
-        → Goes o w ops v (Rules.effect o t (Rules.Retries x) v)
+        → Goes o w ops v (Rules.Retries x) (Rules.effect o t (Rules.Retries x) v)
     retried x allowed m = round_on (Rules.Retries x) refl m (same_parts _ refl refl refl) refl refl refl tt x
         (begin o.bound (members o w ops t))
         (ap (λ (s : Nodes). Current.Asking x (begin o.bound s)) members_are) (record {
@@ -746,7 +720,7 @@ module _ (o : Opening) (w : World) (W : Whole o w) (Q : IsQuiet o w) (ops : ℕ 
     first e f same = subst (λ (x : Entry). Contains (x ∷ []) f) (sym same) (Contains-front f [])
 
     -- each rule
-    pub step : (r : Rule) → Rules.May o t v r → is_mild (may t) r ≡ true → Goes o w ops v (Rules.effect o t r v)
+    pub step : (r : Rule) → Rules.May o t v r → is_mild (may t) r ≡ true → Goes o w ops v r (Rules.effect o t r v)
     step (Rules.CallsName call) m h = cc h
     step (Rules.CallsJoin j) m h = cc h
     step Rules.CallsLock m h = cc h
@@ -762,18 +736,18 @@ module _ (o : Opening) (w : World) (W : Whole o w) (Q : IsQuiet o w) (ops : ℕ 
     step (Rules.HearsAnswer f id g x r) m h = hears f id g x r m
     step (Rules.MarksDown d x r) m h = marks_gone d x r m
     step (Rules.GivesUp x r s) m h = gives_up x r s m
-    step (Rules.Grants k call r) m h = decides (Rules.Grants k call r) refl m (Op.Name k call)
+    step (Rules.Grants k call r) m h = decides (Rules.Grants k call r) refl m refl (Op.Name k call)
         (held_op (Op.Name k call) r m.tested.0)
         (first _ _ (named k call))
-    step (Rules.Denies k call r) m h = decides (Rules.Denies k call r) refl m (Op.Name k call)
+    step (Rules.Denies k call r) m h = decides (Rules.Denies k call r) refl m refl (Op.Name k call)
         (held_op (Op.Name k call) r m.tested.0)
         (first _ _ (named k call))
-    step (Rules.Strikes p r) m h = decides (Rules.Strikes p r) refl m (Op.Strike p) (held_op (Op.Strike p) r m.tested)
+    step (Rules.Strikes p r) m h = decides (Rules.Strikes p r) refl m refl (Op.Strike p) (held_op (Op.Strike p) r m.tested)
         (Contains-front (Entry.Strike p) [])
-    step (Rules.Admits j pairs r) m h = decides (Rules.Admits j pairs r) refl m (Op.Admission j pairs)
+    step (Rules.Admits j pairs r) m h = decides (Rules.Admits j pairs r) refl m refl (Op.Admission j pairs)
         (held_op (Op.Admission j pairs) r m.tested.0)
         (inr (join_number v j, Contains-front (Entry.Join j (join_number v j) t Joined) []))
-    step (Rules.Passes j pairs r) m h = decides (Rules.Passes j pairs r) refl m (Op.Admission j pairs)
+    step (Rules.Passes j pairs r) m h = decides (Rules.Passes j pairs r) refl m refl (Op.Admission j pairs)
         (held_op (Op.Admission j pairs) r m.tested.0)
         (inl (sym (ap (λ (x : Replica). x.told j) (C.parts t).replica) ∙ m.tested.1))
     step (Rules.CountsApplied f x s awaited reply) m h = absurd (not_writing t up_t x s awaited reply m.tested.1)

@@ -3,7 +3,7 @@
 -- es: the events so far; w: the world that they made; a and c: nodes; e: the event by which one begins alone; ds: the
 -- deliveries behind it.
 use mathlib.Core.Logic.{◌⊎◌}
-use Rattle.std.specs.Prelude.{ℕ, Bool, true, false, ◌+◌, ◌≡◌, Contains, None, List, ◌∷◌, ◌++◌}
+use Rattle.std.specs.Prelude.{ℕ, Bool, true, false, ◌+◌, ◌≡◌, ◌<◌, Contains, None, List, ◌∷◌, ◌++◌}
 use Rattle.std.specs.List.{list_all}
 use Rattle.registry_model.specs.Call.{NameCall, Reply, Joined, reply_to}
 use Rattle.registry_model.specs.History.{Entry}
@@ -14,6 +14,7 @@ use Rattle.protocol_model.specs.Course.{entries_of, answers_of, course}
 use Rattle.protocol_model.specs.Fit.{is_delivery}
 use Rattle.protocol_model.specs.Answers.{answer_to}
 use Rattle.protocol_model.specs.Leftovers.{Runs, IsQuiet, IsSettled}
+use Rattle.getting_through.specs.Pending.{pending}
 
 -- the event is accepted in a quiet world, and then letters are delivered until none waits
 pub record IsAlone (o : Opening) (w : World) (e : WorldEvent) (ds : List WorldEvent) : Type 0 where
@@ -55,11 +56,12 @@ module _ (o : Opening) (es : List WorldEvent) (w : World) where
   End a (Op.Join k m) fs = ⊥
 
   -- Whoever retries, someone gets through: where one refused registrar is retried, and no letter waits behind that and any
-  -- deliveries and other retries, in any order, some registrar that was refused has ended its operation
+  -- deliveries and other retries, in any order, some registrar that was refused has ended its operation, and less has still to be
+  -- retried
   abbrev pub SomeoneGetsThrough : Type 0
   SomeoneGetsThrough = (a : ℕ) (op : Op) (xs ys : List WorldEvent) → Runs o w a → (w.node a).current ≡ Current.Waiting op →
       IsStorm o w a xs ys → (c : ℕ) × (x : Op) × Runs o w c × ((w.node c).current ≡ Current.Waiting x)
-      × End c x (xs ++ At a Event.Retry ∷ ys)
+      × End c x (xs ++ At a Event.Retry ∷ ys) × (pending o (run o w (xs ++ At a Event.Retry ∷ ys)) < pending o w)
 
   -- A registrar that was refused ends its operation where it alone is retried
   abbrev pub RetriesAloneEnd : Type 0

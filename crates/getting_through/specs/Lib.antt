@@ -1,1 +1,3 @@
+pub mod Pending
 pub mod GettingThrough
+pub mod GettingFree

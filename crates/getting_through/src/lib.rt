@@ -4,9 +4,10 @@
 
 ghost use Rattle.protocol_model.specs.Leftovers.{Always};
 ghost use Rattle.getting_through.specs.GettingThrough.{SomeoneGetsThrough, RetriesAloneEnd, NameCallsAloneAnswered};
+ghost use Rattle.getting_through.specs.GettingFree.{PendingStays, RegistrarsGetFree};
 
 /// Whoever retries, someone gets through: from a quiet world letters are delivered and nodes are retried, in any order, a refused
-/// registrar among them, until no letter waits. Then some registrar that was refused has ended its operation.
+/// registrar among them, until no letter waits. Then some registrar that was refused has ended its operation, and less is pending.
 pub fn someone_gets_through()
     ensures { Always SomeoneGetsThrough }
 {}
@@ -20,4 +21,15 @@ pub fn retries_alone_end()
 /// members of its node were when it was made.
 pub fn name_calls_alone_are_answered()
     ensures { Always NameCallsAloneAnswered }
+{}
+
+/// What is pending, as what may still have to be retried is called, no delivery and no retry raises.
+pub fn pending_never_rises()
+    ensures { Always PendingStays }
+{}
+
+/// All registrars get free: from every world that events can reach deliveries and retries, no more retries than are pending, lead on
+/// to a settled one, where each registrar is free with nothing queued and each name call and each join has been answered.
+pub fn registrars_get_free()
+    ensures { Always RegistrarsGetFree }
 {}
