@@ -2,7 +2,6 @@
 
 import importlib.util
 import os
-import signal
 import subprocess
 import sys
 import time
@@ -60,7 +59,7 @@ def has_it_all(program, root, *options):
                 expect("the lock of another", False, other.set_lock("r", lone, "it", retries=0))
             expect("the lock when it is free", True, other.set_lock("r", lone, "it", retries=0))
             other.del_lock("r", lone, "it")
-            expect_refused(client, "not_live", one.set_lock, "r", "a.9", "me")
+            expect_refused(client, "not_live", one.set_lock, "r", "b.1", "me")
             one.exit(second)
             status = one.status()
             told = (status.node, status.is_joined, status.members, status.names, status.serials, status.consoles)
@@ -91,8 +90,9 @@ class Candidate:
         expect("the line of a candidate", f"{self.name} {text}\n".encode(), self.process.stdout.readline())
 
     def end(self):
-        self.process.send_signal(signal.SIGKILL)
-        self.process.communicate()
+        self.process.kill()
+        self.process.wait()
+        self.process.stdout.close()
 
 
 def elects(program, root):

@@ -17,7 +17,7 @@ COOKIE = "0123456789abcdef"
 OVER_TCP = ("--cookie", COOKIE)
 
 
-def attach(options, node="a"):
+def attach(options=(), node="a"):
     """The line that attaches a console, with the cookie where there is one."""
     return f"attach {' '.join([node, *options[1:]])}".encode()
 
@@ -62,15 +62,15 @@ def until_there_is_a_place(served, line, seconds):
     raise Failure("there is no place for a console in time")
 
 
-def given_up_call_frees_its_place(program, *options):
-    """A client goes whose call waits for a lock, for a process that isn't linked: the call is given up, the process lives on, and
-    another console has the place."""
-    with Served(program, ["--stay", "--nodes", "a", "--consoles", "2", *options]) as served:
+def given_up_call_frees_its_place(program):
+    """At a socket a client goes whose call waits for a lock, for a process that isn't linked: the call is given up, and another console has
+    the place. Over TCP nobody can tell such a client from one that has only ended its input, so there its console waits."""
+    with Served(program, ["--stay", "--nodes", "a", "--consoles", "2"]) as served:
         seconds = program.seconds
         first, second = Console(served), Console(served)
-        for line, answer in [(attach(options), b"ok"), (b"spawn", b"a.1"), (b"set_lock a.1 leader one all 0", b"true")]:
+        for line, answer in [(attach(), b"ok"), (b"spawn", b"a.1"), (b"set_lock a.1 leader one all 0", b"true")]:
             expect_same("an answer", answer, hears(first, line, seconds))
-        for line, answer in [(attach(options), b"ok"), (b"spawn", b"a.2")]:
+        for line, answer in [(attach(), b"ok"), (b"spawn", b"a.2")]:
             expect_same("an answer", answer, hears(second, line, seconds))
         second.say(b"set_lock a.2 leader two all infinity\n")
         ask, found = b"set_lock a.2 leader two all 0", b"false"
@@ -78,16 +78,13 @@ def given_up_call_frees_its_place(program, *options):
             found = hears(first, ask, seconds)
         expect_same("the answer while it waits", b"error busy", found)
         second.go()
-        third = until_there_is_a_place(served, attach(options), seconds)
+        third = until_there_is_a_place(served, attach(), seconds)
         expect_same("an answer", b"a.3", hears(third, b"spawn", seconds))
         shut_down(served, third, seconds)
 
 
 def tests(program, root):
-    for name, test in [
-        ("silent_console_goes_on", silent_console_goes_on),
-        ("idle_server_stays", idle_server_stays),
-        ("given_up_call_frees_its_place", given_up_call_frees_its_place),
-    ]:
+    for name, test in [("silent_console_goes_on", silent_console_goes_on), ("idle_server_stays", idle_server_stays)]:
         yield Test(f"waits/{name}_at_a_socket", partial(test, program))
         yield Test(f"waits/{name}_over_tcp", partial(test, program, *OVER_TCP))
+    yield Test("waits/given_up_call_frees_its_place", partial(given_up_call_frees_its_place, program))
