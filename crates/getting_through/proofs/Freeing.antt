@@ -27,8 +27,8 @@ use Rattle.no_dead_end.proofs.CallsAnswered.{rest_is_free, settled_worlds_answer
 use Rattle.no_dead_end.proofs.Deliveries.{settles}
 use Rattle.no_dead_end.proofs.QuietWorlds.{quiet_worlds_rest}
 use Rattle.getting_through.specs.Pending.{pending}
-use Rattle.getting_through.specs.GettingThrough.{is_delivery_or_retry}
-use Rattle.getting_through.specs.GettingFree.{is_retry, retries, PendingStays, RegistrarsGetFree}
+use Rattle.getting_through.specs.GettingThrough.{IsStorm, is_delivery_or_retry}
+use Rattle.getting_through.specs.GettingFree.{is_retry, retries, Storms, Calm, Storm, PendingStays, RegistrarsGetFree, StormsAreFew}
 use Rattle.getting_through.proofs.Storm.{is_mild, is_decision}
 use Rattle.getting_through.proofs.PendingRules.{decided_one}
 use Rattle.getting_through.proofs.StormEvents.{mild_letters, mild_first, mild_again, lower}
@@ -37,6 +37,34 @@ use Rattle.getting_through.proofs.Laws.{someone_gets_through}
 -- retries of two lists
 retries_append : (xs ys : List WorldEvent) → retries (xs ++ ys) ≡ retries xs + retries ys
 retries_append xs ys = ap length (filter-append is_retry xs ys) ∙ length-append (filter is_retry xs) (filter is_retry ys)
+
+-- a node of these whose registrar was refused, if there is one
+abbrev pub Refused : (ℕ → Type 0) → World → Type 0
+Refused Up v = (c : ℕ) × (op : Op) × Up c × ((v.node c).current ≡ Current.Waiting op)
+
+abbrev pub NoneBelow : (ℕ → Type 0) → ℕ → World → Type 0
+NoneBelow Up n v = (c : ℕ) (op : Op) → c < n → Up c → (v.node c).current ≡ Current.Waiting op → ⊥
+
+pub refused_below : (Up : ℕ → Type 0) → ((c : ℕ) → Up c ⊎ (Up c → ⊥)) → (v : World) (n : ℕ) → Refused Up v ⊎ NoneBelow Up n v
+refused_below Up is v zero = inr (λ c op l u e. absurd (omega (arith, l)))
+refused_below Up is v (suc n) = elim (refused_below Up is v n) [
+  | inl f ↦ inl f
+  | inr none ↦ here none (is n) (v.node n).current refl
+]
+  where
+    others : NoneBelow Up n v → ((op : Op) → Up n → (v.node n).current ≡ Current.Waiting op → ⊥) → NoneBelow Up (suc n) v
+    others none at c op l u e = elim (cases_eq c n) [
+      | inl same ↦ at op (subst Up same u) (ap (λ (y : ℕ). (v.node y).current) (sym same) ∙ e)
+      | inr ne ↦ none c op (omega (arith, l, ne)) u e
+    ]
+
+    here : NoneBelow Up n v → (Up n ⊎ (Up n → ⊥)) → (x : Current) → (v.node n).current ≡ x → Refused Up v ⊎ NoneBelow Up (suc n) v
+    here none (inr out) x g = inr (others none (λ op u k. out u))
+    here none (inl u) (Current.Waiting op) g = inl (n, op, u, g)
+    here none (inl u) Current.Free g = inr (others none (λ op u k. cc (k, g)))
+    here none (inl u) (Current.Joining i m) g = inr (others none (λ op u k. cc (k, g)))
+    here none (inl u) (Current.Asking x r) g = inr (others none (λ op u k. cc (k, g)))
+    here none (inl u) (Current.Writing x s awaited reply) g = inr (others none (λ op u k. cc (k, g)))
 
 module _ (o : Opening) where
   abbrev Kept : World → Type 0
@@ -47,7 +75,8 @@ module _ (o : Opening) where
       → pending o (Rules.effects o t rs v) ≤ pending o v
   chain_stays t [] v k m h = omega arith
   chain_stays t (r ∷ rs) v k m h =
-      let p : (is_mild true r ≡ true) × (list_all (is_mild true) rs ≡ true) = both (is_mild true r) (list_all (is_mild true) rs) h in
+      let p : (is_mild true r ≡ true) × (list_all (is_mild true) rs ≡ true) =
+      both (is_mild true r) (list_all (is_mild true) rs) h in
       let B : Base o (Rules.effect o t r v) = base_keeps o t v r k.base m.0 in
       let less : pending o (Rules.effect o t r v) + decided_one (is_decision r) ≤ pending o v =
       lower o t v k.base k.here r m.0 p.0 in
@@ -99,44 +128,23 @@ module _ (o : Opening) where
   left_delivers zero v = (refl, refl)
   left_delivers (suc most) v = go (next_delivery o v) refl (λ d. left_delivers most (happens o v d))
     where
-      go : (x : Option WorldEvent) → next_delivery o v ≡ x → ((d : WorldEvent) → Deliveries (deliveries_left o most (happens o v d)))
+      go : (x : Option WorldEvent) → next_delivery o v ≡ x
+          → ((d : WorldEvent) → Deliveries (deliveries_left o most (happens o v d)))
           → Deliveries (elim x [ None ↦ [] | Some e ↦ e ∷ deliveries_left o most (happens o v e) ])
       go None e more = (refl, refl)
       go (Some d) e more = let F : IsFirstDelivery o v d = (delivers_the_first o v).some d e in
           subst (λ (x : WorldEvent). Deliveries (x ∷ deliveries_left o most (happens o v d))) (sym F.delivery) (more d)
 
-  -- a running registrar that was refused, if there is one
-  abbrev Refused : World → Type 0
-  Refused v = (c : ℕ) × (op : Op) × Runs o v c × ((v.node c).current ≡ Current.Waiting op)
-
-  abbrev NoneBelow : ℕ → World → Type 0
-  NoneBelow n v = (c : ℕ) (op : Op) → c < n → Runs o v c → (v.node c).current ≡ Current.Waiting op → ⊥
-
-  refused_below : (v : World) (n : ℕ) → Refused v ⊎ NoneBelow n v
-  refused_below v zero = inr (λ c op l u e. absurd (omega (arith, l)))
-  refused_below v (suc n) = elim (refused_below v n) [
-    | inl f ↦ inl f
-    | inr none ↦ here none (in_world o n) refl (left v n) refl (v.node n).current refl
-  ]
+  is_running : (v : World) (c : ℕ) → Runs o v c ⊎ (Runs o v c → ⊥)
+  is_running v c = go (in_world o c) refl (left v c) refl
     where
-      others : NoneBelow n v → ((op : Op) → Runs o v n → (v.node n).current ≡ Current.Waiting op → ⊥) → NoneBelow (suc n) v
-      others none at c op l u e = elim (cases_eq c n) [
-        | inl same ↦ at op (subst (Runs o v) same u) (ap (λ (y : ℕ). (v.node y).current) (sym same) ∙ e)
-        | inr ne ↦ none c op (omega (arith, l, ne)) u e
-      ]
-
-      here : NoneBelow n v → (i : Bool) → in_world o n ≡ i → (j : Bool) → left v n ≡ j → (x : Current) → (v.node n).current ≡ x
-          → Refused v ⊎ NoneBelow (suc n) v
-      here none false e j f x g = inr (others none (λ op u k. cc (u.0, e)))
-      here none true e true f x g = inr (others none (λ op u k. cc (u.1, f)))
-      here none true e false f (Current.Waiting op) g = inl (n, op, (e, f), g)
-      here none true e false f Current.Free g = inr (others none (λ op u k. cc (k, g)))
-      here none true e false f (Current.Joining i m) g = inr (others none (λ op u k. cc (k, g)))
-      here none true e false f (Current.Asking x r) g = inr (others none (λ op u k. cc (k, g)))
-      here none true e false f (Current.Writing x s awaited reply) g = inr (others none (λ op u k. cc (k, g)))
+      go : (i : Bool) → in_world o c ≡ i → (l : Bool) → left v c ≡ l → Runs o v c ⊎ (Runs o v c → ⊥)
+      go true e false f = inl (e, f)
+      go false e l f = inr (λ u. cc (u.0, e))
+      go true e true f = inr (λ u. cc (u.1, f))
 
   -- it may be retried
-  may_retry : (v : World) (a : ℕ) (op : Op) → Runs o v a → (v.node a).current ≡ Current.Waiting op
+  pub may_retry : (v : World) (a : ℕ) (op : Op) → Runs o v a → (v.node a).current ≡ Current.Waiting op
       → refusal o v (At a Event.Retry) ≡ None
   may_retry v a op up e = rw (up.0, up.1, can) refl
     where
@@ -148,7 +156,7 @@ module _ (o : Opening) where
   Freed es = (fs : List WorldEvent) × (list_all is_delivery_or_retry fs ≡ true) × (retries fs ≤ pending o (world o es))
       × IsSettled o (run o (world o es) fs)
 
-  none_left : (es : List WorldEvent) → IsQuiet o (world o es) → NoneBelow o.bound (world o es) → Freed es
+  none_left : (es : List WorldEvent) → IsQuiet o (world o es) → NoneBelow (Runs o (world o es)) o.bound (world o es) → Freed es
   none_left es Q none = (
     [],
     refl,
@@ -171,7 +179,7 @@ module _ (o : Opening) where
   )
 
   -- a refused registrar is retried in a quiet world, and letters are delivered until none waits
-  module _ (es : List WorldEvent) (Q : IsQuiet o (world o es)) (f : Refused (world o es)) where
+  module _ (es : List WorldEvent) (Q : IsQuiet o (world o es)) (f : Refused (Runs o (world o es)) (world o es)) where
     abbrev again : WorldEvent
     again = At f.0 Event.Retry
 
@@ -201,20 +209,22 @@ module _ (o : Opening) where
 
   -- so all are free in the end, from a quiet world
   quietly : (n : ℕ) (es : List WorldEvent) → IsQuiet o (world o es) → pending o (world o es) ≤ n → Freed es
-  quietly zero es Q l = elim (refused_below (world o es) o.bound) [
+  quietly zero es Q l = elim (refused_below (Runs o (world o es)) (is_running (world o es)) (world o es) o.bound) [
     | inl f ↦ let h : pending o (run o (world o es) (again es Q f ∷ rest es Q f)) < pending o (world o es) = less es Q f in
         absurd (omega (arith, h, l))
     | inr none ↦ none_left es Q none
   ]
-  quietly (suc n) es Q l = elim (refused_below (world o es) o.bound) [
+  quietly (suc n) es Q l = elim (refused_below (Runs o (world o es)) (is_running (world o es)) (world o es) o.bound) [
     | inl f ↦
         let h : pending o (run o (world o es) (again es Q f ∷ rest es Q f)) < pending o (world o es) = less es Q f in
-        let now : pending o (world o (es ++ again es Q f ∷ rest es Q f)) ≡ pending o (run o (world o es) (again es Q f ∷ rest es Q f)) =
+        let now : pending o (world o (es ++ again es Q f ∷ rest es Q f))
+        ≡ pending o (run o (world o es) (again es Q f ∷ rest es Q f)) =
         ap (pending o) (same es Q f) in
         let D : Deliveries (rest es Q f) = left_delivers (work o (asked es Q f)) (asked es Q f) in
         let none : retries (rest es Q f) ≡ 0 = D.1 in
         join es (again es Q f ∷ rest es Q f) D.0
-        (quietly n (es ++ again es Q f ∷ rest es Q f) (subst (IsQuiet o) (sym (same es Q f)) (quiet es Q f)) (omega (arith, h, now, l)))
+        (quietly n (es ++ again es Q f ∷ rest es Q f) (subst (IsQuiet o) (sym (same es Q f)) (quiet es Q f))
+        (omega (arith, h, now, l)))
         (omega (arith, h, now, none))
     | inr none ↦ none_left es Q none
   ]
@@ -269,3 +279,24 @@ registrars_get_free o es = (
     rests c up = subst (λ (v : World). Runs o v c → ((v.node c).current ≡ Current.Free) × ((v.node c).queue ≡ [])) there
         (λ u. rest_is_free (Runs o (world o (es ++ F.0))) (world o (es ++ F.0)) c settled.retried u
         ((quiet_worlds_rest o (es ++ F.0) settled.quiet).registrars c u)) up
+
+-- Whichever refused registrar is retried, there are no more such retries than are pending
+module _ (o : Opening) where
+  abbrev pub Lowers : World → Type 0
+  Lowers v = (a : ℕ) (op : Op) (xs ys : List WorldEvent) → Runs o v a → (v.node a).current ≡ Current.Waiting op
+      → IsStorm o v a xs ys → pending o (run o v (xs ++ At a Event.Retry ∷ ys)) < pending o v
+
+  pub lowers : (es : List WorldEvent) (v : World) → v ≡ world o es → Lowers v
+  lowers es v e = subst Lowers (sym e) (λ a op xs ys up waits S. (someone_gets_through o es a op xs ys up waits S).5)
+
+  few_storms : (es : List WorldEvent) (v : World) (n : ℕ) → v ≡ world o es → Storms o v n → n ≤ pending o v
+  few_storms es v n e (Calm w) = omega arith
+  few_storms es v n e (Storm w m a op xs ys up waits S more) =
+      let less : pending o (run o v (xs ++ At a Event.Retry ∷ ys)) < pending o v = lowers es v e a op xs ys up waits S in
+      let rest : m ≤ pending o (run o v (xs ++ At a Event.Retry ∷ ys)) =
+      few_storms (es ++ (xs ++ At a Event.Retry ∷ ys)) (run o v (xs ++ At a Event.Retry ∷ ys)) m
+      (ap (λ (x : World). run o x (xs ++ At a Event.Retry ∷ ys)) e
+      ∙ sym (run-append o (opening_world o) es (xs ++ At a Event.Retry ∷ ys))) more in omega (arith, less, rest)
+
+pub storms_are_few : Always StormsAreFew
+storms_are_few o es n S = few_storms o es (world o es) n refl S

@@ -145,9 +145,11 @@ module _ (o : Opening) (es : List WorldEvent) (ops : ℕ → Option Op) (may : N
       (sym (run-append o (world o es) xs (At a Event.Retry ∷ ys)))
       (run_on o (world o es) (whole o es) S.before ops may retries b (boss_runs o es S.before ops a up) limit true ys later
       (happens o (run o (world o es) xs) (At a Event.Retry))
-      (heated o (world o es) (whole o es) S.before ops may retries b (boss_runs o es S.before ops a up) limit a op allowed waits refl
+      (heated o (world o es) (whole o es) S.before ops may retries b (boss_runs o es S.before ops a up) limit a op allowed
+      waits refl
       (run o (world o es) xs)
-      (run_on o (world o es) (whole o es) S.before ops may retries b (boss_runs o es S.before ops a up) limit false xs before (world o es)
+      (run_on o (world o es) (whole o es) S.before ops may retries b (boss_runs o es S.before ops a up) limit false xs before
+      (world o es)
       (record {
         base = (whole o es).base;
         admissions = (admissions_known o es).here;

@@ -8,3 +8,4 @@ pub mod StormEvents
 pub mod Entered
 pub mod Laws
 pub mod Freeing
+pub mod NamedFreeing

@@ -36,7 +36,7 @@ use Rattle.getting_through.specs.Pending.{pending_op, pending_queued, pending_le
 use Rattle.getting_through.proofs.Storm.{is_mild, is_decision}
 use Rattle.getting_through.proofs.PendingParts.{doing, queue, queue_by, queue_same, own, plain, sent, node_is, light_sends, one_light, all_light, put_letters, none_sent, nowhere, fives, fewer, unstruck, shift}
 
--- A table that a letter changes. v: the node; the queue of the study's node is left out
+-- A table that a letter changes. v: the node; its queue and its lock calls are left out where its work is asked for
 module _ (o : Opening) (up : Nodes) (a : ℕ) (v : Node) where
   abbrev bare : Node
   bare = record v { queue = []; calls = [] }
@@ -411,7 +411,8 @@ module _ (o : Opening) (up : Nodes) (a : ℕ) where
     local (Rules.HearsAnswer f id g op r) m e = hears f id g op r m.tested.1
     local (Rules.MarksDown d op r) m e =
         let h : plain o up a (record v { current = Current.Asking op (down d r) }) + 0 ≤ plain o up a v =
-        shift o up a (Current.Asking op r) (Current.Asking op (down d r)) 0 v m.tested.1 (omega arith) (λ p k. k) in omega (arith, h)
+        shift o up a (Current.Asking op r) (Current.Asking op (down d r)) 0 v m.tested.1 (omega arith) (λ p k. k) in
+        omega (arith, h)
     local (Rules.GivesUp op r s) m e =
         let h : plain o up a (record v { current = Current.Waiting op }) + 0 ≤ plain o up a v =
         shift o up a (Current.Asking op r) (Current.Waiting op) 0 v m.tested.0 (omega arith) (λ p k. k) in

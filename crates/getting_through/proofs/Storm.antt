@@ -284,7 +284,8 @@ ignored a v f l h = refl
 
 -- plain letters give nothing back
 module _ (o : Opening) (w : World) (ops : ℕ → Option Op) (f t : ℕ) where
-  pub no_returns : (ls : List Letter) → Each (Plain o w ops f t) ls → (more : List Request) → found request_in ls ≡ Returns ∷ more → ⊥
+  pub no_returns : (ls : List Letter) → Each (Plain o w ops f t) ls → (more : List Request)
+      → found request_in ls ≡ Returns ∷ more → ⊥
   no_returns [] E more e = cc e
   no_returns (l ∷ ls) E more e = go l E.0 e (λ k. no_returns ls E.1 more k)
     where

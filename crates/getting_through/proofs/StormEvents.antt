@@ -80,7 +80,8 @@ mild_letters b (r ∷ rs) q l =
     both (is_allowed true r) (list_all (is_allowed true) rs) l in
     rw (mild_by_letter b r p.0 k.0, mild_letters b rs p.1 k.1) refl
 
-pub mild_first : (o : Opening) (b : Bool) (t f : ℕ) (ls : List Letter) → list_all (is_mild b) (Rules.first_by_letter o t f ls) ≡ true
+pub mild_first : (o : Opening) (b : Bool) (t f : ℕ) (ls : List Letter)
+    → list_all (is_mild b) (Rules.first_by_letter o t f ls) ≡ true
 mild_first o b t f (Letter.Down ∷ ls) = refl
 mild_first o b t f [] = refl
 mild_first o b t f (l ∷ ls) = refl
@@ -197,7 +198,8 @@ module _ (o : Opening) (w : World) (W : Whole o w) (Q : IsQuiet o w) (ops : ℕ 
         | inr d ↦ let one : decided_one (is_decision r) ≡ 1 = ap decided_one d.1 in let before : pending o v ≤ limit = k.most in
             inr (d.0, omega (arith, less, one, before))
       ]
-      on (inr d) mild less = let before : pending o v < limit = d.1 in inr (decided_on o w ops t v r d.0, omega (arith, less, before))
+      on (inr d) mild less = let before : pending o v < limit = d.1 in
+          inr (decided_on o w ops t v r d.0, omega (arith, less, before))
 
   event_on : (hot : Bool) (e : WorldEvent) → is_stormy may e ≡ true → (v : World) → Known hot v → Known hot (happens o v e)
   event_on hot (Deliver f t) s v k = go (refusal o v (Deliver f t)) refl

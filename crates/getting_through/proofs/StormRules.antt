@@ -493,8 +493,8 @@ module _ (o : Opening) (w : World) (W : Whole o w) (Q : IsQuiet o w) (ops : ℕ 
         subst (λ (q : Process). Rules.May o t v (Rules.Judges f (Global b) q)
         → Goes o w ops v (Rules.Judges f (Global b) q) (Rules.effect o t (Rules.Judges f (Global b) q) v)) (sym N.1)
         (subst (λ (c : ℕ). Rules.May o t v (Rules.Judges f (Global c) (registrar f))
-        → Goes o w ops v (Rules.Judges f (Global c) (registrar f)) (Rules.effect o t (Rules.Judges f (Global c) (registrar f)) v)) (sym N.0)
-        (λ k. judges_global f k.front.0 k.front.1 k.tested k)) m
+        → Goes o w ops v (Rules.Judges f (Global c) (registrar f)) (Rules.effect o t (Rules.Judges f (Global c) (registrar f)) v))
+        (sym N.0) (λ k. judges_global f k.front.0 k.front.1 k.tested k)) m
 
     -- a grant of a client comes back
     takes_back : (f : ℕ) (id : Id) (p : Process) (ack : Bool) → Rules.May o t v (Rules.TakesBack f id p ack)

@@ -1,3 +1,4 @@
 pub mod Pending
 pub mod GettingThrough
 pub mod GettingFree
+pub mod NamedGettingFree

@@ -1,10 +1,12 @@
-//! Whoever retries, someone gets through, and who asks for the global lock alone does. Each law is the contract of a function with
-//! an empty body.
+//! Whoever retries, someone gets through, and who asks for the global lock alone does; so all registrars get free. Each law is the
+//! contract of a function with an empty body.
 #![tactic(auto)]
 
 ghost use Rattle.protocol_model.specs.Leftovers.{Always};
 ghost use Rattle.getting_through.specs.GettingThrough.{SomeoneGetsThrough, RetriesAloneEnd, NameCallsAloneAnswered};
-ghost use Rattle.getting_through.specs.GettingFree.{PendingStays, RegistrarsGetFree};
+ghost use Rattle.no_dead_end.specs.NamedNoDeadEnd.{AlwaysNamed};
+ghost use Rattle.getting_through.specs.NamedGettingFree.{NamedRegistrarsGetFree};
+ghost use Rattle.getting_through.specs.GettingFree.{PendingStays, RegistrarsGetFree, StormsAreFew};
 
 /// Whoever retries, someone gets through: from a quiet world letters are delivered and nodes are retried, in any order, a refused
 /// registrar among them, until no letter waits. Then some registrar that was refused has ended its operation, and less is pending.
@@ -28,8 +30,20 @@ pub fn pending_never_rises()
     ensures { Always PendingStays }
 {}
 
-/// All registrars get free: from every world that events can reach deliveries and retries, no more retries than are pending, lead on
-/// to a settled one, where each registrar is free with nothing queued and each name call and each join has been answered.
+/// All registrars get free: from every world that events can reach deliveries and retries, no more retries than are pending, lead
+/// on to a settled one, where each registrar is free with nothing queued and each name call and each join has been answered.
 pub fn registrars_get_free()
     ensures { Always RegistrarsGetFree }
+{}
+
+/// And whichever of the refused are retried, one after the other and each until no letter waits again: that is done no more often
+/// than is pending, so in the end none is refused.
+pub fn storms_are_few()
+    ensures { Always StormsAreFew }
+{}
+
+/// Registrars of worlds of names get free, too, whoever has left and come back: deliveries by names and retries lead on to a
+/// settled world, where each running registrar is free and each name call and each join has been answered.
+pub fn names_get_free()
+    ensures { AlwaysNamed NamedRegistrarsGetFree }
 {}

@@ -1,0 +1,5 @@
+use Rattle.getting_through.proofs.NamedFreeing.{names_get_free as law}
+use Rattle.getting_through.proofs.names_get_free.Goals as goal
+
+pub returns : goal.returns
+returns c = law

@@ -1,0 +1,32 @@
+-- Registrars get free where nodes have names and come back, too. es: the events so far; w: the world of names that they made; fs:
+-- deliveries by names, and retries, behind them.
+use Rattle.std.specs.Prelude.{ℕ, Bool, true, false, ◌≡◌, List, [], ◌++◌}
+use Rattle.std.specs.List.{list_all}
+use Rattle.protocol_model.specs.Node.{Current}
+use Rattle.protocol_model.specs.Event.{Event}
+use Rattle.creations.specs.NodeNames.{NamedOpening}
+use Rattle.creations.specs.NamedWorld.{NamedWorld, NamedEvent, AtNode, Deliver, run_named}
+use Rattle.creations.specs.Restarts.{IsUp}
+use Rattle.creations.specs.NamedLeftovers.{NamesAreSettled}
+use Rattle.creations.specs.Lifted.{events_played}
+use Rattle.no_dead_end.specs.Answering.{NameCallsAreAnswered}
+
+-- a letter is delivered by names, or a node is retried
+abbrev pub is_named_delivery_or_retry : NamedEvent → Bool
+is_named_delivery_or_retry (Deliver x y) = true
+is_named_delivery_or_retry (AtNode n Event.Retry) = true
+is_named_delivery_or_retry _ = false
+
+module _ (o : NamedOpening) (es : List NamedEvent) (w : NamedWorld) where
+  -- These lead on to a settled world: each registrar that runs is free, with nothing queued, and has answered each name call and
+  -- each join
+  pub record NamesLeadOn (fs : List NamedEvent) : Type 0 where
+    pub kinds : list_all is_named_delivery_or_retry fs ≡ true
+    pub settled : NamesAreSettled o (es ++ fs) (run_named o w fs)
+    pub free : (c : ℕ) → IsUp o (run_named o w fs) c → ((run_named o w fs).world.node c).current ≡ Current.Free
+    pub idle : (c : ℕ) → IsUp o (run_named o w fs) c → ((run_named o w fs).world.node c).queue ≡ []
+    pub answered : NameCallsAreAnswered (IsUp o (run_named o w fs)) (events_played o (es ++ fs))
+
+  -- All registrars of running nodes get free
+  abbrev pub NamedRegistrarsGetFree : Type 0
+  NamedRegistrarsGetFree = (fs : List NamedEvent) × NamesLeadOn fs
